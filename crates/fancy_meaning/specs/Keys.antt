@@ -1,0 +1,69 @@
+-- When one list of states serves for another.
+use Rattle.std.specs.Prelude.{◌≡◌, ℕ, Bool, true, false, ◌&&◌, ◌||◌, not, List, [], ◌∷◌, map, flat_map, Option, Some, None, if◌then◌else◌, ◌==◌, bytes_eq}
+use Rattle.fancy_meaning.specs.Tree.{Tree}
+use Rattle.fancy_meaning.specs.Nodes.{read_groups}
+use Rattle.fancy_meaning.specs.OpenCalls.{targets}
+use Rattle.fancy_meaning.specs.MatchState.{MatchState, Span, Ways}
+use Rattle.fancy_meaning.specs.Options.{Plan}
+
+-- what is compared of a state, as numbers
+abbrev pub Key : Type 0
+Key = MatchState → List ℕ
+
+abbrev pub bit : Bool → ℕ
+bit true = 1
+bit false = 0
+
+-- a span or none, so that no two look alike
+abbrev pub span_key : Option Span → List ℕ
+span_key None = 0 ∷ 0 ∷ 0 ∷ []
+span_key (Some (from, to)) = 1 ∷ from ∷ to ∷ []
+
+abbrev pub spans_key : List ℕ → Key
+spans_key groups s = flat_map (λ g. span_key (s.captures g)) groups
+
+-- what every key has: an end, the kept start, the text-end flag where it counts, and some groups' spans
+abbrev pub key_with : ℕ → Bool → List ℕ → Key
+key_with end flag_counts groups s = end ∷ s.kept ∷ bit (flag_counts && s.text_end) ∷ spans_key groups s
+
+-- the whole state, as far as the tree can change it
+unfoldable pub whole_key : Tree → Key
+whole_key whole s = key_with s.place true (targets whole) s
+
+module _ (p : Plan) where
+  -- what later parts and the answer can tell apart: the end, the kept start, the flag, and the spans that are read
+  unfoldable pub key : Key
+  key s = key_with s.place p.end_text (read_groups p.analysis.tree) s
+
+  -- the same, but of the end only whether it is another place, and that only where a match has to take something
+  unfoldable pub easy_key : ℕ → Key
+  easy_key from s =
+      key_with (bit (p.analysis.find_not_empty && not (s.place == from))) p.end_text (read_groups p.analysis.tree) s
+
+-- the keys that occurred before, as a test
+abbrev pub Seen : Type 0
+Seen = List ℕ → Bool
+
+abbrev pub with_key : List ℕ → Seen → Seen
+with_key k seen other = bytes_eq k other || seen other
+
+-- each state whose key did not occur before
+abbrev pub reduced_from : Seen → Key → List MatchState → List MatchState
+reduced_from seen by [] = []
+reduced_from seen by (s ∷ ss) =
+    if seen (by s) then reduced_from seen by ss else s ∷ reduced_from (with_key (by s) seen) by ss
+
+abbrev pub reduced : Key → List MatchState → List MatchState
+reduced by ss = reduced_from (λ k. false) by ss
+
+-- hs has the states of qs in their order, up to those whose key occurred before
+abbrev pub Thins : Key → List MatchState → List MatchState → Type 0
+Thins by hs qs = reduced by hs ≡ reduced by qs
+
+-- what the fine key does not tell apart, the coarse one does not
+abbrev pub Coarser : Key → Key → Type 0
+Coarser fine coarse = (s t : MatchState) → fine s ≡ fine t → coarse s ≡ coarse t
+
+-- from two states of one key come lists whose keys are equal item by item
+abbrev pub Respects : Key → Ways → Type 0
+Respects by f = (s t : MatchState) → by s ≡ by t → map by (f s) ≡ map by (f t)

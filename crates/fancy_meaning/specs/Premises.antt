@@ -1,0 +1,74 @@
+-- What the theorems ask of trees, options, texts and states.
+use Rattle.std.specs.Prelude.{◌≡◌, ℕ, ◌<◌, ◌≤◌, ◌⊎◌, true, false, List, length, Some, IsTrue, IsUtf8}
+use Rattle.fancy_meaning.specs.Tree.{Tree}
+use Rattle.fancy_meaning.specs.Nodes.{is_read}
+use Rattle.fancy_meaning.specs.Places.{is_place, chars_between}
+use Rattle.fancy_meaning.specs.MatchState.{MatchState, Span}
+use Rattle.fancy_meaning.specs.Ways.{Setting}
+use Rattle.fancy_meaning.specs.Answer.{unset}
+use Rattle.fancy_meaning.specs.Options.{ParsedTree, AnalysisOptions, Analysis, CompileOptions, Plan, analysis_of, plan_of, RunOptions}
+use Rattle.fancy_meaning.specs.Sizes.{Size, size_of_group, known_of, no_bound}
+use Rattle.fancy_meaning.specs.WellFormed.{IsWellFormed}
+use Rattle.fancy_meaning.specs.AnalysisRefusals.{CompileError, AnalysisRefuses}
+use Rattle.fancy_meaning.specs.CompileRefusals.{CompileRefuses}
+use Rattle.fancy_meaning.specs.Instr.{Prog}
+
+-- a tree that may be handed in, and the options of its analysis
+pub record Analysed : Type 0 where
+  pub parsed : ParsedTree
+  pub options : AnalysisOptions
+  pub well_formed : IsWellFormed parsed
+
+abbrev pub analysis : Analysed → Analysis
+analysis a = analysis_of (a.parsed).tree a.options
+
+-- the tree with its groups numbered
+abbrev pub tree_of : Analysed → Tree
+tree_of a = (analysis a).tree
+
+-- a tree and options that are given to `analyze` and `compile`
+pub record Input : Type 0 where
+  pub parsed : ParsedTree
+  pub analysis : AnalysisOptions
+  pub options : CompileOptions
+
+abbrev pub plan : Input → Plan
+plan i = plan_of (i.parsed).tree i.analysis i.options
+
+-- The tree is well-formed, no case to refuse it holds, and its program can be run.
+pub record IsAccepted (i : Input) (program : Prog) : Type 0 where
+  pub well_formed : IsWellFormed i.parsed
+  -- the option of `compile` is set only on a tree analysed with it
+  pub same_end_text : (i.options).end_text ≡ true → (i.analysis).end_text ≡ true
+  pub analysed : (error : CompileError) → ¬ AnalysisRefuses i.parsed i.analysis error
+  pub compiled : (error : CompileError) → ¬ CompileRefuses (plan i) program error
+  pub implicit_group_0 : (i.analysis).explicit_capture_group_0 ≡ false
+
+-- a text in UTF-8 that fits the memory
+pub record IsText (text : List ℕ) : Type 0 where
+  pub utf8 : IsUtf8 text
+  pub fits : length text < unset
+
+-- a run on the text may be made with these options
+pub record IsFit (i : Input) (text : List ℕ) (o : RunOptions) : Type 0 where
+  pub is_text : IsText text
+  pub pos : IsTrue (is_place text o.pos)
+  pub not_empty : o.not_empty ≡ true → (i.analysis).find_not_empty ≡ true
+
+-- so many characters are within the size
+pub record IsSized (z : Size) (n : ℕ) : Type 0 where
+  pub at_least : z.least ≤ n
+  pub at_most : (z.most ≡ no_bound) ⊎ (n ≤ z.most)
+  pub exact : z.is_const ≡ true → z.least < no_bound → n ≡ z.least
+
+-- the span lies between two places of the text, in order
+pub record IsSpan (text : List ℕ) (span : Span) : Type 0 where
+  pub from : IsTrue (is_place text span.0)
+  pub to : IsTrue (is_place text span.1)
+  pub in_order : span.0 ≤ span.1
+
+-- a place of the text, and the spans of groups that are read keep the sizes of their groups
+pub record IsSound (q : Setting) (whole : Tree) (s : MatchState) : Type 0 where
+  pub place : IsTrue (is_place q.text s.place)
+  pub spans : (g : ℕ) (span : Span) → s.captures g ≡ Some span → IsSpan q.text span
+  pub sizes : (g : ℕ) (span : Span) → is_read whole g ≡ true → s.captures g ≡ Some span → IsSized (size_of_group (known_of whole) g) (chars_between q.text span.0 span.1)

@@ -1,0 +1,147 @@
+-- The theorems on programs, as types.
+use Rattle.std.specs.Prelude.{◌≡◌, ◌≢◌, ◌↔◌, ℕ, ◌*◌, ◌+◌, ◌≤◌, ◌⊎◌, Bool, true, false, not, List, length, flat_map, Contains, Option, Some, None, IsFalse, if◌then◌else◌}
+use Rattle.fancy_meaning.specs.Tree.{Tree, parts, Group, DefineGroup}
+use Rattle.fancy_meaning.specs.Nodes.{nodes, group_count, is_read}
+use Rattle.fancy_meaning.specs.OpenCalls.{Depths, free_calls}
+use Rattle.fancy_meaning.specs.MatchState.{MatchState, Ways}
+use Rattle.fancy_meaning.specs.Ways.{Setting, ways}
+use Rattle.fancy_meaning.specs.Answer.{search_of, starts, answer}
+use Rattle.fancy_meaning.specs.Options.{Plan, RunOptions}
+use Rattle.fancy_meaning.specs.Hard.{is_hard, is_root_hard}
+use Rattle.fancy_meaning.specs.Instr.{Prog}
+use Rattle.fancy_meaning.specs.Code.{Code}
+use Rattle.fancy_meaning.specs.Layout.{written, in_context, called_code, first_fresh, layout, undelegated_layout}
+use Rattle.fancy_meaning.specs.CompileRefusals.{IsWritten, IsAmong}
+use Rattle.fancy_meaning.specs.Config.{Config, Outcome, Match, NoMatch, BacktrackLimitExceeded, StackOverflow, StepLimitExceeded, Goes}
+use Rattle.fancy_meaning.specs.Machine.{Task, run}
+use Rattle.fancy_meaning.specs.Keys.{Key, whole_key, key, easy_key, Coarser, Thins, Respects}
+use Rattle.fancy_meaning.specs.Hands.{IsLimit, Stretch, HasAt, Stands, GoesOn, Hands}
+use Rattle.fancy_meaning.specs.Premises.{Analysed, analysis, tree_of, Input, plan, IsAccepted, IsText, IsFit, IsSound}
+
+-- ---- a run answers what the tree means
+
+abbrev pub outcome_of : Option (List ℕ) → Outcome
+outcome_of None = NoMatch
+outcome_of (Some numbers) = Match numbers
+
+-- a run of the program passes a limit, or gives the answer of the plain meaning
+abbrev pub Answers : Plan → Prog → List ℕ → RunOptions → Type 0
+Answers p program text o =
+    let outcome = run (record { program = program; text = text; options = o }) in
+    IsLimit outcome ⊎ (outcome ≡ outcome_of (answer (search_of p text o)))
+
+-- the headline: each run of an accepted tree's program does
+abbrev pub Headline : Type 0
+Headline = (i : Input) (text : List ℕ) (o : RunOptions) → IsAccepted i (layout (plan i)) → IsFit i text o →
+    Answers (plan i) (layout (plan i)) text o
+
+-- the same without delegates
+abbrev pub UndelegatedHeadline : Type 0
+UndelegatedHeadline = (i : Input) (text : List ℕ) (o : RunOptions) → IsAccepted i (undelegated_layout (plan i)) → IsFit i text o →
+    Answers (plan i) (undelegated_layout (plan i)) text o
+
+-- ---- a node hands its ways
+
+-- code stands in a program where a configuration is, and its slots are those from `fresh` on
+abbrev pub stretch_of : Code → Config → ℕ → Stretch
+stretch_of code c fresh =
+    let laid = code c.pc fresh in
+    record { entry = c; exit = c.pc + length laid.instrs; taken_from = fresh; taken_to = laid.fresh }
+
+-- the program has the groups and options of the plan
+pub record IsProgramFor (p : Plan) (program : Prog) : Type 0 where
+  pub total_groups : program.total_groups ≡ group_count p.analysis.tree
+  pub implicit_group_0 : program.explicit_group_0 ≡ false
+  pub end_text : program.end_text ≡ p.end_text
+  pub unicode : program.unicode ≡ p.unicode
+
+-- Wherever the code stands, it hands from each sound state a list that serves by the key for what these ways give.
+-- The key may depend on a place at or before the state's.
+abbrev pub Serves : Plan → Code → (Setting → Ways) → (ℕ → Key) → Type 0
+Serves p code w by = (t : Task) (c : Config) (fresh : ℕ) (s : MatchState) (from : ℕ) →
+    let q = (search_of p t.text t.options).setting in
+    IsProgramFor p t.program → IsText t.text → HasAt (t.program).body c.pc (code c.pc fresh).instrs → GoesOn t c →
+    first_fresh p (λ e. false) ≤ fresh → Stands t c s → IsSound q p.analysis.tree s → from ≤ s.place →
+    (hs : List MatchState) × Hands t (stretch_of code c fresh) (Goes c) hs × Thins (by from) hs (w q s)
+
+-- the code of a part of the tree in its context, where these calls are open
+abbrev pub code_of : Plan → (Tree → Bool) → Depths → Tree → (at_start in_hard : Bool) → Code
+code_of p easy depths e at_start in_hard =
+    let call = called_code p easy (free_calls p.analysis.tree depths) depths in
+    in_context p easy e (written p easy call e at_start) in_hard
+
+-- The composed theorem: with every node taken for hard, the code of each node that is written out hands its ways, the
+-- same states in the same order, up to repeats.
+abbrev pub ComposedTheorem : Type 0
+ComposedTheorem = (i : Input) (e : Tree) (depths : Depths) (at_start in_hard : Bool) →
+    let p = plan i in
+    let whole = p.analysis.tree in
+    IsAccepted i (undelegated_layout p) → IsWritten whole e →
+    Serves p (code_of p (λ d. false) depths e at_start in_hard) (λ q. ways q whole e depths) (λ from. whole_key whole)
+
+-- Delegation is harmless: in a hard context the code of a node hands a list that serves for its ways by the key, and in
+-- an easy one by the easy key.
+abbrev pub DelegationIsHarmless : Type 0
+DelegationIsHarmless = (i : Input) (e : Tree) (depths : Depths) (at_start in_hard : Bool) →
+    let p = plan i in
+    let whole = p.analysis.tree in
+    IsAccepted i (layout p) → IsWritten whole e →
+    Serves p (code_of p (λ d. not (is_hard p.analysis d)) depths e at_start in_hard) (λ q. ways q whole e depths)
+    (λ from. if in_hard then key p else easy_key p from)
+
+-- ---- what carries it
+
+-- ways respect the key
+abbrev pub WaysRespectTheKey : Type 0
+WaysRespectTheKey = (p : Plan) (q : Setting) (e : Tree) (depths : Depths) → Contains (nodes p.analysis.tree) e →
+    Respects (key p) (ways q p.analysis.tree e depths)
+
+-- binding keeps thinning
+abbrev pub BindingKeepsThinning : Type 0
+BindingKeepsThinning = (fine coarse : Key) (hs qs : List MatchState) (f k : Ways) → Coarser fine coarse →
+    Thins fine hs qs → Respects fine f → ((s : MatchState) → Thins coarse (k s) (f s)) →
+    Thins coarse (flat_map k hs) (flat_map f qs)
+
+-- what thins by a key thins by a coarser one
+abbrev pub CoarserKeyThins : Type 0
+CoarserKeyThins = (fine coarse : Key) (hs qs : List MatchState) → Coarser fine coarse → Thins fine hs qs → Thins coarse hs qs
+
+-- a part of e outside of definitions
+pub data IsPartOf (e : Tree) : Tree → Type 0 where
+  itself : IsPartOf e e
+  below : {c d : Tree} → IsPartOf e d → ((b : Tree) → d ≢ DefineGroup b) → IsAmong c (parts d) → IsPartOf e c
+
+-- what is delegated has no group that is read
+abbrev pub EasyHasNoReadGroup : Type 0
+EasyHasNoReadGroup = (p : Plan) (e body : Tree) (g : ℕ) → IsFalse (is_hard p.analysis e) → IsPartOf e (Group g body) →
+    is_read p.analysis.tree g ≡ false
+
+-- where a match has to take something, all ways of an easy node agree on whether they moved
+abbrev pub EasyWaysAgree : Type 0
+EasyWaysAgree = (q : Setting) (a : Analysed) (e : Tree) (depths : Depths) (s t u : MatchState) →
+    let whole = tree_of a in
+    IsText q.text → Contains (nodes whole) e → IsFalse (is_hard (analysis a) e) → (a.options).find_not_empty ≡ true → IsSound q whole s →
+    Contains (ways q whole e depths s) t → Contains (ways q whole e depths s) u → (t.place ≡ s.place) ↔ (u.place ≡ s.place)
+
+-- ---- bounds, where the whole tree is easy
+
+abbrev pub EasyRun : Input → List ℕ → RunOptions → Type 0
+EasyRun i text o =
+    IsAccepted i (layout (plan i)) × IsFit i text o × IsFalse (is_root_hard (plan i).analysis)
+
+-- how many starts a run may try
+abbrev pub tried : Input → List ℕ → RunOptions → ℕ
+tried i text o = length (starts (search_of (plan i) text o))
+
+abbrev pub outcome : Input → List ℕ → RunOptions → Outcome
+outcome i text o = run (record { program = layout (plan i); text = text; options = o })
+
+-- one backtrack for each start is enough, and the branches never are too many
+abbrev pub BacktrackBound : Type 0
+BacktrackBound = (i : Input) (text : List ℕ) (o : RunOptions) → EasyRun i text o → tried i text o ≤ o.backtrack_limit →
+    (outcome i text o ≢ BacktrackLimitExceeded) × (outcome i text o ≢ StackOverflow)
+
+-- eight instructions for each start are enough
+abbrev pub InstructionBound : Type 0
+InstructionBound = (i : Input) (text : List ℕ) (o : RunOptions) → EasyRun i text o → 8 * tried i text o ≤ o.step_limit →
+    outcome i text o ≢ StepLimitExceeded
