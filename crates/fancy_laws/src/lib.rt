@@ -1,2 +1,70 @@
 //! Laws and theorems over the definitions alone: each is the contract of a function that does nothing.
 #![tactic(auto)]
+
+ghost use Rattle.fancy_meaning.specs.Laws.{LoopLaw, RequiredLaw, CallLaw, RefusedCallLaw, AtomicHasOneWay, NegativeLookChangesNothing, AheadHasWaysOfBody, BehindHasWaysOfBody, BehindGoesByBranches, AnswersArePairs, AnchorLaw, SizeLaw, ContinueLaw};
+
+/// With none required, an unbounded loop goes on by a way of its body, and by one that moves nothing it is left; or it
+/// stops. Greedy it goes on first, lazy it stops first.
+pub fn loop_law()
+    ensures { LoopLaw }
+{}
+
+/// Where an iteration is required, a loop has the ways of its body, and then those of the loop with one less required.
+pub fn required_law()
+    ensures { RequiredLaw }
+{}
+
+/// A call has the ways of its target with one call more open, where it is not open nineteen times already.
+pub fn call_law()
+    ensures { CallLaw }
+{}
+
+/// A call has no way where its target is open nineteen times, or is not there.
+pub fn refused_call_law()
+    ensures { RefusedCallLaw }
+{}
+
+/// An atomic group has one way at most.
+pub fn atomic_has_one_way()
+    ensures { AtomicHasOneWay }
+{}
+
+/// A negative look-around has the unchanged state, or no way.
+pub fn negative_look_changes_nothing()
+    ensures { NegativeLookChangesNothing }
+{}
+
+/// A look-ahead has a way for each way of its body, with the place restored.
+pub fn ahead_has_ways_of_body()
+    ensures { AheadHasWaysOfBody }
+{}
+
+/// A lookbehind has a way for each way of its body that ends here, from the nearest place back.
+pub fn behind_has_ways_of_body()
+    ensures { BehindHasWaysOfBody }
+{}
+
+/// A lookbehind of an alternation has the same for each branch in turn.
+pub fn behind_goes_by_branches()
+    ensures { BehindGoesByBranches }
+{}
+
+/// Each pair of an answer's numbers is unset in both, or two places of the text in order.
+pub fn answers_are_pairs()
+    ensures { AnswersArePairs }
+{}
+
+/// A tree that begins with the text's start, or where the match before ended, has ways from there alone.
+pub fn anchor_law()
+    ensures { AnchorLaw }
+{}
+
+/// From a sound state each way of a part of an analysed tree takes as many characters as its size allows, and is sound.
+pub fn size_law()
+    ensures { SizeLaw }
+{}
+
+/// Where a tree begins with where the match before ended, no other start has a way.
+pub fn continue_law()
+    ensures { ContinueLaw }
+{}

@@ -117,7 +117,7 @@ module _ (whole : Tree) where
     first_begins none = false
     first_begins (more e es) = begins_with_continue e || (takes_nothing whole e && first_begins es)
 
--- Then no later start has a way.
+-- Then no other start has a way.
 abbrev pub ContinueLaw : Type 0
 ContinueLaw = (q : Search) (a : Analysed) (start : ℕ) → q.tree ≡ tree_of a → IsText q.text → IsTrue (is_place q.text start) →
     begins_with_continue q.tree q.tree ≡ true → start ≢ q.pos → ways_from q start ≡ []

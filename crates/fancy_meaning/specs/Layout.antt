@@ -92,11 +92,15 @@ module _ (p : Plan) (easy : Tree → Bool) where
   abbrev pub loop_body : Tree → (Bool → Code) → LoopForm → Bool → Code
   loop_body e written form in_hard = in_context e written (in_hard || not (is_at_most_once form))
 
-  -- Without an easy body it is written out, unless it is refused for an absent node below it.
+  -- a repeater whose body is hard and has an absent node is refused
+  abbrev pub is_refused_body : Tree → Bool
+  is_refused_body e = is_hard p.analysis e && list_any is_absent (nodes e)
+
+  -- without an easy body it is written out
   abbrev pub absent_repeater_code : Tree → (Bool → Code) → Code
   absent_repeater_code e written =
       if easy e then one (Instr.AbsentRepeater (pattern_of p.unicode (e ∷ [])) (fragment p.unicode (e ∷ [])) (group_range (e ∷ [])))
-      else (if list_any is_absent (nodes e) then nothing else absent_code (in_context e written false))
+      else (if is_refused_body e then nothing else absent_code (in_context e written false))
 
   -- Each node as it is written out: whether a match begins with it, and whether its context is hard.
   -- `call g in_hard` is the code of a call of g.
