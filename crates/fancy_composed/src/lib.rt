@@ -1,0 +1,15 @@
+//! The composed theorem: the undelegated layout of a tree hands what the tree means, and a run of it answers that.
+#![tactic(auto)]
+
+ghost use Rattle.fancy_meaning.specs.Theorems.{ComposedTheorem, UndelegatedHeadline};
+
+/// With every node taken for hard, the code of each node that is written out hands the node's ways from each sound
+/// state, wherever it stands: the same states in the same order, up to repeats.
+pub fn composed_theorem()
+    ensures { ComposedTheorem }
+{}
+
+/// Each run of the undelegated program of an accepted tree passes a limit, or gives the answer of the plain meaning.
+pub fn undelegated_headline()
+    ensures { UndelegatedHeadline }
+{}
