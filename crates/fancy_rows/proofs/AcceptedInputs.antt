@@ -1,0 +1,81 @@
+-- Inputs that meet every premise of the headline, with and without delegates.
+use Rattle.std.proofs.Common.{zero, suc, [], ◌∷◌, refl, subst, arith}
+use Rattle.std.specs.Prelude.{Contains, codes}
+use Rattle.fancy_meaning.specs.Tree.{Tree, Backref}
+use Rattle.fancy_meaning.specs.WellFormed.{IsWellFormed, IsFine}
+use Rattle.fancy_meaning.specs.Instr.{Prog}
+use Rattle.fancy_meaning.specs.Layout.{layout, undelegated_layout}
+use Rattle.fancy_meaning.specs.Nodes.{nodes}
+use Rattle.fancy_meaning.specs.AnalysisRefusals.{CompileError, AnalysisRefuses, before_end, never_ends}
+use Rattle.fancy_meaning.specs.CompileRefusals.{CompileRefuses, refused_node, too_long, bytes_mode}
+use Rattle.fancy_meaning.specs.Premises.{Input, plan, IsAccepted, IsFit}
+use Rattle.fancy_rows.proofs.Notation.{parsed, no_options, default_compile, from, lit, cat, alt, grp, row}
+use Rattle.fancy_rows.proofs.CallsAtOnce.{passed}
+use Rattle.fancy_rows.proofs.Acceptance.{is_reference, no_rising_cycle, reads_nothing, not_refused_before_end}
+use Rattle.fancy_rows.proofs.PlainTrees.{written_is_plain, plain_is_not_refused}
+
+abbrev first_path : Tree
+first_path = cat (lit "a" ∷ grp (alt (lit "b" ∷ lit "bc" ∷ [])) ∷ lit "d" ∷ [])
+
+abbrev input : Input
+input = record { parsed = parsed first_path; analysis = no_options; options = default_compile }
+
+nodes_are_fine : (e : Tree) → Contains (nodes first_path) e → IsFine e
+nodes_are_fine e (zero, l, p) = subst IsFine p tt
+nodes_are_fine e (suc zero, l, p) = subst IsFine p refl
+nodes_are_fine e (suc (suc zero), l, p) = subst IsFine p tt
+nodes_are_fine e (suc (suc (suc zero)), l, p) = subst IsFine p tt
+nodes_are_fine e (suc (suc (suc (suc zero))), l, p) = subst IsFine p refl
+nodes_are_fine e (suc (suc (suc (suc (suc zero)))), l, p) = subst IsFine p tt
+nodes_are_fine e (suc (suc (suc (suc (suc (suc zero))))), l, p) = subst IsFine p refl
+nodes_are_fine e (suc (suc (suc (suc (suc (suc (suc zero)))))), l, p) = subst IsFine p refl
+nodes_are_fine e (suc (suc (suc (suc (suc (suc (suc (suc zero))))))), l, p) = subst IsFine p refl
+nodes_are_fine e (suc (suc (suc (suc (suc (suc (suc (suc (suc k)))))))), l, p) = absurd (omega (arith, l))
+
+is_well_formed : IsWellFormed (parsed first_path)
+unfolding row
+is_well_formed = record {
+  fine = nodes_are_fine;
+  groups = refl;
+  not_too_many = omega arith;
+  calls = λ t. cc (t);
+  no_calls = λ t. refl;
+  backrefs = λ g casei c l. cc (passed is_reference (nodes first_path) (Backref g casei) c refl);
+  only_references = λ g c. absurd (omega (arith, c.1));
+  out_of_range = tt;
+}
+
+is_analysed : (error : CompileError) → ¬ AnalysisRefuses (parsed first_path) no_options error
+unfolding row
+is_analysed error (before_end r) =
+    not_refused_before_end first_path refl refl refl (reads_nothing _ refl) (λ g t. cc (t)) (no_rising_cycle _ refl) error r
+is_analysed error (never_ends t n r) = cc (t)
+
+is_compiled : (program : Prog) (error : CompileError) → ¬ CompileRefuses (plan input) program error
+unfolding row
+is_compiled program error (refused_node w r) = plain_is_not_refused (written_is_plain refl w) r
+is_compiled program error (too_long p l) = cc (p)
+is_compiled program error (bytes_mode n) = n refl
+
+accepted : (program : Prog) → IsAccepted input program
+accepted program = record {
+  well_formed = is_well_formed;
+  same_end_text = λ t. cc (t);
+  analysed = is_analysed;
+  compiled = is_compiled program;
+  implicit_group_0 = refl;
+}
+
+accepted_with_delegates : IsAccepted input (layout (plan input))
+accepted_with_delegates = accepted (layout (plan input))
+
+accepted_without_delegates : IsAccepted input (undelegated_layout (plan input))
+accepted_without_delegates = accepted (undelegated_layout (plan input))
+
+fits : IsFit input (codes "abcd") (from 0)
+unfolding row
+fits = record {
+  is_text = record { utf8 = (codes "abcd", (refl, refl)); fits = omega arith };
+  pos = refl;
+  not_empty = λ t. cc (t);
+}

@@ -1,0 +1,30 @@
+pub mod Notation
+mod Answers
+mod OptionAnswers
+mod Layouts
+mod UndelegatedLayouts
+mod Runs
+mod Characters
+mod Sizes
+mod Hardness
+mod FragmentPoints
+mod PatternTexts
+mod Anchors
+mod GroupNumbers
+mod Programs
+mod Refusals
+pub mod CallsAtOnce
+pub mod Acceptance
+mod LeftRecursion
+mod CompileRefused
+mod Accepted
+mod NeverEnding
+mod UnreachedCycle
+mod WellFormedness
+mod ClassTexts
+mod ContextAnswers
+mod Bounds
+mod CallPlaces
+pub mod PlainTrees
+mod WrittenParts
+mod AcceptedInputs

@@ -1,0 +1,59 @@
+-- Programs as a whole: what they carry besides their instructions, and how long they are.
+use Rattle.std.specs.Prelude.{◌≡◌, ℕ, Bool, true, false, [], ◌∷◌, length, refl}
+use Rattle.fancy_meaning.specs.Tree.{KeepOut}
+use Rattle.fancy_meaning.specs.Instr.{Prog}
+use Rattle.fancy_meaning.specs.Sizes.{no_bound}
+use Rattle.fancy_meaning.specs.Layout.{layout, undelegated_layout}
+use Rattle.fancy_rows.proofs.Notation.{plain, anchored, explicit, ascii, taking, with_end_text, analysed_end_text, lit, cat, alt, grp, rep, star, call, ahead, row}
+
+-- the most that a match takes, groups and slots, and the options
+abbrev facts : Prog → (ℕ × ℕ × ℕ) × (Bool × Bool × Bool × Bool)
+facts p = ((p.max_size, p.total_groups, p.slots), (p.explicit_group_0, p.find_not_empty, p.end_text, p.unicode))
+
+of_a_letter : facts (layout (plain (lit "a"))) ≡ ((1, 0, 2), (false, false, false, true))
+unfolding row
+of_a_letter = refl
+
+of_two_groups : facts (layout (plain (cat (grp (lit "a") ∷ grp (star 0 (lit "b")) ∷ [])))) ≡ ((no_bound, 2, 6), (false, false, false, true))
+unfolding row
+of_two_groups = refl
+
+of_group_0 : facts (layout (explicit (grp (lit "ab")))) ≡ ((2, 1, 2), (true, false, false, true))
+unfolding row
+of_group_0 = refl
+
+of_group_0_without_group : facts (layout (explicit (lit "ab"))) ≡ ((2, 0, 2), (true, false, false, true))
+unfolding row
+of_group_0_without_group = refl
+
+of_fresh_slots : facts (layout (plain (cat (grp (ahead (lit "a")) ∷ star 0 (star 0 KeepOut) ∷ [])))) ≡ ((no_bound, 1, 10), (false, false, false, true))
+unfolding row
+of_fresh_slots = refl
+
+of_a_flag_slot : facts (layout (with_end_text (grp (lit "a")))) ≡ ((1, 1, 5), (false, false, true, true))
+unfolding row
+of_a_flag_slot = refl
+
+of_an_analysis_alone : facts (layout (analysed_end_text (grp (lit "a")))) ≡ ((1, 1, 4), (false, false, false, true))
+unfolding row
+of_an_analysis_alone = refl
+
+of_not_empty : facts (layout (taking (rep 1 2 (lit "a")))) ≡ ((2, 0, 2), (false, true, false, true))
+unfolding row
+of_not_empty = refl
+
+of_ascii : facts (layout (ascii (lit "a"))) ≡ ((1, 0, 2), (false, false, false, false))
+unfolding row
+of_ascii = refl
+
+four_instructions : length (layout (anchored (lit "abc"))).body ≡ 4
+unfolding row
+four_instructions = refl
+
+calls_are_written_to_their_depth : length (undelegated_layout (anchored (grp (alt (cat (lit "a" ∷ call 1 ∷ []) ∷ lit "b" ∷ []))))).body ≡ 124
+unfolding row
+calls_are_written_to_their_depth = refl
+
+calls_are_written_to_their_depth_with_delegates : length (layout (anchored (grp (alt (cat (lit "a" ∷ call 1 ∷ []) ∷ lit "b" ∷ []))))).body ≡ 124
+unfolding row
+calls_are_written_to_their_depth_with_delegates = refl
