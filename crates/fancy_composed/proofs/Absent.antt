@@ -80,7 +80,7 @@ module _ (w : Ground) (utf8 : IsUtf8 (w.task).text) (x : Ways) where
       (ap (option_and_then (λ c. Some (s.place + len_utf8 c))) e)
 
   -- the places from one on, whose rest is known
-  absent_from : (s : MatchState) (rest : List ℕ) (v : Bool) → has_way x s ≡ v → places_from text s.place ≡ s.place ∷ rest →
+  pub absent_from : (s : MatchState) (rest : List ℕ) (v : Bool) → has_way x s ≡ v → places_from text s.place ≡ s.place ∷ rest →
       absent (setting w) x s ≡ map (λ i. moved_to i s)
       (reverse (if v then [] else take_through (λ i. has_way x (moved_to i s)) rest)) ++ s ∷ []
   absent_from s rest v e f =

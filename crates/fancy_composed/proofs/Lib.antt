@@ -28,3 +28,4 @@ pub mod Composed
 pub mod Attempts
 pub mod Programs
 pub mod Search
+pub mod Undelegated

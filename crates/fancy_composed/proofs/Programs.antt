@@ -3,13 +3,13 @@ use Rattle.std.proofs.Common.{◌≡◌, ℕ, ◌+◌, ◌<◌, Bool, true, fals
 use Rattle.std.specs.Prelude.{slice_get}
 use Rattle.std.proofs.Math.Seq.{get_or-append_seam}
 use Rattle.std.proofs.lemmas.Option.{slice_get-get_or}
+use Rattle.fancy_meaning.specs.Tree.{Tree}
 use Rattle.fancy_meaning.specs.OpenCalls.{no_calls, free_calls}
 use Rattle.fancy_meaning.specs.Options.{Plan}
 use Rattle.fancy_meaning.specs.Instr.{Instr, Save, Jmp, SplitUnanchored, End, RejectEmptyMatchAtEOFFollowingNewline}
 use Rattle.fancy_meaning.specs.Code.{Code, nothing, one, ◌>>◌}
-use Rattle.fancy_meaning.specs.Layout.{undelegated_layout, root_code, called_code, first_fresh}
+use Rattle.fancy_meaning.specs.Layout.{program, root_code, called_code, first_fresh}
 use Rattle.fancy_meaning.specs.Hands.{HasAt}
-use Rattle.fancy_composed.proofs.Branches.{never}
 use Rattle.fancy_composed.proofs.Works.{has_front, has_back}
 use Rattle.fancy_composed.proofs.Attempts.{EndsAt}
 
@@ -23,16 +23,17 @@ has_all (i ∷ is) pre =
     let rest' = subst (λ l. HasAt l (length (pre ++ i ∷ [])) is) (append_assoc pre (i ∷ []) is) rest in
     (here, subst (λ m. HasAt (pre ++ i ∷ is) m is) n rest')
 
-module _ (p : Plan) where
+-- the program, where `easy` tells which nodes are left to a plain search
+module _ (p : Plan) (easy : Tree → Bool) where
   -- the code of the whole tree
   abbrev pub root : Code
-  root = root_code p never (called_code p never (free_calls p.analysis.tree no_calls) no_calls) false
+  root = root_code p easy (called_code p easy (free_calls p.analysis.tree no_calls) no_calls) false
 
   abbrev pub fresh : ℕ
-  fresh = first_fresh p never
+  fresh = first_fresh p easy
 
   abbrev pub body : List Instr
-  body = (undelegated_layout p).body
+  body = (program p easy).body
 
   abbrev search : Code
   search = one (SplitUnanchored 3 1) >> one Instr.Any >> one (Jmp 0)
@@ -75,8 +76,7 @@ module _ (p : Plan) where
       >> (if e then one RejectEmptyMatchAtEOFFollowingNewline else nothing) >> one End
 
   program_stands : HasAt body 0 (shape p.anchored p.analysis.explicit_capture_group_0 p.end_text 0 fresh).instrs
-  unfolding undelegated_layout
-  program_stands = has_all (undelegated_layout p).body []
+  program_stands = has_all (program p easy).body []
 
   module _ (implicit : p.analysis.explicit_capture_group_0 ≡ false) where
     shaped : (v e : Bool) → p.anchored ≡ v → p.end_text ≡ e → HasAt body 0 (shape v false e 0 fresh).instrs

@@ -11,11 +11,11 @@ use Rattle.fancy_meaning.specs.Tree.{Tree}
 use Rattle.fancy_meaning.specs.Nodes.{group_count}
 use Rattle.fancy_meaning.specs.Places.{is_place, places_from, range_from}
 use Rattle.fancy_meaning.specs.OpenCalls.{no_calls, free_calls}
-use Rattle.fancy_meaning.specs.MatchState.{MatchState, put, first_state}
+use Rattle.fancy_meaning.specs.MatchState.{MatchState, Ways, put, first_state}
 use Rattle.fancy_meaning.specs.Answer.{Search, search_of, unset, as_numbers, is_admitted, ways_from, attempt, starts, answer}
 use Rattle.fancy_meaning.specs.Options.{RunOptions}
 use Rattle.fancy_meaning.specs.Instr.{Instr, Save, Jmp, SplitUnanchored}
-use Rattle.fancy_meaning.specs.Layout.{undelegated_layout}
+use Rattle.fancy_meaning.specs.Layout.{program}
 use Rattle.fancy_meaning.specs.Config.{Slots, Branch, Config, Outcome, NoMatch, BacktrackLimitExceeded, Goes, Ends, push}
 use Rattle.fancy_meaning.specs.Machine.{Task, exec, fail_to, then_on, goes_from, is_search, run}
 use Rattle.fancy_meaning.specs.CompileRefusals.{root}
@@ -25,13 +25,10 @@ use Rattle.fancy_meaning.specs.Premises.{Input, plan, IsAccepted, IsFit, Analyse
 use Rattle.fancy_meaning.specs.Theorems.{IsProgramFor, outcome_of, Answers}
 use Rattle.fancy_composed.proofs.Courses.{Course, Meets, limit, same, To, to_same, to_eq, to_trans, after, Ground, config, task_step, step_at_pc}
 use Rattle.fancy_composed.proofs.Alike.{or_first}
-use Rattle.fancy_composed.proofs.Parts.{place_within, flag, flag_is, put_same, put_other, Stands}
+use Rattle.fancy_composed.proofs.Parts.{Works, place_within, flag, flag_is, put_same, put_other, Stands}
 use Rattle.fancy_composed.proofs.Places.{char_stands, places_on, places_at_end}
 use Rattle.fancy_composed.proofs.Tests.{MayStop}
-use Rattle.fancy_composed.proofs.Ready.{Ready}
-use Rattle.fancy_composed.proofs.Accepted.{ground, ready}
-use Rattle.fancy_composed.proofs.Trees.{tree_works}
-use Rattle.fancy_composed.proofs.Calls.{calls_work}
+use Rattle.fancy_composed.proofs.Accepted.{ground}
 use Rattle.fancy_composed.proofs.Composed.{first_slot}
 use Rattle.fancy_composed.proofs.Attempts.{or_else, found}
 use Rattle.fancy_composed.proofs.Programs.{Attempt, anchored_attempt, Searching, search_stands}
@@ -42,7 +39,7 @@ use Rattle.fancy_laws.proofs.Continues.{continued_ways}
 
 -- ---- lists
 
-find_is : (p : MatchState → Bool) (hs : List MatchState) → slice_get (filter p hs) 0 ≡ find p hs
+pub find_is : (p : MatchState → Bool) (hs : List MatchState) → slice_get (filter p hs) 0 ≡ find p hs
 find_is p [] = refl
 find_is p (h ∷ hs) =
     let rest = find_is p hs in
@@ -82,22 +79,22 @@ resumes t b bs c = record {
       ];
 }
 
-module _ (i : Input) (text : List ℕ) (o : RunOptions) (accepted : IsAccepted i (undelegated_layout (plan i)))
+-- the program, where `easy` tells which nodes are left to a plain search
+module _ (i : Input) (text : List ℕ) (o : RunOptions) (easy : Tree → Bool) (accepted : IsAccepted i (program (plan i) easy))
     (fit : IsFit i text o) where
-  abbrev tree : Tree
+  abbrev pub tree : Tree
   tree = (plan i).analysis.tree
 
-  abbrev task : Task
-  task = record { program = undelegated_layout (plan i); text = text; options = o }
+  abbrev pub task : Task
+  task = record { program = program (plan i) easy; text = text; options = o }
 
-  abbrev q : Search
+  abbrev pub q : Search
   q = search_of (plan i) text o
 
   abbrev groups : ℕ
   groups = group_count tree
 
-  fits : IsProgramFor (plan i) (undelegated_layout (plan i))
-  unfolding undelegated_layout
+  pub fits : IsProgramFor (plan i) (program (plan i) easy)
   fits = record { total_groups = refl; implicit_group_0 = accepted.implicit_group_0; end_text = refl; unicode = refl }
 
   abbrev no_slots : Slots
@@ -110,186 +107,194 @@ module _ (i : Input) (text : List ℕ) (o : RunOptions) (accepted : IsAccepted i
   -- what falling leads to where a marked `\G` gives up
   abbrev Stops : List Branch → Course → Type 0
   Stops base other =
-      begins_with_continue tree tree ≡ true → is_search (slice_get (undelegated_layout (plan i)).body 0) ≡ true →
+      begins_with_continue tree tree ≡ true → is_search (slice_get (program (plan i) easy).body 0) ≡ true →
       o.anchored ≡ false → (1 ≤ length base) × (length base ≡ 1 → (count : ℕ) → To (λ n. NoMatch) other)
 
-  -- one start, and what comes where it has no admitted way
-  attempted : (a start : ℕ) → Attempt (plan i) a → is_place text start ≡ true → (base : List Branch) (other : Course) →
-      ((count : ℕ) → To (after task (fail_to task base (config 0 0 (λ s. 0) [] [] start count))) other) → Stops base other →
-      (count : ℕ) → To (λ n. exec task n (config a start no_slots [] base start count)) (or_else groups (attempt q start) other)
-  attempted a start at place base other falls stops count =
-      let w : Ground = ground i (undelegated_layout (plan i)) accepted task fit.is_text fits start base (λ n. other) falls in
-      let r : Ready w = ready i (undelegated_layout (plan i)) accepted task fit.is_text fits start base (λ n. other) falls in
-      let stop : begins_with_continue tree tree ≡ true → MayStop w = λ b search anchored. stops b search anchored in
-      let works =
-      tree_works w r no_calls (calls_work w r stop (free_calls tree no_calls) no_calls refl) tree root true false
-      (λ x y. stop y) in
-      let fresh = programs.fresh (plan i) in
-      let laid = programs.root (plan i) (a + 1) fresh in
-      let m = a + 1 + length laid.instrs in
-      let part = works.part (a + 1) m fresh refl (omega (arith, first_slot w accepted.implicit_group_0)) at.tree in
-      let slots : Slots = put 0 start no_slots in
-      let s = first_state start in
-      let so = first_is_sound q.setting tree start place in
-      let st : Stands w s slots = record {
-        kept = put_same no_slots 0 0 start refl;
-        starts = λ g lo hi. put_other no_slots 0 (2 * g) start (λ x. omega arith);
-        ends = λ g lo hi. put_other no_slots 0 (2 * g + 1) start (λ x. omega arith);
-        flagged = λ e. put_other no_slots 0 (flag w) start (λ x. omega (arith, flag_is w, x));
-      } in
-      to_trans (step_at_pc w (Save 0) a start no_slots [] [] count at.start)
-      (to_trans
-      (found w (plan i).end_text refl m fresh laid.fresh slots other at.end at.ends (λ n. to_same)
-      (part.hands s slots [] [] count so st))
-      (to_eq
-      (λ n.
-      ap (λ x. or_else groups x other n)
-      ((works.alike s so).tests (is_admitted q start) ∙ sym (find_is (is_admitted q start) (ways_from q start))))))
+  -- the code of the root hands a list in which the last test finds first what it finds in the ways
+  abbrev pub RootHands : Type 0
+  RootHands = (start : ℕ) (base : List Branch) (other : Course)
+      (falls : (count : ℕ) → To (after task (fail_to task base (config 0 0 (λ s. 0) [] [] start count))) other) →
+      is_place text start ≡ true →
+      let w = ground i (program (plan i) easy) accepted task fit.is_text fits start base (λ n. other) falls in
+      (begins_with_continue tree tree ≡ true → MayStop w) →
+      (handed : Ways) × Works w (programs.root (plan i) easy) handed × (find (is_admitted q start) (handed (first_state start)) ≡ attempt q start)
 
-  -- ---- no start after the first one, where the tree begins with a `\G`
+  module _ (roots : RootHands) where
+    -- one start, and what comes where it has no admitted way
+    attempted : (a start : ℕ) → Attempt (plan i) easy a → is_place text start ≡ true → (base : List Branch) (other : Course) →
+        ((count : ℕ) → To (after task (fail_to task base (config 0 0 (λ s. 0) [] [] start count))) other) → Stops base other →
+        (count : ℕ) → To (λ n. exec task n (config a start no_slots [] base start count)) (or_else groups (attempt q start) other)
+    attempted a start at place base other falls stops count =
+        let w : Ground = ground i (program (plan i) easy) accepted task fit.is_text fits start base (λ n. other) falls in
+        let stop : begins_with_continue tree tree ≡ true → MayStop w = λ b search anchored. stops b search anchored in
+        let root = roots start base other falls place stop in
+        let works = root.1 in
+        let fresh = programs.fresh (plan i) easy in
+        let laid = programs.root (plan i) easy (a + 1) fresh in
+        let m = a + 1 + length laid.instrs in
+        let part = works.part (a + 1) m fresh refl (omega (arith, first_slot w accepted.implicit_group_0)) at.tree in
+        let slots : Slots = put 0 start no_slots in
+        let s = first_state start in
+        let so = first_is_sound q.setting tree start place in
+        let st : Stands w s slots = record {
+          kept = put_same no_slots 0 0 start refl;
+          starts = λ g lo hi. put_other no_slots 0 (2 * g) start (λ x. omega arith);
+          ends = λ g lo hi. put_other no_slots 0 (2 * g + 1) start (λ x. omega arith);
+          flagged = λ e. put_other no_slots 0 (flag w) start (λ x. omega (arith, flag_is w, x));
+        } in
+        to_trans (step_at_pc w (Save 0) a start no_slots [] [] count at.start)
+        (to_trans
+        (found w (plan i).end_text refl m fresh laid.fresh slots other at.end at.ends (λ n. to_same)
+        (part.hands s slots [] [] count so st))
+        (to_eq
+        (λ n.
+        ap (λ x. or_else groups x other n)
+        ((works.alike s so).tests (is_admitted q start) ∙ root.2))))
 
-  no_attempt : begins_with_continue tree tree ≡ true → (start : ℕ) → is_place text start ≡ true → start ≢ o.pos →
-      attempt q start ≡ None
-  no_attempt b start place ne =
-      ap (λ hs. slice_get (filter (is_admitted q start) hs) 0) (continued_ways q analysed start refl fit.is_text place b ne)
+    -- ---- no start after the first one, where the tree begins with a `\G`
 
-  none_in : begins_with_continue tree tree ≡ true → (n k : ℕ) → o.pos < k →
-      first_of (attempt q) (filter (is_place text) (range_from k n)) ≡ None
-  unfolding first_of
-  none_in b zero k lt = refl
-  none_in b (suc n) k lt = by_place (is_place text k) refl (none_in b n (suc k) (omega arith))
-    where
-      by_place : (v : Bool) → is_place text k ≡ v →
-          first_of (attempt q) (filter (is_place text) (range_from (suc k) n)) ≡ None → first_of (attempt q)
-          (cond v (k ∷ filter (is_place text) (range_from (suc k) n)) (filter (is_place text) (range_from (suc k) n))) ≡ None
-      by_place true e rest = ap₂ or_first (no_attempt b k e (λ x. omega arith)) rest
-      by_place false e rest = rest
+    no_attempt : begins_with_continue tree tree ≡ true → (start : ℕ) → is_place text start ≡ true → start ≢ o.pos →
+        attempt q start ≡ None
+    no_attempt b start place ne =
+        ap (λ hs. slice_get (filter (is_admitted q start) hs) 0) (continued_ways q analysed start refl fit.is_text place b ne)
 
-  none_later : begins_with_continue tree tree ≡ true → (k : ℕ) → o.pos < k → first_of (attempt q) (places_from text k) ≡ None
-  unfolding places_from
-  none_later b k lt = none_in b (suc (length text) - k) k lt
+    none_in : begins_with_continue tree tree ≡ true → (n k : ℕ) → o.pos < k →
+        first_of (attempt q) (filter (is_place text) (range_from k n)) ≡ None
+    unfolding first_of
+    none_in b zero k lt = refl
+    none_in b (suc n) k lt = by_place (is_place text k) refl (none_in b n (suc k) (omega arith))
+      where
+        by_place : (v : Bool) → is_place text k ≡ v →
+            first_of (attempt q) (filter (is_place text) (range_from (suc k) n)) ≡ None → first_of (attempt q)
+            (cond v (k ∷ filter (is_place text) (range_from (suc k) n)) (filter (is_place text) (range_from (suc k) n))) ≡ None
+        by_place true e rest = ap₂ or_first (no_attempt b k e (λ x. omega arith)) rest
+        by_place false e rest = rest
 
-  -- ---- all starts
+    none_later : begins_with_continue tree tree ≡ true → (k : ℕ) → o.pos < k → first_of (attempt q) (places_from text k) ≡ None
+    unfolding places_from
+    none_later b k lt = none_in b (suc (length text) - k) k lt
 
-  abbrev result : Option MatchState → Outcome
-  result s = outcome_of (option_map (as_numbers groups) s)
+    -- ---- all starts
 
-  or_result : (s u : Option MatchState) (n : ℕ) → or_else groups s (λ k. result u) n ≡ result (or_first s u)
-  or_result None u n = refl
-  or_result (Some s) u n = refl
+    abbrev result : Option MatchState → Outcome
+    result s = outcome_of (option_map (as_numbers groups) s)
 
-  searched : Searching (plan i) accepted.implicit_group_0 → o.anchored ≡ false → (fuel start before count : ℕ) →
-      is_place text start ≡ true → o.pos ≤ start → length text < start + fuel → To
-      (λ n. exec task n (config 0 start no_slots [] [] before count))
-      (λ n. result (first_of (attempt q) (places_from text start)))
-  unfolding first_of
-  searched at many zero start before count place from left = let within = place_within text start place in absurd (omega arith)
-  searched at many (suc fuel) start before count place from left =
-      to_trans (task_step task (SplitUnanchored 3 1) c at.split)
-      (to_trans (to_eq (λ n. ap (λ v. after task (if v then Goes begun else push 1 c begun) n) many))
-      (⊎_elim
-      {C = To (λ n. exec task n (config 3 start no_slots [] (again ∷ []) start count))
-      (λ n. result (first_of (attempt q) (places_from text start)))}
-      (λ lt.
-      let d = char_stands text fit.is_text.utf8 start place lt in
-      let some = len_utf8_bounds d.0 in
-      further d.0 d.1
-      (λ k.
-      searched at many fuel (start + len_utf8 d.0) start k (char_ends_at_place text fit.is_text.utf8 start d.0 place d.1)
-      (omega arith) (omega arith)))
-      (λ ge. last ge)
-      (cases_lt start (length text))))
-    where
-      c : Config
-      c = config 0 start no_slots [] [] before count
+    or_result : (s u : Option MatchState) (n : ℕ) → or_else groups s (λ k. result u) n ≡ result (or_first s u)
+    or_result None u n = refl
+    or_result (Some s) u n = refl
 
-      begun : Config
-      begun = config 3 start no_slots [] [] start count
+    searched : Searching (plan i) easy accepted.implicit_group_0 → o.anchored ≡ false → (fuel start before count : ℕ) →
+        is_place text start ≡ true → o.pos ≤ start → length text < start + fuel → To
+        (λ n. exec task n (config 0 start no_slots [] [] before count))
+        (λ n. result (first_of (attempt q) (places_from text start)))
+    unfolding first_of
+    searched at many zero start before count place from left = let within = place_within text start place in absurd (omega arith)
+    searched at many (suc fuel) start before count place from left =
+        to_trans (task_step task (SplitUnanchored 3 1) c at.split)
+        (to_trans (to_eq (λ n. ap (λ v. after task (if v then Goes begun else push 1 c begun) n) many))
+        (⊎_elim
+        {C = To (λ n. exec task n (config 3 start no_slots [] (again ∷ []) start count))
+        (λ n. result (first_of (attempt q) (places_from text start)))}
+        (λ lt.
+        let d = char_stands text fit.is_text.utf8 start place lt in
+        let some = len_utf8_bounds d.0 in
+        further d.0 d.1
+        (λ k.
+        searched at many fuel (start + len_utf8 d.0) start k (char_ends_at_place text fit.is_text.utf8 start d.0 place d.1)
+        (omega arith) (omega arith)))
+        (λ ge. last ge)
+        (cases_lt start (length text))))
+      where
+        c : Config
+        c = config 0 start no_slots [] [] before count
 
-      again : Branch
-      again = record { pc = 1; ix = start; slots = no_slots; marks = [] }
+        begun : Config
+        begun = config 3 start no_slots [] [] start count
 
-      further : (d : ℕ) → char_at text start ≡ Some d →
-          ((k : ℕ) → To (λ n. exec task n (config 0 (start + len_utf8 d) no_slots [] [] start k))
-          (λ n. result (first_of (attempt q) (places_from text (start + len_utf8 d))))) →
-          To (λ n. exec task n (config 3 start no_slots [] (again ∷ []) start count))
-          (λ n. result (first_of (attempt q) (places_from text start)))
-      further d stands next =
-          let j = start + len_utf8 d in
-          let some = len_utf8_bounds d in
-          let others = first_of (attempt q) (places_from text j) in
-          to_trans (attempted 3 start at.attempt place (again ∷ []) (λ n. result others)
-          (λ k.
-          let at_any : Config = config 1 start no_slots [] [] start (k + 1) in
-          to_trans (resumes task again [] (config 0 0 (λ s. 0) [] [] start k))
-          (to_trans (task_step task Instr.Any at_any at.any)
-          (to_trans (to_eq (λ n. ap (λ x. after task (goes_from task at_any (option_and_then (λ e. Some (start + len_utf8 e)) x)) n) stands))
-          (to_trans (task_step task (Jmp 0) (config 2 j no_slots [] [] start (k + 1)) at.back) (next (k + 1))))))
-          (λ b search anchored. (omega arith, λ one k. to_eq (λ n. sym (ap result (none_later b j (omega arith))))))
-          count)
-          (to_eq
-          (λ n. or_result (attempt q start) others n
-          ∙ ap (λ l. result (first_of (attempt q) l)) (sym (places_on text fit.is_text.utf8 start d place stands))))
+        again : Branch
+        again = record { pc = 1; ix = start; slots = no_slots; marks = [] }
 
-      last : length text ≤ start → To (λ n. exec task n (config 3 start no_slots [] (again ∷ []) start count))
-          (λ n. result (first_of (attempt q) (places_from text start)))
-      last ge =
-          let within = place_within text start place in
-          to_trans (attempted 3 start at.attempt place (again ∷ []) (λ n. NoMatch)
-          (λ k.
-          let at_any : Config = config 1 start no_slots [] [] start (k + 1) in
-          to_trans (resumes task again [] (config 0 0 (λ s. 0) [] [] start k))
-          (to_trans (task_step task Instr.Any at_any at.any)
-          (to_eq
-          (λ n.
-          ap (λ x. after task (goes_from task at_any (option_and_then (λ e. Some (start + len_utf8 e)) x)) n)
-          (char_at_past text start ge)))))
-          (λ b search anchored. (omega arith, λ one k. to_same))
-          count)
-          (to_eq
-          (λ n. or_result (attempt q start) None n
-          ∙ ap (λ l. result (first_of (attempt q) l)) (sym (places_at_end text start (omega arith) place))))
+        further : (d : ℕ) → char_at text start ≡ Some d →
+            ((k : ℕ) → To (λ n. exec task n (config 0 (start + len_utf8 d) no_slots [] [] start k))
+            (λ n. result (first_of (attempt q) (places_from text (start + len_utf8 d))))) →
+            To (λ n. exec task n (config 3 start no_slots [] (again ∷ []) start count))
+            (λ n. result (first_of (attempt q) (places_from text start)))
+        further d stands next =
+            let j = start + len_utf8 d in
+            let some = len_utf8_bounds d in
+            let others = first_of (attempt q) (places_from text j) in
+            to_trans (attempted 3 start at.attempt place (again ∷ []) (λ n. result others)
+            (λ k.
+            let at_any : Config = config 1 start no_slots [] [] start (k + 1) in
+            to_trans (resumes task again [] (config 0 0 (λ s. 0) [] [] start k))
+            (to_trans (task_step task Instr.Any at_any at.any)
+            (to_trans (to_eq (λ n. ap (λ x. after task (goes_from task at_any (option_and_then (λ e. Some (start + len_utf8 e)) x)) n) stands))
+            (to_trans (task_step task (Jmp 0) (config 2 j no_slots [] [] start (k + 1)) at.back) (next (k + 1))))))
+            (λ b search anchored. (omega arith, λ one k. to_eq (λ n. sym (ap result (none_later b j (omega arith))))))
+            count)
+            (to_eq
+            (λ n. or_result (attempt q start) others n
+            ∙ ap (λ l. result (first_of (attempt q) l)) (sym (places_on text fit.is_text.utf8 start d place stands))))
 
-  -- what the course from the beginning comes to is the answer
-  finished : (is : List ℕ) → starts q ≡ is →
-      To (λ n. exec task n (config 0 o.pos no_slots [] [] o.pos 0)) (λ n. result (first_of (attempt q) is)) →
-      Answers (plan i) (undelegated_layout (plan i)) text o
-  unfolding run answer
-  finished is e t = met (t.by o.step_limit)
-    where
-      same_answer : result (first_of (attempt q) is) ≡ outcome_of (answer q)
-      same_answer = ap result (sym (first_is (attempt q) is) ∙ ap (λ l. slice_get (filter_map (attempt q) l) 0) (sym e))
+        last : length text ≤ start → To (λ n. exec task n (config 3 start no_slots [] (again ∷ []) start count))
+            (λ n. result (first_of (attempt q) (places_from text start)))
+        last ge =
+            let within = place_within text start place in
+            to_trans (attempted 3 start at.attempt place (again ∷ []) (λ n. NoMatch)
+            (λ k.
+            let at_any : Config = config 1 start no_slots [] [] start (k + 1) in
+            to_trans (resumes task again [] (config 0 0 (λ s. 0) [] [] start k))
+            (to_trans (task_step task Instr.Any at_any at.any)
+            (to_eq
+            (λ n.
+            ap (λ x. after task (goes_from task at_any (option_and_then (λ e. Some (start + len_utf8 e)) x)) n)
+            (char_at_past text start ge)))))
+            (λ b search anchored. (omega arith, λ one k. to_same))
+            count)
+            (to_eq
+            (λ n. or_result (attempt q start) None n
+            ∙ ap (λ l. result (first_of (attempt q) l)) (sym (places_at_end text start (omega arith) place))))
 
-      met : {r : Outcome} → Meets (λ n. result (first_of (attempt q) is)) o.step_limit r →
-          IsLimit r ⊎ (r ≡ outcome_of (answer q))
-      met (limit l) = inl l
-      met (same k le f) = inr (f ∙ same_answer)
+    -- what the course from the beginning comes to is the answer
+    finished : (is : List ℕ) → starts q ≡ is →
+        To (λ n. exec task n (config 0 o.pos no_slots [] [] o.pos 0)) (λ n. result (first_of (attempt q) is)) →
+        Answers (plan i) (program (plan i) easy) text o
+    unfolding run answer
+    finished is e t = met (t.by o.step_limit)
+      where
+        same_answer : result (first_of (attempt q) is) ≡ outcome_of (answer q)
+        same_answer = ap result (sym (first_is (attempt q) is) ∙ ap (λ l. slice_get (filter_map (attempt q) l) 0) (sym e))
 
-  -- an attempt from the first start alone
-  alone : (a : ℕ) → Attempt (plan i) a → ((base : List Branch) (other : Course) → Stops base other) →
-      To (λ n. exec task n (config a o.pos no_slots [] [] o.pos 0)) (λ n. result (first_of (attempt q) (o.pos ∷ [])))
-  unfolding first_of
-  alone a at stops =
-      to_trans (attempted a o.pos at fit.pos [] (λ n. NoMatch) (λ k. to_same) (stops [] (λ n. NoMatch)) 0)
-      (to_eq (λ n. or_result (attempt q o.pos) None n))
+        met : {r : Outcome} → Meets (λ n. result (first_of (attempt q) is)) o.step_limit r →
+            IsLimit r ⊎ (r ≡ outcome_of (answer q))
+        met (limit l) = inl l
+        met (same k le f) = inr (f ∙ same_answer)
 
-  pub answers : Answers (plan i) (undelegated_layout (plan i)) text o
-  answers = by_options (plan i).anchored o.anchored refl refl
-    where
-      by_options : (v u : Bool) → (plan i).anchored ≡ v → o.anchored ≡ u → Answers (plan i) (undelegated_layout (plan i)) text o
-      by_options true u is_v is_u =
-          let at = anchored_attempt (plan i) accepted.implicit_group_0 is_v in
-          finished (o.pos ∷ []) (ap (λ x. if x || o.anchored then o.pos ∷ [] else places_from text o.pos) is_v)
-          (alone 0 at (λ base other b search anchored. absurd (true≢false (sym search ∙ ap is_search at.start))))
-      by_options false true is_v is_u =
-          let at = search_stands (plan i) accepted.implicit_group_0 is_v in
-          let c : Config = config 0 o.pos no_slots [] [] o.pos 0 in
-          let begun : Config = config 3 o.pos no_slots [] [] o.pos 0 in
-          finished (o.pos ∷ []) (ap₂ (λ x y. if x || y then o.pos ∷ [] else places_from text o.pos) is_v is_u)
-          (to_trans (task_step task (SplitUnanchored 3 1) c at.split)
-          (to_trans (to_eq (λ n. ap (λ x. after task (if x then Goes begun else push 1 c begun) n) is_u))
-          (alone 3 at.attempt (λ base other b search anchored. absurd (true≢false (sym is_u ∙ anchored))))))
-      by_options false false is_v is_u =
-          finished (places_from text o.pos) (ap₂ (λ x y. if x || y then o.pos ∷ [] else places_from text o.pos) is_v is_u)
-          (searched (search_stands (plan i) accepted.implicit_group_0 is_v) is_u (suc (length text)) o.pos o.pos 0 fit.pos
-          (omega arith) (omega arith))
+    -- an attempt from the first start alone
+    alone : (a : ℕ) → Attempt (plan i) easy a → ((base : List Branch) (other : Course) → Stops base other) →
+        To (λ n. exec task n (config a o.pos no_slots [] [] o.pos 0)) (λ n. result (first_of (attempt q) (o.pos ∷ [])))
+    unfolding first_of
+    alone a at stops =
+        to_trans (attempted a o.pos at fit.pos [] (λ n. NoMatch) (λ k. to_same) (stops [] (λ n. NoMatch)) 0)
+        (to_eq (λ n. or_result (attempt q o.pos) None n))
+
+    pub answers : Answers (plan i) (program (plan i) easy) text o
+    answers = by_options (plan i).anchored o.anchored refl refl
+      where
+        by_options : (v u : Bool) → (plan i).anchored ≡ v → o.anchored ≡ u → Answers (plan i) (program (plan i) easy) text o
+        by_options true u is_v is_u =
+            let at = anchored_attempt (plan i) easy accepted.implicit_group_0 is_v in
+            finished (o.pos ∷ []) (ap (λ x. if x || o.anchored then o.pos ∷ [] else places_from text o.pos) is_v)
+            (alone 0 at (λ base other b search anchored. absurd (true≢false (sym search ∙ ap is_search at.start))))
+        by_options false true is_v is_u =
+            let at = search_stands (plan i) easy accepted.implicit_group_0 is_v in
+            let c : Config = config 0 o.pos no_slots [] [] o.pos 0 in
+            let begun : Config = config 3 o.pos no_slots [] [] o.pos 0 in
+            finished (o.pos ∷ []) (ap₂ (λ x y. if x || y then o.pos ∷ [] else places_from text o.pos) is_v is_u)
+            (to_trans (task_step task (SplitUnanchored 3 1) c at.split)
+            (to_trans (to_eq (λ n. ap (λ x. after task (if x then Goes begun else push 1 c begun) n) is_u))
+            (alone 3 at.attempt (λ base other b search anchored. absurd (true≢false (sym is_u ∙ anchored))))))
+        by_options false false is_v is_u =
+            finished (places_from text o.pos) (ap₂ (λ x y. if x || y then o.pos ∷ [] else places_from text o.pos) is_v is_u)
+            (searched (search_stands (plan i) easy accepted.implicit_group_0 is_v) is_u (suc (length text)) o.pos o.pos 0 fit.pos
+            (omega arith) (omega arith))

@@ -1,5 +1,5 @@
-use Rattle.fancy_composed.proofs.Search.{answers}
+use Rattle.fancy_composed.proofs.Undelegated.{undelegated}
 use Rattle.fancy_composed.proofs.undelegated_headline.Goals as goal
 
 pub returns : goal.returns
-returns c = answers
+returns c = undelegated

@@ -1,0 +1,73 @@
+-- Where a match has to take something, all ways of an easy node agree on whether they moved.
+use Rattle.std.proofs.Common.{◌≡◌, ℕ, zero, suc, ◌<◌, ◌⊎◌, inl, inr, ⊎_elim, true, false, not, ◌&&◌, ◌||◌, ◌==◌, refl, sym, ◌∙◌, arith, eq-eqb, eqb-true}
+use Rattle.std.proofs.lemmas.Bool.{and_cases, or_parts, not-false, eqb-false}
+use Rattle.fancy_meaning.specs.Tree.{Tree, Empty, KeepOut, ContinueFromPreviousMatchEnd, AbsentClear, Any, Assert, GeneralNewline, Literal, LiteralBytes, Delegate, Concat, Alt, Group, LookAround, Repeat, Backref, BackrefWithLevel, BackrefExists, AtomicGroup, DefineGroup, AbsentRepeater, AbsentStopper, AbsentExpression, Control, Conditional, SubroutineCall, AstNode}
+use Rattle.fancy_meaning.specs.Nodes.{nodes, is_read}
+use Rattle.fancy_meaning.specs.OpenCalls.{Depths}
+use Rattle.fancy_meaning.specs.Ways.{Setting, ways}
+use Rattle.fancy_meaning.specs.Options.{Analysis}
+use Rattle.fancy_meaning.specs.Hard.{is_hard, any_hard, may_be_empty}
+use Rattle.fancy_meaning.specs.Sizes.{size}
+use Rattle.fancy_meaning.specs.Premises.{Analysed, analysis, tree_of, IsText}
+use Rattle.fancy_meaning.specs.Laws.{SizeLaw}
+use Rattle.fancy_meaning.specs.Theorems.{EasyWaysAgree}
+use Rattle.fancy_delegation.proofs.Every.{IsIn, is_in_contained}
+use Rattle.fancy_delegation.proofs.EasyNodes.{IsEasy}
+use Rattle.fancy_delegation.proofs.Evenly.{Evenly, exactly, at_least_one, evenly_agree, ways_keep_sound, const_takes, sized_takes}
+
+-- the node takes as much each time, or always something
+abbrev pub TakesEvenly : Analysis → Tree → Type 0
+TakesEvenly a e = ((size a.tree e).is_const ≡ true) ⊎ (0 < (size a.tree e).least)
+
+not_empty : (a : Analysis) (e : Tree) → a.find_not_empty ≡ true → may_be_empty a e ≡ false → TakesEvenly a e
+not_empty a e asked h = ⊎_elim
+    (λ some. ⊎_elim (λ not_asked. cc) (λ least. inr (positive (size a.tree e).least (eqb-false (size a.tree e).least 0 least))) (and_cases a.find_not_empty ((size a.tree e).least == 0) some))
+    (λ const. inl (not-false (size a.tree e).is_const const))
+    (and_cases (a.find_not_empty && (size a.tree e).least == 0) (not (size a.tree e).is_const) h)
+  where
+    positive : (n : ℕ) → (n ≡ 0 → ⊥) → 0 < n
+    positive zero k = absurd (k refl)
+    positive (suc n) k = omega arith
+
+pub easy_takes_evenly : (a : Analysis) (e : Tree) → IsEasy a e → a.find_not_empty ≡ true → TakesEvenly a e
+easy_takes_evenly a Empty h asked = inl refl
+easy_takes_evenly a (Any newline crlf) h asked = inl refl
+easy_takes_evenly a (Assert within x) h asked = inl refl
+easy_takes_evenly a (Literal c casei) h asked = inl refl
+easy_takes_evenly a (Delegate inner casei) h asked = inl refl
+easy_takes_evenly a (DefineGroup e) h asked = inl refl
+easy_takes_evenly a KeepOut h asked = cc
+easy_takes_evenly a ContinueFromPreviousMatchEnd h asked = cc
+easy_takes_evenly a AbsentClear h asked = cc
+easy_takes_evenly a (GeneralNewline unicode) h asked = cc
+easy_takes_evenly a (LiteralBytes cs) h asked = cc
+easy_takes_evenly a (Backref g casei) h asked = cc
+easy_takes_evenly a (BackrefWithLevel g level casei) h asked = cc
+easy_takes_evenly a (BackrefExists g level) h asked = cc
+easy_takes_evenly a (Control verb) h asked = cc
+easy_takes_evenly a (SubroutineCall g) h asked = cc
+easy_takes_evenly a (AstNode node) h asked = cc
+easy_takes_evenly a (AbsentStopper e) h asked = cc
+easy_takes_evenly a (AbsentExpression x e) h asked = cc
+easy_takes_evenly a (LookAround look e) h asked = cc
+easy_takes_evenly a (AtomicGroup e) h asked = cc
+easy_takes_evenly a (AbsentRepeater e) h asked = cc
+easy_takes_evenly a (Conditional c t f) h asked = cc
+easy_takes_evenly a (Group g e) h asked = not_empty a (Group g e) asked (or_parts (is_read a.tree g || is_hard a e) (may_be_empty a (Group g e)) h).1
+easy_takes_evenly a (Repeat lo hi greedy e) h asked = not_empty a (Repeat lo hi greedy e) asked (or_parts (is_hard a e) (may_be_empty a (Repeat lo hi greedy e)) h).1
+easy_takes_evenly a (Concat es) h asked = not_empty a (Concat es) asked (or_parts (any_hard a es) (may_be_empty a (Concat es)) h).1
+easy_takes_evenly a (Alt es) h asked = not_empty a (Alt es) asked (or_parts (any_hard a es) (may_be_empty a (Alt es)) h).1
+
+module _ (size_law : SizeLaw) where
+  module _ (q : Setting) (a : Analysed) (is_text : IsText q.text) (e : Tree) (depths : Depths) (there : IsIn e (nodes (tree_of a))) where
+    pub node_evenly : TakesEvenly (analysis a) e → Evenly q (tree_of a) (ways q (tree_of a) e depths)
+    node_evenly (inl const) = exactly (size (tree_of a) e).least (const_takes size_law q a is_text e depths there const)
+    node_evenly (inr some) = at_least_one (sized_takes size_law q a is_text e depths there some)
+
+  pub easy_ways_agree : EasyWaysAgree
+  easy_ways_agree q a e depths s t u is_text there easy asked sound i j =
+      let at = is_in_contained (nodes (tree_of a)) e there in
+      let same = evenly_agree q (tree_of a) (ways q (tree_of a) e depths) (ways_keep_sound size_law q a is_text e depths at)
+      (node_evenly q a is_text e depths at (easy_takes_evenly (analysis a) e easy asked)) s t u s.place sound (omega arith)
+      (is_in_contained (ways q (tree_of a) e depths s) t i) (is_in_contained (ways q (tree_of a) e depths s) u j) in
+      (λ f. eqb-true u.place s.place (sym same ∙ eq-eqb t.place s.place f), λ f. eqb-true t.place s.place (same ∙ eq-eqb u.place s.place f))

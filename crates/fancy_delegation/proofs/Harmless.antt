@@ -1,0 +1,81 @@
+-- Delegation is harmless where delegates hand the first way of their nodes, and absent repeaters of easy bodies all of theirs.
+use Rattle.std.proofs.Common.{◌≡◌, ℕ, ◌+◌, ◌≤◌, Bool, if◌then◌else◌, List, [], ◌∷◌, length, find, Some, refl, sym, ap, ◌∙◌, subst, arith, true≢false}
+use Rattle.fancy_meaning.specs.Tree.{Tree, AbsentRepeater}
+use Rattle.fancy_meaning.specs.OpenCalls.{Depths}
+use Rattle.fancy_meaning.specs.MatchState.{MatchState}
+use Rattle.fancy_meaning.specs.Ways.{absent, ways}
+use Rattle.fancy_meaning.specs.Code.{one}
+use Rattle.fancy_meaning.specs.Instr.{Instr}
+use Rattle.fancy_meaning.specs.Batches.{batch, fragment, pattern_of, group_range}
+use Rattle.fancy_meaning.specs.Layout.{layout}
+use Rattle.fancy_meaning.specs.Config.{Branch, Config, Goes}
+use Rattle.fancy_meaning.specs.Machine.{Task, fail_to, exec}
+use Rattle.fancy_meaning.specs.Hands.{GoesOn, no_search, one_start, two_branches}
+use Rattle.fancy_meaning.specs.CompileRefusals.{IsWritten}
+use Rattle.fancy_meaning.specs.Premises.{Input, plan, IsAccepted, IsText}
+use Rattle.fancy_meaning.specs.Theorems.{IsProgramFor, code_of, DelegationIsHarmless}
+use Rattle.fancy_composed.proofs.Courses.{Course, To, to_same, to_eq, after, Ground, config, here}
+use Rattle.fancy_composed.proofs.Parts.{setting, Works}
+use Rattle.fancy_composed.proofs.Tests.{MayStop}
+use Rattle.fancy_composed.proofs.Serving.{stands_here, handed_by}
+use Rattle.fancy_composed.proofs.Composed.{first_slot}
+use Rattle.fancy_delegation.proofs.Every.{Every}
+use Rattle.fancy_delegation.proofs.FindsAlike.{find_first}
+use Rattle.fancy_delegation.proofs.Thinned.{context_key}
+use Rattle.fancy_delegation.proofs.ThinnedDelegates.{IsDelegated, first_of_batch}
+use Rattle.fancy_delegation.proofs.HandsWays.{Setup}
+use Rattle.fancy_delegation.proofs.Delegated.{is_easy}
+use Rattle.fancy_delegation.proofs.DelegatedCalls.{delegation_thins}
+use Rattle.fancy_delegation.proofs.Serving.{serves_by}
+use Rattle.fancy_delegation.proofs.OnMachine.{analysed_of, w, setup}
+
+-- what holds on every ground of an accepted tree's program
+abbrev OnEveryGround : ((i : Input) → IsAccepted i (layout (plan i)) → Ground → Type 0) → Type 0
+OnEveryGround P =
+    (i : Input) (accepted : IsAccepted i (layout (plan i))) (task : Task) (is_text : IsText task.text) (fits : IsProgramFor (plan i) task.program) (start : ℕ) (base : List Branch) (bottom : ℕ → Course)
+    (falls : (count : ℕ) → To (after task (fail_to task base (config 0 0 (λ s. 0) [] [] start count))) (bottom count)) →
+    P i accepted (w i (layout (plan i)) accepted task is_text fits start base bottom falls)
+
+-- a batch hands the first way of its nodes, one after the other
+abbrev pub BatchesWork : Type 0
+BatchesWork = OnEveryGround (λ i accepted g.
+    (es : List Tree) (depths : Depths) → Every (IsDelegated (analysed_of i (layout (plan i)) accepted)) es → Every (IsWritten (plan i).analysis.tree) es →
+    Works g (batch (i.options).unicode es) (first_of_batch (setting g) (analysed_of i (layout (plan i)) accepted) depths es))
+
+-- an absent repeater of an easy body hands all of its ways
+abbrev pub EasyRepeatersWork : Type 0
+EasyRepeatersWork = OnEveryGround (λ i accepted g.
+    (e : Tree) (depths : Depths) → IsDelegated (analysed_of i (layout (plan i)) accepted) e → IsWritten (plan i).analysis.tree (AbsentRepeater e) →
+    Works g (one (Instr.AbsentRepeater (pattern_of (i.options).unicode (e ∷ [])) (fragment (i.options).unicode (e ∷ [])) (group_range (e ∷ []))))
+    (absent (setting g) (ways (setting g) (plan i).analysis.tree e depths)))
+
+-- where no `\G` gives up, none may
+none_gives_up : (g : Ground) (c : Config) → GoesOn g.task c → length c.branches ≡ length g.base → MayStop g
+none_gives_up g c (no_search e) same search anchored = absurd (true≢false (sym search ∙ e))
+none_gives_up g c (one_start e) same search anchored = absurd (true≢false (sym e ∙ anchored))
+none_gives_up g c (two_branches le) same search anchored = (omega (arith, same, le), λ one. absurd (omega (arith, one, same, le)))
+
+find_is : (p : MatchState → Bool) (xs : List MatchState) → find p xs ≡ find_first p xs
+find_is p [] = refl
+find_is p (x ∷ xs) = ap (λ o. if p x then Some x else o) (find_is p xs)
+
+pub delegation_is_harmless : BatchesWork → EasyRepeatersWork → DelegationIsHarmless
+delegation_is_harmless batches repeaters i e depths at_start in_hard accepted wr t c fresh s from fits is_text has goes_on le st so le' =
+    let program = layout (plan i) in
+    let bottom : ℕ → _ = λ count. after t (fail_to t c.branches (config 0 0 (λ k. 0) [] [] c.start count)) in
+    let falls : (count : ℕ) → To (after t (fail_to t c.branches (config 0 0 (λ k. 0) [] [] c.start count))) (bottom count) = λ count. to_same in
+    let g : Ground = w i program accepted t is_text fits c.start c.branches bottom falls in
+    let stop : MayStop g = none_gives_up g c goes_on refl in
+    let given : Setup = setup i program accepted t is_text fits c.start c.branches bottom falls (λ y. stop)
+    (batches i accepted t is_text fits c.start c.branches bottom falls) (repeaters i accepted t is_text fits c.start c.branches bottom falls) in
+    let h = delegation_thins given depths e wr at_start in_hard (λ x y. stop) in
+    let works : Works g (code_of (plan i) (is_easy given.tree) depths e at_start in_hard) h.handed = h.works in
+    let laid = code_of (plan i) (is_easy given.tree) depths e at_start in_hard c.pc fresh in
+    let part = works.part c.pc (c.pc + length laid.instrs) fresh refl (subst (λ n. n ≤ fresh) (sym (first_slot g accepted.implicit_group_0)) le) has in (
+      works.handed s,
+      handed_by g (λ count. to_same) c.pc c.ix c.slots c.marks c.backtracks (c.pc + length laid.instrs) fresh laid.fresh (Goes c)
+          (to_eq (λ n. ap (λ x. exec t n (here g c.pc x c.slots c.marks [] c.backtracks)) st.place))
+          (part.hands s c.slots c.marks [] c.backtracks so (stands_here g (λ count. to_same) s c st)),
+      serves_by (context_key (plan i) in_hard from) (works.handed s) (h.handed s) (ways (setting g) (plan i).analysis.tree e depths s)
+          (λ p. sym (find_is p (works.handed s)) ∙ (works.alike s so).tests p ∙ find_is p (h.handed s)) ((h.thins).by s from so le'),
+    )
