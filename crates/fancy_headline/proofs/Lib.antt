@@ -1,0 +1,10 @@
+pub mod Delegates
+pub mod Literals
+pub mod Nameless
+pub mod Batches
+pub mod Repeaters
+pub mod Works
+pub mod Answered
+pub mod Plain
+pub mod Bounded
+pub mod Bounds

@@ -1,0 +1,28 @@
+//! A run of the program that delegates what is easy answers what the tree means, and where the whole tree is easy it
+//! ends within a bound. Each theorem is the contract of a function that does nothing.
+#![tactic(auto)]
+
+ghost use Rattle.fancy_meaning.specs.Theorems.{DelegationIsHarmless, Headline, BacktrackBound, InstructionBound};
+
+/// With every easy node left to a plain search, the code of each node that is written out hands, from each sound state
+/// and wherever it stands, a list that serves for the node's ways: by the key in a hard context, and in an easy one by
+/// the easy key from each place at or before the state's.
+pub fn delegation_is_harmless()
+    ensures { DelegationIsHarmless }
+{}
+
+/// Each run of the program of an accepted tree passes a limit, or gives the answer of the plain meaning.
+pub fn headline()
+    ensures { Headline }
+{}
+
+/// Where the whole tree is left to a plain search, one backtrack for each start that is tried is enough, and the branches
+/// never are too many.
+pub fn backtrack_bound()
+    ensures { BacktrackBound }
+{}
+
+/// Where the whole tree is left to a plain search, eight instructions for each start that is tried are enough.
+pub fn instruction_bound()
+    ensures { InstructionBound }
+{}
