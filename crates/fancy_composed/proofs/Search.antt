@@ -10,15 +10,13 @@ use Rattle.regex_hir.proofs.TextLemmas.{char_at_past}
 use Rattle.fancy_meaning.specs.Tree.{Tree}
 use Rattle.fancy_meaning.specs.Nodes.{group_count}
 use Rattle.fancy_meaning.specs.Places.{is_place, places_from, range_from}
-use Rattle.fancy_meaning.specs.OpenCalls.{no_calls, free_calls}
 use Rattle.fancy_meaning.specs.MatchState.{MatchState, Ways, put, first_state}
-use Rattle.fancy_meaning.specs.Answer.{Search, search_of, unset, as_numbers, is_admitted, ways_from, attempt, starts, answer}
+use Rattle.fancy_meaning.specs.Answer.{Search, search_of, unset, as_numbers, is_admitted, attempt, starts, answer}
 use Rattle.fancy_meaning.specs.Options.{RunOptions}
 use Rattle.fancy_meaning.specs.Instr.{Instr, Save, Jmp, SplitUnanchored}
 use Rattle.fancy_meaning.specs.Layout.{program}
 use Rattle.fancy_meaning.specs.Config.{Slots, Branch, Config, Outcome, NoMatch, BacktrackLimitExceeded, Goes, Ends, push}
 use Rattle.fancy_meaning.specs.Machine.{Task, exec, fail_to, then_on, goes_from, is_search, run}
-use Rattle.fancy_meaning.specs.CompileRefusals.{root}
 use Rattle.fancy_meaning.specs.Laws.{begins_with_continue}
 use Rattle.fancy_meaning.specs.Hands.{IsLimit}
 use Rattle.fancy_meaning.specs.Premises.{Input, plan, IsAccepted, IsFit, Analysed}

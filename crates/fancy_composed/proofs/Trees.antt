@@ -75,7 +75,8 @@ module _ (w : Ground) (r : Ready w) (depths : Depths) where
   each_known none wr = tt
   each_known (more e es) wr = ((keeps_node e (wr e here), sized_node e (wr e here)), each_known es (λ x m. wr x (there m)))
 
-  class_there : (inner : List ℕ) (casei : Bool) → IsWritten (whole w) (Delegate inner casei) → (v : Bool) →
+  -- a class that is written out is one
+  pub class_there : (inner : List ℕ) (casei : Bool) → IsWritten (whole w) (Delegate inner casei) → (v : Bool) →
       is_class (w.plan).unicode inner casei ≡ v → v ≡ true
   class_there inner casei wr true e = refl
   class_there inner casei wr false e = absurd (r.allowed (Delegate inner casei) (InnerError inner) wr (no_class e))

@@ -1,11 +1,9 @@
 -- A run of the program with delegates answers what the tree means.
-use Rattle.std.proofs.Common.{◌≡◌, ℕ, ◌≤◌, Bool, true, false, not, List, find, Some, None, refl, sym, ap, ◌∙◌, arith}
-use Rattle.std.specs.Prelude.{slice_get}
+use Rattle.std.proofs.Common.{ℕ, Bool, false, not, List, sym, ◌∙◌, arith}
 use Rattle.fancy_meaning.specs.Tree.{Tree}
 use Rattle.fancy_meaning.specs.OpenCalls.{no_calls}
-use Rattle.fancy_meaning.specs.MatchState.{MatchState, first_state}
-use Rattle.fancy_meaning.specs.Ways.{ways}
-use Rattle.fancy_meaning.specs.Answer.{is_admitted, ways_from}
+use Rattle.fancy_meaning.specs.MatchState.{first_state}
+use Rattle.fancy_meaning.specs.Answer.{is_admitted}
 use Rattle.fancy_meaning.specs.Options.{RunOptions}
 use Rattle.fancy_meaning.specs.Hard.{is_hard}
 use Rattle.fancy_meaning.specs.Layout.{layout, program}
@@ -14,10 +12,9 @@ use Rattle.fancy_meaning.specs.Premises.{Input, plan, IsAccepted, IsFit}
 use Rattle.fancy_meaning.specs.Theorems.{DelegationIsHarmless, Headline}
 use Rattle.fancy_laws.proofs.SizedWays.{first_is_sound}
 use Rattle.fancy_composed.proofs.Parts.{place_within}
-use Rattle.fancy_composed.proofs.Written.{written_is_node}
 use Rattle.fancy_composed.proofs.Search.{task, q, fits, find_is, RootHands, answers}
-use Rattle.fancy_delegation.proofs.Every.{Every, every_weaken}
-use Rattle.fancy_delegation.proofs.Admitted.{IsWithin, same_admitted}
+use Rattle.fancy_delegation.proofs.Every.{every_weaken}
+use Rattle.fancy_delegation.proofs.Admitted.{same_admitted}
 use Rattle.fancy_delegation.proofs.Delegated.{part_of}
 use Rattle.fancy_delegation.proofs.DelegatedCalls.{whole_thins}
 use Rattle.fancy_delegation.proofs.OnMachine.{setup}
@@ -31,7 +28,8 @@ delegation_is_harmless = harmless.delegation_is_harmless batches_work easy_repea
 abbrev pub easy : Input → Tree → Bool
 easy i e = not (is_hard (plan i).analysis e)
 
-module _ (i : Input) (text : List ℕ) (o : RunOptions) (accepted : IsAccepted i (program (plan i) (easy i))) (fit : IsFit i text o) where
+module _ (i : Input) (text : List ℕ) (o : RunOptions) (accepted : IsAccepted i (program (plan i) (easy i)))
+    (fit : IsFit i text o) where
   -- the whole tree hands a list in which the last test finds first what it finds in the ways
   roots_hand : RootHands i text o (easy i) accepted fit
   unfolding layout
@@ -40,13 +38,12 @@ module _ (i : Input) (text : List ℕ) (o : RunOptions) (accepted : IsAccepted i
       let search = q i text o (easy i) accepted fit in
       let ok = fits i text o (easy i) accepted fit in
       let given = setup i (program (plan i) (easy i)) accepted t fit.is_text ok start base (λ n. other) falls stop
-          (batches_work i accepted t fit.is_text ok start base (λ n. other) falls)
-          (easy_repeaters_work i accepted t fit.is_text ok start base (λ n. other) falls) in
+      (batches_work i accepted t fit.is_text ok start base (λ n. other) falls)
+      (easy_repeaters_work i accepted t fit.is_text ok start base (λ n. other) falls) in
       let h = whole_thins given no_calls false in
       let s = first_state start in
       let so = first_is_sound search.setting (plan i).analysis.tree start place in
-      let onward = (part_of given no_calls (plan i).analysis.tree root).sound s so in
-      (
+      let onward = (part_of given no_calls (plan i).analysis.tree root).sound s so in (
         h.handed,
         h.works,
         sym (find_is (is_admitted search start) (h.handed s))

@@ -1,13 +1,13 @@
 -- A batch hands the first way of its nodes: literals, one class, one `Any`, nodes without a name, or a delegate.
-use Rattle.std.proofs.Common.{◌≡◌, ℕ, ◌<◌, Bool, true, false, if◌then◌else◌, List, [], ◌∷◌, ◌++◌, map, flat_map, take, Option, Some, None, encode_utf8_all, refl, sym, ap, ◌∙◌, subst, append-nil, map-id}
+use Rattle.std.proofs.Common.{◌≡◌, ℕ, Bool, true, false, if◌then◌else◌, List, [], ◌∷◌, map, take, Option, Some, None, encode_utf8_all, refl, sym, ap, ◌∙◌, subst, map-id}
 use Rattle.std.specs.List.{list_any}
 use Rattle.std.specs.Char.{IsScalar}
 use Rattle.std.proofs.lemmas.List.Concat.{flat_map_single}
 use Rattle.fancy_meaning.specs.Tree.{Tree, Trees, none, more, Any, Literal, Delegate, Concat}
-use Rattle.fancy_meaning.specs.MatchState.{MatchState, Ways, stays, in_order}
+use Rattle.fancy_meaning.specs.MatchState.{MatchState, Ways, in_order}
 use Rattle.fancy_meaning.specs.Ways.{ways_with}
 use Rattle.fancy_meaning.specs.Instr.{Instr}
-use Rattle.fancy_meaning.specs.Moves.{past_bytes, past_chars, past_char}
+use Rattle.fancy_meaning.specs.Moves.{past_bytes, past_char}
 use Rattle.fancy_meaning.specs.Chars.{is_class, any_takes, class_takes}
 use Rattle.fancy_meaning.specs.Batches.{all_joined, literal_chars, each_literal, literal_instr, class_code, any_instr, pattern_of, fragment, group_range, delegate_code, batch_code, batch}
 use Rattle.fancy_meaning.specs.Code as code
@@ -20,7 +20,7 @@ use Rattle.fancy_composed.proofs.Parts.{at_place, moves_at, setting, whole, Work
 use Rattle.fancy_composed.proofs.Works.{works_as, works_nothing, works_moves}
 use Rattle.fancy_composed.proofs.Atoms.{works_any, works_class}
 use Rattle.fancy_composed.proofs.Ready.{Ready}
-use Rattle.fancy_headline.proofs.Literals.{Chars, past_all, test_of, bytes_of_all, joined_parts, list_takes_chars}
+use Rattle.fancy_headline.proofs.Literals.{Chars, past_all, bytes_of_all, joined_parts, list_takes_chars}
 use Rattle.fancy_headline.proofs.Nameless.{list_stays}
 use Rattle.fancy_headline.proofs.Delegates.{IsSteady, IsNumbered, works_delegate}
 
@@ -45,13 +45,16 @@ module _ (w : Ground) (r : Ready w) where
     scalars_of (Concat es) cs wr e = scalars_of_each es cs (λ d m. part wr m) e
     scalars_of _ cs wr e = cc
 
-    scalars_of_each : (es : Trees) (cs : Chars) → ((d : Tree) → IsAmong d es → IsWritten (whole w) d) → all_joined (each_literal es) ≡ Some cs → Scalars cs
+    scalars_of_each : (es : Trees) (cs : Chars) → ((d : Tree) → IsAmong d es → IsWritten (whole w) d) →
+        all_joined (each_literal es) ≡ Some cs → Scalars cs
     scalars_of_each none cs wr e = let same : [] ≡ cs = cc in subst Scalars same no_item
     scalars_of_each (more d ds) cs wr e =
         let p = joined_parts (literal_chars d) (each_literal ds) cs e in
-        subst Scalars (sym p.4) (every_append (scalars_of d p.0 (wr d here) p.2) (scalars_of_each ds p.1 (λ x m. wr x (there m)) p.3))
+        subst Scalars (sym p.4)
+        (every_append (scalars_of d p.0 (wr d here) p.2) (scalars_of_each ds p.1 (λ x m. wr x (there m)) p.3))
 
-  scalars_of_list : {es : List Tree} (cs : Chars) → Every (IsWritten (whole w)) es → all_joined (map literal_chars es) ≡ Some cs → Scalars cs
+  scalars_of_list : {es : List Tree} (cs : Chars) → Every (IsWritten (whole w)) es →
+      all_joined (map literal_chars es) ≡ Some cs → Scalars cs
   scalars_of_list cs no_item e = let same : [] ≡ cs = cc in subst Scalars same no_item
   scalars_of_list cs (item {x = d} {xs = ds} wr wrs) e =
       let p = joined_parts (literal_chars d) (map literal_chars ds) cs e in
@@ -60,7 +63,8 @@ module _ (w : Ground) (r : Ready w) where
   -- ---- literals
 
   works_chars : (cs : Chars) → Scalars cs →
-      Works w (code.one (literal_instr (w.plan).unicode cs)) (λ s. at_place s (past_all (w.plan).unicode (w.task).text cs s.place))
+      Works w (code.one (literal_instr (w.plan).unicode cs))
+      (λ s. at_place s (past_all (w.plan).unicode (w.task).text cs s.place))
   works_chars cs ok = by_fold (list_any (λ c. c.1) cs) refl
     where
       text : List ℕ
@@ -70,11 +74,15 @@ module _ (w : Ground) (r : Ready w) where
       unicode = (w.plan).unicode
 
       by_fold : (v : Bool) → list_any (λ c. c.1) cs ≡ v →
-          Works w (code.one (if v then Instr.LitCasei cs unicode else Instr.Lit (encode_utf8_all (map (λ c. c.0) cs)))) (λ s. at_place s (past_all unicode text cs s.place))
-      by_fold true e = works_moves w (Instr.LitCasei cs unicode) (λ s. past_all unicode text cs s.place) (λ s slots a marks bs count so st. refl)
+          Works w (code.one (if v then Instr.LitCasei cs unicode else Instr.Lit (encode_utf8_all (map (λ c. c.0) cs))))
+          (λ s. at_place s (past_all unicode text cs s.place))
+      by_fold true e =
+          works_moves w (Instr.LitCasei cs unicode) (λ s. past_all unicode text cs s.place)
+          (λ s slots a marks bs count so st. refl)
       by_fold false e =
           works_as w (λ s. at_place s (past_all unicode text cs s.place))
-          (works_moves w (Instr.Lit (encode_utf8_all (map (λ c. c.0) cs))) (λ s. past_bytes text (encode_utf8_all (map (λ c. c.0) cs)) s.place) (λ s slots a marks bs count so st. refl))
+          (works_moves w (Instr.Lit (encode_utf8_all (map (λ c. c.0) cs)))
+          (λ s. past_bytes text (encode_utf8_all (map (λ c. c.0) cs)) s.place) (λ s slots a marks bs count so st. refl))
           (λ s so. ap (at_place s) (bytes_of_all unicode text cs s.place e ok))
 
   -- one place at most is the first
@@ -91,55 +99,82 @@ module _ (w : Ground) (r : Ready w) where
     abbrev Steady : List Tree → Type 0
     Steady es = (s : MatchState) → Every (IsSteady (w.plan).end_text s) (in_order (map (ways_with (setting w) meant) es) s)
 
-    works_literals : {es : List Tree} (cs : Chars) → Every (IsWritten (whole w)) es → all_joined (map literal_chars es) ≡ Some cs →
+    works_literals : {es : List Tree} (cs : Chars) → Every (IsWritten (whole w)) es →
+        all_joined (map literal_chars es) ≡ Some cs →
         Works w (code.one (literal_instr (w.plan).unicode cs)) (first_of es)
     works_literals {es} cs wr e =
         works_as w (first_of es) (works_chars cs (scalars_of_list cs wr e))
-        (λ s so. sym (ap (take 1) (list_takes_chars (setting w) meant es cs e s) ∙ first_place s (past_all (w.plan).unicode (w.task).text cs s.place)))
+        (λ s so.
+        sym
+        (ap (take 1) (list_takes_chars (setting w) meant es cs e s)
+        ∙ first_place s (past_all (w.plan).unicode (w.task).text cs s.place)))
 
     -- a node alone, that takes one character
-    alone : (e : Tree) (f : ℕ → Option ℕ) (c : Code) → ((s : MatchState) → ways_with (setting w) meant e s ≡ at_place s (f s.place)) → Works w c (ways_with (setting w) meant e) → Works w c (first_of (e ∷ []))
+    alone : (e : Tree) (f : ℕ → Option ℕ) (c : Code) →
+        ((s : MatchState) → ways_with (setting w) meant e s ≡ at_place s (f s.place)) →
+        Works w c (ways_with (setting w) meant e) → Works w c (first_of (e ∷ []))
     alone e f c is p =
         works_as w (first_of (e ∷ [])) p
-        (λ s so. is s ∙ sym (ap (take 1) (flat_map_single (λ t. t) (ways_with (setting w) meant e s) ∙ map-id (ways_with (setting w) meant e s) ∙ is s) ∙ first_place s (f s.place)))
+        (λ s so. is s
+        ∙ sym
+        (ap (take 1)
+        (flat_map_single (λ t. t) (ways_with (setting w) meant e s) ∙ map-id (ways_with (setting w) meant e s) ∙ is s)
+        ∙ first_place s (f s.place)))
 
-    module _ {es : List Tree} (wr : Every (IsWritten (whole w)) es) (easy : Every (IsEasy (w.plan).analysis) es) (numbered : Every (IsNumbered w) es) (steady : Steady es) where
+    module _ {es : List Tree} (wr : Every (IsWritten (whole w)) es) (easy : Every (IsEasy (w.plan).analysis) es)
+        (numbered : Every (IsNumbered w) es) (steady : Steady es) where
       works_named : Works w (delegate_code (w.plan).unicode es) (first_of es)
       works_named = by_name (pattern_of (w.plan).unicode es) refl
         where
-          by_name : (t : List ℕ) → pattern_of (w.plan).unicode es ≡ t → Works w (delegate_code (w.plan).unicode es) (first_of es)
+          by_name : (t : List ℕ) → pattern_of (w.plan).unicode es ≡ t →
+              Works w (delegate_code (w.plan).unicode es) (first_of es)
           by_name [] e =
               subst (λ c. Works w c (first_of es)) (sym (no_name (w.plan).unicode es e))
               (works_as w (first_of es) (works_nothing w)
-              (λ s so. sym (ap (take 1) (list_stays (setting w) meant (w.plan).analysis (whole w) (λ d wd. r.fine d (r.there d wd)) wr easy e s))))
+              (λ s so.
+              sym
+              (ap (take 1)
+              (list_stays (setting w) meant (w.plan).analysis (whole w) (λ d wd. r.fine d (r.there d wd)) wr easy e s))))
           by_name (c ∷ cs) e =
               subst (λ x. Works w x (first_of es)) (sym (some_name (w.plan).unicode es c cs e))
               (works_delegate w (c ∷ cs) (group_range es) es meant easy numbered steady)
 
-    one_class : (inner : List ℕ) (casei : Bool) → is_class (w.plan).unicode inner casei ≡ true → Works w (class_code (w.plan).unicode inner casei) (first_of (Delegate inner casei ∷ []))
+    one_class : (inner : List ℕ) (casei : Bool) → is_class (w.plan).unicode inner casei ≡ true →
+        Works w (class_code (w.plan).unicode inner casei) (first_of (Delegate inner casei ∷ []))
     one_class inner casei there' =
-        alone (Delegate inner casei) (past_char (w.task).text (class_takes (w.plan).unicode inner casei)) (class_code (w.plan).unicode inner casei)
-        (λ s. moves_at (setting w) (past_char (w.task).text (class_takes (w.plan).unicode inner casei)) s (past_char (w.task).text (class_takes (w.plan).unicode inner casei) s.place) refl)
+        alone (Delegate inner casei) (past_char (w.task).text (class_takes (w.plan).unicode inner casei))
+        (class_code (w.plan).unicode inner casei)
+        (λ s.
+        moves_at (setting w) (past_char (w.task).text (class_takes (w.plan).unicode inner casei)) s
+        (past_char (w.task).text (class_takes (w.plan).unicode inner casei) s.place) refl)
         (works_class w (w.plan).unicode inner casei there')
 
     one_any : (newline crlf : Bool) → Works w (code.one (any_instr newline crlf)) (first_of (Any newline crlf ∷ []))
     one_any newline crlf =
         alone (Any newline crlf) (past_char (w.task).text (any_takes newline crlf)) (code.one (any_instr newline crlf))
-        (λ s. moves_at (setting w) (past_char (w.task).text (any_takes newline crlf)) s (past_char (w.task).text (any_takes newline crlf) s.place) refl)
+        (λ s.
+        moves_at (setting w) (past_char (w.task).text (any_takes newline crlf)) s
+        (past_char (w.task).text (any_takes newline crlf) s.place) refl)
         (works_any w newline crlf)
 
     -- where a class is written, it is one
     abbrev Classes : Type 0
-    Classes = (inner : List ℕ) (casei : Bool) → IsWritten (whole w) (Delegate inner casei) → is_class (w.plan).unicode inner casei ≡ true
+    Classes =
+        (inner : List ℕ) (casei : Bool) → IsWritten (whole w) (Delegate inner casei) → is_class
+        (w.plan).unicode inner casei ≡ true
 
-    by_shape : Classes → (o : Option Chars) (es : List Tree) → all_joined (map literal_chars es) ≡ o → Every (IsWritten (whole w)) es → Every (IsEasy (w.plan).analysis) es →
+    by_shape : Classes → (o : Option Chars) (es : List Tree) → all_joined (map literal_chars es) ≡ o →
+        Every (IsWritten (whole w)) es → Every (IsEasy (w.plan).analysis) es →
         Every (IsNumbered w) es → Steady es → Works w (batch_code (w.plan).unicode o es) (first_of es)
     by_shape known (Some cs) es e wr easy numbered steady = works_literals cs wr e
-    by_shape known None (Delegate inner casei ∷ []) e (item wd no_item) easy numbered steady = one_class inner casei (known inner casei wd)
+    by_shape known None (Delegate inner casei ∷ []) e (item wd no_item) easy numbered steady =
+        one_class inner casei (known inner casei wd)
     by_shape known None (Any newline crlf ∷ []) e wr easy numbered steady = one_any newline crlf
     by_shape known None es e wr easy numbered steady = works_named wr easy numbered steady
 
-    pub works_batch : Classes → (es : List Tree) → Every (IsWritten (whole w)) es → Every (IsEasy (w.plan).analysis) es → Every (IsNumbered w) es → Steady es →
+    pub works_batch : Classes → (es : List Tree) → Every (IsWritten (whole w)) es → Every (IsEasy (w.plan).analysis) es →
+        Every (IsNumbered w) es → Steady es →
         Works w (batch (w.plan).unicode es) (first_of es)
     works_batch known [] wr easy numbered steady = works_as w (first_of []) (works_nothing w) (λ s so. refl)
-    works_batch known (e ∷ es) wr easy numbered steady = by_shape known (all_joined (map literal_chars (e ∷ es))) (e ∷ es) refl wr easy numbered steady
+    works_batch known (e ∷ es) wr easy numbered steady =
+        by_shape known (all_joined (map literal_chars (e ∷ es))) (e ∷ es) refl wr easy numbered steady

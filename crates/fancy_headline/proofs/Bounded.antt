@@ -1,8 +1,8 @@
 -- Courses that pass no limit: enough instructions are enough, and enough backtracks are enough.
-use Rattle.std.proofs.Common.{◌≡◌, ◌≢◌, ℕ, zero, suc, ◌+◌, ◌<◌, ◌≤◌, Bool, true, false, ◌&&◌, ◌==◌, not, nat_lt, if◌then◌else◌, List, [], ◌∷◌, length, Some, refl, sym, ap, ◌∙◌, subst, arith, lt-ltb}
+use Rattle.std.proofs.Common.{◌≡◌, ◌≢◌, ℕ, zero, suc, ◌+◌, ◌≤◌, Bool, true, false, ◌&&◌, ◌==◌, not, nat_lt, if◌then◌else◌, List, [], ◌∷◌, length, Some, sym, ap, ◌∙◌, subst, arith, lt-ltb}
 use Rattle.std.specs.Prelude.{slice_get}
 use Rattle.fancy_meaning.specs.Instr.{Instr, Save, End, RejectEmptyMatchAtEOFFollowingNewline}
-use Rattle.fancy_meaning.specs.Config.{Branch, Config, Outcome, Match, NoMatch, BacktrackLimitExceeded, StackOverflow, StepLimitExceeded, Next, Goes, Ends}
+use Rattle.fancy_meaning.specs.Config.{Branch, Config, Match, NoMatch, BacktrackLimitExceeded, StackOverflow, StepLimitExceeded, Next, Goes, Ends}
 use Rattle.fancy_meaning.specs.Machine.{Task, fail, fail_to, goes_if, is_rejected, numbers_of, step, step_at, exec, then_on}
 use Rattle.fancy_meaning.specs.Hands.{HasAt}
 use Rattle.fancy_composed.proofs.Courses.{Course, after}
@@ -54,10 +54,15 @@ module _ (t : Task) where
 
   -- the last branch, with one backtrack more
   pub one_left : (b : Branch) (count starts k : ℕ) →
-      ((first : ℕ) → IsBounded (count + 1) starts k (λ n. exec t n (record { now = b; branches = []; start = first; backtracks = count + 1 }))) →
+      ((first : ℕ) → IsBounded (count + 1) starts k
+      (λ n. exec t n (record { now = b; branches = []; start = first; backtracks = count + 1 }))) →
       FailsBounded (b ∷ []) count (suc starts) k
   one_left b count starts k on d e =
-      subst (λ m. IsBounded count (suc starts) k (after t (if nat_lt m t.backtrack_limit then Goes (next m) else Ends BacktrackLimitExceeded))) (sym e)
+      subst
+      (λ m.
+      IsBounded count (suc starts) k
+      (after t (if nat_lt m t.backtrack_limit then Goes (next m) else Ends BacktrackLimitExceeded)))
+      (sym e)
       (record {
         steps = λ n le. enough n le (nat_lt count t.backtrack_limit);
         backtracks = λ le n. free le n (nat_lt count t.backtrack_limit) (lt-ltb count t.backtrack_limit (omega (arith, le)));
@@ -66,7 +71,8 @@ module _ (t : Task) where
       next : ℕ → Config
       next m = record { now = b; branches = []; start = d.start; backtracks = m + 1 }
 
-      enough : (n : ℕ) → k ≤ n → (v : Bool) → after t (if v then Goes (next count) else Ends BacktrackLimitExceeded) n ≢ StepLimitExceeded
+      enough : (n : ℕ) → k ≤ n → (v : Bool) →
+          after t (if v then Goes (next count) else Ends BacktrackLimitExceeded) n ≢ StepLimitExceeded
       enough n le true = (on d.start).steps n le
       enough n le false = λ q. cc
 
@@ -89,9 +95,11 @@ module _ (t : Task) where
     BoundedAt pc m = (c : Config) → IsAt pc c → IsBounded count starts m (λ n. exec t n c)
 
     fail_here : (pc : ℕ) (c : Config) → IsAt pc c → IsBounded count starts k (after t (fail t c))
-    fail_here pc c is = subst (λ l. IsBounded count starts k (after t (fail_to t l c))) (sym is.branches) (failing c is.backtracks)
+    fail_here pc c is =
+        subst (λ l. IsBounded count starts k (after t (fail_to t l c))) (sym is.branches) (failing c is.backtracks)
 
-    stands : (pc : ℕ) (i : Instr) (c : Config) → slice_get (t.program).body pc ≡ Some i → IsAt pc c → slice_get (t.program).body c.pc ≡ Some i
+    stands : (pc : ℕ) (i : Instr) (c : Config) → slice_get (t.program).body pc ≡ Some i → IsAt pc c →
+        slice_get (t.program).body c.pc ≡ Some i
     stands pc i c at is = ap (slice_get (t.program).body) is.pc ∙ at
 
     at_end : (pc : ℕ) → slice_get (t.program).body pc ≡ Some End → BoundedAt pc (suc k)
@@ -101,9 +109,11 @@ module _ (t : Task) where
         by_test true = fail_here pc c is
         by_test false = match_bounded count starts k (numbers_of t c)
 
-    at_reject : (pc m : ℕ) → k ≤ m → slice_get (t.program).body pc ≡ Some RejectEmptyMatchAtEOFFollowingNewline → BoundedAt (pc + 1) m → BoundedAt pc (suc m)
+    at_reject : (pc m : ℕ) → k ≤ m → slice_get (t.program).body pc ≡ Some RejectEmptyMatchAtEOFFollowingNewline →
+        BoundedAt (pc + 1) m → BoundedAt pc (suc m)
     at_reject pc m le at on c is =
-        step_bounded RejectEmptyMatchAtEOFFollowingNewline c (stands pc RejectEmptyMatchAtEOFFollowingNewline c at is) (by_test (not (is_rejected t c)))
+        step_bounded RejectEmptyMatchAtEOFFollowingNewline c (stands pc RejectEmptyMatchAtEOFFollowingNewline c at is)
+        (by_test (not (is_rejected t c)))
       where
         by_test : (v : Bool) → IsBounded count starts m (after t (goes_if t v c))
         by_test true = on _ (record { pc = ap (λ x. x + 1) is.pc; branches = is.branches; backtracks = is.backtracks })
@@ -118,12 +128,17 @@ module _ (t : Task) where
         step_bounded (Save slot) c (stands pc (Save slot) c at is)
         (on _ (record { pc = ap (λ x. x + 1) is.pc; branches = is.branches; backtracks = is.backtracks }))
 
-    at_plain : (pc m : ℕ) → k ≤ m → {is : List Instr} → AtMostOne t is → HasAt (t.program).body pc is → BoundedAt (pc + length is) m → BoundedAt pc (suc m)
-    at_plain pc m le no_instr has on c is = bounded_more (omega arith) (on c (record { pc = is.pc ∙ (let z : pc ≡ pc + 0 = omega arith in z); branches = is.branches; backtracks = is.backtracks }))
+    at_plain : (pc m : ℕ) → k ≤ m → {is : List Instr} → AtMostOne t is → HasAt (t.program).body pc is →
+        BoundedAt (pc + length is) m → BoundedAt pc (suc m)
+    at_plain pc m le no_instr has on c is =
+        bounded_more (omega arith)
+        (on c
+        (record { pc = is.pc ∙ (let z : pc ≡ pc + 0 = omega arith in z); branches = is.branches; backtracks = is.backtracks }))
     at_plain pc m le (one_instr i plain) has on c is = step_bounded i c (stands pc i c has.0 is) (by_case (plain c))
       where
         by_case : {next : Next} → GoesOrFails t c next → IsBounded count starts m (after t next)
-        by_case (goes d e f g) = on d (record { pc = e ∙ ap (λ x. x + 1) is.pc; branches = f ∙ is.branches; backtracks = g ∙ is.backtracks })
+        by_case (goes d e f g) =
+            on d (record { pc = e ∙ ap (λ x. x + 1) is.pc; branches = f ∙ is.branches; backtracks = g ∙ is.backtracks })
         by_case fails = bounded_more le (fail_here pc c is)
 
     -- the first end is kept, the tree is one instruction at most, and the other end is kept

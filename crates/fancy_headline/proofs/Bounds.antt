@@ -1,6 +1,5 @@
 -- Where the whole tree is easy, a run ends: one backtrack and eight instructions for each start are enough.
-use Rattle.std.proofs.Common.{◌≡◌, ◌≢◌, ◌⊎◌, ⊎_elim, ℕ, zero, suc, ◌+◌, ◌*◌, ◌<◌, ◌≤◌, Bool, true, false, ◌&&◌, ◌||◌, ◌==◌, not, if◌then◌else◌, List, [], ◌∷◌, length, Option, Some, None, option_and_then, refl, sym, ap, ap₂, ◌∙◌, subst, arith}
-use Rattle.std.specs.Prelude.{slice_get}
+use Rattle.std.proofs.Common.{◌≡◌, ⊎_elim, ℕ, zero, suc, ◌+◌, ◌*◌, ◌<◌, Bool, true, false, ◌&&◌, ◌||◌, ◌==◌, not, if◌then◌else◌, List, [], ◌∷◌, length, Option, Some, None, option_and_then, refl, sym, ap, ap₂, subst, arith}
 use Rattle.std.specs.Char.{len_utf8}
 use Rattle.std.proofs.lemmas.Bool.{cases_lt, or_parts}
 use Rattle.std.proofs.lemmas.Str.{len_utf8_bounds}
@@ -15,11 +14,11 @@ use Rattle.fancy_meaning.specs.Sizes.{size}
 use Rattle.fancy_meaning.specs.Instr.{Instr, Jmp, SplitUnanchored}
 use Rattle.fancy_meaning.specs.Batches.{batch}
 use Rattle.fancy_meaning.specs.Code.{Code}
-use Rattle.fancy_meaning.specs.Layout.{layout, program, root_code, called_code, written}
-use Rattle.fancy_meaning.specs.Config.{Slots, Branch, Config, Outcome, Next, Goes, push}
-use Rattle.fancy_meaning.specs.Machine.{Task, exec, goes_from, fail_to, run, begin}
+use Rattle.fancy_meaning.specs.Layout.{layout, program, called_code, written}
+use Rattle.fancy_meaning.specs.Config.{Slots, Branch, Config, Goes, push}
+use Rattle.fancy_meaning.specs.Machine.{Task, exec, goes_from, run, begin}
 use Rattle.fancy_meaning.specs.Premises.{Input, plan, IsAccepted, IsFit}
-use Rattle.fancy_meaning.specs.Theorems.{EasyRun, tried, outcome, BacktrackBound, InstructionBound}
+use Rattle.fancy_meaning.specs.Theorems.{BacktrackBound, InstructionBound}
 use Rattle.fancy_meaning.specs.Answer.{search_of, starts, unset}
 use Rattle.fancy_composed.proofs.Courses.{after, config}
 use Rattle.fancy_composed.proofs.Parts.{place_within}
@@ -31,7 +30,8 @@ use Rattle.fancy_headline.proofs.Answered.{easy}
 use Rattle.fancy_headline.proofs.Plain.{AtMostOne, batch_plain}
 use Rattle.fancy_headline.proofs.Bounded.{IsBounded, bounded_more, no_match_bounded, step_bounded, FailsBounded, none_left, one_left, IsAt, attempt_bounded}
 
-module _ (i : Input) (text : List ℕ) (o : RunOptions) (accepted : IsAccepted i (program (plan i) (easy i))) (fit : IsFit i text o)
+module _ (i : Input) (text : List ℕ) (o : RunOptions) (accepted : IsAccepted i (program (plan i) (easy i)))
+    (fit : IsFit i text o)
     (all_easy : is_root_hard (plan i).analysis ≡ false) where
   abbrev task : Task
   task = record { program = program (plan i) (easy i); text = text; options = o }
@@ -45,21 +45,27 @@ module _ (i : Input) (text : List ℕ) (o : RunOptions) (accepted : IsAccepted i
   -- the whole tree is one batch
   root_is : programs.root (plan i) (easy i) ≡ batch (plan i).unicode (tree ∷ [])
   root_is =
-      let parts = or_parts (is_hard (plan i).analysis tree) ((plan i).analysis.end_text && (size tree tree).least == 0) all_easy in
-      ap₂ (λ u v. if (not u && not v) && true then batch (plan i).unicode (tree ∷ []) else written (plan i) (easy i) calls tree true false) parts.0 parts.1
+      let parts =
+      or_parts (is_hard (plan i).analysis tree) ((plan i).analysis.end_text && (size tree tree).least == 0) all_easy in
+      ap₂
+      (λ u v.
+      if (not u && not v) && true then batch (plan i).unicode (tree ∷ []) else written (plan i) (easy i) calls tree true false) parts.0 parts.1
 
   root_plain : (a n : ℕ) → AtMostOne task (programs.root (plan i) (easy i) a n).instrs
   root_plain a n = subst (λ c. AtMostOne task (c a n).instrs) (sym root_is) (batch_plain task (plan i).unicode (tree ∷ []) a n)
 
   -- an attempt above branches that are bounded
-  attempted : (a : ℕ) → Attempt (plan i) (easy i) a → (bs : List Branch) (count starts k : ℕ) (failing : FailsBounded task bs count starts k) → (c : Config) →
+  attempted : (a : ℕ) → Attempt (plan i) (easy i) a →
+      (bs : List Branch) (count starts k : ℕ) (failing : FailsBounded task bs count starts k) → (c : Config) →
       IsAt task bs count starts k failing a c → IsBounded task count starts (suc (suc (suc (suc (suc k))))) (λ n. exec task n c)
   attempted a at bs count starts k failing =
-      attempt_bounded task bs count starts k failing a (plan i).end_text (root_plain (a + 1) (programs.fresh (plan i) (easy i))) at.start at.tree at.end at.ends
+      attempt_bounded task bs count starts k failing a (plan i).end_text
+      (root_plain (a + 1) (programs.fresh (plan i) (easy i))) at.start at.tree at.end at.ends
 
   alone : (a starts : ℕ) → Attempt (plan i) (easy i) a → (c : Config) → c.pc ≡ a → c.branches ≡ [] → c.backtracks ≡ 0 →
       IsBounded task 0 starts (suc (suc (suc (suc (suc 0))))) (λ n. exec task n c)
-  alone a starts at c p b k = attempted a at [] 0 starts 0 (none_left task 0 starts 0) c (record { pc = p; branches = b; backtracks = k })
+  alone a starts at c p b k =
+      attempted a at [] 0 starts 0 (none_left task 0 starts 0) c (record { pc = p; branches = b; backtracks = k })
 
   -- ---- the search
 
@@ -71,14 +77,19 @@ module _ (i : Input) (text : List ℕ) (o : RunOptions) (accepted : IsAccepted i
     abbrev again : ℕ → Branch
     again start = record { pc = 1; ix = start; slots = no_slots; marks = [] }
 
+    -- past the character that stands there
+    abbrev past : ℕ → Option ℕ → Option ℕ
+    past start char = option_and_then (λ c. Some (start + len_utf8 c)) char
+
     -- it takes a character, and the search begins anew
     goes_again : (start count starts k c : ℕ) → char_at text start ≡ Some c →
-        ((first : ℕ) → IsBounded task count starts k (λ n. exec task n (config 0 (start + len_utf8 c) no_slots [] [] first count))) →
+        ((first : ℕ) →
+        IsBounded task count starts k (λ n. exec task n (config 0 (start + len_utf8 c) no_slots [] [] first count))) →
         (first : ℕ) → IsBounded task count starts (suc (suc k)) (λ n. exec task n (config 1 start no_slots [] [] first count))
     goes_again start count starts k c stands on first =
         let d : Config = config 1 start no_slots [] [] first count in
         step_bounded task Instr.Any d at.any
-        (subst (λ v. IsBounded task count starts (suc k) (after task (goes_from task d (option_and_then (λ x. Some (start + len_utf8 x)) v)))) (sym stands)
+        (subst (λ v. IsBounded task count starts (suc k) (after task (goes_from task d (past start v)))) (sym stands)
         (step_bounded task (Jmp 0) (config 2 (start + len_utf8 c) no_slots [] [] first count) at.back (on first)))
 
     -- or the text is at its end
@@ -87,29 +98,34 @@ module _ (i : Input) (text : List ℕ) (o : RunOptions) (accepted : IsAccepted i
     ends_there start count starts stands first =
         let d : Config = config 1 start no_slots [] [] first count in
         step_bounded task Instr.Any d at.any
-        (subst (λ v. IsBounded task count starts 0 (after task (goes_from task d (option_and_then (λ x. Some (start + len_utf8 x)) v)))) (sym stands)
+        (subst (λ v. IsBounded task count starts 0 (after task (goes_from task d (past start v)))) (sym stands)
         (no_match_bounded task count starts 0))
 
     -- one start, from what comes after it
     begun : o.anchored ≡ false → (start before count starts k : ℕ) →
         ((first : ℕ) → IsBounded task (count + 1) starts k (λ n. exec task n (config 1 start no_slots [] [] first (count + 1)))) →
-        IsBounded task count (suc starts) (suc (suc (suc (suc (suc (suc k)))))) (λ n. exec task n (config 0 start no_slots [] [] before count))
+        IsBounded task count (suc starts) (suc (suc (suc (suc (suc (suc k))))))
+        (λ n. exec task n (config 0 start no_slots [] [] before count))
     begun many start before count starts k next =
         let c : Config = config 0 start no_slots [] [] before count in
         let d : Config = config 3 start no_slots [] [] start count in
         let failing = one_left task (again start) count starts k next in
         step_bounded task (SplitUnanchored 3 1) c at.split
-        (subst (λ v. IsBounded task count (suc starts) (suc (suc (suc (suc (suc k))))) (after task (if v then Goes d else push 1 c d))) (sym many)
+        (subst
+        (λ v. IsBounded task count (suc starts) (suc (suc (suc (suc (suc k))))) (after task (if v then Goes d else push 1 c d)))
+        (sym many)
         (attempted 3 at.attempt (again start ∷ []) count (suc starts) k failing (config 3 start no_slots [] (again start ∷ []) start count)
         (record { pc = refl; branches = refl; backtracks = refl })))
 
     -- all starts from one on
     abbrev AllBounded : ℕ → ℕ → ℕ → List ℕ → Type 0
-    AllBounded start before count is = IsBounded task count (length is) (8 * length is) (λ n. exec task n (config 0 start no_slots [] [] before count))
+    AllBounded start before count is =
+        IsBounded task count (length is) (8 * length is) (λ n. exec task n (config 0 start no_slots [] [] before count))
 
     searched : o.anchored ≡ false → (fuel start before count : ℕ) → is_place text start ≡ true → length text < start + fuel →
         AllBounded start before count (places_from text start)
-    searched many zero start before count place left = let within = place_within text start place in absurd (omega (arith, within, left))
+    searched many zero start before count place left =
+        let within = place_within text start place in absurd (omega (arith, within, left))
     searched many (suc fuel) start before count place left =
         ⊎_elim {C = AllBounded start before count (places_from text start)}
         (λ lt.
@@ -120,14 +136,18 @@ module _ (i : Input) (text : List ℕ) (o : RunOptions) (accepted : IsAccepted i
         (further (length (places_from text j))
         (begun many start before count (length (places_from text j)) (suc (suc (8 * length (places_from text j))))
         (goes_again start (count + 1) (length (places_from text j)) (8 * length (places_from text j)) d.0 d.1
-        (λ first. searched many fuel j first (count + 1) (char_ends_at_place text fit.is_text.utf8 start d.0 place d.1) (omega (arith, some, left)))))))
+        (λ first.
+        searched many fuel j first (count + 1) (char_ends_at_place text fit.is_text.utf8 start d.0 place d.1)
+        (omega (arith, some, left)))))))
         (λ ge.
         let within = place_within text start place in
         subst (AllBounded start before count) (sym (places_at_end text start (omega (arith, within, ge)) place))
-        (bounded_more task (omega arith) (begun many start before count 0 (suc 0) (ends_there start (count + 1) 0 (char_at_past text start ge)))))
+        (bounded_more task (omega arith)
+        (begun many start before count 0 (suc 0) (ends_there start (count + 1) 0 (char_at_past text start ge)))))
         (cases_lt start (length text))
       where
-        further : (m : ℕ) → IsBounded task count (suc m) (suc (suc (suc (suc (suc (suc (suc (suc (8 * m))))))))) (λ n. exec task n (config 0 start no_slots [] [] before count)) →
+        further : (m : ℕ) → IsBounded task count (suc m) (suc (suc (suc (suc (suc (suc (suc (suc (8 * m)))))))))
+            (λ n. exec task n (config 0 start no_slots [] [] before count)) →
             IsBounded task count (suc m) (8 * suc m) (λ n. exec task n (config 0 start no_slots [] [] before count))
         further m b = bounded_more task (omega arith) b
 
@@ -145,7 +165,8 @@ module _ (i : Input) (text : List ℕ) (o : RunOptions) (accepted : IsAccepted i
       by_options : (v u : Bool) → (plan i).anchored ≡ v → o.anchored ≡ u → RunBounded the_starts
       by_options true u is_v is_u =
           subst RunBounded (sym (ap (λ x. if x || o.anchored then o.pos ∷ [] else places_from text o.pos) is_v))
-          (bounded_more task (omega arith) (alone 0 1 (anchored_attempt (plan i) (easy i) accepted.implicit_group_0 is_v) (begin task) refl refl refl))
+          (bounded_more task (omega arith)
+          (alone 0 1 (anchored_attempt (plan i) (easy i) accepted.implicit_group_0 is_v) (begin task) refl refl refl))
       by_options false true is_v is_u =
           let at = search_stands (plan i) (easy i) accepted.implicit_group_0 is_v in
           let d : Config = config 3 o.pos no_slots [] [] o.pos 0 in
@@ -156,7 +177,8 @@ module _ (i : Input) (text : List ℕ) (o : RunOptions) (accepted : IsAccepted i
           (alone 3 1 at.attempt d refl refl refl))))
       by_options false false is_v is_u =
           subst RunBounded (sym (ap₂ (λ x y. if x || y then o.pos ∷ [] else places_from text o.pos) is_v is_u))
-          (searched (search_stands (plan i) (easy i) accepted.implicit_group_0 is_v) is_u (suc (length text)) o.pos o.pos 0 fit.pos (omega arith))
+          (searched (search_stands (plan i) (easy i) accepted.implicit_group_0 is_v) is_u
+          (suc (length text)) o.pos o.pos 0 fit.pos (omega arith))
 
 pub backtrack_bound : BacktrackBound
 unfolding layout run

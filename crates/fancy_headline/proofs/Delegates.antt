@@ -1,25 +1,24 @@
 -- A delegate hands the first way of its nodes: it is run from empty captures, and its pairs are laid over the slots.
-use Rattle.std.proofs.Common.{◌≡◌, ℕ, ◌+◌, ◌*◌, ◌/◌, ◌%◌, ◌<◌, ◌≤◌, ◌⊎◌, inl, inr, ⊎_elim, Bool, true, false, ◌&&◌, if◌then◌else◌, List, [], ◌∷◌, map, take, Option, Some, None, refl, sym, ap, ap₂, ◌∙◌, subst, arith}
+use Rattle.std.proofs.Common.{◌≡◌, ℕ, ◌+◌, ◌*◌, ◌/◌, ◌%◌, ◌<◌, ◌≤◌, ◌⊎◌, inl, inr, ⊎_elim, Bool, true, ◌&&◌, if◌then◌else◌, List, take, Option, Some, None, refl, sym, ap, ap₂, ◌∙◌, arith}
 use Rattle.std.specs.Prelude.{slice_get}
 use Rattle.fancy_meaning.specs.Tree.{Tree, Group}
 use Rattle.fancy_meaning.specs.Nodes.{nodes, group_count}
 use Rattle.fancy_meaning.specs.MatchState.{MatchState, Span, Ways, fails, first_state}
 use Rattle.fancy_meaning.specs.Ways.{Setting, ways_with}
-use Rattle.fancy_meaning.specs.Instr.{Instr, Fragment}
+use Rattle.fancy_meaning.specs.Instr.{Instr}
 use Rattle.fancy_meaning.specs.Batches.{fragment}
 use Rattle.fancy_meaning.specs.Code as code
 use Rattle.fancy_meaning.specs.Config.{Slots, Branch, with_pairs, number_in}
 use Rattle.fancy_meaning.specs.Machine.{takes_way}
 use Rattle.fancy_meaning.specs.Hands.{start_number, end_number}
-use Rattle.fancy_meaning.specs.Keys.{bit}
-use Rattle.fancy_delegation.proofs.Every.{Every, no_item, item, IsIn, every_flat_map, every_weaken, contained_is_in, is_in_contained}
+use Rattle.fancy_delegation.proofs.Every.{Every, no_item, item, IsIn, every_flat_map, every_weaken}
 use Rattle.fancy_delegation.proofs.Everywhere.{everywhere_from}
 use Rattle.fancy_delegation.proofs.Related.{ways_related}
 use Rattle.fancy_delegation.proofs.Kept.{IsKept, EachKept, relates_kept}
 use Rattle.fancy_delegation.proofs.Pairwise.{Pairwise, neither, both}
 use Rattle.fancy_delegation.proofs.EasyKeeps.{other_span}
 use Rattle.fancy_delegation.proofs.Fragments.{laid_over, IsOver, over_first_state, fragment_ways, fragment_over}
-use Rattle.fancy_composed.proofs.Courses.{Ground, to_eq, to_trans, to_same, here, go, after, failed, step_at_pc}
+use Rattle.fancy_composed.proofs.Courses.{Ground, to_eq, here, go, after, failed, step_at_pc}
 use Rattle.fancy_composed.proofs.Hands.{Hands, none, one, from}
 use Rattle.fancy_composed.proofs.Parts.{setting, flag, flag_is, whole, Stands, After, Works}
 use Rattle.fancy_composed.proofs.Alike.{alike_same}
@@ -56,9 +55,11 @@ unused_is_kept count = record {
 }
 
 module _ (count : ℕ) (q : Setting) where
-  unused_kept : (e : Tree) → ((d : Tree) → IsIn d (nodes e) → HasGroups count d) → EachKept (SameUnused count) (ways_with q (λ g. fails) e)
+  unused_kept : (e : Tree) → ((d : Tree) → IsIn d (nodes e) → HasGroups count d) →
+      EachKept (SameUnused count) (ways_with q (λ g. fails) e)
   unused_kept e k =
-      ways_related q (HasGroups count) (λ w w'. EachKept (SameUnused count) w) (relates_kept q (HasGroups count) (SameUnused count) (unused_is_kept count))
+      ways_related q (HasGroups count) (λ w w'. EachKept (SameUnused count) w)
+      (relates_kept q (HasGroups count) (SameUnused count) (unused_is_kept count))
       (λ g. fails) (λ g. fails) (λ g ok s. no_item) e (everywhere_from (HasGroups count) e k)
 
   pub fragment_unused : {es : List Tree} → Every (λ e. (d : Tree) → IsIn d (nodes e) → HasGroups count d) es →
@@ -82,10 +83,12 @@ odd_half g = omega arith
 odd_rest : (g : ℕ) → (2 * g + 1) % 2 ≡ 1
 odd_rest g = omega arith
 
-pair_start : (captures : ℕ → Option Span) (slots : Slots) (g : ℕ) → with_pairs captures slots (2 * g) ≡ number_in (captures g) 0 (slots (2 * g))
+pair_start : (captures : ℕ → Option Span) (slots : Slots) (g : ℕ) →
+    with_pairs captures slots (2 * g) ≡ number_in (captures g) 0 (slots (2 * g))
 pair_start captures slots g = ap₂ (λ i r. number_in (captures i) r (slots (2 * g))) (even_half g) (even_rest g)
 
-pair_end : (captures : ℕ → Option Span) (slots : Slots) (g : ℕ) → with_pairs captures slots (2 * g + 1) ≡ number_in (captures g) 1 (slots (2 * g + 1))
+pair_end : (captures : ℕ → Option Span) (slots : Slots) (g : ℕ) →
+    with_pairs captures slots (2 * g + 1) ≡ number_in (captures g) 1 (slots (2 * g + 1))
 pair_end captures slots g = ap₂ (λ i r. number_in (captures i) r (slots (2 * g + 1))) (odd_half g) (odd_rest g)
 
 start_over : (o below : Option Span) (n : ℕ) → n ≡ start_number below → number_in o 0 n ≡ start_number (laid_over o below)
@@ -97,7 +100,8 @@ end_over None below n e = e
 end_over (Some (i, j)) below n e = refl
 
 -- a slot of no group is left alone
-pair_none : (captures : ℕ → Option Span) (slots : Slots) (k : ℕ) → captures (k / 2) ≡ None → with_pairs captures slots k ≡ slots k
+pair_none : (captures : ℕ → Option Span) (slots : Slots) (k : ℕ) → captures (k / 2) ≡ None →
+    with_pairs captures slots k ≡ slots k
 pair_none captures slots k e = ap (λ o. number_in o (k % 2) (slots k)) e
 
 -- what a delegate leaves alone besides
@@ -110,7 +114,8 @@ module _ (w : Ground) where
   abbrev pub IsNumbered : Tree → Type 0
   IsNumbered e = (d : Tree) → IsIn d (nodes e) → HasGroups (group_count (whole w)) d
 
-  laid_stands : (s h k : MatchState) (slots : Slots) → Stands w s slots → IsOver s.captures h k → IsSteady (w.plan).end_text s h →
+  laid_stands : (s h k : MatchState) (slots : Slots) → Stands w s slots → IsOver s.captures h k →
+      IsSteady (w.plan).end_text s h →
       SameUnused (group_count (whole w)) (first_state s.place) k → Stands w h (with_pairs k.captures slots)
   laid_stands s h k slots st over steady unused = record {
     kept = pair_none k.captures slots 0 (sym (unused (0 / 2) (inl (omega arith)))) ∙ st.kept ∙ steady.kept;
@@ -128,7 +133,8 @@ module _ (w : Ground) where
       same_flag : (w.plan).end_text ≡ true → s.text_end ≡ h.text_end
       same_flag on = sym (ap (λ v. v && s.text_end) on) ∙ steady.flag ∙ ap (λ v. v && h.text_end) on
 
-  laid_after : (n : ℕ) (s h k : MatchState) (slots : Slots) → Stands w s slots → IsOver s.captures h k → IsSteady (w.plan).end_text s h →
+  laid_after : (n : ℕ) (s h k : MatchState) (slots : Slots) → Stands w s slots → IsOver s.captures h k →
+      IsSteady (w.plan).end_text s h →
       SameUnused (group_count (whole w)) (first_state s.place) k → After w n n slots h (with_pairs k.captures slots)
   laid_after n s h k slots st over steady unused = record {
     stands = laid_stands s h k slots st over steady unused;
@@ -136,11 +142,14 @@ module _ (w : Ground) where
   }
 
   -- from the first way of the nodes from empty captures, if there is one
-  first_handed : (a b n : ℕ) (s : MatchState) (slots : Slots) (marks : List ℕ) (bs : List Branch) (count : ℕ) → a + 1 ≡ b → Stands w s slots →
+  first_handed : (a b n : ℕ) (s : MatchState) (slots : Slots) (marks : List ℕ) (bs : List Branch) (count : ℕ) → a + 1 ≡ b →
+      Stands w s slots →
       {hs ks : List MatchState} → Pairwise (IsOver s.captures) hs ks → Every (IsSteady (w.plan).end_text s) hs →
       Every (SameUnused (group_count (whole w)) (first_state s.place)) ks →
-      Hands w b (After w n n slots) marks bs (take 1 hs) (after w.task (takes_way w.task (here w a s.place slots marks bs count) (slice_get ks 0)))
-  first_handed a b n s slots marks bs count e st neither no_item no_item = none count (failed w bs (here w a s.place slots marks bs count) refl)
+      Hands w b (After w n n slots) marks bs (take 1 hs)
+      (after w.task (takes_way w.task (here w a s.place slots marks bs count) (slice_get ks 0)))
+  first_handed a b n s slots marks bs count e st neither no_item no_item =
+      none count (failed w bs (here w a s.place slots marks bs count) refl)
   first_handed a b n s slots marks bs count e st (both {x = h} {y = k} over rest) (item steady hs) (item unused ks) =
       one w (with_pairs k.captures slots) count (laid_after n s h k slots st over steady unused)
       (to_eq (λ m. ap₂ (λ x y. go w x y (with_pairs k.captures slots) marks bs count m) e (sym over.place)))
@@ -149,16 +158,19 @@ module _ (w : Ground) where
   pub works_delegate : (pattern : List ℕ) (groups : Option (ℕ × ℕ)) (es : List Tree) (call : ℕ → Ways) →
       Every (IsEasy (w.plan).analysis) es → Every IsNumbered es →
       ((s : MatchState) → Every (IsSteady (w.plan).end_text s) (fragment_ways (setting w) call es s)) →
-      Works w (code.one (Instr.Delegate pattern (fragment (w.plan).unicode es) groups)) (λ s. take 1 (fragment_ways (setting w) call es s))
+      Works w (code.one (Instr.Delegate pattern (fragment (w.plan).unicode es) groups))
+      (λ s. take 1 (fragment_ways (setting w) call es s))
   works_delegate pattern groups es call easy numbered steady = record {
     grows = λ a n. omega arith;
     handed = λ s. take 1 (fragment_ways (setting w) call es s);
     alike = λ s ok. alike_same (take 1 (fragment_ways (setting w) call es s));
     part = λ a b n e fresh h. record {
       hands = λ s slots marks bs count ok st.
-          from w (step_at_pc w (Instr.Delegate pattern (fragment (w.plan).unicode es) groups) a s.place slots marks bs count h.0)
+          from w
+          (step_at_pc w (Instr.Delegate pattern (fragment (w.plan).unicode es) groups) a s.place slots marks bs count h.0)
           (first_handed a b n s slots marks bs count e st
-          (fragment_over (setting w) (w.plan).analysis call (λ g. fails) s.captures easy s (first_state s.place) (over_first_state s))
+          (fragment_over (setting w) (w.plan).analysis call (λ g. fails) s.captures easy s (first_state s.place)
+          (over_first_state s))
           (steady s) (fragment_unused (group_count (whole w)) (setting w) numbered (first_state s.place)));
     };
   }

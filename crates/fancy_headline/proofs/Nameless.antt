@@ -1,11 +1,7 @@
 -- Easy nodes whose pattern text is empty take nothing: they stay.
-use Rattle.std.proofs.Common.{◌≡◌, ℕ, suc, ◌<◌, Bool, true, false, ◌&&◌, ◌==◌, nat_lt, if◌then◌else◌, List, [], ◌∷◌, ◌++◌, length, arith, map, flat_map, take, Option, Some, None, encode_utf8, encode_utf8_all, codes, decimal, ltb-false, refl, sym, ap, ap₂, ◌∙◌, subst, append-nil, map-id}
-use Rattle.std.specs.List.{list_any}
-use Rattle.std.specs.Char.{IsScalar}
-use Rattle.std.proofs.lemmas.List.Concat.{flat_map_single}
-use Rattle.std.proofs.lemmas.Option.{same_Some}
+use Rattle.std.proofs.Common.{◌≡◌, ℕ, suc, Bool, true, false, ◌&&◌, ◌==◌, nat_lt, if◌then◌else◌, List, [], ◌∷◌, ◌++◌, length, arith, map, flat_map, Option, Some, None, encode_utf8, codes, decimal, ltb-false, refl, ap, ◌∙◌, append-nil}
 use Rattle.fancy_meaning.specs.Tree.{Tree, Trees, none, more, Empty, KeepOut, ContinueFromPreviousMatchEnd, AbsentClear, Any, Assert, GeneralNewline, Literal, LiteralBytes, Delegate, Concat, Alt, Group, LookAround, Repeat, Backref, BackrefWithLevel, BackrefExists, AtomicGroup, DefineGroup, AbsentRepeater, AbsentStopper, AbsentExpression, Control, Conditional, SubroutineCall, AstNode, Assertion, StartText, EndText, EndTextIgnoreTrailingNewlines, StartLine, StartLineOniguruma, EndLine, LeftWordBoundary, RightWordBoundary, LeftWordHalfBoundary, RightWordHalfBoundary, WordBoundary, NotWordBoundary}
-use Rattle.fancy_meaning.specs.MatchState.{MatchState, Ways, stays, in_order}
+use Rattle.fancy_meaning.specs.MatchState.{MatchState, Ways, in_order}
 use Rattle.fancy_delegation.proofs.Every.{Every, no_item, item}
 use Rattle.fancy_meaning.specs.Ways.{Setting, ways_with, each_ways}
 use Rattle.fancy_meaning.specs.Options.{Analysis}
@@ -65,7 +61,9 @@ bounds_some lo None e = here (lo == 0) (lo == 1) e
     here false false q = cc
 bounds_some lo (Some hi) e = here (lo == hi) (lo == 0 && hi == 1) e
   where
-    here : (u v : Bool) → (if u then wrapped "{" (decimal lo) "}" else (if v then codes "?" else wrapped "{" (decimal lo ++ codes "," ++ decimal hi) "}")) ≡ [] → ⊥
+    here : (u v : Bool) →
+        (if u then wrapped "{" (decimal lo) "}" else (if v then codes "?" else wrapped "{" (decimal lo ++ codes "," ++ decimal hi) "}")) ≡ [] →
+        ⊥
     here true v q = cc
     here false true q = cc
     here false false q = cc
@@ -102,7 +100,8 @@ module _ (q : Setting) (call : ℕ → Ways) (a : Analysis) (whole : Tree) (fine
   stays_next f g h k s = ap (flat_map g) (h s) ∙ append-nil (g s) ∙ k s
 
   mutual
-    pub nameless_stays : (e : Tree) (n : ℕ) → IsWritten whole e → IsEasy a e → text_of e (suc n) ≡ [] → Stays (ways_with q call e)
+    pub nameless_stays : (e : Tree) (n : ℕ) → IsWritten whole e → IsEasy a e → text_of e (suc n) ≡ [] →
+        Stays (ways_with q call e)
     nameless_stays Empty n wr h e s = refl
     nameless_stays (DefineGroup d) n wr h e s = refl
     nameless_stays (Any newline crlf) n wr h e s = absurd (any_some newline crlf e)
@@ -110,9 +109,11 @@ module _ (q : Setting) (call : ℕ → Ways) (a : Analysis) (whole : Tree) (fine
     nameless_stays (Delegate inner casei) n wr h e s = absurd (class_some inner casei (fine (Delegate inner casei) wr) e)
     nameless_stays (Assert w x) n wr h e s = absurd (assertion_some x e)
     nameless_stays (Concat es) n wr h e s =
-        each_stays es (λ d m. part wr m) (easy_concat a es h) (wrapped_some (nat_lt 1 (suc n)) (joined [] (each_text es 2)) e).1 s
-    nameless_stays (Alt es) n wr h e s = 
-        let low = ltb-false 0 (suc n) (wrapped_some (nat_lt 0 (suc n)) (joined (codes "|") (each_text es 1)) e).0 in absurd (omega (arith, low))
+        each_stays es (λ d m. part wr m) (easy_concat a es h)
+        (wrapped_some (nat_lt 1 (suc n)) (joined [] (each_text es 2)) e).1 s
+    nameless_stays (Alt es) n wr h e s =
+        let low = ltb-false 0 (suc n) (wrapped_some (nat_lt 0 (suc n)) (joined (codes "|") (each_text es 1)) e).0 in
+        absurd (omega (arith, low))
     nameless_stays (Group g d) n wr h e s = absurd (group_some (text_of d 0) e)
     nameless_stays (Repeat lo hi greedy d) n wr h e s =
         absurd (bounds_some lo hi
@@ -137,7 +138,8 @@ module _ (q : Setting) (call : ℕ → Ways) (a : Analysis) (whole : Tree) (fine
     nameless_stays (SubroutineCall g) n wr h e s = cc
     nameless_stays (AstNode node) n wr h e s = cc
 
-    each_stays : (es : Trees) → ((d : Tree) → IsAmong d es → IsWritten whole d) → AllEasy a es → joined [] (each_text es 2) ≡ [] →
+    each_stays : (es : Trees) → ((d : Tree) → IsAmong d es → IsWritten whole d) → AllEasy a es →
+        joined [] (each_text es 2) ≡ [] →
         Stays (in_order (each_ways q call es))
     each_stays none wr h e s = refl
     each_stays (more d ds) wr h e s =
@@ -146,9 +148,11 @@ module _ (q : Setting) (call : ℕ → Ways) (a : Analysis) (whole : Tree) (fine
         stays_next (ways_with q call d) (in_order (each_ways q call ds)) (nameless_stays d 1 (wr d here) parts.0 none'.0)
         (each_stays ds (λ x m. wr x (there m)) parts.1 none'.1) s
 
-  pub list_stays : {es : List Tree} → Every (IsWritten whole) es → Every (IsEasy a) es → joined [] (map (λ e. text_of e 1) es) ≡ [] →
+  pub list_stays : {es : List Tree} → Every (IsWritten whole) es → Every (IsEasy a) es →
+      joined [] (map (λ e. text_of e 1) es) ≡ [] →
       Stays (in_order (map (ways_with q call) es))
   list_stays no_item no_item e s = refl
   list_stays (item {x = d} {xs = ds} wr wrs) (item h hs) e s =
       let none' = each_none (text_of d 1) (map (λ x. text_of x 1) ds) e in
-      stays_next (ways_with q call d) (in_order (map (ways_with q call) ds)) (nameless_stays d 0 wr h none'.0) (list_stays wrs hs none'.1) s
+      stays_next (ways_with q call d) (in_order (map (ways_with q call) ds)) (nameless_stays d 0 wr h none'.0)
+      (list_stays wrs hs none'.1) s

@@ -5,7 +5,7 @@ use Rattle.fancy_meaning.specs.Tree.{Tree, Any, Delegate}
 use Rattle.fancy_meaning.specs.Chars.{is_class, any_takes, literal_takes}
 use Rattle.fancy_meaning.specs.Moves.{past_char, past_chars, past_bytes}
 use Rattle.fancy_meaning.specs.MatchState.{MatchState}
-use Rattle.fancy_meaning.specs.Instr.{Instr, CharClass, Codepoint, Fragment}
+use Rattle.fancy_meaning.specs.Instr.{Instr, Codepoint}
 use Rattle.fancy_meaning.specs.Batches.{all_joined, literal_chars, literal_instr, class_code, any_instr, delegate_code, batch_code, batch, pattern_of, fragment, group_range}
 use Rattle.fancy_meaning.specs.Code as code
 use Rattle.fancy_meaning.specs.Config.{Config, Next, Goes}
@@ -37,10 +37,14 @@ module _ (t : Task) where
   literals : (unicode : Bool) (cs : List (ℕ × Bool)) → AtMostOne t (literal_instr unicode cs ∷ [])
   literals unicode cs = by_fold (list_any (λ c. c.1) cs)
     where
-      by_fold : (v : Bool) → AtMostOne t ((if v then Instr.LitCasei cs unicode else Instr.Lit (encode_utf8_all (map (λ c. c.0) cs))) ∷ [])
-      by_fold true = one_instr (Instr.LitCasei cs unicode) (λ c. by_place c (past_chars t.text (map (λ d. literal_takes unicode d.0 d.1) cs) c.ix))
+      by_fold : (v : Bool) →
+          AtMostOne t ((if v then Instr.LitCasei cs unicode else Instr.Lit (encode_utf8_all (map (λ c. c.0) cs))) ∷ [])
+      by_fold true =
+          one_instr (Instr.LitCasei cs unicode)
+          (λ c. by_place c (past_chars t.text (map (λ d. literal_takes unicode d.0 d.1) cs) c.ix))
       by_fold false =
-          one_instr (Instr.Lit (encode_utf8_all (map (λ c. c.0) cs))) (λ c. by_place c (past_bytes t.text (encode_utf8_all (map (λ d. d.0) cs)) c.ix))
+          one_instr (Instr.Lit (encode_utf8_all (map (λ c. c.0) cs)))
+          (λ c. by_place c (past_bytes t.text (encode_utf8_all (map (λ d. d.0) cs)) c.ix))
 
   class : (unicode : Bool) (inner : List ℕ) (casei : Bool) (a n : ℕ) → AtMostOne t (class_code unicode inner casei a n).instrs
   class unicode inner casei a n = by_class (is_class unicode inner casei)
@@ -64,9 +68,11 @@ module _ (t : Task) where
       by_name [] e = subst (λ x. AtMostOne t (x a n).instrs) (sym (no_name unicode es e)) no_instr
       by_name (p ∷ ps) e =
           subst (λ x. AtMostOne t (x a n).instrs) (sym (some_name unicode es p ps e))
-          (one_instr (Instr.Delegate (p ∷ ps) (fragment unicode es) (group_range es)) (λ c. by_way c (first_of t (fragment unicode es) c.ix)))
+          (one_instr (Instr.Delegate (p ∷ ps) (fragment unicode es) (group_range es))
+          (λ c. by_way c (first_of t (fragment unicode es) c.ix)))
 
-  by_shape : (unicode : Bool) (o : Option (List (ℕ × Bool))) (es : List Tree) (a n : ℕ) → AtMostOne t (batch_code unicode o es a n).instrs
+  by_shape : (unicode : Bool) (o : Option (List (ℕ × Bool))) (es : List Tree) (a n : ℕ) →
+      AtMostOne t (batch_code unicode o es a n).instrs
   by_shape unicode (Some cs) es a n = literals unicode cs
   by_shape unicode None (Delegate inner casei ∷ []) a n = class unicode inner casei a n
   by_shape unicode None (Any newline crlf ∷ []) a n = any newline crlf

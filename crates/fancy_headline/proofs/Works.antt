@@ -1,24 +1,21 @@
 -- Batches and absent repeaters of easy bodies work on every ground of an accepted tree's program.
-use Rattle.std.proofs.Common.{◌≡◌, ℕ, Bool, true, false, ◌&&◌, List, [], ◌∷◌, Contains, refl}
-use Rattle.fancy_meaning.specs.Tree.{Tree, Group, AbsentRepeater, Delegate}
+use Rattle.std.proofs.Common.{[], ◌∷◌, Contains, refl}
+use Rattle.fancy_meaning.specs.Tree.{Tree, Group}
 use Rattle.fancy_meaning.specs.Nodes.{nodes, group_count}
-use Rattle.fancy_meaning.specs.OpenCalls.{Depths, free_calls}
-use Rattle.fancy_meaning.specs.MatchState.{MatchState}
+use Rattle.fancy_meaning.specs.OpenCalls.{free_calls}
 use Rattle.fancy_meaning.specs.Ways.{called}
-use Rattle.fancy_meaning.specs.Chars.{is_class}
-use Rattle.fancy_meaning.specs.AnalysisRefusals.{InnerError}
 use Rattle.fancy_meaning.specs.Batches.{pattern_of, group_range}
 use Rattle.fancy_meaning.specs.Layout.{layout}
-use Rattle.fancy_meaning.specs.CompileRefusals.{IsWritten, no_class, here, part}
 use Rattle.fancy_meaning.specs.Premises.{plan}
 use Rattle.fancy_laws.proofs.NodesBelow.{nodes_below}
 use Rattle.fancy_laws.proofs.SizesHold.{sizes_hold}
 use Rattle.fancy_composed.proofs.Courses.{Ground}
 use Rattle.fancy_composed.proofs.Parts.{setting, whole}
 use Rattle.fancy_composed.proofs.Ready.{Ready}
+use Rattle.fancy_composed.proofs.Trees.{class_there}
 use Rattle.fancy_composed.proofs.Accepted.{ready}
-use Rattle.fancy_delegation.proofs.Every.{Every, no_item, item, IsIn, every_weaken, contained_is_in, is_in_contained}
-use Rattle.fancy_delegation.proofs.ThinnedDelegates.{IsDelegated, batch_agrees}
+use Rattle.fancy_delegation.proofs.Every.{IsIn, every_weaken, contained_is_in}
+use Rattle.fancy_delegation.proofs.ThinnedDelegates.{batch_agrees}
 use Rattle.fancy_delegation.proofs.OnMachine.{analysed_of, w}
 use Rattle.fancy_delegation.proofs.Harmless.{BatchesWork, EasyRepeatersWork}
 use Rattle.fancy_headline.proofs.Delegates.{HasGroups, IsNumbered}
@@ -34,23 +31,18 @@ module _ (g : Ground) (r : Ready g) where
       by_node (Group n b) c = r.group n b c
       by_node _ c = tt
 
-  -- a class that is written out is one
-  pub class_there : (inner : List ℕ) (casei : Bool) → IsWritten (whole g) (Delegate inner casei) → is_class (g.plan).unicode inner casei ≡ true
-  class_there inner casei wr = by_test (is_class (g.plan).unicode inner casei) refl
-    where
-      by_test : (v : Bool) → is_class (g.plan).unicode inner casei ≡ v → v ≡ true
-      by_test true e = refl
-      by_test false e = absurd (r.allowed (Delegate inner casei) (InnerError inner) wr (no_class e))
-
 pub batches_work : BatchesWork
 batches_work i accepted task is_text fits start base bottom falls es depths h wr =
     let program = layout (plan i) in
     let g = w i program accepted task is_text fits start base bottom falls in
     let r = ready i program accepted task is_text fits start base bottom falls in
     let a = analysed_of i program accepted in
-    works_batch g r (called (setting g) (whole g) (free_calls (whole g) depths) depths) (class_there g r) es wr
+    works_batch g r (called (setting g) (whole g) (free_calls (whole g) depths) depths)
+    (λ inner casei wd. class_there g r depths inner casei wd _ refl) es wr
     (every_weaken (λ e d. d.easy) h) (every_weaken (λ e d. numbered g r e d.there) h)
-    (λ s. every_weaken (λ t k. record { kept = k.kept; flag = k.flag }) (batch_agrees sizes_hold a i.options (setting g) is_text depths accepted.same_end_text h s))
+    (λ s.
+    every_weaken (λ t k. record { kept = k.kept; flag = k.flag })
+    (batch_agrees sizes_hold a i.options (setting g) is_text depths accepted.same_end_text h s))
 
 pub easy_repeaters_work : EasyRepeatersWork
 easy_repeaters_work i accepted task is_text fits start base bottom falls e depths h wr =
