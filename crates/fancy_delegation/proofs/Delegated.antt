@@ -15,7 +15,8 @@ use Rattle.fancy_meaning.specs.Layout.{Part, in_context, is_prefix, is_suffix, c
 use Rattle.fancy_meaning.specs.CompileRefusals.{IsWritten}
 use Rattle.fancy_meaning.specs.Premises.{Analysed, analysis, tree_of}
 use Rattle.fancy_delegation.proofs.Every.{Every, no_item, item, every_weaken, every_map, every_split}
-use Rattle.fancy_delegation.proofs.Splits.{front_passes, back_passes, back_while, before_back, cut_in_three}
+use Rattle.fancy_laws.proofs.Splits.{back_while, before_back, cut_in_three}
+use Rattle.fancy_delegation.proofs.Splits.{front_passes, back_passes}
 use Rattle.fancy_delegation.proofs.Thinned.{IsPart, Thins, EachThins, no_part, and_part, part_in_order, thins_as, thins_or_else, thins_in_order, handed_sound}
 use Rattle.fancy_delegation.proofs.ThinnedDelegates.{plan_for, IsDelegated, IsConst, first_of_batch, part_of_tree, thins_batch}
 use Rattle.fancy_delegation.proofs.ThinnedConcat.{thins_delegate, thins_concat}

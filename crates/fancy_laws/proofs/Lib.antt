@@ -16,6 +16,7 @@ pub mod Anchors
 pub mod NodesBelow
 pub mod Numbering
 pub mod Orderly
+pub mod Splits
 pub mod SizeRules
 pub mod Rounds
 pub mod SizedWays

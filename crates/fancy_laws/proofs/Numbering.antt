@@ -16,13 +16,13 @@ use Rattle.fancy_laws.proofs.Characters.{range_split}
 
 -- ---- the numbers
 
-abbrev numbers_of : List Tree → List ℕ
+abbrev pub numbers_of : List Tree → List ℕ
 numbers_of es = map (λ h. h.0) (filter_map as_group es)
 
 abbrev count_of : List Tree → ℕ
 count_of es = length (filter_map as_group es)
 
-numbers_of_both : (xs ys : List Tree) → numbers_of (xs ++ ys) ≡ numbers_of xs ++ numbers_of ys
+pub numbers_of_both : (xs ys : List Tree) → numbers_of (xs ++ ys) ≡ numbers_of xs ++ numbers_of ys
 numbers_of_both xs ys =
     ap (map (λ h. h.0)) (filter_map-append as_group xs ys)
     ∙ map-append (λ h. h.0) (filter_map as_group xs) (filter_map as_group ys)

@@ -25,6 +25,7 @@ pub mod Constructs
 pub mod Layout
 pub mod Config
 pub mod Machine
+pub mod Fits
 pub mod FragmentPoints
 pub mod CompileRefusals
 pub mod Keys

@@ -1,5 +1,5 @@
 -- The theorems on programs, as types.
-use Rattle.std.specs.Prelude.{◌≡◌, ◌≢◌, ◌↔◌, ℕ, ◌*◌, ◌+◌, ◌≤◌, ◌⊎◌, Bool, true, false, not, List, length, flat_map, Contains, Option, Some, None, IsFalse, if◌then◌else◌}
+use Rattle.std.specs.Prelude.{◌≡◌, ◌≢◌, ◌↔◌, ℕ, ◌*◌, ◌+◌, ◌≤◌, ◌⊎◌, Bool, true, false, not, List, length, flat_map, Contains, Option, Some, None, IsTrue, IsFalse, if◌then◌else◌}
 use Rattle.fancy_meaning.specs.Tree.{Tree, parts, Group, DefineGroup}
 use Rattle.fancy_meaning.specs.Nodes.{nodes, group_count, is_read}
 use Rattle.fancy_meaning.specs.OpenCalls.{Depths, free_calls}
@@ -11,12 +11,21 @@ use Rattle.fancy_meaning.specs.Hard.{is_hard, is_root_hard}
 use Rattle.fancy_meaning.specs.Instr.{Prog}
 use Rattle.fancy_meaning.specs.Code.{Code}
 use Rattle.fancy_meaning.specs.Layout.{written, in_context, called_code, first_fresh, layout, undelegated_layout}
+use Rattle.fancy_meaning.specs.AnalysisRefusals.{CompileError, AnalysisRefuses}
 use Rattle.fancy_meaning.specs.CompileRefusals.{IsWritten, IsAmong}
 use Rattle.fancy_meaning.specs.Config.{Config, Outcome, Match, NoMatch, BacktrackLimitExceeded, StackOverflow, StepLimitExceeded, Goes}
 use Rattle.fancy_meaning.specs.Machine.{Task, run}
+use Rattle.fancy_meaning.specs.Fits.{program_fits}
 use Rattle.fancy_meaning.specs.Keys.{Key, whole_key, key, easy_key, Coarser, Thins, Respects}
 use Rattle.fancy_meaning.specs.Hands.{IsLimit, Stretch, HasAt, Stands, GoesOn, Hands}
 use Rattle.fancy_meaning.specs.Premises.{Analysed, analysis, tree_of, Input, plan, IsAccepted, IsText, IsFit, IsSound}
+
+-- ---- a program that the machine takes
+
+-- Both programs of a tree that its analysis doesn't refuse fit the machine, under all options.
+abbrev pub LayoutsFit : Type 0
+LayoutsFit = (i : Input) → ((error : CompileError) → ¬ AnalysisRefuses i.parsed i.analysis error) →
+    IsTrue (program_fits (undelegated_layout (plan i))) × IsTrue (program_fits (layout (plan i)))
 
 -- ---- a run answers what the tree means
 
