@@ -1,0 +1,11 @@
+pub mod BranchesLaws
+pub mod FitsLaws
+pub mod NumbersLaws
+pub mod StepLaws
+pub mod TextLaws
+pub mod OldLaws
+pub mod CellLaws
+pub mod HeldLaws
+pub mod JoinLaws
+pub mod StateLaws
+pub mod MeaningLaws

@@ -1,0 +1,5 @@
+//! Instructions, programs, states and runs under the names of fancy-regex.
+
+pub use crate::insn::{Insn, Prog, ProgParts};
+pub use crate::runs::{RunOptions, Scratch, run, run_default, run_spans};
+pub use crate::state::State;

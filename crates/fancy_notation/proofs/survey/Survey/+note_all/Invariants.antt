@@ -1,0 +1,13 @@
+use Rattle.std.proofs.Common.{◌≡◌, length, take, map}
+use Rattle.fancy_tree.specs.Views.{tree_of}
+use Rattle.fancy_tree.specs.Exprs.{below, exprs, exprs_of_each}
+use Rattle.fancy_notation.specs.Surveys.{noted, noted_all}
+use Rattle.fancy_notation.specs.NotationViews.{surveyed_of}
+use Rattle.fancy_notation.proofs.survey.Survey.+note_all.Given as goal
+
+abbrev pub decreases-note_all : goal.decreases-note_all
+decreases-note_all l = length (exprs l.expr.now)
+
+abbrev pub invariant-loop-i : goal.invariant-loop-i
+invariant-loop-i l =
+    surveyed_of l.self ≡ noted_all (noted (surveyed_of l.fn.self) (tree_of l.expr)) (map tree_of (exprs_of_each (take l.i (below l.expr))))

@@ -1,0 +1,10 @@
+pub mod Words
+pub mod Tokens
+pub mod Lexing
+pub mod Grammar
+pub mod Faults
+pub mod Misfit
+pub mod NotationViews
+pub mod Reading
+pub mod Surveys
+pub mod Described

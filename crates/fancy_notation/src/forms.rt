@@ -1,0 +1,45 @@
+//! The words of the notation.
+
+use fancy_tree::expr::LookAround;
+
+/// What stands around one expression.
+#[derive(Clone, Copy, Debug, PartialEq, Eq)]
+pub enum Enclosing {
+    Group,
+    Atomic,
+    Define,
+    Look(LookAround),
+    AbsentRepeater,
+    AbsentStopper,
+}
+
+/// What names a group.
+#[derive(Clone, Copy, Debug, PartialEq, Eq)]
+pub enum Naming {
+    Backref { casei: bool },
+    Exists,
+    Call,
+}
+
+/// What names a group and a level of recursion.
+#[derive(Clone, Copy, Debug, PartialEq, Eq)]
+pub enum Leveled {
+    Backref,
+    Exists,
+}
+
+/// What the word after an opening parenthesis begins.
+#[derive(Clone, Copy, Debug, PartialEq, Eq)]
+pub enum Form {
+    Cat,
+    Alt,
+    Enclosing(Enclosing),
+    Repeat { greedy: bool },
+    Set { casei: bool },
+    Bytes,
+    Naming(Naming),
+    Leveled(Leveled),
+    Verb,
+    Conditional,
+    AbsentExpression,
+}

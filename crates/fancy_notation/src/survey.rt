@@ -1,0 +1,64 @@
+//! What the nodes of a tree name.
+
+ghost use Rattle.std.specs.Prelude.{◌≡◌, MatchResult};
+ghost use Rattle.fancy_tree.specs.declared.error.Error.TheVariants.{Memory};
+ghost use Rattle.fancy_notation.specs.Surveys.{noted, noted_all, with_reference, with_number};
+ghost use Rattle.fancy_notation.specs.NotationViews.{surveyed_of};
+ghost use Rattle.fancy_tree.specs.Views.{tree_of};
+ghost use Rattle.fancy_meaning.specs.Nodes.{nodes};
+
+use fancy_tree::error::Error;
+use fancy_tree::expr::Expr;
+use fancy_tree::parts::{part, part_count};
+
+/// What the nodes that were seen name.
+#[derive(Drop)]
+pub struct Survey {
+    /// The numbers of the back references, in their order.
+    pub references: Vec<usize>,
+    /// A group is named by its number.
+    pub numeric: bool,
+    /// A group is called.
+    pub calls: bool,
+}
+
+impl Survey {
+    fn note(&mut self, expr: &Expr) -> Result<(), Error>
+        ensures { MatchResult result (λ u. surveyed_of self.new ≡ noted (surveyed_of self.old) (tree_of expr.now)) (λ e. e ≡ Memory) }
+    {
+        match expr {
+            Expr::Backref { group, .. } => self.note_reference(*group),
+            Expr::BackrefWithRelativeRecursionLevel { group, .. } => self.note_reference(*group),
+            Expr::BackrefExistsCondition { .. } => self.note_number(false),
+            Expr::SubroutineCall(_) => self.note_number(true),
+            Expr::Absent(_) => Ok(()),
+            _ => Ok(()),
+        }
+    }
+
+    fn note_reference(&mut self, group: usize) -> Result<(), Error>
+        ensures { MatchResult result (λ u. surveyed_of self.new ≡ with_reference (surveyed_of self.old) group) (λ e. e ≡ Memory) }
+    {
+        self.references.push(group)?;
+        self.note_number(false)
+    }
+
+    fn note_number(&mut self, called: bool) -> Result<(), Error>
+        ensures { MatchResult result (λ u. surveyed_of self.new ≡ with_number (surveyed_of self.old) called) (λ e. e ≡ Memory) }
+    {
+        self.numeric = true;
+        self.calls = self.calls || called;
+        Ok(())
+    }
+
+    /// Sees a node and those below it.
+    pub fn note_all(&mut self, expr: &Expr) -> Result<(), Error>
+        ensures { MatchResult result (λ u. surveyed_of self.new ≡ noted_all (surveyed_of self.old) (nodes (tree_of expr.now))) (λ e. e ≡ Memory) }
+    {
+        self.note(expr)?;
+        for i in 0..part_count(expr) {
+            self.note_all(part(expr, i))?;
+        }
+        Ok(())
+    }
+}

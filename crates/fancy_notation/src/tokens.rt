@@ -1,0 +1,20 @@
+//! The tokens of the notation.
+
+/// A token.
+#[derive(Drop, Debug)]
+pub enum Token {
+    Opened,
+    Closed,
+    /// A text between quotes, without its escapes.
+    Quoted { folded: bool, text: String },
+    Word(String),
+    /// A text between quotes that is malformed or has no end.
+    Broken,
+}
+
+/// A token and the byte at which it begins.
+#[derive(Drop, Debug)]
+pub struct Placed {
+    pub at: usize,
+    pub token: Token,
+}

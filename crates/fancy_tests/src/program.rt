@@ -1,0 +1,120 @@
+//! The program: its words, its lines and its statuses.
+
+use crate::searches::{printed, words};
+use fancy_regex_engine::command::command;
+use std::alloc::{AllocError, Global};
+use std::io;
+use std::io::{ErrorKind, Write};
+use std::process::Abort;
+use std::test::Fail;
+
+const USAGE: &str = "usage: fancyrun TREE TEXT [POS] [options]\n";
+
+/// Words that ask nothing.
+const MISUSES: &[&[&str]] = &[
+    &[],
+    &["empty"],
+    &[r#""é""#, "é", "1"],
+    &["(", "é", "1"],
+    &["empty", "", "1"],
+    &["empty", "", "x"],
+    &["empty", "", "-1"],
+    &["empty", "", "+0"],
+    &["empty", "", ""],
+    &["empty", "", "0", "0"],
+    &["empty", "", "18446744073709551616"],
+    &["empty", "", "--anchored", "0"],
+    &["empty", "", "--anchored", "--anchored"],
+    &["empty", "", "--longest"],
+    &["empty", "", "--steps"],
+    &["empty", "", "--steps", "--ascii"],
+    &["empty", "", "--steps", "+1"],
+    &["empty", "", "--steps", "18446744073709551616"],
+    &["empty", "", "--steps", "1", "--steps", "1"],
+    &[
+        "empty",
+        "",
+        "--max-prog",
+        "9",
+        "--backtracks",
+        "9",
+        "--max-prog",
+        "9",
+    ],
+];
+
+fn owned(alloc: Global, words: &[&str]) -> Result<Vec<String>, AllocError> {
+    let mut all = Vec::new(alloc);
+    for word in words {
+        all.push(String::from_str(alloc, word)?)?;
+    }
+    Ok(all)
+}
+
+#[test]
+fn says_how_it_is_used(rt: HostRuntime) -> Result<(), Fail> {
+    let alloc = rt.alloc();
+    for words in MISUSES {
+        let (status, out, err) = printed(alloc, &owned(alloc, words)?)?;
+        assert_eq!(rt;
+            (status, out.as_str(), err.as_str()),
+            (2, "", USAGE),
+            "{words:?}"
+        );
+    }
+    Ok(())
+}
+
+/// Takes so many bytes, and then fails.
+#[derive(Drop)]
+struct Closing {
+    room: usize,
+    failures: usize,
+}
+
+impl Write for Closing {
+    fn write(&mut self, buf: &[u8]) -> io::Result<usize> {
+        if self.room == 0 {
+            self.failures = self.failures.saturating_add(1);
+            return Err(io::Error::from(ErrorKind::BrokenPipe));
+        }
+        let taken = self.room.min(buf.len());
+        self.room -= taken;
+        Ok(taken)
+    }
+
+    fn flush(&mut self) -> io::Result<()> {
+        Ok(())
+    }
+}
+
+/// The program's writers take so many bytes each. The status, and how many writes failed.
+fn closed(alloc: Global, words: &[String], room_out: usize, room_err: usize) -> (u8, usize) {
+    let mut out = Closing {
+        room: room_out,
+        failures: 0,
+    };
+    let mut err = Closing {
+        room: room_err,
+        failures: 0,
+    };
+    let status = command(alloc, words, &mut out, &mut err);
+    (status, out.failures.saturating_add(err.failures))
+}
+
+/// A write that fails is the last one, wherever it fails.
+fn check_closed(rt: &impl Abort, alloc: Global, words: &[String], length: usize, status: u8) {
+    for room in 0..length {
+        assert_eq!(rt; closed(alloc, words, room, room), (3, 1), "at {room}");
+    }
+    assert_eq!(rt; closed(alloc, words, length, length), (status, 0));
+}
+
+#[test]
+fn ends_where_a_write_fails(rt: HostRuntime) -> Result<(), Fail> {
+    let alloc = rt.alloc();
+    check_closed(&rt, alloc, &words(alloc, "empty", "", "")?, 4, 0);
+    check_closed(&rt, alloc, &words(alloc, "(ref 7)", "", "")?, 17, 1);
+    check_closed(&rt, alloc, &words(alloc, "empty", "", "x")?, 42, 2);
+    Ok(())
+}

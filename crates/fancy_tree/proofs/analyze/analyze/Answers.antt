@@ -1,0 +1,69 @@
+use Rattle.std.proofs.Common.{◌≡◌, false, map, Result, Ok, Err, slice_index_or, MatchOption, MatchResult, refl, sym, ap, ◌∙◌, subst}
+use Rattle.std.specs.Result.{IsErr, IsErrAnd}
+use Rattle.fancy_meaning.specs.Numbering.{numbered, numbered_within}
+use Rattle.fancy_meaning.specs.Options.{ParsedTree, AnalysisOptions, analysis_of}
+use Rattle.fancy_meaning.specs.Sizes.{known_of}
+use Rattle.fancy_meaning.specs.Tree.{NoLook}
+use Rattle.fancy_tree.specs.Endings.{IsWhole}
+use Rattle.fancy_tree.specs.Infos.{options_of}
+use Rattle.fancy_tree.specs.Analyses.{IsAnalysisOf, IsRefusedAs}
+use Rattle.fancy_tree.specs.declared.info.Info.{Info}
+use Rattle.fancy_tree.specs.declared.error.Error.{Error}
+use Rattle.fancy_tree.specs.declared.error.Error.TheVariants.{Memory}
+use Rattle.fancy_meaning.specs.AnalysisRefusals.{AnalysisRefuses}
+use Rattle.fancy_tree.specs.Refusals.{HasNoRefusedNode, IsAccepted, error_of}
+use Rattle.fancy_tree.proofs.Listed.{false_true}
+use Rattle.fancy_tree.proofs.WholeNodes.{whole_visited}
+use Rattle.fancy_tree.specs.Sized.{size_of}
+use Rattle.fancy_tree.specs.Views.{parsed_of}
+use Rattle.fancy_tree.proofs.RefusalNodes.{flag_is_read}
+use Rattle.fancy_tree.proofs.analyze.analyze.Goals as goal
+
+pub returns : goal.returns
+unfolding numbered
+returns c =
+    let p = parsed_of c.args.tree.now in
+    let o = options_of c.args.context in
+    let a = analysis_of p.tree o in
+    let quiet : HasNoRefusedNode p o = c.in_default.ensures in
+    let whole : IsWhole a c.in_ok-info.info = whole_visited o _ c.args.tree.now.expr c.first_group-first.result c.in_ok-info.info c.first_group-first.ensures c.in_ok-info.ensures (record {
+      options = refl;
+      reads = λ g. ap (λ l. slice_index_or l g false) c.deref-3.ensures.value ∙ c.in_ok-reads.ensures g ∙ flag_is_read p o c.requires.0.groups quiet g;
+      known = ap (map size_of) c.deref-2.ensures.value ∙ c.in_ok-known.ensures ∙ ap (λ n. known_of (numbered_within NoLook n p.tree)) c.first_group-first.ensures;
+    }) in
+    record {
+      accepted = subst (λ r. MatchOption r (IsAccepted p o) (λ error. AnalysisRefuses p o (error_of error))) c.in_default-2.is (c.in_ok-refused.ensures o quiet whole);
+      root = c.as_root.ensures a refl c.in_ok-info.ensures.within whole.tree whole.analysed;
+    }
+
+pub returns-in-Some-2 : goal.returns-in-Some-2
+unfolding numbered
+returns-in-Some-2 c =
+    let p = parsed_of c.args.tree.now in
+    let o = options_of c.args.context in
+    let quiet : HasNoRefusedNode p o = c.in_default.ensures in
+    let whole : IsWhole (analysis_of p.tree o) c.in_ok-info.info = whole_visited o _ c.args.tree.now.expr c.first_group-first.result c.in_ok-info.info c.first_group-first.ensures c.in_ok-info.ensures (record {
+      options = refl;
+      reads = λ g. ap (λ l. slice_index_or l g false) c.deref-3.ensures.value ∙ c.in_ok-reads.ensures g ∙ flag_is_read p o c.requires.0.groups quiet g;
+      known = ap (map size_of) c.deref-2.ensures.value ∙ c.in_ok-known.ensures ∙ ap (λ n. known_of (numbered_within NoLook n p.tree)) c.first_group-first.ensures;
+    }) in
+    subst (λ r. MatchOption r (IsAccepted p o) (λ error. AnalysisRefuses p o (error_of error))) c.in-Some-2.is (c.in_ok-refused.ensures o quiet whole)
+
+memory_only : (p : ParsedTree) (o : AnalysisOptions) (r : Result Info Error) (x : Error) → IsErr r → IsErrAnd r (λ e. e ≡ x) → x ≡ Memory →
+    MatchResult r (λ info. IsAnalysisOf p o info) (λ error. IsRefusedAs p o error)
+memory_only p o (Ok info) x h is at = absurd (false_true h)
+memory_only p o (Err e) x h is at = subst (IsRefusedAs p o) (sym (is ∙ at)) tt
+
+pub returns-in_err-refused : goal.returns-in_err-refused
+unfolding numbered
+returns-in_err-refused c =
+    let p = parsed_of c.args.tree.now in
+    let o = options_of c.args.context in
+    let quiet : HasNoRefusedNode p o = c.in_default.ensures in
+    let whole : IsWhole (analysis_of p.tree o) c.in_ok-info.info = whole_visited o _ c.args.tree.now.expr c.first_group-first.result c.in_ok-info.info c.first_group-first.ensures c.in_ok-info.ensures (record {
+      options = refl;
+      reads = λ g. ap (λ l. slice_index_or l g false) c.deref-3.ensures.value ∙ c.in_ok-reads.ensures g ∙ flag_is_read p o c.requires.0.groups quiet g;
+      known = ap (map size_of) c.deref-2.ensures.value ∙ c.in_ok-known.ensures ∙ ap (λ n. known_of (numbered_within NoLook n p.tree)) c.first_group-first.ensures;
+    }) in
+    let from = c.from_residual-in_err-refused in
+    memory_only p o from.result c.in_err-refused.field-0.0 from.ensures.0 from.ensures.1 (c.in_err-refused.ensures o quiet whole)

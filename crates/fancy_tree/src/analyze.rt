@@ -1,0 +1,77 @@
+//! The analysis of a tree.
+
+ghost use Rattle.std.specs.Prelude.{◌≡◌, ◌&&◌, ◌||◌, ◌==◌, MatchResult};
+ghost use Rattle.fancy_meaning.specs.Options.{Analysis};
+ghost use Rattle.fancy_meaning.specs.Tree as plain;
+ghost use Rattle.fancy_tree.specs.Analyses.{IsAnalysisOf, IsRefusedAs};
+ghost use Rattle.fancy_tree.specs.Infos.{IsAnalysed, IsRoot, info_hard, info_size, info_tree, info_within, options_of};
+ghost use Rattle.fancy_tree.specs.Sound.{IsWellFormedTree};
+ghost use Rattle.fancy_tree.specs.Views.{parsed_of};
+
+pub use crate::context::AnalyzeContext;
+use crate::error::Error;
+use crate::expr::ExprTree;
+pub use crate::info::Info;
+use crate::info::Within;
+use crate::make::Task;
+use crate::reads::read_flags;
+use crate::refusals::{call_refusal, first_group, refusal};
+use crate::rounds::known_sizes;
+use crate::visit::visit;
+use std::alloc::Global;
+
+/// Whether the root is hard: under the end-of-text option also where it may take nothing.
+fn is_root_hard(info: &Info, context: AnalyzeContext) -> bool
+    ensures { result ≡ (info_hard info.now || (context.disallow_empty_match_at_eof_after_newline && (info_size info.now).least == 0)) }
+{
+    info.hard || (context.disallow_empty_match_at_eof_after_newline && info.size.least == 0)
+}
+
+fn as_root<'a>(info: Info<'a>, context: AnalyzeContext) -> Info<'a>
+    ensures { (a : Analysis)
+        → options_of context ≡ a.options
+        → info_within info.entry ≡ plain.NoLook
+        → info_tree info.entry ≡ a.tree
+        → IsAnalysed a info.entry
+        → IsRoot a result }
+{
+    let hard = is_root_hard(&info, context);
+    let mut root = info;
+    root.hard = hard;
+    root
+}
+
+/// The analysis of a tree, by the rules of "docs/MEANING.md": its groups with their numbers, how many characters each node takes, which
+/// nodes are hard, which groups are read, and what stands in a look-around.
+///
+/// `tree` has passed `is_well_formed`. The answer is the root; `Info::children` leads to every other node. A tree is refused as
+/// `Error::CompileError` where a case of a refusal holds, as `NeverEndingRecursion` only where no other does. Want of memory is
+/// `Error::Memory`.
+pub fn analyze<'a>(
+    alloc: Global,
+    tree: &'a ExprTree,
+    context: AnalyzeContext,
+) -> Result<Info<'a>, Error>
+    requires { IsWellFormedTree tree.now }
+    ensures { MatchResult
+        result
+        (λ info. IsAnalysisOf (parsed_of tree.now) (options_of context) info)
+        (λ error. IsRefusedAs (parsed_of tree.now) (options_of context) error) }
+{
+    if let Some(error) = refusal(tree, context) {
+        return Err(Error::CompileError(error));
+    }
+    let first = first_group(context);
+    let reads = read_flags(alloc, &tree.expr, tree.total_groups + 1)?;
+    let known = known_sizes(alloc, tree, context, &reads, first)?;
+    let task = Task {
+        context,
+        known: &known,
+        reads: &reads,
+    };
+    let info = visit(alloc, &task, &tree.expr, first, Within::NoLook)?;
+    if let Some(refused) = call_refusal(alloc, tree, &info)? {
+        return Err(Error::CompileError(refused));
+    }
+    Ok(as_root(info, context))
+}

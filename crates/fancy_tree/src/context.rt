@@ -1,0 +1,27 @@
+//! How a tree is analysed.
+
+ghost use Rattle.std.specs.Prelude.{◌≡◌, false};
+
+/// The options of an analysis.
+#[derive(Clone, Copy, Debug, PartialEq, Eq)]
+pub struct AnalyzeContext {
+    /// The first group has number 0, and not 1.
+    pub explicit_capture_group_0: bool,
+    /// A match that takes nothing may be refused.
+    pub find_not_empty: bool,
+    /// A match that takes nothing at the end of the text, after a newline, may be refused.
+    pub disallow_empty_match_at_eof_after_newline: bool,
+}
+
+impl Default for AnalyzeContext {
+    /// No option is set.
+    fn default() -> AnalyzeContext
+        ensures { result ≡ record { explicit_capture_group_0 = false; find_not_empty = false; disallow_empty_match_at_eof_after_newline = false } }
+    {
+        AnalyzeContext {
+            explicit_capture_group_0: false,
+            find_not_empty: false,
+            disallow_empty_match_at_eof_after_newline: false,
+        }
+    }
+}
