@@ -13,10 +13,10 @@ both {a} {b} e f = by_first a e
     by_first true q = f
     by_first false q = q
 
--- a body of this length, with so many slots
+-- a body of this length, with so many slots, and one for the text-end flag if need be
 module _ (len slots : ℕ) where
   abbrev pub Good : Instr → Type 0
-  Good i = instr_fits len slots i ≡ true
+  Good i = instr_fits len slots true i ≡ true
 
   -- The code takes fresh slots in turn. Where this holds, its instructions are good.
   pub record FitsIf (P : Type 0) (c : Code) : Type 0 where

@@ -156,9 +156,10 @@ module _ (p : Plan) (easy : Tree → Bool) where
     fits =
         let ends = program_ends len slots two room (is_known slots two room) in
         both
-        (both (le-leb 2 slots two) (both (le-leb (2 * count) slots room) (with_flag p.end_text (omega (arith, grown)))))
+        (both (le-leb 2 slots two) (le-leb (2 * count) slots room))
         (both (last_is_end laid.instrs (ends.ends 0 (first_fresh p easy)))
-        (all_pass (instr_fits len slots) (ends.good 0 (first_fresh p easy) (omega arith) (omega arith))))
+        (subst (λ flag. list_all (instr_fits len slots flag) laid.instrs ≡ true) (sym (with_flag p.end_text (omega (arith, grown))))
+        (all_pass (instr_fits len slots true) (ends.good 0 (first_fresh p easy) (omega arith) (omega arith)))))
 
 pub layouts_fit : LayoutsFit
 unfolding layout undelegated_layout

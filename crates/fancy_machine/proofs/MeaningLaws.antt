@@ -3,7 +3,7 @@ use Rattle.std.proofs.Common.{◌≡◌, ℕ, ◌<◌, ◌⊎◌, inl, inr, List
 use Rattle.std.specs.Prelude.{IsUtf8, IfOk}
 use Rattle.std.specs.declared.vec.Vec.{Vec}
 use Rattle.std.specs.declared.alloc.Global.{Global}
-use Rattle.fancy_tree.specs.declared.error.Error.{Error}
+use Rattle.fancy_expr.specs.declared.error.Error.{Error}
 use Rattle.fancy_meaning.specs.Answer.{answer, search_of, unset}
 use Rattle.fancy_meaning.specs.Options.{RunOptions}
 use Rattle.fancy_meaning.specs.Instr.{Prog}

@@ -1,10 +1,10 @@
 //! Instructions and programs.
 
-ghost use Rattle.std.specs.Prelude.{◌≡◌, List, ◌+◌, ◌-◌, ◌*◌, slice_get, IsTrue, map, length, nat_lt};
+ghost use Rattle.std.specs.Prelude.{◌≡◌, List, ◌+◌, ◌-◌, ◌*◌, if◌then◌else◌, min, slice_get, IsTrue, map, length, nat_lt};
 ghost use Rattle.std.specs.List.{list_all};
 ghost use Rattle.fancy_meaning.specs.Assertions.{is_of_end};
-ghost use Rattle.fancy_tree.specs.Views.{assertion_of};
-ghost use Rattle.fancy_meaning.specs.Fits.{answer_fits, instr_fits, is_end, program_fits, slots_fit, targets_fit};
+ghost use Rattle.fancy_expr.specs.Views.{assertion_of};
+ghost use Rattle.fancy_meaning.specs.Fits.{answer_fits, flag_fits, instr_fits, is_end, program_fits, slots_fit, targets_fit};
 ghost use Rattle.fancy_machine.specs.declared.insn.Insn.{Insn};
 ghost use Rattle.fancy_machine.specs.Insns.{insn_of, prog_with};
 
@@ -148,26 +148,33 @@ impl ProgParts {
         if !ends(body) {
             return false;
         }
-        all_fit(body, self.slots)
+        all_fit(body, self.slots, self.flag_fits())
     }
 
-    /// The slots of the answer are there, and the one of the text-end flag.
+    /// The slots of the answer are there.
     fn answer_fits(&self) -> bool
         ensures { (body : List Insn) → result ≡ answer_fits (prog_with body self.now) }
     {
-        let half = self.slots / 2;
-        if half == 0 {
-            return false;
-        }
-        let groups = if self.explicit_group_0 {
-            self.total_groups
+        self.slots >= 2 && self.groups() <= self.slots / 2
+    }
+
+    /// The slot of the text-end flag is there, if the program has one.
+    fn flag_fits(&self) -> bool
+        ensures { (body : List Insn) → result ≡ flag_fits (prog_with body self.now) }
+    {
+        !self.end_text || self.groups() < self.slots - self.slots / 2
+    }
+
+    /// How many groups there are with group 0, at most `usize::MAX`.
+    fn groups(&self) -> usize
+        ensures { result ≡ min usize.MAX (if self.now.explicit_group_0 then self.now.total_groups else self.now.total_groups + 1) }
+    {
+        let groups = self.total_groups;
+        if self.explicit_group_0 {
+            groups
         } else {
-            self.total_groups.saturating_add(1)
-        };
-        if groups > half {
-            return false;
+            groups.saturating_add(1)
         }
-        !self.end_text || 2 * groups < self.slots
     }
 }
 
@@ -178,12 +185,12 @@ fn ends(body: &[Insn]) -> bool
     matches!(body.last(), Some(Insn::End))
 }
 
-/// Every instruction's targets are below the body's length, and its slots are there.
-fn all_fit(body: &[Insn], slots: usize) -> bool
-    ensures { result ≡ list_all (λ insn. instr_fits (length body.now) slots (insn_of insn)) body.now }
+/// Every instruction's targets are below the body's length, and its slots are there; `flag` is of the text-end flag's slot.
+fn all_fit(body: &[Insn], slots: usize, flag: bool) -> bool
+    ensures { result ≡ list_all (λ insn. instr_fits (length body.now) slots flag (insn_of insn)) body.now }
 {
     let len = body.len();
-    body.iter().all(|insn| insn.fits(len, slots))
+    body.iter().all(|insn| insn.fits(len, slots, flag))
 }
 
 /// The slots of a group's pair are among the first so many.
@@ -206,17 +213,19 @@ pub(crate) fn is_of_end(assertion: Assertion) -> bool
 
 impl Insn {
     /// The places of the program where it may go on are there, and the slots that it reads or writes.
-    fn fits(&self, len: usize, slots: usize) -> bool
-        ensures { result ≡ instr_fits len slots (insn_of self.now) }
+    fn fits(&self, len: usize, slots: usize, flag: bool) -> bool
+        ensures { result ≡ instr_fits len slots flag (insn_of self.now) }
     {
-        self.targets_fit(len) && self.slots_fit(slots)
+        self.targets_fit(len) && self.slots_fit(slots, flag)
     }
 
-    /// The slots that it reads or writes are among the first so many.
-    fn slots_fit(&self, slots: usize) -> bool
-        ensures { result ≡ slots_fit slots (insn_of self.now) }
+    /// The slots that it reads or writes are there: the first so many are, and with `flag` the one of the text-end flag.
+    fn slots_fit(&self, slots: usize, flag: bool) -> bool
+        ensures { result ≡ slots_fit slots flag (insn_of self.now) }
     {
         match self {
+            Insn::Assertion(assertion) => flag || !is_of_end(*assertion),
+            Insn::RejectEmptyMatchAtEOFFollowingNewline => flag,
             Insn::Save(slot) => *slot < slots,
             Insn::Save0(slot) => *slot < slots,
             Insn::Restore(slot) => *slot < slots,

@@ -9,6 +9,4 @@ mod program;
 mod runs;
 mod state;
 mod steps;
-#[cfg(test)]
-mod tests;
 pub mod vm;

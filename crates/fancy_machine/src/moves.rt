@@ -7,8 +7,8 @@ ghost use Rattle.fancy_meaning.specs.Moves as moves;
 ghost use Rattle.fancy_meaning.specs.Places as place;
 ghost use Rattle.regex_hir.specs.Text.{byte_before, has_bytes_at, is_some_and};
 ghost use Rattle.fancy_meaning.specs.Machine.{class_test};
-ghost use Rattle.fancy_tree.specs.Classes.{class_of};
-ghost use Rattle.fancy_tree.specs.Literals.{literal_tests};
+ghost use Rattle.fancy_characters.specs.Classes.{class_of};
+ghost use Rattle.fancy_characters.specs.Literals.{literal_tests};
 ghost use Rattle.fancy_machine.specs.Refused.{IsMemory};
 
 use fancy_tree::classes::{CaseiLiteral, CharClassMatcher};

@@ -229,7 +229,7 @@ impl State {
     }
 
     /// The explicit stack has an entry.
-    pub(crate) fn has_entry(&self) -> bool
+    pub fn has_entry(&self) -> bool
         ensures { result ≡ nat_lt 0 (length self.now.stack) }
     {
         self.cells[self.slot_count] > 0
@@ -272,11 +272,5 @@ impl State {
             None => self.log.clear(),
             Some(mark) => join(&mut self.places, &mut self.log, mark, first),
         }
-    }
-
-    /// No more is logged than each cell once for each branch.
-    #[cfg(test)]
-    pub(crate) fn is_logged_once(&self) -> bool {
-        self.log.len() <= self.cells.len().saturating_mul(self.branches.len())
     }
 }

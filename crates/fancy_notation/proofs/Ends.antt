@@ -1,10 +1,10 @@
 -- What a form's reader answers, from what its calls answered.
 use Rattle.std.proofs.Common.{◌≡◌, ℕ, Bool, true, false, ◌&&◌, List, [], ◌∷◌, ◌++◌, map, Some, None, Result, Ok, Err, Vec, Global, refl, sym, ap, ◌∙◌, subst}
 use Rattle.fancy_meaning.specs.Tree.{Concat, Alt, trees}
-use Rattle.fancy_tree.specs.declared.error.Error.{Error}
-use Rattle.fancy_tree.specs.declared.expr.Expr.{Expr}
-use Rattle.fancy_tree.specs.declared.expr.Absent.TheViews as view
-use Rattle.fancy_tree.specs.Views.{tree_of}
+use Rattle.fancy_expr.specs.declared.error.Error.{Error}
+use Rattle.fancy_expr.specs.declared.expr.Expr.{Expr}
+use Rattle.fancy_expr.specs.declared.expr.Absent.TheViews as view
+use Rattle.fancy_expr.specs.Views.{tree_of}
 use Rattle.fancy_notation.specs.declared.forms.Enclosing.{Enclosing}
 use Rattle.fancy_notation.specs.declared.forms.Form.{Form}
 use Rattle.fancy_notation.specs.declared.forms.Form.TheVariants as form

@@ -1,8 +1,8 @@
 -- How a reader fails, and goes on failing behind what it read.
 use Rattle.std.proofs.Common.{◌≡◌, ℕ, List, [], ◌∷◌, ◌++◌, Option, Some, None, refl, sym, ap, ◌∙◌, subst, append_assoc}
 use Rattle.fancy_meaning.specs.Tree.{Tree}
-use Rattle.fancy_tree.specs.declared.error.Error.{Error}
-use Rattle.fancy_tree.specs.declared.error.Error.TheVariants.{CompileError, RuntimeError, TreeFault, Memory}
+use Rattle.fancy_expr.specs.declared.error.Error.{Error}
+use Rattle.fancy_expr.specs.declared.error.Error.TheVariants.{CompileError, RuntimeError, TreeFault, Memory}
 use Rattle.fancy_notation.specs.declared.reader.Reader.{Reader}
 use Rattle.fancy_notation.specs.Tokens.{Token, Placed}
 use Rattle.fancy_notation.specs.Grammar.{Takes, Spells}

@@ -10,16 +10,16 @@ use Rattle.fancy_meaning.specs.Tree as plain
 use Rattle.fancy_meaning.specs.Tree.{Tree, trees}
 use Rattle.fancy_meaning.specs.Nodes.{nodes, nodes_of_each}
 use Rattle.fancy_meaning.specs.WellFormed.{Fits, IsCount, IsFine}
-use Rattle.fancy_tree.specs.declared.expr.Expr.{Expr}
-use Rattle.fancy_tree.specs.declared.expr.Expr.TheVariants as code
-use Rattle.fancy_tree.specs.declared.expr.Absent.{Absent}
-use Rattle.fancy_tree.specs.declared.expr.Absent.TheVariants as code_absent
-use Rattle.fancy_tree.specs.Views.{tree_of, absent_of}
-use Rattle.fancy_tree.specs.Exprs.{exprs}
+use Rattle.fancy_expr.specs.declared.expr.Expr.{Expr}
+use Rattle.fancy_expr.specs.declared.expr.Expr.TheVariants as code
+use Rattle.fancy_expr.specs.declared.expr.Absent.{Absent}
+use Rattle.fancy_expr.specs.declared.expr.Absent.TheVariants as code_absent
+use Rattle.fancy_expr.specs.Views.{tree_of, absent_of}
+use Rattle.fancy_expr.specs.Exprs.{exprs}
 use Rattle.fancy_tree.specs.Infos.{Each}
-use Rattle.fancy_tree.specs.Sound.{IsOneChar, IsSound, AllSound}
-use Rattle.fancy_tree.proofs.Exprs.{nodes-exprs}
-use Rattle.fancy_tree.proofs.SoundNodes.{sound_literal}
+use Rattle.fancy_expr.specs.Sound.{IsOneChar, IsSound, AllSound}
+use Rattle.fancy_expr.proofs.Exprs.{nodes-exprs}
+use Rattle.fancy_expr.proofs.SoundNodes.{sound_literal}
 use Rattle.fancy_notation.specs.declared.forms.Enclosing.{Enclosing}
 use Rattle.fancy_notation.specs.declared.forms.Enclosing.TheVariants as enclosing
 use Rattle.fancy_notation.specs.declared.forms.Naming.{Naming}

@@ -5,10 +5,10 @@ use Rattle.std.specs.Char.{IsScalar}
 use Rattle.std.specs.Str.{chars, IsUtf8}
 use Rattle.std.proofs.lemmas.Str.{chars_past_char, IsUtf8-encode}
 use Rattle.fancy_meaning.specs.Tree.{Tree, Concat, Alt, Literal, trees}
-use Rattle.fancy_tree.specs.declared.expr.Expr.{Expr}
-use Rattle.fancy_tree.specs.declared.expr.Absent.TheViews as view
-use Rattle.fancy_tree.specs.Views.{tree_of}
-use Rattle.fancy_tree.proofs.Exprs.{parts-below, below-concat, below-alt}
+use Rattle.fancy_expr.specs.declared.expr.Expr.{Expr}
+use Rattle.fancy_expr.specs.declared.expr.Absent.TheViews as view
+use Rattle.fancy_expr.specs.Views.{tree_of}
+use Rattle.fancy_expr.proofs.Exprs.{parts-below, below-concat, below-alt}
 use Rattle.fancy_notation.specs.Grammar.{joined}
 
 pub tree-concat : (v : Vec Expr Global) → tree_of (view.Concat v) ≡ Concat (trees (map tree_of v.items))

@@ -3,13 +3,13 @@ use Rattle.std.proofs.Common.{◌≡◌, ℕ, ◌+◌, ◌<◌, ◌≤◌, List,
 use Rattle.std.proofs.lemmas.List.{take_more, take_all, map-append}
 use Rattle.fancy_meaning.specs.Tree.{Tree}
 use Rattle.fancy_meaning.specs.Nodes.{nodes}
-use Rattle.fancy_tree.specs.declared.expr.Expr.{Expr}
-use Rattle.fancy_tree.specs.declared.expr.Absent.{Absent}
-use Rattle.fancy_tree.specs.declared.expr.Absent.TheVariants as code_absent
-use Rattle.fancy_tree.specs.declared.expr.Expr.TheVariants as code
-use Rattle.fancy_tree.specs.Views.{tree_of, absent_of}
-use Rattle.fancy_tree.specs.Exprs.{below, exprs, exprs_of_each}
-use Rattle.fancy_tree.proofs.Exprs.{exprs-below, nodes-exprs}
+use Rattle.fancy_expr.specs.declared.expr.Expr.{Expr}
+use Rattle.fancy_expr.specs.declared.expr.Absent.{Absent}
+use Rattle.fancy_expr.specs.declared.expr.Absent.TheVariants as code_absent
+use Rattle.fancy_expr.specs.declared.expr.Expr.TheVariants as code
+use Rattle.fancy_expr.specs.Views.{tree_of, absent_of}
+use Rattle.fancy_expr.specs.Exprs.{below, exprs, exprs_of_each}
+use Rattle.fancy_expr.proofs.Exprs.{exprs-below, nodes-exprs}
 use Rattle.fancy_notation.specs.Surveys.{Surveyed, noted, noted_all}
 
 pub noted_absent : (s : Surveyed) (e : Expr) (a : Absent) → e ≡ code.Absent a → s ≡ noted s (tree_of e)

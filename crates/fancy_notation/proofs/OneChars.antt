@@ -3,14 +3,14 @@ use Rattle.std.proofs.Common.{◌≡◌, ℕ, ℤ, List, [], ◌∷◌, ◌++◌
 use Rattle.fancy_meaning.specs.Tree as plain
 use Rattle.fancy_meaning.specs.Tree.{Tree}
 use Rattle.fancy_meaning.specs.Nodes.{nodes}
-use Rattle.fancy_tree.specs.declared.expr.Expr.{Expr}
-use Rattle.fancy_tree.specs.declared.expr.Expr.TheVariants as code
-use Rattle.fancy_tree.specs.declared.expr.Absent.TheViews as view
-use Rattle.fancy_tree.specs.Views.{tree_of}
-use Rattle.fancy_tree.specs.Exprs.{below, exprs, exprs_of_each}
+use Rattle.fancy_expr.specs.declared.expr.Expr.{Expr}
+use Rattle.fancy_expr.specs.declared.expr.Expr.TheVariants as code
+use Rattle.fancy_expr.specs.declared.expr.Absent.TheViews as view
+use Rattle.fancy_expr.specs.Views.{tree_of}
+use Rattle.fancy_expr.specs.Exprs.{below, exprs, exprs_of_each}
 use Rattle.fancy_tree.specs.Infos.{Each}
-use Rattle.fancy_tree.specs.Sound.{IsOneChar}
-use Rattle.fancy_tree.proofs.Exprs.{nodes-exprs, exprs-below, below-concat, below-alt}
+use Rattle.fancy_expr.specs.Sound.{IsOneChar}
+use Rattle.fancy_expr.proofs.Exprs.{nodes-exprs, exprs-below, below-concat, below-alt}
 use Rattle.fancy_notation.specs.declared.forms.Naming.{Naming}
 use Rattle.fancy_notation.specs.declared.forms.Naming.TheVariants as naming
 use Rattle.fancy_notation.specs.declared.forms.Leveled.{Leveled}

@@ -1,14 +1,14 @@
 -- The reading of a whole text.
 use Rattle.std.proofs.Common.{◌≡◌, ℕ, ◌≤◌, List, [], ◌∷◌, Some, Result, Ok, Err, MatchResult, refl, sym, ap, ◌∙◌, subst, append_assoc}
 use Rattle.fancy_meaning.specs.Tree.{Tree}
-use Rattle.fancy_tree.specs.declared.expr.Expr.{Expr}
-use Rattle.fancy_tree.specs.declared.expr.ExprTree.{ExprTree}
-use Rattle.fancy_tree.specs.Views.{tree_of}
-use Rattle.fancy_tree.specs.declared.error.Error.{Error}
-use Rattle.fancy_tree.specs.declared.error.Error.TheVariants.{CompileError, RuntimeError, TreeFault, Memory}
+use Rattle.fancy_expr.specs.declared.expr.Expr.{Expr}
+use Rattle.fancy_expr.specs.declared.expr.ExprTree.{ExprTree}
+use Rattle.fancy_expr.specs.Views.{tree_of}
+use Rattle.fancy_expr.specs.declared.error.Error.{Error}
+use Rattle.fancy_expr.specs.declared.error.Error.TheVariants.{CompileError, RuntimeError, TreeFault, Memory}
 use Rattle.fancy_notation.specs.declared.reader.Reader.{Reader}
 use Rattle.fancy_notation.specs.Tokens.{Placed}
-use Rattle.fancy_tree.specs.Sound.{AllSound, IsWellFormedTree}
+use Rattle.fancy_expr.specs.Sound.{AllSound, IsWellFormedTree}
 use Rattle.fancy_notation.specs.Grammar.{Spells, IsSpelled}
 use Rattle.fancy_notation.specs.Faults.{IsFaultAt, stray, early}
 use Rattle.fancy_notation.specs.Misfit.{Node, misfit}

@@ -6,8 +6,8 @@ use Rattle.std.specs.BTreeSet.{insert_key}
 use Rattle.fancy_meaning.specs.Tree.{Tree, Backref, BackrefWithLevel, BackrefExists}
 use Rattle.fancy_meaning.specs.Nodes.{nodes}
 use Rattle.fancy_meaning.specs.WellFormed.{is_call}
-use Rattle.fancy_tree.specs.declared.expr.ExprTree.{ExprTree}
-use Rattle.fancy_tree.specs.Views.{tree_of}
+use Rattle.fancy_expr.specs.declared.expr.ExprTree.{ExprTree}
+use Rattle.fancy_expr.specs.Views.{tree_of}
 
 -- the group of a back reference
 abbrev pub referred_to : Tree → Option ℕ

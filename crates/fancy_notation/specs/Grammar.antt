@@ -3,7 +3,7 @@ use Rattle.std.specs.Prelude.{◌≡◌, ℕ, ℤ, suc, Bool, true, false, List,
 use Rattle.fancy_meaning.specs.Tree as plain
 use Rattle.fancy_meaning.specs.Tree.{Tree, trees}
 use Rattle.fancy_meaning.specs.WellFormed.{most_groups}
-use Rattle.fancy_tree.specs.Views.{look_of}
+use Rattle.fancy_expr.specs.Views.{look_of}
 use Rattle.fancy_notation.specs.declared.forms.Enclosing.{Enclosing}
 use Rattle.fancy_notation.specs.declared.forms.Enclosing.TheVariants as enclosing
 use Rattle.fancy_notation.specs.declared.forms.Naming.{Naming}

@@ -1,14 +1,14 @@
 -- What the calls of the reader answer.
 use Rattle.std.specs.Prelude.{◌≡◌, ℕ, Bool, List, map, [], ◌∷◌, ◌++◌, Option, Some, None, Result, Ok, Err}
 use Rattle.fancy_meaning.specs.Tree.{Tree}
-use Rattle.fancy_tree.specs.Views.{tree_of}
-use Rattle.fancy_tree.specs.Exprs.{exprs}
+use Rattle.fancy_expr.specs.Views.{tree_of}
+use Rattle.fancy_expr.specs.Exprs.{exprs}
 use Rattle.fancy_tree.specs.Infos.{Each}
-use Rattle.fancy_tree.specs.Sound.{IsOneChar}
-use Rattle.fancy_tree.specs.declared.expr.Expr.{Expr}
+use Rattle.fancy_expr.specs.Sound.{IsOneChar}
+use Rattle.fancy_expr.specs.declared.expr.Expr.{Expr}
 use Rattle.fancy_notation.specs.declared.forms.Form.{Form}
-use Rattle.fancy_tree.specs.declared.error.Error.{Error}
-use Rattle.fancy_tree.specs.declared.error.Error.TheVariants.{TreeFault, Memory}
+use Rattle.fancy_expr.specs.declared.error.Error.{Error}
+use Rattle.fancy_expr.specs.declared.error.Error.TheVariants.{TreeFault, Memory}
 use Rattle.fancy_notation.specs.declared.reader.Reader.{Reader}
 use Rattle.fancy_notation.specs.Tokens.{Token, Placed}
 use Rattle.fancy_notation.specs.Grammar.{Point, Takes, SpellsParts, in_word, head_word, quoted, parts_of_text}

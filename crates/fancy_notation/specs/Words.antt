@@ -4,7 +4,7 @@ use Rattle.std.specs.Str.{all_ascii_digits, bytes_eq}
 use Rattle.std.specs.Str.Parse.{digits_value}
 use Rattle.fancy_meaning.specs.Tree as plain
 use Rattle.fancy_meaning.specs.Tree.{Tree}
-use Rattle.fancy_tree.specs.declared.expr.LookAround.TheVariants as look
+use Rattle.fancy_expr.specs.declared.expr.LookAround.TheVariants as look
 use Rattle.fancy_notation.specs.declared.forms.Enclosing.{Enclosing}
 use Rattle.fancy_notation.specs.declared.forms.Enclosing.TheVariants as enclosing
 use Rattle.fancy_notation.specs.declared.forms.Naming.TheVariants as naming

@@ -1,7 +1,7 @@
 //! From a text to its tokens.
 
 ghost use Rattle.std.specs.Prelude.{◌≡◌, [], MatchResult};
-ghost use Rattle.fancy_tree.specs.declared.error.Error.TheVariants.{Memory};
+ghost use Rattle.fancy_expr.specs.declared.error.Error.TheVariants.{Memory};
 ghost use Rattle.fancy_notation.specs.Lexing.{placed, step, step_outside, step_inside, step_escaped, step_coded, step_digits, step_code, ended, word_ended, with_token, quote, with_letter, text_ended, turned, pushed, spoiled, with_char, tokens_of, at_start};
 ghost use Rattle.fancy_notation.specs.NotationViews.{token_of, lexing_of, all_placed};
 ghost use Rattle.fancy_notation.specs.Reading.{Lexes};

@@ -4,8 +4,6 @@
 mod forms;
 mod lexer;
 pub mod notation;
-#[cfg(test)]
-mod notation_tests;
 mod reader;
 mod survey;
 mod tokens;

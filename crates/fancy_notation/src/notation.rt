@@ -2,9 +2,9 @@
 
 ghost use Rattle.std.specs.Prelude.{◌≡◌, [], length, MatchResult};
 ghost use Rattle.fancy_meaning.specs.Tree.{Tree};
-ghost use Rattle.fancy_tree.specs.Sound.{IsWellFormedTree};
-ghost use Rattle.fancy_tree.specs.Views.{tree_of};
-ghost use Rattle.fancy_tree.specs.declared.error.Error.TheVariants.{Memory};
+ghost use Rattle.fancy_expr.specs.Sound.{IsWellFormedTree};
+ghost use Rattle.fancy_expr.specs.Views.{tree_of};
+ghost use Rattle.fancy_expr.specs.declared.error.Error.TheVariants.{Memory};
 ghost use Rattle.fancy_notation.specs.Described.{IsDescribed, first_past, up_to};
 ghost use Rattle.fancy_notation.specs.Grammar.{IsSpelled};
 ghost use Rattle.fancy_notation.specs.Lexing.{tokens_of};

@@ -5,7 +5,7 @@ ghost use Rattle.std.specs.Option.{option_map};
 ghost use Rattle.fancy_meaning.specs.Tree as plain;
 ghost use Rattle.fancy_meaning.specs.Tree.{trees};
 ghost use Rattle.fancy_tree.specs.Infos.{Each};
-ghost use Rattle.fancy_tree.specs.Views.{tree_of, verb_of as verb_view, bound_of as bound_view};
+ghost use Rattle.fancy_expr.specs.Views.{tree_of, verb_of as verb_view, bound_of as bound_view};
 ghost use Rattle.fancy_notation.specs.Words.{leaf_of, verb_of, number_of, level_of, count_of, bound_of, byte_of};
 ghost use Rattle.fancy_notation.specs.Tokens as tokens;
 ghost use Rattle.fancy_notation.specs.Grammar.{in_word, opening, closing, class, is_at_text, counted, head_word, Spells, SpellsForm, literals, parts_of_text, joined, enclosed, named, named_at};

@@ -1,10 +1,10 @@
 //! What the nodes of a tree name.
 
 ghost use Rattle.std.specs.Prelude.{◌≡◌, MatchResult};
-ghost use Rattle.fancy_tree.specs.declared.error.Error.TheVariants.{Memory};
+ghost use Rattle.fancy_expr.specs.declared.error.Error.TheVariants.{Memory};
 ghost use Rattle.fancy_notation.specs.Surveys.{noted, noted_all, with_reference, with_number};
 ghost use Rattle.fancy_notation.specs.NotationViews.{surveyed_of};
-ghost use Rattle.fancy_tree.specs.Views.{tree_of};
+ghost use Rattle.fancy_expr.specs.Views.{tree_of};
 ghost use Rattle.fancy_meaning.specs.Nodes.{nodes};
 
 use fancy_tree::error::Error;

@@ -2,7 +2,7 @@
 
 ghost use Rattle.std.specs.Prelude.{◌≡◌, ◌-◌, ◌^◌, if◌then◌else◌, ◌==◌, None, Some};
 ghost use Rattle.std.specs.Option.{option_map};
-ghost use Rattle.fancy_tree.specs.Views.{tree_of, assertion_of, verb_of as verb_view, bound_of as bound_view};
+ghost use Rattle.fancy_expr.specs.Views.{tree_of, assertion_of, verb_of as verb_view, bound_of as bound_view};
 ghost use Rattle.fancy_notation.specs.Words.{found, assertions, plain_leaves, leaf_of, enclosings, other_forms, form_of, verb_of, number_of, level_of, count_of, bound_of, byte_of};
 
 use crate::forms::{Enclosing, Form, Leveled, Naming};

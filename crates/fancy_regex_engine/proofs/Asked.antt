@@ -16,17 +16,17 @@ use Rattle.fancy_machine.specs.declared.insn.Prog.{Prog}
 use Rattle.fancy_machine.specs.declared.runs.RunOptions.{RunOptions}
 use Rattle.fancy_notation.specs.Words.{when}
 use Rattle.fancy_tree.specs.declared.context.AnalyzeContext.{AnalyzeContext}
-use Rattle.fancy_tree.specs.declared.error.Error.{Error}
-use Rattle.fancy_tree.specs.declared.expr.ExprTree.{ExprTree}
+use Rattle.fancy_expr.specs.declared.error.Error.{Error}
+use Rattle.fancy_expr.specs.declared.expr.ExprTree.{ExprTree}
 use Rattle.fancy_tree.specs.declared.info.Info.{Info}
 use Rattle.fancy_tree.specs.Analyses.{IsAnalysisOf, IsRefusedAs}
 use Rattle.fancy_tree.specs.Infos.{options_of}
-use Rattle.fancy_tree.specs.Views.{parsed_of}
-use Rattle.fancy_regex_engine.specs.declared.options.CompileOptions.{CompileOptions}
+use Rattle.fancy_expr.specs.Views.{parsed_of}
+use Rattle.fancy_compile.specs.declared.options.CompileOptions.{CompileOptions}
 use Rattle.fancy_regex_engine.specs.declared.arguments.Arguments.{Arguments}
 use Rattle.fancy_regex_engine.specs.Arguments as line
 use Rattle.fancy_regex_engine.specs.Arguments.{Text, Question, arguments_of, question_of}
-use Rattle.fancy_regex_engine.specs.Compiled.{Compiles, MayCompile, plan_with}
+use Rattle.fancy_compile.specs.Compiled.{Compiles, MayCompile, plan_with}
 use Rattle.fancy_regex_engine.specs.Commands.{Finds, refused, not_compiled, ran, IsRead, analysed, plan, task}
 
 by_test : {G : Type 0} (b : Bool) → (b ≡ true → G) → (b ≡ false → G) → G

@@ -4,7 +4,7 @@ use Rattle.std.specs.Prelude.{MatchResult, OnOk}
 use Rattle.std.specs.Io.KnownBytes.{Appends}
 use Rattle.std.specs.declared.string.String.{String}
 use Rattle.std.specs.declared.alloc.Global.{Global}
-use Rattle.fancy_tree.specs.declared.error.Error.{Error}
+use Rattle.fancy_expr.specs.declared.error.Error.{Error}
 use Rattle.fancy_regex_engine.specs.Arguments.{Text, Question, question_of}
 use Rattle.fancy_regex_engine.specs.Commands.{Finds, Shows, Performs, misused, answered, refused, not_written}
 use Rattle.fancy_regex_engine.specs.Printing.{error_line, usage_line}

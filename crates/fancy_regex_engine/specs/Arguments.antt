@@ -4,8 +4,8 @@ use Rattle.fancy_meaning.specs.Options.{RunOptions}
 use Rattle.fancy_meaning.specs.Places.{is_place}
 use Rattle.fancy_notation.specs.Words.{found, number_of, when}
 use Rattle.fancy_tree.specs.declared.context.AnalyzeContext.{AnalyzeContext}
-use Rattle.fancy_regex_engine.specs.declared.options.CompileOptions.{CompileOptions}
-use Rattle.fancy_regex_engine.specs.declared.options.BytesMode.TheVariants as mode
+use Rattle.fancy_compile.specs.declared.options.CompileOptions.{CompileOptions}
+use Rattle.fancy_compile.specs.declared.options.BytesMode.TheVariants as mode
 use Rattle.fancy_regex_engine.specs.declared.arguments.Arguments.{Arguments}
 use Rattle.fancy_regex_engine.specs.declared.arguments.Flag.{Flag}
 use Rattle.fancy_regex_engine.specs.declared.arguments.Flag.TheVariants.{CompileAnchored, Anchored, NotContinued, NotEmpty, EndText, Ascii}

@@ -14,18 +14,18 @@ use Rattle.fancy_notation.specs.Described.{IsDescribed}
 use Rattle.fancy_notation.specs.Grammar.{IsSpelled}
 use Rattle.fancy_notation.specs.Lexing.{tokens_of}
 use Rattle.fancy_notation.specs.Reading.{IsFault}
-use Rattle.fancy_tree.specs.declared.error.Error.{Error}
-use Rattle.fancy_tree.specs.declared.error.Error.TheVariants as error
-use Rattle.fancy_tree.specs.declared.expr.ExprTree.{ExprTree}
+use Rattle.fancy_expr.specs.declared.error.Error.{Error}
+use Rattle.fancy_expr.specs.declared.error.Error.TheVariants as error
+use Rattle.fancy_expr.specs.declared.expr.ExprTree.{ExprTree}
 use Rattle.fancy_tree.specs.Analyses.{IsRefusedAs}
 use Rattle.fancy_tree.specs.Infos.{options_of}
 use Rattle.fancy_tree.specs.Refusals.{IsAccepted}
-use Rattle.fancy_tree.specs.Sound.{IsWellFormedTree}
-use Rattle.fancy_tree.specs.Views.{tree_of, parsed_of}
+use Rattle.fancy_expr.specs.Sound.{IsWellFormedTree}
+use Rattle.fancy_expr.specs.Views.{tree_of, parsed_of}
 use Rattle.fancy_regex_engine.specs.declared.command.Question.{Question}
 use Rattle.fancy_regex_engine.specs.Arguments as line
 use Rattle.fancy_regex_engine.specs.Arguments.{Text, question_of, analysis, compilation, running}
-use Rattle.fancy_regex_engine.specs.Compiled.{Compiles, plan_with}
+use Rattle.fancy_compile.specs.Compiled.{Compiles, plan_with}
 use Rattle.fancy_regex_engine.specs.Printing.{answer_line, error_line, usage_line}
 
 abbrev pub asked : Question → line.Question

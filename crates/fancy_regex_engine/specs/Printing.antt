@@ -4,12 +4,12 @@ use Rattle.std.specs.List.{flat_map}
 use Rattle.std.specs.declared.vec.Vec.{Vec}
 use Rattle.std.specs.declared.alloc.Global.{Global}
 use Rattle.fancy_meaning.specs.Answer.{unset}
-use Rattle.fancy_tree.specs.declared.error.Error.{Error}
-use Rattle.fancy_tree.specs.declared.error.Error.TheVariants as error
-use Rattle.fancy_tree.specs.declared.error.RuntimeError.{RuntimeError}
-use Rattle.fancy_tree.specs.declared.error.RuntimeError.TheVariants as limit
-use Rattle.fancy_tree.specs.declared.error.CompileError.{CompileError}
-use Rattle.fancy_tree.specs.declared.error.CompileError.TheVariants as refusal
+use Rattle.fancy_expr.specs.declared.error.Error.{Error}
+use Rattle.fancy_expr.specs.declared.error.Error.TheVariants as error
+use Rattle.fancy_expr.specs.declared.error.RuntimeError.{RuntimeError}
+use Rattle.fancy_expr.specs.declared.error.RuntimeError.TheVariants as limit
+use Rattle.fancy_expr.specs.declared.error.CompileError.{CompileError}
+use Rattle.fancy_expr.specs.declared.error.CompileError.TheVariants as refusal
 
 abbrev pub newline : List ℕ
 newline = 10 ∷ []

@@ -5,7 +5,7 @@ ghost use Rattle.fancy_notation.specs.Words.{found, number_of};
 ghost use Rattle.fancy_machine.specs.Programs.{options_of as run_options_of};
 ghost use Rattle.fancy_regex_engine.specs.Arguments as line;
 
-use crate::options::{BytesMode, CompileOptions};
+use fancy_compile::compile::{BytesMode, CompileOptions};
 use fancy_machine::vm::RunOptions;
 use fancy_tree::analyze::AnalyzeContext;
 

@@ -6,8 +6,8 @@ ghost use Rattle.fancy_regex_engine.specs.Arguments.{question_of};
 ghost use Rattle.fancy_regex_engine.specs.Commands.{Finds, Performs, Shows, asked};
 
 use crate::arguments::{Arguments, read_arguments};
-use crate::compile::compile;
 use crate::printing::{answer_line, write_error, write_usage};
+use fancy_compile::compile::compile;
 use fancy_machine::vm::{Scratch, run};
 use fancy_notation::notation::read_tree;
 use fancy_tree::analyze::analyze;

@@ -1,21 +1,12 @@
-//! The compiler, from an analysed tree to a program of the machine, and the program that searches by a command line. The modules of the
-//! crates below stand here too, under the names of fancy-regex.
+//! The program that searches by a command line, and the whole engine: the modules of the crates below stand here under the names of
+//! fancy-regex.
 #![tactic(auto)]
 
 pub mod arguments;
-mod around;
-mod closing;
 pub mod command;
-pub mod compile;
-mod compiler;
-mod groups;
-mod leaves;
-mod nodes;
-mod opening;
-pub mod options;
+pub mod expr;
 mod printing;
-mod task;
 
+pub use fancy_compile::compile;
 pub use fancy_machine::vm;
-pub use fancy_notation::notation;
-pub use fancy_tree::{analyze, classes, error, expr, look};
+pub use fancy_tree::{analyze, classes, error, look};

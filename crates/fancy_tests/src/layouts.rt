@@ -1,11 +1,11 @@
 //! Trees and their programs compiled anchored, a row a line: TREE, `E` where group 0 is the tree's own, and the instructions.
 
 use crate::searches::compiled;
-use fancy_machine::vm::Insn;
-use fancy_notation::notation::read_tree;
-use fancy_regex_engine::options::CompileOptions;
-use fancy_tree::analyze::AnalyzeContext;
-use fancy_tree::classes::CharClassMatcher;
+use fancy_regex_engine::analyze::AnalyzeContext;
+use fancy_regex_engine::classes::CharClassMatcher;
+use fancy_regex_engine::compile::CompileOptions;
+use fancy_regex_engine::expr::read_tree;
+use fancy_regex_engine::vm::Insn;
 use std::alloc::{AllocError, Global};
 use std::process::Abort;
 use std::test::Fail;

@@ -1,14 +1,13 @@
 //! Searches by each call that makes one.
 
-use fancy_machine::vm::{Prog, RunOptions, Scratch, run, run_default, run_spans};
-use fancy_notation::notation::read_tree;
+use crate::comparison::{answers_as_meant, equal};
+use fancy_regex_engine::analyze::{AnalyzeContext, analyze};
 use fancy_regex_engine::arguments::{Arguments, read_arguments};
 use fancy_regex_engine::command::command;
-use fancy_regex_engine::compile::compile;
-use fancy_regex_engine::options::CompileOptions;
-use fancy_tree::analyze::{AnalyzeContext, analyze};
-use fancy_tree::error::Error;
-use fancy_tree::expr::{ExprTree, is_well_formed};
+use fancy_regex_engine::compile::{CompileOptions, compile};
+use fancy_regex_engine::error::Error;
+use fancy_regex_engine::expr::{ExprTree, is_well_formed, read_tree};
+use fancy_regex_engine::vm::{Prog, RunOptions, Scratch, run, run_default, run_spans};
 use std::alloc::{AllocError, Global};
 use std::process::Abort;
 use std::test::Fail;
@@ -63,19 +62,6 @@ fn agree(
     }
 }
 
-/// Both found the same numbers, or nothing, or passed the same limit.
-fn equal(
-    one: &Result<Option<Vec<usize>>, Error>,
-    other: &Result<Option<Vec<usize>>, Error>,
-) -> bool {
-    match (one, other) {
-        (Ok(None), Ok(None)) => true,
-        (Ok(Some(one)), Ok(Some(other))) => one.as_slice() == other.as_slice(),
-        (Err(Error::RuntimeError(one)), Err(Error::RuntimeError(other))) => *one == *other,
-        _ => false,
-    }
-}
-
 /// Nothing but the place is set for the run.
 fn is_default(arguments: &Arguments) -> bool {
     !(arguments.anchored || arguments.not_continued || arguments.not_empty)
@@ -116,13 +102,16 @@ fn default_agrees(
     equal(whole, &run_default(alloc, prog, text, arguments.pos))
 }
 
-/// The tree is refused, or the calls that run its program answer alike.
+/// The tree is refused, or the calls that run its program answer alike, and as the plain program does.
 fn calls_agree(alloc: Global, tree: &str, text: &str, arguments: &Arguments) -> bool {
     let Ok(tree) = read_tree(alloc, tree) else {
         return true;
     };
     match compiled(alloc, &tree, arguments.analysis(), arguments.compilation()) {
-        Ok(prog) => runs_agree(alloc, &prog, text, arguments),
+        Ok(prog) => {
+            runs_agree(alloc, &prog, text, arguments)
+                && answers_as_meant(alloc, &tree, &prog, text, arguments)
+        }
         Err(_) => true,
     }
 }

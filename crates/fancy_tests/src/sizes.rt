@@ -1,7 +1,7 @@
 //! Trees and how many characters they take, a row a line: TREE; at least, at most, and whether always as many.
 
-use fancy_notation::notation::read_tree;
-use fancy_tree::analyze::{AnalyzeContext, analyze};
+use fancy_regex_engine::analyze::{AnalyzeContext, analyze};
+use fancy_regex_engine::expr::read_tree;
 use std::alloc::Global;
 use std::process::Abort;
 use std::test::Fail;

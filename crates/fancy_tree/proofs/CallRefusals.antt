@@ -10,7 +10,7 @@ use Rattle.fancy_meaning.specs.WellFormed.{is_call}
 use Rattle.fancy_meaning.specs.AnalysisRefusals.{AnalysisRefuses, ReadsAfterCall, FeatureNotYetSupported, LeftRecursiveSubroutineCall, NeverEndingRecursion, before_end, reference_after_call, left_recursion}
 use Rattle.fancy_tree.specs.Names.{IsDescriptionOfLeast}
 use Rattle.fancy_tree.specs.Refusals.{HasNoRefusedNode, IsAccepted}
-use Rattle.fancy_tree.proofs.Listed.{true_false}
+use Rattle.fancy_expr.proofs.Listed.{true_false}
 use Rattle.fancy_tree.proofs.RefusalNodes.{accepted, refused_at_end, no_call_in, no_left_in, no_late_in}
 
 module _ (p : ParsedTree) (options : AnalysisOptions) where

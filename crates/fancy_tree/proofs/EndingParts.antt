@@ -6,15 +6,15 @@ use Rattle.fancy_meaning.specs.Tree.{Tree, Trees, none, more, trees}
 use Rattle.fancy_meaning.specs.Options.{Analysis}
 use Rattle.fancy_tree.specs.declared.endings.PartEnds.{PartEnds}
 use Rattle.fancy_tree.specs.declared.info.Info.{Info}
-use Rattle.fancy_tree.specs.declared.expr.Absent.{Absent}
-use Rattle.fancy_tree.specs.declared.expr.Absent.TheVariants as code_absent
-use Rattle.fancy_tree.specs.declared.expr.Expr.{Expr}
-use Rattle.fancy_tree.specs.declared.expr.Expr.TheVariants as code
-use Rattle.fancy_tree.specs.Exprs.{below, below_absent}
+use Rattle.fancy_expr.specs.declared.expr.Absent.{Absent}
+use Rattle.fancy_expr.specs.declared.expr.Absent.TheVariants as code_absent
+use Rattle.fancy_expr.specs.declared.expr.Expr.{Expr}
+use Rattle.fancy_expr.specs.declared.expr.Expr.TheVariants as code
+use Rattle.fancy_expr.specs.Exprs.{below, below_absent}
 use Rattle.fancy_tree.specs.Infos.{nth, absent_over, node_over, info_tree, info_children, info_facts, IsAnalysed}
 use Rattle.fancy_tree.specs.Endings.{ends_by, all_end_by, some_end_by, and_then, no_parts, node_ends, is_ended_group, is_own_end, group_ends}
 use Rattle.fancy_tree.proofs.Unfolded.{tree_out}
-use Rattle.fancy_tree.proofs.Walks.{taken}
+use Rattle.fancy_expr.proofs.Walks.{taken}
 use Rattle.fancy_tree.proofs.InfoNodes.{any_in_each, any-below, any-taken, has_parts}
 
 abbrev pub parts_from : PartEnds → List Bool → PartEnds

@@ -18,7 +18,7 @@ use Rattle.fancy_tree.specs.Endings.{IsWhole, ends_by, all_end_by, some_end_by, 
 use Rattle.fancy_tree.specs.Infos.{info_tree}
 use Rattle.fancy_tree.specs.Endings as flag
 use Rattle.fancy_tree.proofs.GroupNumbers.{numbers}
-use Rattle.fancy_tree.proofs.Listed.{false_true}
+use Rattle.fancy_expr.proofs.Listed.{false_true}
 
 -- ---- tests
 

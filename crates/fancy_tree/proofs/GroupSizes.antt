@@ -7,15 +7,15 @@ use Rattle.fancy_meaning.specs.Tree.{Tree, Trees, none, more, trees, parts, Conc
 use Rattle.fancy_meaning.specs.Nodes.{nodes, nodes_of_each, as_group, groups}
 use Rattle.fancy_meaning.specs.Sizes.{Size, Known, size_by}
 use Rattle.fancy_tree.specs.declared.info.Info.{Info}
-use Rattle.fancy_tree.specs.declared.expr.Absent.{Absent}
-use Rattle.fancy_tree.specs.declared.expr.Absent.TheVariants as code_absent
-use Rattle.fancy_tree.specs.declared.expr.Expr.{Expr}
-use Rattle.fancy_tree.specs.declared.expr.Expr.TheVariants as code
-use Rattle.fancy_tree.specs.Exprs.{below, below_absent}
+use Rattle.fancy_expr.specs.declared.expr.Absent.{Absent}
+use Rattle.fancy_expr.specs.declared.expr.Absent.TheVariants as code_absent
+use Rattle.fancy_expr.specs.declared.expr.Expr.{Expr}
+use Rattle.fancy_expr.specs.declared.expr.Expr.TheVariants as code
+use Rattle.fancy_expr.specs.Exprs.{below, below_absent}
 use Rattle.fancy_tree.specs.Infos.{Each, nth, absent_over, node_over, info_tree, info_size, info_children, info_facts, tree_over}
 use Rattle.fancy_tree.specs.Made.{IsSizedNode, IsSized, own_size}
 use Rattle.fancy_tree.proofs.Unfolded.{tree_out, each_here, each_below}
-use Rattle.fancy_tree.proofs.Walks.{taken}
+use Rattle.fancy_expr.proofs.Walks.{taken}
 
 -- ---- a tree's nodes, child by child
 

@@ -7,10 +7,10 @@ use Rattle.fancy_meaning.specs.Tree.{Tree, trees, parts}
 use Rattle.fancy_meaning.specs.Nodes.{nodes, nodes_of_each}
 use Rattle.fancy_meaning.specs.Options.{Analysis}
 use Rattle.fancy_tree.specs.declared.info.Info.{Info}
-use Rattle.fancy_tree.specs.Exprs.{below}
+use Rattle.fancy_expr.specs.Exprs.{below}
 use Rattle.fancy_tree.specs.Infos.{info_tree, info_children, info_facts, IsAnalysed, IsFound}
 use Rattle.fancy_tree.proofs.Unfolded.{tree_out, each_here, each_below}
-use Rattle.fancy_tree.proofs.Walks.{taken}
+use Rattle.fancy_expr.proofs.Walks.{taken}
 use Rattle.fancy_tree.proofs.GroupSizes.{nodes-parts, over-parts, each_at}
 
 -- how many children a node has

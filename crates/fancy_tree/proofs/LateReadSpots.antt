@@ -12,7 +12,7 @@ use Rattle.fancy_meaning.specs.AnalysisRefusals.{ReadsAfterCall, spots_in_group}
 use Rattle.fancy_tree.specs.declared.late_reads.Met.{Met}
 use Rattle.fancy_tree.specs.LateReads.{owned, owned_in_each, meet, met_over, met_nothing, is_read_late}
 use Rattle.fancy_tree.proofs.EndingRules.{or_left, or_right, one_true, both, first_true, second_true}
-use Rattle.fancy_tree.proofs.Listed.{true_false, false_true, any_passes}
+use Rattle.fancy_expr.proofs.Listed.{true_false, false_true, any_passes}
 use Rattle.fancy_tree.proofs.RefusalNodes.{some_there}
 
 abbrev pub as_owned : Spot → ℕ × Tree

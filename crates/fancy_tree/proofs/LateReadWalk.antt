@@ -6,15 +6,15 @@ use Rattle.fancy_meaning.specs.Tree.{Tree, Trees, none, more, trees, parts, Conc
 use Rattle.fancy_meaning.specs.Options.{Analysis}
 use Rattle.fancy_tree.specs.declared.late_reads.Met.{Met}
 use Rattle.fancy_tree.specs.declared.info.Info.{Info}
-use Rattle.fancy_tree.specs.declared.expr.Absent.{Absent}
-use Rattle.fancy_tree.specs.declared.expr.Absent.TheVariants as code_absent
-use Rattle.fancy_tree.specs.declared.expr.Expr.{Expr}
-use Rattle.fancy_tree.specs.declared.expr.Expr.TheVariants as code
-use Rattle.fancy_tree.specs.Views.{tree_of, absent_of}
+use Rattle.fancy_expr.specs.declared.expr.Absent.{Absent}
+use Rattle.fancy_expr.specs.declared.expr.Absent.TheVariants as code_absent
+use Rattle.fancy_expr.specs.declared.expr.Expr.{Expr}
+use Rattle.fancy_expr.specs.declared.expr.Expr.TheVariants as code
+use Rattle.fancy_expr.specs.Views.{tree_of, absent_of}
 use Rattle.fancy_tree.specs.Infos.{absent_over, node_over, info_tree, info_children, info_facts, IsAnalysed}
 use Rattle.fancy_tree.specs.LateReads.{owner_inside, own_inside, owned, owned_in_each, meet, met_over, met_nothing, is_read_late}
 use Rattle.fancy_tree.proofs.Unfolded.{tree_out}
-use Rattle.fancy_tree.proofs.Walks.{taken}
+use Rattle.fancy_expr.proofs.Walks.{taken}
 use Rattle.fancy_tree.proofs.InfoNodes.{has_parts, parts-out}
 
 alone : (o : ℕ) (e : Tree) → owned o e ≡ owned_in_each o (more e none)

@@ -1,9 +1,3 @@
-pub mod Exprs
-pub mod AbsentTests
-pub mod Walks
-pub mod SoundNodes
-pub mod Groups
-pub mod Listed
 pub mod Unfolded
 pub mod MadeNodes
 pub mod VisitedParts
@@ -30,9 +24,4 @@ pub mod EndingRules
 pub mod EndingRounds
 pub mod LateReadWalk
 pub mod LateReadSpots
-mod RestLaws
-mod LookLaws
-mod SpellingLaws
-mod FoldingLaws
-mod PiecesLaws
-mod ClassLaws
+pub mod Anchors

@@ -11,11 +11,11 @@ use Rattle.fancy_meaning.specs.Spots.{Around, Spot, spot, spots, all_spots, spot
 use Rattle.fancy_tree.specs.declared.info.Info.{Info}
 use Rattle.fancy_tree.specs.declared.links.Link.{Link}
 use Rattle.fancy_tree.specs.declared.links.Around as code_around
-use Rattle.fancy_tree.specs.declared.expr.Absent.{Absent}
-use Rattle.fancy_tree.specs.declared.expr.Absent.TheVariants as code_absent
-use Rattle.fancy_tree.specs.declared.expr.Expr.{Expr}
-use Rattle.fancy_tree.specs.declared.expr.Expr.TheVariants as code
-use Rattle.fancy_tree.specs.Exprs.{below, below_absent}
+use Rattle.fancy_expr.specs.declared.expr.Absent.{Absent}
+use Rattle.fancy_expr.specs.declared.expr.Absent.TheVariants as code_absent
+use Rattle.fancy_expr.specs.declared.expr.Expr.{Expr}
+use Rattle.fancy_expr.specs.declared.expr.Expr.TheVariants as code
+use Rattle.fancy_expr.specs.Exprs.{below, below_absent}
 use Rattle.fancy_tree.specs.Infos.{nth, absent_over, node_over, info_tree, info_size, info_children, info_facts, tree_over}
 use Rattle.fancy_tree.specs.Made.{IsSizedNode, IsSized}
 use Rattle.fancy_tree.specs.Links.{IsAt, around_inside, follows, link_from, link_of, links_at, links_of}

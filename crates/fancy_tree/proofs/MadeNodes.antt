@@ -10,13 +10,13 @@ use Rattle.fancy_tree.specs.declared.make.Task.{Task}
 use Rattle.fancy_tree.specs.declared.info.Info.{Info}
 use Rattle.fancy_tree.specs.declared.info.Info.TheOpen.{Info-F}
 use Rattle.fancy_tree.specs.declared.info.Info.TheViews.{roll-Info, out-roll-Info}
-use Rattle.fancy_tree.specs.declared.expr.Absent.{Absent}
-use Rattle.fancy_tree.specs.declared.expr.Absent.TheVariants as code_absent
-use Rattle.fancy_tree.specs.declared.expr.Expr.{Expr}
-use Rattle.fancy_tree.specs.declared.expr.Expr.TheVariants as code
-use Rattle.fancy_tree.specs.declared.expr.Assertion.{Assertion}
-use Rattle.fancy_tree.specs.declared.expr.Assertion.TheVariants as code_assertion
-use Rattle.fancy_tree.specs.Views.{assertion_of, bound_of}
+use Rattle.fancy_expr.specs.declared.expr.Absent.{Absent}
+use Rattle.fancy_expr.specs.declared.expr.Absent.TheVariants as code_absent
+use Rattle.fancy_expr.specs.declared.expr.Expr.{Expr}
+use Rattle.fancy_expr.specs.declared.expr.Expr.TheVariants as code
+use Rattle.fancy_expr.specs.declared.expr.Assertion.{Assertion}
+use Rattle.fancy_expr.specs.declared.expr.Assertion.TheVariants as code_assertion
+use Rattle.fancy_expr.specs.Views.{assertion_of, bound_of}
 use Rattle.fancy_tree.specs.Sized.{size_of}
 use Rattle.fancy_tree.specs.Infos.{options_of, within_of, nth, absent_over, node_over, info_tree, info_size, info_hard, Each, is_read_group, facts, tree_over, IsFound, IsAnalysed}
 use Rattle.fancy_tree.specs.Made.{nth_size, absent_size, size_over, some_true, first_true, is_varying_empty, hard_over, read_flag, task_known, IsSizedNode, IsSized, IsMade}

@@ -11,7 +11,7 @@ use Rattle.fancy_meaning.specs.Spots.{Spot, Around, spots, spots_in_turn, spots_
 use Rattle.fancy_meaning.specs.Recursion.{Calls, LeadsAtOnce, once, again}
 use Rattle.fancy_meaning.specs.WellFormed.{is_call}
 use Rattle.fancy_meaning.specs.AnalysisRefusals.{ReadsAfterCall, spots_in_group}
-use Rattle.fancy_tree.proofs.Listed.{any_fails_at, left_false, right_false}
+use Rattle.fancy_expr.proofs.Listed.{any_fails_at, left_false, right_false}
 
 -- ---- the groups of a tree none of whose nodes passes
 

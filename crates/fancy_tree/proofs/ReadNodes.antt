@@ -6,12 +6,12 @@ use Rattle.std.proofs.lemmas.List.Folds.{list_any-append}
 use Rattle.fancy_meaning.specs.Tree.{Tree, Assert, Within}
 use Rattle.fancy_meaning.specs.Nodes.{nodes, read_by, read_groups, is_read}
 use Rattle.fancy_meaning.specs.Numbering.{numbered_within}
-use Rattle.fancy_tree.specs.declared.expr.Expr.{Expr}
-use Rattle.fancy_tree.specs.Views.{tree_of}
-use Rattle.fancy_tree.specs.Exprs.{below, exprs, exprs_of_each}
+use Rattle.fancy_expr.specs.declared.expr.Expr.{Expr}
+use Rattle.fancy_expr.specs.Views.{tree_of}
+use Rattle.fancy_expr.specs.Exprs.{below, exprs, exprs_of_each}
 use Rattle.fancy_tree.specs.Reads.{is_named}
-use Rattle.fancy_tree.proofs.Exprs.{exprs-below, nodes-exprs}
-use Rattle.fancy_tree.proofs.Walks.{each-taken}
+use Rattle.fancy_expr.proofs.Exprs.{exprs-below, nodes-exprs}
+use Rattle.fancy_expr.proofs.Walks.{each-taken}
 use Rattle.fancy_tree.proofs.Numbered.{nodes-numbered}
 
 abbrev pub read_here : Expr → ℕ → Bool

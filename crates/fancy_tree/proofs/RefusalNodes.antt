@@ -12,10 +12,10 @@ use Rattle.fancy_meaning.specs.Numbering.{numbered_within, numbered}
 use Rattle.fancy_meaning.specs.Options.{ParsedTree, AnalysisOptions}
 use Rattle.fancy_meaning.specs.WellFormed.{refers, is_call}
 use Rattle.fancy_meaning.specs.AnalysisRefusals.{CompileError, AnalysisRefuses, RefusesBeforeEnd, is_back_to, has_level, is_no_group, before_end, never_ends, named_groups_with_numbers, reference_to_0, reference_after_call, unresolved_call, unresolved_node, reference_with_level, group_out_of_range, left_recursion, InvalidBackref, NeverEndingRecursion, ReadsAfterCall}
-use Rattle.fancy_tree.specs.Questions.{is_refused}
+use Rattle.fancy_expr.specs.Questions.{is_refused}
 use Rattle.fancy_tree.specs.Refusals.{refusal_of, HasNoRefusedNode, IsAccepted}
 use Rattle.fancy_meaning.specs.Recursion.{IsLeftRecursive, CanEnd}
-use Rattle.fancy_tree.proofs.Listed.{any-map, any_passes, any_fails_at, true_false, false_true}
+use Rattle.fancy_expr.proofs.Listed.{any-map, any_passes, any_fails_at, true_false, false_true}
 use Rattle.fancy_tree.proofs.Numbered.{nodes-numbered, count-numbered}
 use Rattle.fancy_tree.proofs.NoCalls.{leads_nowhere, no_read_after_call}
 

@@ -9,18 +9,18 @@ use Rattle.fancy_meaning.specs.Options.{Analysis}
 use Rattle.fancy_tree.specs.declared.make.Task.{Task}
 use Rattle.fancy_tree.specs.declared.info.Info.{Info}
 use Rattle.fancy_tree.specs.declared.info.Info.TheViews.{out-Info}
-use Rattle.fancy_tree.specs.declared.expr.Absent.{Absent}
-use Rattle.fancy_tree.specs.declared.expr.Absent.TheVariants as code_absent
-use Rattle.fancy_tree.specs.declared.expr.Expr.{Expr}
-use Rattle.fancy_tree.specs.declared.expr.Expr.TheVariants as code
-use Rattle.fancy_tree.specs.Views.{tree_of, absent_of}
-use Rattle.fancy_tree.specs.Exprs.{below, exprs, exprs_of_each}
+use Rattle.fancy_expr.specs.declared.expr.Absent.{Absent}
+use Rattle.fancy_expr.specs.declared.expr.Absent.TheVariants as code_absent
+use Rattle.fancy_expr.specs.declared.expr.Expr.{Expr}
+use Rattle.fancy_expr.specs.declared.expr.Expr.TheVariants as code
+use Rattle.fancy_expr.specs.Views.{tree_of, absent_of}
+use Rattle.fancy_expr.specs.Exprs.{below, exprs, exprs_of_each}
 use Rattle.fancy_tree.specs.Infos.{absent_over, node_over, info_tree, info_within, Each, AreInTurn, IsAnalysed, start_inside, within_inside}
 use Rattle.fancy_tree.specs.Made.{task_known, IsSized, IsMade, Suits}
 use Rattle.fancy_tree.specs.Visited.{IsVisited}
-use Rattle.fancy_tree.proofs.Groups.{group_total, own_group, total-append, count-total, total-taken, total-all, total-most, count-below}
-use Rattle.fancy_tree.proofs.Walks.{taken}
-use Rattle.fancy_tree.proofs.Exprs.{parts-below}
+use Rattle.fancy_expr.proofs.Groups.{group_total, own_group, total-append, count-total, total-taken, total-all, total-most, count-below}
+use Rattle.fancy_expr.proofs.Walks.{taken}
+use Rattle.fancy_expr.proofs.Exprs.{parts-below}
 use Rattle.fancy_tree.proofs.Numbered.{count-numbered}
 
 -- the trees of neighbours, the first group with this number

@@ -6,8 +6,8 @@ use Rattle.fancy_meaning.specs.Options.{AnalysisOptions, analysis_of}
 use Rattle.fancy_meaning.specs.Tree.{NoLook}
 use Rattle.fancy_tree.specs.declared.make.Task.{Task}
 use Rattle.fancy_tree.specs.declared.info.Info.{Info}
-use Rattle.fancy_tree.specs.declared.expr.Expr.{Expr}
-use Rattle.fancy_tree.specs.Views.{tree_of}
+use Rattle.fancy_expr.specs.declared.expr.Expr.{Expr}
+use Rattle.fancy_expr.specs.Views.{tree_of}
 use Rattle.fancy_tree.specs.Endings.{IsWhole}
 use Rattle.fancy_tree.specs.Made.{IsSized, Suits}
 use Rattle.fancy_tree.specs.Refusals.{first_number}

@@ -1,8 +1,8 @@
 -- What the analysis answers.
 use Rattle.fancy_meaning.specs.AnalysisRefusals.{AnalysisRefuses}
 use Rattle.fancy_meaning.specs.Options.{ParsedTree, AnalysisOptions, analysis_of}
-use Rattle.fancy_tree.specs.declared.error.Error.{Error}
-use Rattle.fancy_tree.specs.declared.error.Error.TheVariants as code
+use Rattle.fancy_expr.specs.declared.error.Error.{Error}
+use Rattle.fancy_expr.specs.declared.error.Error.TheVariants as code
 use Rattle.fancy_tree.specs.declared.info.Info.{Info}
 use Rattle.fancy_tree.specs.Infos.{IsRoot}
 use Rattle.fancy_tree.specs.Refusals.{error_of, IsAccepted}

@@ -9,8 +9,8 @@ use Rattle.fancy_meaning.specs.Options.{Analysis}
 use Rattle.fancy_tree.specs.declared.endings.PartEnds.{PartEnds}
 use Rattle.fancy_tree.specs.declared.info.Info.{Info}
 use Rattle.fancy_tree.specs.declared.info.Info.TheViews.{out-Info}
-use Rattle.fancy_tree.specs.declared.expr.Expr.{Expr}
-use Rattle.fancy_tree.specs.declared.expr.Expr.TheVariants as code
+use Rattle.fancy_expr.specs.declared.expr.Expr.{Expr}
+use Rattle.fancy_expr.specs.declared.expr.Expr.TheVariants as code
 use Rattle.fancy_meaning.specs.Sizes.{known_of}
 use Rattle.fancy_tree.specs.Infos.{info_tree, IsAnalysed}
 use Rattle.fancy_tree.specs.Made.{IsSized}

@@ -15,12 +15,12 @@ use Rattle.fancy_tree.specs.declared.info.Info.TheViews.{out-Info}
 use Rattle.fancy_tree.specs.declared.info.Info.TheFolds.{fold-Info, rec-Info}
 use Rattle.fancy_tree.specs.declared.info.Within.{Within}
 use Rattle.fancy_tree.specs.declared.info.Within.TheVariants as code_within
-use Rattle.fancy_tree.specs.declared.expr.Absent.{Absent}
-use Rattle.fancy_tree.specs.declared.expr.Absent.TheVariants as code_absent
-use Rattle.fancy_tree.specs.declared.expr.Expr.{Expr}
-use Rattle.fancy_tree.specs.declared.expr.Expr.TheVariants as code
-use Rattle.fancy_tree.specs.Views.{tree_of, assertion_of, look_of, bound_of}
-use Rattle.fancy_tree.specs.Exprs.{below}
+use Rattle.fancy_expr.specs.declared.expr.Absent.{Absent}
+use Rattle.fancy_expr.specs.declared.expr.Absent.TheVariants as code_absent
+use Rattle.fancy_expr.specs.declared.expr.Expr.{Expr}
+use Rattle.fancy_expr.specs.declared.expr.Expr.TheVariants as code
+use Rattle.fancy_expr.specs.Views.{tree_of, assertion_of, look_of, bound_of}
+use Rattle.fancy_expr.specs.Exprs.{below}
 use Rattle.fancy_tree.specs.Sized.{size_of}
 
 abbrev pub within_of : Within → plain.Within

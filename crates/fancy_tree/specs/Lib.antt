@@ -1,7 +1,3 @@
-pub mod Views
-pub mod Exprs
-pub mod Questions
-pub mod Sound
 pub mod Sized
 pub mod Infos
 pub mod Made
@@ -9,9 +5,6 @@ pub mod Visited
 pub mod Reads
 pub mod Refusals
 pub mod Analyses
-pub mod ClassTexts
-pub mod Classes
-pub mod Literals
 pub mod Endings
 pub mod LateReads
 pub mod Links

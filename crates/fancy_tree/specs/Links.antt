@@ -6,9 +6,9 @@ use Rattle.fancy_meaning.specs.Spots as plain_spots
 use Rattle.fancy_meaning.specs.Spots.{Spot, spot, spots, all_spots, in_group, in_loop}
 use Rattle.fancy_tree.specs.declared.links.Around.{Around}
 use Rattle.fancy_tree.specs.declared.links.Link.{Link}
-use Rattle.fancy_tree.specs.declared.expr.Expr.{Expr}
-use Rattle.fancy_tree.specs.declared.expr.Expr.TheVariants as code
-use Rattle.fancy_tree.specs.Views.{bound_of}
+use Rattle.fancy_expr.specs.declared.expr.Expr.{Expr}
+use Rattle.fancy_expr.specs.declared.expr.Expr.TheVariants as code
+use Rattle.fancy_expr.specs.Views.{bound_of}
 
 -- only whether something stands before a node matters
 pub record IsAt (code : Around) (a : plain_spots.Around) : Type 0 where

@@ -9,12 +9,12 @@ use Rattle.fancy_meaning.specs.Hard.{is_hard_assertion}
 use Rattle.fancy_tree.specs.declared.make.Task.{Task}
 use Rattle.fancy_tree.specs.declared.info.Info.{Info}
 use Rattle.fancy_tree.specs.declared.info.Info.TheViews.{out-Info}
-use Rattle.fancy_tree.specs.declared.expr.Absent.{Absent}
-use Rattle.fancy_tree.specs.declared.expr.Absent.TheVariants as code_absent
-use Rattle.fancy_tree.specs.declared.expr.Expr.{Expr}
-use Rattle.fancy_tree.specs.declared.expr.Expr.TheVariants as code
-use Rattle.fancy_tree.specs.Views.{assertion_of, bound_of}
-use Rattle.fancy_tree.specs.Exprs.{below}
+use Rattle.fancy_expr.specs.declared.expr.Absent.{Absent}
+use Rattle.fancy_expr.specs.declared.expr.Absent.TheVariants as code_absent
+use Rattle.fancy_expr.specs.declared.expr.Expr.{Expr}
+use Rattle.fancy_expr.specs.declared.expr.Expr.TheVariants as code
+use Rattle.fancy_expr.specs.Views.{assertion_of, bound_of}
+use Rattle.fancy_expr.specs.Exprs.{below}
 use Rattle.fancy_tree.specs.Sized.{size_of}
 use Rattle.fancy_tree.specs.Infos.{options_of, node_over, start_inside, within_inside, info_tree, info_within, Each, EachNode, Facts, tree_over, AreInTurn, IsAnalysed}
 

@@ -5,13 +5,13 @@ use Rattle.fancy_meaning.specs.Tree as plain
 use Rattle.fancy_meaning.specs.Tree.{Tree}
 use Rattle.fancy_meaning.specs.Options.{ParsedTree, AnalysisOptions}
 use Rattle.fancy_meaning.specs.Nodes.{nodes}
-use Rattle.fancy_tree.specs.Questions.{is_refused}
+use Rattle.fancy_expr.specs.Questions.{is_refused}
 use Rattle.fancy_meaning.specs.AnalysisRefusals as plain_errors
 use Rattle.fancy_meaning.specs.AnalysisRefusals.{AnalysisRefuses}
 use Rattle.fancy_tree.specs.declared.context.AnalyzeContext.{AnalyzeContext}
-use Rattle.fancy_tree.specs.declared.error.CompileError.{CompileError}
-use Rattle.fancy_tree.specs.declared.error.CompileError.TheVariants as code_error
-use Rattle.fancy_tree.specs.declared.expr.ExprTree.{ExprTree}
+use Rattle.fancy_expr.specs.declared.error.CompileError.{CompileError}
+use Rattle.fancy_expr.specs.declared.error.CompileError.TheVariants as code_error
+use Rattle.fancy_expr.specs.declared.expr.ExprTree.{ExprTree}
 
 abbrev pub error_of : CompileError → plain_errors.CompileError
 error_of code_error.NamedBackrefOnly = plain_errors.NamedBackrefOnly

@@ -7,8 +7,8 @@ use Rattle.fancy_meaning.specs.Options.{Analysis}
 use Rattle.fancy_tree.specs.declared.make.Task.{Task}
 use Rattle.fancy_tree.specs.declared.info.Info.{Info}
 use Rattle.fancy_tree.specs.declared.info.Info.TheViews.{out-Info}
-use Rattle.fancy_tree.specs.declared.expr.Expr.{Expr}
-use Rattle.fancy_tree.specs.Views.{tree_of}
+use Rattle.fancy_expr.specs.declared.expr.Expr.{Expr}
+use Rattle.fancy_expr.specs.Views.{tree_of}
 use Rattle.fancy_tree.specs.Infos.{info_tree, info_within, IsAnalysed}
 use Rattle.fancy_tree.specs.Made.{task_known, IsSized, Suits}
 

@@ -1,16 +1,15 @@
 //! The analysis of a tree.
 
 ghost use Rattle.std.specs.Prelude.{◌≡◌, ◌&&◌, ◌||◌, ◌==◌, MatchResult};
+ghost use Rattle.fancy_meaning.specs.Laws.{can_be_anchored, is_anchor};
 ghost use Rattle.fancy_meaning.specs.Options.{Analysis};
 ghost use Rattle.fancy_meaning.specs.Tree as plain;
 ghost use Rattle.fancy_tree.specs.Analyses.{IsAnalysisOf, IsRefusedAs};
 ghost use Rattle.fancy_tree.specs.Infos.{IsAnalysed, IsRoot, info_hard, info_size, info_tree, info_within, options_of};
-ghost use Rattle.fancy_tree.specs.Sound.{IsWellFormedTree};
-ghost use Rattle.fancy_tree.specs.Views.{parsed_of};
+ghost use Rattle.fancy_expr.specs.Sound.{IsWellFormedTree};
+ghost use Rattle.fancy_expr.specs.Views.{parsed_of, tree_of};
 
 pub use crate::context::AnalyzeContext;
-use crate::error::Error;
-use crate::expr::ExprTree;
 pub use crate::info::Info;
 use crate::info::Within;
 use crate::make::Task;
@@ -18,6 +17,8 @@ use crate::reads::read_flags;
 use crate::refusals::{call_refusal, first_group, refusal};
 use crate::rounds::known_sizes;
 use crate::visit::visit;
+use fancy_expr::error::Error;
+use fancy_expr::expr::{Assertion, Expr, ExprTree};
 use std::alloc::Global;
 
 /// Whether the root is hard: under the end-of-text option also where it may take nothing.
@@ -74,4 +75,31 @@ pub fn analyze<'a>(
         return Err(Error::CompileError(refused));
     }
     Ok(as_root(info, context))
+}
+
+fn is_anchor(expr: &Expr) -> bool
+    ensures { result ≡ is_anchor (tree_of expr.now) }
+{
+    match expr {
+        Expr::Assertion(Assertion::StartText) => true,
+        Expr::ContinueFromPreviousMatchEnd => true,
+        Expr::Absent(_) => false,
+        _ => false,
+    }
+}
+
+/// Whether the tree begins with `StartText`, or as a sequence with `StartText` or `ContinueFromPreviousMatchEnd`. Then a way exists only at
+/// the text's start or where the match before ended.
+pub fn can_compile_as_anchored(expr: &Expr) -> bool
+    ensures { result ≡ can_be_anchored (tree_of expr.now) }
+{
+    match expr {
+        Expr::Concat(parts) => match parts.first() {
+            Some(first) => is_anchor(first),
+            None => false,
+        },
+        Expr::Assertion(Assertion::StartText) => true,
+        Expr::Absent(_) => false,
+        _ => false,
+    }
 }

@@ -21,9 +21,9 @@ ghost use Rattle.fancy_tree.specs.Endings.{IsWhole, and_then, ends_by, group_end
 ghost use Rattle.fancy_tree.specs.Infos.{IsAnalysed, info_tree};
 ghost use Rattle.fancy_tree.specs.declared.info.Info.TheViews.{out-Info};
 
-use crate::expr::Expr;
 use crate::info::Info;
 use crate::reads::no_flags;
+use fancy_expr::expr::Expr;
 use std::alloc::{AllocError, Global};
 
 /// How the parts of a node end.

@@ -4,8 +4,8 @@ ghost use Rattle.std.specs.Prelude.{◌≡◌};
 ghost use Rattle.fancy_tree.specs.Infos.{info_children, info_facts, info_size, is_look};
 
 use crate::context::AnalyzeContext;
-use crate::expr::Expr;
 use crate::size::Size;
+use fancy_expr::expr::Expr;
 
 /// The innermost look-around around a node.
 #[derive(Clone, Copy, Debug, PartialEq, Eq)]

@@ -7,10 +7,10 @@ ghost use Rattle.fancy_meaning.specs.Nodes.{nodes};
 ghost use Rattle.fancy_meaning.specs.Options.{Analysis};
 ghost use Rattle.fancy_tree.specs.Infos.{IsAnalysed, info_facts, info_tree};
 ghost use Rattle.fancy_tree.specs.LateReads.{is_read_late, meet, met_over, own_inside, owned};
-ghost use Rattle.fancy_tree.specs.Views.{tree_of};
+ghost use Rattle.fancy_expr.specs.Views.{tree_of};
 
-use crate::expr::Expr;
 use crate::info::Info;
+use fancy_expr::expr::Expr;
 
 /// What was met of a group on a walk over its body.
 #[derive(Clone, Copy)]

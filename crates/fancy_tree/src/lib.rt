@@ -1,37 +1,20 @@
-//! Trees that are searched for, the test whether one may be handed in, their analysis, and tests on characters and places.
+//! The analysis of trees. The trees themselves, and the tests on characters and places, stand here too, under the names of fancy-regex.
 #![tactic(auto)]
 
 pub mod analyze;
-#[cfg(test)]
-mod call_tests;
-#[cfg(test)]
-mod character_tests;
-pub mod classes;
-mod compiled;
 mod context;
 mod endings;
-pub mod error;
-pub mod expr;
-mod folding;
 pub mod info;
 mod late_reads;
 mod links;
-pub mod look;
 mod make;
-mod nodes;
-pub mod parts;
-mod pieces;
 mod reached;
 mod reads;
 mod recursion;
-#[cfg(test)]
-mod recursion_tests;
 mod refusals;
 mod rounds;
 mod size;
-mod sound;
-mod spelling;
-#[cfg(test)]
-mod tests;
 mod visit;
-mod well_formed;
+
+pub use fancy_characters::{classes, look};
+pub use fancy_expr::{error, expr, parts};

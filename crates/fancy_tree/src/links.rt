@@ -8,8 +8,8 @@ ghost use Rattle.fancy_tree.specs.Infos.{info_facts, info_size, info_tree, node_
 ghost use Rattle.fancy_tree.specs.Links.{IsAt, around_inside, follows, link_from, links_at, links_of};
 ghost use Rattle.fancy_tree.specs.Made.{IsSized};
 
-use crate::expr::Expr;
 use crate::info::Info;
+use fancy_expr::expr::Expr;
 use std::alloc::{AllocError, Global};
 
 /// A step from one target to another, by number. The whole tree has the number 0.

@@ -18,12 +18,12 @@ ghost use Rattle.fancy_tree.specs.Made.{
   task_known,
 };
 ghost use Rattle.fancy_tree.specs.Sized.{size_of};
-ghost use Rattle.fancy_tree.specs.Views.{assertion_of};
+ghost use Rattle.fancy_expr.specs.Views.{assertion_of};
 
 use crate::context::AnalyzeContext;
-use crate::expr::{Absent, Assertion, Expr};
 use crate::info::{Info, Within};
 use crate::size::Size;
+use fancy_expr::expr::{Absent, Assertion, Expr};
 
 /// What a walk over the tree goes by.
 #[derive(Clone, Copy)]

@@ -3,10 +3,10 @@
 ghost use Rattle.std.specs.Prelude.{◌≡◌, ◌+◌, ◌&&◌, ◌||◌, ℕ, IfOk, false, length, nat_lt, replicate, slice_index_or};
 ghost use Rattle.fancy_meaning.specs.Nodes.{is_read, read_by};
 ghost use Rattle.fancy_tree.specs.Reads.{is_named};
-ghost use Rattle.fancy_tree.specs.Views.{tree_of};
+ghost use Rattle.fancy_expr.specs.Views.{tree_of};
 
-use crate::expr::Expr;
-use crate::parts::{part, part_count};
+use fancy_expr::expr::Expr;
+use fancy_expr::parts::{part, part_count};
 use std::alloc::{AllocError, Global};
 
 /// The group that a node reads, or asks for.

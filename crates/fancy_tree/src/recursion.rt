@@ -8,12 +8,12 @@ ghost use Rattle.fancy_meaning.specs.Tree as plain;
 ghost use Rattle.fancy_tree.specs.Infos.{info_tree};
 ghost use Rattle.fancy_tree.specs.Made.{IsSized};
 ghost use Rattle.fancy_tree.specs.Names.{IsDescriptionOfLeast, names_of};
-ghost use Rattle.fancy_tree.specs.declared.error.Error.TheVariants.{Memory};
+ghost use Rattle.fancy_expr.specs.declared.error.Error.TheVariants.{Memory};
 
-use crate::error::Error;
 use crate::info::Info;
 use crate::links::links_of;
 use crate::reached::least_into_cycle;
+use fancy_expr::error::Error;
 use std::alloc::{AllocError, Global};
 use std::collections::BTreeMap;
 

@@ -5,22 +5,22 @@ ghost use Rattle.fancy_meaning.specs.AnalysisRefusals.{AnalysisRefuses};
 ghost use Rattle.fancy_meaning.specs.Options.{AnalysisOptions, analysis_of};
 ghost use Rattle.fancy_meaning.specs.WellFormed.{most_groups};
 ghost use Rattle.fancy_tree.specs.Infos.{options_of};
-ghost use Rattle.fancy_tree.specs.Questions.{is_refused};
+ghost use Rattle.fancy_expr.specs.Questions.{is_refused};
 ghost use Rattle.fancy_tree.specs.Refusals.{HasNoRefusedNode, IsAccepted, error_of, first_of, has_named_and_numbered, last_of, refusal_of};
-ghost use Rattle.fancy_tree.specs.Sound.{IsWellFormedTree};
+ghost use Rattle.fancy_expr.specs.Sound.{IsWellFormedTree};
 ghost use Rattle.fancy_tree.specs.Endings.{IsWhole};
-ghost use Rattle.fancy_tree.specs.declared.error.Error.TheVariants.{Memory};
-ghost use Rattle.fancy_tree.specs.Views.{parsed_of, tree_of, unresolved_of};
+ghost use Rattle.fancy_expr.specs.declared.error.Error.TheVariants.{Memory};
+ghost use Rattle.fancy_expr.specs.Views.{parsed_of, tree_of, unresolved_of};
 ghost use Rattle.fancy_meaning.specs.Tree as plain;
 
 use crate::context::AnalyzeContext;
 use crate::endings::can_end;
-use crate::error::{CompileError, Error};
-use crate::expr::{AstNode, Expr, ExprTree};
 use crate::info::Info;
 use crate::late_reads::reads_after_call;
-use crate::nodes::{Question, find_node, has_node};
 use crate::recursion::left_recursion;
+use fancy_expr::error::{CompileError, Error};
+use fancy_expr::expr::{AstNode, Expr, ExprTree};
+use fancy_expr::nodes::{Question, find_node, has_node};
 use std::alloc::Global;
 
 fn unresolved_refusal(node: &AstNode) -> CompileError

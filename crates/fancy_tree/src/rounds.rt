@@ -8,16 +8,16 @@ ghost use Rattle.fancy_meaning.specs.Tree as plain;
 ghost use Rattle.fancy_meaning.specs.WellFormed.{most_groups};
 ghost use Rattle.fancy_tree.specs.Infos.{info_tree};
 ghost use Rattle.fancy_tree.specs.Made.{IsSized, from_0, from_1, own_size, task_known};
-ghost use Rattle.fancy_tree.specs.Views.{tree_of};
+ghost use Rattle.fancy_expr.specs.Views.{tree_of};
 ghost use Rattle.fancy_tree.specs.declared.info.Info.TheViews.{out-Info};
 ghost use Rattle.fancy_tree.specs.Sized.{size_of};
 
 use crate::context::AnalyzeContext;
-use crate::expr::{Expr, ExprTree};
 use crate::info::{Info, Within};
 use crate::make::Task;
 use crate::size::Size;
 use crate::visit::visit;
+use fancy_expr::expr::{Expr, ExprTree};
 use std::alloc::{AllocError, Global};
 
 fn add_own_size(info: &Info, table: &mut Vec<Size>) -> Result<(), AllocError>

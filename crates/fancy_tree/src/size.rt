@@ -3,7 +3,7 @@
 ghost use Rattle.std.specs.Prelude.{◌≡◌, false};
 ghost use Rattle.fancy_meaning.specs.Sizes.{between, either, exactly, no_bound, plus, times, unknown};
 ghost use Rattle.fancy_tree.specs.Sized.{size_of};
-ghost use Rattle.fancy_tree.specs.Views.{bound_of};
+ghost use Rattle.fancy_expr.specs.Views.{bound_of};
 
 /// The least and the greatest number of characters, and whether it is one number.
 #[derive(Clone, Copy, Debug, PartialEq, Eq)]

@@ -4,13 +4,13 @@ ghost use Rattle.std.specs.Prelude.{◌≡◌, ◌+◌, ◌<◌, ◌^◌, IfOk};
 ghost use Rattle.fancy_meaning.specs.Nodes.{group_count};
 ghost use Rattle.fancy_meaning.specs.Numbering.{within};
 ghost use Rattle.fancy_tree.specs.Infos.{start_inside, within_inside, within_of};
-ghost use Rattle.fancy_tree.specs.Views.{look_of, tree_of};
+ghost use Rattle.fancy_expr.specs.Views.{look_of, tree_of};
 ghost use Rattle.fancy_tree.specs.Visited.{IsVisited};
 
-use crate::expr::{Expr, LookAround};
 use crate::info::{Info, Within};
 use crate::make::{Task, make_info};
-use crate::parts::{part, part_count};
+use fancy_expr::expr::{Expr, LookAround};
+use fancy_expr::parts::{part, part_count};
 use std::alloc::{AllocError, Global};
 
 fn within_look(look: LookAround) -> Within

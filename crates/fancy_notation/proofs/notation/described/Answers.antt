@@ -1,6 +1,6 @@
 use Rattle.std.proofs.Common.{false, [], refl, ap, ◌∙◌}
 use Rattle.fancy_meaning.specs.Nodes.{nodes}
-use Rattle.fancy_tree.specs.Views.{tree_of}
+use Rattle.fancy_expr.specs.Views.{tree_of}
 use Rattle.fancy_notation.specs.Surveys.{noted_all}
 use Rattle.fancy_notation.specs.Described.{first_past, up_to}
 use Rattle.fancy_notation.specs.NotationViews.{surveyed_of}

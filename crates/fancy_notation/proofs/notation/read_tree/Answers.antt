@@ -1,6 +1,6 @@
 use Rattle.std.proofs.Common.{ap, refl, ◌∙◌, length}
 use Rattle.std.proofs.lemmas.Result.{err_from_is_err_and}
-use Rattle.fancy_tree.specs.Views.{tree_of}
+use Rattle.fancy_expr.specs.Views.{tree_of}
 use Rattle.fancy_notation.specs.declared.reader.Reader.{Reader}
 use Rattle.fancy_notation.specs.Lexing.{tokens_of}
 use Rattle.fancy_notation.specs.NotationViews.{all_placed}

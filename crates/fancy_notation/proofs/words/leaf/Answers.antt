@@ -1,5 +1,5 @@
 use Rattle.std.proofs.Common.{option_map, ap, sym, ◌∙◌}
-use Rattle.fancy_tree.specs.Views.{assertion_of}
+use Rattle.fancy_expr.specs.Views.{assertion_of}
 use Rattle.fancy_notation.proofs.WordFacts.{leaf-some, leaf-none}
 use Rattle.fancy_notation.proofs.words.leaf.Goals as goal
 

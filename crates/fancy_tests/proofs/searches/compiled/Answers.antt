@@ -1,7 +1,7 @@
 use Rattle.std.proofs.Common.{◌≡◌, Bool, true, false, not, refl}
 use Rattle.fancy_meaning.specs.Premises.{Analysed}
 use Rattle.fancy_tree.specs.Infos.{options_of}
-use Rattle.fancy_tree.specs.Views.{parsed_of}
+use Rattle.fancy_expr.specs.Views.{parsed_of}
 use Rattle.fancy_tests.proofs.searches.compiled.Goals as goal
 use Rattle.fancy_tests.proofs.searches.compiled.Goals.{else-options-via-then-options+else-not-context, else-options-via-else-options}
 

@@ -8,14 +8,14 @@ use Rattle.fancy_tree.specs.Endings.{IsWhole}
 use Rattle.fancy_tree.specs.Infos.{options_of}
 use Rattle.fancy_tree.specs.Analyses.{IsAnalysisOf, IsRefusedAs}
 use Rattle.fancy_tree.specs.declared.info.Info.{Info}
-use Rattle.fancy_tree.specs.declared.error.Error.{Error}
-use Rattle.fancy_tree.specs.declared.error.Error.TheVariants.{Memory}
+use Rattle.fancy_expr.specs.declared.error.Error.{Error}
+use Rattle.fancy_expr.specs.declared.error.Error.TheVariants.{Memory}
 use Rattle.fancy_meaning.specs.AnalysisRefusals.{AnalysisRefuses}
 use Rattle.fancy_tree.specs.Refusals.{HasNoRefusedNode, IsAccepted, error_of}
-use Rattle.fancy_tree.proofs.Listed.{false_true}
+use Rattle.fancy_expr.proofs.Listed.{false_true}
 use Rattle.fancy_tree.proofs.WholeNodes.{whole_visited}
 use Rattle.fancy_tree.specs.Sized.{size_of}
-use Rattle.fancy_tree.specs.Views.{parsed_of}
+use Rattle.fancy_expr.specs.Views.{parsed_of}
 use Rattle.fancy_tree.proofs.RefusalNodes.{flag_is_read}
 use Rattle.fancy_tree.proofs.analyze.analyze.Goals as goal
 

@@ -1,7 +1,7 @@
 use Rattle.std.proofs.Common.{◌≡◌, ◌≤◌, ◌<◌, false, true, length, replicate, slice_index_or, arith, ap, ◌∙◌, sym}
 use Rattle.std.proofs.lemmas.List.{length-replicate}
 use Rattle.fancy_tree.specs.Endings.{set_count}
-use Rattle.fancy_tree.proofs.Listed.{false_true}
+use Rattle.fancy_expr.proofs.Listed.{false_true}
 use Rattle.fancy_tree.proofs.EndingRules.{NextFlags, has_flags, grows_next, sound_next, sound_first, first_complete, count_grows, same_flags, all_set, first_flag, none_set, no_flag, next_of_tree}
 use Rattle.fancy_tree.proofs.endings.can_end.Goals as goal
 

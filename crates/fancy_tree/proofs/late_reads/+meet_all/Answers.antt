@@ -1,7 +1,7 @@
 use Rattle.std.proofs.Common.{◌≡◌, ◌<◌, ◌==◌, length, get_or, arith, ap, ◌∙◌, sym}
 use Rattle.fancy_tree.specs.Infos.{info_tree, info_children, info_facts}
 use Rattle.fancy_tree.specs.LateReads.{meet, met_over, owned, owner_inside, own_inside}
-use Rattle.fancy_tree.specs.Views.{tree_of}
+use Rattle.fancy_expr.specs.Views.{tree_of}
 use Rattle.fancy_tree.proofs.InfoNodes.{child_analysed}
 use Rattle.fancy_tree.proofs.LateReadWalk.{met_in-taken, met-here, met-all, own-inside}
 use Rattle.fancy_tree.proofs.late_reads.+meet_all.Goals as goal

@@ -1,5 +1,5 @@
 use Rattle.std.proofs.Common.{◌&&◌, ◌||◌, false, nat_lt, length, slice_index_or, ap, ◌∙◌, arith}
-use Rattle.fancy_tree.proofs.Exprs.{child_smaller}
+use Rattle.fancy_expr.proofs.Exprs.{child_smaller}
 use Rattle.fancy_tree.proofs.ReadNodes.{marked_more, read-all}
 use Rattle.fancy_tree.proofs.reads.+mark_all.Goals as goal
 

@@ -1,5 +1,5 @@
 use Rattle.std.proofs.Common.{◌≡◌, ℕ, ◌&&◌, ◌||◌, false, nat_lt, take, length, slice_index_or}
-use Rattle.fancy_tree.specs.Exprs.{below, exprs}
+use Rattle.fancy_expr.specs.Exprs.{below, exprs}
 use Rattle.fancy_tree.proofs.ReadNodes.{read_among_each, read_here}
 use Rattle.fancy_tree.proofs.reads.+mark_all.Given as goal
 

@@ -1,7 +1,7 @@
 use Rattle.std.proofs.Common.{◌≡◌, None, sym, ap, ◌∙◌, refl}
 use Rattle.fancy_meaning.specs.Nodes.{read_by}
-use Rattle.fancy_tree.specs.declared.expr.Absent.TheVariants as code_absent
-use Rattle.fancy_tree.specs.Views.{tree_of, absent_of}
+use Rattle.fancy_expr.specs.declared.expr.Absent.TheVariants as code_absent
+use Rattle.fancy_expr.specs.Views.{tree_of, absent_of}
 use Rattle.fancy_tree.proofs.reads.read_by.Goals as goal
 
 pub returns-in-Absent : goal.returns-in-Absent

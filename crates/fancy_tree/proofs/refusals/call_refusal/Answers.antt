@@ -6,8 +6,8 @@ use Rattle.fancy_meaning.specs.WellFormed.{is_call}
 use Rattle.fancy_meaning.specs.AnalysisRefusals.{ReadsAfterCall}
 use Rattle.fancy_meaning.specs.Recursion.{IsLeftRecursive}
 use Rattle.fancy_tree.specs.Names.{IsDescriptionOfLeast, names_of}
-use Rattle.fancy_tree.specs.Views.{parsed_of, tree_of}
-use Rattle.fancy_tree.proofs.Listed.{true_false, any-nodes}
+use Rattle.fancy_expr.specs.Views.{parsed_of, tree_of}
+use Rattle.fancy_expr.proofs.Listed.{true_false, any-nodes}
 use Rattle.fancy_tree.proofs.CallRefusals.{late_refused, left_refused, without_calls, that_end, never_refused}
 use Rattle.fancy_tree.proofs.refusals.call_refusal.Goals as goal
 

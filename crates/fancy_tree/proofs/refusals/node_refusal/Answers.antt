@@ -1,7 +1,7 @@
 use Rattle.std.proofs.Common.{◌≡◌, sym, ap, ◌∙◌, refl}
 use Rattle.fancy_meaning.specs.AnalysisRefusals.{FeatureNotYetSupported}
-use Rattle.fancy_tree.specs.declared.expr.Absent.TheVariants as code_absent
-use Rattle.fancy_tree.specs.Views.{tree_of, absent_of}
+use Rattle.fancy_expr.specs.declared.expr.Absent.TheVariants as code_absent
+use Rattle.fancy_expr.specs.Views.{tree_of, absent_of}
 use Rattle.fancy_tree.specs.Refusals.{refusal_of}
 use Rattle.fancy_tree.proofs.refusals.node_refusal.Goals as goal
 

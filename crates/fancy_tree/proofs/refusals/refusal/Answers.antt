@@ -1,13 +1,13 @@
 use Rattle.std.proofs.Common.{◌≡◌, ◌&&◌, false, true, sym, ap, ◌∙◌, subst}
 use Rattle.fancy_meaning.specs.AnalysisRefusals.{AnalysisRefuses, before_end, named_groups_with_numbers}
 use Rattle.fancy_tree.specs.Infos.{options_of}
-use Rattle.fancy_tree.specs.Questions.{is_refused}
+use Rattle.fancy_expr.specs.Questions.{is_refused}
 use Rattle.std.specs.List.{list_any}
 use Rattle.fancy_meaning.specs.Nodes.{nodes}
 use Rattle.fancy_tree.specs.Refusals.{first_of, last_of}
-use Rattle.fancy_tree.specs.Views.{parsed_of, tree_of}
-use Rattle.fancy_tree.proofs.Listed.{any-nodes}
-use Rattle.fancy_tree.proofs.SoundNodes.{node_there}
+use Rattle.fancy_expr.specs.Views.{parsed_of, tree_of}
+use Rattle.fancy_expr.proofs.Listed.{any-nodes}
+use Rattle.fancy_expr.proofs.SoundNodes.{node_there}
 use Rattle.fancy_tree.proofs.RefusalNodes.{refused_for_a_case, names_there, named_flags, names_absent}
 use Rattle.fancy_tree.proofs.refusals.refusal.Goals as goal
 

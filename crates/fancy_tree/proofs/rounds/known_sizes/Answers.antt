@@ -3,7 +3,7 @@ use Rattle.fancy_meaning.specs.Tree as plain
 use Rattle.fancy_meaning.specs.Nodes.{group_count}
 use Rattle.fancy_meaning.specs.Numbering.{numbered_within}
 use Rattle.fancy_meaning.specs.Sizes.{next_round, after_rounds, unknown}
-use Rattle.fancy_tree.specs.Views.{tree_of}
+use Rattle.fancy_expr.specs.Views.{tree_of}
 use Rattle.fancy_tree.specs.Sized.{size_of}
 use Rattle.fancy_tree.proofs.Numbered.{count-numbered}
 use Rattle.fancy_tree.proofs.RoundSizes.{settled, last_round}

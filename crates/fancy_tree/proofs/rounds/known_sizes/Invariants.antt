@@ -2,7 +2,7 @@ use Rattle.std.proofs.Common.{◌≡◌, map}
 use Rattle.fancy_meaning.specs.Tree as plain
 use Rattle.fancy_meaning.specs.Numbering.{numbered_within}
 use Rattle.fancy_meaning.specs.Sizes.{after_rounds}
-use Rattle.fancy_tree.specs.Views.{tree_of}
+use Rattle.fancy_expr.specs.Views.{tree_of}
 use Rattle.fancy_tree.specs.Sized.{size_of}
 use Rattle.fancy_tree.proofs.rounds.known_sizes.Given as goal
 

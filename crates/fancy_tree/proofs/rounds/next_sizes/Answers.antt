@@ -2,7 +2,7 @@ use Rattle.std.proofs.Common.{◌≡◌, map, IfOk, sym, ap, ◌∙◌, subst, a
 use Rattle.fancy_meaning.specs.Tree as plain
 use Rattle.fancy_meaning.specs.Numbering.{numbered_within}
 use Rattle.fancy_meaning.specs.Sizes.{next_round}
-use Rattle.fancy_tree.specs.Views.{tree_of}
+use Rattle.fancy_expr.specs.Views.{tree_of}
 use Rattle.fancy_tree.specs.Sized.{size_of}
 use Rattle.fancy_tree.specs.Made.{from_0, from_1, task_known}
 use Rattle.fancy_tree.proofs.RoundSizes.{round_from_0, round_from_1}

@@ -1,8 +1,8 @@
 use Rattle.std.proofs.Common.{subst, arith}
-use Rattle.fancy_tree.specs.Exprs.{below}
+use Rattle.fancy_expr.specs.Exprs.{below}
 use Rattle.fancy_tree.specs.Infos.{within_inside, within_of}
 use Rattle.fancy_tree.specs.Visited.{IsVisited}
-use Rattle.fancy_tree.proofs.Exprs.{child_smaller}
+use Rattle.fancy_expr.proofs.Exprs.{child_smaller}
 use Rattle.fancy_tree.proofs.VisitedParts.{visited_more, visited_node, room}
 use Rattle.fancy_tree.proofs.visit.+visit.Goals as goal
 

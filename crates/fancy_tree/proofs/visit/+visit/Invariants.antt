@@ -1,5 +1,5 @@
 use Rattle.std.proofs.Common.{take, length}
-use Rattle.fancy_tree.specs.Exprs.{below, exprs}
+use Rattle.fancy_expr.specs.Exprs.{below, exprs}
 use Rattle.fancy_tree.specs.Infos.{start_inside, within_inside, within_of}
 use Rattle.fancy_tree.proofs.VisitedParts.{AreVisited}
 use Rattle.fancy_tree.proofs.visit.+visit.Given as goal

@@ -1,6 +1,6 @@
 use Rattle.std.proofs.Common.{ap, arith}
 use Rattle.fancy_tree.specs.Infos.{start_inside}
-use Rattle.fancy_tree.proofs.Groups.{count-below}
+use Rattle.fancy_expr.proofs.Groups.{count-below}
 use Rattle.fancy_tree.proofs.VisitedParts.{start-own}
 use Rattle.fancy_tree.proofs.visit.start_inside.Goals as goal
 

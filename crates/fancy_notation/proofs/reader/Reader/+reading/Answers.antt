@@ -1,8 +1,8 @@
 use Rattle.std.proofs.Common.{◌≡◌, false, [], ◌∷◌, ◌++◌, sym, ap, ◌∙◌, subst, refl, arith}
 use Rattle.std.proofs.lemmas.Result.{err_from_is_err_and}
 use Rattle.fancy_meaning.specs.Tree.{AbsentExpression, Conditional, Repeat}
-use Rattle.fancy_tree.specs.declared.expr.Absent.TheViews as view
-use Rattle.fancy_tree.specs.Views.{tree_of, bound_of as bound_view}
+use Rattle.fancy_expr.specs.declared.expr.Absent.TheViews as view
+use Rattle.fancy_expr.specs.Views.{tree_of, bound_of as bound_view}
 use Rattle.fancy_notation.specs.declared.forms.Form.TheVariants as form
 use Rattle.fancy_notation.specs.Grammar.{closing, SpellsForm, repeat, conditional, absent_expression}
 use Rattle.fancy_notation.specs.Misfit.{Node, Shut, Parts, Count, Bound}

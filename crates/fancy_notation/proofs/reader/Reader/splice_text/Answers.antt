@@ -1,5 +1,5 @@
 use Rattle.std.proofs.Common.{sym, ap, ◌++◌, ◌∙◌, map, string_bytes}
-use Rattle.fancy_tree.specs.Views.{tree_of}
+use Rattle.fancy_expr.specs.Views.{tree_of}
 use Rattle.fancy_notation.specs.Grammar.{parts_of_text}
 use Rattle.fancy_notation.proofs.Loops.{has_next, skips_text}
 use Rattle.fancy_notation.proofs.reader.Reader.splice_text.Goals as goal

@@ -1,7 +1,7 @@
 use Rattle.std.proofs.Common.{arith}
-use Rattle.fancy_tree.specs.Views.{tree_of}
-use Rattle.fancy_tree.specs.Exprs.{below}
-use Rattle.fancy_tree.proofs.Exprs.{child_smaller}
+use Rattle.fancy_expr.specs.Views.{tree_of}
+use Rattle.fancy_expr.specs.Exprs.{below}
+use Rattle.fancy_expr.proofs.Exprs.{child_smaller}
 use Rattle.fancy_notation.specs.Surveys.{noted}
 use Rattle.fancy_notation.specs.NotationViews.{surveyed_of}
 use Rattle.fancy_notation.proofs.Noted.{noted_more, noted_done}

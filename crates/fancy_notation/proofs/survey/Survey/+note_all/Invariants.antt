@@ -1,6 +1,6 @@
 use Rattle.std.proofs.Common.{◌≡◌, length, take, map}
-use Rattle.fancy_tree.specs.Views.{tree_of}
-use Rattle.fancy_tree.specs.Exprs.{below, exprs, exprs_of_each}
+use Rattle.fancy_expr.specs.Views.{tree_of}
+use Rattle.fancy_expr.specs.Exprs.{below, exprs, exprs_of_each}
 use Rattle.fancy_notation.specs.Surveys.{noted, noted_all}
 use Rattle.fancy_notation.specs.NotationViews.{surveyed_of}
 use Rattle.fancy_notation.proofs.survey.Survey.+note_all.Given as goal

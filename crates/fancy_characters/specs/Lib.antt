@@ -1,0 +1,3 @@
+pub mod ClassTexts
+pub mod Classes
+pub mod Literals

@@ -1,0 +1,15 @@
+-- What a literal takes of which some characters are folded.
+use Rattle.std.specs.Prelude.{ℕ, Bool, List, map}
+use Rattle.fancy_meaning.specs.Chars.{literal_takes}
+use Rattle.fancy_characters.specs.declared.folding.CaseiLiteral.{CaseiLiteral}
+
+-- the characters, each with whether it is folded
+abbrev pub literal_chars : CaseiLiteral → List (ℕ × Bool)
+literal_chars literal = literal.chars.items
+
+abbrev pub literal_unicode : CaseiLiteral → Bool
+literal_unicode literal = literal.unicode
+
+-- the tests of its characters, in order
+abbrev pub literal_tests : CaseiLiteral → List (ℕ → Bool)
+literal_tests literal = map (λ d. literal_takes (literal_unicode literal) d.0 d.1) (literal_chars literal)

@@ -1,0 +1,128 @@
+//! A class of characters that `regex` has compiled.
+
+ghost use Rattle.std.specs.Prelude.{◌≡◌, ℕ, ◌<◌, ◌++◌, false, is_some, slice_index_or, encode_utf8, string_bytes, IfOk, IfErr, IsTrue};
+ghost use Rattle.regex.specs.Patterns.{find_str};
+ghost use Rattle.regex.specs.Strings.{regex_pattern, matcher_pattern};
+ghost use Rattle.fancy_meaning.specs.Chars as meant;
+ghost use Rattle.fancy_characters.specs.ClassTexts.{ClassText, compiled_text, IsRegexOf, AreAnswersOf};
+
+use fancy_expr::error::{CompileError, Error};
+use regex::{Matcher, Regex};
+use std::alloc::{AllocError, Global};
+use std::marker::Model;
+
+/// The regex of a class, and its answers for the ASCII characters.
+#[derive(Drop)]
+pub struct CompiledClass {
+    regex: Regex,
+    casei: bool,
+    unicode: bool,
+    ascii: [bool; 128],
+}
+
+impl Model for CompiledClass {
+    ghost Value = { ClassText };
+
+    ghost view = { λ c. compiled_text c.regex c.casei c.unicode };
+
+    ghost invariant = { λ c. IsRegexOf (compiled_text c.regex c.casei c.unicode) c.regex
+        × AreAnswersOf (compiled_text c.regex c.casei c.unicode) c.ascii };
+}
+
+impl CompiledClass {
+    ghost use Rattle.fancy_characters.specs.Classes.{IsClassRefusal};
+
+    pub(crate) fn new(
+        alloc: Global,
+        name: &str,
+        casei: bool,
+        unicode: bool,
+    ) -> Result<CompiledClass, Error>
+        ensures class { IfOk result (λ c. c ≡ record { inner = name.now; casei = casei; unicode = unicode }) }
+        ensures is_class { IfOk result (λ _. IsTrue (meant.is_class unicode name.now casei)) }
+        ensures refused { IfErr result (IsClassRefusal unicode name.now casei) }
+    {
+        let pattern = class_pattern(alloc, name, casei, unicode)?;
+        let regex = match Regex::new(alloc, pattern.as_str()) {
+            Ok(regex) => regex,
+            Err(error) => match error {
+                regex::Error::OutOfMemory => return Err(Error::Memory),
+                regex::Error::Syntax(_) => {
+                    let text = String::from_str(alloc, name)?;
+                    return Err(Error::CompileError(CompileError::InnerError(text)));
+                }
+                _ => {
+                    let text = String::from_str(alloc, name)?;
+                    return Err(Error::CompileError(CompileError::ClassTooBig(text)));
+                }
+            },
+        };
+        let ascii = ascii_answers(alloc, &regex)?;
+        Ok(CompiledClass {
+            regex,
+            casei,
+            unicode,
+            ascii,
+        })
+    }
+
+    /// Whether the class holds the character.
+    pub(crate) fn takes(&self, alloc: Global, c: char) -> Result<bool, AllocError>
+        ensures { IfOk result (λ yes. yes ≡ meant.class_takes self.now.unicode self.now.inner self.now.casei c) }
+    {
+        if c.is_ascii() {
+            Ok(self.ascii[c as usize])
+        } else {
+            let mut matcher = self.regex.matcher(alloc)?;
+            Ok(ask(&mut matcher, c))
+        }
+    }
+}
+
+/// The pattern of the class with this text.
+fn class_pattern(
+    alloc: Global,
+    name: &str,
+    casei: bool,
+    unicode: bool,
+) -> Result<String, AllocError>
+    ensures { IfOk result (λ p. string_bytes p ≡ meant.class_pattern unicode name.now casei) }
+{
+    let mut pattern = String::from_str(alloc, "\\A")?;
+    pattern.push_str(opening(casei, unicode))?;
+    pattern.push_str(name)?;
+    pattern.push_str(")\\z")?;
+    Ok(pattern)
+}
+
+fn opening(casei: bool, unicode: bool) -> &'static str
+    ensures { result.now ≡ meant.class_opening unicode casei }
+{
+    if unicode {
+        if casei { "(?i:" } else { "(?:" }
+    } else {
+        if casei { "(?i-u:" } else { "(?-u:" }
+    }
+}
+
+/// What the regex answers for each ASCII character.
+fn ascii_answers(alloc: Global, regex: &Regex) -> Result<[bool; 128], AllocError>
+    ensures { IfOk result (λ answers. (c : ℕ) → c < 128 →
+        slice_index_or answers c false ≡ is_some (find_str (regex_pattern regex.now) (encode_utf8 c) 0)) }
+{
+    let mut matcher = regex.matcher(alloc)?;
+    let mut answers = [false; 128];
+    'ask: for c in 0..128u8 {
+        answers[c as usize] = ask(&mut matcher, c as char);
+    }
+    Ok(answers)
+}
+
+/// Whether the pattern matches the character.
+fn ask(matcher: &mut Matcher<'_>, c: char) -> bool
+    ensures found { result ≡ is_some (find_str (matcher_pattern matcher.old) (encode_utf8 c) 0) }
+    ensures same { matcher_pattern matcher.new ≡ matcher_pattern matcher.old }
+{
+    let mut bytes = [0; 4];
+    matcher.is_match(c.encode_utf8(&mut bytes))
+}

@@ -1,0 +1,124 @@
+-- What is known of a node, and of its children.
+use Rattle.std.proofs.Common.{◌≡◌, ℕ, zero, suc, ◌+◌, ◌<◌, ◌≤◌, List, [], ◌∷◌, length, map, drop, get_or, refl, sym, ap, ◌∙◌, subst, arith, add-one}
+use Rattle.std.proofs.Math.Seq.{drop-cons}
+use Rattle.fancy_meaning.specs.Tree.{Tree, trees, children}
+use Rattle.fancy_meaning.specs.Options.{Analysis}
+use Rattle.fancy_meaning.specs.Sizes.{size}
+use Rattle.fancy_tree.specs.declared.info.Info.{Info}
+use Rattle.fancy_tree.specs.declared.info.Info.TheViews.{out-Info}
+use Rattle.fancy_tree.specs.declared.info.Info.TheFolds.{fold_out-Info}
+use Rattle.fancy_expr.specs.declared.expr.Expr.{Expr}
+use Rattle.fancy_expr.specs.Exprs.{below}
+use Rattle.fancy_tree.specs.Infos.{info_tree, info_children, info_size, info_within, node_over, Each, IsFound, IsAnalysed}
+use Rattle.fancy_tree.proofs.Unfolded.{tree_out, each_here, each_below}
+use Rattle.fancy_compile.specs.declared.task.Task.{Task}
+use Rattle.fancy_compile.specs.Nodes.{total, size_step, node_count, IsWhole, AreWhole, IsKnown}
+
+-- ---- lists
+
+pub each_at : {X : Type 0} (P : X → Type 0) (l : List X) (i : ℕ) (x : X) → Each P l → i < length l → x ≡ get_or l i x → P x
+each_at P [] i x h lt e = absurd (omega arith)
+each_at P (y ∷ l) zero x h lt e = subst P (sym e) h.0
+each_at P (y ∷ l) (suc i) x h lt e = each_at P l i x h.1 (omega arith) e
+
+pub rest_at : {X : Type 0} (l : List X) (i : ℕ) (x : X) → i < length l → x ≡ get_or l i x → drop i l ≡ x ∷ drop (i + 1) l
+rest_at l i x h at = drop-cons l i x h ∙ ap (λ y. y ∷ drop (suc i) l) (sym at) ∙ ap (λ k. x ∷ drop k l) (sym (add-one i))
+
+pub only_one : (l : List Info) (d : Info) → length l ≡ 1 → d ≡ get_or l 0 d → l ≡ d ∷ []
+only_one [] d n e = absurd (omega arith)
+only_one (x ∷ []) d n e = ap (λ y. y ∷ []) (sym e)
+only_one (x ∷ y ∷ l) d n e = absurd (omega arith)
+
+pub only_three : (l : List Info) (c d e : Info) → length l ≡ 3 → c ≡ get_or l 0 c → d ≡ get_or l 1 d → e ≡ get_or l 2 e → l ≡ c ∷ d ∷ e ∷ []
+only_three [] c d e n p q r = absurd (omega arith)
+only_three (x ∷ []) c d e n p q r = absurd (omega arith)
+only_three (x ∷ y ∷ []) c d e n p q r = absurd (omega arith)
+only_three (x ∷ y ∷ z ∷ []) c d e n p q r = ap (λ v. v ∷ y ∷ z ∷ []) (sym p) ∙ ap (λ v. c ∷ v ∷ z ∷ []) (sym q) ∙ ap (λ v. c ∷ d ∷ v ∷ []) (sym r)
+only_three (x ∷ y ∷ z ∷ w ∷ l) c d e n p q r = absurd (omega arith)
+
+pub children_trees : (es : List Tree) → children (trees es) ≡ es
+children_trees [] = refl
+children_trees (e ∷ es) = ap (λ l. e ∷ l) (children_trees es)
+
+-- ---- how many nodes there are
+
+pub counted : (i : Info) → node_count i ≡ suc (total (map node_count (info_children i)))
+counted i = fold_out-Info ℕ size_step i
+
+pub child_count : (l : List Info) (i : ℕ) (x : Info) → i < length l → x ≡ get_or l i x → node_count x ≤ total (map node_count l)
+child_count [] i x h e = absurd (omega arith)
+child_count (y ∷ l) zero x h e = omega (arith, ap node_count e)
+child_count (y ∷ l) (suc i) x h e = omega (arith, child_count l i x (omega arith) e)
+
+-- ---- what is known
+
+pub known_child : (a : Analysis) (i : Info) → IsAnalysed a i → IsKnown a i
+known_child a i h = record { node = (each_here (IsFound a) i h).node; children = each_below (IsFound a) i h }
+
+module _ (task : Task) where
+  pub whole_below : (i : Info) → IsWhole task i → AreWhole task (info_children i)
+  whole_below i h = record { analysis = h.analysis; served = h.served; each = (h.known).children; small = omega (arith, counted i, h.small) }
+
+  pub whole_arity : (i : Info) → IsWhole task i → length (info_children i) ≡ length (below (out-Info i).expr.now)
+  whole_arity i h = ((h.known).node).arity
+
+  pub whole_at : (l : List Info) (i : ℕ) (x : Info) → AreWhole task l → i < length l → x ≡ get_or l i x → IsWhole task x
+  whole_at l i x h lt at = record { analysis = h.analysis; served = h.served; known = known_child h.analysis x (each_at (IsAnalysed h.analysis) l i x h.each lt at); small = omega (arith, child_count l i x lt at, h.small) }
+
+module _ (info : Info) where
+  -- the tree by this expression and these children
+  pub tree_by : (e : Expr) (l : List Info) → (out-Info info).expr.now ≡ e → info_children info ≡ l → info_tree info ≡ node_over e (out-Info info).start_group (info_within info) (trees (map info_tree l))
+  tree_by e l at kids =
+      tree_out info ∙ ap (λ x. node_over x (out-Info info).start_group (info_within info) (trees (map info_tree (info_children info)))) at
+      ∙ ap (λ m. node_over e (out-Info info).start_group (info_within info) (trees (map info_tree m))) kids
+
+  pub size_known : (a : Analysis) → IsKnown a info → info_size info ≡ size a.tree (info_tree info)
+  size_known a k = k.node.size ∙ ap (size a.tree) (sym (tree_out info))
+
+module _ (task : Task) (info : Info) where
+  -- a node over one other
+  module _ (d : Info) (e : Expr) (at : (out-Info info).expr.now ≡ e) (whole : IsWhole task info) (one : length (below e) ≡ 1) where
+    pub has_one : length (info_children info) ≡ 1
+    has_one = whole_arity task info whole ∙ ap (λ x. length (below x)) at ∙ one
+
+    pub only_child : d ≡ get_or (info_children info) 0 d → info_children info ≡ d ∷ []
+    only_child here = only_one (info_children info) d has_one here
+
+    -- its body is smaller and whole
+    pub smaller_child : d ≡ get_or (info_children info) 0 d → node_count d < node_count info
+    smaller_child here = omega (arith, counted info, has_one, child_count (info_children info) 0 d (omega (arith, has_one)) here)
+
+    pub whole_child : d ≡ get_or (info_children info) 0 d → IsWhole task d
+    whole_child here = whole_at task (info_children info) 0 d (whole_below task info whole) (omega (arith, has_one)) here
+
+    pub known_only : d ≡ get_or (info_children info) 0 d → (a : Analysis) → IsKnown a info → IsKnown a d
+    known_only here a k = known_child a d (each_at (IsAnalysed a) (info_children info) 0 d k.children (omega (arith, has_one)) here)
+
+  -- a node over three others
+  module _ (c d x : Info) (e : Expr) (at : (out-Info info).expr.now ≡ e) (whole : IsWhole task info) (three : length (below e) ≡ 3) (c_at : c ≡ get_or (info_children info) 0 c) (d_at : d ≡ get_or (info_children info) 1 d) (x_at : x ≡ get_or (info_children info) 2 x) where
+    pub has_three : length (info_children info) ≡ 3
+    has_three = whole_arity task info whole ∙ ap (λ y. length (below y)) at ∙ three
+
+    pub three_children : info_children info ≡ c ∷ d ∷ x ∷ []
+    three_children = only_three (info_children info) c d x has_three c_at d_at x_at
+
+    pub smaller_three : node_count c + node_count d + node_count x < node_count info
+    smaller_three = omega (arith, counted info, ap (λ l. total (map node_count l)) three_children)
+
+    pub whole_three : IsWhole task c × (IsWhole task d × IsWhole task x)
+    whole_three = (
+      whole_at task (info_children info) 0 c (whole_below task info whole) (omega (arith, has_three)) c_at,
+      (
+        whole_at task (info_children info) 1 d (whole_below task info whole) (omega (arith, has_three)) d_at,
+        whole_at task (info_children info) 2 x (whole_below task info whole) (omega (arith, has_three)) x_at,
+      ),
+    )
+
+    pub known_three : (a : Analysis) → IsKnown a info → IsKnown a c × (IsKnown a d × IsKnown a x)
+    known_three a k = (
+      known_child a c (each_at (IsAnalysed a) (info_children info) 0 c k.children (omega (arith, has_three)) c_at),
+      (
+        known_child a d (each_at (IsAnalysed a) (info_children info) 1 d k.children (omega (arith, has_three)) d_at),
+        known_child a x (each_at (IsAnalysed a) (info_children info) 2 x k.children (omega (arith, has_three)) x_at),
+      ),
+    )

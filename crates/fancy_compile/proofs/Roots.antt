@@ -1,0 +1,26 @@
+-- The root of an analysed tree.
+use Rattle.std.proofs.Common.{◌≡◌, ℕ, ◌+◌, ◌≤◌, if◌then◌else◌, sym, ap, ◌∙◌, arith}
+use Rattle.fancy_meaning.specs.Tree as plain
+use Rattle.fancy_meaning.specs.Nodes.{group_count}
+use Rattle.fancy_meaning.specs.Numbering.{numbered}
+use Rattle.fancy_meaning.specs.Premises.{Analysed, analysis}
+use Rattle.fancy_tree.specs.declared.info.Info.{Info}
+use Rattle.fancy_tree.specs.declared.info.Info.TheViews.{out-Info}
+use Rattle.fancy_tree.specs.Infos.{IsRoot}
+use Rattle.fancy_tree.proofs.Unfolded.{tree_out}
+use Rattle.fancy_tree.proofs.Numbered.{count-numbered}
+use Rattle.fancy_compile.specs.Nodes.{IsKnown}
+
+module _ (a : Analysed) (i : Info) (r : IsRoot (analysis a) i) where
+  pub root_known : IsKnown (analysis a) i
+  root_known = record { node = r.node; children = r.children }
+
+  pub root_count : (out-Info i).end_group ≡ (out-Info i).start_group + group_count ((analysis a).tree)
+  root_count = r.node.end_group ∙ ap (λ e. (out-Info i).start_group + group_count e) (sym (tree_out i) ∙ r.tree)
+
+  numbered_count : (n : ℕ) (e : plain.Tree) → group_count (numbered n e) ≡ group_count e
+  unfolding numbered
+  numbered_count n e = count-numbered plain.NoLook n e
+
+  pub few_groups : group_count ((analysis a).tree) ≤ 1_000_000
+  few_groups = omega (arith, numbered_count (if (a.options).explicit_capture_group_0 then 0 else 1) (a.parsed).tree, (a.well_formed).groups, (a.well_formed).not_too_many)

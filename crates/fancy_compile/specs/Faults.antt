@@ -1,0 +1,61 @@
+-- With which errors nodes that are written out are refused.
+use Rattle.std.specs.Prelude.{◌≡◌, ℕ, Bool, ◌<◌, ◌⊎◌, List, [], ◌∷◌, Some, IsTrue, string_bytes}
+use Rattle.fancy_meaning.specs.Tree.{Tree, Delegate, SubroutineCall}
+use Rattle.fancy_meaning.specs.Nodes.{target}
+use Rattle.fancy_meaning.specs.OpenCalls.{Depths, opened, call_depth}
+use Rattle.fancy_compile.specs.Sites.{Site}
+use Rattle.fancy_meaning.specs.AnalysisRefusals as plain
+use Rattle.fancy_meaning.specs.CompileRefusals.{IsAmong, written_parts, RefusesNode}
+use Rattle.fancy_expr.specs.declared.error.CompileError.{CompileError}
+use Rattle.fancy_expr.specs.declared.error.CompileError.TheVariants as code
+use Rattle.fancy_compile.specs.Kinds.{is_out_of_range}
+
+-- what an error stands for
+abbrev pub error_of : CompileError → plain.CompileError
+error_of code.NamedBackrefOnly = plain.NamedBackrefOnly
+error_of code.FeatureNotYetSupported = plain.FeatureNotYetSupported
+error_of code.SubroutineCallTargetNotFound = plain.SubroutineCallTargetNotFound
+error_of code.UnresolvedAstNode = plain.UnresolvedAstNode
+error_of (code.InvalidBackref g) = plain.InvalidBackref g
+error_of (code.LeftRecursiveSubroutineCall text) = plain.LeftRecursiveSubroutineCall (string_bytes text)
+error_of code.NeverEndingRecursion = plain.NeverEndingRecursion
+error_of code.VariableLookBehindRequiresFeature = plain.VariableLookBehindRequiresFeature
+error_of (code.InnerError text) = plain.InnerError (string_bytes text)
+error_of (code.ClassTooBig text) = plain.ClassTooBig (string_bytes text)
+error_of code.PatternTooComplex = plain.PatternTooComplex
+
+-- the node is written out with the other, where these calls are calls
+pub data IsBelow (whole : Tree) : Depths → Tree → Tree → Type 0 where
+  itself : {calls : Depths} {e : Tree} → IsBelow whole calls e e
+  below : {calls : Depths} {d c e : Tree} → IsAmong c (written_parts d) → IsBelow whole calls c e → IsBelow whole calls d e
+  through : {calls : Depths} {g : ℕ} {body e : Tree} → calls g < call_depth → target whole g ≡ Some body → IsBelow whole (opened g calls) body e → IsBelow whole calls (SubroutineCall g) e
+
+module _ (p : Site) where
+  -- the error with which a node is refused by itself
+  pub data Rejects : Tree → plain.CompileError → Type 0 where
+    refused : {e : Tree} {x : plain.CompileError} → RefusesNode p.plan e x → Rejects e x
+    out_of_range : {e : Tree} → IsTrue (is_out_of_range e) → Rejects e plain.FeatureNotYetSupported
+
+  -- with which it may be refused
+  pub data MayReject : Tree → plain.CompileError → Type 0 where
+    rejected : {e : Tree} {x : plain.CompileError} → Rejects e x → MayReject e x
+    too_big : {inner : List ℕ} {casei : Bool} → MayReject (Delegate inner casei) (plain.ClassTooBig inner)
+
+  -- no node that is written out with this one is refused
+  abbrev pub IsAccepted : Tree → Type 0
+  IsAccepted e = (d : Tree) → IsBelow p.analysis.tree p.depths e d → (x : plain.CompileError) → ¬ Rejects d x
+
+  abbrev pub AreAccepted : List Tree → Type 0
+  AreAccepted [] = Unit {0}
+  AreAccepted (e ∷ es) = IsAccepted e × AreAccepted es
+
+  -- a node that is written out with this one is refused
+  pub record IsRejected (e : Tree) (x : plain.CompileError) : Type 0 where
+    pub node : Tree
+    pub is_below : IsBelow p.analysis.tree p.depths e node
+    pub rejects : MayReject node x
+
+  -- with one of these
+  abbrev pub HasRejected : List Tree → plain.CompileError → Type 0
+  HasRejected [] x = ⊥
+  HasRejected (e ∷ es) x = IsRejected e x ⊎ HasRejected es x

@@ -1,0 +1,10 @@
+pub mod Kinds
+pub mod Sites
+pub mod OpenTasks
+pub mod Faults
+pub mod Drafts
+pub mod Arounds
+pub mod Nodes
+pub mod Targets
+pub mod Compiled
+pub mod ClassKeys

@@ -1,0 +1,182 @@
+//! From an analysed tree to a program.
+
+ghost use Rattle.std.specs.Prelude.{◌≡◌, ◌≤◌, ◌^◌, ◌*◌, ◌∷◌, [], ◌+◌, None, if◌then◌else◌, true, false};
+ghost use Rattle.fancy_meaning.specs.Layout.{edge_code, end_text_code, program_code, search_code};
+ghost use Rattle.fancy_meaning.specs.Options.{Plan};
+ghost use Rattle.fancy_meaning.specs.Options as plain;
+ghost use Rattle.fancy_meaning.specs.Nodes.{group_count};
+ghost use Rattle.fancy_meaning.specs.Premises.{Analysed, analysis};
+ghost use Rattle.fancy_compile.specs.Compiled.{Compiles, IsWritingOf, MayCompile, mode_of, plan_with};
+ghost use Rattle.fancy_compile.specs.Drafts.{Writes, draft_of, no_node};
+ghost use Rattle.fancy_compile.specs.Nodes.{IsMade, IsServed};
+ghost use Rattle.fancy_tree.specs.Infos.{IsRoot};
+ghost use Rattle.fancy_compile.specs.Sites.{Site, top};
+
+use crate::compiler::Compiler;
+pub use crate::options::{BytesMode, CompileOptions};
+use crate::shared::SharedClasses;
+use crate::task::{Groups, Task};
+use fancy_machine::vm::{Insn, Prog, ProgParts};
+use fancy_tree::error::{CompileError, Error};
+use fancy_tree::info::Info;
+use std::alloc::Global;
+
+fn is_unicode(mode: BytesMode) -> bool
+    ensures yes { result ≡ true → mode_of mode ≡ plain.Unicode }
+    ensures no { result ≡ false → ¬ (mode_of mode ≡ plain.Unicode) }
+{
+    match mode {
+        BytesMode::Ascii => false,
+        BytesMode::Unicode => true,
+        BytesMode::UnicodeBytes => false,
+    }
+}
+
+/// How many groups there are.
+fn total_groups(info: &Info) -> usize
+    requires { (a : Analysed) × IsRoot (analysis a) info.now }
+    ensures value { (a : Analysed) → IsRoot (analysis a) info.now → result ≡ group_count (analysis a).tree }
+    ensures small { result ≤ 1_000_000 }
+{
+    info.end_group() - info.start_group()
+}
+
+/// The number of the first group.
+fn first_number(explicit_group_0: bool) -> usize
+    ensures { result ≡ (if explicit_group_0 then 0 else 1) }
+{
+    if explicit_group_0 { 0 } else { 1 }
+}
+
+/// The first slot that is no group's, nor that of the text-end flag.
+fn first_fresh(total_groups: usize, explicit_group_0: bool, end_text: bool) -> usize
+    requires { total_groups ≤ 1_000_000 }
+    ensures value { result ≡ 2 * (if explicit_group_0 then total_groups else total_groups + 1) + (if end_text then 1 else 0) }
+    ensures small { result ≤ 2 ^ 62 }
+{
+    let numbers = total_groups + if explicit_group_0 { 0 } else { 1 };
+    2 * numbers + if end_text { 1 } else { 0 }
+}
+
+impl Compiler {
+    /// The search for a start.
+    fn emit_search(&mut self, anchored: bool)
+        ensures { (p : Site) → p.anchored ≡ anchored → Writes p (search_code p.plan no_node) [] (draft_of self.old) (draft_of self.new) }
+    {
+        if anchored {
+            return;
+        }
+        self.push(Insn::SplitUnanchored(3, 1));
+        self.push(Insn::Any);
+        self.push(Insn::Jmp(0));
+    }
+
+    /// An end of the match, where no group of the tree keeps it.
+    fn emit_edge(&mut self, explicit_group_0: bool, slot: usize)
+        ensures { (p : Site)
+            → (p.analysis.options).explicit_capture_group_0 ≡ explicit_group_0
+            → Writes p (edge_code p.plan no_node slot) [] (draft_of self.old) (draft_of self.new) }
+    {
+        if !explicit_group_0 {
+            self.push(Insn::Save(slot));
+        }
+    }
+
+    fn emit_end_text(&mut self, end_text: bool)
+        ensures { (p : Site) → p.end_text ≡ end_text → Writes p (end_text_code p.plan no_node) [] (draft_of self.old) (draft_of self.new) }
+    {
+        if end_text {
+            self.push(Insn::RejectEmptyMatchAtEOFFollowingNewline);
+        }
+    }
+
+    /// The whole program.
+    fn emit_program(&mut self, task: &Task, anchored: bool, end_text: bool)
+        requires whole { IsMade task.now }
+        requires begins { task.now.calls ≡ None }
+        ensures { (p : Plan)
+            → p.unicode ≡ task.now.unicode
+            → p.anchored ≡ anchored
+            → p.end_text ≡ end_text
+            → IsServed p.analysis task.now
+            → Writes (top p) (program_code p no_node) (p.analysis.tree ∷ []) (draft_of self.old) (draft_of self.new) }
+    {
+        let explicit = task.root.explicit_capture_group_0();
+        self.emit_search(anchored);
+        self.emit_edge(explicit, 0);
+        self.emit(task, task.root, true);
+        self.emit_edge(explicit, 1);
+        self.emit_end_text(end_text);
+        self.push(Insn::End);
+    }
+
+    /// The program with its instructions, where there was no fault.
+    fn finish(self, info: &Info, options: CompileOptions) -> Result<Prog, Error>
+        requires { (a : Analysed)
+            × MayCompile a info.now options
+            × ((plan_with a options).bytes_mode ≡ plain.Unicode)
+            × IsWritingOf (plan_with a options) (draft_of self) }
+        ensures { (a : Analysed)
+            → MayCompile a info.now options
+            → (plan_with a options).bytes_mode ≡ plain.Unicode
+            → IsWritingOf (plan_with a options) (draft_of self)
+            → Compiles (plan_with a options) result }
+    {
+        let Compiler {
+            code,
+            fresh: slots,
+            fault,
+            ..
+        } = self;
+        match fault {
+            Some(error) => return Err(error),
+            None => {}
+        }
+        let parts = ProgParts {
+            max_size: info.max_size(),
+            total_groups: total_groups(info),
+            slots: slots.max(2),
+            explicit_group_0: info.explicit_capture_group_0(),
+            find_not_empty: info.find_not_empty(),
+            end_text: options.disallow_empty_match_at_eof_after_newline,
+            unicode: options.unicode,
+        };
+        Ok(Prog::new(code, parts))
+    }
+}
+
+/// The program of an analysed tree, by the layout of "docs/LAYOUT.md" with every node written out: nothing is left to a plain search yet.
+///
+/// `info` is the root that `analyze` answered, and the end-of-text option is set only where the analysis knew of it. What is written out is
+/// refused as `Error::CompileError`: as `FeatureNotYetSupported` an existence condition with a recursion level, a control verb but `Fail`, an
+/// absent part but a repeater, and one in the hard body of a repeater; as `VariableLookBehindRequiresFeature` a look-behind of no constant
+/// size; as `SubroutineCallTargetNotFound` a call of a group that is not there; as `InnerError` or `ClassTooBig` a class text that `regex`
+/// refuses. `FeatureNotYetSupported` is also any bytes mode but `Unicode`, and `PatternTooComplex` an instruction more than `max_prog_size`.
+/// Want of memory is `Error::Memory`.
+pub fn compile(alloc: Global, info: &Info, options: CompileOptions) -> Result<Prog, Error>
+    requires { (a : Analysed) × MayCompile a info.now options }
+    ensures { (a : Analysed) → MayCompile a info.now options → Compiles (plan_with a options) result }
+{
+    if !is_unicode(options.bytes_mode) {
+        return Err(Error::CompileError(CompileError::FeatureNotYetSupported));
+    }
+    let explicit_group_0 = info.explicit_capture_group_0();
+    let end_text = options.disallow_empty_match_at_eof_after_newline;
+    let groups = Groups::of(alloc, info, first_number(explicit_group_0))?;
+    let task = Task {
+        alloc,
+        unicode: options.unicode,
+        root: info,
+        groups: &groups,
+        calls: None,
+    };
+    let mut compiler = Compiler {
+        code: Vec::new(alloc),
+        fresh: first_fresh(total_groups(info), explicit_group_0, end_text),
+        limit: options.max_prog_size,
+        fault: None,
+        classes: SharedClasses::new(alloc),
+    };
+    compiler.emit_program(&task, options.anchored, end_text);
+    compiler.finish(info, options)
+}

@@ -1,0 +1,6 @@
+pub mod Exprs
+pub mod AbsentTests
+pub mod Walks
+pub mod SoundNodes
+pub mod Groups
+pub mod Listed

@@ -1,0 +1,4 @@
+pub mod Views
+pub mod Exprs
+pub mod Questions
+pub mod Sound

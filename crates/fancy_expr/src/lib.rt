@@ -1,0 +1,9 @@
+//! Trees that are searched for, the test whether one may be handed in, and the errors of the engine.
+#![tactic(auto)]
+
+pub mod error;
+pub mod expr;
+pub mod nodes;
+pub mod parts;
+mod sound;
+pub mod well_formed;

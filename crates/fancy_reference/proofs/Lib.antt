@@ -1,0 +1,11 @@
+pub mod StateLaws
+pub mod NodeLaws
+pub mod TextLaws
+pub mod MoveLaws
+pub mod ListLaws
+pub mod PlaceLaws
+pub mod WaysLaws
+pub mod NodeWays
+pub mod AnswerLaws
+pub mod GroupLaws
+pub mod Sizes

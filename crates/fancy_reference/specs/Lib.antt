@@ -1,0 +1,5 @@
+pub mod States
+pub mod Nodes
+pub mod Refusals
+pub mod Searches
+pub mod Asked
