@@ -1,4 +1,4 @@
-//! Memory that is refused, and memory that is used again. Where one request for memory is refused (`rt try --test --fail-alloc 1..`), a
+//! Memory that is refused, and memory that is used again. Where one request for memory is refused (`rt try --test --fail-alloc N`), a
 //! call ends by its answer or by `Memory`, and the same call made again gives the answer: so each test here passes whichever it is.
 
 use crate::searches::compiled;
