@@ -1,14 +1,17 @@
 -- From what `regex` ensures to the class of a text.
-use Rattle.std.proofs.Common.{◌≡◌, ℕ, zero, suc, ◌+◌, ◌/◌, ◌%◌, ◌<◌, ◌≤◌, Bool, true, false, List, [], ◌∷◌, ◌++◌, length, take, get_or, codes, refl, sym, ap, subst, ◌∙◌, arith, Option, Some, None, is_some, encode_utf8, IsSomeAnd, IfSome, option_and_then, if◌then◌else◌, nat_le, le-leb, inl, inr, ◌≢◌, SomeIff, set, slice_index_or}
+use Rattle.std.proofs.Common.{◌≡◌, ℕ, zero, suc, ◌+◌, ◌/◌, ◌%◌, ◌<◌, ◌≤◌, Bool, true, false, List, [], ◌∷◌, ◌++◌, length, take, get_or, codes, refl, sym, ap, subst, ◌∙◌, arith, Option, Some, None, Result, Ok, Err, is_some, encode_utf8, IsSomeAnd, IfSome, option_and_then, if◌then◌else◌, nat_le, le-leb, inl, inr, ◌≢◌, SomeIff, set, slice_index_or}
 use Rattle.std.proofs.Math.Seq.{take-append_seam}
 use Rattle.std.proofs.lemmas.Bool.{cases_lt}
 use Rattle.std.proofs.lemmas.Bool.Decides.{nat_tests}
 use Rattle.std.proofs.lemmas.Grind.{get_or-set_at}
 use Rattle.std.proofs.lemmas.List.{length-append, get_or-set_other}
 use Rattle.std.proofs.lemmas.Str.{encode_ascii}
-use Rattle.std.specs.Char.{IsScalar}
+use Rattle.std.specs.Char.{IsScalar, is_ascii}
+use Rattle.std.specs.Result.{IfOk}
 use Rattle.regex_hir.proofs.Utf8Lemmas.{encode_two, encode_three, encode_four, InScalarRange-of_IsScalar}
+use Rattle.regex_class.specs.declared.Class.{Class}
 use Rattle.regex_hir.specs.Find.{find_str}
+use Rattle.regex_hir.specs.declared.hir.Hir.{Hir}
 use Rattle.regex_hir.specs.Meaning.{meaning}
 use Rattle.regex_hir.specs.Re.{Re}
 use Rattle.regex_syntax.specs.Brackets.{Nested}
@@ -26,8 +29,9 @@ use Rattle.regex.specs.declared.error.Error.TheVariants.{Syntax}
 use Rattle.regex.specs.Strings.{regex_source, regex_config, regex_pattern, IsReadFromSource}
 use Rattle.regex.specs.declared.string.regex.Regex.{Regex}
 use Rattle.regex.proofs.ForCallers.{is_match_alike}
-use Rattle.fancy_meaning.specs.Chars.{class_pattern, class_takes, is_class}
-use Rattle.fancy_characters.specs.ClassTexts.{ClassText, text_in, compiled_text, IsRegexOf}
+use Rattle.fancy_meaning.specs.Chars.{class_pattern, class_takes, is_class, pattern_in}
+use Rattle.fancy_characters.specs.Members.{AreMembersOf, AreMembersIn}
+use Rattle.fancy_characters.specs.ClassTexts.{ClassText, text_in, compiled_text, IsRegexOf, ListsMembers}
 
 -- ---- the class text in its pattern
 
@@ -96,6 +100,15 @@ matches_as_read : (a : Re) (names : Names) (o : Read) → IsReadAs a names o →
 matches_as_read a names None h hay bytes = absurd h
 matches_as_read a names (Some x) h hay bytes = rw (le-leb x.0.depth most h.0) (is_match_alike h.1 hay bytes true 0)
 
+pub members_as_read : {E : Type 0} (text : List ℕ) (hir : Hir) (names : Names) → Reads default_config text hir names → (made : Result (Option Class) E) →
+    IfOk made (λ found. IfSome found (λ class. AreMembersOf (meaning hir) class.ranges.items)) →
+    IfOk made (λ found. IfSome found (λ class. AreMembersIn (pattern_in text) class.ranges.items))
+unfolding Reads
+members_as_read text hir names reads (Ok None) of = of
+members_as_read text hir names reads (Ok (Some class)) of =
+    λ c beyond scalar. of c beyond scalar ∙ matches_as_read (meaning hir) names _ reads (encode_utf8 c) (encoded_below c scalar)
+members_as_read text hir names reads (Err e) of = of
+
 is_within : (a : Re) (names : Names) (o : Read) → IsReadAs a names o → is_some (within o) ≡ true
 is_within a names None h = absurd h
 is_within a names (Some x) h = rw (le-leb x.0.depth most h.0) refl
@@ -108,6 +121,12 @@ module _ (unicode : Bool) (inner : List ℕ) (casei : Bool) where
   pub class_of_pattern : IsPattern default_config (class_pattern unicode inner casei) → is_class unicode inner casei ≡ true
   unfolding is_class Reads
   class_of_pattern (hir, names, reads) = is_within (meaning hir) names _ reads
+
+  pub lists_members : (source : List ℕ) → source ≡ class_pattern unicode inner casei → (found : Option Class) →
+      IfSome found (λ class. AreMembersIn (pattern_in source) class.ranges.items) →
+      ListsMembers (record { inner = inner; casei = casei; unicode = unicode }) found
+  unfolding class_takes
+  lists_members source same found of = subst (λ text. IfSome found (λ class. AreMembersIn (pattern_in text) class.ranges.items)) same of
 
   pub no_class_of_refusal : (kind : ErrorKind) → kind ≢ OutOfMemory → Refuses default_config (class_pattern unicode inner casei) kind →
       is_class unicode inner casei ≡ false
@@ -153,6 +172,9 @@ module _ (r : Regex) (unicode : Bool) (inner : List ℕ) (casei : Bool) (source 
 
 pub ascii_character : (c : ℕ) → c < 128 → IsScalar c
 ascii_character c h = grind (arith, nat_tests)
+
+pub beyond_ascii : (c : ℕ) → is_ascii c ≡ false → 128 ≤ c
+beyond_ascii c h = grind (arith, nat_tests, h)
 
 pub one_more_answer : (f : ℕ → Bool) (answers : List Bool) (c : ℕ) (b : Bool) → c < length answers → b ≡ f c →
     ((k : ℕ) → k < c → slice_index_or answers k false ≡ f k) → (k : ℕ) → k < c + 1 → slice_index_or (set answers c b) k false ≡ f k

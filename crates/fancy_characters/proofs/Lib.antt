@@ -2,5 +2,6 @@ pub mod RestLaws
 pub mod LookLaws
 pub mod SpellingLaws
 pub mod FoldingLaws
-pub mod PiecesLaws
+pub mod PlacesLaws
 pub mod ClassLaws
+pub mod MembersLaws

@@ -1,8 +1,10 @@
 -- A class by its text, and the pattern that `regex` compiles for it.
-use Rattle.std.specs.Prelude.{◌≡◌, ℕ, ◌+◌, ◌-◌, ◌<◌, Bool, false, List, length, slice_range, slice_index_or}
+use Rattle.std.specs.Prelude.{◌≡◌, ℕ, ◌+◌, ◌-◌, ◌<◌, Bool, false, List, length, slice_range, slice_index_or, Option, IfSome}
 use Rattle.regex.specs.Strings.{regex_source, regex_config, IsReadFromSource}
 use Rattle.regex.specs.declared.string.regex.Regex.{Regex}
 use Rattle.regex_syntax.specs.Verdict.{default_config}
+use Rattle.regex_class.specs.declared.Class.{Class}
+use Rattle.fancy_characters.specs.Members.{AreMembersBy}
 use Rattle.fancy_meaning.specs.Chars.{class_opening, class_pattern, class_takes}
 
 pub record ClassText : Type 0 where
@@ -26,3 +28,7 @@ pub record IsRegexOf (t : ClassText) (regex : Regex) : Type 0 where
 -- the answers for ASCII characters are those of the class
 abbrev pub AreAnswersOf : ClassText → List Bool → Type 0
 AreAnswersOf t answers = (c : ℕ) → c < 128 → slice_index_or answers c false ≡ class_takes t.unicode t.inner t.casei c
+
+-- the ranges, if there are some, hold the other characters of the class
+abbrev pub ListsMembers : ClassText → Option Class → Type 0
+ListsMembers t listed = IfSome listed (λ class. AreMembersBy (class_takes t.unicode t.inner t.casei) class.ranges.items)

@@ -1,3 +1,4 @@
 pub mod ClassTexts
 pub mod Classes
 pub mod Literals
+pub mod Members

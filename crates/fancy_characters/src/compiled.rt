@@ -4,20 +4,23 @@ ghost use Rattle.std.specs.Prelude.{◌≡◌, ℕ, ◌<◌, ◌++◌, false, is
 ghost use Rattle.regex.specs.Patterns.{find_str};
 ghost use Rattle.regex.specs.Strings.{regex_pattern, matcher_pattern};
 ghost use Rattle.fancy_meaning.specs.Chars as meant;
-ghost use Rattle.fancy_characters.specs.ClassTexts.{ClassText, compiled_text, IsRegexOf, AreAnswersOf};
+ghost use Rattle.fancy_characters.specs.ClassTexts.{ClassText, compiled_text, IsRegexOf, AreAnswersOf, ListsMembers};
 
+use crate::members::members;
 use fancy_expr::error::{CompileError, Error};
 use regex::{Matcher, Regex};
+use regex_class::Class;
 use std::alloc::{AllocError, Global};
 use std::marker::Model;
 
-/// The regex of a class, and its answers for the ASCII characters.
+/// The regex of a class, its answers for the ASCII characters, and its other members, if its pattern lists them.
 #[derive(Drop)]
 pub struct CompiledClass {
     regex: Regex,
     casei: bool,
     unicode: bool,
     ascii: [bool; 128],
+    beyond_ascii: Option<Class>,
 }
 
 impl Model for CompiledClass {
@@ -26,7 +29,8 @@ impl Model for CompiledClass {
     ghost view = { λ c. compiled_text c.regex c.casei c.unicode };
 
     ghost invariant = { λ c. IsRegexOf (compiled_text c.regex c.casei c.unicode) c.regex
-        × AreAnswersOf (compiled_text c.regex c.casei c.unicode) c.ascii };
+        × AreAnswersOf (compiled_text c.regex c.casei c.unicode) c.ascii
+        × ListsMembers (compiled_text c.regex c.casei c.unicode) c.beyond_ascii };
 }
 
 impl CompiledClass {
@@ -58,11 +62,13 @@ impl CompiledClass {
             },
         };
         let ascii = ascii_answers(alloc, &regex)?;
+        let beyond_ascii = members(alloc, pattern.as_str())?;
         Ok(CompiledClass {
             regex,
             casei,
             unicode,
             ascii,
+            beyond_ascii,
         })
     }
 
@@ -71,10 +77,11 @@ impl CompiledClass {
         ensures { IfOk result (λ yes. yes ≡ meant.class_takes self.now.unicode self.now.inner self.now.casei c) }
     {
         if c.is_ascii() {
-            Ok(self.ascii[c as usize])
-        } else {
-            let mut matcher = self.regex.matcher(alloc)?;
-            Ok(ask(&mut matcher, c))
+            return Ok(self.ascii[c as usize]);
+        }
+        match &self.beyond_ascii {
+            Some(members) => Ok(members.contains(c as u32)),
+            None => Ok(ask(&mut self.regex.matcher(alloc)?, c)),
         }
     }
 }

@@ -5,5 +5,7 @@ pub mod classes;
 mod compiled;
 mod folding;
 pub mod look;
+mod members;
 mod pieces;
+pub mod places;
 mod spelling;

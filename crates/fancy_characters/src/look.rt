@@ -4,9 +4,8 @@ ghost use Rattle.std.specs.Prelude.{◌≡◌, ◌==◌, ◌||◌, ◌&&◌};
 ghost use Rattle.fancy_meaning.specs.Assertions as meant;
 ghost use Rattle.fancy_meaning.specs.Chars.{is_word};
 ghost use Rattle.fancy_expr.specs.Views.{assertion_of};
-ghost use Rattle.regex_hir.specs.Text as text;
-ghost use Rattle.regex_hir.specs.Text.{is_some_and};
 
+use crate::places::{is_after, is_before};
 use fancy_expr::expr::Assertion;
 use regex_nfa::{char_at, char_before, is_word_byte};
 use ucd_perl::is_word_code;
@@ -58,28 +57,6 @@ fn differ(a: bool, b: bool) -> bool
     ensures { result ≡ meant.differ a b }
 {
     if a { !b } else { b }
-}
-
-/// The byte `c` ends at the place.
-fn is_after(text: &[u8], ix: usize, c: u8) -> bool
-    ensures { result ≡ meant.is_after text.now ix c }
-{
-    if ix == 0 {
-        false
-    } else {
-        is_before(text, ix - 1, c)
-    }
-}
-
-/// The byte `c` stands at the place.
-fn is_before(text: &[u8], ix: usize, c: u8) -> bool
-    ensures { result ≡ meant.is_before text.now ix c }
-{
-    if ix < text.len() {
-        text[ix] == c
-    } else {
-        false
-    }
 }
 
 fn is_line_start(text: &[u8], ix: usize, crlf: bool) -> bool

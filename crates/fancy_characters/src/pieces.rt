@@ -3,12 +3,11 @@
 ghost use Rattle.std.specs.Prelude.{◌≡◌, true, slice_range};
 ghost use Rattle.std.specs.List.{list_all};
 ghost use Rattle.std.specs.Char.{is_ascii, eq_ignore_ascii_case};
-ghost use Rattle.regex_hir.specs.Text.{has_bytes_at};
 ghost use lib.Pointwise.{pointwise};
-ghost use Rattle.fancy_meaning.specs.Places as places;
 ghost use Rattle.fancy_meaning.specs.Moves as moves;
 
 use crate::folding::spell_fold_equal;
+use crate::places::{is_place, past_bytes};
 
 /// Past the piece from `from` to `to` once more; folded, past another piece of as many bytes.
 pub fn past_piece(
@@ -93,37 +92,4 @@ fn ascii_fold_equal(a: &[u8], b: &[u8]) -> bool
         }
     }
     true
-}
-
-/// Whether a character begins at the place, or the text ends there.
-fn is_place(text: &[u8], ix: usize) -> bool
-    ensures { result ≡ places.is_place text.now ix }
-{
-    if ix < text.len() {
-        !(0x80 <= text[ix] && text[ix] <= 0xBF)
-    } else {
-        ix == text.len()
-    }
-}
-
-/// Past these bytes.
-fn past_bytes(text: &[u8], bytes: &[u8], ix: usize) -> Option<usize>
-    ensures { result ≡ moves.past_bytes text.now bytes.now ix }
-{
-    if stand_at(text, bytes, ix) {
-        Some(ix + bytes.len())
-    } else {
-        None
-    }
-}
-
-/// Whether the bytes stand at the place.
-fn stand_at(text: &[u8], bytes: &[u8], ix: usize) -> bool
-    ensures { result ≡ has_bytes_at text.now ix bytes.now }
-{
-    if ix <= text.len() {
-        text[ix..].starts_with(bytes)
-    } else {
-        bytes.is_empty()
-    }
 }

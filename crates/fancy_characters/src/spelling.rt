@@ -5,7 +5,7 @@ ghost use Rattle.std.specs.Char as char;
 ghost use Rattle.std.specs.Str.{chars, continuation_len, lead_bits};
 
 /// How many bytes a character takes in UTF-8.
-pub(crate) fn len_utf8(c: u32) -> usize
+pub fn len_utf8(c: u32) -> usize
     ensures { result ≡ char.len_utf8 c }
 {
     if c < 0x80 {

@@ -69,4 +69,5 @@ module _ (p : Plan) where
   -- the whole program was written, from nothing
   abbrev pub IsWritingOf : Draft → Type 0
   IsWritingOf t =
-      Writes (top p) (program_code p no_node) (p.analysis.tree ∷ []) (record { instrs = []; fresh = first_fresh p no_node; limit = p.max_prog_size; fault = None }) t
+      Writes (top p) (program_code p no_node) (p.analysis.tree ∷ [])
+      (record { instrs = []; fresh = first_fresh p no_node; limit = p.max_prog_size; fault = None }) t

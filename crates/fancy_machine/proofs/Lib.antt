@@ -2,7 +2,7 @@ pub mod BranchesLaws
 pub mod FitsLaws
 pub mod NumbersLaws
 pub mod StepLaws
-pub mod TextLaws
+pub mod BackLaws
 pub mod OldLaws
 pub mod CellLaws
 pub mod HeldLaws

@@ -10,8 +10,8 @@ ghost use Rattle.fancy_machine.specs.Refused.{IsMemory};
 
 use crate::insn::Prog;
 use crate::machine::{MAX_BRANCHES, Machine, Next, Task};
-use crate::moves::is_place;
 use crate::state::State;
+use fancy_characters::places::is_place;
 use fancy_tree::error::{Error, RuntimeError};
 use std::alloc::Global;
 

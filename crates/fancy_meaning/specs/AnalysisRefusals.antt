@@ -74,14 +74,16 @@ module _ (p : ParsedTree) (options : AnalysisOptions) where
 
   -- each case but the one that asks whether another holds
   pub data RefusesBeforeEnd : CompileError → Type 0 where
-    named_groups_with_numbers : IsTrue (p.numbered_groups_ignored && p.numeric_capture_group_references) → ¬ (p.named_groups ≡ []) → RefusesBeforeEnd NamedBackrefOnly
+    named_groups_with_numbers : IsTrue (p.numbered_groups_ignored && p.numeric_capture_group_references) →
+        ¬ (p.named_groups ≡ []) → RefusesBeforeEnd NamedBackrefOnly
     reference_to_0 : Has tree (is_back_to 0) → RefusesBeforeEnd (InvalidBackref 0)
     reference_after_call : (g : ℕ) → ReadsAfterCall tree g → RefusesBeforeEnd FeatureNotYetSupported
     unresolved_call : Contains (nodes tree) (AstNode UnresolvedCall) → RefusesBeforeEnd SubroutineCallTargetNotFound
     unresolved_node : Contains (nodes tree) (AstNode UnresolvedOther) → RefusesBeforeEnd UnresolvedAstNode
     reference_with_level : Has tree has_level → RefusesBeforeEnd FeatureNotYetSupported
     group_out_of_range : (g : ℕ) → Has tree (refers g) → IsTrue (is_no_group g) → RefusesBeforeEnd (InvalidBackref g)
-    left_recursion : (g : ℕ) (text : List ℕ) → IsLeastLeftRecursive tree g → Describes p.named_groups g text → RefusesBeforeEnd (LeftRecursiveSubroutineCall text)
+    left_recursion : (g : ℕ) (text : List ℕ) → IsLeastLeftRecursive tree g → Describes p.named_groups g text →
+        RefusesBeforeEnd (LeftRecursiveSubroutineCall text)
 
   -- the error with which `analyze` may refuse, and does refuse with one of them
   pub data AnalysisRefuses : CompileError → Type 0 where

@@ -67,7 +67,8 @@ module _ (p : Plan) where
   pub data RefusesNode : Tree → CompileError → Type 0 where
     existence_with_level : {g : ℕ} {level : _} → RefusesNode (BackrefExists g (Some level)) FeatureNotYetSupported
     control_verb : {verb : Verb} → verb ≢ Fail → RefusesNode (Control verb) FeatureNotYetSupported
-    absent_in_hard_repeater : {e : Tree} → IsTrue (is_hard p.analysis e) → IsTrue (list_any is_absent (nodes e)) → RefusesNode (AbsentRepeater e) FeatureNotYetSupported
+    absent_in_hard_repeater : {e : Tree} → IsTrue (is_hard p.analysis e) → IsTrue (list_any is_absent (nodes e)) →
+        RefusesNode (AbsentRepeater e) FeatureNotYetSupported
     absent_other : {e : Tree} → IsTrue (is_absent e) → ((d : Tree) → e ≢ AbsentRepeater d) → RefusesNode e FeatureNotYetSupported
     variable_lookbehind : {look : Look} {e : Tree} → IsVariableLookbehind look e → RefusesNode (LookAround look e) VariableLookBehindRequiresFeature
     missing_group : {g : ℕ} → target p.analysis.tree g ≡ None → RefusesNode (SubroutineCall g) SubroutineCallTargetNotFound

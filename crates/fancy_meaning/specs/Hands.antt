@@ -66,9 +66,12 @@ module _ (t : Task) where
     pub marks : c.marks ≡ (part.entry).marks
     pub start : c.start ≡ (part.entry).start
     pub stands : Stands c s
-    pub keeps : (k : ℕ) → flag_slot t.program + bit (t.program).end_text ≤ k → (k < part.taken_from) ⊎ (part.taken_to ≤ k) → c.slots k ≡ (part.entry).slots k
+    pub keeps : (k : ℕ) → flag_slot t.program + bit (t.program).end_text ≤ k → (k < part.taken_from) ⊎ (part.taken_to ≤ k) →
+        c.slots k ≡ (part.entry).slots k
 
   -- the part is left with these states in turn, and after the last it fails into the branches below
   pub data Hands (part : Stretch) : Next → List MatchState → Type 0 where
     no_more : {from : Next} (d : Config) → d.start ≡ (part.entry).start → Leads from (fail_to t (part.entry).branches d) → Hands part from []
-    next_way : {from : Next} {s : MatchState} {ss : List MatchState} (c : Config) (own : List _) → Leads from (Goes c) → IsLeft part s c own → ((d : Config) → d.start ≡ c.start → Hands part (fail_to t c.branches d) ss) → Hands part from (s ∷ ss)
+    next_way : {from : Next} {s : MatchState} {ss : List MatchState} (c : Config) (own : List _) → Leads from (Goes c) →
+        IsLeft part s c own → ((d : Config) → d.start ≡ c.start → Hands part (fail_to t c.branches d) ss) →
+        Hands part from (s ∷ ss)

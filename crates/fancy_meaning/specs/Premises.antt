@@ -71,4 +71,5 @@ pub record IsSpan (text : List ℕ) (span : Span) : Type 0 where
 pub record IsSound (q : Setting) (whole : Tree) (s : MatchState) : Type 0 where
   pub place : IsTrue (is_place q.text s.place)
   pub spans : (g : ℕ) (span : Span) → s.captures g ≡ Some span → IsSpan q.text span
-  pub sizes : (g : ℕ) (span : Span) → is_read whole g ≡ true → s.captures g ≡ Some span → IsSized (size_of_group (known_of whole) g) (chars_between q.text span.0 span.1)
+  pub sizes : (g : ℕ) (span : Span) → is_read whole g ≡ true → s.captures g ≡ Some span →
+      IsSized (size_of_group (known_of whole) g) (chars_between q.text span.0 span.1)

@@ -126,7 +126,8 @@ mutual
         Spells z u e →
         Takes closing u tt v →
         SpellsForm (form.Repeat greedy) x v (plain.Repeat lo hi greedy e)
-    set : {x y z : Point} {casei : Bool} {inner : List ℕ} → Takes class x inner y → Takes closing y tt z → SpellsForm (form.Set casei) x z (plain.Delegate inner casei)
+    set : {x y z : Point} {casei : Bool} {inner : List ℕ} → Takes class x inner y → Takes closing y tt z →
+        SpellsForm (form.Set casei) x z (plain.Delegate inner casei)
     bytes : {x y : Point} {bs : List ℕ} → SpellsBytes x y bs → SpellsForm form.Bytes x y (plain.LiteralBytes bs)
     names : {x y z : Point} {f : Naming} {g : ℕ} → Takes (in_word number_of) x g y → Takes closing y tt z → SpellsForm (form.Naming f) x z (named f g)
     names_at : {x y z u : Point} {f : Leveled} {g : ℕ} {l : ℤ} →
@@ -150,7 +151,8 @@ mutual
   -- none or more expressions, and the closing parenthesis after them; in a sequence a quoted text gives its literals
   pub data SpellsParts : Bool → Point → Point → List Tree → Type 0 where
     no_part : {splices : Bool} {x y : Point} → Takes closing x tt y → SpellsParts splices x y []
-    spliced : {x y z : Point} {folded : Bool} {bytes : List ℕ} {es : List Tree} → Takes quoted x (folded, bytes) y → SpellsParts true y z es → SpellsParts true x z (parts_of_text folded bytes ++ es)
+    spliced : {x y z : Point} {folded : Bool} {bytes : List ℕ} {es : List Tree} → Takes quoted x (folded, bytes) y →
+        SpellsParts true y z es → SpellsParts true x z (parts_of_text folded bytes ++ es)
     part : {splices : Bool} {x y z : Point} {e : Tree} {es : List Tree} →
         (splices ≡ true → is_at_text x.tokens ≡ false) →
         Spells x y e →

@@ -58,7 +58,8 @@ ReadsToken gives view old new (Err e) = IsFaultHere old e × (first_gives gives 
 -- the word of a form is passed, and a group counted; or it is no such word, or a group too many
 abbrev pub ReadsHead : Reader → Reader → Result Form Error → Type 0
 ReadsHead old new (Ok f) =
-    (after : Point) × Takes (in_word (head_word old.groups)) (point_of old) (f, new.groups) after × ((point_of new).tokens ≡ after.tokens) × (new.end ≡ old.end)
+    (after : Point) × Takes (in_word (head_word old.groups)) (point_of old) (f, new.groups) after
+    × ((point_of new).tokens ≡ after.tokens) × (new.end ≡ old.end)
 ReadsHead old new (Err e) = IsFaultHere old e × (first_gives (in_word (head_word old.groups)) (point_of old).tokens ≡ None)
 
 -- what is wanted is not there, in the first token that cannot stand

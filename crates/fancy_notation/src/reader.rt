@@ -17,12 +17,10 @@ ghost use Rattle.fancy_notation.specs.Reading.{next_token, next_word, first_give
 use crate::forms::{Enclosing, Form, Leveled, Naming};
 use crate::tokens::{Placed, Token};
 use crate::words::{bound, byte, count, form, leaf, level, number, verb};
+use fancy_expr::well_formed::MOST_GROUPS;
 use fancy_tree::error::Error;
 use fancy_tree::expr::{Absent, BacktrackingControlVerb, Expr};
 use std::alloc::Global;
-
-/// So many groups a tree may have.
-pub const MOST_GROUPS: usize = 1_000_000;
 
 /// What is left to read.
 #[derive(Drop)]

@@ -1,6 +1,5 @@
 pub mod StateLaws
 pub mod NodeLaws
-pub mod TextLaws
 pub mod MoveLaws
 pub mod ListLaws
 pub mod PlaceLaws

@@ -12,9 +12,10 @@ ghost use Rattle.fancy_reference.specs.Refusals.{IsRefusal};
 ghost use Rattle.fancy_reference.specs.States.{state_of, states_of};
 
 use crate::lists::{only, same, same_if};
-use crate::moves::{past_any, past_chars, past_class, past_literal, past_newline};
+use crate::moves::{past_chars, past_class, past_literal, past_newline};
 use crate::nodes::Node;
 use crate::states::State;
+use fancy_characters::places::past_any;
 use fancy_tree::classes::past_piece;
 use fancy_tree::error::Error;
 use fancy_tree::expr::{Assertion, Expr};
@@ -156,7 +157,7 @@ impl<'a> Search<'a> {
             Expr::Empty => Ok(same(alloc, state)?),
             Expr::DefineGroup { .. } => Ok(same(alloc, state)?),
             Expr::Any { newline, crlf } => {
-                Ok(self.moved(state, past_any(text, *newline, *crlf, ix))?)
+                Ok(self.moved(state, past_any(text.as_bytes(), *newline, *crlf, ix))?)
             }
             Expr::Assertion(assertion) => {
                 Ok(self.asserted(assertion_within(within, *assertion), state)?)

@@ -1,48 +1,19 @@
 //! What is taken from a text: from a place the place after it, if it stands there.
 
-ghost use Rattle.std.specs.Prelude.{◌≡◌, ◌-◌, ◌==◌, List, map, nat_eq, true, false, suc, length, IfOk, IfErr};
-ghost use Rattle.std.specs.Char as char;
-ghost use Rattle.fancy_meaning.specs.Chars.{any_takes, class_takes, literal_takes};
+ghost use Rattle.std.specs.Prelude.{◌≡◌, ◌-◌, List, map, nat_eq, true, false, suc, length, IfOk, IfErr};
+ghost use Rattle.fancy_meaning.specs.Chars.{class_takes, literal_takes};
 ghost use Rattle.fancy_meaning.specs.Moves as moves;
 ghost use Rattle.fancy_meaning.specs.Places as places;
-ghost use Rattle.regex_hir.specs.Text.{byte_before, has_bytes_at, is_some_and};
 ghost use Rattle.fancy_meaning.specs.Machine.{class_test};
 ghost use Rattle.fancy_characters.specs.Classes.{class_of};
 ghost use Rattle.fancy_characters.specs.Literals.{literal_tests};
 ghost use Rattle.fancy_expr.specs.declared.error.Error.TheVariants.{Memory};
 ghost use Rattle.fancy_reference.specs.Refusals.{IsRefusal, is_inner, is_no_class};
 
+use fancy_characters::places::{is_place, stand_at};
 use fancy_tree::classes::{CaseiLiteral, CharClassMatcher};
 use fancy_tree::error::{CompileError, Error};
-use regex_nfa::char_at;
 use std::alloc::{AllocError, Global};
-
-/// How many bytes a character takes in UTF-8.
-fn len_utf8(c: u32) -> usize
-    ensures { result ≡ char.len_utf8 c }
-{
-    if c < 0x80 {
-        1
-    } else if c < 0x800 {
-        2
-    } else if c < 0x1_0000 {
-        3
-    } else {
-        4
-    }
-}
-
-/// Past one character; an LF only with `newline`, and with `crlf` a CR only so too.
-pub(crate) fn past_any(text: &str, newline: bool, crlf: bool, ix: usize) -> Option<usize>
-    ensures { result ≡ moves.past_char text.now (any_takes newline crlf) ix }
-{
-    let c = char_at(text.as_bytes(), ix)?;
-    if newline || !(c == 10 || (crlf && c == 13)) {
-        Some(ix + len_utf8(c))
-    } else {
-        None
-    }
-}
 
 /// Past the character `c`, or where it is folded a character equal to it.
 pub(crate) fn past_literal(
@@ -162,28 +133,6 @@ pub(crate) fn past_newline(
     }
 }
 
-/// The bytes stand at the place.
-fn stand_at(text: &[u8], bytes: &[u8], ix: usize) -> bool
-    ensures { result ≡ has_bytes_at text.now ix bytes.now }
-{
-    if ix <= text.len() {
-        text[ix..].starts_with(bytes)
-    } else {
-        bytes.is_empty()
-    }
-}
-
-/// A character begins at the place, or the text ends there.
-fn is_place(text: &[u8], ix: usize) -> bool
-    ensures { result ≡ places.is_place text.now ix }
-{
-    if ix < text.len() {
-        !(0x80 <= text[ix] && text[ix] <= 0xBF)
-    } else {
-        ix == text.len()
-    }
-}
-
 /// The places from `ix` on, to the end.
 pub(crate) fn places_from(alloc: Global, text: &str, ix: usize) -> Result<Vec<usize>, AllocError>
     ensures { IfOk result (λ found. found.items ≡ places.places_from text.now ix) }
@@ -216,18 +165,4 @@ pub(crate) fn places_back(alloc: Global, text: &str, ix: usize) -> Result<Vec<us
         }
         at -= 1;
     }
-}
-
-/// An LF ends at the place.
-pub(crate) fn is_after_newline(text: &str, ix: usize) -> bool
-    ensures { result ≡ is_some_and (byte_before text.now ix) (λ b. b == 10) }
-{
-    let bytes = text.as_bytes();
-    if ix == 0 {
-        return false;
-    }
-    if ix > bytes.len() {
-        return false;
-    }
-    bytes[ix - 1] == 10
 }

@@ -15,10 +15,11 @@ ghost use Rattle.fancy_reference.specs.States.{state_of, states_of};
 
 use crate::calls::{CALL_DEPTH, Calls};
 use crate::leaves::Search;
-use crate::moves::{is_after_newline, places_from};
+use crate::moves::places_from;
 use crate::nodes::Node;
 use crate::options::SearchOptions;
 use crate::states::State;
+use fancy_characters::places::is_after;
 use fancy_tree::error::Error;
 use fancy_tree::expr::ExprTree;
 use fancy_tree::info::Within;
@@ -29,7 +30,7 @@ fn is_admitted(options: &SearchOptions, text: &str, start: usize, state: &State)
     ensures { result ≡ is_admitted (asked plain.Empty options.now text.now) start (state_of state.now) }
 {
     let is_empty = state.place == start;
-    let is_at_end = state.place == text.len() && is_after_newline(text, state.place);
+    let is_at_end = state.place == text.len() && is_after(text.as_bytes(), state.place, b'\n');
     !(options.not_empty && is_empty)
         && !(options.end_text && (is_at_end && is_empty) && !state.text_end)
 }

@@ -86,13 +86,19 @@ with_limit a l most = when (not (is_limited a l)) (limited a l most)
 abbrev mutual
   pub with_options : Arguments → List Text → Option Arguments
   with_options a [] = Some a
-  with_options a (w ∷ ws) = elim (found flags w) [ Some f ↦ elim (with_flag a f) [ Some b ↦ with_options b ws | None ↦ None ] | None ↦ with_number a (found limits w) ws ]
+  with_options a (w ∷ ws) = elim (found flags w) [
+    | Some f ↦ elim (with_flag a f) [ Some b ↦ with_options b ws | None ↦ None ]
+    | None ↦ with_number a (found limits w) ws
+  ]
 
   -- an option that a number follows
   pub with_number : Arguments → Option Limit → List Text → Option Arguments
   with_number a None ws = None
   with_number a (Some l) [] = None
-  with_number a (Some l) (w ∷ ws) = elim (number_of w) [ Some most ↦ elim (with_limit a l most) [ Some b ↦ with_options b ws | None ↦ None ] | None ↦ None ]
+  with_number a (Some l) (w ∷ ws) = elim (number_of w) [
+    | Some most ↦ elim (with_limit a l most) [ Some b ↦ with_options b ws | None ↦ None ]
+    | None ↦ None
+  ]
 
 -- what the words after TREE and TEXT say: a place, where the first one is a number, and options
 abbrev pub arguments_of : List Text → Option Arguments

@@ -56,7 +56,8 @@ module _ (q : line.Question) where
     unread : {e : Error} → IsFaultOf q.tree e → Finds (Err e)
     refused : {e : Error} {t : ExprTree} → IsRead q.tree t → IsRefusedAs (parsed_of t) (options_of (analysis q.arguments)) e → Finds (Err e)
     not_compiled : {e : Error} {t : ExprTree} → (read : IsRead q.tree t) → Compiles (plan t read) (Err e) → Finds (Err e)
-    ran : {answer : Result (Option (Vec ℕ Global)) Error} {t : ExprTree} {program : Prog} → (read : IsRead q.tree t) → Compiles (plan t read) (Ok program) → Answers (machine.run (task program)) answer → Finds answer
+    ran : {answer : Result (Option (Vec ℕ Global)) Error} {t : ExprTree} {program : Prog} → (read : IsRead q.tree t) →
+        Compiles (plan t read) (Ok program) → Answers (machine.run (task program)) answer → Finds answer
 
   -- the line of the answer, or why there is none
   abbrev pub Shows : Result (String Global) Error → Type 0
@@ -67,7 +68,9 @@ module _ (q : line.Question) where
 -- and the status.
 pub data Performs (words : List Text) (out out' err err' : Option Text) : ℕ → Type 0 where
   misused : question_of words ≡ None → out' ≡ out → Appends err err' usage_line → Performs words out out' err err' 2
-  answered : {q : line.Question} {answer : Option (Vec ℕ Global)} → question_of words ≡ Some q → Finds q (Ok answer) → Appends out out' (answer_line answer) → err' ≡ err → Performs words out out' err err' 0
-  refused : {q : line.Question} {e : Error} → question_of words ≡ Some q → Finds q (Err e) → Appends out out' (error_line e) → err' ≡ err → Performs words out out' err err' 1
+  answered : {q : line.Question} {answer : Option (Vec ℕ Global)} → question_of words ≡ Some q → Finds q (Ok answer) →
+      Appends out out' (answer_line answer) → err' ≡ err → Performs words out out' err err' 0
+  refused : {q : line.Question} {e : Error} → question_of words ≡ Some q → Finds q (Err e) →
+      Appends out out' (error_line e) → err' ≡ err → Performs words out out' err err' 1
   -- a write failed
   not_written : Performs words out out' err err' 3

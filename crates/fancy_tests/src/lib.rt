@@ -4,8 +4,6 @@
 #[cfg(test)]
 mod answers;
 #[cfg(test)]
-mod characters;
-#[cfg(test)]
 mod comparison;
 #[cfg(test)]
 mod layouts;
@@ -14,16 +12,6 @@ mod long_texts;
 #[cfg(test)]
 mod memory;
 #[cfg(test)]
-mod notation;
-#[cfg(test)]
 mod program;
 #[cfg(test)]
-mod programs;
-#[cfg(test)]
 mod searches;
-#[cfg(test)]
-mod sizes;
-#[cfg(test)]
-mod states;
-#[cfg(test)]
-mod trees;

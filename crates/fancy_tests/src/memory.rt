@@ -2,6 +2,7 @@
 //! call ends by its answer or by `Memory`, and the same call made again gives the answer: so each test here passes whichever it is.
 
 use crate::searches::compiled;
+use fancy_machine_tests::again;
 use fancy_regex_engine::analyze::AnalyzeContext;
 use fancy_regex_engine::compile::CompileOptions;
 use fancy_regex_engine::error::{CompileError, Error};
@@ -10,18 +11,6 @@ use fancy_regex_engine::vm::{Prog, RunOptions, Scratch, run, run_default, run_sp
 use std::alloc::Global;
 use std::process::Abort;
 use std::test::Fail;
-
-/// The call, made again where memory was refused.
-macro_rules! again {
-    ($call:expr) => {
-        match $call {
-            Err(Error::Memory) => $call,
-            answer => answer,
-        }
-    };
-}
-
-pub(crate) use again;
 
 /// TREE, TEXT, and the numbers of the first match.
 type Row = (&'static str, &'static str, &'static [usize]);

@@ -120,4 +120,6 @@ pub record IsMade (t : Task) (e : Expr) (start end : ℕ) (w : plain.Within) (ch
   pub end_group : (out-Info info).end_group ≡ end
   pub within : info_within info ≡ w
   pub size : length children ≡ length (below e) → Each (IsSized (task_known t)) children → IsSized (task_known t) info
-  pub found : (a : Analysis) → Suits a t → length children ≡ length (below e) → Each (IsSized (task_known t)) children → Each (IsAnalysed a) children → AreInTurn (within_inside e w) (start_inside e start) children → end ≡ start + group_count (info_tree info) → IsAnalysed a info
+  pub found : (a : Analysis) → Suits a t → length children ≡ length (below e) → Each (IsSized (task_known t)) children →
+      Each (IsAnalysed a) children → AreInTurn (within_inside e w) (start_inside e start) children →
+      end ≡ start + group_count (info_tree info) → IsAnalysed a info

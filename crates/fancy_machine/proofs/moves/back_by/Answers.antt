@@ -1,6 +1,6 @@
 use Rattle.std.proofs.Common.{arith, sym, ◌∙◌, ap, ◌-◌}
 use Rattle.fancy_meaning.specs.Places as place
-use Rattle.fancy_machine.proofs.TextLaws.{back_here, back_on, back_over, back_out, back_out_on}
+use Rattle.fancy_machine.proofs.BackLaws.{back_here, back_on, back_over, back_out, back_out_on}
 use Rattle.fancy_machine.proofs.moves.back_by.Goals as goal
 use Rattle.fancy_machine.proofs.moves.back_by.Goals.{then-is_place+else-left-eq0, else-is_place}
 

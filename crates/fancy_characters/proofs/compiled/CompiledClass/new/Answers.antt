@@ -1,6 +1,6 @@
 use Rattle.std.proofs.Common.{sym, subst, ◌∙◌}
-use Rattle.fancy_characters.proofs.ClassLaws.{no_class_of_error, class_of_error, answers_class, class_of_regex, compiled_is, regex_of, ascii_character}
-use Rattle.fancy_characters.specs.ClassTexts.{ClassText, IsRegexOf, AreAnswersOf}
+use Rattle.fancy_characters.proofs.ClassLaws.{no_class_of_error, class_of_error, answers_class, class_of_regex, lists_members, compiled_is, regex_of, ascii_character}
+use Rattle.fancy_characters.specs.ClassTexts.{ClassText, IsRegexOf, AreAnswersOf, ListsMembers}
 use Rattle.fancy_characters.proofs.compiled.CompiledClass.new.Goals as goal
 
 pub returns-in-Syntax-clause-refused : goal.returns-in-Syntax-clause-refused
@@ -27,7 +27,11 @@ invariant_of-result c =
     let text : ClassText = record { inner = name; casei = casei; unicode = unicode } in
     let of_text = regex_of regex unicode name casei source c.in-Ok.ensures.config c.in-Ok.ensures.read in
     let answers : AreAnswersOf text c.in_ok-ascii.ascii = λ k h. c.in_ok-ascii.ensures k h ∙ answers_class regex text of_text k (ascii_character k h) in
-    subst (λ t. IsRegexOf t regex × AreAnswersOf t c.in_ok-ascii.ascii) (sym (compiled_is regex unicode name casei source)) (of_text, answers)
+    let beyond = c.in_ok-beyond_ascii.beyond_ascii in
+    let again = c.as_str-2.ensures.value ∙ c.in_ok-pattern.ensures in
+    let members = lists_members unicode name casei c.as_str-2.result.now again beyond c.in_ok-beyond_ascii.ensures in
+    subst (λ t. IsRegexOf t regex × AreAnswersOf t c.in_ok-ascii.ascii × ListsMembers t beyond) (sym (compiled_is regex unicode name casei source))
+    (of_text, answers, members)
 
 pub returns-clause-class : goal.returns-clause-class
 returns-clause-class c =

@@ -1,0 +1,65 @@
+//! One search from the text of a tree to its numbers, made twice, after a number of requests for memory: the script `refuse` has one request
+//! refused, and moves it through the search by that number.
+#![tactic(auto)]
+
+use fancy_regex_engine::analyze::{AnalyzeContext, analyze};
+use fancy_regex_engine::compile::{CompileOptions, compile};
+use fancy_regex_engine::error::Error;
+use fancy_regex_engine::expr::read_tree;
+use fancy_regex_engine::vm::{Prog, RunOptions, Scratch, run};
+use std::alloc::{AllocError, Global};
+use std::{env, io};
+
+/// Asks for memory this many times.
+fn spend(alloc: Global, times: usize) -> Result<(), AllocError> {
+    for number in 0..times {
+        let mut memory = Vec::new(alloc);
+        memory.push(number)?;
+    }
+    Ok(())
+}
+
+/// The program of a tree, with default options.
+fn compiled(alloc: Global, tree: &str) -> Result<Prog, Error> {
+    let tree = read_tree(alloc, tree)?;
+    let info = analyze(alloc, &tree, AnalyzeContext::default())?;
+    compile(alloc, &info, CompileOptions::default())
+}
+
+/// The numbers of the first match, with default options.
+fn search(alloc: Global, tree: &str, text: &str) -> Result<Option<Vec<usize>>, Error> {
+    let prog = compiled(alloc, tree)?;
+    let options = RunOptions::default();
+    if !options.fits(&prog, text) {
+        return Ok(None);
+    }
+    run(alloc, &prog, text, &options, &mut Scratch::new(alloc))
+}
+
+fn print_outcome(rt: &impl Print, outcome: &Result<Option<Vec<usize>>, Error>) -> io::Result<()> {
+    match outcome {
+        Ok(Some(numbers)) => println!(rt; "{numbers:?}"),
+        Ok(None) => println!(rt; "none"),
+        Err(Error::Memory) => println!(rt; "memory"),
+        Err(error) => println!(rt; "{error}"),
+    }
+}
+
+/// The words are the number of requests to make first, TREE and TEXT. Prints `spent` where one of those is refused, and then for each of the
+/// two searches its numbers, or `memory`.
+fn main(rt: HostRuntime) -> io::Result<()> {
+    let mut words = env::args(&rt)?.skip(1);
+    let (Some(times), Some(tree), Some(text)) = (words.next(), words.next(), words.next()) else {
+        return eprintln!(rt; "usage: fancy_memory NUMBER TREE TEXT");
+    };
+    let Ok(times) = times.as_str().parse::<usize>() else {
+        return eprintln!(rt; "{times} is no number");
+    };
+    if spend(rt.alloc(), times).is_err() {
+        println!(rt; "spent")?;
+    }
+    for _round in 0..2 {
+        print_outcome(&rt, &search(rt.alloc(), tree.as_str(), text.as_str()))?;
+    }
+    Ok(())
+}
