@@ -5,13 +5,12 @@ use Rattle.std.proofs.lemmas.List.{length-map}
 use Rattle.std.proofs.lemmas.List.{drop_all}
 use Rattle.fancy_meaning.specs.Tree as plain
 use Rattle.fancy_meaning.specs.Tree.{Tree, Trees, none, more, trees, parts, Within, AbsentRepeater}
-use Rattle.fancy_meaning.specs.Nodes.{nodes, nodes_of_each}
+use Rattle.fancy_meaning.specs.Nodes.{nodes, nodes_of_each, is_absent}
 use Rattle.fancy_meaning.specs.AnalysisRefusals as refusal
 use Rattle.fancy_meaning.specs.CompileRefusals.{absent_in_hard_repeater, absent_other}
 use Rattle.fancy_meaning.specs.Code.{Code, nothing}
 use Rattle.fancy_meaning.specs.Constructs.{absent_code}
 use Rattle.fancy_meaning.specs.Hard.{is_hard}
-use Rattle.fancy_meaning.specs.Layout.{is_absent}
 use Rattle.fancy_meaning.specs.Options.{Analysis}
 use Rattle.fancy_compile.specs.Sites.{Site}
 use Rattle.fancy_expr.specs.declared.expr.Absent.{Absent}

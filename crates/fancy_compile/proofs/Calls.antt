@@ -24,7 +24,7 @@ use Rattle.fancy_compile.specs.declared.task.OpenCall.{OpenCall}
 use Rattle.fancy_compile.specs.declared.task.OpenCall.TheViews.{roll-OpenCall}
 use Rattle.fancy_compile.specs.OpenTasks.{depths_in, depths_of}
 use Rattle.fancy_compile.specs.Sites.{Site, under_call}
-use Rattle.fancy_compile.specs.Faults.{IsBelow, itself, below, through, Rejects, MayReject, rejected, too_big, refused, out_of_range, IsAccepted, HasRejected}
+use Rattle.fancy_compile.specs.Faults.{IsBelow, itself, below, through, Rejects, MayReject, rejected, too_big, refused, out_of_range, IsCompilable, HasRejected}
 use Rattle.fancy_compile.specs.Drafts.{Draft, Breaks, Turns, Adds, Writes, no_node, hard_code}
 use Rattle.fancy_compile.specs.Nodes.{IsServed, IsTaskOf, work, work_by, node_count}
 use Rattle.fancy_compile.proofs.Writing.{adds_to}
@@ -49,7 +49,7 @@ module _ (p : Site) (g : ℕ) (b : Tree) (at : target p.analysis.tree g ≡ Some
 
   -- ---- a call of what is open too often
 
-  full_accepted : call_depth ≤ p.depths g → IsAccepted p (SubroutineCall g)
+  full_accepted : call_depth ≤ p.depths g → IsCompilable p (SubroutineCall g)
   full_accepted full d itself x r = call_fine x r
   full_accepted full d (below i h) x r = elim i [ ]
   full_accepted full d (through lt there h) x r = absurd (omega (arith, full, lt))
@@ -81,7 +81,7 @@ module _ (p : Site) (g : ℕ) (b : Tree) (at : target p.analysis.tree g ≡ Some
     rejects_in d x (refused r) = refused r
     rejects_in d x (out_of_range i) = out_of_range i
 
-    open_accepted : IsAccepted inside b → IsAccepted p (SubroutineCall g)
+    open_accepted : IsCompilable inside b → IsCompilable p (SubroutineCall g)
     open_accepted ok d itself x r = call_fine x r
     open_accepted ok d (below i h) x r = elim i [ ]
     open_accepted ok d (through {body = c} lt there h) x r = ok d (subst (λ e. IsBelow p.analysis.tree (opened g p.depths) e d) (sym (same_body c there)) h) x (rejects_in d x r)

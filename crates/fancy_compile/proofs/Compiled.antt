@@ -19,7 +19,7 @@ use Rattle.fancy_expr.specs.declared.error.Error.{Error}
 use Rattle.fancy_expr.specs.declared.error.Error.TheVariants as error
 use Rattle.fancy_compile.specs.Kinds.{is_out_of_range}
 use Rattle.fancy_compile.specs.Faults as faults
-use Rattle.fancy_compile.specs.Faults.{MayReject, rejected, error_of, IsBelow, itself, below, through, Rejects, refused, out_of_range, IsAccepted}
+use Rattle.fancy_compile.specs.Faults.{MayReject, rejected, error_of, IsBelow, itself, below, through, Rejects, refused, out_of_range, IsCompilable}
 use Rattle.fancy_compile.specs.Drafts.{Draft, IsOver, Extends, Breaks, Turns, Writes, no_node}
 use Rattle.fancy_compile.specs.Compiled.{refuses, too_big, Refuses, MayAnswer, Compiles}
 
@@ -80,7 +80,7 @@ module _ (p : Plan) where
   refused_at ranged e x w (rejected (out_of_range h)) = absurd (ranged e w h)
   refused_at ranged e x w (faults.too_big {casei = casei}) = too_big (casei, w)
 
-  refused_over : (most : Option ℕ) → p.max_prog_size ≡ most → IsOver most (length laid.instrs) → CompileRefuses p (undelegated_layout p) refusal.PatternTooComplex
+  refused_over : (most : Option ℕ) → p.max_prog_size ≡ most → IsOver most (length laid.instrs) → CompileRefuses p (length (undelegated_layout p).body) refusal.PatternTooComplex
   refused_over None same h = absurd h
   refused_over (Some most) same h = too_long same (omega (arith, h, ap length body_is))
 
@@ -100,7 +100,7 @@ module _ (p : Plan) where
   small_enough : (most : ℕ) → p.max_prog_size ≡ Some most → ForSome p.max_prog_size (λ n. length laid.instrs ≤ n) → length laid.instrs ≤ most
   small_enough most same h = h most same
 
-  pub none_refused : IsAccepted (top p) whole → ForSome p.max_prog_size (λ n. length laid.instrs ≤ n) → p.bytes_mode ≡ plain.Unicode → (x : refusal.CompileError) → ¬ Refuses p x
+  pub none_refused : IsCompilable (top p) whole → ForSome p.max_prog_size (λ n. length laid.instrs ≤ n) → p.bytes_mode ≡ plain.Unicode → (x : refusal.CompileError) → ¬ Refuses p x
   none_refused ok small mode x (refused_node {e = e} w r) = ok e (below_written e w) x (refused r)
   none_refused ok small mode x (too_long {most = most} same long) = absurd (omega (arith, long, ap length body_is, small_enough most same small))
   none_refused ok small mode x (bytes_mode h) = h mode
@@ -113,7 +113,7 @@ module _ (p : Plan) where
   pub broken : AllInRange → (t : Draft) (x : Error) → Writes (top p) (program_code p no_node) (whole ∷ []) (start (first_fresh p no_node)) t → t.fault ≡ Some x → Compiles p (Err x)
   broken ranged t x h is = refused_breaks ranged (start (first_fresh p no_node)) refl refl x (subst (Turns (top p) laid (whole ∷ []) (start (first_fresh p no_node)) t None) is h.turns)
 
-  pub written : (t : Draft) → Writes (top p) (program_code p no_node) (whole ∷ []) (start (first_fresh p no_node)) t → t.fault ≡ None → Extends laid (start (first_fresh p no_node)) t × IsAccepted (top p) whole
+  pub written : (t : Draft) → Writes (top p) (program_code p no_node) (whole ∷ []) (start (first_fresh p no_node)) t → t.fault ≡ None → Extends laid (start (first_fresh p no_node)) t × IsCompilable (top p) whole
   written t h is =
       let done = subst (Turns (top p) laid (whole ∷ []) (start (first_fresh p no_node)) t None) is h.turns in
       (done.0, done.1.0)

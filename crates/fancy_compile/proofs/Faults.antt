@@ -6,7 +6,7 @@ use Rattle.fancy_compile.specs.Sites.{Site}
 use Rattle.fancy_meaning.specs.AnalysisRefusals as plain
 use Rattle.fancy_expr.specs.declared.error.Error.{Error}
 use Rattle.fancy_expr.specs.declared.error.Error.TheVariants as error
-use Rattle.fancy_compile.specs.Faults.{AreAccepted, HasRejected}
+use Rattle.fancy_compile.specs.Faults.{AreCompilable, HasRejected}
 use Rattle.fancy_compile.specs.Drafts.{Draft, IsOver, Breaks}
 
 pub over_more : (limit : Option ℕ) (m n : ℕ) → m ≤ n → IsOver limit m → IsOver limit n
@@ -14,7 +14,7 @@ over_more None m n le h = h
 over_more (Some most) m n le h = omega (arith, le, h)
 
 module _ (p : Site) where
-  pub all_accepted : (es ds : List Tree) → AreAccepted p es → AreAccepted p ds → AreAccepted p (es ++ ds)
+  pub all_accepted : (es ds : List Tree) → AreCompilable p es → AreCompilable p ds → AreCompilable p (es ++ ds)
   all_accepted [] ds a b = b
   all_accepted (e ∷ es) ds a b = (a.0, all_accepted es ds a.1 b)
 

@@ -5,7 +5,7 @@ use Rattle.fancy_meaning.specs.Code.{Code, Laid, nothing, ◌>>◌}
 use Rattle.fancy_compile.specs.Sites.{Site}
 use Rattle.fancy_expr.specs.declared.error.Error.{Error}
 use Rattle.fancy_compile.specs.Drafts.{Draft, IsOver, Extends, Breaks, Turns, Adds, Writes}
-use Rattle.fancy_compile.specs.Faults.{AreAccepted, HasRejected}
+use Rattle.fancy_compile.specs.Faults.{AreCompilable, HasRejected}
 use Rattle.fancy_compile.proofs.Faults.{all_accepted, rejected_first, rejected_second, over_more, breaks_by}
 
 pub extended_length : (a : Laid) (s t : Draft) → Extends a s t → length t.instrs ≡ length s.instrs + length a.instrs
@@ -32,7 +32,7 @@ module _ (p : Site) where
 
   -- ---- one stretch as another, which writes other nodes
 
-  module _ (a c : Laid) (es ds : List Tree) (s u v : Draft) (over : length a.instrs ≤ length c.instrs) (extends : Extends a s u → Extends c s v) (accepted : AreAccepted p es → AreAccepted p ds) (rejected : (x : _) → HasRejected p es x → HasRejected p ds x) where
+  module _ (a c : Laid) (es ds : List Tree) (s u v : Draft) (over : length a.instrs ≤ length c.instrs) (extends : Extends a s u → Extends c s v) (accepted : AreCompilable p es → AreCompilable p ds) (rejected : (x : _) → HasRejected p es x → HasRejected p ds x) where
     turns_to : (fs fu : Option Error) → Turns p a es s u fs fu → Turns p c ds s v fs fu
     turns_to None None h = (extends h.0, accepted h.1)
     turns_to None (Some x) h = breaks_by p c a ds es s s (over_more s.limit _ _ (omega (arith, over))) rejected x h

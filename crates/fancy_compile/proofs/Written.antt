@@ -6,15 +6,15 @@ use Rattle.fancy_meaning.specs.Code.{Laid}
 use Rattle.fancy_compile.specs.Sites.{Site}
 use Rattle.fancy_meaning.specs.AnalysisRefusals as refusal
 use Rattle.fancy_meaning.specs.CompileRefusals.{is_behind, IsAmong, here, there, written_parts, existence_with_level, control_verb, absent_in_hard_repeater, absent_other, variable_lookbehind, missing_group, no_class}
-use Rattle.fancy_meaning.specs.Layout.{is_absent}
+use Rattle.fancy_meaning.specs.Nodes.{is_absent}
 use Rattle.fancy_meaning.specs.WellFormed.{is_call}
 use Rattle.fancy_compile.specs.Kinds.{is_out_of_range}
-use Rattle.fancy_compile.specs.Faults.{itself, below, through, Rejects, rejected, refused, out_of_range, IsAccepted, AreAccepted, IsRejected, HasRejected}
+use Rattle.fancy_compile.specs.Faults.{itself, below, through, Rejects, rejected, refused, out_of_range, IsCompilable, AreCompilable, IsRejected, HasRejected}
 use Rattle.fancy_compile.specs.Drafts.{Draft, Adds}
 use Rattle.fancy_compile.proofs.Writing.{adds_to}
 
 module _ (p : Site) where
-  accepted_among : (es : Trees) (c : Tree) → IsAmong c es → AreAccepted p (children es) → IsAccepted p c
+  accepted_among : (es : Trees) (c : Tree) → IsAmong c es → AreCompilable p (children es) → IsCompilable p c
   accepted_among none c i h = elim i [ ]
   accepted_among (more e es) c here h = h.0
   accepted_among (more e es) c (there i) h = accepted_among es c i h.1
@@ -28,7 +28,7 @@ module _ (p : Site) where
   abbrev pub IsFine : Tree → Type 0
   IsFine e = ((x : refusal.CompileError) → ¬ Rejects p e x) × (is_call e ≡ false)
 
-  accepted_node : (e : Tree) → IsFine e → AreAccepted p (children (written_parts e)) → IsAccepted p e
+  accepted_node : (e : Tree) → IsFine e → AreCompilable p (children (written_parts e)) → IsCompilable p e
   accepted_node e fine h d itself x r = fine.0 x r
   accepted_node e fine h d (below {c = c} i b) x r = accepted_among (written_parts e) c i h d b x r
   accepted_node e fine h d (through lt at b) x r = true≢false fine.1

@@ -47,7 +47,7 @@ pub record MayCompile (a : Analysed) (i : Info) (o : CompileOptions) : Type 0 wh
 
 module _ (p : Plan) where
   abbrev pub Refuses : refusal.CompileError → Type 0
-  Refuses x = CompileRefuses p (undelegated_layout p) x
+  Refuses x = CompileRefuses p (length (undelegated_layout p).body) x
 
   -- refused, or a class text that `regex` finds too big
   pub data MayAnswer : refusal.CompileError → Type 0 where

@@ -10,7 +10,7 @@ use Rattle.fancy_machine.specs.Insns.{insn_of}
 use Rattle.fancy_expr.specs.declared.error.Error.{Error}
 use Rattle.fancy_expr.specs.declared.error.Error.TheVariants as error
 use Rattle.fancy_compile.specs.declared.compiler.Compiler.{Compiler}
-use Rattle.fancy_compile.specs.Faults.{error_of, AreAccepted, HasRejected}
+use Rattle.fancy_compile.specs.Faults.{error_of, AreCompilable, HasRejected}
 
 -- the program so far
 pub record Draft : Type 0 where
@@ -53,7 +53,7 @@ Breaks p a es s (error.TreeFault at) = ⊥
 
 -- from one fault to another
 abbrev pub Turns : Site → Laid → List Tree → Draft → Draft → Option Error → Option Error → Type 0
-Turns p a es s t None None = Extends a s t × AreAccepted p es
+Turns p a es s t None None = Extends a s t × AreCompilable p es
 Turns p a es s t None (Some x) = Breaks p a es s x
 Turns p a es s t (Some x) None = ⊥
 Turns p a es s t (Some x) (Some y) = x ≡ y

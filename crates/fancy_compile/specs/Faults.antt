@@ -43,12 +43,12 @@ module _ (p : Site) where
     too_big : {inner : List ℕ} {casei : Bool} → MayReject (Delegate inner casei) (plain.ClassTooBig inner)
 
   -- no node that is written out with this one is refused
-  abbrev pub IsAccepted : Tree → Type 0
-  IsAccepted e = (d : Tree) → IsBelow p.analysis.tree p.depths e d → (x : plain.CompileError) → ¬ Rejects d x
+  abbrev pub IsCompilable : Tree → Type 0
+  IsCompilable e = (d : Tree) → IsBelow p.analysis.tree p.depths e d → (x : plain.CompileError) → ¬ Rejects d x
 
-  abbrev pub AreAccepted : List Tree → Type 0
-  AreAccepted [] = Unit {0}
-  AreAccepted (e ∷ es) = IsAccepted e × AreAccepted es
+  abbrev pub AreCompilable : List Tree → Type 0
+  AreCompilable [] = Unit {0}
+  AreCompilable (e ∷ es) = IsCompilable e × AreCompilable es
 
   -- a node that is written out with this one is refused
   pub record IsRejected (e : Tree) (x : plain.CompileError) : Type 0 where

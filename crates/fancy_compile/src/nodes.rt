@@ -4,8 +4,7 @@ ghost use Rattle.std.specs.Prelude.{◌≡◌, ◌<◌, ◌&&◌, ◌==◌, List
 ghost use Rattle.std.specs.List.{list_all, list_any};
 ghost use Rattle.fancy_meaning.specs.AnalysisRefusals as plain;
 ghost use Rattle.fancy_meaning.specs.Code.{Laid};
-ghost use Rattle.fancy_meaning.specs.Layout.{is_absent};
-ghost use Rattle.fancy_meaning.specs.Nodes.{nodes};
+ghost use Rattle.fancy_meaning.specs.Nodes.{nodes, is_absent};
 ghost use Rattle.fancy_meaning.specs.Options.{Analysis};
 ghost use Rattle.fancy_compile.specs.Sites.{Site};
 ghost use Rattle.fancy_meaning.specs.Tree.{LookBehind, LookBehindNeg, Tree};

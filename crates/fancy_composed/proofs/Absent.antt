@@ -13,7 +13,7 @@ use Rattle.fancy_meaning.specs.Moves.{past_char}
 use Rattle.fancy_meaning.specs.MatchState.{MatchState, Ways, stays, stays_if, moved_to, has_way}
 use Rattle.fancy_meaning.specs.Loops.{if_moved, unbounded}
 use Rattle.fancy_meaning.specs.Ways.{absent, conditional, unless, moves, take_through}
-use Rattle.fancy_meaning.specs.Answer.{unset}
+use Rattle.fancy_meaning.specs.Numbers.{usize_max}
 use Rattle.fancy_meaning.specs.Instr.{Instr}
 use Rattle.fancy_meaning.specs.Code.{Code, nothing}
 use Rattle.fancy_meaning.specs.Code as code
@@ -164,7 +164,7 @@ module _ (w : Ground) (utf8 : IsUtf8 (w.task).text) (x : Ways) where
       by_way false e =
           by_char (char_at text s.place) refl (subst (Among t) (more_where_none s e ∙ any_at s (char_at text s.place) refl) m)
 
-  pub works_absent : (c : Code) → length text < unset → Works w c x → Works w (absent_code c) (absent (setting w) x)
+  pub works_absent : (c : Code) → length text < usize_max → Works w c x → Works w (absent_code c) (absent (setting w) x)
   works_absent c fits p =
       works_alike w (absent (setting w) x)
       (works_epsilon w true (conditional_code (negative_look_code c) (code.one Instr.Any) nothing) one_more

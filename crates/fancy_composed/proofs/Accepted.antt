@@ -3,14 +3,14 @@ use Rattle.std.proofs.Common.{◌≡◌, ℕ, zero, suc, ◌-◌, ◌+◌, ◌<�
 use Rattle.std.specs.List.{list_any}
 use Rattle.std.proofs.lemmas.Option.{same_Some}
 use Rattle.fancy_meaning.specs.Tree.{Tree, Group, BackrefWithLevel, AbsentRepeater, AstNode, UnresolvedCall, UnresolvedOther}
-use Rattle.fancy_meaning.specs.Nodes.{nodes, group_count, target}
+use Rattle.fancy_meaning.specs.Nodes.{nodes, group_count, target, is_absent}
 use Rattle.fancy_meaning.specs.Numbering.{numbered}
 use Rattle.fancy_meaning.specs.OpenCalls.{Depths, opened, call_depth, free_calls}
 use Rattle.fancy_meaning.specs.Hard.{is_hard}
 use Rattle.fancy_meaning.specs.Code.{Code, nothing}
 use Rattle.fancy_meaning.specs.Constructs.{absent_code}
 use Rattle.fancy_meaning.specs.Instr.{Prog}
-use Rattle.fancy_meaning.specs.Layout.{is_absent, absent_repeater_code, is_at_start}
+use Rattle.fancy_meaning.specs.Layout.{absent_repeater_code, is_at_start}
 use Rattle.fancy_meaning.specs.Config.{Branch}
 use Rattle.fancy_meaning.specs.Machine.{Task, fail_to}
 use Rattle.fancy_meaning.specs.AnalysisRefusals.{before_end, reference_with_level, unresolved_call, unresolved_node, group_out_of_range, is_no_group, has_level, SubroutineCallTargetNotFound, UnresolvedAstNode, FeatureNotYetSupported, InvalidBackref}
@@ -29,7 +29,7 @@ use Rattle.fancy_laws.proofs.Every.{every_contained}
 use Rattle.fancy_laws.proofs.Orderly.{analysed_is_fine, analysed_is_orderly}
 use Rattle.fancy_laws.proofs.SizesHold.{ways_have_sizes}
 
-module _ (i : Input) (program : Prog) (accepted : IsAccepted i program) where
+module _ (i : Input) (instructions : ℕ) (accepted : IsAccepted i instructions) where
   -- the tree that was analysed
   abbrev analysed : Analysed
   analysed = record { parsed = i.parsed; options = i.analysis; well_formed = accepted.well_formed }

@@ -9,7 +9,7 @@ use Rattle.fancy_meaning.specs.Chars.{literal_takes, any_takes, class_takes, is_
 use Rattle.fancy_meaning.specs.Moves.{Move, past_char, past_chars, past_bytes, past_newline, past_piece}
 use Rattle.fancy_meaning.specs.MatchState.{MatchState, Span}
 use Rattle.fancy_meaning.specs.Ways.{moves, repeats_group}
-use Rattle.fancy_meaning.specs.Answer.{unset}
+use Rattle.fancy_meaning.specs.Numbers.{usize_max}
 use Rattle.fancy_meaning.specs.Instr.{Instr, Codepoint, Newline}
 use Rattle.fancy_meaning.specs.Batches.{literal_instr, any_instr, class_code}
 use Rattle.fancy_meaning.specs.Code.{Code, branch}
@@ -101,7 +101,7 @@ module _ (w : Ground) where
       ∙ sym (moves_at (setting w) (past_newline text unicode) s _ refl))
 
   -- the span of a group that is captured stands in its slots
-  span_of : (g : ℕ) (s : MatchState) (slots : Slots) → 0 < g → g ≤ group_count (whole w) → length text < unset → Sound w s →
+  span_of : (g : ℕ) (s : MatchState) (slots : Slots) → 0 < g → g ≤ group_count (whole w) → length text < usize_max → Sound w s →
       Stands w s slots → span_at text (2 * g) slots ≡ s.captures g
   span_of g s slots pos le fits ok st =
       ap₂ (λ i j. if nat_le i j && (is_place text i && is_place text j) then Some (i, j) else None)
@@ -112,13 +112,13 @@ module _ (w : Ground) where
           (if nat_le (start_number o) (end_number o) &&
           (is_place text (start_number o) && is_place text (end_number o)) then Some (start_number o, end_number o) else None) ≡ o
       by_capture None e =
-          ap (λ v. if (v && is_boundary text unset) && is_place text unset then Some (unset, unset) else None)
-          (lt-leb unset (length text) fits)
+          ap (λ v. if (v && is_boundary text usize_max) && is_place text usize_max then Some (usize_max, usize_max) else None)
+          (lt-leb usize_max (length text) fits)
       by_capture (Some (i, j)) e =
           let span = ok.spans g (i, j) e in
           ap₂ (λ u v. if u && v then Some (i, j) else None) (le-leb i j span.in_order) (ap₂ (λ u v. u && v) span.from span.to)
 
-  pub works_backref : (g : ℕ) (casei : Bool) → 0 < g → g ≤ group_count (whole w) → length text < unset →
+  pub works_backref : (g : ℕ) (casei : Bool) → 0 < g → g ≤ group_count (whole w) → length text < usize_max →
       Works w (code.one (Instr.Backref (2 * g) casei (w.plan).unicode)) (repeats_group (setting w) g casei)
   works_backref g casei pos le fits =
       works_as w (repeats_group (setting w) g casei)

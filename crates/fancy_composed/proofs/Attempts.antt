@@ -5,7 +5,8 @@ use Rattle.regex_hir.specs.Text.{is_some_and, byte_before}
 use Rattle.fancy_meaning.specs.Nodes.{group_count}
 use Rattle.fancy_meaning.specs.Places.{range_from}
 use Rattle.fancy_meaning.specs.MatchState.{MatchState, Span, put}
-use Rattle.fancy_meaning.specs.Answer.{Search, search_of, unset, span_numbers, as_numbers, is_admitted}
+use Rattle.fancy_meaning.specs.Answer.{Search, search_of, span_numbers, as_numbers, is_admitted}
+use Rattle.fancy_meaning.specs.Numbers.{usize_max}
 use Rattle.fancy_meaning.specs.Instr.{Instr, Save, End, RejectEmptyMatchAtEOFFollowingNewline}
 use Rattle.fancy_meaning.specs.Config.{Slots, Branch, Config, Match, Ends}
 use Rattle.fancy_meaning.specs.Machine.{fail, is_rejected, goes_if, numbers_of}
@@ -119,7 +120,7 @@ module _ (w : Ground) where
   to_else true x y z t = to_same
   to_else false x y z t = t
 
-  not_asked : (v : Bool) → ((if v then 1 else unset) == unset) ≡ not v
+  not_asked : (v : Bool) → ((if v then 1 else usize_max) == usize_max) ≡ not v
   not_asked true = refl
   not_asked false = refl
 
@@ -135,10 +136,10 @@ module _ (w : Ground) where
       let newline = is_some_and (byte_before (w.task).text h.place) (λ b. b == 10) in
       let slots : Slots = put 1 h.place r in
       let on : ((w.task).program).end_text ≡ true = (w.fits).end_text ∙ e in
-      let flagged : slots (flag w) ≡ (if h.text_end then 1 else unset) =
+      let flagged : slots (flag w) ≡ (if h.text_end then 1 else usize_max) =
       put_other r 1 (flag w) h.place (λ x. omega (arith, flag_is w, x)) ∙ st.flagged on in
-      ap (λ v. end && h.place == w.start && newline && (not v || slots (flag w) == unset)) on
-      ∙ ap (λ n. end && h.place == w.start && newline && n == unset) flagged
+      ap (λ v. end && h.place == w.start && newline && (not v || slots (flag w) == usize_max)) on
+      ∙ ap (λ n. end && h.place == w.start && newline && n == usize_max) flagged
       ∙ ap (λ v. end && h.place == w.start && newline && v) (not_asked h.text_end)
       ∙ in_order end (h.place == w.start) newline (not h.text_end)
 

@@ -5,7 +5,8 @@ use Rattle.std.proofs.lemmas.Bool.{cond-true, cond-false, cases_lt, ne_eqb, eq-e
 use Rattle.fancy_meaning.specs.Places.{is_place, places_back, chars_between, back_by}
 use Rattle.fancy_meaning.specs.MatchState.{MatchState, Ways, moved_to}
 use Rattle.fancy_meaning.specs.Ways.{ends_here, unless}
-use Rattle.fancy_meaning.specs.Sizes.{Size, no_bound}
+use Rattle.fancy_meaning.specs.Sizes.{Size}
+use Rattle.fancy_meaning.specs.Numbers.{usize_max}
 use Rattle.fancy_meaning.specs.Instr.{GoBack}
 use Rattle.fancy_meaning.specs.Code.{Code, nothing, ◌>>◌}
 use Rattle.fancy_meaning.specs.Code as code
@@ -68,7 +69,7 @@ module _ (w : Ground) where
   Sized z f = (s t : MatchState) → Sound w s → Among t (f s) → IsSized z (chars_between text s.place t.place)
 
   module _ (z : Size) (f : Ways) (const : z.is_const ≡ true) (sized : Sized z f) (keeps : Keeps w f)
-      (fits : length text < no_bound) where
+      (fits : length text < usize_max) where
     -- a body that takes so many characters ends exactly there
     reaches : (s t : MatchState) → Sound w s → Among t (f s) → chars_between text s.place t.place ≡ z.least
     reaches s t ok m =
@@ -77,7 +78,7 @@ module _ (w : Ground) where
         let few = few_chars text s.place t.place k.1 in
         let within = sound_within w t k.0 in
         ⊎_elim {C = chars_between text s.place t.place ≡ z.least} (λ lt. size.exact const lt)
-        (λ ge. let least = size.at_least in absurd (omega arith)) (cases_lt z.least no_bound)
+        (λ ge. let least = size.at_least in absurd (omega arith)) (cases_lt z.least usize_max)
 
     pub back_is_behind : (s : MatchState) → Sound w s →
         map (moved_to s.place) (flat_map f (at_place s (back_by text z.least s.place))) ≡ ends_here (setting w) f s

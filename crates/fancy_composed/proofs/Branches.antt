@@ -7,7 +7,8 @@ use Rattle.fancy_meaning.specs.Tree.{Tree, Trees, none, more}
 use Rattle.fancy_meaning.specs.Places.{back_by}
 use Rattle.fancy_meaning.specs.MatchState.{MatchState, Ways, stays, and_then, in_order, one_of, moved_to}
 use Rattle.fancy_meaning.specs.Ways.{ways_with, each_ways, ends_here, unless}
-use Rattle.fancy_meaning.specs.Sizes.{Size, size, no_bound}
+use Rattle.fancy_meaning.specs.Sizes.{Size, size}
+use Rattle.fancy_meaning.specs.Numbers.{usize_max}
 use Rattle.fancy_meaning.specs.Batches.{batch}
 use Rattle.fancy_meaning.specs.Code.{Code, nothing, ◌>>◌, in_turn, branches}
 use Rattle.fancy_meaning.specs.Constructs.{behind_code, look_code, negative_look_code}
@@ -104,7 +105,7 @@ module _ (w : Ground) (call : ℕ → Bool → Code) (meant : ℕ → Ways) wher
 
   -- ---- lookbehind by branches
 
-  module _ (fits : length (w.task).text < no_bound) where
+  module _ (fits : length (w.task).text < usize_max) where
     pub behind_each : (e : Tree) (es : Trees) → EachWorks false false (more e es) → EachKnown (more e es) →
         EachConst (more e es) → Works w
         (branches (map (behind_code look_code) (map (body_code w.plan never) (each_part w.plan never call false (more e es)))))
@@ -143,7 +144,7 @@ module _ (w : Ground) (call : ℕ → Bool → Code) (meant : ℕ → Ways) wher
 
   -- ---- of one size, all branches end at one place
 
-  module _ (z : Size) (const : z.is_const ≡ true) (fits : length (w.task).text < no_bound) where
+  module _ (z : Size) (const : z.is_const ≡ true) (fits : length (w.task).text < usize_max) where
     one_back : (s : MatchState) (fs : List Ways) (o : Option ℕ) → back_by (w.task).text z.least s.place ≡ o → Sound w s →
         Sized w z (one_of fs) → Keeps w (one_of fs) →
         map (moved_to s.place) (flat_map (one_of fs) (at_place s o)) ≡ one_of (map (ends_here (setting w)) fs) s

@@ -45,8 +45,8 @@ composed i e depths at_start in_hard accepted wr t c fresh s from fits is_text h
     let bottom : ℕ → _ = λ count. after t (fail_to t c.branches (config 0 0 (λ k. 0) [] [] c.start count)) in
     let falls : (count : ℕ) → To (after t (fail_to t c.branches (config 0 0 (λ k. 0) [] [] c.start count))) (bottom count) =
     λ count. to_same in
-    let w : Ground = ground i (undelegated_layout (plan i)) accepted t is_text fits c.start c.branches bottom falls in
-    let r : Ready w = ready i (undelegated_layout (plan i)) accepted t is_text fits c.start c.branches bottom falls in
+    let w : Ground = ground i (length (undelegated_layout (plan i)).body) accepted t is_text fits c.start c.branches bottom falls in
+    let r : Ready w = ready i (length (undelegated_layout (plan i)).body) accepted t is_text fits c.start c.branches bottom falls in
     let stop : MayStop w = may_stop w c goes_on refl in
     let works =
     tree_works w r depths (calls_work w r (λ x. stop) (free_calls tree depths) depths refl) e wr at_start in_hard

@@ -4,7 +4,7 @@ use Rattle.std.proofs.lemmas.List.Concat.{flat_map_single}
 use Rattle.std.proofs.Common.{map-id}
 use Rattle.fancy_meaning.specs.MatchState.{MatchState, Ways, stays}
 use Rattle.fancy_meaning.specs.Loops.{required, prefer, at_most, if_moved, unbounded, repeats}
-use Rattle.fancy_meaning.specs.Answer.{unset}
+use Rattle.fancy_meaning.specs.Numbers.{usize_max}
 use Rattle.fancy_meaning.specs.Instr.{Instr, Jmp, Save0, RepeatEpsilon}
 use Rattle.fancy_meaning.specs.Instr as instr
 use Rattle.fancy_meaning.specs.Code.{Code, headed}
@@ -62,7 +62,7 @@ module _ (w : Ground) where
   abbrev text : List ℕ
   text = (w.task).text
 
-  module _ (greedy : Bool) (c : Code) (f : Ways) (p : Works w c f) (keeps : Keeps w f) (fits : length text < unset) where
+  module _ (greedy : Bool) (c : Code) (f : Ways) (p : Works w c f) (keeps : Keeps w f) (fits : length text < usize_max) where
     keeps' : Keeps w p.handed
     keeps' = handed_keeps w p keeps
 
@@ -118,7 +118,7 @@ module _ (w : Ground) where
           (p.part a v n refl fresh (has_front (body w) a inner (split greedy a (v + 1) ∷ []) h));
     }
 
-    pub works_epsilon : (lo : ℕ) → lo < unset → Works w (epsilon_code greedy lo c) (repeats text lo None greedy f)
+    pub works_epsilon : (lo : ℕ) → lo < usize_max → Works w (epsilon_code greedy lo c) (repeats text lo None greedy f)
     works_epsilon lo small = record {
       grows = λ a n. (let u = p.grows (a + 1 + 1) (n + 1 + 1) in omega arith);
       handed = repeats text lo None greedy p.handed;
@@ -135,7 +135,7 @@ module _ (w : Ground) where
           (omega arith) small (h.1.0 ∙ ap (λ x. Some (RepeatEpsilon greedy lo x n (n + 1))) end');
     }
 
-    works_bounded : (lo hi : ℕ) → lo ≤ hi → hi < unset →
+    works_bounded : (lo hi : ℕ) → lo ≤ hi → hi < usize_max →
         Works w (counted_code greedy lo (Some hi) c) (repeats text lo (Some hi) greedy f)
     works_bounded lo hi le below = record {
       grows = λ a n. (let u = p.grows (a + 1 + 1) (n + 1) in omega arith);
@@ -171,7 +171,7 @@ module _ (w : Ground) where
     }
 
     -- by the form that the bounds ask for
-    pub works_repeat : (lo : ℕ) (hi : Option ℕ) (may_be_empty : Bool) → lo < unset → IfSome hi (λ n. (lo ≤ n) × (n < unset)) →
+    pub works_repeat : (lo : ℕ) (hi : Option ℕ) (may_be_empty : Bool) → lo < usize_max → IfSome hi (λ n. (lo ≤ n) × (n < usize_max)) →
         (may_be_empty ≡ false → Moves w f) →
         Works w (repeat_code greedy c (loop_form lo hi may_be_empty)) (repeats text lo hi greedy f)
     works_repeat zero (Some zero) v small fine moves =

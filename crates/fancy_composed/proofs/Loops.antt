@@ -5,7 +5,7 @@ use Rattle.std.proofs.lemmas.Bool.{eq-eqb, ne_eqb, le-leb, lt-leb, lt-ltb, le-lt
 use Rattle.std.proofs.lemmas.Bool.Decides.{eqb_tells}
 use Rattle.fancy_meaning.specs.MatchState.{MatchState, Ways, put}
 use Rattle.fancy_meaning.specs.Loops.{required, at_most, if_moved, unbounded}
-use Rattle.fancy_meaning.specs.Answer.{unset}
+use Rattle.fancy_meaning.specs.Numbers.{usize_max}
 use Rattle.fancy_meaning.specs.Instr.{Instr, Jmp, Save0, RepeatEpsilon}
 use Rattle.fancy_meaning.specs.Instr as instr
 use Rattle.fancy_meaning.specs.Config.{Slots, Branch, Next}
@@ -42,7 +42,7 @@ module _ (w : Ground) (a b c n k m : ℕ) (f : Ways) (fresh : first w ≤ n) (lk
       (known w (λ h. Among h (f s)) (λ h m'. m') (p.hands s slots1 marks bs count ok af.stands))
 
   -- one more, as long as the count is below the largest number
-  counted : (slots : Slots) → slots n < unset → min (slots n + 1) unset ≡ suc (slots n)
+  counted : (slots : Slots) → slots n < usize_max → min (slots n + 1) usize_max ≡ suc (slots n)
   counted slots lt = omega arith
 
   -- the slots with one more
@@ -52,27 +52,27 @@ module _ (w : Ground) (a b c n k m : ℕ) (f : Ways) (fresh : first w ≤ n) (lk
   -- ---- a count up to a bound, which is the largest number where there is none
   module _ (greedy : Bool) (lo : ℕ) (hi : Option ℕ)
       (at : slice_get (body w) a ≡ Some (instr.Instr.Repeat greedy lo hi c n)) where
-    leaves : (s : MatchState) (slots : Slots) (marks : List ℕ) (bs : List Branch) (count : ℕ) → slots n ≡ unwrap_or hi unset →
+    leaves : (s : MatchState) (slots : Slots) (marks : List ℕ) (bs : List Branch) (count : ℕ) → slots n ≡ unwrap_or hi usize_max →
         To (go w a s.place slots marks bs count) (go w c s.place slots marks bs count)
     leaves s slots marks bs count h =
         to_trans (step_at_pc w (instr.Instr.Repeat greedy lo hi c n) a s.place slots marks bs count at)
-        (to_true w (slots n == unwrap_or hi unset) _ _ (eq-eqb (slots n) (unwrap_or hi unset) h))
+        (to_true w (slots n == unwrap_or hi usize_max) _ _ (eq-eqb (slots n) (unwrap_or hi usize_max) h))
 
-    enters : (s : MatchState) (slots : Slots) (marks : List ℕ) (bs : List Branch) (count : ℕ) → slots n ≢ unwrap_or hi unset →
-        slots n < lo → slots n < unset →
+    enters : (s : MatchState) (slots : Slots) (marks : List ℕ) (bs : List Branch) (count : ℕ) → slots n ≢ unwrap_or hi usize_max →
+        slots n < lo → slots n < usize_max →
         To (go w a s.place slots marks bs count) (go w (a + 1) s.place (put n (suc (slots n)) slots) marks bs count)
     enters s slots marks bs count h l lt =
         to_trans (step_at_pc w (instr.Instr.Repeat greedy lo hi c n) a s.place slots marks bs count at)
-        (to_trans (to_false w (slots n == unwrap_or hi unset) _ _ (ne_eqb (slots n) (unwrap_or hi unset) h))
+        (to_trans (to_false w (slots n == unwrap_or hi usize_max) _ _ (ne_eqb (slots n) (unwrap_or hi usize_max) h))
         (to_trans (to_false w (nat_le lo (slots n)) _ _ (lt-leb lo (slots n) l))
         (to_eq (λ j. ap (λ x. go w (a + 1) s.place (put n x slots) marks bs count j) (counted slots lt)))))
 
-    chooses : (s : MatchState) (slots : Slots) (marks : List ℕ) (bs : List Branch) (count : ℕ) → slots n ≢ unwrap_or hi unset →
-        lo ≤ slots n → slots n < unset → To (go w a s.place slots marks bs count)
+    chooses : (s : MatchState) (slots : Slots) (marks : List ℕ) (bs : List Branch) (count : ℕ) → slots n ≢ unwrap_or hi usize_max →
+        lo ≤ slots n → slots n < usize_max → To (go w a s.place slots marks bs count)
         (after w.task (fork w greedy (a + 1) c (here w a s.place (put n (suc (slots n)) slots) marks bs count)))
     chooses s slots marks bs count h l lt =
         to_trans (step_at_pc w (instr.Instr.Repeat greedy lo hi c n) a s.place slots marks bs count at)
-        (to_trans (to_false w (slots n == unwrap_or hi unset) _ _ (ne_eqb (slots n) (unwrap_or hi unset) h))
+        (to_trans (to_false w (slots n == unwrap_or hi usize_max) _ _ (ne_eqb (slots n) (unwrap_or hi usize_max) h))
         (to_trans (to_true w (nat_le lo (slots n)) _ _ (le-leb lo (slots n) l))
         (to_eq (λ j. ap (λ x. after w.task (choose w.task greedy c (here w a s.place (put n x slots) marks bs count)) j) (counted slots lt)
         ∙ ap (λ x. after w.task x j) (fork_choose w greedy c (here w a s.place (put n (suc (slots n)) slots) marks bs count))))))
@@ -85,17 +85,17 @@ module _ (w : Ground) (a b c n k m : ℕ) (f : Ways) (fresh : first w ≤ n) (lk
     kept slots r h af = af.keeps n fresh (inl (omega arith)) ∙ put_same slots n n (suc (slots n)) refl
 
     -- at most so many more
-    may : (greatest : ℕ) → hi ≡ Some greatest → greatest < unset →
+    may : (greatest : ℕ) → hi ≡ Some greatest → greatest < usize_max →
         (left : ℕ) (s : MatchState) (slots : Slots) (marks : List ℕ) (bs : List Branch) (count : ℕ) →
         slots n + left ≡ greatest → lo ≤ slots n → Sound w s → Stands w s slots →
         Hands w c (After w n m slots) marks bs (at_most left greedy f s) (go w a s.place slots marks bs count)
     may greatest is below zero s slots marks bs count el le ok st =
         from w (leaves s slots marks bs count (sum is)) (one w slots count (after_move w n m s slots st) to_same)
       where
-        sum : hi ≡ Some greatest → slots n ≡ unwrap_or hi unset
-        sum e' = (let z : slots n ≡ greatest = omega arith in z) ∙ sym (ap (λ o. unwrap_or o unset) e')
+        sum : hi ≡ Some greatest → slots n ≡ unwrap_or hi usize_max
+        sum e' = (let z : slots n ≡ greatest = omega arith in z) ∙ sym (ap (λ o. unwrap_or o usize_max) e')
     may greatest is below (suc left) s slots marks bs count el le ok st =
-        let top : unwrap_or hi unset ≡ greatest = ap (λ o. unwrap_or o unset) is in
+        let top : unwrap_or hi usize_max ≡ greatest = ap (λ o. unwrap_or o usize_max) is in
         let af = own s slots st in
         from w (chooses s slots marks bs count (λ q. omega (arith, top)) le (omega arith))
         (forked w greedy a (a + 1) c s.place (more slots) count (omega arith) (omega arith)
@@ -105,14 +105,14 @@ module _ (w : Ground) (a b c n k m : ℕ) (f : Ways) (fresh : first w ≤ n) (lk
         let q = kept slots r h ag in may greatest is below left h r marks ds i (omega arith) (omega arith) so ag.stands))
         (λ cs j. one w (more slots) j af to_same))
 
-    pub must : (greatest : ℕ) → hi ≡ Some greatest → greatest < unset → lo ≤ greatest →
+    pub must : (greatest : ℕ) → hi ≡ Some greatest → greatest < usize_max → lo ≤ greatest →
         (need : ℕ) (s : MatchState) (slots : Slots) (marks : List ℕ) (bs : List Branch) (count : ℕ) → slots n + need ≡ lo →
         Sound w s → Stands w s slots → Hands w c (After w n m slots) marks bs
         (required need f (at_most (greatest - lo) greedy f) s) (go w a s.place slots marks bs count)
     must greatest is below le zero s slots marks bs count el ok st =
         may greatest is below (greatest - lo) s slots marks bs count (omega arith) (omega arith) ok st
     must greatest is below le (suc need) s slots marks bs count el ok st =
-        let top : unwrap_or hi unset ≡ greatest = ap (λ o. unwrap_or o unset) is in
+        let top : unwrap_or hi usize_max ≡ greatest = ap (λ o. unwrap_or o usize_max) is in
         from w (enters s slots marks bs count (λ q. omega (arith, top)) (omega arith) (omega arith))
         (iterate (required need f (at_most (greatest - lo) greedy f)) s slots (more slots) marks bs count ok (own s slots st)
         (λ h r ds i so m' ag.
@@ -120,9 +120,9 @@ module _ (w : Ground) (a b c n k m : ℕ) (f : Ways) (fresh : first w ≤ n) (lk
 
     -- ---- without a bound, over a body that moves: the count is at most the place
     module _ (open' : hi ≡ None) (moves : (s t : MatchState) → Sound w s → Among t (f s) → s.place < t.place)
-        (fits : length (w.task).text < unset) where
-      not_top : (x : ℕ) → x < unset → x ≢ unwrap_or hi unset
-      not_top x lt q = let top : unwrap_or hi unset ≡ unset = ap (λ o. unwrap_or o unset) open' in omega (arith, top)
+        (fits : length (w.task).text < usize_max) where
+      not_top : (x : ℕ) → x < usize_max → x ≢ unwrap_or hi usize_max
+      not_top x lt q = let top : unwrap_or hi usize_max ≡ usize_max = ap (λ o. unwrap_or o usize_max) open' in omega (arith, top)
 
       free : (fuel : ℕ) (s : MatchState) (slots : Slots) (marks : List ℕ) (bs : List Branch) (count : ℕ) →
           length (w.task).text < s.place + fuel → slots n ≤ s.place → lo ≤ slots n → Sound w s → Stands w s slots →
@@ -130,7 +130,7 @@ module _ (w : Ground) (a b c n k m : ℕ) (f : Ways) (fresh : first w ≤ n) (lk
       free zero s slots marks bs count left le may' ok st = let q = sound_within w s ok in absurd (omega arith)
       free (suc fuel) s slots marks bs count left le may' ok st =
           let at_most_length = sound_within w s ok in
-          let lt : slots n < unset = omega arith in
+          let lt : slots n < usize_max = omega arith in
           let af = own s slots st in
           from w (chooses s slots marks bs count (not_top (slots n) lt) may' lt)
           (forked w greedy a (a + 1) c s.place (more slots) count (omega arith) (omega arith)
@@ -153,7 +153,7 @@ module _ (w : Ground) (a b c n k m : ℕ) (f : Ways) (fresh : first w ≤ n) (lk
           free (suc (length (w.task).text) - s.place) s slots marks bs count (omega arith) le (omega arith) ok st
       must_free (suc need) s slots marks bs count el le ok st =
           let at_most_length = sound_within w s ok in
-          let lt : slots n < unset = omega arith in
+          let lt : slots n < usize_max = omega arith in
           from w (enters s slots marks bs count (not_top (slots n) lt) (omega arith) lt)
           (iterate (required need f (λ t. unbounded (suc (length (w.task).text) - t.place) greedy f t)) s slots (more slots) marks bs count ok (own s slots st) (λ h r ds i so m' ag.
           let q = kept slots r h ag in
@@ -162,7 +162,7 @@ module _ (w : Ground) (a b c n k m : ℕ) (f : Ways) (fresh : first w ≤ n) (lk
 
   -- ---- with a check that the last iteration moved
   module _ (greedy : Bool) (lo : ℕ) (lk' : n + 1 < k) (at : slice_get (body w) a ≡ Some (RepeatEpsilon greedy lo c n (n + 1)))
-      (small : lo < unset) (fits : length (w.task).text < unset) where
+      (small : lo < usize_max) (fits : length (w.task).text < usize_max) where
     stops : (s : MatchState) (slots : Slots) (marks : List ℕ) (bs : List Branch) (count : ℕ) →
         (nat_lt lo (slots n) && slots (n + 1) == s.place) ≡ true →
         To (go w a s.place slots marks bs count) (go w c s.place slots marks bs count)
@@ -171,7 +171,7 @@ module _ (w : Ground) (a b c n k m : ℕ) (f : Ways) (fresh : first w ≤ n) (lk
         (to_true w (nat_lt lo (slots n) && slots (n + 1) == s.place) _ _ h)
 
     goes_on : (s : MatchState) (slots : Slots) (marks : List ℕ) (bs : List Branch) (count : ℕ) → slots n < lo →
-        slots n < unset → To (go w a s.place slots marks bs count) (go w (a + 1) s.place (more slots) marks bs count)
+        slots n < usize_max → To (go w a s.place slots marks bs count) (go w (a + 1) s.place (more slots) marks bs count)
     goes_on s slots marks bs count l lt =
         to_trans (step_at_pc w (RepeatEpsilon greedy lo c n (n + 1)) a s.place slots marks bs count at)
         (to_trans (to_false w (nat_lt lo (slots n) && slots (n + 1) == s.place) _ _ (ap (λ v. v && slots (n + 1) == s.place) (le-ltb lo (slots n) (omega arith))))
@@ -185,7 +185,7 @@ module _ (w : Ground) (a b c n k m : ℕ) (f : Ways) (fresh : first w ≤ n) (lk
     selects : (s : MatchState) (slots : Slots) (marks : List ℕ) (bs : List Branch) (count : ℕ) →
         (nat_lt lo (slots n) && slots (n + 1) == s.place) ≡ false → lo ≤ slots n → To (go w a s.place slots marks bs count)
         (after w.task
-        (fork w greedy (a + 1) c (here w a s.place (checked s.place (min (slots n + 1) unset) slots) marks bs count)))
+        (fork w greedy (a + 1) c (here w a s.place (checked s.place (min (slots n + 1) usize_max) slots) marks bs count)))
     selects s slots marks bs count h l =
         to_trans (step_at_pc w (RepeatEpsilon greedy lo c n (n + 1)) a s.place slots marks bs count at)
         (to_trans (to_false w (nat_lt lo (slots n) && slots (n + 1) == s.place) _ _ h)
@@ -193,7 +193,7 @@ module _ (w : Ground) (a b c n k m : ℕ) (f : Ways) (fresh : first w ≤ n) (lk
         (to_eq
         (λ j.
         ap (λ x. after w.task x j)
-        (fork_choose w greedy c (here w a s.place (checked s.place (min (slots n + 1) unset) slots) marks bs count))))))
+        (fork_choose w greedy c (here w a s.place (checked s.place (min (slots n + 1) usize_max) slots) marks bs count))))))
 
     own_checked : (s : MatchState) (slots : Slots) (x : ℕ) → Stands w s slots → After w n m slots s (checked s.place x slots)
     own_checked s slots x st =
@@ -207,7 +207,7 @@ module _ (w : Ground) (a b c n k m : ℕ) (f : Ways) (fresh : first w ≤ n) (lk
         Hands w c (After w n m slots) marks bs (unbounded fuel greedy f s) (go w a s.place slots marks bs count)
     fresh_turns zero s slots marks bs count left le test ok st = let q = sound_within w s ok in absurd (omega arith)
     fresh_turns (suc fuel) s slots marks bs count left le test ok st =
-        let x = min (slots n + 1) unset in
+        let x = min (slots n + 1) usize_max in
         let slots1 = checked s.place x slots in
         let af = own_checked s slots x st in
         from w (selects s slots marks bs count test le)

@@ -6,8 +6,8 @@ use Rattle.fancy_meaning.specs.Spots.{is_never}
 use Rattle.fancy_meaning.specs.MatchState.{moved_to, MatchState, Ways, fails, one_of}
 use Rattle.fancy_meaning.specs.Loops.{repeats}
 use Rattle.fancy_meaning.specs.Ways.{ways_with, each_ways, looks, ends_here, ahead, unless}
-use Rattle.fancy_meaning.specs.Answer.{unset}
-use Rattle.fancy_meaning.specs.Sizes.{Size, no_bound}
+use Rattle.fancy_meaning.specs.Numbers.{usize_max}
+use Rattle.fancy_meaning.specs.Sizes.{Size}
 use Rattle.fancy_meaning.specs.Code.{Code, branches, in_turn}
 use Rattle.fancy_meaning.specs.Constructs.{look_around_code, loop_form, repeat_code, behind_code, look_code, negative_look_code}
 use Rattle.fancy_meaning.specs.Layout.{each_part, body_code, alt_code}
@@ -74,8 +74,8 @@ module _ (w : Ground) (call : ℕ → Bool → Code) (meant : ℕ → Ways) wher
     pub keeps : Keeps w f
     pub moves : may_be_empty ≡ false → Moves w f
 
-  pub repeat_works : (lo : ℕ) (hi : Option ℕ) (greedy may_be_empty : Bool) (c : Code) (f : Ways) → lo < unset →
-      IfSome hi (λ n. (lo ≤ n) × (n < unset)) → length (w.task).text < unset →
+  pub repeat_works : (lo : ℕ) (hi : Option ℕ) (greedy may_be_empty : Bool) (c : Code) (f : Ways) → lo < usize_max →
+      IfSome hi (λ n. (lo ≤ n) × (n < usize_max)) → length (w.task).text < usize_max →
       (is_never hi ≡ false → LoopBody may_be_empty c f) →
       Works w (repeat_code greedy c (loop_form lo hi may_be_empty)) (repeats (w.task).text lo hi greedy f)
   repeat_works zero (Some zero) greedy v c f small fine fits p =
@@ -120,7 +120,7 @@ module _ (w : Ground) (call : ℕ → Bool → Code) (meant : ℕ → Ways) wher
     each_const (more d ds) h =
         (branch_const d (h d here) (size_of w call meant d).is_const refl, each_const ds (λ x m. h x (there m)))
 
-  ends_of : (e : Tree) (s : MatchState) → (size_of w call meant e).is_const ≡ true → length (w.task).text < no_bound →
+  ends_of : (e : Tree) (s : MatchState) → (size_of w call meant e).is_const ≡ true → length (w.task).text < usize_max →
       Keeps w (means w call meant e) → Sized w (size_of w call meant e) (means w call meant e) → Sound w s →
       ends_here (setting w) (means w call meant e) s ≡ one_of (map (ends_here (setting w)) (branch_ways e)) s
   ends_of (Alt es) s const fits keeps sized ok =
@@ -128,7 +128,7 @@ module _ (w : Ground) (call : ℕ → Bool → Code) (meant : ℕ → Ways) wher
   ends_of e s const fits keeps sized ok = sym (append-nil (ends_here (setting w) (means w call meant e) s))
 
   -- where the body varies
-  behind_varies : (e : Tree) → length (w.task).text < no_bound → (size_of w call meant e).is_const ≡ false →
+  behind_varies : (e : Tree) → length (w.task).text < usize_max → (size_of w call meant e).is_const ≡ false →
       ((error : CompileError) → ¬ RefusesNode w.plan (LookAround LookBehind e) error) → OfBranches e → Works w
       (branches (map (behind_code look_code) (bodies (alternatives e)))) (one_of (map (ends_here (setting w)) (branch_ways e)))
   behind_varies (Alt none) fits varies ok u = absurd u.0
@@ -138,7 +138,7 @@ module _ (w : Ground) (call : ℕ → Bool → Code) (meant : ℕ → Ways) wher
       let c = branch_const LookBehind refl e ok varies e here (size_of w call meant e).is_const refl in
       absurd (true≢false (sym c ∙ varies))
 
-  not_behind_varies : (e : Tree) → length (w.task).text < no_bound → (size_of w call meant e).is_const ≡ false →
+  not_behind_varies : (e : Tree) → length (w.task).text < usize_max → (size_of w call meant e).is_const ≡ false →
       ((error : CompileError) → ¬ RefusesNode w.plan (LookAround LookBehindNeg e) error) → OfBranches e → Works w
       (in_turn (map (behind_code negative_look_code) (bodies (alternatives e))))
       (unless (one_of (map (ends_here (setting w)) (branch_ways e))))
@@ -150,7 +150,7 @@ module _ (w : Ground) (call : ℕ → Bool → Code) (meant : ℕ → Ways) wher
       let c = branch_const LookBehindNeg refl e ok varies e here (size_of w call meant e).is_const refl in
       absurd (true≢false (sym c ∙ varies))
 
-  module _ (e : Tree) (fits : length (w.task).text < no_bound)
+  module _ (e : Tree) (fits : length (w.task).text < usize_max)
       (p : Works w (code_at w call meant e false false) (means w call meant e)) (keeps : Keeps w (means w call meant e))
       (sized : Sized w (size_of w call meant e) (means w call meant e)) (u : OfBranches e) where
     abbrev body : Size × Code

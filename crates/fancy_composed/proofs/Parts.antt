@@ -9,7 +9,8 @@ use Rattle.fancy_meaning.specs.Nodes.{group_count}
 use Rattle.fancy_meaning.specs.MatchState.{MatchState, Ways, put, moved_to}
 use Rattle.fancy_meaning.specs.Ways.{Setting, moves}
 use Rattle.fancy_meaning.specs.Moves.{Move}
-use Rattle.fancy_meaning.specs.Answer.{search_of, unset}
+use Rattle.fancy_meaning.specs.Answer.{search_of}
+use Rattle.fancy_meaning.specs.Numbers.{usize_max}
 use Rattle.fancy_meaning.specs.Instr.{Instr}
 use Rattle.fancy_meaning.specs.Code.{Code}
 use Rattle.fancy_meaning.specs.Config.{Slots, Branch}
@@ -91,7 +92,7 @@ module _ (w : Ground) where
     pub kept : slots 0 ≡ s.kept
     pub starts : (g : ℕ) → 0 < g → 2 * g < flag → slots (2 * g) ≡ start_number (s.captures g)
     pub ends : (g : ℕ) → 0 < g → 2 * g < flag → slots (2 * g + 1) ≡ end_number (s.captures g)
-    pub flagged : ((w.task).program).end_text ≡ true → slots flag ≡ (if s.text_end then 1 else unset)
+    pub flagged : ((w.task).program).end_text ≡ true → slots flag ≡ (if s.text_end then 1 else usize_max)
 
   -- what a part leaves that takes the slots from n to m
   pub record After (n m : ℕ) (slots : Slots) (h : MatchState) (r : Slots) : Type 0 where

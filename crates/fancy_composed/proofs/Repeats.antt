@@ -4,7 +4,7 @@ use Rattle.std.specs.Prelude.{slice_get}
 use Rattle.std.proofs.lemmas.Bool.{ne_eqb}
 use Rattle.fancy_meaning.specs.MatchState.{MatchState, Ways, put}
 use Rattle.fancy_meaning.specs.Loops.{if_moved, unbounded, repeats}
-use Rattle.fancy_meaning.specs.Answer.{unset}
+use Rattle.fancy_meaning.specs.Numbers.{usize_max}
 use Rattle.fancy_meaning.specs.Constructs.{split}
 use Rattle.fancy_meaning.specs.Instr.{Instr, Jmp, Save0, RepeatEpsilon}
 use Rattle.fancy_meaning.specs.Instr as instr
@@ -95,8 +95,8 @@ module _ (w : Ground) (greedy : Bool) where
 
   module _ (a b c n k m lo : ℕ) (f : Ways) (fresh : first w ≤ n) (km : k ≤ m) (save : slice_get (body w) a ≡ Some (Save0 n))
       (jump : slice_get (body w) b ≡ Some (Jmp (a + 1))) (e : b + 1 ≡ c) (ord : a + 1 + 1 ≤ b) (keeps : Keeps w f)
-      (p : Part w (a + 1 + 1) b k m f) (fits : length text < unset) where
-    pub part_bounded : (hi : ℕ) → n < k → lo ≤ hi → hi < unset →
+      (p : Part w (a + 1 + 1) b k m f) (fits : length text < usize_max) where
+    pub part_bounded : (hi : ℕ) → n < k → lo ≤ hi → hi < usize_max →
         slice_get (body w) (a + 1) ≡ Some (instr.Instr.Repeat greedy lo (Some hi) c n) →
         Part w a c n m (repeats text lo (Some hi) greedy f)
     part_bounded hi lk le below at =
@@ -114,7 +114,7 @@ module _ (w : Ground) (greedy : Bool) where
         (a + 1) b c n k m f fresh lk km jump e ord keeps p greedy lo None at refl moves fits lo s slots marks bs count
         (omega arith) (omega arith) ok st)
 
-    pub part_checked : n + 1 < k → lo < unset → slice_get (body w) (a + 1) ≡ Some (RepeatEpsilon greedy lo c n (n + 1)) →
+    pub part_checked : n + 1 < k → lo < usize_max → slice_get (body w) (a + 1) ≡ Some (RepeatEpsilon greedy lo c n (n + 1)) →
         Part w a c n m (repeats text lo None greedy f)
     part_checked lk small at =
         begins a c n m (repeats text lo None greedy f) fresh (omega arith) save

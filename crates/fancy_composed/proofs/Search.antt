@@ -11,7 +11,8 @@ use Rattle.fancy_meaning.specs.Tree.{Tree}
 use Rattle.fancy_meaning.specs.Nodes.{group_count}
 use Rattle.fancy_meaning.specs.Places.{is_place, places_from, range_from}
 use Rattle.fancy_meaning.specs.MatchState.{MatchState, Ways, put, first_state}
-use Rattle.fancy_meaning.specs.Answer.{Search, search_of, unset, as_numbers, is_admitted, attempt, starts, answer}
+use Rattle.fancy_meaning.specs.Answer.{Search, search_of, as_numbers, is_admitted, attempt, starts, answer}
+use Rattle.fancy_meaning.specs.Numbers.{usize_max}
 use Rattle.fancy_meaning.specs.Options.{RunOptions}
 use Rattle.fancy_meaning.specs.Instr.{Instr, Save, Jmp, SplitUnanchored}
 use Rattle.fancy_meaning.specs.Layout.{program}
@@ -78,7 +79,7 @@ resumes t b bs c = record {
 }
 
 -- the program, where `easy` tells which nodes are left to a plain search
-module _ (i : Input) (text : List ℕ) (o : RunOptions) (easy : Tree → Bool) (accepted : IsAccepted i (program (plan i) easy))
+module _ (i : Input) (text : List ℕ) (o : RunOptions) (easy : Tree → Bool) (accepted : IsAccepted i (length (program (plan i) easy).body))
     (fit : IsFit i text o) where
   abbrev pub tree : Tree
   tree = (plan i).analysis.tree
@@ -96,7 +97,7 @@ module _ (i : Input) (text : List ℕ) (o : RunOptions) (easy : Tree → Bool) (
   fits = record { total_groups = refl; implicit_group_0 = accepted.implicit_group_0; end_text = refl; unicode = refl }
 
   abbrev no_slots : Slots
-  no_slots = λ k. unset
+  no_slots = λ k. usize_max
 
   -- the tree with the premises that its laws ask for
   abbrev analysed : Analysed
@@ -113,7 +114,7 @@ module _ (i : Input) (text : List ℕ) (o : RunOptions) (easy : Tree → Bool) (
   RootHands = (start : ℕ) (base : List Branch) (other : Course)
       (falls : (count : ℕ) → To (after task (fail_to task base (config 0 0 (λ s. 0) [] [] start count))) other) →
       is_place text start ≡ true →
-      let w = ground i (program (plan i) easy) accepted task fit.is_text fits start base (λ n. other) falls in
+      let w = ground i (length (program (plan i) easy).body) accepted task fit.is_text fits start base (λ n. other) falls in
       (begins_with_continue tree tree ≡ true → MayStop w) →
       (handed : Ways) × Works w (programs.root (plan i) easy) handed × (find (is_admitted q start) (handed (first_state start)) ≡ attempt q start)
 
@@ -123,7 +124,7 @@ module _ (i : Input) (text : List ℕ) (o : RunOptions) (easy : Tree → Bool) (
         ((count : ℕ) → To (after task (fail_to task base (config 0 0 (λ s. 0) [] [] start count))) other) → Stops base other →
         (count : ℕ) → To (λ n. exec task n (config a start no_slots [] base start count)) (or_else groups (attempt q start) other)
     attempted a start at place base other falls stops count =
-        let w : Ground = ground i (program (plan i) easy) accepted task fit.is_text fits start base (λ n. other) falls in
+        let w : Ground = ground i (length (program (plan i) easy).body) accepted task fit.is_text fits start base (λ n. other) falls in
         let stop : begins_with_continue tree tree ≡ true → MayStop w = λ b search anchored. stops b search anchored in
         let root = roots start base other falls place stop in
         let works = root.1 in

@@ -7,7 +7,7 @@ use Rattle.fancy_meaning.specs.Nodes.{group_count}
 use Rattle.fancy_meaning.specs.Assertions.{holds, is_of_end}
 use Rattle.fancy_meaning.specs.MatchState.{MatchState, Span, put, stays_if}
 use Rattle.fancy_meaning.specs.Ways.{asserts}
-use Rattle.fancy_meaning.specs.Answer.{unset}
+use Rattle.fancy_meaning.specs.Numbers.{usize_max}
 use Rattle.fancy_meaning.specs.Instr.{Instr}
 use Rattle.fancy_meaning.specs.Code.{Code}
 use Rattle.fancy_meaning.specs.Code as code
@@ -137,20 +137,20 @@ module _ (w : Ground) where
       (met_config (((w.task).program).end_text && is_of_end a) pc s.place slots marks bs count))
 
   -- where a group was captured its end is a place
-  pub works_exists : (g : ℕ) → 0 < g → g ≤ group_count (whole w) → length (w.task).text < unset →
+  pub works_exists : (g : ℕ) → 0 < g → g ≤ group_count (whole w) → length (w.task).text < usize_max →
       Works w (code.one (Instr.BackrefExistsCondition g)) (stays_if (λ s. is_some (s.captures g)))
   works_exists g pos le fits =
       works_tests (Instr.BackrefExistsCondition g) (λ s. is_some (s.captures g))
       (λ s slots a marks bs count ok st.
-      ap (λ v. goes_if w.task (not (v == unset)) (here w a s.place slots marks bs count))
+      ap (λ v. goes_if w.task (not (v == usize_max)) (here w a s.place slots marks bs count))
       (st.ends g pos (omega (arith, flag_is w)))
       ∙ ap (λ v. goes_if w.task v (here w a s.place slots marks bs count)) (set s ok (s.captures g) refl))
     where
-      set : (s : MatchState) → Sound w s → (o : Option Span) → s.captures g ≡ o → not (end_number o == unset) ≡ is_some o
+      set : (s : MatchState) → Sound w s → (o : Option Span) → s.captures g ≡ o → not (end_number o == usize_max) ≡ is_some o
       set s ok None e = refl
       set s ok (Some (i, j)) e =
           ap not
-          (ne_eqb j unset (λ q. let at = place_within (w.task).text j (ok.spans g (i, j) e).to in omega (arith, at, fits, q)))
+          (ne_eqb j usize_max (λ q. let at = place_within (w.task).text j (ok.spans g (i, j) e).to in omega (arith, at, fits, q)))
 
   not_true : (v : Bool) → not v ≡ true → v ≡ false
   not_true true e = cc

@@ -1,5 +1,5 @@
 -- A run of the undelegated program answers what the tree means.
-use Rattle.std.proofs.Common.{true, false, refl, sym}
+use Rattle.std.proofs.Common.{true, false, refl, sym, length}
 use Rattle.fancy_meaning.specs.OpenCalls.{no_calls, free_calls}
 use Rattle.fancy_meaning.specs.Ways.{ways}
 use Rattle.fancy_meaning.specs.Answer.{is_admitted, ways_from}
@@ -20,8 +20,8 @@ unfolding undelegated_layout
 undelegated i text o accepted fit =
     answers i text o never accepted fit
     (λ start base other falls place stop.
-    let w : Ground = ground i (program (plan i) never) accepted (task i text o never accepted fit) fit.is_text (fits i text o never accepted fit) start base (λ n. other) falls in
-    let r : Ready w = ready i (program (plan i) never) accepted (task i text o never accepted fit) fit.is_text (fits i text o never accepted fit) start base (λ n. other) falls in
+    let w : Ground = ground i (length (program (plan i) never).body) accepted (task i text o never accepted fit) fit.is_text (fits i text o never accepted fit) start base (λ n. other) falls in
+    let r : Ready w = ready i (length (program (plan i) never).body) accepted (task i text o never accepted fit) fit.is_text (fits i text o never accepted fit) start base (λ n. other) falls in
     let whole = tree i text o never accepted fit in
     let search = q i text o never accepted fit in (
       (λ s. ways search.setting whole whole no_calls s),

@@ -3,12 +3,12 @@ use Rattle.std.proofs.Common.{◌≡◌, ℕ, zero, suc, ◌<◌, ◌≤◌, Boo
 use Rattle.std.proofs.lemmas.Bool.{eqb-false, and_parts}
 use Rattle.std.specs.List.{list_any}
 use Rattle.fancy_meaning.specs.Tree.{Tree, Group, Repeat, AbsentRepeater}
-use Rattle.fancy_meaning.specs.Nodes.{nodes, is_read}
+use Rattle.fancy_meaning.specs.Nodes.{nodes, is_read, is_absent}
 use Rattle.fancy_meaning.specs.OpenCalls.{Depths}
 use Rattle.fancy_meaning.specs.MatchState.{Ways, stays}
 use Rattle.fancy_meaning.specs.Loops.{repeats}
 use Rattle.fancy_meaning.specs.Ways.{captured, atomic, conditional, absent}
-use Rattle.fancy_meaning.specs.Answer.{unset}
+use Rattle.fancy_meaning.specs.Numbers.{usize_max}
 use Rattle.fancy_meaning.specs.Sizes.{size}
 use Rattle.fancy_meaning.specs.Hard.{is_hard}
 use Rattle.fancy_meaning.specs.Options.{Plan}
@@ -16,7 +16,7 @@ use Rattle.fancy_meaning.specs.Code.{Code, nothing, one}
 use Rattle.fancy_meaning.specs.Instr.{Instr}
 use Rattle.fancy_meaning.specs.Batches.{fragment, pattern_of, group_range}
 use Rattle.fancy_meaning.specs.Constructs.{group_code, atomic_code, conditional_code, loop_form, repeat_code, absent_code}
-use Rattle.fancy_meaning.specs.Layout.{is_absent, is_at_most_once, is_refused_body, absent_repeater_code, in_context}
+use Rattle.fancy_meaning.specs.Layout.{is_at_most_once, is_refused_body, absent_repeater_code, in_context}
 use Rattle.fancy_meaning.specs.AnalysisRefusals.{FeatureNotYetSupported}
 use Rattle.fancy_meaning.specs.CompileRefusals.{IsWritten, here, part, absent_in_hard_repeater}
 use Rattle.fancy_meaning.specs.Premises.{tree_of}
@@ -94,7 +94,7 @@ module _ (given : Setup) (depths : Depths) where
         positive (suc n) k = omega arith
 
     -- a body in some context, from which the loop serves
-    loop_works : (in_hard context : Bool) (hi : Option ℕ) → IsWritten whole e → lo < unset → IfSome hi (λ n. (lo ≤ n) × (n < unset)) → (h : Thinned given depths context c (means given depths e)) → Thins plan given.setting in_hard (repeats (given.setting).text lo hi greedy h.handed) (repeats (given.setting).text lo hi greedy (means given depths e)) →
+    loop_works : (in_hard context : Bool) (hi : Option ℕ) → IsWritten whole e → lo < usize_max → IfSome hi (λ n. (lo ≤ n) × (n < usize_max)) → (h : Thinned given depths context c (means given depths e)) → Thins plan given.setting in_hard (repeats (given.setting).text lo hi greedy h.handed) (repeats (given.setting).text lo hi greedy (means given depths e)) →
         Thinned given depths in_hard (repeat_code greedy c (loop_form lo hi may_be_empty)) (repeats (given.setting).text lo hi greedy (means given depths e))
     loop_works in_hard context hi wr small fine h serves = record {
       handed = repeats (given.setting).text lo hi greedy h.handed;

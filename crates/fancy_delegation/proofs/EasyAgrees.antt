@@ -6,7 +6,7 @@ use Rattle.fancy_meaning.specs.Nodes.{nodes, is_read}
 use Rattle.fancy_meaning.specs.OpenCalls.{Depths}
 use Rattle.fancy_meaning.specs.Ways.{Setting, ways}
 use Rattle.fancy_meaning.specs.Options.{Analysis}
-use Rattle.fancy_meaning.specs.Hard.{is_hard, any_hard, may_be_empty}
+use Rattle.fancy_meaning.specs.Hard.{is_hard, any_hard, is_hard_by_size}
 use Rattle.fancy_meaning.specs.Sizes.{size}
 use Rattle.fancy_meaning.specs.Premises.{Analysed, analysis, tree_of, IsText}
 use Rattle.fancy_meaning.specs.Laws.{SizeLaw}
@@ -19,7 +19,7 @@ use Rattle.fancy_delegation.proofs.Evenly.{Evenly, exactly, at_least_one, evenly
 abbrev pub TakesEvenly : Analysis → Tree → Type 0
 TakesEvenly a e = ((size a.tree e).is_const ≡ true) ⊎ (0 < (size a.tree e).least)
 
-not_empty : (a : Analysis) (e : Tree) → a.find_not_empty ≡ true → may_be_empty a e ≡ false → TakesEvenly a e
+not_empty : (a : Analysis) (e : Tree) → a.find_not_empty ≡ true → is_hard_by_size a e ≡ false → TakesEvenly a e
 not_empty a e asked h = ⊎_elim
     (λ some. ⊎_elim (λ not_asked. cc) (λ least. inr (positive (size a.tree e).least (eqb-false (size a.tree e).least 0 least))) (and_cases a.find_not_empty ((size a.tree e).least == 0) some))
     (λ const. inl (not-false (size a.tree e).is_const const))
@@ -53,10 +53,10 @@ easy_takes_evenly a (LookAround look e) h asked = cc
 easy_takes_evenly a (AtomicGroup e) h asked = cc
 easy_takes_evenly a (AbsentRepeater e) h asked = cc
 easy_takes_evenly a (Conditional c t f) h asked = cc
-easy_takes_evenly a (Group g e) h asked = not_empty a (Group g e) asked (or_parts (is_read a.tree g || is_hard a e) (may_be_empty a (Group g e)) h).1
-easy_takes_evenly a (Repeat lo hi greedy e) h asked = not_empty a (Repeat lo hi greedy e) asked (or_parts (is_hard a e) (may_be_empty a (Repeat lo hi greedy e)) h).1
-easy_takes_evenly a (Concat es) h asked = not_empty a (Concat es) asked (or_parts (any_hard a es) (may_be_empty a (Concat es)) h).1
-easy_takes_evenly a (Alt es) h asked = not_empty a (Alt es) asked (or_parts (any_hard a es) (may_be_empty a (Alt es)) h).1
+easy_takes_evenly a (Group g e) h asked = not_empty a (Group g e) asked (or_parts (is_read a.tree g || is_hard a e) (is_hard_by_size a (Group g e)) h).1
+easy_takes_evenly a (Repeat lo hi greedy e) h asked = not_empty a (Repeat lo hi greedy e) asked (or_parts (is_hard a e) (is_hard_by_size a (Repeat lo hi greedy e)) h).1
+easy_takes_evenly a (Concat es) h asked = not_empty a (Concat es) asked (or_parts (any_hard a es) (is_hard_by_size a (Concat es)) h).1
+easy_takes_evenly a (Alt es) h asked = not_empty a (Alt es) asked (or_parts (any_hard a es) (is_hard_by_size a (Alt es)) h).1
 
 module _ (size_law : SizeLaw) where
   module _ (q : Setting) (a : Analysed) (is_text : IsText q.text) (e : Tree) (depths : Depths) (there : IsIn e (nodes (tree_of a))) where

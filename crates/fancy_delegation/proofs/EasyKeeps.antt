@@ -86,7 +86,7 @@ module _ (p : Plan) (same : SameEndText p) where
 
   flag_counts_not : (w : Within) (x : Assertion) → IsEasy p.analysis (Assert w x) → is_of_end (assertion_within w x) ≡ true → p.end_text ≡ false
   flag_counts_not w x h e =
-      let unset = end_assertion p.analysis w x h e in
+      let usize_max = end_assertion p.analysis w x h e in
       false_from_ne_true p.end_text (λ set. let other = same set in cc)
 
   agree_spans : (g : ℕ) (e : Tree) (span : Span) (s t : MatchState) → IsEasy p.analysis (Group g e) → Agree p s t → Agree p s (with_span g span t)

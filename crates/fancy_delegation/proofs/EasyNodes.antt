@@ -4,7 +4,7 @@ use Rattle.std.proofs.lemmas.Bool.{or_parts}
 use Rattle.fancy_meaning.specs.Tree.{Tree, Trees, none, more, parts, Empty, KeepOut, ContinueFromPreviousMatchEnd, AbsentClear, Any, Assert, GeneralNewline, Literal, LiteralBytes, Delegate, Concat, Alt, Group, LookAround, Repeat, Backref, BackrefWithLevel, BackrefExists, AtomicGroup, DefineGroup, AbsentRepeater, AbsentStopper, AbsentExpression, Control, Conditional, SubroutineCall, AstNode}
 use Rattle.fancy_meaning.specs.Nodes.{is_read}
 use Rattle.fancy_meaning.specs.Options.{Analysis}
-use Rattle.fancy_meaning.specs.Hard.{is_hard, any_hard, may_be_empty}
+use Rattle.fancy_meaning.specs.Hard.{is_hard, any_hard, is_hard_by_size}
 use Rattle.fancy_meaning.specs.CompileRefusals.{IsAmong, here, there}
 use Rattle.fancy_meaning.specs.Theorems.{IsPartOf, itself, below, EasyHasNoReadGroup}
 use Rattle.fancy_delegation.proofs.Everywhere.{Below, EachBelow, Everywhere, everywhere_weaken}
@@ -20,16 +20,16 @@ AllEasy a es = any_hard a es ≡ false
 -- of what an easy node is made
 pub easy_group : (a : Analysis) (g : ℕ) (e : Tree) → IsEasy a (Group g e) → (is_read a.tree g ≡ false) × IsEasy a e
 easy_group a g e h =
-    or_parts (is_read a.tree g) (is_hard a e) (or_parts (is_read a.tree g || is_hard a e) (may_be_empty a (Group g e)) h).0
+    or_parts (is_read a.tree g) (is_hard a e) (or_parts (is_read a.tree g || is_hard a e) (is_hard_by_size a (Group g e)) h).0
 
 pub easy_repeat : (a : Analysis) (lo : ℕ) (hi : Option ℕ) (greedy : Bool) (e : Tree) → IsEasy a (Repeat lo hi greedy e) → IsEasy a e
-easy_repeat a lo hi greedy e h = (or_parts (is_hard a e) (may_be_empty a (Repeat lo hi greedy e)) h).0
+easy_repeat a lo hi greedy e h = (or_parts (is_hard a e) (is_hard_by_size a (Repeat lo hi greedy e)) h).0
 
 pub easy_concat : (a : Analysis) (es : Trees) → IsEasy a (Concat es) → AllEasy a es
-easy_concat a es h = (or_parts (any_hard a es) (may_be_empty a (Concat es)) h).0
+easy_concat a es h = (or_parts (any_hard a es) (is_hard_by_size a (Concat es)) h).0
 
 pub easy_alt : (a : Analysis) (es : Trees) → IsEasy a (Alt es) → AllEasy a es
-easy_alt a es h = (or_parts (any_hard a es) (may_be_empty a (Alt es)) h).0
+easy_alt a es h = (or_parts (any_hard a es) (is_hard_by_size a (Alt es)) h).0
 
 pub easy_each : (a : Analysis) (e : Tree) (es : Trees) → AllEasy a (more e es) → IsEasy a e × AllEasy a es
 easy_each a e es h = or_parts (is_hard a e) (any_hard a es) h

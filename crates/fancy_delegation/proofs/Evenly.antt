@@ -7,7 +7,8 @@ use Rattle.fancy_meaning.specs.OpenCalls.{Depths}
 use Rattle.fancy_meaning.specs.Places.{chars_between}
 use Rattle.fancy_meaning.specs.MatchState.{MatchState, Ways}
 use Rattle.fancy_meaning.specs.Ways.{Setting, ways}
-use Rattle.fancy_meaning.specs.Sizes.{size, no_bound}
+use Rattle.fancy_meaning.specs.Sizes.{size}
+use Rattle.fancy_meaning.specs.Numbers.{usize_max}
 use Rattle.fancy_meaning.specs.Premises.{Analysed, tree_of, IsText, IsSized, IsSound}
 use Rattle.fancy_meaning.specs.Laws.{SizeLaw}
 use Rattle.fancy_delegation.proofs.Every.{Every, no_item, item, IsIn, every_from, every_weaken, every_both, every_flat_map, every_is_in, contained_is_in}
@@ -90,9 +91,9 @@ module _ (size_law : SizeLaw) (q : Setting) (a : Analysed) (is_text : IsText q.t
   sizes s sound = every_from (ways q (tree_of a) e depths s) (λ t i. size_law q a e depths s t is_text (contained_is_in there) sound (contained_is_in i))
 
   pub const_takes : (size (tree_of a) e).is_const ≡ true → TakesExactly q (tree_of a) (size (tree_of a) e).least (ways q (tree_of a) e depths)
-  const_takes c s sound = every_weaken (λ t z. here t z.0 z.1 (cases_lt (size (tree_of a) e).least no_bound)) (sizes s sound)
+  const_takes c s sound = every_weaken (λ t z. here t z.0 z.1 (cases_lt (size (tree_of a) e).least usize_max)) (sizes s sound)
     where
-      here : (t : MatchState) → IsSound q (tree_of a) t → IsSized (size (tree_of a) e) (chars_between q.text s.place t.place) → ((size (tree_of a) e).least < no_bound) ⊎ (no_bound ≤ (size (tree_of a) e).least) → chars_between q.text s.place t.place ≡ (size (tree_of a) e).least
+      here : (t : MatchState) → IsSound q (tree_of a) t → IsSized (size (tree_of a) e) (chars_between q.text s.place t.place) → ((size (tree_of a) e).least < usize_max) ⊎ (usize_max ≤ (size (tree_of a) e).least) → chars_between q.text s.place t.place ≡ (size (tree_of a) e).least
       here t ok z (inl lt) = z.exact c lt
       here t ok z (inr le) =
           let few = chars_fit q.text s.place t.place in

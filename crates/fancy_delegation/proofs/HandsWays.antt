@@ -8,7 +8,7 @@ use Rattle.fancy_meaning.specs.MatchState.{MatchState, Ways, stays, fails, and_t
 use Rattle.fancy_meaning.specs.Loops.{repeats}
 use Rattle.fancy_meaning.specs.Ways.{Setting, captured, ahead, unless, atomic, conditional, ends_here, absent, ways_with, ways}
 use Rattle.fancy_meaning.specs.Options.{CompileOptions}
-use Rattle.fancy_meaning.specs.Answer.{unset}
+use Rattle.fancy_meaning.specs.Numbers.{usize_max}
 use Rattle.fancy_meaning.specs.Sizes.{Size}
 use Rattle.fancy_meaning.specs.Instr.{Instr}
 use Rattle.fancy_meaning.specs.Code.{Code, nothing, one, ◌>>◌, branch}
@@ -47,7 +47,7 @@ module _ (a : Analysed) (o : CompileOptions) (q : Setting) where
   pub record IsReady : Type 0 where
     pub there : (e : Tree) → IsWritten (tree_of a) e → IsIn e (nodes (tree_of a))
     pub choices : (es : Trees) → IsWritten (tree_of a) (Alt es) → es ≢ none
-    pub bounds : (lo : ℕ) (hi : Option ℕ) (greedy : Bool) (e : Tree) → IsWritten (tree_of a) (Repeat lo hi greedy e) → (lo < unset) × IfSome hi (λ n. (lo ≤ n) × (n < unset))
+    pub bounds : (lo : ℕ) (hi : Option ℕ) (greedy : Bool) (e : Tree) → IsWritten (tree_of a) (Repeat lo hi greedy e) → (lo < usize_max) × IfSome hi (λ n. (lo ≤ n) × (n < usize_max))
     pub opens : (g : ℕ) (e : Tree) (depths : Depths) → target (tree_of a) g ≡ Some e → depths g < call_depth → free_calls (tree_of a) depths ≡ suc (free_calls (tree_of a) (opened g depths))
     pub begins : (g : ℕ) (e : Tree) → target (tree_of a) (suc g) ≡ Some e → is_at_start (plan_for a o) (λ d. false) (suc g) ≡ true → begins_with_continue (tree_of a) e ≡ true → begins_with_continue (tree_of a) (tree_of a) ≡ true
     pub allowed : (e : Tree) (error : CompileError) → IsWritten (tree_of a) e → ¬ RefusesNode (plan_for a o) e error
@@ -66,7 +66,7 @@ module _ (a : Analysed) (o : CompileOptions) (q : Setting) where
     pub hands_behind : (z : Size) (c : Code) (f : Ways) → z.is_const ≡ true → SizedBy z f → KeepsSound q (tree_of a) f → Works c f → Works (behind_code look_code (z, c)) (ends_here q f)
     pub hands_not_behind : (z : Size) (c : Code) (f : Ways) → z.is_const ≡ true → SizedBy z f → KeepsSound q (tree_of a) f → Works c f → Works (behind_code negative_look_code (z, c)) (unless (ends_here q f))
     pub hands_choice : (c d x : Code) (f g e : Ways) → KeepsSound q (tree_of a) f → Works c f → Works d g → Works x e → Works (conditional_code c d x) (conditional f g e)
-    pub hands_loop : (lo : ℕ) (hi : Option ℕ) (greedy may_be_empty : Bool) (c : Code) (f : Ways) → lo < unset → IfSome hi (λ n. (lo ≤ n) × (n < unset)) → KeepsSound q (tree_of a) f → (may_be_empty ≡ false → TakesSome q (tree_of a) f) → (is_never hi ≡ false → Works c f) →
+    pub hands_loop : (lo : ℕ) (hi : Option ℕ) (greedy may_be_empty : Bool) (c : Code) (f : Ways) → lo < usize_max → IfSome hi (λ n. (lo ≤ n) × (n < usize_max)) → KeepsSound q (tree_of a) f → (may_be_empty ≡ false → TakesSome q (tree_of a) f) → (is_never hi ≡ false → Works c f) →
         Works (repeat_code greedy c (loop_form lo hi may_be_empty)) (repeats q.text lo hi greedy f)
     pub hands_absent : (c : Code) (f : Ways) → Works c f → Works (absent_code c) (absent q f)
     -- a delegate hands the first way of its nodes, one after the other

@@ -30,22 +30,22 @@ use Rattle.fancy_delegation.proofs.Serving.{serves_by}
 use Rattle.fancy_delegation.proofs.OnMachine.{analysed_of, w, setup}
 
 -- what holds on every ground of an accepted tree's program
-abbrev OnEveryGround : ((i : Input) → IsAccepted i (layout (plan i)) → Ground → Type 0) → Type 0
+abbrev OnEveryGround : ((i : Input) → IsAccepted i (length (layout (plan i)).body) → Ground → Type 0) → Type 0
 OnEveryGround P =
-    (i : Input) (accepted : IsAccepted i (layout (plan i))) (task : Task) (is_text : IsText task.text) (fits : IsProgramFor (plan i) task.program) (start : ℕ) (base : List Branch) (bottom : ℕ → Course)
+    (i : Input) (accepted : IsAccepted i (length (layout (plan i)).body)) (task : Task) (is_text : IsText task.text) (fits : IsProgramFor (plan i) task.program) (start : ℕ) (base : List Branch) (bottom : ℕ → Course)
     (falls : (count : ℕ) → To (after task (fail_to task base (config 0 0 (λ s. 0) [] [] start count))) (bottom count)) →
-    P i accepted (w i (layout (plan i)) accepted task is_text fits start base bottom falls)
+    P i accepted (w i (length (layout (plan i)).body) accepted task is_text fits start base bottom falls)
 
 -- a batch hands the first way of its nodes, one after the other
 abbrev pub BatchesWork : Type 0
 BatchesWork = OnEveryGround (λ i accepted g.
-    (es : List Tree) (depths : Depths) → Every (IsDelegated (analysed_of i (layout (plan i)) accepted)) es → Every (IsWritten (plan i).analysis.tree) es →
-    Works g (batch (i.options).unicode es) (first_of_batch (setting g) (analysed_of i (layout (plan i)) accepted) depths es))
+    (es : List Tree) (depths : Depths) → Every (IsDelegated (analysed_of i (length (layout (plan i)).body) accepted)) es → Every (IsWritten (plan i).analysis.tree) es →
+    Works g (batch (i.options).unicode es) (first_of_batch (setting g) (analysed_of i (length (layout (plan i)).body) accepted) depths es))
 
 -- an absent repeater of an easy body hands all of its ways
 abbrev pub EasyRepeatersWork : Type 0
 EasyRepeatersWork = OnEveryGround (λ i accepted g.
-    (e : Tree) (depths : Depths) → IsDelegated (analysed_of i (layout (plan i)) accepted) e → IsWritten (plan i).analysis.tree (AbsentRepeater e) →
+    (e : Tree) (depths : Depths) → IsDelegated (analysed_of i (length (layout (plan i)).body) accepted) e → IsWritten (plan i).analysis.tree (AbsentRepeater e) →
     Works g (one (Instr.AbsentRepeater (pattern_of (i.options).unicode (e ∷ [])) (fragment (i.options).unicode (e ∷ [])) (group_range (e ∷ []))))
     (absent (setting g) (ways (setting g) (plan i).analysis.tree e depths)))
 
@@ -64,9 +64,9 @@ delegation_is_harmless batches repeaters i e depths at_start in_hard accepted wr
     let program = layout (plan i) in
     let bottom : ℕ → _ = λ count. after t (fail_to t c.branches (config 0 0 (λ k. 0) [] [] c.start count)) in
     let falls : (count : ℕ) → To (after t (fail_to t c.branches (config 0 0 (λ k. 0) [] [] c.start count))) (bottom count) = λ count. to_same in
-    let g : Ground = w i program accepted t is_text fits c.start c.branches bottom falls in
+    let g : Ground = w i (length program.body) accepted t is_text fits c.start c.branches bottom falls in
     let stop : MayStop g = none_gives_up g c goes_on refl in
-    let given : Setup = setup i program accepted t is_text fits c.start c.branches bottom falls (λ y. stop)
+    let given : Setup = setup i (length program.body) accepted t is_text fits c.start c.branches bottom falls (λ y. stop)
     (batches i accepted t is_text fits c.start c.branches bottom falls) (repeaters i accepted t is_text fits c.start c.branches bottom falls) in
     let h = delegation_thins given depths e wr at_start in_hard (λ x y. stop) in
     let works : Works g (code_of (plan i) (is_easy given.tree) depths e at_start in_hard) h.handed = h.works in

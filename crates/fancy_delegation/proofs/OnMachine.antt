@@ -42,19 +42,19 @@ every_among (item r h) at_head = r
 every_among (item r h) (further m) = every_among h m
 
 -- the tree of a plan that is accepted
-abbrev pub analysed_of : (i : Input) (program : Prog) → IsAccepted i program → Analysed
-analysed_of i program accepted = record { parsed = i.parsed; options = i.analysis; well_formed = accepted.well_formed }
+abbrev pub analysed_of : (i : Input) (instructions : ℕ) → IsAccepted i instructions → Analysed
+analysed_of i instructions accepted = record { parsed = i.parsed; options = i.analysis; well_formed = accepted.well_formed }
 
-module _ (i : Input) (program : Prog) (accepted : IsAccepted i program) (task : Task) (is_text : IsText task.text) (fits : IsProgramFor (plan i) task.program) (start : ℕ) (base : List Branch) (bottom : ℕ → Course)
+module _ (i : Input) (instructions : ℕ) (accepted : IsAccepted i instructions) (task : Task) (is_text : IsText task.text) (fits : IsProgramFor (plan i) task.program) (start : ℕ) (base : List Branch) (bottom : ℕ → Course)
     (falls : (count : ℕ) → To (after task (fail_to task base (config 0 0 (λ s. 0) [] [] start count))) (bottom count)) where
   abbrev pub w : Ground
-  w = ground i program accepted task is_text fits start base bottom falls
+  w = ground i instructions accepted task is_text fits start base bottom falls
 
   abbrev r : Ready w
-  r = ready i program accepted task is_text fits start base bottom falls
+  r = ready i instructions accepted task is_text fits start base bottom falls
 
   abbrev pub a : Analysed
-  a = analysed_of i program accepted
+  a = analysed_of i instructions accepted
 
   abbrev pub q : Setting
   q = setting w

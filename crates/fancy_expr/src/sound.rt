@@ -2,7 +2,7 @@
 
 ghost use Rattle.std.specs.Prelude.{◌≡◌, ◌<◌, ◌^◌, ◌↔◌, All, IfSome, FitsSigned, IsTrue, true, length, chars};
 ghost use Rattle.std.specs.Int.{w64};
-ghost use Rattle.fancy_meaning.specs.WellFormed.{Fits};
+ghost use Rattle.fancy_meaning.specs.WellFormed.{IsUsize};
 ghost use Rattle.fancy_expr.specs.Sound.{IsSound, AllSound};
 
 use crate::expr::Expr;
@@ -58,7 +58,7 @@ pub fn all_sound(expr: &Expr) -> bool
 // A value of a type is one of that type: these are always true, and their contracts say what that means.
 
 fn is_number(n: usize) -> bool
-    ensures { (result ≡ true) × Fits n }
+    ensures { (result ≡ true) × IsUsize n }
 {
     let _ = n;
     true

@@ -2,7 +2,7 @@
 use Rattle.std.proofs.Common.{◌≡◌, ℕ, ◌+◌, ◌<◌, ◌≤◌, Bool, true, false, ◌&&◌, if◌then◌else◌, List, [], ◌∷◌, length, arith, length-append, refl}
 use Rattle.std.proofs.lemmas.Bool.{lt-ltb}
 use Rattle.fancy_meaning.specs.Instr.{Instr}
-use Rattle.fancy_meaning.specs.Code.{Code, nothing, one, ◌>>◌, in_turn, with_slot, headed, from_here, one_at, branch, branches}
+use Rattle.fancy_meaning.specs.Code.{Code, nothing, one, ◌>>◌, in_turn, over_fresh_slot, headed, from_here, one_at, branch, branches}
 use Rattle.fancy_meaning.specs.Fits.{instr_fits}
 use Rattle.fancy_laws.proofs.Every.{Every, no_item, item, every_append}
 
@@ -56,7 +56,7 @@ module _ (len slots : ℕ) where
   }
 
   pub fits_slot : {P : Type 0} (code : ℕ → Code) → ((slot : ℕ) → FitsIf (P × (slot < slots)) (code slot)) →
-      FitsIf P (with_slot code)
+      FitsIf P (over_fresh_slot code)
   fits_slot code f = record {
     grows = λ base fresh. let u = (f fresh).grows base (fresh + 1) in omega (arith, u);
     good = λ p base fresh s e.

@@ -4,7 +4,7 @@ use Rattle.std.proofs.lemmas.Bool.{lt-ltb}
 use Rattle.fancy_meaning.specs.Tree.{Look, LookAhead, LookAheadNeg, LookBehind, LookBehindNeg}
 use Rattle.fancy_meaning.specs.Sizes.{Size}
 use Rattle.fancy_meaning.specs.Instr.{Instr, Newline}
-use Rattle.fancy_meaning.specs.Code.{Code, nothing, one, ◌>>◌, in_turn, with_slot, headed, one_at, branch, branches}
+use Rattle.fancy_meaning.specs.Code.{Code, nothing, one, ◌>>◌, in_turn, over_fresh_slot, headed, one_at, branch, branches}
 use Rattle.fancy_meaning.specs.Constructs.{group_code, atomic_code, conditional_code, newline_code, look_code, negative_look_code, behind_code, look_around_code, LoopForm, Never, AtMostOnce, Epsilon, Star, Plus, Counted, split, loop_code, epsilon_code, counted_code, repeat_code, absent_code}
 use Rattle.fancy_laws.proofs.Every.{Every, every_map}
 use Rattle.fancy_fits.proofs.Codes.{both, Good, FitsIf, fits_where, fits_if, fits_nothing, fits_one, fits_next, fits_slot, fits_headed, fits_from_here, fits_one_at, good_split, good_jump, fits_branch, fits_branches, fits_in_turn}
@@ -115,7 +115,7 @@ module _ (len slots : ℕ) where
   pub fits_epsilon : (greedy : Bool) (lo : ℕ) (body : Code) → Fits body → Fits (epsilon_code greedy lo body)
   fits_epsilon greedy lo body f =
       fits_slot len slots
-      (λ repeat. with_slot (λ check. one (Instr.Save0 repeat) >> loop_code (λ here after. Instr.RepeatEpsilon greedy lo after repeat check) body))
+      (λ repeat. over_fresh_slot (λ check. one (Instr.Save0 repeat) >> loop_code (λ here after. Instr.RepeatEpsilon greedy lo after repeat check) body))
       (λ repeat.
       fits_slot len slots
       (λ check. one (Instr.Save0 repeat) >> loop_code (λ here after. Instr.RepeatEpsilon greedy lo after repeat check) body)

@@ -13,7 +13,7 @@ use Rattle.fancy_meaning.specs.Instr.{Instr}
 use Rattle.fancy_meaning.specs.Code.{Laid, Code, nothing, one, ◌>>◌}
 use Rattle.fancy_meaning.specs.Layout.{root_code, called_code, search_code, edge_code, end_text_code, program_code, group_numbers, first_fresh, program, layout, undelegated_layout}
 use Rattle.fancy_meaning.specs.Hard.{is_hard}
-use Rattle.fancy_meaning.specs.Fits.{instr_fits, is_end, program_fits}
+use Rattle.fancy_meaning.specs.Fits.{instr_fits, is_end_instr, program_fits}
 use Rattle.fancy_meaning.specs.Premises.{plan}
 use Rattle.fancy_meaning.specs.Theorems.{LayoutsFit}
 use Rattle.fancy_laws.proofs.Every.{Every, no_item, item, every_append}
@@ -27,7 +27,7 @@ use Rattle.fancy_fits.proofs.Accepted.{known}
 abbrev EndsWell : List Instr → Type 0
 EndsWell is = (before : List Instr) × (is ≡ before ++ Instr.End ∷ [])
 
-last_is_end : (is : List Instr) → EndsWell is → is_end (slice_get is (length is - 1)) ≡ true
+last_is_end : (is : List Instr) → EndsWell is → is_end_instr (slice_get is (length is - 1)) ≡ true
 last_is_end is e =
     let before = e.0 in
     let sum = length-append before (Instr.End ∷ []) in
@@ -35,8 +35,8 @@ last_is_end is e =
     let there : slice_get (before ++ Instr.End ∷ []) (length before) ≡ Some Instr.End =
     slice_get-get_or (before ++ Instr.End ∷ []) (length before) Instr.End (omega (arith, sum))
     ∙ ap Some (get_or-append_seam before Instr.End [] Instr.End) in
-    subst (λ l. is_end (slice_get l (length l - 1)) ≡ true) (sym e.1)
-    (ap (λ n. is_end (slice_get (before ++ Instr.End ∷ []) n)) at ∙ ap is_end there)
+    subst (λ l. is_end_instr (slice_get l (length l - 1)) ≡ true) (sym e.1)
+    (ap (λ n. is_end_instr (slice_get (before ++ Instr.End ∷ []) n)) at ∙ ap is_end_instr there)
 
 all_pass : (test : Instr → Bool) {is : List Instr} → Every (λ i. test i ≡ true) is → list_all test is ≡ true
 all_pass test no_item = refl

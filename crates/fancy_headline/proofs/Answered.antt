@@ -1,5 +1,5 @@
 -- A run of the program with delegates answers what the tree means.
-use Rattle.std.proofs.Common.{ℕ, Bool, false, not, List, sym, ◌∙◌, arith}
+use Rattle.std.proofs.Common.{ℕ, Bool, false, not, List, sym, ◌∙◌, arith, length}
 use Rattle.fancy_meaning.specs.Tree.{Tree}
 use Rattle.fancy_meaning.specs.OpenCalls.{no_calls}
 use Rattle.fancy_meaning.specs.MatchState.{first_state}
@@ -28,7 +28,7 @@ delegation_is_harmless = harmless.delegation_is_harmless batches_work easy_repea
 abbrev pub easy : Input → Tree → Bool
 easy i e = not (is_hard (plan i).analysis e)
 
-module _ (i : Input) (text : List ℕ) (o : RunOptions) (accepted : IsAccepted i (program (plan i) (easy i)))
+module _ (i : Input) (text : List ℕ) (o : RunOptions) (accepted : IsAccepted i (length (program (plan i) (easy i)).body))
     (fit : IsFit i text o) where
   -- the whole tree hands a list in which the last test finds first what it finds in the ways
   roots_hand : RootHands i text o (easy i) accepted fit
@@ -37,7 +37,7 @@ module _ (i : Input) (text : List ℕ) (o : RunOptions) (accepted : IsAccepted i
       let t = task i text o (easy i) accepted fit in
       let search = q i text o (easy i) accepted fit in
       let ok = fits i text o (easy i) accepted fit in
-      let given = setup i (program (plan i) (easy i)) accepted t fit.is_text ok start base (λ n. other) falls stop
+      let given = setup i (length (program (plan i) (easy i)).body) accepted t fit.is_text ok start base (λ n. other) falls stop
       (batches_work i accepted t fit.is_text ok start base (λ n. other) falls)
       (easy_repeaters_work i accepted t fit.is_text ok start base (λ n. other) falls) in
       let h = whole_thins given no_calls false in

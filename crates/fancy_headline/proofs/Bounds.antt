@@ -19,7 +19,8 @@ use Rattle.fancy_meaning.specs.Config.{Slots, Branch, Config, Goes, push}
 use Rattle.fancy_meaning.specs.Machine.{Task, exec, goes_from, run, begin}
 use Rattle.fancy_meaning.specs.Premises.{Input, plan, IsAccepted, IsFit}
 use Rattle.fancy_meaning.specs.Theorems.{BacktrackBound, InstructionBound}
-use Rattle.fancy_meaning.specs.Answer.{search_of, starts, unset}
+use Rattle.fancy_meaning.specs.Answer.{search_of, starts}
+use Rattle.fancy_meaning.specs.Numbers.{usize_max}
 use Rattle.fancy_composed.proofs.Courses.{after, config}
 use Rattle.fancy_composed.proofs.Parts.{place_within}
 use Rattle.fancy_composed.proofs.Places.{char_stands, places_on, places_at_end}
@@ -30,7 +31,7 @@ use Rattle.fancy_headline.proofs.Answered.{easy}
 use Rattle.fancy_headline.proofs.Plain.{AtMostOne, batch_plain}
 use Rattle.fancy_headline.proofs.Bounded.{IsBounded, bounded_more, no_match_bounded, step_bounded, FailsBounded, none_left, one_left, IsAt, attempt_bounded}
 
-module _ (i : Input) (text : List ℕ) (o : RunOptions) (accepted : IsAccepted i (program (plan i) (easy i)))
+module _ (i : Input) (text : List ℕ) (o : RunOptions) (accepted : IsAccepted i (length (program (plan i) (easy i)).body))
     (fit : IsFit i text o)
     (all_easy : is_root_hard (plan i).analysis ≡ false) where
   abbrev task : Task
@@ -70,7 +71,7 @@ module _ (i : Input) (text : List ℕ) (o : RunOptions) (accepted : IsAccepted i
   -- ---- the search
 
   abbrev no_slots : Slots
-  no_slots = λ k. unset
+  no_slots = λ k. usize_max
 
   module _ (at : Searching (plan i) (easy i) accepted.implicit_group_0) where
     -- the branch of an attempt

@@ -23,7 +23,7 @@ use Rattle.fancy_composed.proofs.Hands.{Hands, none, one, from}
 use Rattle.fancy_composed.proofs.Parts.{setting, flag, flag_is, whole, Stands, After, Works}
 use Rattle.fancy_composed.proofs.Alike.{alike_same}
 use Rattle.fancy_delegation.proofs.EasyNodes.{IsEasy}
-use Rattle.fancy_meaning.specs.Answer.{unset}
+use Rattle.fancy_meaning.specs.Numbers.{usize_max}
 
 -- ---- the groups that a part sets
 
@@ -127,7 +127,7 @@ module _ (w : Ground) where
         ∙ ap end_number (sym (over.spans g));
     flagged = λ e.
         pair_none k.captures slots (flag w) (sym (unused (flag w / 2) (inr (omega (arith, flag_is w)))))
-        ∙ st.flagged e ∙ ap (λ v. if v then 1 else unset) (same_flag (sym (w.fits).end_text ∙ e));
+        ∙ st.flagged e ∙ ap (λ v. if v then 1 else usize_max) (same_flag (sym (w.fits).end_text ∙ e));
   }
     where
       same_flag : (w.plan).end_text ≡ true → s.text_end ≡ h.text_end

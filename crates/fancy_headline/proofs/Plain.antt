@@ -9,7 +9,7 @@ use Rattle.fancy_meaning.specs.Instr.{Instr, Codepoint}
 use Rattle.fancy_meaning.specs.Batches.{all_joined, literal_chars, literal_instr, class_code, any_instr, delegate_code, batch_code, batch, pattern_of, fragment, group_range}
 use Rattle.fancy_meaning.specs.Code as code
 use Rattle.fancy_meaning.specs.Config.{Config, Next, Goes}
-use Rattle.fancy_meaning.specs.Machine.{Task, fail, goes_from, takes_way, step, class_test, first_of}
+use Rattle.fancy_meaning.specs.Machine.{Task, fail, goes_from, takes_way, step, class_test, first_way}
 use Rattle.fancy_headline.proofs.Batches.{no_name, some_name}
 
 -- it goes on at the next instruction with the same branches, or fails
@@ -69,7 +69,7 @@ module _ (t : Task) where
       by_name (p ∷ ps) e =
           subst (λ x. AtMostOne t (x a n).instrs) (sym (some_name unicode es p ps e))
           (one_instr (Instr.Delegate (p ∷ ps) (fragment unicode es) (group_range es))
-          (λ c. by_way c (first_of t (fragment unicode es) c.ix)))
+          (λ c. by_way c (first_way t (fragment unicode es) c.ix)))
 
   by_shape : (unicode : Bool) (o : Option (List (ℕ × Bool))) (es : List Tree) (a n : ℕ) →
       AtMostOne t (batch_code unicode o es a n).instrs

@@ -14,7 +14,7 @@ use Rattle.fancy_meaning.specs.Instr.{Instr}
 use Rattle.fancy_meaning.specs.Batches.{fragment}
 use Rattle.fancy_meaning.specs.Code as code
 use Rattle.fancy_meaning.specs.Config.{Slots, Branch, Config, Next, Goes, forward}
-use Rattle.fancy_meaning.specs.Machine.{first_of, takes_char}
+use Rattle.fancy_meaning.specs.Machine.{first_way, takes_char}
 use Rattle.fancy_delegation.proofs.Every.{no_item, item}
 use Rattle.fancy_delegation.proofs.EasyNodes.{IsEasy}
 use Rattle.fancy_delegation.proofs.Alike.{pairs_head}
@@ -41,14 +41,14 @@ module _ (w : Ground) (e : Tree) (easy : IsEasy (w.plan).analysis e) (meant : �
 
   -- whether it goes on behind itself from a place
   abbrev is_left : ℕ → Bool
-  is_left i = i == length text || is_some (first_of w.task (fragment (w.plan).unicode (e ∷ [])) i)
+  is_left i = i == length text || is_some (first_way w.task (fragment (w.plan).unicode (e ∷ [])) i)
 
   -- by that, and by the place after the next character
   abbrev onward : Bool → Option ℕ → Config → Next
   onward v o c = if v then Goes (forward c) else takes_char w.task c o
 
   -- a search from empty captures finds a way where there is one
-  found_alike : (s : MatchState) → is_some (first_of w.task (fragment (w.plan).unicode (e ∷ [])) s.place) ≡ has_way x s
+  found_alike : (s : MatchState) → is_some (first_way w.task (fragment (w.plan).unicode (e ∷ [])) s.place) ≡ has_way x s
   found_alike s =
       sym
       (pairs_head

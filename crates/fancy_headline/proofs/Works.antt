@@ -1,5 +1,5 @@
 -- Batches and absent repeaters of easy bodies work on every ground of an accepted tree's program.
-use Rattle.std.proofs.Common.{[], ◌∷◌, Contains, refl}
+use Rattle.std.proofs.Common.{length, [], ◌∷◌, Contains, refl}
 use Rattle.fancy_meaning.specs.Tree.{Tree, Group}
 use Rattle.fancy_meaning.specs.Nodes.{nodes, group_count}
 use Rattle.fancy_meaning.specs.OpenCalls.{free_calls}
@@ -34,9 +34,9 @@ module _ (g : Ground) (r : Ready g) where
 pub batches_work : BatchesWork
 batches_work i accepted task is_text fits start base bottom falls es depths h wr =
     let program = layout (plan i) in
-    let g = w i program accepted task is_text fits start base bottom falls in
-    let r = ready i program accepted task is_text fits start base bottom falls in
-    let a = analysed_of i program accepted in
+    let g = w i (length program.body) accepted task is_text fits start base bottom falls in
+    let r = ready i (length program.body) accepted task is_text fits start base bottom falls in
+    let a = analysed_of i (length program.body) accepted in
     works_batch g r (called (setting g) (whole g) (free_calls (whole g) depths) depths)
     (λ inner casei wd. class_there g r depths inner casei wd _ refl) es wr
     (every_weaken (λ e d. d.easy) h) (every_weaken (λ e d. numbered g r e d.there) h)
@@ -46,6 +46,6 @@ batches_work i accepted task is_text fits start base bottom falls es depths h wr
 
 pub easy_repeaters_work : EasyRepeatersWork
 easy_repeaters_work i accepted task is_text fits start base bottom falls e depths h wr =
-    let g = w i (layout (plan i)) accepted task is_text fits start base bottom falls in
+    let g = w i (length (layout (plan i)).body) accepted task is_text fits start base bottom falls in
     works_easy_absent g e h.easy (called (setting g) (whole g) (free_calls (whole g) depths) depths)
     (pattern_of (i.options).unicode (e ∷ [])) (group_range (e ∷ []))

@@ -38,8 +38,8 @@ pub record IsMotion (q : Setting) (Good : MatchState → Type 0) (Step : MatchSt
 
 module _ {q : Setting} {Good : MatchState → Type 0} {Step : MatchState → MatchState → Type 0} (m : IsMotion q Good Step) where
   -- each way is a step
-  abbrev pub Leads : Ways → Type 0
-  Leads w = (s : MatchState) → Good s → Every (Step s) (w s)
+  abbrev pub EachWayIsStep : Ways → Type 0
+  EachWayIsStep w = (s : MatchState) → Good s → Every (Step s) (w s)
 
   iterable : IsIterable Good Step (λ n s t. Step s t)
   iterable = record { arrives = m.arrives; none = m.stays; one_more = λ n s t u good. m.onward s t u good }
@@ -56,16 +56,16 @@ module _ {q : Setting} {Good : MatchState → Type 0} {Step : MatchState → Mat
   looking : IsLooking q Good Step Step
   looking = record { stays = m.stays; restores = m.restores; goes_back = m.goes_back; comes_here = m.comes_here }
 
-  lead_in_order : (ws : List Ways) → Every Leads ws → Leads (in_order ws)
+  lead_in_order : (ws : List Ways) → Every EachWayIsStep ws → EachWayIsStep (in_order ws)
   lead_in_order [] h s good = every_one (m.stays s good)
   lead_in_order (w ∷ ws) (item lead h) s good =
       every_flat_map (in_order ws)
       (λ t step. every_weaker (λ u. m.onward s t u good step) (lead_in_order ws h t (m.arrives s t good step)))
       (lead s good)
 
-  module _ (call : ℕ → Ways) (calls : (g : ℕ) → Leads (call g)) where
+  module _ (call : ℕ → Ways) (calls : (g : ℕ) → EachWayIsStep (call g)) where
     mutual
-      pub every_way_leads : (e : Tree) → Leads (ways_with q call e)
+      pub every_way_leads : (e : Tree) → EachWayIsStep (ways_with q call e)
       every_way_leads Empty s good = every_one (m.stays s good)
       every_way_leads KeepOut s good = every_one (m.keeps s good)
       every_way_leads ContinueFromPreviousMatchEnd s good =
@@ -114,34 +114,34 @@ module _ {q : Setting} {Good : MatchState → Type 0} {Step : MatchState → Mat
       every_way_leads (AbsentExpression a e) s good = no_item
       every_way_leads (AstNode node) s good = no_item
 
-      each_leads : (es : Trees) → Every Leads (each_ways q call es)
+      each_leads : (es : Trees) → Every EachWayIsStep (each_ways q call es)
       each_leads none = no_item
       each_leads (more e es) = item (every_way_leads e) (each_leads es)
 
   module _ (whole : Tree) where
-    lead_captured_by_call : (g : ℕ) (body : Ways) → Leads body → Leads (captured_by_call q whole g body)
+    lead_captured_by_call : (g : ℕ) (body : Ways) → EachWayIsStep body → EachWayIsStep (captured_by_call q whole g body)
     lead_captured_by_call zero body h s good = h s good
     lead_captured_by_call (suc g) body h s good =
         every_map {P = Step s} (λ t. with_span (suc g) (s.place, t.place) t) (λ t step. m.captures (suc g) s t good step)
         (h s good)
 
-    lead_target : (g : ℕ) (call : ℕ → Ways) → ((h : ℕ) → Leads (call h)) → (o : Option Tree) →
-        Leads (ways_of_target q whole g call o)
+    lead_target : (g : ℕ) (call : ℕ → Ways) → ((h : ℕ) → EachWayIsStep (call h)) → (o : Option Tree) →
+        EachWayIsStep (ways_of_target q whole g call o)
     lead_target g call calls None s good = no_item
     lead_target g call calls (Some body) s good =
         lead_captured_by_call g (ways_with q call body) (every_way_leads call calls body) s good
 
-    pub called_leads : (n : ℕ) (depths : Depths) (g : ℕ) → Leads (called q whole n depths g)
+    pub called_leads : (n : ℕ) (depths : Depths) (g : ℕ) → EachWayIsStep (called q whole n depths g)
     called_leads zero depths g s good = no_item
     called_leads (suc n) depths g s good =
         choose (nat_lt (depths g) call_depth)
         (lead_target g (called q whole n (opened g depths)) (called_leads n (opened g depths)) (target whole g))
       where
-        choose : (b : Bool) {w : Ways} → Leads w → Every (Step s) ((if b then w else (λ t. [])) s)
+        choose : (b : Bool) {w : Ways} → EachWayIsStep w → Every (Step s) ((if b then w else (λ t. [])) s)
         choose true h = h s good
         choose false h = no_item
 
     -- each way of a part of a tree, whatever calls are open
-    pub ways_lead : (e : Tree) (depths : Depths) → Leads (ways q whole e depths)
+    pub ways_lead : (e : Tree) (depths : Depths) → EachWayIsStep (ways q whole e depths)
     ways_lead e depths =
         every_way_leads (called q whole (free_calls whole depths) depths) (called_leads (free_calls whole depths) depths) e

@@ -6,7 +6,8 @@ use Rattle.std.proofs.Math.Nat.{mul-le-mul_right}
 use Rattle.fancy_meaning.specs.Tree.{Tree, Trees, none, more, Any, GeneralNewline, Literal, LiteralBytes, Delegate, Concat, Alt, Group, Repeat, Backref, BackrefWithLevel, AtomicGroup, AbsentRepeater, AbsentExpression, Conditional, SubroutineCall}
 use Rattle.fancy_meaning.specs.Nodes.{target, group_count}
 use Rattle.fancy_meaning.specs.Places.{range_from}
-use Rattle.fancy_meaning.specs.Sizes.{Size, Known, no_bound, saturated, exactly, between, plus, either, sum_of, any_of, most_times, is_exact, times, unknown, size_of_target, size_of_group, size_by, each_size, size_in_round, next_round, after_rounds, known_of, size}
+use Rattle.fancy_meaning.specs.Sizes.{Size, Known, saturated, exactly, between, plus, either, sum_of, any_of, most_times, is_exact, times, unknown, size_of_target, size_of_group, size_by, each_size, size_in_round, next_round, after_rounds, known_of, size}
+use Rattle.fancy_meaning.specs.Numbers.{usize_max}
 use Rattle.fancy_meaning.specs.Premises.{IsSized}
 use Rattle.fancy_laws.proofs.SizeRules.{IsBounded}
 
@@ -61,21 +62,21 @@ either_refines a b c d r s = record {
   bounded = omega (arith, r.bounded, s.bounded);
 }
 
-most_times_refines : (m k : ℕ) (hi : Option ℕ) → m ≤ k → k ≤ no_bound →
-    (most_times m hi ≤ most_times k hi) × (most_times k hi ≤ no_bound)
+most_times_refines : (m k : ℕ) (hi : Option ℕ) → m ≤ k → k ≤ usize_max →
+    (most_times m hi ≤ most_times k hi) × (most_times k hi ≤ usize_max)
 most_times_refines m k None le b = (omega arith, omega arith)
 most_times_refines m k (Some hi) le b = ⊎_elim
-    (λ same. let e = cond-true (k == no_bound) no_bound (saturated (k * hi)) same.0 in
+    (λ same. let e = cond-true (k == usize_max) usize_max (saturated (k * hi)) same.0 in
     (omega (arith, e, within m), omega (arith, e)))
-    (λ (other : (k == no_bound ≡ false) × (k ≢ no_bound)).
-    let below : m ≢ no_bound = λ e. other.1 (omega (arith, e, le, b)) in
-    let e = cond-false (k == no_bound) no_bound (saturated (k * hi)) other.0 in
-    let f = cond-false (m == no_bound) no_bound (saturated (m * hi)) (ne_eqb m no_bound below) in
+    (λ (other : (k == usize_max ≡ false) × (k ≢ usize_max)).
+    let below : m ≢ usize_max = λ e. other.1 (omega (arith, e, le, b)) in
+    let e = cond-false (k == usize_max) usize_max (saturated (k * hi)) other.0 in
+    let f = cond-false (m == usize_max) usize_max (saturated (m * hi)) (ne_eqb m usize_max below) in
     (omega (arith, e, f, mul-le-mul_right hi le), omega (arith, e)))
-    (eqb_tells k no_bound)
+    (eqb_tells k usize_max)
   where
-    within : (n : ℕ) → most_times n (Some hi) ≤ no_bound
-    within n = cond_both (n == no_bound) no_bound (saturated (n * hi)) (λ x. x ≤ no_bound) (λ e. omega arith) (λ e. omega arith)
+    within : (n : ℕ) → most_times n (Some hi) ≤ usize_max
+    within n = cond_both (n == usize_max) usize_max (saturated (n * hi)) (λ x. x ≤ usize_max) (λ e. omega arith) (λ e. omega arith)
 
 times_refines : (lo : ℕ) (hi : Option ℕ) (a c : Size) → Refines a c → Refines (times lo hi a) (times lo hi c)
 times_refines lo hi a c r =
@@ -145,7 +146,7 @@ module _ (fine coarse : Known) (known : KnownRefines fine coarse) where
         (size_by coarse f)
         (plus_refines (size_by fine c) (size_by fine t) (size_by coarse c) (size_by coarse t) (size_refines c) (size_refines t))
         (size_refines f)
-    size_refines (AbsentRepeater e) = same_size (between 0 no_bound) (omega arith)
+    size_refines (AbsentRepeater e) = same_size (between 0 usize_max) (omega arith)
     size_refines (AbsentExpression a e) = not_const (size_by fine e) (size_by coarse e) (size_refines e)
     size_refines (Backref g casei) = group_refines g
     size_refines (BackrefWithLevel g level casei) = group_refines g

@@ -3,7 +3,8 @@ use Rattle.std.proofs.Common.{◌≡◌, ◌≢◌, ℕ, suc, ◌+◌, ◌*◌, 
 use Rattle.std.proofs.lemmas.Bool.{and_parts, false≢true, cases_lt, cond-true, cond-false}
 use Rattle.std.proofs.lemmas.Bool.Decides.{eqb_tells}
 use Rattle.std.proofs.Math.Nat.{mul-le-mul_left}
-use Rattle.fancy_meaning.specs.Sizes.{Size, no_bound, saturated, exactly, plus, either, most_times, is_exact, times, unknown}
+use Rattle.fancy_meaning.specs.Sizes.{Size, saturated, exactly, plus, either, most_times, is_exact, times, unknown}
+use Rattle.fancy_meaning.specs.Numbers.{usize_max}
 use Rattle.fancy_meaning.specs.Premises.{IsSized}
 
 -- ---- saturation
@@ -25,9 +26,9 @@ sat_below b n lt = (omega (arith, lt), omega (arith, lt))
 
 pub sized_exactly : (n : ℕ) → IsSized (exactly n) n
 sized_exactly n = record {
-  at_least = sat_le no_bound n n (omega arith);
-  at_most = sat_most no_bound n n (omega arith);
-  exact = λ const below. sym (sat_below no_bound n below).1;
+  at_least = sat_le usize_max n n (omega arith);
+  at_most = sat_most usize_max n n (omega arith);
+  exact = λ const below. sym (sat_below usize_max n below).1;
 }
 
 pub sized_unknown : (n : ℕ) → IsSized unknown n
@@ -40,11 +41,11 @@ most_plus b m k n l (inr h) (inr k') = sat_most b (n + l) (m + k) (omega (arith,
 
 pub sized_plus : (a b : Size) (n m : ℕ) → IsSized a n → IsSized b m → IsSized (plus a b) (n + m)
 sized_plus a b n m h k = record {
-  at_least = sat_le no_bound (a.least + b.least) (n + m) (omega (arith, h.at_least, k.at_least));
-  at_most = most_plus no_bound a.most b.most n m h.at_most k.at_most;
+  at_least = sat_le usize_max (a.least + b.least) (n + m) (omega (arith, h.at_least, k.at_least));
+  at_most = most_plus usize_max a.most b.most n m h.at_most k.at_most;
   exact = λ const below.
       let both = and_parts a.is_const b.is_const const in
-      let is = sat_below no_bound (a.least + b.least) below in
+      let is = sat_below usize_max (a.least + b.least) below in
       let first : n ≡ a.least = h.exact both.0 (omega (arith, is.0)) in
       let last : m ≡ b.least = k.exact both.1 (omega (arith, is.0)) in
       omega (arith, first, last, is.1);
@@ -56,12 +57,12 @@ most_either b m k n mb kb (inr h) = inr (omega (arith, h))
 
 -- a greatest size is no more than the largest number
 abbrev pub IsBounded : Size → Type 0
-IsBounded z = z.most ≤ no_bound
+IsBounded z = z.most ≤ usize_max
 
 pub sized_either_left : (a b : Size) (n : ℕ) → IsBounded a → IsBounded b → IsSized a n → IsSized (either a b) n
 sized_either_left a b n ba bb h = record {
   at_least = omega (arith, h.at_least);
-  at_most = most_either no_bound a.most b.most n ba bb h.at_most;
+  at_most = most_either usize_max a.most b.most n ba bb h.at_most;
   exact = λ const below.
       let last = and_parts (a.is_const && b.is_const) (a.least == b.least) const in
       let same = eqb-true a.least b.least last.1 in
@@ -76,7 +77,7 @@ most_swap b m k n (inr h) = inr (omega (arith, h))
 pub sized_either_right : (a b : Size) (n : ℕ) → IsBounded a → IsBounded b → IsSized b n → IsSized (either a b) n
 sized_either_right a b n ba bb h = record {
   at_least = omega (arith, h.at_least);
-  at_most = most_swap no_bound b.most a.most n (most_either no_bound b.most a.most n bb ba h.at_most);
+  at_most = most_swap usize_max b.most a.most n (most_either usize_max b.most a.most n bb ba h.at_most);
   exact = λ const below.
       let last = and_parts (a.is_const && b.is_const) (a.least == b.least) const in
       let same = eqb-true a.least b.least last.1 in
@@ -89,8 +90,8 @@ sized_either_right a b n ba bb h = record {
 -- so many characters by k parts of the size
 pub record IsTimes (z : Size) (k n : ℕ) : Type 0 where
   pub at_least : z.least * k ≤ n
-  pub at_most : (z.most ≡ no_bound) ⊎ (n ≤ z.most * k)
-  pub exact : z.is_const ≡ true → z.least * k < no_bound → n ≡ z.least * k
+  pub at_most : (z.most ≡ usize_max) ⊎ (n ≤ z.most * k)
+  pub exact : z.is_const ≡ true → z.least * k < usize_max → n ≡ z.least * k
 
 pub no_times : (z : Size) → IsTimes z 0 0
 no_times z = record { at_least = omega arith; at_most = inr (omega arith); exact = λ const below. omega arith }
@@ -103,32 +104,32 @@ most_once_more b m k n l (inr h) (inr r) = inr (omega (arith, h, r))
 pub once_more : (z : Size) (k n m : ℕ) → IsSized z n → IsTimes z k m → IsTimes z (suc k) (n + m)
 once_more z k n m h t = record {
   at_least = omega (arith, h.at_least, t.at_least);
-  at_most = most_once_more no_bound z.most k n m h.at_most t.at_most;
+  at_most = most_once_more usize_max z.most k n m h.at_most t.at_most;
   exact = λ const below.
       let one : n ≡ z.least = h.exact const (omega (arith, below)) in
       let rest : m ≡ z.least * k = t.exact const (omega (arith, below)) in
       omega (arith, one, rest);
 }
 
-most_of_times : (most k n : ℕ) (hi : Option ℕ) → IfSome hi (λ h. k ≤ h) → (most ≡ no_bound) ⊎ (n ≤ most * k) →
-    (most_times most hi ≡ no_bound) ⊎ (n ≤ most_times most hi)
+most_of_times : (most k n : ℕ) (hi : Option ℕ) → IfSome hi (λ h. k ≤ h) → (most ≡ usize_max) ⊎ (n ≤ most * k) →
+    (most_times most hi ≡ usize_max) ⊎ (n ≤ most_times most hi)
 most_of_times most k n None le h = inl refl
 most_of_times most k n (Some hi) le h = ⊎_elim
-    (λ same. inl (cond-true (most == no_bound) no_bound (saturated (most * hi)) same.0))
-    (λ (other : (most == no_bound ≡ false) × (most ≢ no_bound)).
-    subst (λ m. (m ≡ no_bound) ⊎ (n ≤ m)) (sym (cond-false (most == no_bound) no_bound (saturated (most * hi)) other.0))
+    (λ same. inl (cond-true (most == usize_max) usize_max (saturated (most * hi)) same.0))
+    (λ (other : (most == usize_max ≡ false) × (most ≢ usize_max)).
+    subst (λ m. (m ≡ usize_max) ⊎ (n ≤ m)) (sym (cond-false (most == usize_max) usize_max (saturated (most * hi)) other.0))
     (⊎_elim (λ e. absurd (other.1 e))
-    (λ (below : n ≤ most * k). sat_most no_bound n (most * hi) (omega (arith, below, mul-le-mul_left most le))) h))
-    (eqb_tells most no_bound)
+    (λ (below : n ≤ most * k). sat_most usize_max n (most * hi) (omega (arith, below, mul-le-mul_left most le))) h))
+    (eqb_tells most usize_max)
 
 pub sized_times : (z : Size) (lo : ℕ) (hi : Option ℕ) (k n : ℕ) → lo ≤ k → IfSome hi (λ h. k ≤ h) → IsTimes z k n →
     IsSized (times lo hi z) n
 sized_times z lo hi k n from to t = record {
-  at_least = sat_le no_bound (z.least * lo) n (omega (arith, t.at_least, mul-le-mul_left z.least from));
+  at_least = sat_le usize_max (z.least * lo) n (omega (arith, t.at_least, mul-le-mul_left z.least from));
   at_most = most_of_times z.most k n hi to t.at_most;
   exact = λ const below.
       let both = and_parts z.is_const (is_exact lo hi) const in
-      let is = sat_below no_bound (z.least * lo) below in
+      let is = sat_below usize_max (z.least * lo) below in
       let as_many : k ≡ lo = count hi to both.1 in
       let same : z.least * k ≡ z.least * lo = ap (λ m. z.least * m) as_many in
       t.exact both.0 (omega (arith, same, is.0)) ∙ same ∙ sym is.1;

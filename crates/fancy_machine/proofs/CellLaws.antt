@@ -6,7 +6,7 @@ use Rattle.std.proofs.Math.Seq.{take-append_seam, get_or-append_seam}
 use Rattle.std.proofs.lemmas.Bool.{cond-true, cond-false, eq-eqb}
 use Rattle.std.proofs.lemmas.List.{reverse-append, length-reverse, length-replicate, length-append}
 use Rattle.std.proofs.lemmas.List.FromFn.{length-map-range_with_len, take-map-range_with_len, get_or-map-range_with_len, map-range_with_len_more}
-use Rattle.fancy_meaning.specs.Answer.{unset}
+use Rattle.fancy_meaning.specs.Numbers.{usize_max}
 use Rattle.fancy_meaning.specs.MatchState.{put}
 use Rattle.fancy_machine.specs.OldValues.{Cells, cells_of, slots_in, stack_in}
 
@@ -114,14 +114,14 @@ at_end (x ∷ xs) (suc j) = at_end xs j
 pub one_more_cell : (xs : List ℕ) → cells_of (xs ++ 0 ∷ []) ≡ cells_of xs
 one_more_cell xs = fun_ext (at_end xs)
 
-pub first_count : (n : ℕ) → cells_of (replicate n unset ++ 0 ∷ []) n ≡ 0
+pub first_count : (n : ℕ) → cells_of (replicate n usize_max ++ 0 ∷ []) n ≡ 0
 first_count n =
-    ap (λ k. slice_index_or (replicate n unset ++ 0 ∷ []) k 0) (sym (length-replicate n unset)) ∙ get_or-append_seam (replicate n unset) 0 [] 0
+    ap (λ k. slice_index_or (replicate n usize_max ++ 0 ∷ []) k 0) (sym (length-replicate n usize_max)) ∙ get_or-append_seam (replicate n usize_max) 0 [] 0
 
-pub first_slots : (n : ℕ) → slots_in n (cells_of (replicate n unset ++ 0 ∷ [])) ≡ replicate n unset
+pub first_slots : (n : ℕ) → slots_in n (cells_of (replicate n usize_max ++ 0 ∷ [])) ≡ replicate n usize_max
 first_slots n =
-    slots_of_take (replicate n unset ++ 0 ∷ []) n (omega (arith, length-append (replicate n unset) (0 ∷ []), length-replicate n unset))
-    ∙ ap (λ k. take k (replicate n unset ++ 0 ∷ [])) (sym (length-replicate n unset)) ∙ take-append_seam (replicate n unset) (0 ∷ [])
+    slots_of_take (replicate n usize_max ++ 0 ∷ []) n (omega (arith, length-append (replicate n usize_max) (0 ∷ []), length-replicate n usize_max))
+    ∙ ap (λ k. take k (replicate n usize_max ++ 0 ∷ [])) (sym (length-replicate n usize_max)) ∙ take-append_seam (replicate n usize_max) (0 ∷ [])
 
-pub first_stack : (n : ℕ) → stack_in n (cells_of (replicate n unset ++ 0 ∷ [])) ≡ []
-first_stack n = ap (λ k. reverse (map (cells_of (replicate n unset ++ 0 ∷ [])) (range_with_len (n + 1) k))) (first_count n)
+pub first_stack : (n : ℕ) → stack_in n (cells_of (replicate n usize_max ++ 0 ∷ [])) ≡ []
+first_stack n = ap (λ k. reverse (map (cells_of (replicate n usize_max ++ 0 ∷ [])) (range_with_len (n + 1) k))) (first_count n)

@@ -4,7 +4,8 @@ use Rattle.std.specs.Prelude.{IsUtf8, IfOk}
 use Rattle.std.specs.declared.vec.Vec.{Vec}
 use Rattle.std.specs.declared.alloc.Global.{Global}
 use Rattle.fancy_expr.specs.declared.error.Error.{Error}
-use Rattle.fancy_meaning.specs.Answer.{answer, search_of, unset}
+use Rattle.fancy_meaning.specs.Answer.{answer, search_of}
+use Rattle.fancy_meaning.specs.Numbers.{usize_max}
 use Rattle.fancy_meaning.specs.Options.{RunOptions}
 use Rattle.fancy_meaning.specs.Instr.{Prog}
 use Rattle.fancy_meaning.specs.Layout.{undelegated_layout}
@@ -16,7 +17,7 @@ use Rattle.fancy_meaning.specs.Theorems as theorem
 use Rattle.fancy_composed.proofs.Undelegated.{undelegated}
 use Rattle.fancy_meaning.specs.Fits.{run_fits}
 use Rattle.fancy_machine.specs.Means.{Means, MeansPair, numbers_of}
-use Rattle.fancy_machine.specs.Meant.{Answers, AnswersPair, first_pair}
+use Rattle.fancy_machine.specs.Meant.{RunAnswers, RunAnswersPair, first_pair}
 use Rattle.fancy_machine.proofs.FitsLaws.{run_place, run_not_empty}
 
 -- an outcome that is an answer passes no limit, and is of one answer
@@ -34,7 +35,7 @@ same_answer : (found wanted : Option (List ℕ)) (o : Outcome) → o ≡ theorem
 same_answer found wanted o is (inl limit) = absurd (no_limit found (subst IsLimit is limit))
 same_answer found wanted o is (inr same) = one_answer found wanted (sym is ∙ same)
 
-module _ (program : Prog) (text : List ℕ) (o : RunOptions) (utf8 : IsUtf8 text) (small : length text < unset) where
+module _ (program : Prog) (text : List ℕ) (o : RunOptions) (utf8 : IsUtf8 text) (small : length text < usize_max) where
   abbrev task : Task
   task = record { program = program; text = text; options = o }
 
@@ -46,20 +47,20 @@ module _ (program : Prog) (text : List ℕ) (o : RunOptions) (utf8 : IsUtf8 text
     not_empty = λ on. sym (ap (λ (p : Prog). p.find_not_empty) is) ∙ run_not_empty task fits on;
   }
 
-  answers : (i : Input) → run_fits task ≡ true → IsAccepted i program → program ≡ undelegated_layout (plan i) → theorem.Answers (plan i) program text o
+  answers : (i : Input) → run_fits task ≡ true → IsAccepted i (length program.body) → program ≡ undelegated_layout (plan i) → theorem.Answers (plan i) program text o
   answers i fits accepted is =
       subst (λ (p : Prog). theorem.Answers (plan i) p text o) (sym is)
-      (undelegated i text o (subst (λ (p : Prog). IsAccepted i p) is accepted) (may_run i fits is))
+      (undelegated i text o (subst (λ (p : Prog). IsAccepted i (length p.body)) is accepted) (may_run i fits is))
 
   means : (found : Option (List ℕ)) → run_fits task ≡ true → run task ≡ theorem.outcome_of found → Means program text o found
   means found fits comes i accepted is = same_answer found (answer (search_of (plan i) text o)) (run task) comes (answers i fits accepted is)
 
-  pub run_means : (result : Result (Option (Vec ℕ Global)) Error) → run_fits task ≡ true → Answers (run task) result → IfOk result (λ found. Means program text o (numbers_of found))
+  pub run_means : (result : Result (Option (Vec ℕ Global)) Error) → run_fits task ≡ true → RunAnswers (run task) result → IfOk result (λ found. Means program text o (numbers_of found))
   run_means (Ok None) fits comes = means None fits comes
   run_means (Ok (Some numbers)) fits comes = means (Some numbers.items) fits comes
   run_means (Err e) fits comes = tt
 
-  pub run_means_pair : (result : Result (Option (ℕ × ℕ)) Error) → run_fits task ≡ true → AnswersPair (run task) result → IfOk result (λ found. MeansPair program text o found)
+  pub run_means_pair : (result : Result (Option (ℕ × ℕ)) Error) → run_fits task ≡ true → RunAnswersPair (run task) result → IfOk result (λ found. MeansPair program text o found)
   run_means_pair (Ok None) fits comes = λ i accepted is. ap (option_map first_pair) (means None fits comes i accepted is)
   run_means_pair (Ok (Some pair)) fits comes =
       λ i accepted is. ap Some (sym comes.1.1) ∙ ap (option_map first_pair) (means (Some comes.0) fits comes.1.0 i accepted is)

@@ -3,7 +3,7 @@ use Rattle.std.proofs.Common.{◌≡◌, ℕ, zero, suc, ◌+◌, ◌-◌, ◌<�
 use Rattle.std.proofs.lemmas.List.{length-set, length-reverse}
 use Rattle.fancy_meaning.specs.MatchState.{put}
 use Rattle.fancy_machine.specs.Held.{Held, HeldBranch, first_held}
-use Rattle.fancy_meaning.specs.Answer.{unset}
+use Rattle.fancy_meaning.specs.Numbers.{usize_max}
 use Rattle.fancy_machine.specs.OldValues.{Cells, cells_of, since, slots_in, stack_in, held_branches, IsRoomy, Falls, AreInside, IsNewest, Agrees, IsSound}
 use Rattle.fancy_machine.specs.declared.old_values.Old.{Old}
 use Rattle.fancy_machine.specs.declared.state.Branch.{Branch}
@@ -178,7 +178,7 @@ refill (suc n) v =
     let whole : suc n - 0 ≡ suc n = omega arith in
     rw whole refl
 
-pub first_state : (n : ℕ) (log : List Old) (max_stack : ℕ) → held_of n (replicate n unset ++ 0 ∷ []) log [] max_stack ≡ first_held n max_stack
+pub first_state : (n : ℕ) (log : List Old) (max_stack : ℕ) → held_of n (replicate n usize_max ++ 0 ∷ []) log [] max_stack ≡ first_held n max_stack
 unfolding held_branches
 first_state n log max_stack = parts _ _ _ _ _ _ max_stack (first_slots n) (first_stack n) refl
 

@@ -1,5 +1,5 @@
 -- What a run answers, in the words of the tree.
-use Rattle.std.specs.Prelude.{ℕ, ◌≡◌, List, Option, option_map}
+use Rattle.std.specs.Prelude.{ℕ, ◌≡◌, List, Option, option_map, length}
 use Rattle.std.specs.declared.vec.Vec.{Vec}
 use Rattle.std.specs.declared.alloc.Global.{Global}
 use Rattle.fancy_meaning.specs.Answer.{answer, search_of}
@@ -13,12 +13,12 @@ use Rattle.fancy_machine.specs.Meant.{first_pair}
 -- tree has in the text, and there are none where it has no such way.
 abbrev pub Means : Prog → List ℕ → RunOptions → Option (List ℕ) → Type 0
 Means program text o found =
-    (i : Input) → IsAccepted i program → program ≡ undelegated_layout (plan i) → found ≡ answer (search_of (plan i) text o)
+    (i : Input) → IsAccepted i (length program.body) → program ≡ undelegated_layout (plan i) → found ≡ answer (search_of (plan i) text o)
 
 -- the same for the first pair alone
 abbrev pub MeansPair : Prog → List ℕ → RunOptions → Option (ℕ × ℕ) → Type 0
 MeansPair program text o found =
-    (i : Input) → IsAccepted i program → program ≡ undelegated_layout (plan i) →
+    (i : Input) → IsAccepted i (length program.body) → program ≡ undelegated_layout (plan i) →
     found ≡ option_map first_pair (answer (search_of (plan i) text o))
 
 abbrev pub numbers_of : Option (Vec ℕ Global) → Option (List ℕ)

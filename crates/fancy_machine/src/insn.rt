@@ -4,7 +4,7 @@ ghost use Rattle.std.specs.Prelude.{◌≡◌, List, ◌+◌, ◌-◌, ◌*◌, 
 ghost use Rattle.std.specs.List.{list_all};
 ghost use Rattle.fancy_meaning.specs.Assertions.{is_of_end};
 ghost use Rattle.fancy_expr.specs.Views.{assertion_of};
-ghost use Rattle.fancy_meaning.specs.Fits.{answer_fits, flag_fits, instr_fits, is_end, program_fits, slots_fit, targets_fit};
+ghost use Rattle.fancy_meaning.specs.Fits.{answer_fits, flag_fits, instr_fits, is_end_instr, program_fits, slots_fit, targets_fit};
 ghost use Rattle.fancy_machine.specs.declared.insn.Insn.{Insn};
 ghost use Rattle.fancy_machine.specs.Insns.{insn_of, prog_with};
 
@@ -180,7 +180,7 @@ impl ProgParts {
 
 /// The last instruction is `End`.
 fn ends(body: &[Insn]) -> bool
-    ensures { result ≡ is_end (slice_get (map insn_of body.now) (length (map insn_of body.now) - 1)) }
+    ensures { result ≡ is_end_instr (slice_get (map insn_of body.now) (length (map insn_of body.now) - 1)) }
 {
     matches!(body.last(), Some(Insn::End))
 }

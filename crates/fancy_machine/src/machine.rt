@@ -5,7 +5,7 @@ ghost use Rattle.fancy_meaning.specs.Config as config;
 ghost use Rattle.fancy_meaning.specs.Machine as machine;
 ghost use Rattle.fancy_machine.specs.Held.{first_held};
 ghost use Rattle.fancy_machine.specs.Refused.{IsMemory, IsRefused};
-ghost use Rattle.fancy_machine.specs.Meant.{IsMade, Leads, config_of, meant, with_branch};
+ghost use Rattle.fancy_machine.specs.Meant.{IsMade, StepAnswers, config_of, meant, with_branch};
 
 use crate::insn::Prog;
 use crate::runs::RunOptions;
@@ -74,7 +74,7 @@ impl Task<'_> {
     /// Falls back to the last branch.
     pub(crate) fn fail(&self, m: &mut Machine) -> Result<Next, Error>
         requires made { IsMade self.now m.old }
-        ensures leads { Leads self.now (machine.fail (meant self.now) (config_of m.old)) result m.new }
+        ensures leads { StepAnswers self.now (machine.fail (meant self.now) (config_of m.old)) result m.new }
         ensures made { IsMade self.now m.new }
     {
         if m.state.backtrack_count() == 0 {
@@ -92,7 +92,7 @@ impl Task<'_> {
     pub(crate) fn goes_if(&self, test: bool, m: &mut Machine) -> Result<Next, Error>
         requires made { IsMade self.now m.old }
         requires pc { m.old.pc < usize.MAX }
-        ensures leads { Leads self.now (machine.goes_if (meant self.now) test (config_of m.old)) result m.new }
+        ensures leads { StepAnswers self.now (machine.goes_if (meant self.now) test (config_of m.old)) result m.new }
         ensures made { IsMade self.now m.new }
     {
         if !test {
@@ -106,7 +106,7 @@ impl Task<'_> {
     pub(crate) fn goes_from(&self, to: Option<usize>, m: &mut Machine) -> Result<Next, Error>
         requires made { IsMade self.now m.old }
         requires pc { m.old.pc < usize.MAX }
-        ensures leads { Leads self.now (machine.goes_from (meant self.now) (config_of m.old) to) result m.new }
+        ensures leads { StepAnswers self.now (machine.goes_from (meant self.now) (config_of m.old) to) result m.new }
         ensures made { IsMade self.now m.new }
     {
         match to {

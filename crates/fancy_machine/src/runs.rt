@@ -4,7 +4,7 @@ ghost use Rattle.std.specs.Prelude.{◌≡◌, IsTrue, IfOk, IfErr, false};
 ghost use Rattle.fancy_meaning.specs.Machine as machine;
 ghost use Rattle.fancy_meaning.specs.Fits.{run_fits};
 ghost use Rattle.fancy_machine.specs.Means.{Means, MeansPair, numbers_of};
-ghost use Rattle.fancy_machine.specs.Meant.{Answers, AnswersPair, Finds, IsMade, config_of, meant};
+ghost use Rattle.fancy_machine.specs.Meant.{RunAnswers, RunAnswersPair, Finds, IsMade, config_of, meant};
 ghost use Rattle.fancy_machine.specs.Programs.{IsUnused, allocator_of, default_at, default_task, options_of, prog_of, task_of};
 ghost use Rattle.fancy_machine.specs.Refused.{IsMemory};
 
@@ -100,7 +100,7 @@ pub fn run(
     scratch: &mut Scratch,
 ) -> Result<Option<Vec<usize>>, Error>
     requires { IsTrue (run_fits (task_of prog.now text.now options.now)) }
-    ensures machine { Answers (machine.run (task_of prog.now text.now options.now)) result }
+    ensures machine { RunAnswers (machine.run (task_of prog.now text.now options.now)) result }
     ensures meaning { IfOk result (λ found. Means (prog_of prog.now) text.now (options_of options.now) (numbers_of found)) }
 {
     let task = Task {
@@ -124,7 +124,7 @@ pub fn run_spans(
     scratch: &mut Scratch,
 ) -> Result<Option<(usize, usize)>, Error>
     requires { IsTrue (run_fits (task_of prog.now text.now options.now)) }
-    ensures machine { AnswersPair (machine.run (task_of prog.now text.now options.now)) result }
+    ensures machine { RunAnswersPair (machine.run (task_of prog.now text.now options.now)) result }
     ensures meaning { IfOk result (λ found. MeansPair (prog_of prog.now) text.now (options_of options.now) found) }
 {
     let task = Task {
@@ -147,7 +147,7 @@ pub fn run_default(
     pos: usize,
 ) -> Result<Option<Vec<usize>>, Error>
     requires { IsTrue (run_fits (default_task prog.now text.now pos)) }
-    ensures machine { Answers (machine.run (default_task prog.now text.now pos)) result }
+    ensures machine { RunAnswers (machine.run (default_task prog.now text.now pos)) result }
     ensures meaning { IfOk result (λ found. Means (prog_of prog.now) text.now (default_at pos) (numbers_of found)) }
 {
     let mut scratch = Scratch::new(alloc);
@@ -192,7 +192,7 @@ impl Task<'_> {
     fn answer(&self, m: &mut Machine) -> Result<Option<Vec<usize>>, Error>
         requires made { IsMade self.now m.old }
         requires begins { config_of m.old ≡ machine.begin (meant self.now) }
-        ensures { Answers (machine.run (meant self.now)) result }
+        ensures { RunAnswers (machine.run (meant self.now)) result }
     {
         if !self.run(m)? {
             return Ok(None);
@@ -205,7 +205,7 @@ impl Task<'_> {
         requires made { IsMade self.now m.old }
         requires begins { config_of m.old ≡ machine.begin (meant self.now) }
         requires implicit { self.now.prog.now.parts.explicit_group_0 ≡ false }
-        ensures { AnswersPair (machine.run (meant self.now)) result }
+        ensures { RunAnswersPair (machine.run (meant self.now)) result }
     {
         if !self.run(m)? {
             return Ok(None);

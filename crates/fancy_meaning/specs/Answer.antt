@@ -1,6 +1,7 @@
 -- What a search answers: the first admitted way at the earliest start that has one.
-use Rattle.std.specs.Prelude.{ℕ, ◌-◌, ◌^◌, Bool, ◌&&◌, ◌||◌, not, List, [], ◌∷◌, length, min, map, filter, filter_map, flat_map, Option, Some, None, if◌then◌else◌, ◌==◌, slice_get, option_map}
+use Rattle.std.specs.Prelude.{ℕ, Bool, ◌&&◌, ◌||◌, not, List, [], ◌∷◌, length, min, map, filter, filter_map, flat_map, Option, Some, None, if◌then◌else◌, ◌==◌, slice_get, option_map}
 use Rattle.regex_hir.specs.Text.{is_some_and, byte_before}
+use Rattle.fancy_meaning.specs.Numbers.{usize_max}
 use Rattle.fancy_meaning.specs.Tree.{Tree}
 use Rattle.fancy_meaning.specs.Nodes.{group_count}
 use Rattle.fancy_meaning.specs.Places.{range_from, places_from}
@@ -32,12 +33,8 @@ search_of p text o = record {
   end_text = p.end_text;
 }
 
--- how a number that is not set is written: the largest `usize`
-abbrev pub unset : ℕ
-unset = 2 ^ 64 - 1
-
 abbrev pub span_numbers : Option Span → List ℕ
-span_numbers None = unset ∷ unset ∷ []
+span_numbers None = usize_max ∷ usize_max ∷ []
 span_numbers (Some (i, j)) = i ∷ j ∷ []
 
 -- The spans of n groups from 1 on, after that of group 0: from the kept start, or the end where that is less, to the end.

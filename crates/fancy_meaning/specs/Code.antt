@@ -29,8 +29,8 @@ in_turn [] = nothing
 in_turn (c ∷ cs) = c >> in_turn cs
 
 -- code over a fresh slot
-abbrev pub with_slot : (ℕ → Code) → Code
-with_slot code base fresh = code fresh base (fresh + 1)
+abbrev pub over_fresh_slot : (ℕ → Code) → Code
+over_fresh_slot code base fresh = code fresh base (fresh + 1)
 
 -- an instruction that knows its own place and the place after the construct, and then the rest of the construct
 abbrev pub headed : (ℕ → ℕ → Instr) → Code → Code

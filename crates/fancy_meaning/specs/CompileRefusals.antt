@@ -1,15 +1,13 @@
 -- When a tree that was analysed is not compiled, and as what.
-use Rattle.std.specs.Prelude.{◌≡◌, ◌≢◌, ℕ, ◌<◌, Bool, false, true, List, Option, Some, None, IfSome, IsTrue, IsFalse, length}
+use Rattle.std.specs.Prelude.{◌≡◌, ◌≢◌, ℕ, ◌<◌, Bool, false, true, List, Option, Some, None, IfSome, IsTrue, IsFalse}
 use Rattle.std.specs.List.{list_any}
 use Rattle.fancy_meaning.specs.Tree.{Tree, Trees, none, more, parts, Delegate, Alt, LookAround, Repeat, BackrefExists, DefineGroup, AbsentRepeater, AbsentStopper, AbsentExpression, Control, SubroutineCall, Look, LookAhead, LookAheadNeg, LookBehind, LookBehindNeg, Verb, Fail}
-use Rattle.fancy_meaning.specs.Nodes.{nodes, target}
+use Rattle.fancy_meaning.specs.Nodes.{nodes, target, is_absent}
 use Rattle.fancy_meaning.specs.Chars.{is_class}
 use Rattle.fancy_meaning.specs.Options.{Plan, Unicode}
 use Rattle.fancy_meaning.specs.Sizes.{size}
 use Rattle.fancy_meaning.specs.Hard.{is_hard}
 use Rattle.fancy_meaning.specs.Spots.{is_never}
-use Rattle.fancy_meaning.specs.Instr.{Prog}
-use Rattle.fancy_meaning.specs.Layout.{is_absent}
 use Rattle.fancy_meaning.specs.AnalysisRefusals.{CompileError, FeatureNotYetSupported, VariableLookBehindRequiresFeature, SubroutineCallTargetNotFound, PatternTooComplex, InnerError}
 
 -- ---- what is written out
@@ -74,11 +72,11 @@ module _ (p : Plan) where
     missing_group : {g : ℕ} → target p.analysis.tree g ≡ None → RefusesNode (SubroutineCall g) SubroutineCallTargetNotFound
     no_class : {inner : List ℕ} {casei : Bool} → IsFalse (is_class p.unicode inner casei) → RefusesNode (Delegate inner casei) (InnerError inner)
 
-  -- The error with which `compile` refuses, where the program would be this one.
-  pub data CompileRefuses (program : Prog) : CompileError → Type 0 where
-    refused_node : {e : Tree} {error : CompileError} → IsWritten p.analysis.tree e → RefusesNode e error → CompileRefuses program error
-    too_long : {most : ℕ} → p.max_prog_size ≡ Some most → most < length program.body → CompileRefuses program PatternTooComplex
-    bytes_mode : p.bytes_mode ≢ Unicode → CompileRefuses program FeatureNotYetSupported
+  -- The error with which `compile` refuses, where the program would have so many instructions.
+  pub data CompileRefuses (instructions : ℕ) : CompileError → Type 0 where
+    refused_node : {e : Tree} {error : CompileError} → IsWritten p.analysis.tree e → RefusesNode e error → CompileRefuses instructions error
+    too_long : {most : ℕ} → p.max_prog_size ≡ Some most → most < instructions → CompileRefuses instructions PatternTooComplex
+    bytes_mode : p.bytes_mode ≢ Unicode → CompileRefuses instructions FeatureNotYetSupported
 
   -- a class text with which `compile` may refuse besides, where `regex` finds it too big
   abbrev pub MayBeTooBig : List ℕ → Type 0

@@ -3,11 +3,11 @@ use Rattle.std.specs.Prelude.{ℕ, zero, suc, ◌+◌, Bool, true, false, List, 
 use Rattle.fancy_meaning.specs.Tree.{Look, LookAhead, LookAheadNeg, LookBehind, LookBehindNeg}
 use Rattle.fancy_meaning.specs.Sizes.{Size}
 use Rattle.fancy_meaning.specs.Instr.{Instr, Newline}
-use Rattle.fancy_meaning.specs.Code.{Code, nothing, one, ◌>>◌, in_turn, with_slot, headed, from_here, one_at, branch, branches}
+use Rattle.fancy_meaning.specs.Code.{Code, nothing, one, ◌>>◌, in_turn, over_fresh_slot, headed, from_here, one_at, branch, branches}
 
 abbrev pub group_code : ℕ → Code → Code
 group_code g body =
-    with_slot (λ slot. one (Instr.SaveCaptureGroupStart g slot) >> body >> one (Instr.SaveCaptureGroup g slot))
+    over_fresh_slot (λ slot. one (Instr.SaveCaptureGroupStart g slot) >> body >> one (Instr.SaveCaptureGroup g slot))
 
 abbrev pub atomic_code : Code → Code
 atomic_code body = one Instr.BeginAtomic >> body >> one Instr.EndAtomic
@@ -24,7 +24,7 @@ newline_code unicode =
 -- ---- look-around
 
 abbrev pub look_code : Code → Code
-look_code inner = with_slot (λ slot. one (Instr.Save slot) >> inner >> one (Instr.Restore slot))
+look_code inner = over_fresh_slot (λ slot. one (Instr.Save slot) >> inner >> one (Instr.Restore slot))
 
 abbrev pub negative_look_code : Code → Code
 negative_look_code inner =
@@ -73,12 +73,12 @@ loop_code head body = from_here (λ here. headed head (body >> one (Instr.Jmp he
 
 abbrev pub epsilon_code : Bool → ℕ → Code → Code
 epsilon_code greedy lo body =
-    with_slot (λ repeat. with_slot (λ check.
+    over_fresh_slot (λ repeat. over_fresh_slot (λ check.
     one (Instr.Save0 repeat) >> loop_code (λ here after. Instr.RepeatEpsilon greedy lo after repeat check) body))
 
 abbrev pub counted_code : Bool → ℕ → Option ℕ → Code → Code
 counted_code greedy lo hi body =
-    with_slot (λ repeat. one (Instr.Save0 repeat) >> loop_code (λ here after. Instr.Repeat greedy lo hi after repeat) body)
+    over_fresh_slot (λ repeat. one (Instr.Save0 repeat) >> loop_code (λ here after. Instr.Repeat greedy lo hi after repeat) body)
 
 abbrev pub repeat_code : Bool → Code → LoopForm → Code
 repeat_code greedy body Never = nothing

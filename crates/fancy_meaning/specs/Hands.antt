@@ -2,7 +2,7 @@
 -- Limits are set aside, and so is the answer that nothing matches which a `\G` gives before the branches are used up.
 use Rattle.std.specs.Prelude.{◌≡◌, ℕ, ◌+◌, ◌*◌, ◌<◌, ◌≤◌, ◌⊎◌, Bool, List, [], ◌∷◌, ◌++◌, length, Option, Some, None, if◌then◌else◌, slice_get}
 use Rattle.fancy_meaning.specs.MatchState.{MatchState, Span}
-use Rattle.fancy_meaning.specs.Answer.{unset}
+use Rattle.fancy_meaning.specs.Numbers.{usize_max}
 use Rattle.fancy_meaning.specs.Instr.{Instr}
 use Rattle.fancy_meaning.specs.Config.{Config, Outcome, Match, NoMatch, BacktrackLimitExceeded, StackOverflow, StepLimitExceeded, Next, Goes}
 use Rattle.fancy_meaning.specs.Machine.{Task, flag_slot, is_search, fail_to, exec, then_on}
@@ -17,11 +17,11 @@ IsLimit StackOverflow = Unit {0}
 IsLimit StepLimitExceeded = Unit {0}
 
 abbrev pub start_number : Option Span → ℕ
-start_number None = unset
+start_number None = usize_max
 start_number (Some (from, to)) = from
 
 abbrev pub end_number : Option Span → ℕ
-end_number None = unset
+end_number None = usize_max
 end_number (Some (from, to)) = to
 
 -- these instructions stand in the program from a place on
@@ -57,7 +57,7 @@ module _ (t : Task) where
     pub kept : c.slots 0 ≡ s.kept
     pub starts : (g : ℕ) → 0 < g → 2 * g < flag_slot t.program → c.slots (2 * g) ≡ start_number (s.captures g)
     pub ends : (g : ℕ) → 0 < g → 2 * g < flag_slot t.program → c.slots (2 * g + 1) ≡ end_number (s.captures g)
-    pub flag : (t.program).end_text ≡ Bool.true → c.slots (flag_slot t.program) ≡ (if s.text_end then 1 else unset)
+    pub flag : (t.program).end_text ≡ Bool.true → c.slots (flag_slot t.program) ≡ (if s.text_end then 1 else usize_max)
 
   -- At c the part is left with state s, over branches of its own. Slots that it did not take are as at its entry.
   pub record IsLeft (part : Stretch) (s : MatchState) (c : Config) (own : List _) : Type 0 where

@@ -26,8 +26,8 @@ module _ (a : Analysis) where
   is_hard_assertion w word_assertion = is_in_behind w
 
   -- it may take nothing or something, and a match is asked for that takes something
-  abbrev pub may_be_empty : Tree → Bool
-  may_be_empty e = let s = size a.tree e in a.find_not_empty && s.least == 0 && not s.is_const
+  abbrev pub is_hard_by_size : Tree → Bool
+  is_hard_by_size e = let s = size a.tree e in a.find_not_empty && s.least == 0 && not s.is_const
 
   abbrev mutual
     pub is_hard : Tree → Bool
@@ -37,10 +37,10 @@ module _ (a : Analysis) where
     is_hard (Delegate inner casei) = false
     is_hard (DefineGroup e) = false
     is_hard (Assert w assertion) = is_hard_assertion w assertion
-    is_hard (Concat es) = any_hard es || may_be_empty (Concat es)
-    is_hard (Alt es) = any_hard es || may_be_empty (Alt es)
-    is_hard (Group g e) = is_read a.tree g || is_hard e || may_be_empty (Group g e)
-    is_hard (Repeat lo hi greedy e) = is_hard e || may_be_empty (Repeat lo hi greedy e)
+    is_hard (Concat es) = any_hard es || is_hard_by_size (Concat es)
+    is_hard (Alt es) = any_hard es || is_hard_by_size (Alt es)
+    is_hard (Group g e) = is_read a.tree g || is_hard e || is_hard_by_size (Group g e)
+    is_hard (Repeat lo hi greedy e) = is_hard e || is_hard_by_size (Repeat lo hi greedy e)
     is_hard e = true
 
     pub any_hard : Trees → Bool

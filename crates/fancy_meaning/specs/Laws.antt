@@ -7,7 +7,8 @@ use Rattle.fancy_meaning.specs.Places.{is_place, chars_between}
 use Rattle.fancy_meaning.specs.MatchState.{MatchState, moved_to}
 use Rattle.fancy_meaning.specs.Loops.{prefer, if_moved}
 use Rattle.fancy_meaning.specs.Ways.{Setting, ends_here, captured_by_call, ways}
-use Rattle.fancy_meaning.specs.Answer.{Search, ways_from, answer, unset}
+use Rattle.fancy_meaning.specs.Answer.{Search, ways_from, answer}
+use Rattle.fancy_meaning.specs.Numbers.{usize_max}
 use Rattle.fancy_meaning.specs.Sizes.{size}
 use Rattle.fancy_meaning.specs.Layout.{takes_nothing}
 use Rattle.fancy_meaning.specs.Premises.{Analysed, tree_of, IsText, IsSpan, IsSized, IsSound}
@@ -68,7 +69,7 @@ BehindGoesByBranches = (q : Setting) (whole : Tree) (es : Trees) (depths : Depth
 abbrev pub ArePairs : List ℕ → List ℕ → Type 0
 ArePairs text [] = Unit {0}
 ArePairs text (i ∷ []) = ⊥
-ArePairs text (i ∷ j ∷ rest) = (((i ≡ unset) × (j ≡ unset)) ⊎ IsSpan text (i, j)) × ArePairs text rest
+ArePairs text (i ∷ j ∷ rest) = (((i ≡ usize_max) × (j ≡ usize_max)) ⊎ IsSpan text (i, j)) × ArePairs text rest
 
 abbrev pub AnswersArePairs : Type 0
 AnswersArePairs = (q : Search) → IsText q.text → IsTrue (is_place q.text q.pos) → IfSome (answer q) (ArePairs q.text)

@@ -2,7 +2,7 @@
 use Rattle.std.specs.Prelude.{ℕ, zero, suc, ◌+◌, ◌-◌, ◌*◌, max, Bool, true, false, ◌&&◌, ◌||◌, not, List, [], ◌∷◌, ◌++◌, length, map, take, drop, reverse, take_while, Option, Some, None, if◌then◌else◌, ◌==◌, nat_lt, nat_eq, encode_utf8_all}
 use Rattle.std.specs.List.{list_any}
 use Rattle.fancy_meaning.specs.Tree.{Tree, Trees, none, more, KeepOut, ContinueFromPreviousMatchEnd, AbsentClear, Any, Assert, GeneralNewline, Literal, LiteralBytes, Delegate, Concat, Alt, Group, LookAround, Repeat, Backref, BackrefExists, AtomicGroup, AbsentRepeater, AbsentStopper, AbsentExpression, Control, Conditional, SubroutineCall, Fail}
-use Rattle.fancy_meaning.specs.Nodes.{nodes, group_count, target, is_read}
+use Rattle.fancy_meaning.specs.Nodes.{nodes, group_count, target, is_read, is_absent}
 use Rattle.fancy_meaning.specs.OpenCalls.{Depths, opened, no_calls, call_depth, free_calls}
 use Rattle.fancy_meaning.specs.Assertions.{assertion_within}
 use Rattle.fancy_meaning.specs.Options.{Plan}
@@ -12,13 +12,6 @@ use Rattle.fancy_meaning.specs.Instr.{Instr, Prog}
 use Rattle.fancy_meaning.specs.Code.{Code, nothing, one, ◌>>◌, in_turn, branches}
 use Rattle.fancy_meaning.specs.Batches.{batch, class_code, fragment, pattern_of, group_range, any_instr}
 use Rattle.fancy_meaning.specs.Constructs.{group_code, atomic_code, conditional_code, newline_code, look_around_code, LoopForm, AtMostOnce, loop_form, repeat_code, absent_code}
-
-abbrev pub is_absent : Tree → Bool
-is_absent (AbsentRepeater e) = true
-is_absent AbsentClear = true
-is_absent (AbsentStopper e) = true
-is_absent (AbsentExpression a e) = true
-is_absent e = false
 
 abbrev pub is_at_most_once : LoopForm → Bool
 is_at_most_once AtMostOnce = true

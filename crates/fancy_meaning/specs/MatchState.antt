@@ -57,8 +57,8 @@ one_of [] s = []
 one_of (w ∷ ws) s = w s ++ one_of ws s
 
 -- the first way, if there is one
-abbrev pub first_way : Ways → MatchState → Option MatchState
-first_way f s = slice_get (f s) 0
+abbrev pub preferred : Ways → MatchState → Option MatchState
+preferred f s = slice_get (f s) 0
 
 abbrev pub has_way : Ways → MatchState → Bool
-has_way f s = is_some (first_way f s)
+has_way f s = is_some (preferred f s)

@@ -5,13 +5,12 @@ use Rattle.fancy_meaning.specs.Nodes.{is_read}
 use Rattle.fancy_meaning.specs.Places.{is_place, chars_between}
 use Rattle.fancy_meaning.specs.MatchState.{MatchState, Span}
 use Rattle.fancy_meaning.specs.Ways.{Setting}
-use Rattle.fancy_meaning.specs.Answer.{unset}
+use Rattle.fancy_meaning.specs.Numbers.{usize_max}
 use Rattle.fancy_meaning.specs.Options.{ParsedTree, AnalysisOptions, Analysis, CompileOptions, Plan, analysis_of, plan_of, RunOptions}
-use Rattle.fancy_meaning.specs.Sizes.{Size, size_of_group, known_of, no_bound}
+use Rattle.fancy_meaning.specs.Sizes.{Size, size_of_group, known_of}
 use Rattle.fancy_meaning.specs.WellFormed.{IsWellFormed}
 use Rattle.fancy_meaning.specs.AnalysisRefusals.{CompileError, AnalysisRefuses}
 use Rattle.fancy_meaning.specs.CompileRefusals.{CompileRefuses}
-use Rattle.fancy_meaning.specs.Instr.{Prog}
 
 -- a tree that may be handed in, and the options of its analysis
 pub record Analysed : Type 0 where
@@ -35,19 +34,19 @@ pub record Input : Type 0 where
 abbrev pub plan : Input → Plan
 plan i = plan_of (i.parsed).tree i.analysis i.options
 
--- The tree is well-formed, no case to refuse it holds, and its program can be run.
-pub record IsAccepted (i : Input) (program : Prog) : Type 0 where
+-- The tree is well-formed, no case to refuse it holds where its program has so many instructions, and its program can be run.
+pub record IsAccepted (i : Input) (instructions : ℕ) : Type 0 where
   pub well_formed : IsWellFormed i.parsed
   -- the option of `compile` is set only on a tree analysed with it
   pub same_end_text : (i.options).end_text ≡ true → (i.analysis).end_text ≡ true
   pub analysed : (error : CompileError) → ¬ AnalysisRefuses i.parsed i.analysis error
-  pub compiled : (error : CompileError) → ¬ CompileRefuses (plan i) program error
+  pub compiled : (error : CompileError) → ¬ CompileRefuses (plan i) instructions error
   pub implicit_group_0 : (i.analysis).explicit_capture_group_0 ≡ false
 
 -- a text in UTF-8 that fits the memory
 pub record IsText (text : List ℕ) : Type 0 where
   pub utf8 : IsUtf8 text
-  pub fits : length text < unset
+  pub fits : length text < usize_max
 
 -- a run on the text may be made with these options
 pub record IsFit (i : Input) (text : List ℕ) (o : RunOptions) : Type 0 where
@@ -58,8 +57,8 @@ pub record IsFit (i : Input) (text : List ℕ) (o : RunOptions) : Type 0 where
 -- so many characters are within the size
 pub record IsSized (z : Size) (n : ℕ) : Type 0 where
   pub at_least : z.least ≤ n
-  pub at_most : (z.most ≡ no_bound) ⊎ (n ≤ z.most)
-  pub exact : z.is_const ≡ true → z.least < no_bound → n ≡ z.least
+  pub at_most : (z.most ≡ usize_max) ⊎ (n ≤ z.most)
+  pub exact : z.is_const ≡ true → z.least < usize_max → n ≡ z.least
 
 -- the span lies between two places of the text, in order
 pub record IsSpan (text : List ℕ) (span : Span) : Type 0 where

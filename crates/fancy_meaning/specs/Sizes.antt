@@ -1,15 +1,12 @@
 -- How many characters a node takes.
-use Rattle.std.specs.Prelude.{ℕ, zero, suc, ◌+◌, ◌-◌, ◌*◌, ◌^◌, min, max, Bool, true, false, ◌&&◌, List, [], ◌∷◌, length, map, replicate, Option, Some, None, if◌then◌else◌, ◌==◌, slice_index_or}
+use Rattle.std.specs.Prelude.{ℕ, zero, suc, ◌+◌, ◌*◌, min, max, Bool, true, false, ◌&&◌, List, [], ◌∷◌, length, map, replicate, Option, Some, None, if◌then◌else◌, ◌==◌, slice_index_or}
+use Rattle.fancy_meaning.specs.Numbers.{usize_max}
 use Rattle.fancy_meaning.specs.Tree.{Tree, Trees, none, more, Any, GeneralNewline, Literal, LiteralBytes, Delegate, Concat, Alt, Group, Repeat, Backref, BackrefWithLevel, AtomicGroup, AbsentRepeater, AbsentExpression, Conditional, SubroutineCall}
 use Rattle.fancy_meaning.specs.Nodes.{target, group_count}
 use Rattle.fancy_meaning.specs.Places.{range_from}
 
--- the largest `usize`, which as a greatest size is no bound
-abbrev pub no_bound : ℕ
-no_bound = 2 ^ 64 - 1
-
 abbrev pub saturated : ℕ → ℕ
-saturated n = min n no_bound
+saturated n = min n usize_max
 
 pub record Size : Type 0 where
   pub least : ℕ
@@ -50,8 +47,8 @@ any_of (a ∷ b ∷ rest) = either a (any_of (b ∷ rest))
 
 -- the greatest size of so many iterations; without either bound there is none
 abbrev pub most_times : ℕ → Option ℕ → ℕ
-most_times most None = no_bound
-most_times most (Some hi) = if most == no_bound then no_bound else saturated (most * hi)
+most_times most None = usize_max
+most_times most (Some hi) = if most == usize_max then usize_max else saturated (most * hi)
 
 abbrev pub is_exact : ℕ → Option ℕ → Bool
 is_exact lo None = false
@@ -69,7 +66,7 @@ abbrev pub Known : Type 0
 Known = List Size
 
 abbrev pub unknown : Size
-unknown = between 0 no_bound
+unknown = between 0 usize_max
 
 abbrev pub size_of_target : Known → ℕ → Size
 size_of_target known g = slice_index_or known g unknown
@@ -94,7 +91,7 @@ module _ (known : Known) where
     size_by (Group g e) = size_by e
     size_by (AtomicGroup e) = size_by e
     size_by (Conditional c t f) = either (plus (size_by c) (size_by t)) (size_by f)
-    size_by (AbsentRepeater e) = between 0 no_bound
+    size_by (AbsentRepeater e) = between 0 usize_max
     size_by (AbsentExpression a e) = record (size_by e) { is_const = false }
     size_by (Backref g casei) = size_of_group known g
     size_by (BackrefWithLevel g level casei) = size_of_group known g

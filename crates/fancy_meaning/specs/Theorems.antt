@@ -41,12 +41,12 @@ Answers p program text o =
 
 -- the headline: each run of an accepted tree's program does
 abbrev pub Headline : Type 0
-Headline = (i : Input) (text : List ℕ) (o : RunOptions) → IsAccepted i (layout (plan i)) → IsFit i text o →
+Headline = (i : Input) (text : List ℕ) (o : RunOptions) → IsAccepted i (length (layout (plan i)).body) → IsFit i text o →
     Answers (plan i) (layout (plan i)) text o
 
 -- the same without delegates
 abbrev pub UndelegatedHeadline : Type 0
-UndelegatedHeadline = (i : Input) (text : List ℕ) (o : RunOptions) → IsAccepted i (undelegated_layout (plan i)) → IsFit i text o →
+UndelegatedHeadline = (i : Input) (text : List ℕ) (o : RunOptions) → IsAccepted i (length (undelegated_layout (plan i)).body) → IsFit i text o →
     Answers (plan i) (undelegated_layout (plan i)) text o
 
 -- ---- a node hands its ways
@@ -85,7 +85,7 @@ abbrev pub ComposedTheorem : Type 0
 ComposedTheorem = (i : Input) (e : Tree) (depths : Depths) (at_start in_hard : Bool) →
     let p = plan i in
     let whole = p.analysis.tree in
-    IsAccepted i (undelegated_layout p) → IsWritten whole e →
+    IsAccepted i (length (undelegated_layout p).body) → IsWritten whole e →
     Serves p (code_of p (λ d. false) depths e at_start in_hard) (λ q. ways q whole e depths) (λ from. whole_key whole)
 
 -- Delegation is harmless: in a hard context the code of a node hands a list that serves for its ways by the key, and in
@@ -94,7 +94,7 @@ abbrev pub DelegationIsHarmless : Type 0
 DelegationIsHarmless = (i : Input) (e : Tree) (depths : Depths) (at_start in_hard : Bool) →
     let p = plan i in
     let whole = p.analysis.tree in
-    IsAccepted i (layout p) → IsWritten whole e →
+    IsAccepted i (length (layout p).body) → IsWritten whole e →
     Serves p (code_of p (λ d. not (is_hard p.analysis d)) depths e at_start in_hard) (λ q. ways q whole e depths)
     (λ from. if in_hard then key p else easy_key p from)
 
@@ -136,7 +136,7 @@ EasyWaysAgree = (q : Setting) (a : Analysed) (e : Tree) (depths : Depths) (s t u
 
 abbrev pub EasyRun : Input → List ℕ → RunOptions → Type 0
 EasyRun i text o =
-    IsAccepted i (layout (plan i)) × IsFit i text o × IsFalse (is_root_hard (plan i).analysis)
+    IsAccepted i (length (layout (plan i)).body) × IsFit i text o × IsFalse (is_root_hard (plan i).analysis)
 
 -- how many starts a run may try
 abbrev pub tried : Input → List ℕ → RunOptions → ℕ

@@ -7,7 +7,7 @@ use Rattle.fancy_meaning.specs.Places.{places_from, places_back}
 use Rattle.fancy_meaning.specs.Chars.{literal_takes, any_takes, class_takes}
 use Rattle.fancy_meaning.specs.Assertions.{holds, assertion_within, is_of_end}
 use Rattle.fancy_meaning.specs.Moves.{Move, past_char, past_chars, past_newline, past_piece}
-use Rattle.fancy_meaning.specs.MatchState.{MatchState, Ways, stays, fails, stays_if, in_order, one_of, first_way, has_way, moved_to, with_span}
+use Rattle.fancy_meaning.specs.MatchState.{MatchState, Ways, stays, fails, stays_if, in_order, one_of, preferred, has_way, moved_to, with_span}
 use Rattle.fancy_meaning.specs.Loops.{repeats}
 
 -- what a node's ways depend on besides the state
@@ -38,7 +38,7 @@ atomic body s = take 1 (body s)
 
 -- the true branch from the condition's first way, or else the false branch
 abbrev pub conditional : Ways → Ways → Ways → Ways
-conditional c t f s = go (first_way c s)
+conditional c t f s = go (preferred c s)
   where
     go : Option MatchState → List MatchState
     go None = f s

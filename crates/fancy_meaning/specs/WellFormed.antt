@@ -1,18 +1,19 @@
 -- Which trees may be handed in. Numbers of the machine are 64 bits wide, and its largest one means that there is no bound.
-use Rattle.std.specs.Prelude.{◌≡◌, ℕ, ◌-◌, ◌^◌, ◌<◌, ◌≤◌, Bool, true, false, ◌||◌, List, [], All, Contains, Option, Some, IfSome, IsUtf8, FitsSigned, IsTrue, IsFalse, ◌==◌}
+use Rattle.std.specs.Prelude.{◌≡◌, ℕ, ◌^◌, ◌<◌, ◌≤◌, Bool, true, false, ◌||◌, List, [], All, Contains, Option, Some, IfSome, IsUtf8, FitsSigned, IsTrue, IsFalse, ◌==◌}
 use Rattle.std.specs.Char.{IsScalar}
 use Rattle.std.specs.Int.{w64}
 use Rattle.std.specs.List.{list_any}
+use Rattle.fancy_meaning.specs.Numbers.{usize_max}
 use Rattle.fancy_meaning.specs.Tree.{Tree, none, Literal, LiteralBytes, Delegate, Alt, Repeat, Backref, BackrefWithLevel, BackrefExists, SubroutineCall, AstNode, UnresolvedCall}
 use Rattle.fancy_meaning.specs.Nodes.{nodes, group_count}
 use Rattle.fancy_meaning.specs.Options.{ParsedTree}
 
-abbrev pub Fits : ℕ → Type 0
-Fits n = n < 2 ^ 64
+abbrev pub IsUsize : ℕ → Type 0
+IsUsize n = n < 2 ^ 64
 
 -- a count of iterations, below the largest number
 abbrev pub IsCount : ℕ → Type 0
-IsCount n = n < 2 ^ 64 - 1
+IsCount n = n < usize_max
 
 -- An alternation has a branch, a class has a text, a loop's bounds are in order, and each value is one of its type.
 abbrev pub IsFine : Tree → Type 0
@@ -22,10 +23,10 @@ IsFine (Delegate inner casei) = IsUtf8 inner
 IsFine (Repeat lo hi greedy e) = IsCount lo × IfSome hi (λ n. (lo ≤ n) × IsCount n)
 IsFine (Literal c casei) = IsScalar c
 IsFine (LiteralBytes cs) = All (λ c. c < 2 ^ 8) cs
-IsFine (Backref g casei) = Fits g
-IsFine (BackrefWithLevel g level casei) = Fits g × FitsSigned w64 level
-IsFine (BackrefExists g level) = Fits g × IfSome level (λ l. FitsSigned w64 l)
-IsFine (SubroutineCall g) = Fits g
+IsFine (Backref g casei) = IsUsize g
+IsFine (BackrefWithLevel g level casei) = IsUsize g × FitsSigned w64 level
+IsFine (BackrefExists g level) = IsUsize g × IfSome level (λ l. FitsSigned w64 l)
+IsFine (SubroutineCall g) = IsUsize g
 IsFine e = Unit {0}
 
 -- so many groups a tree may have

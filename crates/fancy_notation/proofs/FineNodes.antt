@@ -9,7 +9,7 @@ use Rattle.std.proofs.lemmas.Str.{IsUtf8-string_bytes}
 use Rattle.fancy_meaning.specs.Tree as plain
 use Rattle.fancy_meaning.specs.Tree.{Tree, trees}
 use Rattle.fancy_meaning.specs.Nodes.{nodes, nodes_of_each}
-use Rattle.fancy_meaning.specs.WellFormed.{Fits, IsCount, IsFine}
+use Rattle.fancy_meaning.specs.WellFormed.{IsUsize, IsCount, IsFine}
 use Rattle.fancy_expr.specs.declared.expr.Expr.{Expr}
 use Rattle.fancy_expr.specs.declared.expr.Expr.TheVariants as code
 use Rattle.fancy_expr.specs.declared.expr.Absent.{Absent}
@@ -50,11 +50,11 @@ when_some : {V : Type 0} (b : Bool) (v w : V) → when b v ≡ Some w → (b ≡
 when_some true v w e = (refl, cc)
 when_some false v w e = absurd (cc)
 
-pub number_fits : (w : List ℕ) (n : ℕ) → number_of w ≡ Some n → Fits n
+pub number_fits : (w : List ℕ) (n : ℕ) → number_of w ≡ Some n → IsUsize n
 unfolding number_of
 number_fits w n e =
     let h = when_some (is_numeral w && ltb (digits_value 10 w) (2 ^ 64)) (digits_value 10 w) n e in
-    subst Fits h.1 (ltb-true _ _ (and_parts _ _ h.0).1)
+    subst IsUsize h.1 (ltb-true _ _ (and_parts _ _ h.0).1)
 
 kept_some : {V : Type 0} (test : V → Bool) (o : Option V) (v : V) → kept test o ≡ Some v → (test v ≡ true) × (o ≡ Some v)
 kept_some test None v e = absurd (cc)
@@ -180,13 +180,13 @@ enclosed_fine (enclosing.Look l) e h = (tt, h)
 enclosed_fine enclosing.AbsentRepeater e h = (tt, h)
 enclosed_fine enclosing.AbsentStopper e h = (tt, h)
 
-named_fine : (f : Naming) (g : ℕ) → Fits g → AllFine (named f g)
+named_fine : (f : Naming) (g : ℕ) → IsUsize g → AllFine (named f g)
 unfolding AllFine
 named_fine (naming.Backref casei) g h = (h, tt)
 named_fine naming.Exists g h = ((h, tt), tt)
 named_fine naming.Call g h = (h, tt)
 
-named_at_fine : (f : Leveled) (g : ℕ) (l : ℤ) → Fits g → FitsSigned w64 l → AllFine (named_at f g l)
+named_at_fine : (f : Leveled) (g : ℕ) (l : ℤ) → IsUsize g → FitsSigned w64 l → AllFine (named_at f g l)
 unfolding AllFine
 named_at_fine leveled.Backref g l h k = ((h, k), tt)
 named_at_fine leveled.Exists g l h k = ((h, k), tt)
@@ -221,8 +221,8 @@ mutual
   form_fine (repeat {lo = lo} lo_is hi_is s c) = ((taken_has IsCount count_fits lo_is, taken_has (λ hi. IfSome hi (λ n. (lo ≤ n) × IsCount n)) (bound_fits lo) hi_is), node_fine s)
   form_fine (set {casei = casei} {inner = s} t c) = class_fine casei s t.first.token t.is
   form_fine (bytes {bs = bs} t) = (each_all (λ c. c < 2 ^ 8) bs (bytes_fit t), tt)
-  form_fine (names {f = f} {g = g} n c) = named_fine f g (taken_has Fits number_fits n)
-  form_fine (names_at {f = f} {g = g} {l = l} n v c) = named_at_fine f g l (taken_has Fits number_fits n) (taken_has (FitsSigned w64) level_fits v)
+  form_fine (names {f = f} {g = g} n c) = named_fine f g (taken_has IsUsize number_fits n)
+  form_fine (names_at {f = f} {g = g} {l = l} n v c) = named_at_fine f g l (taken_has IsUsize number_fits n) (taken_has (FitsSigned w64) level_fits v)
   form_fine (verb v c) = (tt, tt)
   form_fine (conditional {c = c} {t = t} {f = f} a b d s) =
       (tt, each_append FineBut (nodes c) (nodes t ++ nodes f) (node_fine a) (each_append FineBut (nodes t) (nodes f) (node_fine b) (node_fine d)))

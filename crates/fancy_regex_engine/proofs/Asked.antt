@@ -10,7 +10,7 @@ use Rattle.fancy_meaning.specs.Layout.{undelegated_layout}
 use Rattle.fancy_meaning.specs.Machine as machine
 use Rattle.fancy_meaning.specs.Places.{is_place}
 use Rattle.fancy_meaning.specs.Fits.{run_fits}
-use Rattle.fancy_machine.specs.Meant.{Answers}
+use Rattle.fancy_machine.specs.Meant.{RunAnswers}
 use Rattle.fancy_machine.specs.Programs.{prog_of, task_of, options_of as run_options_of}
 use Rattle.fancy_machine.specs.declared.insn.Prog.{Prog}
 use Rattle.fancy_machine.specs.declared.runs.RunOptions.{RunOptions}
@@ -98,7 +98,7 @@ module _ (q : Question) (t : ExprTree) (read : IsRead q.tree t) where
       (may_run program at (planned (Ok program) o os h))
 
   -- the answer of the run
-  pub ran_by : (program : Prog) (o : CompileOptions) → o ≡ line.compilation q.arguments → (run : RunOptions) → run_options_of run ≡ line.running q.arguments → (answer : Result (Option (Vec ℕ Global)) Error) → Compiles (plan_with (analysed q t read) o) (Ok program) → Answers (machine.run (task_of program q.text run)) answer → Finds q answer
+  pub ran_by : (program : Prog) (o : CompileOptions) → o ≡ line.compilation q.arguments → (run : RunOptions) → run_options_of run ≡ line.running q.arguments → (answer : Result (Option (Vec ℕ Global)) Error) → Compiles (plan_with (analysed q t read) o) (Ok program) → RunAnswers (machine.run (task_of program q.text run)) answer → Finds q answer
   ran_by program o os run rs answer h answers =
       ran {t = t} {program = program} read (planned (Ok program) o os h)
-      (subst (λ x. Answers (machine.run (record { program = prog_of program; text = q.text; options = x })) answer) rs answers)
+      (subst (λ x. RunAnswers (machine.run (record { program = prog_of program; text = q.text; options = x })) answer) rs answers)

@@ -8,7 +8,7 @@ use Rattle.fancy_meaning.specs.Machine as machine
 use Rattle.fancy_meaning.specs.Options as plain
 use Rattle.fancy_meaning.specs.Premises.{Analysed}
 use Rattle.fancy_machine.specs.declared.insn.Prog.{Prog}
-use Rattle.fancy_machine.specs.Meant.{Answers}
+use Rattle.fancy_machine.specs.Meant.{RunAnswers}
 use Rattle.fancy_machine.specs.Programs.{prog_of}
 use Rattle.fancy_notation.specs.Described.{IsDescribed}
 use Rattle.fancy_notation.specs.Grammar.{IsSpelled}
@@ -19,7 +19,7 @@ use Rattle.fancy_expr.specs.declared.error.Error.TheVariants as error
 use Rattle.fancy_expr.specs.declared.expr.ExprTree.{ExprTree}
 use Rattle.fancy_tree.specs.Analyses.{IsRefusedAs}
 use Rattle.fancy_tree.specs.Infos.{options_of}
-use Rattle.fancy_tree.specs.Refusals.{IsAccepted}
+use Rattle.fancy_tree.specs.Refusals.{IsAnalysable}
 use Rattle.fancy_expr.specs.Sound.{IsWellFormedTree}
 use Rattle.fancy_expr.specs.Views.{tree_of, parsed_of}
 use Rattle.fancy_regex_engine.specs.declared.command.Question.{Question}
@@ -57,7 +57,7 @@ module _ (q : line.Question) where
     refused : {e : Error} {t : ExprTree} → IsRead q.tree t → IsRefusedAs (parsed_of t) (options_of (analysis q.arguments)) e → Finds (Err e)
     not_compiled : {e : Error} {t : ExprTree} → (read : IsRead q.tree t) → Compiles (plan t read) (Err e) → Finds (Err e)
     ran : {answer : Result (Option (Vec ℕ Global)) Error} {t : ExprTree} {program : Prog} → (read : IsRead q.tree t) →
-        Compiles (plan t read) (Ok program) → Answers (machine.run (task program)) answer → Finds answer
+        Compiles (plan t read) (Ok program) → RunAnswers (machine.run (task program)) answer → Finds answer
 
   -- the line of the answer, or why there is none
   abbrev pub Shows : Result (String Global) Error → Type 0

@@ -3,7 +3,7 @@ use Rattle.std.specs.Prelude.{ℕ, List, [], ◌∷◌, ◌++◌, Option, Some, 
 use Rattle.std.specs.List.{flat_map}
 use Rattle.std.specs.declared.vec.Vec.{Vec}
 use Rattle.std.specs.declared.alloc.Global.{Global}
-use Rattle.fancy_meaning.specs.Answer.{unset}
+use Rattle.fancy_meaning.specs.Numbers.{usize_max}
 use Rattle.fancy_expr.specs.declared.error.Error.{Error}
 use Rattle.fancy_expr.specs.declared.error.Error.TheVariants as error
 use Rattle.fancy_expr.specs.declared.error.RuntimeError.{RuntimeError}
@@ -16,7 +16,7 @@ newline = 10 ∷ []
 
 -- a number of an answer; `-` is one that is not set
 abbrev pub number_text : ℕ → List ℕ
-number_text n = if n == unset then codes "-" else decimal n
+number_text n = if n == usize_max then codes "-" else decimal n
 
 -- numbers separated by one space
 abbrev pub numbers_text : List ℕ → List ℕ

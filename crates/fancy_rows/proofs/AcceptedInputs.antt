@@ -1,5 +1,5 @@
 -- Inputs that meet every premise of the headline, with and without delegates.
-use Rattle.std.proofs.Common.{zero, suc, [], ◌∷◌, refl, subst, arith}
+use Rattle.std.proofs.Common.{zero, suc, [], ◌∷◌, refl, subst, arith, length, ℕ}
 use Rattle.std.specs.Prelude.{Contains, codes}
 use Rattle.fancy_meaning.specs.Tree.{Tree, Backref}
 use Rattle.fancy_meaning.specs.WellFormed.{IsWellFormed, IsFine}
@@ -51,26 +51,26 @@ is_analysed error (before_end r) =
     not_refused_before_end first_path refl refl refl (reads_nothing _ refl) (λ g t. cc (t)) (no_rising_cycle _ refl) error r
 is_analysed error (never_ends t n r) = cc (t)
 
-is_compiled : (program : Prog) (error : CompileError) → ¬ CompileRefuses (plan input) program error
+is_compiled : (instructions : ℕ) (error : CompileError) → ¬ CompileRefuses (plan input) instructions error
 unfolding row
-is_compiled program error (refused_node w r) = plain_is_not_refused (written_is_plain refl w) r
-is_compiled program error (too_long p l) = cc (p)
-is_compiled program error (bytes_mode n) = n refl
+is_compiled instructions error (refused_node w r) = plain_is_not_refused (written_is_plain refl w) r
+is_compiled instructions error (too_long p l) = cc (p)
+is_compiled instructions error (bytes_mode n) = n refl
 
-accepted : (program : Prog) → IsAccepted input program
-accepted program = record {
+accepted : (instructions : ℕ) → IsAccepted input instructions
+accepted instructions = record {
   well_formed = is_well_formed;
   same_end_text = λ t. cc (t);
   analysed = is_analysed;
-  compiled = is_compiled program;
+  compiled = is_compiled instructions;
   implicit_group_0 = refl;
 }
 
-accepted_with_delegates : IsAccepted input (layout (plan input))
-accepted_with_delegates = accepted (layout (plan input))
+accepted_with_delegates : IsAccepted input (length (layout (plan input)).body)
+accepted_with_delegates = accepted (length (layout (plan input)).body)
 
-accepted_without_delegates : IsAccepted input (undelegated_layout (plan input))
-accepted_without_delegates = accepted (undelegated_layout (plan input))
+accepted_without_delegates : IsAccepted input (length (undelegated_layout (plan input)).body)
+accepted_without_delegates = accepted (length (undelegated_layout (plan input)).body)
 
 fits : IsFit input (codes "abcd") (from 0)
 unfolding row

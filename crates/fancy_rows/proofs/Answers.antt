@@ -1,7 +1,8 @@
 -- Answers: of the meaning, and of runs of both programs.
 use Rattle.std.specs.Prelude.{◌≡◌, true, false, [], ◌∷◌, Some, None, codes, refl}
 use Rattle.fancy_meaning.specs.Tree.{AbsentRepeater, AtomicGroup, Conditional, ContinueFromPreviousMatchEnd, Control, Empty, Fail, GeneralNewline, StartLineOniguruma}
-use Rattle.fancy_meaning.specs.Answer.{unset, answer, search_of}
+use Rattle.fancy_meaning.specs.Answer.{answer, search_of}
+use Rattle.fancy_meaning.specs.Numbers.{usize_max}
 use Rattle.fancy_rows.proofs.Notation.{Answered, plain, anchored, from, utf8, lit, cat, alt, grp, rep, star, lazy_star, dot, assert, ref, has, call, ahead, nahead, behind, nbehind, row}
 
 first_path_found : Answered (plain (cat (lit "a" ∷ grp (alt (lit "b" ∷ lit "bc" ∷ [])) ∷ lit "d" ∷ []))) (codes "abcd") (from 0) (Some (0 ∷ 4 ∷ 1 ∷ 3 ∷ []))
@@ -76,7 +77,7 @@ open_group_does_not_exist : Answered (plain (grp (cat (lit "a" ∷ Conditional (
 unfolding row
 open_group_does_not_exist = (refl, refl, refl)
 
-unset_group_does_not_exist : Answered (plain (cat (alt (grp (lit "a") ∷ grp dot ∷ []) ∷ Conditional (has 1) (lit "b") (lit "c") ∷ []))) (codes "ac") (from 0) (Some (0 ∷ 2 ∷ unset ∷ unset ∷ 0 ∷ 1 ∷ []))
+unset_group_does_not_exist : Answered (plain (cat (alt (grp (lit "a") ∷ grp dot ∷ []) ∷ Conditional (has 1) (lit "b") (lit "c") ∷ []))) (codes "ac") (from 0) (Some (0 ∷ 2 ∷ usize_max ∷ usize_max ∷ 0 ∷ 1 ∷ []))
 unfolding row
 unset_group_does_not_exist = (refl, refl, refl)
 

@@ -1,6 +1,6 @@
 -- Class texts that have a pattern, and texts that have none, which `compile` refuses. Without `unicode` a class does not
 -- compute.
-use Rattle.std.specs.Prelude.{◌≡◌, true, false, [], ◌∷◌, Some, codes, refl}
+use Rattle.std.specs.Prelude.{◌≡◌, true, false, [], ◌∷◌, Some, codes, refl, length}
 use Rattle.fancy_meaning.specs.Tree.{KeepOut}
 use Rattle.fancy_meaning.specs.Chars.{is_class}
 use Rattle.fancy_meaning.specs.Layout.{layout}
@@ -30,11 +30,11 @@ folded_range : is_class true (codes "[a-c]") true ≡ true
 unfolding row regex_on_literals
 folded_range = refl
 
-out_of_order_is_refused : CompileRefuses (plain (set "[z-a]")) (layout (plain (set "[z-a]"))) (InnerError (codes "[z-a]"))
+out_of_order_is_refused : CompileRefuses (plain (set "[z-a]")) (length (layout (plain (set "[z-a]"))).body) (InnerError (codes "[z-a]"))
 unfolding row regex_on_literals
 out_of_order_is_refused = refused_node root (no_class refl)
 
-folded_is_refused : CompileRefuses (plain (cat (KeepOut ∷ iset "[a" ∷ []))) (layout (plain (cat (KeepOut ∷ iset "[a" ∷ [])))) (InnerError (codes "[a"))
+folded_is_refused : CompileRefuses (plain (cat (KeepOut ∷ iset "[a" ∷ []))) (length (layout (plain (cat (KeepOut ∷ iset "[a" ∷ [])))).body) (InnerError (codes "[a"))
 unfolding row regex_on_literals
 folded_is_refused = refused_node (part root (there here)) (no_class refl)
 

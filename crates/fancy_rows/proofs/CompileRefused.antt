@@ -1,6 +1,6 @@
 -- Trees that are analysed and that `compile` refuses. A group that calls itself twice is left out: its program takes too
 -- long to compute.
-use Rattle.std.proofs.Common.{ℕ, Bool, [], ◌∷◌, Some, refl, arith}
+use Rattle.std.proofs.Common.{ℕ, Bool, [], ◌∷◌, Some, refl, arith, length}
 use Rattle.std.specs.Prelude.{pos}
 use Rattle.fancy_meaning.specs.Tree.{Tree, BackrefExists, Control, Commit, Accept, Conditional, AbsentRepeater, AbsentStopper, AbsentExpression, AbsentClear}
 use Rattle.fancy_meaning.specs.Options.{Plan, plan_of, Ascii, UnicodeBytes}
@@ -10,7 +10,7 @@ use Rattle.fancy_meaning.specs.CompileRefusals.{root, part, here, there, Compile
 use Rattle.fancy_rows.proofs.Notation.{plain, default_compile, no_options, lit, cat, alt, grp, star, call, behind, nbehind, row}
 
 abbrev Refused : Plan → CompileError → Type 0
-Refused p = CompileRefuses p (layout p)
+Refused p = CompileRefuses p (length (layout p).body)
 
 commit : Refused (plain (Control Commit)) FeatureNotYetSupported
 unfolding row

@@ -1,7 +1,7 @@
 -- Answers that delegation must not change, captures, calls, absent repeaters and counts.
 use Rattle.std.specs.Prelude.{◌-◌, ◌^◌, [], ◌∷◌, Some, None, codes, refl}
 use Rattle.fancy_meaning.specs.Tree.{AbsentRepeater, Conditional, DefineGroup, Empty}
-use Rattle.fancy_meaning.specs.Answer.{unset}
+use Rattle.fancy_meaning.specs.Numbers.{usize_max}
 use Rattle.fancy_rows.proofs.Notation.{Answered, plain, from, utf8, lit, cat, alt, grp, rep, star, lazy, lazy_star, any, ref, call, ahead, nahead, behind, row}
 
 -- ---- what a hard context is for
@@ -56,7 +56,7 @@ call_in_a_look_ahead_leaves_its_capture : Answered (plain (cat (grp any ∷ ahea
 unfolding row
 call_in_a_look_ahead_leaves_its_capture = (refl, refl, refl)
 
-negative_look_leaves_no_capture : Answered (plain (cat (nahead (cat (grp (lit "a") ∷ lit "x" ∷ [])) ∷ lit "a" ∷ []))) (codes "ab") (from 0) (Some (0 ∷ 1 ∷ unset ∷ unset ∷ []))
+negative_look_leaves_no_capture : Answered (plain (cat (nahead (cat (grp (lit "a") ∷ lit "x" ∷ [])) ∷ lit "a" ∷ []))) (codes "ab") (from 0) (Some (0 ∷ 1 ∷ usize_max ∷ usize_max ∷ []))
 unfolding row
 negative_look_leaves_no_capture = (refl, refl, refl)
 
@@ -64,11 +64,11 @@ condition_leaves_its_capture : Answered (plain (Conditional (grp (lit "a")) (ref
 unfolding row
 condition_leaves_its_capture = (refl, refl, refl)
 
-failed_condition_leaves_no_capture : Answered (plain (Conditional (cat (grp (lit "a") ∷ lit "x" ∷ [])) (lit "c") (lit "ab"))) (codes "ab") (from 0) (Some (0 ∷ 2 ∷ unset ∷ unset ∷ []))
+failed_condition_leaves_no_capture : Answered (plain (Conditional (cat (grp (lit "a") ∷ lit "x" ∷ [])) (lit "c") (lit "ab"))) (codes "ab") (from 0) (Some (0 ∷ 2 ∷ usize_max ∷ usize_max ∷ []))
 unfolding row
 failed_condition_leaves_no_capture = (refl, refl, refl)
 
-failed_branch_leaves_no_capture : Answered (plain (alt (cat (grp (lit "a") ∷ lit "x" ∷ []) ∷ cat (lit "a" ∷ grp (lit "b") ∷ []) ∷ []))) (codes "ab") (from 0) (Some (0 ∷ 2 ∷ unset ∷ unset ∷ 1 ∷ 2 ∷ []))
+failed_branch_leaves_no_capture : Answered (plain (alt (cat (grp (lit "a") ∷ lit "x" ∷ []) ∷ cat (lit "a" ∷ grp (lit "b") ∷ []) ∷ []))) (codes "ab") (from 0) (Some (0 ∷ 2 ∷ usize_max ∷ usize_max ∷ 1 ∷ 2 ∷ []))
 unfolding row
 failed_branch_leaves_no_capture = (refl, refl, refl)
 
@@ -84,7 +84,7 @@ capture_behind : Answered (plain (cat (behind (grp (lit "a")) ∷ lit "b" ∷ []
 unfolding row
 capture_behind = (refl, refl, refl)
 
-absent_captures_nothing : Answered (plain (AbsentRepeater (grp (lit "b")))) (codes "ab") (from 0) (Some (0 ∷ 1 ∷ unset ∷ unset ∷ []))
+absent_captures_nothing : Answered (plain (AbsentRepeater (grp (lit "b")))) (codes "ab") (from 0) (Some (0 ∷ 1 ∷ usize_max ∷ usize_max ∷ []))
 unfolding row
 absent_captures_nothing = (refl, refl, refl)
 
@@ -102,7 +102,7 @@ reference_to_nothing_captured = (refl, refl, refl)
 
 -- ---- calls and absent repeaters
 
-absent_of_a_called_absent : Answered (plain (cat (AbsentRepeater (call 1) ∷ DefineGroup (grp (cat (lit "b" ∷ AbsentRepeater (lit "a") ∷ []))) ∷ []))) (codes "abb") (from 0) (Some (0 ∷ 1 ∷ unset ∷ unset ∷ []))
+absent_of_a_called_absent : Answered (plain (cat (AbsentRepeater (call 1) ∷ DefineGroup (grp (cat (lit "b" ∷ AbsentRepeater (lit "a") ∷ []))) ∷ []))) (codes "abb") (from 0) (Some (0 ∷ 1 ∷ usize_max ∷ usize_max ∷ []))
 unfolding row
 absent_of_a_called_absent = (refl, refl, refl)
 
@@ -122,7 +122,7 @@ absent_past_a_character_of_two_bytes : Answered (plain (cat (AbsentRepeater (lit
 unfolding row
 absent_past_a_character_of_two_bytes = (refl, refl, refl)
 
-definitions_keep_their_numbers : Answered (plain (cat (DefineGroup (grp (lit "a")) ∷ grp (lit "b") ∷ []))) (codes "b") (from 0) (Some (0 ∷ 1 ∷ unset ∷ unset ∷ 0 ∷ 1 ∷ []))
+definitions_keep_their_numbers : Answered (plain (cat (DefineGroup (grp (lit "a")) ∷ grp (lit "b") ∷ []))) (codes "b") (from 0) (Some (0 ∷ 1 ∷ usize_max ∷ usize_max ∷ 0 ∷ 1 ∷ []))
 unfolding row
 definitions_keep_their_numbers = (refl, refl, refl)
 

@@ -4,7 +4,7 @@ use Rattle.std.specs.Prelude.{◌≡◌, ℕ, true, List, [], ◌∷◌, Option,
 use Rattle.fancy_meaning.specs.Tree.{DefineGroup, Empty, Tree, Group}
 use Rattle.fancy_meaning.specs.FragmentPoints.{fragment_points, visit_bound}
 use Rattle.fancy_meaning.specs.MatchState.{Span}
-use Rattle.fancy_meaning.specs.Machine.{Task, first_of}
+use Rattle.fancy_meaning.specs.Machine.{Task, first_way}
 use Rattle.fancy_meaning.specs.Layout.{layout}
 use Rattle.fancy_rows.proofs.Notation.{plain, from, utf8, lit, cat, alt, grp, rep, star, any, row}
 
@@ -79,7 +79,7 @@ points_of_never = refl
 abbrev first_on : List Tree → List ℕ → ℕ → Option (ℕ × Option Span × Option Span)
 first_on es text i =
     let task : Task = record { program = layout (plain Empty); text = text; options = from i } in
-    option_map (λ s. (s.place, s.captures 1, s.captures 2)) (first_of task (record { nodes = es; unicode = true }) i)
+    option_map (λ s. (s.place, s.captures 1, s.captures 2)) (first_way task (record { nodes = es; unicode = true }) i)
 
 first_way_of_a_group : first_on (Group 1 (alt (lit "a" ∷ lit "ab" ∷ [])) ∷ []) (codes "ab") 0 ≡ Some (1, Some (0, 1), None)
 unfolding row

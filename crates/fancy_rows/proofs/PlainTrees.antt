@@ -2,7 +2,7 @@
 use Rattle.std.proofs.Common.{◌≡◌, zero, suc, Bool, true, false, ◌&&◌, Some, None, refl}
 use Rattle.fancy_meaning.specs.Tree.{Tree, Trees, none, more, Empty, KeepOut, ContinueFromPreviousMatchEnd, Any, Assert, GeneralNewline, Literal, LiteralBytes, Delegate, Concat, Alt, Group, LookAround, Repeat, Backref, BackrefWithLevel, BackrefExists, AtomicGroup, DefineGroup, Control, Conditional, SubroutineCall, AbsentRepeater, AbsentStopper, AbsentExpression, AbsentClear, AstNode}
 use Rattle.fancy_meaning.specs.Options.{Plan}
-use Rattle.fancy_meaning.specs.Layout.{is_absent}
+use Rattle.fancy_meaning.specs.Nodes.{is_absent}
 use Rattle.fancy_meaning.specs.AnalysisRefusals.{CompileError}
 use Rattle.fancy_meaning.specs.CompileRefusals.{IsWritten, root, part, callee, IsAmong, here, there, written_parts, RefusesNode, existence_with_level, control_verb, absent_in_hard_repeater, absent_other, variable_lookbehind, missing_group, no_class}
 

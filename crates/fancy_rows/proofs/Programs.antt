@@ -2,7 +2,7 @@
 use Rattle.std.specs.Prelude.{◌≡◌, ℕ, Bool, true, false, [], ◌∷◌, length, refl}
 use Rattle.fancy_meaning.specs.Tree.{KeepOut}
 use Rattle.fancy_meaning.specs.Instr.{Prog}
-use Rattle.fancy_meaning.specs.Sizes.{no_bound}
+use Rattle.fancy_meaning.specs.Numbers.{usize_max}
 use Rattle.fancy_meaning.specs.Layout.{layout, undelegated_layout}
 use Rattle.fancy_rows.proofs.Notation.{plain, anchored, explicit, ascii, taking, with_end_text, analysed_end_text, lit, cat, alt, grp, rep, star, call, ahead, row}
 
@@ -14,7 +14,7 @@ of_a_letter : facts (layout (plain (lit "a"))) ≡ ((1, 0, 2), (false, false, fa
 unfolding row
 of_a_letter = refl
 
-of_two_groups : facts (layout (plain (cat (grp (lit "a") ∷ grp (star 0 (lit "b")) ∷ [])))) ≡ ((no_bound, 2, 6), (false, false, false, true))
+of_two_groups : facts (layout (plain (cat (grp (lit "a") ∷ grp (star 0 (lit "b")) ∷ [])))) ≡ ((usize_max, 2, 6), (false, false, false, true))
 unfolding row
 of_two_groups = refl
 
@@ -26,7 +26,7 @@ of_group_0_without_group : facts (layout (explicit (lit "ab"))) ≡ ((2, 0, 2), 
 unfolding row
 of_group_0_without_group = refl
 
-of_fresh_slots : facts (layout (plain (cat (grp (ahead (lit "a")) ∷ star 0 (star 0 KeepOut) ∷ [])))) ≡ ((no_bound, 1, 10), (false, false, false, true))
+of_fresh_slots : facts (layout (plain (cat (grp (ahead (lit "a")) ∷ star 0 (star 0 KeepOut) ∷ [])))) ≡ ((usize_max, 1, 10), (false, false, false, true))
 unfolding row
 of_fresh_slots = refl
 

@@ -1,7 +1,8 @@
 -- Sizes: how many characters each kind of node takes.
 use Rattle.std.specs.Prelude.{◌≡◌, ℕ, ◌-◌, ◌^◌, Bool, true, false, [], ◌∷◌, Option, Some, None, refl, option_map}
 use Rattle.fancy_meaning.specs.Tree.{AbsentClear, AbsentExpression, AbsentRepeater, AbsentStopper, AtomicGroup, Conditional, ContinueFromPreviousMatchEnd, Control, DefineGroup, Empty, Fail, GeneralNewline, KeepOut, LiteralBytes, Tree, WordBoundary}
-use Rattle.fancy_meaning.specs.Sizes.{size, no_bound}
+use Rattle.fancy_meaning.specs.Sizes.{size}
+use Rattle.fancy_meaning.specs.Numbers.{usize_max}
 use Rattle.fancy_meaning.specs.Numbering.{numbered}
 use Rattle.fancy_meaning.specs.Nodes.{target}
 use Rattle.fancy_rows.proofs.Notation.{lit, ilit, cat, alt, grp, rep, star, any, assert, set, ref, has, call, ahead, row}
@@ -106,20 +107,20 @@ of_never : sizes (rep 0 0 (lit "ab")) ≡ (0, 0, true)
 unfolding row
 of_never = refl
 
-of_one_or_more : sizes (star 1 (lit "ab")) ≡ (2, no_bound, false)
+of_one_or_more : sizes (star 1 (lit "ab")) ≡ (2, usize_max, false)
 unfolding row
 of_one_or_more = refl
 
-of_one_or_more_of_nothing : sizes (star 1 Empty) ≡ (0, no_bound, false)
+of_one_or_more_of_nothing : sizes (star 1 Empty) ≡ (0, usize_max, false)
 unfolding row
 of_one_or_more_of_nothing = refl
 
-of_two_of_what_has_no_bound : sizes (rep 2 2 (star 0 (lit "a"))) ≡ (0, no_bound, false)
+of_two_of_what_has_no_bound : sizes (rep 2 2 (star 0 (lit "a"))) ≡ (0, usize_max, false)
 unfolding row
 of_two_of_what_has_no_bound = refl
 
 -- no bound of a part stays none
-of_never_without_bound : sizes (rep 0 0 (star 0 (lit "a"))) ≡ (0, no_bound, false)
+of_never_without_bound : sizes (rep 0 0 (star 0 (lit "a"))) ≡ (0, usize_max, false)
 unfolding row
 of_never_without_bound = refl
 
@@ -144,7 +145,7 @@ of_a_conditional_by_existence : sizes (cat (grp (lit "a") ∷ Conditional (has 1
 unfolding row
 of_a_conditional_by_existence = refl
 
-of_an_absent_repeater : sizes (AbsentRepeater (lit "abc")) ≡ (0, no_bound, false)
+of_an_absent_repeater : sizes (AbsentRepeater (lit "abc")) ≡ (0, usize_max, false)
 unfolding row
 of_an_absent_repeater = refl
 
@@ -176,31 +177,31 @@ of_a_call : sizes (cat (grp (alt (lit "a" ∷ lit "bc" ∷ [])) ∷ call 1 ∷ [
 unfolding row
 of_a_call = refl
 
-of_a_call_of_itself : sizes (grp (alt (cat (lit "a" ∷ call 1 ∷ []) ∷ lit "b" ∷ []))) ≡ (1, no_bound, false)
+of_a_call_of_itself : sizes (grp (alt (cat (lit "a" ∷ call 1 ∷ []) ∷ lit "b" ∷ []))) ≡ (1, usize_max, false)
 unfolding row
 of_a_call_of_itself = refl
 
-of_a_call_of_the_whole : sizes (alt (cat (lit "a" ∷ call 0 ∷ []) ∷ lit "bc" ∷ [])) ≡ (1, no_bound, false)
+of_a_call_of_the_whole : sizes (alt (cat (lit "a" ∷ call 0 ∷ []) ∷ lit "bc" ∷ [])) ≡ (1, usize_max, false)
 unfolding row
 of_a_call_of_the_whole = refl
 
-of_a_call_without_group : sizes (call 7) ≡ (0, no_bound, false)
+of_a_call_without_group : sizes (call 7) ≡ (0, usize_max, false)
 unfolding row
 of_a_call_without_group = refl
 
-of_a_reference_to_none : sizes (ref 0) ≡ (0, no_bound, false)
+of_a_reference_to_none : sizes (ref 0) ≡ (0, usize_max, false)
 unfolding row
 of_a_reference_to_none = refl
 
-of_a_count_that_saturates : sizes (star (2 ^ 64 - 2) (lit "ab")) ≡ (no_bound, no_bound, false)
+of_a_count_that_saturates : sizes (star (2 ^ 64 - 2) (lit "ab")) ≡ (usize_max, usize_max, false)
 unfolding row
 of_a_count_that_saturates = refl
 
-of_a_most_that_saturates : sizes (rep 0 (2 ^ 64 - 2) (lit "ab")) ≡ (0, no_bound, false)
+of_a_most_that_saturates : sizes (rep 0 (2 ^ 64 - 2) (lit "ab")) ≡ (0, usize_max, false)
 unfolding row
 of_a_most_that_saturates = refl
 
-of_a_sum_that_saturates : sizes (cat (rep (2 ^ 64 - 2) (2 ^ 64 - 2) (lit "a") ∷ lit "a" ∷ lit "b" ∷ [])) ≡ (no_bound, no_bound, true)
+of_a_sum_that_saturates : sizes (cat (rep (2 ^ 64 - 2) (2 ^ 64 - 2) (lit "a") ∷ lit "a" ∷ lit "b" ∷ [])) ≡ (usize_max, usize_max, true)
 unfolding row
 of_a_sum_that_saturates = refl
 

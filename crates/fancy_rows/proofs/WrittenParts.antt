@@ -1,8 +1,9 @@
 -- What is written out decides what `compile` refuses, and whether an absent node stands below a repeater.
-use Rattle.std.proofs.Common.{◌≡◌, Bool, true, false, [], ◌∷◌, Some, refl, ap, subst, ◌⊎◌, inl, inr}
+use Rattle.std.proofs.Common.{◌≡◌, Bool, true, false, [], ◌∷◌, Some, refl, ap, subst, ◌⊎◌, inl, inr, length}
 use Rattle.std.specs.Prelude.{codes}
 use Rattle.fancy_meaning.specs.Tree.{Tree, none, more, KeepOut, DefineGroup, AbsentRepeater, Literal, Concat, Repeat}
-use Rattle.fancy_meaning.specs.Layout.{layout, is_absent}
+use Rattle.fancy_meaning.specs.Nodes.{is_absent}
+use Rattle.fancy_meaning.specs.Layout.{layout}
 use Rattle.fancy_meaning.specs.Instr.{Instr, End}
 use Rattle.fancy_meaning.specs.AnalysisRefusals.{CompileError, FeatureNotYetSupported}
 use Rattle.fancy_meaning.specs.CompileRefusals.{IsWritten, root, part, callee, IsAmong, here, there, RefusesNode, CompileRefuses, refused_node, too_long, bytes_mode, control_verb, absent_in_hard_repeater, absent_other, variable_lookbehind, existence_with_level, missing_group, no_class, written_parts}
@@ -11,11 +12,11 @@ use Rattle.fancy_rows.proofs.Notation.{Answered, Undelegated, plain, explicit, f
 
 -- ---- absent nodes below a repeater
 
-absent_in_definitions_below_hard : CompileRefuses (plain (AbsentRepeater (cat (KeepOut ∷ DefineGroup (AbsentRepeater (lit "a")) ∷ [])))) (layout (plain (AbsentRepeater (cat (KeepOut ∷ DefineGroup (AbsentRepeater (lit "a")) ∷ []))))) FeatureNotYetSupported
+absent_in_definitions_below_hard : CompileRefuses (plain (AbsentRepeater (cat (KeepOut ∷ DefineGroup (AbsentRepeater (lit "a")) ∷ [])))) (length (layout (plain (AbsentRepeater (cat (KeepOut ∷ DefineGroup (AbsentRepeater (lit "a")) ∷ []))))).body) FeatureNotYetSupported
 unfolding row
 absent_in_definitions_below_hard = refused_node root (absent_in_hard_repeater refl refl)
 
-absent_never_entered_below_hard : CompileRefuses (plain (AbsentRepeater (cat (KeepOut ∷ rep 0 0 (AbsentRepeater (lit "a")) ∷ [])))) (layout (plain (AbsentRepeater (cat (KeepOut ∷ rep 0 0 (AbsentRepeater (lit "a")) ∷ []))))) FeatureNotYetSupported
+absent_never_entered_below_hard : CompileRefuses (plain (AbsentRepeater (cat (KeepOut ∷ rep 0 0 (AbsentRepeater (lit "a")) ∷ [])))) (length (layout (plain (AbsentRepeater (cat (KeepOut ∷ rep 0 0 (AbsentRepeater (lit "a")) ∷ []))))).body) FeatureNotYetSupported
 unfolding row
 absent_never_entered_below_hard = refused_node root (absent_in_hard_repeater refl refl)
 
@@ -78,7 +79,7 @@ quiet (variable_lookbehind v) p q n = cc (ap is_quiet p, q)
 quiet (missing_group t) p q n = cc (ap is_quiet p, q)
 quiet (no_class {inner} {casei} c) p q n = cc (ap is_quiet p, q)
 
-never_entered_is_not_refused : (error : CompileError) → ¬ CompileRefuses (plain never_entered) (layout (plain never_entered)) error
+never_entered_is_not_refused : (error : CompileError) → ¬ CompileRefuses (plain never_entered) (length (layout (plain never_entered)).body) error
 unfolding row
 never_entered_is_not_refused error (refused_node {e} w r) = go (written_is w)
   where

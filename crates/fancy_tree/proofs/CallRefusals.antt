@@ -9,7 +9,7 @@ use Rattle.fancy_meaning.specs.Tree.{Tree}
 use Rattle.fancy_meaning.specs.WellFormed.{is_call}
 use Rattle.fancy_meaning.specs.AnalysisRefusals.{AnalysisRefuses, ReadsAfterCall, FeatureNotYetSupported, LeftRecursiveSubroutineCall, NeverEndingRecursion, before_end, reference_after_call, left_recursion}
 use Rattle.fancy_tree.specs.Names.{IsDescriptionOfLeast}
-use Rattle.fancy_tree.specs.Refusals.{HasNoRefusedNode, IsAccepted}
+use Rattle.fancy_tree.specs.Refusals.{HasNoRefusedNode, IsAnalysable}
 use Rattle.fancy_expr.proofs.Listed.{true_false}
 use Rattle.fancy_tree.proofs.RefusalNodes.{accepted, refused_at_end, no_call_in, no_left_in, no_late_in}
 
@@ -24,13 +24,13 @@ module _ (p : ParsedTree) (options : AnalysisOptions) where
   left_refused text d = before_end (left_recursion d.group text d.is_least d.describes)
 
   module _ (counted : p.total_groups ≡ group_count p.tree) (quiet : HasNoRefusedNode p options) where
-    pub without_calls : list_any is_call (nodes p.tree) ≡ false → IsAccepted p options
+    pub without_calls : list_any is_call (nodes p.tree) ≡ false → IsAnalysable p options
     unfolding numbered
     without_calls none =
         let none_in = no_call_in p options none in
         accepted p options counted quiet (no_late_in p options none_in) (no_left_in p options none_in) (λ some cannot. true_false (sym some ∙ none_in))
 
-    pub that_end : ((g : ℕ) → ¬ ReadsAfterCall whole g) → ((g : ℕ) → ¬ IsLeftRecursive whole g) → CanEnd whole whole → IsAccepted p options
+    pub that_end : ((g : ℕ) → ¬ ReadsAfterCall whole g) → ((g : ℕ) → ¬ IsLeftRecursive whole g) → CanEnd whole whole → IsAnalysable p options
     unfolding numbered
     that_end no_late no_left ends = accepted p options counted quiet no_late no_left (λ some cannot. cannot ends)
 

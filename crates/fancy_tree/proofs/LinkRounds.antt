@@ -196,9 +196,9 @@ pub none_set : (flags : List Bool) → All (λ b. b ≡ false) flags → (n : �
 none_set flags all n = elim (cases_lt n (length flags)) [ inl lt ↦ all n false lt | inr ge ↦ get_or_past flags n false ge ]
 
 pub marking_none : (links : List Link) (flags leads : List Bool) → HasRoom links leads → All (λ b. b ≡ false) leads → IsMarking links flags leads 0
-marking_none links flags leads room unset = record {
+marking_none links flags leads room usize_max = record {
   room = room;
-  only = λ n is. absurd (both_ways (flag leads n) (none_set leads unset n) is);
+  only = λ n is. absurd (both_ways (flag leads n) (none_set leads usize_max n) is);
   all = λ k d h. absurd (omega arith);
 }
 
@@ -208,14 +208,14 @@ written_back n xs ys h = ap (λ k. take k (ys ++ xs)) h ∙ take-append_seam ys 
 
 -- at first the whole tree alone is set
 pub only_whole : (links : List Link) (flags : List Bool) → HasRoom links flags → All (λ b. b ≡ false) flags → record { room : HasRoom links (set flags 0 true); whole : flag (set flags 0 true) 0 ≡ true; only : (n : ℕ) → flag (set flags 0 true) n ≡ true → IsReached links n }
-only_whole links flags room unset =
+only_whole links flags room usize_max =
     let long : length (set flags 0 true) ≡ length flags = length-set flags 0 true in
     record {
       room = room_kept links flags (set flags 0 true) (sym long) room;
       whole = get_or-set_same flags 0 true false room.whole;
       only = λ n is. elim (flag_written flags 0 n true room.whole) [
         | inl w ↦ subst (IsReached links) (sym w.0) the_whole
-        | inr w ↦ absurd (both_ways (flag flags n) (none_set flags unset n) (sym w.1 ∙ is))
+        | inr w ↦ absurd (both_ways (flag flags n) (none_set flags usize_max n) (sym w.1 ∙ is))
       ];
     }
 

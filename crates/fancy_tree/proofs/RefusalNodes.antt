@@ -13,7 +13,7 @@ use Rattle.fancy_meaning.specs.Options.{ParsedTree, AnalysisOptions}
 use Rattle.fancy_meaning.specs.WellFormed.{refers, is_call}
 use Rattle.fancy_meaning.specs.AnalysisRefusals.{CompileError, AnalysisRefuses, RefusesBeforeEnd, is_back_to, has_level, is_no_group, before_end, never_ends, named_groups_with_numbers, reference_to_0, reference_after_call, unresolved_call, unresolved_node, reference_with_level, group_out_of_range, left_recursion, InvalidBackref, NeverEndingRecursion, ReadsAfterCall}
 use Rattle.fancy_expr.specs.Questions.{is_refused}
-use Rattle.fancy_tree.specs.Refusals.{refusal_of, HasNoRefusedNode, IsAccepted}
+use Rattle.fancy_tree.specs.Refusals.{refusal_of, HasNoRefusedNode, IsAnalysable}
 use Rattle.fancy_meaning.specs.Recursion.{IsLeftRecursive, CanEnd}
 use Rattle.fancy_expr.proofs.Listed.{any-map, any_passes, any_fails_at, true_false, false_true}
 use Rattle.fancy_tree.proofs.Numbered.{nodes-numbered, count-numbered}
@@ -190,7 +190,7 @@ module _ (p : ParsedTree) (options : AnalysisOptions) where
         implied (refers g) (is_refused first last) (named_refused g (ap (λ n. nat_lt g first || nat_lt (first + n - 1) g) same ∙ out)) (nodes whole) none_whole h
     not_before_end _ (left_recursion g text least described) = no_left g least.is_one
 
-    pub accepted : (list_any is_call (nodes whole) ≡ true → ¬ CanEnd whole whole → ⊥) → IsAccepted p options
+    pub accepted : (list_any is_call (nodes whole) ≡ true → ¬ CanEnd whole whole → ⊥) → IsAnalysable p options
     unfolding numbered
     accepted ends _ (before_end {error = e} r) = not_before_end e r
     accepted ends _ (never_ends has_call cannot no_other) = ends has_call cannot

@@ -4,7 +4,8 @@ use Rattle.fancy_meaning.specs.Tree as plain
 use Rattle.fancy_meaning.specs.Tree.{Tree, trees}
 use Rattle.fancy_meaning.specs.Nodes.{group_count, groups, is_read}
 use Rattle.fancy_meaning.specs.Options.{Analysis, AnalysisOptions}
-use Rattle.fancy_meaning.specs.Sizes.{Size, Known, exactly, between, no_bound, plus, either, times, sum_of, any_of, size_by, size_of_group, size_of_target, known_of, unknown}
+use Rattle.fancy_meaning.specs.Sizes.{Size, Known, exactly, between, plus, either, times, sum_of, any_of, size_by, size_of_group, size_of_target, known_of, unknown}
+use Rattle.fancy_meaning.specs.Numbers.{usize_max}
 use Rattle.fancy_meaning.specs.Hard.{is_hard_assertion}
 use Rattle.fancy_tree.specs.declared.make.Task.{Task}
 use Rattle.fancy_tree.specs.declared.info.Info.{Info}
@@ -24,7 +25,7 @@ nth_size (s ∷ ss) zero = s
 nth_size (s ∷ ss) (suc i) = nth_size ss i
 
 abbrev pub absent_size : Absent → List Size → Size
-absent_size (code_absent.Repeater' b e) sizes = between 0 no_bound
+absent_size (code_absent.Repeater' b e) sizes = between 0 usize_max
 absent_size (code_absent.Expression' b a c e) sizes = record (nth_size sizes 1) { is_const = false }
 absent_size (code_absent.Stopper' b e) sizes = exactly 0
 absent_size code_absent.Clear sizes = exactly 0

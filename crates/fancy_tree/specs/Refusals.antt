@@ -53,8 +53,8 @@ abbrev pub has_named_and_numbered : ExprTree → Bool
 has_named_and_numbered t = t.numbered_groups_ignored && t.numeric_capture_group_references && not (length t.named_groups.entries == 0)
 
 -- no case of a refusal holds
-abbrev pub IsAccepted : ParsedTree → AnalysisOptions → Type 0
-IsAccepted p options = (error : plain_errors.CompileError) → ¬ AnalysisRefuses p options error
+abbrev pub IsAnalysable : ParsedTree → AnalysisOptions → Type 0
+IsAnalysable p options = (error : plain_errors.CompileError) → ¬ AnalysisRefuses p options error
 
 -- no node of the tree is refused, and no group without a name is referred to where such groups are left out
 pub record HasNoRefusedNode (p : ParsedTree) (options : AnalysisOptions) : Type 0 where

@@ -6,7 +6,7 @@ ghost use Rattle.fancy_meaning.specs.Options.{AnalysisOptions, analysis_of};
 ghost use Rattle.fancy_meaning.specs.WellFormed.{most_groups};
 ghost use Rattle.fancy_tree.specs.Infos.{options_of};
 ghost use Rattle.fancy_expr.specs.Questions.{is_refused};
-ghost use Rattle.fancy_tree.specs.Refusals.{HasNoRefusedNode, IsAccepted, error_of, first_of, has_named_and_numbered, last_of, refusal_of};
+ghost use Rattle.fancy_tree.specs.Refusals.{HasNoRefusedNode, IsAnalysable, error_of, first_of, has_named_and_numbered, last_of, refusal_of};
 ghost use Rattle.fancy_expr.specs.Sound.{IsWellFormedTree};
 ghost use Rattle.fancy_tree.specs.Endings.{IsWhole};
 ghost use Rattle.fancy_expr.specs.declared.error.Error.TheVariants.{Memory};
@@ -104,7 +104,7 @@ pub fn call_refusal(
         result
         (λ found. MatchOption
         found
-        (IsAccepted (parsed_of tree.now) options)
+        (IsAnalysable (parsed_of tree.now) options)
         (λ error. AnalysisRefuses (parsed_of tree.now) options (error_of error)))
         (λ error. error ≡ Memory) }
 {

@@ -1,7 +1,8 @@
 //! How many characters a node takes.
 
 ghost use Rattle.std.specs.Prelude.{◌≡◌, false};
-ghost use Rattle.fancy_meaning.specs.Sizes.{between, either, exactly, no_bound, plus, times, unknown};
+ghost use Rattle.fancy_meaning.specs.Sizes.{between, either, exactly, plus, times, unknown};
+ghost use Rattle.fancy_meaning.specs.Numbers.{usize_max};
 ghost use Rattle.fancy_tree.specs.Sized.{size_of};
 ghost use Rattle.fancy_expr.specs.Views.{bound_of};
 

@@ -1,5 +1,5 @@
 use Rattle.std.proofs.Common.{◌<◌, length, arith}
-use Rattle.fancy_meaning.specs.Answer.{unset}
+use Rattle.fancy_meaning.specs.Numbers.{usize_max}
 use Rattle.fancy_machine.specs.Programs.{prog_of, options_of, task_of}
 use Rattle.fancy_machine.proofs.FitsLaws.{run_implicit}
 use Rattle.fancy_machine.proofs.MeaningLaws.{run_means_pair}
@@ -10,5 +10,5 @@ answer_pair-answer-requires-clause-implicit c = run_implicit (task_of c.args.pro
 
 pub returns-clause-meaning : goal.returns-clause-meaning
 returns-clause-meaning c =
-    let small : length c.args.text.now < unset = omega arith in
+    let small : length c.args.text.now < usize_max = omega arith in
     run_means_pair (prog_of c.args.prog.now) c.args.text.now (options_of c.args.options.now) c.utf8.text small c.answer_pair-answer.result c.requires c.answer_pair-answer.ensures

@@ -11,7 +11,7 @@ use Rattle.fancy_tree.specs.declared.info.Info.{Info}
 use Rattle.fancy_expr.specs.declared.error.Error.{Error}
 use Rattle.fancy_expr.specs.declared.error.Error.TheVariants.{Memory}
 use Rattle.fancy_meaning.specs.AnalysisRefusals.{AnalysisRefuses}
-use Rattle.fancy_tree.specs.Refusals.{HasNoRefusedNode, IsAccepted, error_of}
+use Rattle.fancy_tree.specs.Refusals.{HasNoRefusedNode, IsAnalysable, error_of}
 use Rattle.fancy_expr.proofs.Listed.{false_true}
 use Rattle.fancy_tree.proofs.WholeNodes.{whole_visited}
 use Rattle.fancy_tree.specs.Sized.{size_of}
@@ -32,7 +32,7 @@ returns c =
       known = ap (map size_of) c.deref-2.ensures.value ∙ c.in_ok-known.ensures ∙ ap (λ n. known_of (numbered_within NoLook n p.tree)) c.first_group-first.ensures;
     }) in
     record {
-      accepted = subst (λ r. MatchOption r (IsAccepted p o) (λ error. AnalysisRefuses p o (error_of error))) c.in_default-2.is (c.in_ok-refused.ensures o quiet whole);
+      accepted = subst (λ r. MatchOption r (IsAnalysable p o) (λ error. AnalysisRefuses p o (error_of error))) c.in_default-2.is (c.in_ok-refused.ensures o quiet whole);
       root = c.as_root.ensures a refl c.in_ok-info.ensures.within whole.tree whole.analysed;
     }
 
@@ -47,7 +47,7 @@ returns-in-Some-2 c =
       reads = λ g. ap (λ l. slice_index_or l g false) c.deref-3.ensures.value ∙ c.in_ok-reads.ensures g ∙ flag_is_read p o c.requires.0.groups quiet g;
       known = ap (map size_of) c.deref-2.ensures.value ∙ c.in_ok-known.ensures ∙ ap (λ n. known_of (numbered_within NoLook n p.tree)) c.first_group-first.ensures;
     }) in
-    subst (λ r. MatchOption r (IsAccepted p o) (λ error. AnalysisRefuses p o (error_of error))) c.in-Some-2.is (c.in_ok-refused.ensures o quiet whole)
+    subst (λ r. MatchOption r (IsAnalysable p o) (λ error. AnalysisRefuses p o (error_of error))) c.in-Some-2.is (c.in_ok-refused.ensures o quiet whole)
 
 memory_only : (p : ParsedTree) (o : AnalysisOptions) (r : Result Info Error) (x : Error) → IsErr r → IsErrAnd r (λ e. e ≡ x) → x ≡ Memory →
     MatchResult r (λ info. IsAnalysisOf p o info) (λ error. IsRefusedAs p o error)

@@ -5,7 +5,7 @@ use Rattle.std.proofs.lemmas.List.{length-map}
 use Rattle.fancy_machine.specs.Insns.{insn_of}
 use Rattle.fancy_meaning.specs.Tree as plain
 use Rattle.fancy_meaning.specs.Tree.{trees}
-use Rattle.fancy_meaning.specs.Nodes.{is_read, nodes}
+use Rattle.fancy_meaning.specs.Nodes.{is_read, nodes, is_absent}
 use Rattle.fancy_meaning.specs.Code.{Code, nothing, one, ◌>>◌, branch}
 use Rattle.fancy_meaning.specs.Constructs.{group_code, loop_form}
 use Rattle.fancy_meaning.specs.Instr.{Instr}
@@ -18,7 +18,6 @@ use Rattle.fancy_meaning.specs.Sizes.{Size}
 use Rattle.fancy_compile.specs.Faults.{HasRejected}
 use Rattle.fancy_compile.specs.Nodes.{AreWhole, node_count, total, branch_over, step_past}
 use Rattle.std.specs.List.{list_any}
-use Rattle.fancy_meaning.specs.Layout.{is_absent}
 use Rattle.fancy_compile.proofs.Writing.{wrote_then, wrote_nothing}
 use Rattle.fancy_compile.proofs.Patches.{wrote_both}
 use Rattle.fancy_compile.proofs.Concat.{ahead_by, negative_by}

@@ -1,5 +1,5 @@
 use Rattle.std.proofs.Common.{arith, ap₂, ◌∙◌, sym}
-use Rattle.fancy_meaning.specs.Answer.{unset}
+use Rattle.fancy_meaning.specs.Numbers.{usize_max}
 use Rattle.fancy_meaning.specs.Machine.{flag_slot}
 use Rattle.fancy_machine.specs.Programs.{prog_of}
 use Rattle.fancy_machine.proofs.FitsLaws.{fits_two, flag_two}
@@ -14,5 +14,5 @@ slot-requires c =
 pub returns : goal.returns
 returns c =
     let prog = prog_of c.args.self.now.prog.now in
-    let two = first_two _ (flag_slot prog) unset (flag_two prog c.requires.implicit) in
+    let two = first_two _ (flag_slot prog) usize_max (flag_two prog c.requires.implicit) in
     ap₂ (λ a b. (a, b)) (two.0 ∙ sym c.kept.ensures) (two.1 ∙ sym c.slot.ensures)
