@@ -32,5 +32,6 @@ pub mod CompileRefusals
 pub mod Keys
 pub mod Hands
 pub mod Premises
+pub mod Promise
 pub mod Laws
 pub mod Theorems

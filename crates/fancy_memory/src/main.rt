@@ -2,11 +2,10 @@
 //! refused, and moves it through the search by that number.
 #![tactic(auto)]
 
-use fancy_regex_engine::analyze::{AnalyzeContext, analyze};
-use fancy_regex_engine::compile::{CompileOptions, compile};
 use fancy_regex_engine::error::Error;
 use fancy_regex_engine::expr::read_tree;
-use fancy_regex_engine::vm::{Prog, RunOptions, Scratch, run};
+use fancy_regex_engine::search::{SearchOptions, search};
+use fancy_regex_engine::vm::Scratch;
 use std::alloc::{AllocError, Global};
 use std::{env, io};
 
@@ -19,21 +18,11 @@ fn spend(alloc: Global, times: usize) -> Result<(), AllocError> {
     Ok(())
 }
 
-/// The program of a tree, with default options.
-fn compiled(alloc: Global, tree: &str) -> Result<Prog, Error> {
-    let tree = read_tree(alloc, tree)?;
-    let info = analyze(alloc, &tree, AnalyzeContext::default())?;
-    compile(alloc, &info, CompileOptions::default())
-}
-
 /// The numbers of the first match, with default options.
-fn search(alloc: Global, tree: &str, text: &str) -> Result<Option<Vec<usize>>, Error> {
-    let prog = compiled(alloc, tree)?;
-    let options = RunOptions::default();
-    if !options.fits(&prog, text) {
-        return Ok(None);
-    }
-    run(alloc, &prog, text, &options, &mut Scratch::new(alloc))
+fn numbers(alloc: Global, tree: &str, text: &str) -> Result<Option<Vec<usize>>, Error> {
+    let tree = read_tree(alloc, tree)?;
+    let mut scratch = Scratch::new(alloc);
+    search(alloc, &tree, text, &SearchOptions::default(), &mut scratch)
 }
 
 fn print_outcome(rt: &impl Print, outcome: &Result<Option<Vec<usize>>, Error>) -> io::Result<()> {
@@ -59,7 +48,7 @@ fn main(rt: HostRuntime) -> io::Result<()> {
         println!(rt; "spent")?;
     }
     for _round in 0..2 {
-        print_outcome(&rt, &search(rt.alloc(), tree.as_str(), text.as_str()))?;
+        print_outcome(&rt, &numbers(rt.alloc(), tree.as_str(), text.as_str()))?;
     }
     Ok(())
 }

@@ -1,2 +1,4 @@
 pub mod Asked
+pub mod Searched
 pub mod Performed
+pub mod Parts

@@ -1,3 +1,5 @@
 pub mod Arguments
 pub mod Printing
+pub mod Writing
+pub mod Searches
 pub mod Commands

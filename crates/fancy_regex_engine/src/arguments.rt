@@ -5,6 +5,7 @@ ghost use Rattle.fancy_notation.specs.Words.{found, number_of};
 ghost use Rattle.fancy_machine.specs.Programs.{options_of as run_options_of};
 ghost use Rattle.fancy_regex_engine.specs.Arguments as line;
 
+use crate::search::SearchOptions;
 use fancy_compile::compile::{BytesMode, CompileOptions};
 use fancy_machine::vm::RunOptions;
 use fancy_tree::analyze::AnalyzeContext;
@@ -224,6 +225,19 @@ impl Arguments {
             bytes_mode: BytesMode::Unicode,
             unicode: !self.ascii,
             max_prog_size: self.max_prog,
+        }
+    }
+
+    /// The options of the search.
+    pub fn options(&self) -> SearchOptions
+        ensures analysis { result.analysis ≡ line.analysis self.now }
+        ensures compilation { result.compilation ≡ line.compilation self.now }
+        ensures run { run_options_of result.run ≡ line.running self.now }
+    {
+        SearchOptions {
+            analysis: self.analysis(),
+            compilation: self.compilation(),
+            run: self.running(),
         }
     }
 

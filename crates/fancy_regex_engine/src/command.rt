@@ -1,19 +1,17 @@
 //! The program: a search by a command line.
 
-ghost use Rattle.std.specs.Prelude.{◌≡◌, IfSome, IsTrue, MatchResult, map, option_map, string_bytes};
+ghost use Rattle.std.specs.Prelude.{◌≡◌, IfSome, IsTrue, map, option_map, string_bytes};
 ghost use Rattle.fancy_meaning.specs.Places.{is_place};
 ghost use Rattle.fancy_regex_engine.specs.Arguments.{question_of};
-ghost use Rattle.fancy_regex_engine.specs.Commands.{Finds, Performs, Shows, asked};
+ghost use Rattle.fancy_regex_engine.specs.Commands.{Finds, Performs, Refuses, Shows, asked, status_after};
 
 use crate::arguments::{Arguments, read_arguments};
-use crate::printing::{answer_line, write_error, write_usage};
-use fancy_compile::compile::compile;
-use fancy_machine::vm::{Scratch, run};
+use crate::printing::{answer_line, error_line, memory_line, usage_line, write_line};
+use crate::search::search;
+use fancy_machine::vm::Scratch;
 use fancy_notation::notation::read_tree;
-use fancy_tree::analyze::analyze;
 use fancy_tree::error::Error;
 use std::alloc::Global;
-use std::io;
 use std::io::Write;
 
 /// What a command line asks.
@@ -51,11 +49,9 @@ impl Question<'_> {
         ensures { Finds (asked self.now) result }
     {
         let tree = read_tree(alloc, self.tree)?;
-        let info = analyze(alloc, &tree, self.arguments.analysis())?;
-        let program = compile(alloc, &info, self.arguments.compilation())?;
+        let options = self.arguments.options();
         let mut scratch = Scratch::new(alloc);
-        let options = self.arguments.running();
-        run(alloc, &program, self.text, &options, &mut scratch)
+        search(alloc, &tree, self.text, &options, &mut scratch)
     }
 
     /// The line of the answer.
@@ -68,13 +64,20 @@ impl Question<'_> {
     }
 }
 
-/// The status after a line was written.
-fn status(written: io::Result<()>, wanted: u8) -> u8
-    ensures { MatchResult written (λ _. result ≡ wanted) (λ _. result ≡ 3) }
+/// The status once a line was to be written.
+fn status(written: bool, wanted: u8) -> u8
+    ensures { result ≡ status_after written wanted }
 {
-    match written {
-        Ok(()) => wanted,
-        Err(_) => 3,
+    if written { wanted } else { 3 }
+}
+
+/// Writes the line of a refusal: its name, or that memory ran out where there is none for the name.
+fn report<O: Write>(alloc: Global, error: &Error, out: &mut O) -> u8
+    ensures { Refuses (O.contents out.old) (O.contents out.new) error.now result }
+{
+    match error_line(alloc, error) {
+        Ok(line) => status(write_line(out, line.as_bytes()), 1),
+        Err(_) => status(write_line(out, memory_line()), 1),
     }
 }
 
@@ -83,7 +86,8 @@ fn status(written: io::Result<()>, wanted: u8) -> u8
 ///
 /// The answer is written on `out` with status 0: start and end of each group in bytes of TEXT, or `none`. A refusal is
 /// written there by its name with status 1. Other words, or a place inside a character of TEXT, give a line on `err` with
-/// status 2, and TREE is not read. Where a write fails, the status is 3, and no more is written.
+/// status 2, and TREE is not read. Where a write fails, the status is 3, and no more is written: what was written before it
+/// is a part of the line from its start.
 pub fn command<O: Write, E: Write>(alloc: Global, args: &[String], out: &mut O, err: &mut E) -> u8
     ensures { Performs
         (map string_bytes args.now)
@@ -94,10 +98,10 @@ pub fn command<O: Write, E: Write>(alloc: Global, args: &[String], out: &mut O, 
         result }
 {
     let Some(question) = ask(args) else {
-        return status(write_usage(err), 2);
+        return status(write_line(err, usage_line()), 2);
     };
     match question.show(alloc) {
-        Ok(line) => status(out.write_all(line.as_bytes()), 0),
-        Err(error) => status(write_error(out, &error), 1),
+        Ok(line) => status(write_line(out, line.as_bytes()), 0),
+        Err(error) => report(alloc, &error, out),
     }
 }

@@ -6,6 +6,7 @@ pub mod arguments;
 pub mod command;
 pub mod expr;
 mod printing;
+pub mod search;
 
 pub use fancy_compile::compile;
 pub use fancy_machine::vm;

@@ -1,13 +1,13 @@
 //! What the program prints.
 
 ghost use Rattle.std.specs.Prelude.{◌≡◌, ◌++◌, IfOk, OnOk, map, option_map, string_bytes};
-ghost use Rattle.std.specs.Io.KnownBytes.{Appends};
+ghost use Rattle.fancy_expr.specs.declared.error.Error.TheVariants as error;
 ghost use Rattle.fancy_regex_engine.specs.Printing as printed;
+ghost use Rattle.fancy_regex_engine.specs.Writing.{Writes};
 
 use fancy_tree::error::{CompileError, Error, RuntimeError};
 use std::alloc::{AllocError, Global};
-use std::io;
-use std::io::Write;
+use std::io::{ErrorKind, Write};
 
 /// A number of an answer, or `-` for one that is not set.
 fn push_number(line: &mut String, number: usize) -> Result<(), AllocError>
@@ -59,47 +59,81 @@ fn limit_name(error: RuntimeError) -> &'static str
     }
 }
 
-/// The line of a refused tree.
-fn write_compile_error<O: Write>(out: &mut O, error: &CompileError) -> io::Result<()>
-    ensures { OnOk result (Appends (O.contents out.old) (O.contents out.new) (printed.compile_error_line error.now)) }
+/// The name of the case in which a tree is refused, and for two of them a space and what they carry.
+fn push_compile_error(line: &mut String, error: &CompileError) -> Result<(), AllocError>
+    ensures { OnOk result (string_bytes line.new ≡ string_bytes line.old ++ printed.compile_error_text error.now) }
 {
     match error {
-        CompileError::NamedBackrefOnly => writeln!(out, "NamedBackrefOnly"),
-        CompileError::FeatureNotYetSupported => writeln!(out, "FeatureNotYetSupported"),
-        CompileError::SubroutineCallTargetNotFound => writeln!(out, "SubroutineCallTargetNotFound"),
-        CompileError::UnresolvedAstNode => writeln!(out, "UnresolvedAstNode"),
-        CompileError::InvalidBackref(group) => writeln!(out, "InvalidBackref {group}"),
+        CompileError::NamedBackrefOnly => line.push_str("NamedBackrefOnly"),
+        CompileError::FeatureNotYetSupported => line.push_str("FeatureNotYetSupported"),
+        CompileError::SubroutineCallTargetNotFound => line.push_str("SubroutineCallTargetNotFound"),
+        CompileError::UnresolvedAstNode => line.push_str("UnresolvedAstNode"),
+        CompileError::InvalidBackref(group) => write!(line, "InvalidBackref {group}"),
         CompileError::LeftRecursiveSubroutineCall(group) => {
-            writeln!(out, "LeftRecursiveSubroutineCall {group}")
+            write!(line, "LeftRecursiveSubroutineCall {group}")
         }
-        CompileError::NeverEndingRecursion => writeln!(out, "NeverEndingRecursion"),
+        CompileError::NeverEndingRecursion => line.push_str("NeverEndingRecursion"),
         CompileError::VariableLookBehindRequiresFeature => {
-            writeln!(out, "VariableLookBehindRequiresFeature")
+            line.push_str("VariableLookBehindRequiresFeature")
         }
-        CompileError::InnerError(_) => writeln!(out, "InnerError"),
-        CompileError::ClassTooBig(_) => writeln!(out, "ClassTooBig"),
-        CompileError::PatternTooComplex => writeln!(out, "PatternTooComplex"),
+        CompileError::InnerError(_) => line.push_str("InnerError"),
+        CompileError::ClassTooBig(_) => line.push_str("ClassTooBig"),
+        CompileError::PatternTooComplex => line.push_str("PatternTooComplex"),
     }
 }
 
-/// The line of a refusal: the name of its innermost variant, and for some a space and what it carries.
-pub fn write_error<O: Write>(out: &mut O, error: &Error) -> io::Result<()>
-    ensures { OnOk result (Appends (O.contents out.old) (O.contents out.new) (printed.error_line error.now)) }
+/// The name of a refusal's innermost variant, and for some a space and what it carries.
+fn push_error(line: &mut String, error: &Error) -> Result<(), AllocError>
+    ensures { OnOk result (string_bytes line.new ≡ string_bytes line.old ++ printed.error_text error.now) }
 {
     match error {
-        Error::CompileError(error) => write_compile_error(out, error),
-        Error::RuntimeError(error) => {
-            let name = limit_name(*error);
-            writeln!(out, "{name}")
-        }
-        Error::TreeFault { at } => writeln!(out, "TreeFault {at}"),
-        Error::Memory => writeln!(out, "Memory"),
+        Error::CompileError(error) => push_compile_error(line, error),
+        Error::RuntimeError(error) => line.push_str(limit_name(*error)),
+        Error::TreeFault { at } => write!(line, "TreeFault {at}"),
+        Error::Memory => line.push_str("Memory"),
     }
+}
+
+/// The line of a refusal.
+pub fn error_line(alloc: Global, error: &Error) -> Result<String, AllocError>
+    ensures { IfOk result (λ line. string_bytes line ≡ printed.error_line error.now) }
+{
+    let mut line = String::new(alloc);
+    push_error(&mut line, error)?;
+    line.push('\n')?;
+    Ok(line)
+}
+
+/// The line of a refusal for want of memory, which takes none.
+pub fn memory_line() -> &'static [u8]
+    ensures { result.now ≡ printed.error_line error.Memory }
+{
+    b"Memory\n"
 }
 
 /// The line that says how the program is called.
-pub fn write_usage<E: Write>(err: &mut E) -> io::Result<()>
-    ensures { OnOk result (Appends (E.contents err.old) (E.contents err.new) printed.usage_line) }
+pub fn usage_line() -> &'static [u8]
+    ensures { result.now ≡ printed.usage_line }
 {
-    writeln!(err, "usage: fancyrun TREE TEXT [POS] [options]")
+    b"usage: fancyrun TREE TEXT [POS] [options]\n"
+}
+
+/// Writes the line. Where a write fails, no more is written than a part of the line from its start, and the answer is no.
+/// A write that was interrupted is made again.
+pub fn write_line<W: Write>(writer: &mut W, line: &[u8]) -> bool
+    ensures { Writes (W.contents writer.old) (W.contents writer.new) line.now result }
+{
+    let mut done = 0;
+    for _turn in 0..u64::MAX {
+        if done == line.len() {
+            return true;
+        }
+        match writer.write(&line[done..]) {
+            Ok(0) => return false,
+            Ok(count) => done += count,
+            Err(error) if error.kind() == ErrorKind::Interrupted => {}
+            Err(_) => return false,
+        }
+    }
+    done == line.len()
 }

@@ -1,12 +1,13 @@
 //! Searches by each call that makes one.
 
 use crate::comparison::{answers_as_meant, equal};
-use fancy_regex_engine::analyze::{AnalyzeContext, analyze};
+use fancy_regex_engine::analyze::AnalyzeContext;
 use fancy_regex_engine::arguments::{Arguments, read_arguments};
 use fancy_regex_engine::command::command;
-use fancy_regex_engine::compile::{CompileOptions, compile};
+use fancy_regex_engine::compile::CompileOptions;
 use fancy_regex_engine::error::Error;
 use fancy_regex_engine::expr::{ExprTree, is_well_formed, read_tree};
+use fancy_regex_engine::search::{Compiled, options_fit, search};
 use fancy_regex_engine::vm::{Prog, RunOptions, Scratch, run, run_default, run_spans};
 use std::alloc::{AllocError, Global};
 use std::process::Abort;
@@ -35,16 +36,10 @@ pub fn compiled(
     context: AnalyzeContext,
     options: CompileOptions,
 ) -> Result<Prog, Error> {
-    if !is_well_formed(tree) {
+    if !is_well_formed(tree) || !options_fit(context, options) {
         return Err(Error::TreeFault { at: 0 });
     }
-    if options.disallow_empty_match_at_eof_after_newline
-        && !context.disallow_empty_match_at_eof_after_newline
-    {
-        return Err(Error::TreeFault { at: 0 });
-    }
-    let info = analyze(alloc, tree, context)?;
-    compile(alloc, &info, options)
+    Ok(Compiled::new(alloc, tree, context, options)?.into_program())
 }
 
 /// Both found the same span, or nothing, or passed the same limit.
@@ -102,7 +97,24 @@ fn default_agrees(
     equal(whole, &run_default(alloc, prog, text, arguments.pos))
 }
 
-/// The tree is refused, or the calls that run its program answer alike, and as the plain program does.
+/// The call that makes the whole search answers as the run does.
+fn search_agrees(
+    alloc: Global,
+    tree: &ExprTree,
+    prog: &Prog,
+    text: &str,
+    arguments: &Arguments,
+) -> bool {
+    let options = arguments.options();
+    if !is_well_formed(tree) || !options.fits(text) || !options.run.fits(prog, text) {
+        return false;
+    }
+    let mut scratch = Scratch::new(alloc);
+    let found = search(alloc, tree, text, &options, &mut scratch);
+    equal(&found, &run(alloc, prog, text, &options.run, &mut scratch))
+}
+
+/// The tree is refused, or the calls that search for it answer alike, and as the plain program does.
 fn calls_agree(alloc: Global, tree: &str, text: &str, arguments: &Arguments) -> bool {
     let Ok(tree) = read_tree(alloc, tree) else {
         return true;
@@ -110,6 +122,7 @@ fn calls_agree(alloc: Global, tree: &str, text: &str, arguments: &Arguments) -> 
     match compiled(alloc, &tree, arguments.analysis(), arguments.compilation()) {
         Ok(prog) => {
             runs_agree(alloc, &prog, text, arguments)
+                && search_agrees(alloc, &tree, &prog, text, arguments)
                 && answers_as_meant(alloc, &tree, &prog, text, arguments)
         }
         Err(_) => true,

@@ -1,4 +1,4 @@
-use Rattle.std.proofs.Common.{◌≡◌, ℕ, get_or, eqb, sym, ◌∙◌, eqb-true, arith}
+use Rattle.std.proofs.Common.{sym, ◌∙◌, eqb-true, arith}
 use Rattle.std.proofs.lemmas.Bool.{eqb-false}
 use Rattle.fancy_notation.proofs.WordFacts.{number-plus, number-parsed}
 use Rattle.fancy_regex_engine.proofs.arguments.number.Goals as goal
