@@ -22,7 +22,7 @@ use Rattle.fancy_meaning.specs.Laws.{begins_with_continue}
 use Rattle.fancy_meaning.specs.Premises.{Input, plan, IsAccepted, IsFit, Analysed}
 use Rattle.fancy_meaning.specs.Theorems.{IsProgramFor, outcome_of, Answers, HasEnough}
 use Rattle.fancy_composed.proofs.Courses.{Course, Meets, limit, same, To, to_now, to_same, to_eq, to_trans, after, Ground, config, task_step, step_at_pc}
-use Rattle.fancy_composed.proofs.Runs.{limited, ended}
+use Rattle.fancy_composed.proofs.Runs.{limit_or_answer, enough_steps}
 use Rattle.fancy_composed.proofs.Alike.{or_first}
 use Rattle.fancy_composed.proofs.Parts.{Works, place_within, flag, flag_is, put_same, put_other, Stands}
 use Rattle.fancy_composed.proofs.Places.{char_stands, places_on, places_at_end}
@@ -256,12 +256,12 @@ module _ (i : Input) (text : List ℕ) (o : RunOptions) (easy : Tree → Bool) (
             ∙ ap (λ l. result (first_of (attempt q) l)) (sym (places_at_end text start (omega arith) place))))
 
     -- the course of the run leads to the answer
-    abbrev IsAnswered : Type 0
-    IsAnswered = To (λ n. exec task n (begin task)) (λ n. outcome_of (answer q))
+    abbrev LeadsToAnswer : Type 0
+    LeadsToAnswer = To (λ n. exec task n (begin task)) (λ n. outcome_of (answer q))
 
     -- what the course from the beginning comes to is the answer
     finished : (is : List ℕ) → starts q ≡ is →
-        To (λ n. exec task n (config 0 o.pos no_slots [] [] o.pos 0)) (λ n. result (first_of (attempt q) is)) → IsAnswered
+        To (λ n. exec task n (config 0 o.pos no_slots [] [] o.pos 0)) (λ n. result (first_of (attempt q) is)) → LeadsToAnswer
     unfolding answer
     finished is e t = to_trans t (to_eq (λ n. same_answer))
       where
@@ -276,10 +276,10 @@ module _ (i : Input) (text : List ℕ) (o : RunOptions) (easy : Tree → Bool) (
         to_trans (attempted a o.pos at fit.pos [] (λ n. NoMatch) (λ k. to_same) (stops [] (λ n. NoMatch)) 0)
         (to_eq (λ n. or_result (attempt q o.pos) None n))
 
-    answered : IsAnswered
-    answered = by_options (plan i).anchored o.anchored refl refl
+    leads_to_answer : LeadsToAnswer
+    leads_to_answer = by_options (plan i).anchored o.anchored refl refl
       where
-        by_options : (v u : Bool) → (plan i).anchored ≡ v → o.anchored ≡ u → IsAnswered
+        by_options : (v u : Bool) → (plan i).anchored ≡ v → o.anchored ≡ u → LeadsToAnswer
         by_options true u is_v is_u =
             let at = anchored_attempt (plan i) easy accepted.implicit_group_0 is_v in
             finished (o.pos ∷ []) (ap (λ x. if x || o.anchored then o.pos ∷ [] else places_from text o.pos) is_v)
@@ -299,8 +299,8 @@ module _ (i : Input) (text : List ℕ) (o : RunOptions) (easy : Tree → Bool) (
 
     pub answers : Answers (plan i) (program (plan i) easy) text o
     unfolding run
-    answers = limited task (begin task) (answer q) answered o.step_limit
+    answers = limit_or_answer task (begin task) (answer q) leads_to_answer o.step_limit
 
     pub has_enough : HasEnough (program (plan i) easy) text o
     unfolding run
-    has_enough = (answered.steps, λ limit le. ended task (begin task) (answer q) answered limit le)
+    has_enough = (leads_to_answer.steps, λ limit le. enough_steps task (begin task) (answer q) leads_to_answer limit le)

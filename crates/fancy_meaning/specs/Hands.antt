@@ -1,6 +1,6 @@
 -- How a part of a program works: from a state it hands a list of states, one each time it is failed back.
--- Limits on backtracks and on branches are set aside, and so is the answer that nothing matches which a `\G` gives before
--- the branches are used up.
+-- Limits on backtracks and on branches are set aside, and so is the answer that nothing matches which a `\G` gives
+-- before the branches are used up.
 use Rattle.std.specs.Prelude.{◌≡◌, ℕ, ◌+◌, ◌*◌, ◌<◌, ◌≤◌, ◌⊎◌, Bool, List, [], ◌∷◌, ◌++◌, length, Option, Some, None, if◌then◌else◌, slice_get}
 use Rattle.fancy_meaning.specs.MatchState.{MatchState, Span}
 use Rattle.fancy_meaning.specs.Numbers.{usize_max}
@@ -50,12 +50,13 @@ module _ (t : Task) where
   abbrev pub outcome_after : ℕ → Next → Outcome
   outcome_after n next = then_on t (exec t n) next
 
-  -- This many instructions lead from one to the other: however many more there are, the machine passes a limit on backtracks
-  -- or branches, or goes on with those.
+  -- After these instructions, however many are left then, the machine goes on as from the other with what is left, or it
+  -- passes a limit on backtracks or on branches.
   pub record Leads (from to : Next) : Type 0 where
     pub instructions : ℕ
     pub by : (n : ℕ) →
-        IsBranchLimit (outcome_after (instructions + n) from) ⊎ (outcome_after (instructions + n) from ≡ outcome_after n to)
+        let outcome = outcome_after (instructions + n) from in
+        IsBranchLimit outcome ⊎ (outcome ≡ outcome_after n to)
 
   -- above these branches no `\G` gives up the search
   pub data GoesOn (c : Config) : Type 0 where

@@ -49,7 +49,7 @@ abbrev pub UndelegatedHeadline : Type 0
 UndelegatedHeadline = (i : Input) (text : List ℕ) (o : RunOptions) → IsAccepted i (length (undelegated_layout (plan i)).body) → IsFit i text o →
     Answers (plan i) (undelegated_layout (plan i)) text o
 
--- From some number of instructions on, no step limit is passed.
+-- For this text and start some number of instructions is enough: no step limit from there on is passed.
 abbrev pub HasEnough : Prog → List ℕ → RunOptions → Type 0
 HasEnough program text o =
     (enough : ℕ) × ((limit : ℕ) → enough ≤ limit →
@@ -62,7 +62,8 @@ RunsEnd = (i : Input) (text : List ℕ) (o : RunOptions) → IsAccepted i (lengt
 
 -- the same without delegates
 abbrev pub UndelegatedRunsEnd : Type 0
-UndelegatedRunsEnd = (i : Input) (text : List ℕ) (o : RunOptions) → IsAccepted i (length (undelegated_layout (plan i)).body) → IsFit i text o →
+UndelegatedRunsEnd = (i : Input) (text : List ℕ) (o : RunOptions) →
+    IsAccepted i (length (undelegated_layout (plan i)).body) → IsFit i text o →
     HasEnough (undelegated_layout (plan i)) text o
 
 -- ---- a node hands its ways
