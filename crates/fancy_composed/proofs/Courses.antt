@@ -1,11 +1,12 @@
 -- What the machine comes to, by how many instructions are left.
-use Rattle.std.proofs.Common.{◌≡◌, ℕ, zero, suc, ◌+◌, ◌≤◌, true, false, if◌then◌else◌, nat_lt, List, [], ◌∷◌, ◌++◌, length, Some, refl, sym, ap, subst, arith}
+use Rattle.std.proofs.Common.{◌≡◌, ℕ, suc, ◌+◌, true, false, if◌then◌else◌, nat_lt, List, [], ◌∷◌, ◌++◌, length, Some, refl, sym, ap, ◌∙◌, subst, arith}
 use Rattle.std.specs.Prelude.{slice_get}
+use Rattle.std.proofs.Math.Nat.{zero-add, add_assoc}
 use Rattle.fancy_meaning.specs.Options.{Plan}
 use Rattle.fancy_meaning.specs.Instr.{Instr}
 use Rattle.fancy_meaning.specs.Config.{Slots, Branch, Config, Outcome, BacktrackLimitExceeded, StackOverflow, Next, Goes, Ends, push, most_branches}
 use Rattle.fancy_meaning.specs.Machine.{Task, fail_to, step, step_at, exec, then_on}
-use Rattle.fancy_meaning.specs.Hands.{IsLimit}
+use Rattle.fancy_meaning.specs.Hands.{IsBranchLimit}
 use Rattle.fancy_meaning.specs.Premises.{IsText}
 use Rattle.fancy_meaning.specs.Theorems.{IsProgramFor}
 
@@ -13,31 +14,37 @@ use Rattle.fancy_meaning.specs.Theorems.{IsProgramFor}
 abbrev pub Course : Type 0
 Course = ℕ → Outcome
 
--- a limit, or what the course comes to with no more instructions
-pub data Meets (p : Course) (n : ℕ) (r : Outcome) : Type 0 where
-  limit : IsLimit r → Meets p n r
-  same : (k : ℕ) → k ≤ n → r ≡ p k → Meets p n r
+-- a limit on backtracks or branches, or the other outcome
+pub data Meets (r p : Outcome) : Type 0 where
+  limit : IsBranchLimit r → Meets r p
+  same : r ≡ p → Meets r p
 
--- one course leads to another
+-- one course leads to another after so many instructions
 pub record To (o p : Course) : Type 0 where
-  pub by : (n : ℕ) → Meets p n (o n)
+  pub steps : ℕ
+  pub by : (n : ℕ) → Meets (o (steps + n)) (p n)
 
-pub to_same : {o : Course} → To o o
-to_same = record { by = λ n. same n (omega arith) refl }
-
-fewer : {p : Course} {k n : ℕ} {r : Outcome} → k ≤ n → Meets p k r → Meets p n r
-fewer le (limit l) = limit l
-fewer le (same j lj e) = same j (omega arith) e
-
-meets_on : {p q : Course} {n : ℕ} {r : Outcome} → Meets p n r → To p q → Meets q n r
-meets_on (limit l) t = limit l
-meets_on {q = q} {n = n} (same k le e) t = subst (Meets q n) (sym e) (fewer le (t.by k))
+-- after none
+pub to_now : {o p : Course} → ((n : ℕ) → Meets (o n) (p n)) → To o p
+to_now {o} {p} h = record { steps = 0; by = λ n. subst (λ k. Meets (o k) (p n)) (sym (zero-add n)) (h n) }
 
 pub to_eq : {o p : Course} → ((n : ℕ) → o n ≡ p n) → To o p
-to_eq e = record { by = λ n. same n (omega arith) (e n) }
+to_eq e = to_now (λ n. same (e n))
+
+pub to_same : {o : Course} → To o o
+to_same = to_eq (λ n. refl)
+
+meets_on : {r p q : Outcome} → Meets r p → Meets p q → Meets r q
+meets_on (limit l) m = limit l
+meets_on (same e) (limit l) = limit (subst IsBranchLimit (sym e) l)
+meets_on (same e) (same f) = same (e ∙ f)
 
 pub to_trans : {o p q : Course} → To o p → To p q → To o q
-to_trans f g = record { by = λ n. meets_on (f.by n) g }
+to_trans {o} {p} {q} f g = record {
+  steps = f.steps + g.steps;
+  by = λ n.
+      subst (λ k. Meets (o k) (q n)) (sym (add_assoc f.steps g.steps n)) (meets_on (f.by (g.steps + n)) (g.by n));
+}
 
 -- the machine goes on
 abbrev pub after : Task → Next → Course
@@ -51,11 +58,13 @@ config pc ix slots marks bs start count =
 -- one instruction
 pub task_step : (t : Task) (i : Instr) (c : Config) → slice_get (t.program).body c.pc ≡ Some i →
     To (λ n. exec t n c) (after t (step t i c))
-task_step t i c h = record { by = one }
+task_step t i c h = record { steps = 1; by = λ n. subst (λ k. Meets (exec t k c) (after t (step t i c) n)) (one_more n) (taken n) }
   where
-    one : (n : ℕ) → Meets (after t (step t i c)) n (exec t n c)
-    one zero = limit tt
-    one (suc n) = same n (omega arith) (ap (λ o. then_on t (exec t n) (step_at t o c)) h)
+    one_more : (n : ℕ) → suc n ≡ 1 + n
+    one_more n = omega arith
+
+    taken : (n : ℕ) → Meets (exec t (suc n) c) (after t (step t i c) n)
+    taken n = same (ap (λ o. then_on t (exec t n) (step_at t o c)) h)
 
 -- a task for a plan, and branches that lie below all that is told of, with what falling into them leads to
 pub record Ground : Type 0 where
@@ -98,17 +107,18 @@ module _ (w : Ground) where
 
   pub resumed : (b : Branch) (bs : List Branch) (count : ℕ) →
       To (resume (b ∷ bs) count) (go b.pc b.ix b.slots b.marks bs (count + 1))
-  resumed b bs count = record {
-    by = λ n.
-        elim (nat_lt count (w.task).backtrack_limit) as
-        (λ v.
-        Meets (go b.pc b.ix b.slots b.marks bs (count + 1)) n
-        (then_on w.task (exec w.task n)
-        (if v then Goes (here b.pc b.ix b.slots b.marks bs (count + 1)) else Ends BacktrackLimitExceeded))) [
-          | true ↦ same n (omega arith) refl
-          | false ↦ limit tt
-        ];
-  }
+  resumed b bs count =
+      to_now
+      (λ n.
+      elim (nat_lt count (w.task).backtrack_limit) as
+      (λ v.
+      Meets
+      (then_on w.task (exec w.task n)
+      (if v then Goes (here b.pc b.ix b.slots b.marks bs (count + 1)) else Ends BacktrackLimitExceeded))
+      (go b.pc b.ix b.slots b.marks bs (count + 1) n)) [
+        | true ↦ same refl
+        | false ↦ limit tt
+      ])
 
   -- one instruction
   pub step_at_pc : (i : Instr) (pc ix : ℕ) (slots : Slots) (marks : List ℕ) (bs : List Branch) (count : ℕ) →
@@ -122,11 +132,10 @@ module _ (w : Ground) where
       (go x jx r marks (record { pc = y; ix = ix; slots = slots; marks = marks } ∷ bs) count)
   pushed z y x ix jx slots r marks bs count =
       let held = here x jx r marks (record { pc = y; ix = ix; slots = slots; marks = marks } ∷ bs) count in
-      record {
-        by = λ n.
-            elim (nat_lt (length (bs ++ w.base)) most_branches) as
-            (λ v. Meets (λ k. exec w.task k held) n (then_on w.task (exec w.task n) (if v then Goes held else Ends StackOverflow))) [
-              | true ↦ same n (omega arith) refl
-              | false ↦ limit tt
-            ];
-      }
+      to_now
+      (λ n.
+      elim (nat_lt (length (bs ++ w.base)) most_branches) as
+      (λ v. Meets (then_on w.task (exec w.task n) (if v then Goes held else Ends StackOverflow)) (exec w.task n held)) [
+        | true ↦ same refl
+        | false ↦ limit tt
+      ])

@@ -1,5 +1,6 @@
 pub mod Alike
 pub mod Courses
+pub mod Runs
 pub mod Hands
 pub mod Parts
 pub mod Joins

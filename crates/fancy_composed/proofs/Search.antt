@@ -1,5 +1,5 @@
 -- The search for the first start that has an admitted way.
-use Rattle.std.proofs.Common.{◌≡◌, ◌≢◌, ◌⊎◌, inl, inr, ⊎_elim, ℕ, zero, suc, ◌+◌, ◌*◌, ◌<◌, ◌≤◌, ◌-◌, Bool, true, false, ◌||◌, nat_lt, if◌then◌else◌, cond, List, [], ◌∷◌, length, filter, filter_map, find, Option, Some, None, option_and_then, option_map, refl, sym, ap, ap₂, ◌∙◌, arith, true≢false}
+use Rattle.std.proofs.Common.{◌≡◌, ◌≢◌, ⊎_elim, ℕ, zero, suc, ◌+◌, ◌*◌, ◌<◌, ◌≤◌, ◌-◌, Bool, true, false, ◌||◌, nat_lt, if◌then◌else◌, cond, List, [], ◌∷◌, length, filter, filter_map, find, Option, Some, None, option_and_then, option_map, refl, sym, ap, ap₂, ◌∙◌, arith, true≢false}
 use Rattle.std.specs.Prelude.{slice_get}
 use Rattle.std.specs.List.{cons_option}
 use Rattle.std.proofs.lemmas.Bool.{cases_lt}
@@ -17,12 +17,12 @@ use Rattle.fancy_meaning.specs.Options.{RunOptions}
 use Rattle.fancy_meaning.specs.Instr.{Instr, Save, Jmp, SplitUnanchored}
 use Rattle.fancy_meaning.specs.Layout.{program}
 use Rattle.fancy_meaning.specs.Config.{Slots, Branch, Config, Outcome, NoMatch, BacktrackLimitExceeded, Goes, Ends, push}
-use Rattle.fancy_meaning.specs.Machine.{Task, exec, fail_to, then_on, goes_from, is_search, run}
+use Rattle.fancy_meaning.specs.Machine.{Task, exec, fail_to, then_on, goes_from, is_search, begin, run}
 use Rattle.fancy_meaning.specs.Laws.{begins_with_continue}
-use Rattle.fancy_meaning.specs.Hands.{IsLimit}
 use Rattle.fancy_meaning.specs.Premises.{Input, plan, IsAccepted, IsFit, Analysed}
-use Rattle.fancy_meaning.specs.Theorems.{IsProgramFor, outcome_of, Answers}
-use Rattle.fancy_composed.proofs.Courses.{Course, Meets, limit, same, To, to_same, to_eq, to_trans, after, Ground, config, task_step, step_at_pc}
+use Rattle.fancy_meaning.specs.Theorems.{IsProgramFor, outcome_of, Answers, HasEnough}
+use Rattle.fancy_composed.proofs.Courses.{Course, Meets, limit, same, To, to_now, to_same, to_eq, to_trans, after, Ground, config, task_step, step_at_pc}
+use Rattle.fancy_composed.proofs.Runs.{limit_or_answer, enough_steps}
 use Rattle.fancy_composed.proofs.Alike.{or_first}
 use Rattle.fancy_composed.proofs.Parts.{Works, place_within, flag, flag_is, put_same, put_other, Stands}
 use Rattle.fancy_composed.proofs.Places.{char_stands, places_on, places_at_end}
@@ -66,17 +66,18 @@ first_is f (i ∷ is) = by_first (f i) (first_is f is)
 -- a failure takes the last branch
 resumes : (t : Task) (b : Branch) (bs : List Branch) (c : Config) →
     To (after t (fail_to t (b ∷ bs) c)) (λ n. exec t n (config b.pc b.ix b.slots b.marks bs c.start (c.backtracks + 1)))
-resumes t b bs c = record {
-  by = λ n.
-      elim (nat_lt c.backtracks t.backtrack_limit) as
-      (λ v.
-      Meets (λ k. exec t k (config b.pc b.ix b.slots b.marks bs c.start (c.backtracks + 1))) n
-      (then_on t (exec t n)
-      (if v then Goes (config b.pc b.ix b.slots b.marks bs c.start (c.backtracks + 1)) else Ends BacktrackLimitExceeded))) [
-        | true ↦ same n (omega arith) refl
-        | false ↦ limit tt
-      ];
-}
+resumes t b bs c =
+    to_now
+    (λ n.
+    elim (nat_lt c.backtracks t.backtrack_limit) as
+    (λ v.
+    Meets
+    (then_on t (exec t n)
+    (if v then Goes (config b.pc b.ix b.slots b.marks bs c.start (c.backtracks + 1)) else Ends BacktrackLimitExceeded))
+    (exec t n (config b.pc b.ix b.slots b.marks bs c.start (c.backtracks + 1)))) [
+      | true ↦ same refl
+      | false ↦ limit tt
+    ])
 
 -- the program, where `easy` tells which nodes are left to a plain search
 module _ (i : Input) (text : List ℕ) (o : RunOptions) (easy : Tree → Bool) (accepted : IsAccepted i (length (program (plan i) easy).body))
@@ -254,20 +255,18 @@ module _ (i : Input) (text : List ℕ) (o : RunOptions) (easy : Tree → Bool) (
             (λ n. or_result (attempt q start) None n
             ∙ ap (λ l. result (first_of (attempt q) l)) (sym (places_at_end text start (omega arith) place))))
 
+    -- the course of the run leads to the answer
+    abbrev LeadsToAnswer : Type 0
+    LeadsToAnswer = To (λ n. exec task n (begin task)) (λ n. outcome_of (answer q))
+
     -- what the course from the beginning comes to is the answer
     finished : (is : List ℕ) → starts q ≡ is →
-        To (λ n. exec task n (config 0 o.pos no_slots [] [] o.pos 0)) (λ n. result (first_of (attempt q) is)) →
-        Answers (plan i) (program (plan i) easy) text o
-    unfolding run answer
-    finished is e t = met (t.by o.step_limit)
+        To (λ n. exec task n (config 0 o.pos no_slots [] [] o.pos 0)) (λ n. result (first_of (attempt q) is)) → LeadsToAnswer
+    unfolding answer
+    finished is e t = to_trans t (to_eq (λ n. same_answer))
       where
         same_answer : result (first_of (attempt q) is) ≡ outcome_of (answer q)
         same_answer = ap result (sym (first_is (attempt q) is) ∙ ap (λ l. slice_get (filter_map (attempt q) l) 0) (sym e))
-
-        met : {r : Outcome} → Meets (λ n. result (first_of (attempt q) is)) o.step_limit r →
-            IsLimit r ⊎ (r ≡ outcome_of (answer q))
-        met (limit l) = inl l
-        met (same k le f) = inr (f ∙ same_answer)
 
     -- an attempt from the first start alone
     alone : (a : ℕ) → Attempt (plan i) easy a → ((base : List Branch) (other : Course) → Stops base other) →
@@ -277,10 +276,10 @@ module _ (i : Input) (text : List ℕ) (o : RunOptions) (easy : Tree → Bool) (
         to_trans (attempted a o.pos at fit.pos [] (λ n. NoMatch) (λ k. to_same) (stops [] (λ n. NoMatch)) 0)
         (to_eq (λ n. or_result (attempt q o.pos) None n))
 
-    pub answers : Answers (plan i) (program (plan i) easy) text o
-    answers = by_options (plan i).anchored o.anchored refl refl
+    leads_to_answer : LeadsToAnswer
+    leads_to_answer = by_options (plan i).anchored o.anchored refl refl
       where
-        by_options : (v u : Bool) → (plan i).anchored ≡ v → o.anchored ≡ u → Answers (plan i) (program (plan i) easy) text o
+        by_options : (v u : Bool) → (plan i).anchored ≡ v → o.anchored ≡ u → LeadsToAnswer
         by_options true u is_v is_u =
             let at = anchored_attempt (plan i) easy accepted.implicit_group_0 is_v in
             finished (o.pos ∷ []) (ap (λ x. if x || o.anchored then o.pos ∷ [] else places_from text o.pos) is_v)
@@ -297,3 +296,11 @@ module _ (i : Input) (text : List ℕ) (o : RunOptions) (easy : Tree → Bool) (
             finished (places_from text o.pos) (ap₂ (λ x y. if x || y then o.pos ∷ [] else places_from text o.pos) is_v is_u)
             (searched (search_stands (plan i) easy accepted.implicit_group_0 is_v) is_u (suc (length text)) o.pos o.pos 0 fit.pos
             (omega arith) (omega arith))
+
+    pub answers : Answers (plan i) (program (plan i) easy) text o
+    unfolding run
+    answers = limit_or_answer task (begin task) (answer q) leads_to_answer o.step_limit
+
+    pub has_enough : HasEnough (program (plan i) easy) text o
+    unfolding run
+    has_enough = (leads_to_answer.steps, λ limit le. enough_steps task (begin task) (answer q) leads_to_answer limit le)

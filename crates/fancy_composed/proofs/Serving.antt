@@ -1,9 +1,9 @@
 -- Code that works serves wherever it stands.
-use Rattle.std.proofs.Common.{◌≡◌, ◌⊎◌, inl, inr, ℕ, ◌≤◌, List, [], ◌++◌, refl}
+use Rattle.std.proofs.Common.{◌≡◌, ◌⊎◌, inl, inr, ℕ, List, [], ◌++◌, refl}
 use Rattle.fancy_meaning.specs.MatchState.{MatchState}
-use Rattle.fancy_meaning.specs.Config.{Slots, Branch, Config, Next, Goes}
+use Rattle.fancy_meaning.specs.Config.{Slots, Branch, Config, Outcome, Next, Goes}
 use Rattle.fancy_meaning.specs.Machine.{fail_to}
-use Rattle.fancy_meaning.specs.Hands.{IsLimit, Leads, Stretch, IsLeft, no_more, next_way}
+use Rattle.fancy_meaning.specs.Hands.{IsBranchLimit, Leads, Stretch, IsLeft, no_more, next_way}
 use Rattle.fancy_meaning.specs.Hands as handing
 use Rattle.fancy_composed.proofs.Courses.{Course, Meets, limit, same, To, to_trans, after, Ground, config, here, failed}
 use Rattle.fancy_composed.proofs.Hands.{Hands, none, way}
@@ -12,12 +12,11 @@ use Rattle.fancy_composed.proofs.Parts.{Stands, After}
 module _ (w : Ground)
     (reaches : (count : ℕ) → To (w.bottom count) (after w.task (fail_to w.task w.base (config 0 0 (λ s. 0) [] [] w.start count)))) where
   leads : (from to : Next) → To (after w.task from) (after w.task to) → Leads w.task from to
-  leads from to t = record { by = λ n. met n (t.by n) }
+  leads from to t = record { instructions = t.steps; by = λ n. met (t.by n) }
     where
-      met : (n : ℕ) → Meets (after w.task to) n (after w.task from n) →
-          IsLimit (after w.task from n) ⊎ ((m : ℕ) × (m ≤ n) × (after w.task from n ≡ after w.task to m))
-      met n (limit l) = inl l
-      met n (same k le e) = inr (k, le, e)
+      met : {r p : Outcome} → Meets r p → IsBranchLimit r ⊎ (r ≡ p)
+      met (limit l) = inl l
+      met (same e) = inr e
 
   -- the stretch of a part that begins with these slots and marks, above the base
   abbrev pub stretch : ℕ → ℕ → Slots → List ℕ → ℕ → ℕ → ℕ → ℕ → Stretch

@@ -1,7 +1,8 @@
-//! The composed theorem: the undelegated layout of a tree hands what the tree means, and a run of it answers that.
+//! The composed theorem: the undelegated layout of a tree hands what the tree means, and a run of it answers that,
+//! and ends.
 #![tactic(auto)]
 
-ghost use Rattle.fancy_meaning.specs.Theorems.{ComposedTheorem, UndelegatedHeadline};
+ghost use Rattle.fancy_meaning.specs.Theorems.{ComposedTheorem, UndelegatedHeadline, UndelegatedRunsEnd};
 
 /// With every node taken for hard, the code of each node that is written out hands the node's ways from each sound
 /// state, wherever it stands: the same states in the same order, up to repeats.
@@ -12,4 +13,10 @@ pub fn composed_theorem()
 /// Each run of the undelegated program of an accepted tree passes a limit, or gives the answer of the plain meaning.
 pub fn undelegated_headline()
     ensures { UndelegatedHeadline }
+{}
+
+/// Each run of the undelegated program of an accepted tree ends: from some number of instructions on, no step limit is
+/// passed.
+pub fn undelegated_runs_end()
+    ensures { UndelegatedRunsEnd }
 {}

@@ -1,4 +1,4 @@
--- A run of the program with delegates answers what the tree means.
+-- A run of the program with delegates answers what the tree means, and ends.
 use Rattle.std.proofs.Common.{ℕ, Bool, false, not, List, sym, ◌∙◌, arith, length}
 use Rattle.fancy_meaning.specs.Tree.{Tree}
 use Rattle.fancy_meaning.specs.OpenCalls.{no_calls}
@@ -9,10 +9,10 @@ use Rattle.fancy_meaning.specs.Hard.{is_hard}
 use Rattle.fancy_meaning.specs.Layout.{layout, program}
 use Rattle.fancy_meaning.specs.CompileRefusals.{root}
 use Rattle.fancy_meaning.specs.Premises.{Input, plan, IsAccepted, IsFit}
-use Rattle.fancy_meaning.specs.Theorems.{DelegationIsHarmless, Headline}
+use Rattle.fancy_meaning.specs.Theorems.{DelegationIsHarmless, Headline, RunsEnd}
 use Rattle.fancy_laws.proofs.SizedWays.{first_is_sound}
 use Rattle.fancy_composed.proofs.Parts.{place_within}
-use Rattle.fancy_composed.proofs.Search.{task, q, fits, find_is, RootHands, answers}
+use Rattle.fancy_composed.proofs.Search.{task, q, fits, find_is, RootHands, answers, has_enough}
 use Rattle.fancy_delegation.proofs.Every.{every_weaken}
 use Rattle.fancy_delegation.proofs.Admitted.{same_admitted}
 use Rattle.fancy_delegation.proofs.Delegated.{part_of}
@@ -55,3 +55,7 @@ module _ (i : Input) (text : List ℕ) (o : RunOptions) (accepted : IsAccepted i
 pub headline : Headline
 unfolding layout
 headline i text o accepted fit = answers i text o (easy i) accepted fit (roots_hand i text o accepted fit)
+
+pub runs_end : RunsEnd
+unfolding layout
+runs_end i text o accepted fit = has_enough i text o (easy i) accepted fit (roots_hand i text o accepted fit)

@@ -1,8 +1,8 @@
-//! A run of the program that delegates what is easy answers what the tree means, and where the whole tree is easy it
-//! ends within a bound. Each theorem is the contract of a function that does nothing.
+//! A run of the program that delegates what is easy answers what the tree means, and ends; where the whole tree is easy,
+//! within a bound. Each theorem is the contract of a function that does nothing.
 #![tactic(auto)]
 
-ghost use Rattle.fancy_meaning.specs.Theorems.{DelegationIsHarmless, Headline, BacktrackBound, InstructionBound};
+ghost use Rattle.fancy_meaning.specs.Theorems.{DelegationIsHarmless, Headline, RunsEnd, BacktrackBound, InstructionBound};
 
 /// With every easy node left to a plain search, the code of each node that is written out hands, from each sound state
 /// and wherever it stands, a list that serves for the node's ways: by the key in a hard context, and in an easy one by
@@ -14,6 +14,11 @@ pub fn delegation_is_harmless()
 /// Each run of the program of an accepted tree passes a limit, or gives the answer of the plain meaning.
 pub fn headline()
     ensures { Headline }
+{}
+
+/// Each run of the program of an accepted tree ends: from some number of instructions on, no step limit is passed.
+pub fn runs_end()
+    ensures { RunsEnd }
 {}
 
 /// Where the whole tree is left to a plain search, one backtrack for each start that is tried is enough, and the branches

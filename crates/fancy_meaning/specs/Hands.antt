@@ -1,5 +1,6 @@
 -- How a part of a program works: from a state it hands a list of states, one each time it is failed back.
--- Limits are set aside, and so is the answer that nothing matches which a `\G` gives before the branches are used up.
+-- Limits on backtracks and on branches are set aside, and so is the answer that nothing matches which a `\G` gives
+-- before the branches are used up.
 use Rattle.std.specs.Prelude.{◌≡◌, ℕ, ◌+◌, ◌*◌, ◌<◌, ◌≤◌, ◌⊎◌, Bool, List, [], ◌∷◌, ◌++◌, length, Option, Some, None, if◌then◌else◌, slice_get}
 use Rattle.fancy_meaning.specs.MatchState.{MatchState, Span}
 use Rattle.fancy_meaning.specs.Numbers.{usize_max}
@@ -15,6 +16,14 @@ IsLimit NoMatch = ⊥
 IsLimit BacktrackLimitExceeded = Unit {0}
 IsLimit StackOverflow = Unit {0}
 IsLimit StepLimitExceeded = Unit {0}
+
+-- a limit on backtracks or on branches was passed
+abbrev pub IsBranchLimit : Outcome → Type 0
+IsBranchLimit (Match numbers) = ⊥
+IsBranchLimit NoMatch = ⊥
+IsBranchLimit BacktrackLimitExceeded = Unit {0}
+IsBranchLimit StackOverflow = Unit {0}
+IsBranchLimit StepLimitExceeded = ⊥
 
 abbrev pub start_number : Option Span → ℕ
 start_number None = usize_max
@@ -41,9 +50,13 @@ module _ (t : Task) where
   abbrev pub outcome_after : ℕ → Next → Outcome
   outcome_after n next = then_on t (exec t n) next
 
-  -- However many instructions are left, the machine passes a limit, or comes to where it goes on with some of them.
+  -- After these instructions, however many are left then, the machine goes on as from the other with what is left, or it
+  -- passes a limit on backtracks or on branches.
   pub record Leads (from to : Next) : Type 0 where
-    pub by : (n : ℕ) → IsLimit (outcome_after n from) ⊎ ((m : ℕ) × (m ≤ n) × (outcome_after n from ≡ outcome_after m to))
+    pub instructions : ℕ
+    pub by : (n : ℕ) →
+        let outcome = outcome_after (instructions + n) from in
+        IsBranchLimit outcome ⊎ (outcome ≡ outcome_after n to)
 
   -- above these branches no `\G` gives up the search
   pub data GoesOn (c : Config) : Type 0 where

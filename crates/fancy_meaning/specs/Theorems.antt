@@ -49,6 +49,23 @@ abbrev pub UndelegatedHeadline : Type 0
 UndelegatedHeadline = (i : Input) (text : List ℕ) (o : RunOptions) → IsAccepted i (length (undelegated_layout (plan i)).body) → IsFit i text o →
     Answers (plan i) (undelegated_layout (plan i)) text o
 
+-- For this text and start some number of instructions is enough: no step limit from there on is passed.
+abbrev pub HasEnough : Prog → List ℕ → RunOptions → Type 0
+HasEnough program text o =
+    (enough : ℕ) × ((limit : ℕ) → enough ≤ limit →
+    run (record { program = program; text = text; options = record o { step_limit = limit } }) ≢ StepLimitExceeded)
+
+-- each run of an accepted tree's program ends
+abbrev pub RunsEnd : Type 0
+RunsEnd = (i : Input) (text : List ℕ) (o : RunOptions) → IsAccepted i (length (layout (plan i)).body) → IsFit i text o →
+    HasEnough (layout (plan i)) text o
+
+-- the same without delegates
+abbrev pub UndelegatedRunsEnd : Type 0
+UndelegatedRunsEnd = (i : Input) (text : List ℕ) (o : RunOptions) →
+    IsAccepted i (length (undelegated_layout (plan i)).body) → IsFit i text o →
+    HasEnough (undelegated_layout (plan i)) text o
+
 -- ---- a node hands its ways
 
 -- code stands in a program where a configuration is, and its slots are those from `fresh` on

@@ -1,0 +1,72 @@
+-- A part that goes round for ever hands no list.
+use Rattle.std.proofs.Common.{◌≡◌, ⊎_elim, ℕ, zero, suc, Bool, true, false, ◌&&◌, ◌==◌, if◌then◌else◌, List, [], ◌∷◌, ap, sym, refl, subst, ◌∙◌}
+use Rattle.std.specs.Prelude.{slice_get}
+use Rattle.fancy_meaning.specs.MatchState.{MatchState}
+use Rattle.fancy_meaning.specs.Options.{RunOptions}
+use Rattle.fancy_meaning.specs.Instr.{Prog, Jmp, End}
+use Rattle.fancy_meaning.specs.Config.{Config, Match, StepLimitExceeded, Next, Goes, Ends}
+use Rattle.fancy_meaning.specs.Machine.{Task, fail, fail_to, exec, numbers_of, step_at, then_on}
+use Rattle.fancy_meaning.specs.Hands.{IsBranchLimit, outcome_after, Leads, Stretch, Hands, no_more, next_way}
+
+-- a jump to itself, and the end
+abbrev round : Prog
+round = record {
+  body = Jmp 0 ∷ End ∷ [];
+  max_size = 0;
+  total_groups = 0;
+  slots = 2;
+  explicit_group_0 = false;
+  find_not_empty = false;
+  end_text = false;
+  unicode = true;
+}
+
+module _ (text : List ℕ) (o : RunOptions) where
+  abbrev task : Task
+  task = record { program = round; text = text; options = o }
+
+  -- only the step limit ends it
+  abbrev Endless : Next → Type 0
+  Endless next = (n : ℕ) → outcome_after task n next ≡ StepLimitExceeded
+
+  jump_is_endless : (c : Config) → c.pc ≡ 0 → Endless (Goes c)
+  jump_is_endless c at zero = refl
+  jump_is_endless c at (suc n) =
+      ap (λ pc. then_on task (exec task n) (step_at task (slice_get (round).body pc) c)) at ∙ jump_is_endless _ refl n
+
+  -- what is next at the end, where that test fails or holds
+  abbrev at_the_end : Config → Bool → Next
+  at_the_end c v = if v then fail task c else Ends (Match (numbers_of task c))
+
+  -- what it leads to is endless
+  leads_on : {from to : Next} → Leads task from to → Endless from → Endless to
+  leads_on {from} {to} leads endless n =
+      ⊎_elim {C = outcome_after task n to ≡ StepLimitExceeded} (λ l. absurd (subst IsBranchLimit (endless _) l))
+      (λ e. sym e ∙ endless _) (leads.by n)
+
+  -- the jump hands no empty list
+  jump_hands_no_empty_list : (c d : Config) → c.pc ≡ 0 → ¬ Leads task (Goes c) (fail_to task [] d)
+  jump_hands_no_empty_list c d at leads = let e = leads_on leads (jump_is_endless c at) 0 in cc (e)
+
+  -- nor any other that is left at the end
+  module _ (part : Stretch) (over_nothing : (part.entry).branches ≡ []) (to_end : part.exit ≡ 1) where
+    endless_hands_nothing : {from : Next} {ss : List MatchState} → Hands task part from ss → Endless from → ⊥
+    endless_hands_nothing (no_more d start leads) endless =
+        let e = leads_on leads endless 0 in
+        let f : outcome_after task 0 (fail_to task [] d) ≡ StepLimitExceeded =
+        subst (λ bs. outcome_after task 0 (fail_to task bs d) ≡ StepLimitExceeded) over_nothing e in
+        cc (f)
+    endless_hands_nothing (next_way c own leads left next) endless =
+        by_test (task.not_empty && c.ix == c.start) at_end (λ e. endless_hands_nothing (next c refl) e)
+      where
+        at_end : Endless (at_the_end c (task.not_empty && c.ix == c.start))
+        at_end n =
+            sym (ap (λ pc. then_on task (exec task n) (step_at task (slice_get (round).body pc) c)) (left.at_exit ∙ to_end))
+            ∙ leads_on leads endless (suc n)
+
+        by_test : (v : Bool) → Endless (at_the_end c v) → ¬ Endless (fail task c) → ⊥
+        by_test true e on = on e
+        by_test false e on = let f = e 0 in cc (f)
+
+    jump_hands_nothing : (part.entry).pc ≡ 0 → (ss : List MatchState) → ¬ Hands task part (Goes part.entry) ss
+    jump_hands_nothing at ss hands = endless_hands_nothing hands (jump_is_endless part.entry at)
