@@ -154,13 +154,18 @@ module _ (p : Plan) (easy : Tree → Bool) where
   target_code zero call in_hard (Some e) = root_code call in_hard
   target_code (suc g) call in_hard (Some e) = group_body (suc g) e (written call e (is_at_start (suc g))) in_hard
 
+  -- a call that is not opened, where there is such a target
+  abbrev pub fail_code : Option Tree → Code
+  fail_code None = nothing
+  fail_code (Some e) = one Instr.Fail
+
   -- the code of a call where these calls are open, and at most n more may be opened
   abbrev pub called_code : ℕ → Depths → ℕ → Bool → Code
-  called_code zero depths g in_hard = one Instr.Fail
+  called_code zero depths g in_hard = fail_code (target whole g)
   called_code (suc n) depths g in_hard =
       if nat_lt (depths g) call_depth
       then target_code g (called_code n (opened g depths)) in_hard (target whole g)
-      else one Instr.Fail
+      else fail_code (target whole g)
 
   -- ---- the whole program
 

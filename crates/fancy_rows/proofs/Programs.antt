@@ -57,3 +57,8 @@ calls_are_written_to_their_depth = refl
 calls_are_written_to_their_depth_with_delegates : length (layout (anchored (grp (alt (cat (lit "a" ∷ call 1 ∷ []) ∷ lit "b" ∷ []))))).body ≡ 124
 unfolding row
 calls_are_written_to_their_depth_with_delegates = refl
+
+-- the missing group is called at the greatest depth too
+call_of_a_missing_group_writes_nothing : length (undelegated_layout (plain (cat (lit "a" ∷ rep 0 1 (call 0) ∷ call 1 ∷ [])))).body ≡ 47
+unfolding row
+call_of_a_missing_group_writes_nothing = refl
