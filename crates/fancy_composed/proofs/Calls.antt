@@ -6,10 +6,7 @@ use Rattle.fancy_meaning.specs.Nodes.{target, is_read}
 use Rattle.fancy_meaning.specs.OpenCalls.{Depths, opened, call_depth, free_calls}
 use Rattle.fancy_meaning.specs.MatchState.{fails}
 use Rattle.fancy_meaning.specs.Ways.{ways_with, called, ways_of_target}
-use Rattle.fancy_meaning.specs.Code.{Code}
-use Rattle.fancy_meaning.specs.Code as code
-use Rattle.fancy_meaning.specs.Instr.{Instr}
-use Rattle.fancy_meaning.specs.Layout.{called_code, target_code, is_at_start, written}
+use Rattle.fancy_meaning.specs.Layout.{called_code, target_code, fail_code, is_at_start, written}
 use Rattle.fancy_meaning.specs.AnalysisRefusals.{SubroutineCallTargetNotFound}
 use Rattle.fancy_meaning.specs.CompileRefusals.{IsWritten, callee, root, missing_group}
 use Rattle.fancy_meaning.specs.Laws.{begins_with_continue}
@@ -55,13 +52,19 @@ module _ (w : Ground) (r : Ready w) (stop : begins_with_continue (whole w) (whol
       (tree_at n depths (n' b e) (calls (n' b e)) b (callee wr e) (is_at_start w.plan never (suc g))
       (in_hard || is_read (whole w) (suc g)) (λ x y. stop (r.begins g b e x y)))
 
+  -- a call that is not opened
+  fail_works : (g : ℕ) → IsWritten (whole w) (SubroutineCall g) → (o : Option Tree) → target (whole w) g ≡ o →
+      Works w (fail_code w.plan never o) fails
+  fail_works g wr None e = absurd (r.allowed (SubroutineCall g) SubroutineCallTargetNotFound wr (missing_group e))
+  fail_works g wr (Some b) e = works_fails w
+
   pub calls_work : (n : ℕ) (depths : Depths) → free_calls (whole w) depths ≡ n → CallsWork w r depths
   calls_work zero depths e g in_hard wr =
       subst
       (λ m.
       Works w (λ base fresh. called_code w.plan never m depths g in_hard base fresh)
       (λ s. called (setting w) (whole w) m depths g s))
-      (sym e) (works_fails w)
+      (sym e) (fail_works g wr (target (whole w) g) refl)
   calls_work (suc n) depths e g in_hard wr =
       subst
       (λ m.
@@ -78,17 +81,17 @@ module _ (w : Ground) (r : Ready w) (stop : begins_with_continue (whole w) (whol
           (λ u.
           Works w
           (if u then target_code w.plan never g (called_code w.plan never n (opened g depths)) in_hard
-          (target (whole w) g) else code.one Instr.Fail)
+          (target (whole w) g) else fail_code w.plan never (target (whole w) g))
           (if u then ways_of_target (setting w) (whole w) g (called (setting w) (whole w) n (opened g depths))
           (target (whole w) g) else fails))
           (sym lt)
-          (works_fails w)
+          (fail_works g wr (target (whole w) g) refl)
       by_depth true lt ih =
           subst
           (λ u.
           Works w
           (if u then target_code w.plan never g (called_code w.plan never n (opened g depths)) in_hard
-          (target (whole w) g) else code.one Instr.Fail)
+          (target (whole w) g) else fail_code w.plan never (target (whole w) g))
           (if u then ways_of_target (setting w) (whole w) g (called (setting w) (whole w) n (opened g depths))
           (target (whole w) g) else fails))
           (sym lt)

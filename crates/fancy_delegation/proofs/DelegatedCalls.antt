@@ -9,7 +9,7 @@ use Rattle.fancy_meaning.specs.MatchState.{Ways, fails}
 use Rattle.fancy_meaning.specs.Ways.{ways_with, called, ways_of_target, ways}
 use Rattle.fancy_meaning.specs.Code.{Code, one}
 use Rattle.fancy_meaning.specs.Instr.{Instr}
-use Rattle.fancy_meaning.specs.Layout.{in_context, called_code, target_code, root_code, is_root_easy, is_at_start}
+use Rattle.fancy_meaning.specs.Layout.{in_context, called_code, target_code, fail_code, root_code, is_root_easy, is_at_start}
 use Rattle.fancy_meaning.specs.AnalysisRefusals.{SubroutineCallTargetNotFound}
 use Rattle.fancy_meaning.specs.CompileRefusals.{IsWritten, callee, root, missing_group}
 use Rattle.fancy_meaning.specs.Laws.{begins_with_continue}
@@ -35,6 +35,12 @@ module _ (given : Setup) where
     works = (given.laws).hands_none;
     thins = thins_same (plan given depths) given.setting in_hard fails;
   }
+
+  -- a call that is not opened
+  fail_thinned : (depths : Depths) (g : ℕ) (in_hard : Bool) → IsWritten (whole given depths) (SubroutineCall g) → (o : Option Tree) → target (whole given depths) g ≡ o →
+      Thinned given depths in_hard (fail_code (plan given depths) easy o) fails
+  fail_thinned depths g in_hard wr None e = absurd ((given.ready).allowed (SubroutineCall g) SubroutineCallTargetNotFound wr (missing_group e))
+  fail_thinned depths g in_hard wr (Some b) e = fails_thinned depths in_hard
 
   module _ (depths : Depths) (calls : CallsThinned given depths) where
     -- the whole tree, which may be hard for its own reason
@@ -67,14 +73,14 @@ module _ (given : Setup) where
 
   -- the code of a call, and its ways, by whether it is open so often already
   abbrev code_if : Bool → ℕ → Depths → ℕ → Bool → Depths → Code
-  code_if v n inner g in_hard depths = if v then target_code (plan given depths) easy g (called_code (plan given depths) easy n inner) in_hard (target (whole given depths) g) else one Instr.Fail
+  code_if v n inner g in_hard depths = if v then target_code (plan given depths) easy g (called_code (plan given depths) easy n inner) in_hard (target (whole given depths) g) else fail_code (plan given depths) easy (target (whole given depths) g)
 
   abbrev ways_if : Bool → ℕ → Depths → ℕ → Depths → Ways
   ways_if v n inner g depths = if v then ways_of_target given.setting (whole given depths) g (called given.setting (whole given depths) n inner) (target (whole given depths) g) else fails
 
   pub calls_thinned : (n : ℕ) (depths : Depths) → free_calls (whole given depths) depths ≡ n → CallsThinned given depths
   calls_thinned zero depths e g in_hard wr =
-      subst (λ m. Thinned given depths in_hard (λ base fresh. called_code (plan given depths) easy m depths g in_hard base fresh) (λ s. called given.setting (whole given depths) m depths g s)) (sym e) (fails_thinned depths in_hard)
+      subst (λ m. Thinned given depths in_hard (λ base fresh. called_code (plan given depths) easy m depths g in_hard base fresh) (λ s. called given.setting (whole given depths) m depths g s)) (sym e) (fail_thinned depths g in_hard wr (target (whole given depths) g) refl)
   calls_thinned (suc n) depths e g in_hard wr =
       subst (λ m. Thinned given depths in_hard (λ base fresh. called_code (plan given depths) easy m depths g in_hard base fresh) (λ s. called given.setting (whole given depths) m depths g s)) (sym e)
       (by_depth (nat_lt (depths g) call_depth) refl (λ q. calls_thinned n (opened g depths) q))
@@ -89,7 +95,7 @@ module _ (given : Setup) where
       by_depth : (v : Bool) → nat_lt (depths g) call_depth ≡ v → (free_calls (whole given depths) (opened g depths) ≡ n → CallsThinned given (opened g depths)) →
           Thinned given depths in_hard (λ base fresh. called_code (plan given depths) easy (suc n) depths g in_hard base fresh) (λ s. called given.setting (whole given depths) (suc n) depths g s)
       by_depth false lt ih =
-          subst (λ v. Thinned given depths in_hard (λ base fresh. code_if v n (opened g depths) g in_hard depths base fresh) (λ s. ways_if v n (opened g depths) g depths s)) (sym lt) (fails_thinned depths in_hard)
+          subst (λ v. Thinned given depths in_hard (λ base fresh. code_if v n (opened g depths) g in_hard depths base fresh) (λ s. ways_if v n (opened g depths) g depths s)) (sym lt) (fail_thinned depths g in_hard wr (target (whole given depths) g) refl)
       by_depth true lt ih =
           subst (λ v. Thinned given depths in_hard (λ base fresh. code_if v n (opened g depths) g in_hard depths base fresh) (λ s. ways_if v n (opened g depths) g depths s)) (sym lt)
           (opened_target (λ b t. let more = (given.ready).opens g b depths t (ltb-true (depths g) call_depth lt) in omega (arith, more, e)) ih (target (whole given depths) g) refl)

@@ -1,8 +1,7 @@
 -- What is known of the tree that its analysis doesn't refuse.
-use Rattle.std.proofs.Common.{◌≡◌, ℕ, ◌+◌, ◌-◌, ◌*◌, ◌<◌, ◌≤◌, Bool, true, false, if◌then◌else◌, nat_lt, length, Contains, refl, sym, ap, ◌∙◌, subst, arith, ltb-false}
+use Rattle.std.proofs.Common.{◌≡◌, ℕ, ◌+◌, ◌-◌, ◌*◌, ◌<◌, ◌≤◌, Bool, true, false, if◌then◌else◌, nat_lt, Contains, refl, sym, ap, ◌∙◌, subst, arith, ltb-false}
 use Rattle.std.specs.List.{list_any}
 use Rattle.std.proofs.lemmas.Bool.{or_parts}
-use Rattle.std.proofs.lemmas.List.{length-map}
 use Rattle.std.proofs.lemmas.List.Folds.{list_any_at}
 use Rattle.fancy_meaning.specs.Tree.{Tree}
 use Rattle.fancy_meaning.specs.Nodes.{nodes, groups, group_count}
@@ -10,9 +9,9 @@ use Rattle.fancy_meaning.specs.Places.{range_from}
 use Rattle.fancy_meaning.specs.WellFormed.{refers}
 use Rattle.fancy_meaning.specs.AnalysisRefusals.{CompileError, InvalidBackref, AnalysisRefuses, before_end, group_out_of_range, is_no_group}
 use Rattle.fancy_meaning.specs.Premises.{Input, plan}
-use Rattle.fancy_laws.proofs.Every.{every_weaker, every_contains}
-use Rattle.fancy_laws.proofs.Numbering.{numbers_of, group_numbers}
-use Rattle.fancy_fits.proofs.Known.{RunsFrom, range_runs, IsRun, RefersWithin, Known}
+use Rattle.fancy_laws.proofs.Every.{Every, every_weaker, every_contains}
+use Rattle.fancy_laws.proofs.Numbering.{numbers_of, group_numbers, numbered_has_as_many_groups}
+use Rattle.fancy_fits.proofs.Known.{range_below, RefersWithin, Known}
 
 -- how many numbers so many groups use, by whether group 0 is one of them
 abbrev pub numbers_used : Bool → ℕ → ℕ
@@ -45,19 +44,15 @@ module _ (i : Input) (allowed : (error : CompileError) → ¬ AnalysisRefuses i.
   unfolding groups
   numbers = group_numbers (first_number explicit) (i.parsed).tree
 
-  as_many : length (numbers_of (nodes tree)) ≡ group_count tree
-  unfolding groups group_count
-  as_many = length-map (groups tree) (λ h. h.0)
+  as_many : group_count tree ≡ group_count (i.parsed).tree
+  as_many = numbered_has_as_many_groups (first_number explicit) (i.parsed).tree
 
   module _ (slots : ℕ) (two : 2 ≤ slots) (room : 2 * count ≤ slots) where
-    in_turn : IsRun count (numbers_of (nodes tree))
-    in_turn =
+    numbers_below : Every (λ g. g < count) (numbers_of (nodes tree))
+    numbers_below =
         let below = within explicit (group_count tree) in
-        record {
-          first = first_number explicit;
-          runs = subst (RunsFrom (first_number explicit)) (sym numbers) (range_runs (first_number explicit) (group_count (i.parsed).tree));
-          inside = omega (arith, below, as_many);
-        }
+        subst (Every (λ g. g < count)) (sym numbers)
+        (range_below (first_number explicit) (group_count (i.parsed).tree) count (omega (arith, below, as_many)))
 
     refers_within : (e : Tree) → Contains (nodes tree) e → RefersWithin count slots e
     refers_within e c g is = by_test (is_no_group i.parsed i.analysis g) refl
@@ -73,4 +68,4 @@ module _ (i : Input) (allowed : (error : CompileError) → ¬ AnalysisRefuses i.
             has_pair explicit (group_count tree) g slots two room (ltb-false g (first_number explicit) parts.0) (ltb-false last g parts.1)
 
     pub known : Known count slots (nodes tree)
-    known = record { numbers = in_turn; references = every_weaker refers_within (every_contains (nodes tree)) }
+    known = record { numbers = numbers_below; references = every_weaker refers_within (every_contains (nodes tree)) }

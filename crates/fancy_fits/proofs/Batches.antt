@@ -1,33 +1,23 @@
--- A batch fits: it writes the pairs of its groups at most.
-use Rattle.std.proofs.Common.{◌≡◌, ℕ, ◌+◌, ◌*◌, ◌<◌, ◌≤◌, Bool, true, false, if◌then◌else◌, nat_lt, List, [], ◌∷◌, ◌++◌, length, map, flat_map, Option, Some, None, encode_utf8_all, refl, sym, ap, ◌∙◌, subst, arith}
-use Rattle.std.proofs.lemmas.Bool.{lt-ltb, le-leb}
-use Rattle.std.proofs.lemmas.List.{map-append, length-map}
+-- A batch fits: it writes the pairs of its groups at most, and not those of groups that no way can set.
+use Rattle.std.proofs.Common.{◌≡◌, ℕ, ◌+◌, ◌*◌, ◌<◌, ◌≤◌, Bool, true, false, if◌then◌else◌, nat_lt, List, [], ◌∷◌, ◌++◌, map, flat_map, Option, Some, None, encode_utf8_all, refl, sym, subst, arith}
+use Rattle.std.proofs.lemmas.Bool.{lt-ltb}
 use Rattle.std.specs.List.{list_any, list_all}
-use Rattle.fancy_meaning.specs.Tree.{Tree, Any, Delegate}
-use Rattle.fancy_meaning.specs.Nodes.{nodes, groups}
+use Rattle.fancy_meaning.specs.Tree.{Tree, Trees, none, more, Any, Delegate, Concat, Alt, Group, LookAround, Repeat, AtomicGroup, Conditional, Look, LookAhead, LookAheadNeg, LookBehind, LookBehindNeg}
+use Rattle.fancy_meaning.specs.Nodes.{nodes, nodes_of_each}
 use Rattle.fancy_meaning.specs.Chars.{is_class}
 use Rattle.fancy_meaning.specs.Instr.{Instr, Codepoint}
 use Rattle.fancy_meaning.specs.Code.{nothing, one}
 use Rattle.fancy_meaning.specs.Batches.{all_joined, literal_chars, literal_instr, class_code, any_instr, pattern_of, fragment, group_range, delegate_code, batch_code, batch}
-use Rattle.fancy_meaning.specs.Fits.{range_fits, fragment_fits}
-use Rattle.fancy_laws.proofs.Every.{Every, item}
+use Rattle.fancy_meaning.specs.Fits.{fragment_fits, is_entered, is_positive, settable_groups, settable_in_each}
+use Rattle.fancy_laws.proofs.Every.{Every, no_item, item, every_if, every_append, every_append_parts}
 use Rattle.fancy_laws.proofs.Numbering.{numbers_of, numbers_of_both}
 use Rattle.fancy_fits.proofs.Codes.{both, fits_if, fits_nothing}
 use Rattle.fancy_fits.proofs.Constructs.{Fits, fits_plain}
-use Rattle.fancy_fits.proofs.Known.{runs_below, IsRun, Known}
-
--- the range of groups
-abbrev range_of : List (ℕ × Tree) → Option (ℕ × ℕ)
-range_of [] = None
-range_of (g ∷ gs) = Some (g.0, g.0 + length (g ∷ gs))
-
-range_is : (es : List Tree) (gs : List (ℕ × Tree)) → flat_map groups es ≡ gs → group_range es ≡ range_of gs
-range_is es [] e = rw e refl
-range_is es (g ∷ gs) e = rw e refl
+use Rattle.fancy_fits.proofs.Known.{Known}
 
 -- the slots that a delegate of neighbours writes are there
 abbrev pub NeighboursFit : ℕ → Bool → List Tree → Type 0
-NeighboursFit slots unicode es = fragment_fits slots (fragment unicode es) (group_range es) ≡ true
+NeighboursFit slots unicode es = fragment_fits slots (fragment unicode es) ≡ true
 
 -- neighbours without a name, and with one
 no_name : (unicode : Bool) (es : List Tree) → pattern_of unicode es ≡ [] → delegate_code unicode es ≡ nothing
@@ -37,35 +27,51 @@ some_name : (unicode : Bool) (es : List Tree) (c : ℕ) (cs : List ℕ) → patt
     delegate_code unicode es ≡ one (Instr.Delegate (c ∷ cs) (fragment unicode es) (group_range es))
 some_name unicode es c cs e = rw e refl
 
--- the numbers of neighbours
-neighbour_numbers : (es : List Tree) → map (λ g. g.0) (flat_map groups es) ≡ numbers_of (flat_map nodes es)
-unfolding groups
-neighbour_numbers [] = refl
-neighbour_numbers (e ∷ es) =
-    map-append (λ g. g.0) (groups e) (flat_map groups es)
-    ∙ ap (λ l. map (λ g. g.0) (groups e) ++ l) (neighbour_numbers es) ∙ sym (numbers_of_both (nodes e) (flat_map nodes es))
+-- what holds of the numbers of all groups holds of those that can be set
+module _ {P : ℕ → Type 0} where
+  numbers_apart : (xs ys : List Tree) → Every P (numbers_of (xs ++ ys)) → Every P (numbers_of xs) × Every P (numbers_of ys)
+  numbers_apart xs ys h = every_append_parts (numbers_of xs) (numbers_of ys) (subst (Every P) (numbers_of_both xs ys) h)
+
+  when_positive : (look : Look) {gs : List ℕ} → Every P gs → Every P (if is_positive look then gs else [])
+  when_positive LookAhead h = h
+  when_positive LookAheadNeg h = no_item
+  when_positive LookBehind h = h
+  when_positive LookBehindNeg h = no_item
+
+  mutual
+    settable_number : (e : Tree) → Every P (numbers_of (nodes e)) → Every P (settable_groups e)
+    settable_number (Concat es) h = settable_in_trees es h
+    settable_number (Alt es) h = settable_in_trees es h
+    settable_number (Group g e) (item p h) = item p (settable_number e h)
+    settable_number (LookAround look e) h = when_positive look (settable_number e h)
+    settable_number (Repeat lo hi greedy e) h = every_if (is_entered lo hi) (λ on. settable_number e h) (λ off. no_item)
+    settable_number (AtomicGroup e) h = settable_number e h
+    settable_number (Conditional c t f) h =
+        let first = numbers_apart (nodes c) (nodes t ++ nodes f) h in
+        let rest = numbers_apart (nodes t) (nodes f) first.1 in
+        every_append (settable_number c first.0) (every_append (settable_number t rest.0) (settable_number f rest.1))
+    settable_number e h = no_item
+
+    settable_in_trees : (es : Trees) → Every P (numbers_of (nodes_of_each es)) → Every P (settable_in_each es)
+    settable_in_trees none h = no_item
+    settable_in_trees (more e es) h =
+        let parts = numbers_apart (nodes e) (nodes_of_each es) h in
+        every_append (settable_number e parts.0) (settable_in_trees es parts.1)
+
+  settable_in_list : (es : List Tree) → Every P (numbers_of (flat_map nodes es)) → Every P (flat_map settable_groups es)
+  settable_in_list [] h = no_item
+  settable_in_list (e ∷ es) h =
+      let parts = numbers_apart (nodes e) (flat_map nodes es) h in
+      every_append (settable_number e parts.0) (settable_in_list es parts.1)
 
 module _ (count slots : ℕ) (room : 2 * count ≤ slots) where
-  run_fits : (gs : List (ℕ × Tree)) → IsRun count (map (λ g. g.0) gs) → range_fits slots (range_of gs) ≡ true
-  run_fits [] h = refl
-  run_fits (g ∷ gs) h =
-      let first = (h.runs).0 in
-      let same = length-map gs (λ x. x.0) in
-      let inside = h.inside in
-      le-leb (2 * (g.0 + length (g ∷ gs))) slots (omega (arith, first, same, inside, room))
-
-  pairs_fit : (gs : List (ℕ × Tree)) → Every (λ g. g < count) (map (λ g. g.0) gs) →
-      list_all (λ g. nat_lt (2 * g.0 + 1) slots) gs ≡ true
+  pairs_fit : (gs : List ℕ) → Every (λ g. g < count) gs → list_all (λ g. nat_lt (2 * g + 1) slots) gs ≡ true
   pairs_fit [] h = refl
-  pairs_fit (g ∷ gs) (item lt h) = both (lt-ltb (2 * g.0 + 1) slots (omega (arith, lt, room))) (pairs_fit gs h)
+  pairs_fit (g ∷ gs) (item lt h) = both (lt-ltb (2 * g + 1) slots (omega (arith, lt, room))) (pairs_fit gs h)
 
   pub neighbours_fit : (unicode : Bool) (es : List Tree) → Known count slots (flat_map nodes es) →
       NeighboursFit slots unicode es
-  neighbours_fit unicode es k =
-      let gs = flat_map groups es in
-      let run = subst (IsRun count) (sym (neighbour_numbers es)) k.numbers in
-      both (ap (range_fits slots) (range_is es gs refl) ∙ run_fits gs run)
-      (pairs_fit gs (runs_below run.first count (map (λ g. g.0) gs) run.runs run.inside))
+  neighbours_fit unicode es k = pairs_fit (flat_map settable_groups es) (settable_in_list es k.numbers)
 
 module _ (len slots : ℕ) where
   pub fits_any : (newline crlf : Bool) → Fits len slots (one (any_instr newline crlf))

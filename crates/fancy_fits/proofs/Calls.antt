@@ -5,9 +5,9 @@ use Rattle.fancy_meaning.specs.Nodes.{nodes, target}
 use Rattle.fancy_meaning.specs.OpenCalls.{Depths, opened, call_depth}
 use Rattle.fancy_meaning.specs.Options.{Plan}
 use Rattle.fancy_meaning.specs.Instr.{Instr}
-use Rattle.fancy_meaning.specs.Code.{Code, one}
+use Rattle.fancy_meaning.specs.Code.{Code}
 use Rattle.fancy_meaning.specs.Batches.{batch}
-use Rattle.fancy_meaning.specs.Layout.{is_root_easy, root_code, is_at_start, target_code, called_code, written}
+use Rattle.fancy_meaning.specs.Layout.{is_root_easy, root_code, is_at_start, target_code, fail_code, called_code, written}
 use Rattle.fancy_laws.proofs.Every.{every_contained}
 use Rattle.fancy_laws.proofs.NodesBelow.{group_of_target}
 use Rattle.fancy_fits.proofs.Codes.{fits_if, fits_nothing}
@@ -41,10 +41,14 @@ module _ (p : Plan) (easy : Tree → Bool) (len count slots : ℕ) (two : 2 ≤ 
       (written p easy call b (is_at_start p easy (suc g))) in_hard of_group
       (λ h. fits_tree p easy len count slots two room call calls b below (is_at_start p easy (suc g)) h)
 
+  fits_fail : (o : Option Tree) → Fits len slots (fail_code p easy o)
+  fits_fail None = fits_nothing len slots
+  fits_fail (Some b) = fits_plain len slots Instr.Fail refl
+
   pub fits_calls : (n : ℕ) (depths : Depths) → Each (called_code p easy n depths)
-  fits_calls zero depths g in_hard = fits_plain len slots Instr.Fail refl
+  fits_calls zero depths g in_hard = fits_fail (target whole g)
   fits_calls (suc n) depths g in_hard =
       fits_if len slots (nat_lt (depths g) call_depth)
-      (target_code p easy g (called_code p easy n (opened g depths)) in_hard (target whole g)) (one Instr.Fail)
+      (target_code p easy g (called_code p easy n (opened g depths)) in_hard (target whole g)) (fail_code p easy (target whole g))
       (fits_target g (called_code p easy n (opened g depths)) (fits_calls n (opened g depths)) in_hard (target whole g) refl)
-      (fits_plain len slots Instr.Fail refl)
+      (fits_fail (target whole g))

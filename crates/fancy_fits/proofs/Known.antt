@@ -1,6 +1,6 @@
--- What is known of nodes that stand together in the tree: their groups are numbered in turn, below a count, and the groups
--- that they refer to have their pairs.
-use Rattle.std.proofs.Common.{◌≡◌, ℕ, zero, suc, ◌+◌, ◌*◌, ◌<◌, ◌≤◌, true, List, [], ◌∷◌, ◌++◌, length, refl, subst, arith, length-append}
+-- What is known of nodes that stand together in the tree: the numbers of their groups are below a count, and the groups that
+-- they refer to have their pairs.
+use Rattle.std.proofs.Common.{◌≡◌, ℕ, zero, suc, ◌+◌, ◌*◌, ◌<◌, ◌≤◌, true, List, [], ◌∷◌, ◌++◌, subst, arith}
 use Rattle.fancy_meaning.specs.Tree.{Tree, Trees, none, more, Concat, Alt, Group, LookAround, Repeat, AtomicGroup, DefineGroup, Conditional, AbsentRepeater, AbsentStopper, AbsentExpression}
 use Rattle.fancy_meaning.specs.Nodes.{nodes, nodes_of_each}
 use Rattle.fancy_meaning.specs.Places.{range_from}
@@ -8,49 +8,9 @@ use Rattle.fancy_meaning.specs.WellFormed.{refers}
 use Rattle.fancy_laws.proofs.Every.{Every, no_item, item, every_append, every_append_parts}
 use Rattle.fancy_laws.proofs.Numbering.{numbers_of, numbers_of_both}
 
--- the numbers from n on
-abbrev pub RunsFrom : ℕ → List ℕ → Type 0
-RunsFrom n [] = Unit {0}
-RunsFrom n (x ∷ xs) = (x ≡ n) × RunsFrom (suc n) xs
-
-pub range_runs : (n k : ℕ) → RunsFrom n (range_from n k)
-range_runs n zero = tt
-range_runs n (suc k) = (refl, range_runs (suc n) k)
-
-runs_front : (n : ℕ) (xs ys : List ℕ) → RunsFrom n (xs ++ ys) → RunsFrom n xs
-runs_front n [] ys h = tt
-runs_front n (x ∷ xs) ys h = (h.0, runs_front (suc n) xs ys h.1)
-
-runs_back : (n m : ℕ) (xs ys : List ℕ) → m ≡ n + length xs → RunsFrom n (xs ++ ys) → RunsFrom m ys
-runs_back n m [] ys e h = let same : n ≡ m = omega (arith, e) in subst (λ k. RunsFrom k ys) same h
-runs_back n m (x ∷ xs) ys e h = runs_back (suc n) m xs ys (omega (arith, e)) h.1
-
-pub runs_below : (n count : ℕ) (xs : List ℕ) → RunsFrom n xs → n + length xs ≤ count → Every (λ x. x < count) xs
-runs_below n count [] h le = no_item
-runs_below n count (x ∷ xs) h le = let e = h.0 in item (omega (arith, e, le)) (runs_below (suc n) count xs h.1 (omega (arith, le)))
-
-module _ (count : ℕ) where
-  -- numbers in turn, below the count
-  pub record IsRun (xs : List ℕ) : Type 0 where
-    pub first : ℕ
-    pub runs : RunsFrom first xs
-    pub inside : first + length xs ≤ count
-
-  run_front : (xs ys : List ℕ) → IsRun (xs ++ ys) → IsRun xs
-  run_front xs ys h =
-      let sum = length-append xs ys in
-      let inside = h.inside in
-      record { first = h.first; runs = runs_front h.first xs ys h.runs; inside = omega (arith, sum, inside) }
-
-  run_back : (xs ys : List ℕ) → IsRun (xs ++ ys) → IsRun ys
-  run_back xs ys h =
-      let sum = length-append xs ys in
-      let inside = h.inside in
-      record {
-        first = h.first + length xs;
-        runs = runs_back h.first (h.first + length xs) xs ys refl h.runs;
-        inside = omega (arith, sum, inside);
-      }
+pub range_below : (n k count : ℕ) → n + k ≤ count → Every (λ g. g < count) (range_from n k)
+range_below n zero count le = no_item
+range_below n (suc k) count le = item (omega (arith, le)) (range_below (suc n) k count (omega (arith, le)))
 
 -- a count of groups' numbers, and of slots
 module _ (count slots : ℕ) where
@@ -59,18 +19,18 @@ module _ (count slots : ℕ) where
   RefersWithin e = (g : ℕ) → refers g e ≡ true → 2 * g + 1 < slots
 
   pub record Known (es : List Tree) : Type 0 where
-    pub numbers : IsRun count (numbers_of es)
+    pub numbers : Every (λ g. g < count) (numbers_of es)
     pub references : Every RefersWithin es
 
   pub known_front : (xs ys : List Tree) → Known (xs ++ ys) → Known xs
   known_front xs ys k = record {
-    numbers = run_front count (numbers_of xs) (numbers_of ys) (subst (IsRun count) (numbers_of_both xs ys) k.numbers);
+    numbers = (every_append_parts (numbers_of xs) (numbers_of ys) (subst (Every (λ g. g < count)) (numbers_of_both xs ys) k.numbers)).0;
     references = (every_append_parts xs ys k.references).0;
   }
 
   pub known_back : (xs ys : List Tree) → Known (xs ++ ys) → Known ys
   known_back xs ys k = record {
-    numbers = run_back count (numbers_of xs) (numbers_of ys) (subst (IsRun count) (numbers_of_both xs ys) k.numbers);
+    numbers = (every_append_parts (numbers_of xs) (numbers_of ys) (subst (Every (λ g. g < count)) (numbers_of_both xs ys) k.numbers)).1;
     references = (every_append_parts xs ys k.references).1;
   }
 

@@ -15,6 +15,7 @@ use Rattle.fancy_meaning.specs.Constructs.{loop_form, absent_code}
 use Rattle.fancy_meaning.specs.Layout.{Part, takes_nothing, in_context, is_prefix, is_suffix, concat_code, alt_code, body_code, group_body, is_at_most_once, absent_repeater_code, is_refused_body, written, each_part}
 use Rattle.fancy_meaning.specs.WellFormed.{refers}
 use Rattle.fancy_laws.proofs.Every.{Every, no_item, item, every_map, every_append_parts}
+use Rattle.fancy_laws.proofs.Numbering.{numbers_of}
 use Rattle.fancy_laws.proofs.Splits.{back_while, before_back, cut_in_three}
 use Rattle.fancy_fits.proofs.Codes.{fits_if, fits_nothing, fits_next, fits_branches, fits_in_turn}
 use Rattle.fancy_fits.proofs.Constructs.{Fits, fits_plain, fits_group, fits_atomic, fits_conditional, fits_newline, BodyFits, fits_look_around, fits_repeat, fits_absent}
@@ -63,10 +64,10 @@ module _ (p : Plan) (easy : Tree → Bool) (len count slots : ℕ) (two : 2 ≤ 
 
   -- the pair of a group
   pair_of : (g : ℕ) (e : Tree) → KnownHere (Group g e ∷ nodes e) → 2 * g + 1 < slots
-  pair_of g e k =
-      let first = ((k.numbers).runs).0 in
-      let inside = (k.numbers).inside in
-      omega (arith, first, inside, room)
+  pair_of g e k = by_first k.numbers
+    where
+      by_first : Every (λ h. h < count) (g ∷ numbers_of (nodes e)) → 2 * g + 1 < slots
+      by_first (item lt h) = omega (arith, lt, room)
 
   pub fits_group_body : (g : ℕ) (e : Tree) (code : Bool → Code) (in_hard : Bool) → KnownHere (Group g e ∷ nodes e) →
       ((h : Bool) → FitsHere (code h)) → FitsHere (group_body p easy g e code in_hard)
@@ -125,7 +126,7 @@ module _ (p : Plan) (easy : Tree → Bool) (len count slots : ℕ) (two : 2 ≤ 
       let plain = Instr.AbsentRepeater (pattern_of p.unicode (e ∷ [])) (fragment p.unicode (e ∷ [])) (group_range (e ∷ [])) in
       let out = absent_code (in_context p easy e code false) in
       fits_if len slots (easy e) (one plain) (if is_refused_body p easy e then nothing else out)
-      (fits_plain len slots plain (neighbours_fit count slots room p.unicode (e ∷ []) (alone e k)))
+      (fits_plain len slots plain refl)
       (fits_if len slots (is_refused_body p easy e) nothing out (fits_nothing len slots)
       (fits_absent len slots (in_context p easy e code false) (fits_in_context e code false k (f false))))
 

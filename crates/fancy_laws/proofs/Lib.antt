@@ -8,6 +8,7 @@ pub mod Forward
 pub mod Calls
 pub mod EndlessLoops
 pub mod LookLaws
+pub mod SettableGroups
 pub mod Characters
 pub mod Pieces
 pub mod AtPlaces

@@ -13,7 +13,7 @@ at_most_one [] = omega arith
 at_most_one (t ∷ ss) = omega arith
 
 module _ (q : Setting) (call : ℕ → Ways) where
-  negative_look_stays : (look : Look) (e : Tree) (s : MatchState) → (look ≡ LookAheadNeg) ⊎ (look ≡ LookBehindNeg) →
+  pub negative_look_stays : (look : Look) (e : Tree) (s : MatchState) → (look ≡ LookAheadNeg) ⊎ (look ≡ LookBehindNeg) →
       Every (λ t. t ≡ s) (ways_with q call (LookAround look e) s)
   negative_look_stays look e s is =
       let b = has_branches q call e in

@@ -1,7 +1,7 @@
 //! Laws and theorems over the definitions alone: each is the contract of a function that does nothing.
 #![tactic(auto)]
 
-ghost use Rattle.fancy_meaning.specs.Laws.{LoopLaw, RequiredLaw, CallLaw, RefusedCallLaw, AtomicHasOneWay, NegativeLookChangesNothing, AheadHasWaysOfBody, BehindHasWaysOfBody, BehindGoesByBranches, AnswersArePairs, AnchorLaw, SizeLaw, ContinueLaw};
+ghost use Rattle.fancy_meaning.specs.Laws.{LoopLaw, RequiredLaw, CallLaw, RefusedCallLaw, AtomicHasOneWay, NegativeLookChangesNothing, AheadHasWaysOfBody, BehindHasWaysOfBody, BehindGoesByBranches, AnswersArePairs, AnchorLaw, SizeLaw, ContinueLaw, SettableGroupsLaw};
 
 /// With none required, an unbounded loop goes on by a way of its body, and by one that moves nothing it is left; or it
 /// stops. Greedy it goes on first, lazy it stops first.
@@ -67,4 +67,9 @@ pub fn size_law()
 /// Where a tree begins with where the match before ended, no other start has a way.
 pub fn continue_law()
     ensures { ContinueLaw }
+{}
+
+/// A way of a fragment leaves the span of each group as it was, but for those that its nodes can set.
+pub fn settable_groups_law()
+    ensures { SettableGroupsLaw }
 {}

@@ -4,13 +4,14 @@ use Rattle.fancy_meaning.specs.Tree.{Tree, none, more, Trees, children, Assert, 
 use Rattle.fancy_meaning.specs.Nodes.{nodes, target}
 use Rattle.fancy_meaning.specs.OpenCalls.{Depths, opened, call_depth}
 use Rattle.fancy_meaning.specs.Places.{is_place, chars_between}
-use Rattle.fancy_meaning.specs.MatchState.{MatchState, moved_to}
+use Rattle.fancy_meaning.specs.MatchState.{MatchState, moved_to, fails, in_order}
 use Rattle.fancy_meaning.specs.Loops.{prefer, if_moved}
-use Rattle.fancy_meaning.specs.Ways.{Setting, ends_here, captured_by_call, ways}
+use Rattle.fancy_meaning.specs.Ways.{Setting, ends_here, ways_with, captured_by_call, ways}
 use Rattle.fancy_meaning.specs.Answer.{Search, ways_from, answer}
 use Rattle.fancy_meaning.specs.Numbers.{usize_max}
 use Rattle.fancy_meaning.specs.Sizes.{size}
 use Rattle.fancy_meaning.specs.Layout.{takes_nothing}
+use Rattle.fancy_meaning.specs.Fits.{settable_groups}
 use Rattle.fancy_meaning.specs.Premises.{Analysed, tree_of, IsText, IsSpan, IsSized, IsSound}
 
 -- ---- loops and calls, without a count
@@ -73,6 +74,14 @@ ArePairs text (i ∷ j ∷ rest) = (((i ≡ usize_max) × (j ≡ usize_max)) ⊎
 
 abbrev pub AnswersArePairs : Type 0
 AnswersArePairs = (q : Search) → IsText q.text → IsTrue (is_place q.text q.pos) → IfSome (answer q) (ArePairs q.text)
+
+-- ---- captures
+
+-- A way of a fragment leaves the span of each group as it was, but for those that its nodes can set.
+abbrev pub SettableGroupsLaw : Type 0
+SettableGroupsLaw = (q : Setting) (es : List Tree) (s t : MatchState) (g : ℕ) →
+    Contains (in_order (map (ways_with q (λ h. fails)) es) s) t →
+    (t.captures g ≡ s.captures g) ⊎ Contains (flat_map settable_groups es) g
 
 -- ---- sizes
 

@@ -1,7 +1,7 @@
 -- The program of a tree.
 use Rattle.std.specs.Prelude.{ℕ, zero, suc, ◌+◌, ◌-◌, ◌*◌, max, Bool, true, false, ◌&&◌, ◌||◌, not, List, [], ◌∷◌, ◌++◌, length, map, take, drop, reverse, take_while, Option, Some, None, if◌then◌else◌, ◌==◌, nat_lt, nat_eq, encode_utf8_all}
 use Rattle.std.specs.List.{list_any}
-use Rattle.fancy_meaning.specs.Tree.{Tree, Trees, none, more, KeepOut, ContinueFromPreviousMatchEnd, AbsentClear, Any, Assert, GeneralNewline, Literal, LiteralBytes, Delegate, Concat, Alt, Group, LookAround, Repeat, Backref, BackrefExists, AtomicGroup, AbsentRepeater, AbsentStopper, AbsentExpression, Control, Conditional, SubroutineCall, Fail}
+use Rattle.fancy_meaning.specs.Tree.{Tree, Trees, none, more, KeepOut, ContinueFromPreviousMatchEnd, Any, Assert, GeneralNewline, Literal, LiteralBytes, Delegate, Concat, Alt, Group, LookAround, Repeat, Backref, BackrefExists, AtomicGroup, AbsentRepeater, Control, Conditional, SubroutineCall, Fail}
 use Rattle.fancy_meaning.specs.Nodes.{nodes, group_count, target, is_read, is_absent}
 use Rattle.fancy_meaning.specs.OpenCalls.{Depths, opened, no_calls, call_depth, free_calls}
 use Rattle.fancy_meaning.specs.Assertions.{assertion_within}
@@ -154,13 +154,18 @@ module _ (p : Plan) (easy : Tree → Bool) where
   target_code zero call in_hard (Some e) = root_code call in_hard
   target_code (suc g) call in_hard (Some e) = group_body (suc g) e (written call e (is_at_start (suc g))) in_hard
 
+  -- a call that is not opened, where there is such a target
+  abbrev pub fail_code : Option Tree → Code
+  fail_code None = nothing
+  fail_code (Some e) = one Instr.Fail
+
   -- the code of a call where these calls are open, and at most n more may be opened
   abbrev pub called_code : ℕ → Depths → ℕ → Bool → Code
-  called_code zero depths g in_hard = one Instr.Fail
+  called_code zero depths g in_hard = fail_code (target whole g)
   called_code (suc n) depths g in_hard =
       if nat_lt (depths g) call_depth
       then target_code g (called_code n (opened g depths)) in_hard (target whole g)
-      else one Instr.Fail
+      else fail_code (target whole g)
 
   -- ---- the whole program
 

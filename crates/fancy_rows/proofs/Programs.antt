@@ -1,10 +1,11 @@
 -- Programs as a whole: what they carry besides their instructions, and how long they are.
-use Rattle.std.specs.Prelude.{◌≡◌, ℕ, Bool, true, false, [], ◌∷◌, length, refl}
-use Rattle.fancy_meaning.specs.Tree.{KeepOut}
-use Rattle.fancy_meaning.specs.Instr.{Prog}
+use Rattle.std.specs.Prelude.{◌≡◌, ℕ, Bool, true, false, [], ◌∷◌, length, Some, refl}
+use Rattle.fancy_meaning.specs.Tree.{Tree, KeepOut, Group, DefineGroup}
+use Rattle.fancy_meaning.specs.Instr.{Instr, Prog}
+use Rattle.fancy_meaning.specs.Fits.{slots_fit}
 use Rattle.fancy_meaning.specs.Numbers.{usize_max}
 use Rattle.fancy_meaning.specs.Layout.{layout, undelegated_layout}
-use Rattle.fancy_rows.proofs.Notation.{plain, anchored, explicit, ascii, taking, with_end_text, analysed_end_text, lit, cat, alt, grp, rep, star, call, ahead, row}
+use Rattle.fancy_rows.proofs.Notation.{plain, anchored, explicit, ascii, taking, with_end_text, analysed_end_text, lit, cat, alt, grp, rep, star, call, ahead, nahead, row}
 
 -- the most that a match takes, groups and slots, and the options
 abbrev facts : Prog → (ℕ × ℕ × ℕ) × (Bool × Bool × Bool × Bool)
@@ -57,3 +58,38 @@ calls_are_written_to_their_depth = refl
 calls_are_written_to_their_depth_with_delegates : length (layout (anchored (grp (alt (cat (lit "a" ∷ call 1 ∷ []) ∷ lit "b" ∷ []))))).body ≡ 124
 unfolding row
 calls_are_written_to_their_depth_with_delegates = refl
+
+-- the missing group is called at the greatest depth too
+call_of_a_missing_group_writes_nothing : length (undelegated_layout (plain (cat (lit "a" ∷ rep 0 1 (call 0) ∷ call 1 ∷ [])))).body ≡ 47
+unfolding row
+call_of_a_missing_group_writes_nothing = refl
+
+-- ---- the slots that a program needs
+
+-- so many are enough for a delegate of this node
+abbrev delegate_fits : Tree → ℕ → Bool
+delegate_fits e slots = slots_fit slots false (Instr.Delegate [] (record { nodes = e ∷ []; unicode = true }) (Some (1, 2)))
+
+abbrev group_1 : Tree
+group_1 = Group 1 (lit "a")
+
+pair_of_a_group : (delegate_fits group_1 3 ≡ false) × (delegate_fits group_1 4 ≡ true)
+pair_of_a_group = (refl, refl)
+
+pair_in_a_loop : (delegate_fits (rep 0 1 group_1) 3 ≡ false) × (delegate_fits (rep 0 1 group_1) 4 ≡ true)
+pair_in_a_loop = (refl, refl)
+
+pair_in_a_look_ahead : (delegate_fits (ahead group_1) 3 ≡ false) × (delegate_fits (ahead group_1) 4 ≡ true)
+pair_in_a_look_ahead = (refl, refl)
+
+no_pair_in_a_definition : delegate_fits (DefineGroup group_1) 0 ≡ true
+no_pair_in_a_definition = refl
+
+no_pair_in_a_loop_that_is_not_entered : delegate_fits (rep 0 0 group_1) 0 ≡ true
+no_pair_in_a_loop_that_is_not_entered = refl
+
+no_pair_in_a_negative_look_ahead : delegate_fits (nahead group_1) 0 ≡ true
+no_pair_in_a_negative_look_ahead = refl
+
+no_pair_of_an_absent_repeater : slots_fit 0 false (Instr.AbsentRepeater [] (record { nodes = group_1 ∷ []; unicode = true }) (Some (1, 2))) ≡ true
+no_pair_of_an_absent_repeater = refl
