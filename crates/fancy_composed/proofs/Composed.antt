@@ -1,5 +1,5 @@
 -- The composed theorem.
-use Rattle.std.proofs.Common.{◌≡◌, ℕ, ◌+◌, ◌≤◌, Bool, true, false, if◌then◌else◌, [], length, refl, sym, ap, ◌∙◌, subst, arith, true≢false}
+use Rattle.std.proofs.Common.{◌≡◌, ℕ, ◌+◌, ◌≤◌, Bool, true, false, ◌&&◌, if◌then◌else◌, [], length, refl, sym, ap, ◌∙◌, subst, arith, true≢false}
 use Rattle.fancy_meaning.specs.Nodes.{group_count}
 use Rattle.fancy_meaning.specs.OpenCalls.{free_calls}
 use Rattle.fancy_meaning.specs.Layout.{undelegated_layout, first_fresh, group_numbers}
@@ -7,15 +7,17 @@ use Rattle.fancy_meaning.specs.Config.{Config, Goes}
 use Rattle.fancy_meaning.specs.Machine.{exec, fail_to}
 use Rattle.fancy_meaning.specs.Keys.{bit, whole_key}
 use Rattle.fancy_meaning.specs.Hands.{GoesOn, no_search, one_start, two_branches}
+use Rattle.fancy_meaning.specs.Laws.{begins_with_continue}
 use Rattle.fancy_meaning.specs.Premises.{plan}
-use Rattle.fancy_meaning.specs.Theorems.{code_of, ComposedTheorem}
+use Rattle.fancy_meaning.specs.Theorems.{may_give_up, code_of, ComposedTheorem}
 use Rattle.fancy_composed.proofs.Courses.{To, to_same, to_eq, after, Ground, config, here}
 use Rattle.fancy_composed.proofs.Parts.{whole, first, flag_is}
 use Rattle.fancy_composed.proofs.Tests.{MayStop}
 use Rattle.fancy_composed.proofs.Branches.{never}
 use Rattle.fancy_composed.proofs.Ready.{Ready}
 use Rattle.fancy_composed.proofs.Accepted.{ground, ready}
-use Rattle.fancy_composed.proofs.Trees.{tree_works}
+use Rattle.fancy_composed.proofs.Starts.{or_left, or_right}
+use Rattle.fancy_composed.proofs.Trees.{both, tree_works}
 use Rattle.fancy_composed.proofs.Calls.{calls_work}
 use Rattle.fancy_composed.proofs.Reduced.{alike_thins}
 use Rattle.fancy_composed.proofs.Serving.{stands_here, handed_by}
@@ -47,10 +49,12 @@ composed i e depths at_start in_hard accepted wr t c fresh s from fits is_text h
     λ count. to_same in
     let w : Ground = ground i (length (undelegated_layout (plan i)).body) accepted t is_text fits c.start c.branches bottom falls in
     let r : Ready w = ready i (length (undelegated_layout (plan i)).body) accepted t is_text fits c.start c.branches bottom falls in
-    let stop : MayStop w = may_stop w c goes_on refl in
+    let begins = begins_with_continue tree in
+    let stop : may_give_up tree e at_start ≡ true → MayStop w = λ marked. may_stop w c (goes_on marked) refl in
     let works =
-    tree_works w r depths (calls_work w r (λ x. stop) (free_calls tree depths) depths refl) e wr at_start in_hard
-    (λ x y. stop) in
+    tree_works w r depths
+    (calls_work w r (λ x. stop (or_left (begins tree) (at_start && begins e) x)) (free_calls tree depths) depths refl) e wr at_start in_hard
+    (λ x y. stop (or_right (begins tree) (at_start && begins e) (both at_start (begins e) x y))) in
     let laid = code_of (plan i) never depths e at_start in_hard c.pc fresh in
     let part =
     works.part c.pc (c.pc + length laid.instrs) fresh refl

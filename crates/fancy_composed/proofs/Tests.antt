@@ -104,7 +104,9 @@ module _ (w : Ground) where
 
   met_other : (u v : Bool) → ((w.task).program).end_text ≡ v → (slots : Slots) (k : ℕ) → IsOutsideState w.task k →
       met_slots (v && u) slots k ≡ slots k
-  met_other true true is slots k lo = let b = ap bit is in put_other slots (flag w) k 1 (outside_state w k (flag w) lo (λ x. omega (arith, flag_is w, x)) (omega (arith, b)))
+  met_other true true is slots k lo =
+      let b = ap bit is in
+      put_other slots (flag w) k 1 (outside_state w k (flag w) lo (λ x. omega (arith, flag_is w, x)) (omega (arith, b)))
   met_other true false is slots k lo = refl
   met_other false true is slots k lo = refl
   met_other false false is slots k lo = refl

@@ -1,5 +1,5 @@
 -- Delegation is harmless where delegates hand the first way of their nodes, and absent repeaters of easy bodies all of theirs.
-use Rattle.std.proofs.Common.{◌≡◌, ℕ, ◌+◌, ◌≤◌, Bool, if◌then◌else◌, List, [], ◌∷◌, length, find, Some, refl, sym, ap, ◌∙◌, subst, arith, true≢false}
+use Rattle.std.proofs.Common.{◌≡◌, ℕ, ◌+◌, ◌≤◌, Bool, true, ◌&&◌, if◌then◌else◌, List, [], ◌∷◌, length, find, Some, refl, sym, ap, ◌∙◌, subst, arith, true≢false}
 use Rattle.fancy_meaning.specs.Tree.{Tree, AbsentRepeater}
 use Rattle.fancy_meaning.specs.OpenCalls.{Depths}
 use Rattle.fancy_meaning.specs.MatchState.{MatchState}
@@ -12,11 +12,14 @@ use Rattle.fancy_meaning.specs.Config.{Branch, Config, Goes}
 use Rattle.fancy_meaning.specs.Machine.{Task, fail_to, exec}
 use Rattle.fancy_meaning.specs.Hands.{GoesOn, no_search, one_start, two_branches}
 use Rattle.fancy_meaning.specs.CompileRefusals.{IsWritten}
+use Rattle.fancy_meaning.specs.Laws.{begins_with_continue}
 use Rattle.fancy_meaning.specs.Premises.{Input, plan, IsAccepted, IsText}
-use Rattle.fancy_meaning.specs.Theorems.{IsProgramFor, code_of, DelegationIsHarmless}
+use Rattle.fancy_meaning.specs.Theorems.{IsProgramFor, may_give_up, code_of, DelegationIsHarmless}
 use Rattle.fancy_composed.proofs.Courses.{Course, To, to_same, to_eq, after, Ground, config, here}
 use Rattle.fancy_composed.proofs.Parts.{setting, Works}
 use Rattle.fancy_composed.proofs.Tests.{MayStop}
+use Rattle.fancy_composed.proofs.Starts.{or_left, or_right}
+use Rattle.fancy_composed.proofs.Trees.{both}
 use Rattle.fancy_composed.proofs.Serving.{stands_here, handed_by}
 use Rattle.fancy_composed.proofs.Composed.{first_slot}
 use Rattle.fancy_delegation.proofs.Every.{Every}
@@ -65,10 +68,14 @@ delegation_is_harmless batches repeaters i e depths at_start in_hard accepted wr
     let bottom : ℕ → _ = λ count. after t (fail_to t c.branches (config 0 0 (λ k. 0) [] [] c.start count)) in
     let falls : (count : ℕ) → To (after t (fail_to t c.branches (config 0 0 (λ k. 0) [] [] c.start count))) (bottom count) = λ count. to_same in
     let g : Ground = w i (length program.body) accepted t is_text fits c.start c.branches bottom falls in
-    let stop : MayStop g = none_gives_up g c goes_on refl in
-    let given : Setup = setup i (length program.body) accepted t is_text fits c.start c.branches bottom falls (λ y. stop)
+    let tree = (plan i).analysis.tree in
+    let begins = begins_with_continue tree in
+    let stop : may_give_up tree e at_start ≡ true → MayStop g = λ marked. none_gives_up g c (goes_on marked) refl in
+    let given : Setup = setup i (length program.body) accepted t is_text fits c.start c.branches bottom falls
+    (λ y. stop (or_left (begins tree) (at_start && begins e) y))
     (batches i accepted t is_text fits c.start c.branches bottom falls) (repeaters i accepted t is_text fits c.start c.branches bottom falls) in
-    let h = delegation_thins given depths e wr at_start in_hard (λ x y. stop) in
+    let h = delegation_thins given depths e wr at_start in_hard
+    (λ x y. stop (or_right (begins tree) (at_start && begins e) (both at_start (begins e) x y))) in
     let works : Works g (code_of (plan i) (is_easy given.tree) depths e at_start in_hard) h.handed = h.works in
     let laid = code_of (plan i) (is_easy given.tree) depths e at_start in_hard c.pc fresh in
     let part = works.part c.pc (c.pc + length laid.instrs) fresh refl (subst (λ n. n ≤ fresh) (sym (first_slot g accepted.implicit_group_0)) le) has in (

@@ -1,5 +1,5 @@
 -- The theorems on programs, as types.
-use Rattle.std.specs.Prelude.{◌≡◌, ◌≢◌, ◌↔◌, ℕ, ◌*◌, ◌+◌, ◌≤◌, ◌⊎◌, Bool, true, false, not, List, length, flat_map, Contains, Option, Some, None, IsTrue, IsFalse, if◌then◌else◌}
+use Rattle.std.specs.Prelude.{◌≡◌, ◌≢◌, ◌↔◌, ℕ, ◌*◌, ◌+◌, ◌≤◌, ◌⊎◌, Bool, true, false, ◌&&◌, ◌||◌, not, List, length, flat_map, Contains, Option, Some, None, IsTrue, IsFalse, if◌then◌else◌}
 use Rattle.fancy_meaning.specs.Tree.{Tree, parts, Group, DefineGroup}
 use Rattle.fancy_meaning.specs.Nodes.{nodes, group_count, is_read}
 use Rattle.fancy_meaning.specs.OpenCalls.{Depths, free_calls}
@@ -16,6 +16,7 @@ use Rattle.fancy_meaning.specs.CompileRefusals.{IsWritten, IsAmong}
 use Rattle.fancy_meaning.specs.Config.{Config, Outcome, Match, NoMatch, BacktrackLimitExceeded, StackOverflow, StepLimitExceeded, Goes}
 use Rattle.fancy_meaning.specs.Machine.{Task, run}
 use Rattle.fancy_meaning.specs.Fits.{program_fits}
+use Rattle.fancy_meaning.specs.Laws.{begins_with_continue}
 use Rattle.fancy_meaning.specs.Keys.{Key, whole_key, key, easy_key, Coarser, Thins, Respects}
 use Rattle.fancy_meaning.specs.Hands.{IsLimit, Stretch, HasAt, Stands, GoesOn, Hands}
 use Rattle.fancy_meaning.specs.Premises.{Analysed, analysis, tree_of, Input, plan, IsAccepted, IsText, IsFit, IsSound}
@@ -64,13 +65,17 @@ pub record IsProgramFor (p : Plan) (program : Prog) : Type 0 where
   pub end_text : program.end_text ≡ p.end_text
   pub unicode : program.unicode ≡ p.unicode
 
+-- a `\G` in the code of the node may give up the search: the tree begins with one, or the node does where a match begins
+abbrev pub may_give_up : Tree → Tree → Bool → Bool
+may_give_up whole e at_start = begins_with_continue whole whole || (at_start && begins_with_continue whole e)
+
 -- Wherever the code stands, it hands from each sound state a list that serves by the key for what these ways give.
 -- The key may depend on a place at or before the state's.
-abbrev pub Serves : Plan → Code → (Setting → Ways) → (ℕ → Key) → Type 0
-Serves p code w by = (t : Task) (c : Config) (fresh : ℕ) (s : MatchState) (from : ℕ) →
+abbrev pub Serves : Plan → Code → (Setting → Ways) → (ℕ → Key) → Bool → Type 0
+Serves p code w by gives_up = (t : Task) (c : Config) (fresh : ℕ) (s : MatchState) (from : ℕ) →
     let q = (search_of p t.text t.options).setting in
-    IsProgramFor p t.program → IsText t.text → HasAt (t.program).body c.pc (code c.pc fresh).instrs → GoesOn t c →
-    first_fresh p (λ e. false) ≤ fresh → Stands t c s → IsSound q p.analysis.tree s → from ≤ s.place →
+    IsProgramFor p t.program → IsText t.text → HasAt (t.program).body c.pc (code c.pc fresh).instrs →
+    (gives_up ≡ true → GoesOn t c) → first_fresh p (λ e. false) ≤ fresh → Stands t c s → IsSound q p.analysis.tree s → from ≤ s.place →
     (hs : List MatchState) × Hands t (stretch_of code c fresh) (Goes c) hs × Thins (by from) hs (w q s)
 
 -- the code of a part of the tree in its context, where these calls are open
@@ -87,6 +92,7 @@ ComposedTheorem = (i : Input) (e : Tree) (depths : Depths) (at_start in_hard : B
     let whole = p.analysis.tree in
     IsAccepted i (length (undelegated_layout p).body) → IsWritten whole e →
     Serves p (code_of p (λ d. false) depths e at_start in_hard) (λ q. ways q whole e depths) (λ from. whole_key whole)
+    (may_give_up whole e at_start)
 
 -- Delegation is harmless: in a hard context the code of a node hands a list that serves for its ways by the key, and in
 -- an easy one by the easy key.
@@ -96,7 +102,7 @@ DelegationIsHarmless = (i : Input) (e : Tree) (depths : Depths) (at_start in_har
     let whole = p.analysis.tree in
     IsAccepted i (length (layout p).body) → IsWritten whole e →
     Serves p (code_of p (λ d. not (is_hard p.analysis d)) depths e at_start in_hard) (λ q. ways q whole e depths)
-    (λ from. if in_hard then key p else easy_key p from)
+    (λ from. if in_hard then key p else easy_key p from) (may_give_up whole e at_start)
 
 -- ---- what carries it
 
