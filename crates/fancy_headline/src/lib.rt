@@ -4,9 +4,9 @@
 
 ghost use Rattle.fancy_meaning.specs.Theorems.{DelegationIsHarmless, Headline, BacktrackBound, InstructionBound};
 
-/// With every easy node left to a plain search, the code of each node that is written out hands, from each sound state
-/// and wherever it stands, a list that serves for the node's ways: by the key in a hard context, and in an easy one by
-/// the easy key from each place at or before the state's.
+/// With every easy node left to a plain search, the code of the root and of each node that is written out hands, from
+/// each sound state and wherever it stands, a list that serves for its ways: by the key in a hard context, and in an
+/// easy one by the easy key from each place at or before the state's.
 pub fn delegation_is_harmless()
     ensures { DelegationIsHarmless }
 {}

@@ -10,7 +10,7 @@ use Rattle.fancy_meaning.specs.Options.{Plan, RunOptions}
 use Rattle.fancy_meaning.specs.Hard.{is_hard, is_root_hard}
 use Rattle.fancy_meaning.specs.Instr.{Prog}
 use Rattle.fancy_meaning.specs.Code.{Code}
-use Rattle.fancy_meaning.specs.Layout.{written, in_context, called_code, first_fresh, layout, undelegated_layout}
+use Rattle.fancy_meaning.specs.Layout.{written, in_context, root_code, called_code, first_fresh, layout, undelegated_layout}
 use Rattle.fancy_meaning.specs.AnalysisRefusals.{CompileError, AnalysisRefuses}
 use Rattle.fancy_meaning.specs.CompileRefusals.{IsWritten, IsAmong}
 use Rattle.fancy_meaning.specs.Config.{Config, Outcome, Match, NoMatch, BacktrackLimitExceeded, StackOverflow, StepLimitExceeded, Goes}
@@ -78,31 +78,44 @@ Serves p code w by gives_up = (t : Task) (c : Config) (fresh : ℕ) (s : MatchSt
     (gives_up ≡ true → GoesOn t c) → first_fresh p (λ e. false) ≤ fresh → Stands t c s → IsSound q p.analysis.tree s → from ≤ s.place →
     (hs : List MatchState) × Hands t (stretch_of code c fresh) (Goes c) hs × Thins (by from) hs (w q s)
 
--- the code of a part of the tree in its context, where these calls are open
-abbrev pub code_of : Plan → (Tree → Bool) → Depths → Tree → (at_start in_hard : Bool) → Code
-code_of p easy depths e at_start in_hard =
-    let call = called_code p easy (free_calls p.analysis.tree depths) depths in
-    in_context p easy e (written p easy call e at_start) in_hard
+-- the code of a call, where these calls are open
+abbrev pub code_of_call : Plan → (Tree → Bool) → Depths → ℕ → Bool → Code
+code_of_call p easy depths = called_code p easy (free_calls p.analysis.tree depths) depths
 
--- The composed theorem: with every node taken for hard, the code of each node that is written out hands its ways, the
--- same states in the same order, up to repeats.
+-- of the root, as the program has it, and as a call of 0 writes it
+abbrev pub code_of_root : Plan → (Tree → Bool) → Depths → (in_hard : Bool) → Code
+code_of_root p easy depths in_hard = root_code p easy (code_of_call p easy depths) in_hard
+
+-- of a node in its context, by whether a match begins with it
+abbrev pub code_of_node : Plan → (Tree → Bool) → Depths → Tree → (at_start in_hard : Bool) → Code
+code_of_node p easy depths e at_start in_hard = in_context p easy e (written p easy (code_of_call p easy depths) e at_start) in_hard
+
+-- The code of the root serves for the ways of the whole tree, and that of each node that is written out for the node's, by
+-- the key of their context.
+pub record AllServe (p : Plan) (easy : Tree → Bool) (by : (in_hard : Bool) → ℕ → Key) : Type 0 where
+  pub root : (depths : Depths) (in_hard : Bool) →
+      let whole = p.analysis.tree in
+      Serves p (code_of_root p easy depths in_hard) (λ q. ways q whole whole depths) (by in_hard) (begins_with_continue whole whole)
+  pub node : (e : Tree) (depths : Depths) (at_start in_hard : Bool) →
+      let whole = p.analysis.tree in
+      IsWritten whole e →
+      Serves p (code_of_node p easy depths e at_start in_hard) (λ q. ways q whole e depths) (by in_hard)
+      (may_give_up whole e at_start)
+
+-- The composed theorem: with every node taken for hard, the code of the root and of each node that is written out hands its
+-- ways, the same states in the same order, up to repeats.
 abbrev pub ComposedTheorem : Type 0
-ComposedTheorem = (i : Input) (e : Tree) (depths : Depths) (at_start in_hard : Bool) →
+ComposedTheorem = (i : Input) →
     let p = plan i in
-    let whole = p.analysis.tree in
-    IsAccepted i (length (undelegated_layout p).body) → IsWritten whole e →
-    Serves p (code_of p (λ d. false) depths e at_start in_hard) (λ q. ways q whole e depths) (λ from. whole_key whole)
-    (may_give_up whole e at_start)
+    IsAccepted i (length (undelegated_layout p).body) → AllServe p (λ e. false) (λ in_hard from. whole_key p.analysis.tree)
 
--- Delegation is harmless: in a hard context the code of a node hands a list that serves for its ways by the key, and in
--- an easy one by the easy key.
+-- Delegation is harmless: in a hard context the code of the root and of each node that is written out hands a list that
+-- serves for its ways by the key, and in an easy one by the easy key.
 abbrev pub DelegationIsHarmless : Type 0
-DelegationIsHarmless = (i : Input) (e : Tree) (depths : Depths) (at_start in_hard : Bool) →
+DelegationIsHarmless = (i : Input) →
     let p = plan i in
-    let whole = p.analysis.tree in
-    IsAccepted i (length (layout p).body) → IsWritten whole e →
-    Serves p (code_of p (λ d. not (is_hard p.analysis d)) depths e at_start in_hard) (λ q. ways q whole e depths)
-    (λ from. if in_hard then key p else easy_key p from) (may_give_up whole e at_start)
+    IsAccepted i (length (layout p).body) →
+    AllServe p (λ e. not (is_hard p.analysis e)) (λ in_hard from. if in_hard then key p else easy_key p from)
 
 -- ---- what carries it
 
