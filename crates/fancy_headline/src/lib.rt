@@ -2,7 +2,7 @@
 //! ends within a bound. Each theorem is the contract of a function that does nothing.
 #![tactic(auto)]
 
-ghost use Rattle.fancy_meaning.specs.Theorems.{DelegationIsHarmless, Headline, BacktrackBound, InstructionBound};
+ghost use Rattle.fancy_meaning.specs.Theorems.{DelegationIsHarmless, Headline, BranchBound, BacktrackBound, InstructionBound};
 
 /// With every easy node left to a plain search, the code of the root and of each node that is written out hands, from
 /// each sound state and wherever it stands, a list that serves for its ways: by the key in a hard context, and in an
@@ -16,8 +16,13 @@ pub fn headline()
     ensures { Headline }
 {}
 
-/// Where the whole tree is left to a plain search, one backtrack for each start that is tried is enough, and the branches
-/// never are too many.
+/// Where the whole tree is left to a plain search, a run holds at most one branch, whatever its limits are, and so the
+/// branches never are too many.
+pub fn branch_bound()
+    ensures { BranchBound }
+{}
+
+/// Where the whole tree is left to a plain search, one backtrack for each start that is tried is enough.
 pub fn backtrack_bound()
     ensures { BacktrackBound }
 {}

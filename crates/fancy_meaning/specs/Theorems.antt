@@ -14,7 +14,7 @@ use Rattle.fancy_meaning.specs.Layout.{written, in_context, root_code, called_co
 use Rattle.fancy_meaning.specs.AnalysisRefusals.{CompileError, AnalysisRefuses}
 use Rattle.fancy_meaning.specs.CompileRefusals.{IsWritten, IsAmong}
 use Rattle.fancy_meaning.specs.Config.{Config, Outcome, Match, NoMatch, BacktrackLimitExceeded, StackOverflow, StepLimitExceeded, Goes}
-use Rattle.fancy_meaning.specs.Machine.{Task, run}
+use Rattle.fancy_meaning.specs.Machine.{Task, Reaches, run}
 use Rattle.fancy_meaning.specs.Fits.{program_fits}
 use Rattle.fancy_meaning.specs.Laws.{begins_with_continue}
 use Rattle.fancy_meaning.specs.Keys.{Key, whole_key, key, easy_key, Coarser, Thins, Respects}
@@ -70,12 +70,12 @@ abbrev pub may_give_up : Tree → Tree → Bool → Bool
 may_give_up whole e at_start = begins_with_continue whole whole || (at_start && begins_with_continue whole e)
 
 -- Wherever the code stands, it hands from each sound state a list that serves by the key for what these ways give.
--- The key may depend on a place at or before the state's.
+-- The key may depend on a place at or before the state's. Where a `\G` in the code may give up the search, none is to do so.
 abbrev pub Serves : Plan → Code → (Setting → Ways) → (ℕ → Key) → Bool → Type 0
-Serves p code w by gives_up = (t : Task) (c : Config) (fresh : ℕ) (s : MatchState) (from : ℕ) →
+Serves p code w by may_stop = (t : Task) (c : Config) (fresh : ℕ) (s : MatchState) (from : ℕ) →
     let q = (search_of p t.text t.options).setting in
     IsProgramFor p t.program → IsText t.text → HasAt (t.program).body c.pc (code c.pc fresh).instrs →
-    (gives_up ≡ true → GoesOn t c) → first_fresh p (λ e. false) ≤ fresh → Stands t c s → IsSound q p.analysis.tree s → from ≤ s.place →
+    (may_stop ≡ true → GoesOn t c) → first_fresh p (λ e. false) ≤ fresh → Stands t c s → IsSound q p.analysis.tree s → from ≤ s.place →
     (hs : List MatchState) × Hands t (stretch_of code c fresh) (Goes c) hs × Thins (by from) hs (w q s)
 
 -- the code of a call, where these calls are open
@@ -161,13 +161,21 @@ EasyRun i text o =
 abbrev pub tried : Input → List ℕ → RunOptions → ℕ
 tried i text o = length (starts (search_of (plan i) text o))
 
-abbrev pub outcome : Input → List ℕ → RunOptions → Outcome
-outcome i text o = run (record { program = layout (plan i); text = text; options = o })
+abbrev pub task : Input → List ℕ → RunOptions → Task
+task i text o = record { program = layout (plan i); text = text; options = o }
 
--- one backtrack for each start is enough, and the branches never are too many
+abbrev pub outcome : Input → List ℕ → RunOptions → Outcome
+outcome i text o = run (task i text o)
+
+-- At most one branch is held, whatever the limits are, so the branches never are too many.
+abbrev pub BranchBound : Type 0
+BranchBound = (i : Input) (text : List ℕ) (o : RunOptions) → EasyRun i text o →
+    ((n : ℕ) (c : Config) → Reaches (task i text o) n c → length c.branches ≤ 1) × (outcome i text o ≢ StackOverflow)
+
+-- one backtrack for each start is enough
 abbrev pub BacktrackBound : Type 0
 BacktrackBound = (i : Input) (text : List ℕ) (o : RunOptions) → EasyRun i text o → tried i text o ≤ o.backtrack_limit →
-    (outcome i text o ≢ BacktrackLimitExceeded) × (outcome i text o ≢ StackOverflow)
+    outcome i text o ≢ BacktrackLimitExceeded
 
 -- eight instructions for each start are enough
 abbrev pub InstructionBound : Type 0
