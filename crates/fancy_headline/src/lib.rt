@@ -2,7 +2,7 @@
 //! ends within a bound. Each theorem is the contract of a function that does nothing.
 #![tactic(auto)]
 
-ghost use Rattle.fancy_meaning.specs.Theorems.{DelegationIsHarmless, Headline, BranchBound, BacktrackBound, InstructionBound};
+ghost use Rattle.fancy_meaning.specs.Theorems.{DelegationIsHarmless, Headline, EarlyNone, BranchBound, BacktrackBound, InstructionBound};
 
 /// With every easy node left to a plain search, the code of the root and of each node that is written out hands, from
 /// each sound state and wherever it stands, a list that serves for its ways: by the key in a hard context, and in an
@@ -14,6 +14,12 @@ pub fn delegation_is_harmless()
 /// Each run of the program of an accepted tree passes a limit, or gives the answer of the plain meaning.
 pub fn headline()
     ensures { Headline }
+{}
+
+/// Where a `\G` ends a run of an accepted tree's program early with nothing matched, no start that is tried has an
+/// admitted way: so it is with delegates and without.
+pub fn early_none()
+    ensures { EarlyNone }
 {}
 
 /// Where the whole tree is left to a plain search, a run holds at most one branch, whatever its limits are, and so the

@@ -1,5 +1,5 @@
 -- The theorems on programs, as types.
-use Rattle.std.specs.Prelude.{◌≡◌, ◌≢◌, ◌↔◌, ℕ, ◌*◌, ◌+◌, ◌≤◌, ◌⊎◌, Bool, true, false, ◌&&◌, ◌||◌, not, List, length, flat_map, Contains, Option, Some, None, IsTrue, IsFalse, if◌then◌else◌}
+use Rattle.std.specs.Prelude.{◌≡◌, ◌≢◌, ◌↔◌, ℕ, ◌*◌, ◌+◌, ◌≤◌, ◌⊎◌, Bool, true, false, ◌&&◌, ◌||◌, not, List, length, flat_map, Contains, Option, Some, None, IsTrue, IsFalse, if◌then◌else◌, ◌==◌, slice_get}
 use Rattle.fancy_meaning.specs.Tree.{Tree, parts, Group, DefineGroup}
 use Rattle.fancy_meaning.specs.Nodes.{nodes, group_count, is_read}
 use Rattle.fancy_meaning.specs.OpenCalls.{Depths, free_calls}
@@ -8,13 +8,13 @@ use Rattle.fancy_meaning.specs.Ways.{Setting, ways}
 use Rattle.fancy_meaning.specs.Answer.{search_of, starts, answer}
 use Rattle.fancy_meaning.specs.Options.{Plan, RunOptions}
 use Rattle.fancy_meaning.specs.Hard.{is_hard, is_root_hard}
-use Rattle.fancy_meaning.specs.Instr.{Prog}
+use Rattle.fancy_meaning.specs.Instr.{Prog, ContinueFromPreviousMatchEnd}
 use Rattle.fancy_meaning.specs.Code.{Code}
 use Rattle.fancy_meaning.specs.Layout.{written, in_context, root_code, called_code, first_fresh, layout, undelegated_layout}
 use Rattle.fancy_meaning.specs.AnalysisRefusals.{CompileError, AnalysisRefuses}
 use Rattle.fancy_meaning.specs.CompileRefusals.{IsWritten, IsAmong}
 use Rattle.fancy_meaning.specs.Config.{Config, Outcome, Match, NoMatch, BacktrackLimitExceeded, StackOverflow, StepLimitExceeded, Goes}
-use Rattle.fancy_meaning.specs.Machine.{Task, Reaches, run}
+use Rattle.fancy_meaning.specs.Machine.{Task, gives_up, Reaches, run}
 use Rattle.fancy_meaning.specs.Fits.{program_fits}
 use Rattle.fancy_meaning.specs.Laws.{begins_with_continue}
 use Rattle.fancy_meaning.specs.Keys.{Key, whole_key, key, easy_key, Coarser, Thins, Respects}
@@ -49,6 +49,27 @@ Headline = (i : Input) (text : List ℕ) (o : RunOptions) → IsAccepted i (leng
 abbrev pub UndelegatedHeadline : Type 0
 UndelegatedHeadline = (i : Input) (text : List ℕ) (o : RunOptions) → IsAccepted i (length (undelegated_layout (plan i)).body) → IsFit i text o →
     Answers (plan i) (undelegated_layout (plan i)) text o
+
+-- ---- the answer that a `\G` gives early
+
+-- a marked `\G` stands here, does not hold, and gives up the search
+pub record GivesUp (t : Task) (c : Config) : Type 0 where
+  pub at_start : Bool
+  pub stands : slice_get (t.program).body c.pc ≡ Some (ContinueFromPreviousMatchEnd at_start)
+  pub fails : (c.ix == t.pos && t.continued) ≡ false
+  pub is_last : gives_up t at_start c ≡ true
+
+-- where a run comes to that, no start that is tried has an admitted way
+abbrev pub GivesUpRightly : Plan → Prog → List ℕ → RunOptions → Type 0
+GivesUpRightly p program text o =
+    let t : Task = record { program = program; text = text; options = o } in
+    (n : ℕ) (c : Config) → Reaches t n c → GivesUp t c → answer (search_of p text o) ≡ None
+
+-- So it is in each run of an accepted tree's program, with delegates and without.
+abbrev pub EarlyNone : Type 0
+EarlyNone = (i : Input) (text : List ℕ) (o : RunOptions) → IsFit i text o →
+    (IsAccepted i (length (layout (plan i)).body) → GivesUpRightly (plan i) (layout (plan i)) text o)
+    × (IsAccepted i (length (undelegated_layout (plan i)).body) → GivesUpRightly (plan i) (undelegated_layout (plan i)) text o)
 
 -- ---- a node hands its ways
 
