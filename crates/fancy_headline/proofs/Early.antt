@@ -1,9 +1,9 @@
 -- Where a `\G` gives up the search, there is no answer: the run that ends there with nothing matched answers what the tree means.
-use Rattle.std.proofs.Common.{◌≡◌, ◌⊎◌, ⊎_elim, ℕ, zero, suc, if◌then◌else◌, length, List, Option, Some, None, refl, sym, ap, ◌∙◌, subst}
+use Rattle.std.proofs.Common.{◌≡◌, ⊎_elim, ℕ, zero, suc, if◌then◌else◌, List, Option, Some, None, refl, sym, ap, ◌∙◌, subst}
 use Rattle.fancy_meaning.specs.Options.{Plan, RunOptions}
 use Rattle.fancy_meaning.specs.Answer.{search_of, answer}
 use Rattle.fancy_meaning.specs.Instr.{Prog}
-use Rattle.fancy_meaning.specs.Config.{Config, Outcome, NoMatch, Next, Goes, Ends, forward}
+use Rattle.fancy_meaning.specs.Config.{Config, NoMatch, Next, Goes, Ends, forward}
 use Rattle.fancy_meaning.specs.Machine.{Task, gives_up, fail, step_at, step_on, then_on, exec, begin, after_steps, run}
 use Rattle.fancy_meaning.specs.Hands.{IsLimit, outcome_after}
 use Rattle.fancy_meaning.specs.Premises.{plan}
