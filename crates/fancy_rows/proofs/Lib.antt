@@ -28,3 +28,4 @@ mod CallPlaces
 pub mod PlainTrees
 mod WrittenParts
 mod AcceptedInputs
+mod Reached
