@@ -26,10 +26,10 @@ use Rattle.fancy_composed.proofs.Reduced.{alike_thins}
 use Rattle.fancy_composed.proofs.Serving.{stands_here, handed_by}
 
 -- where no `\G` gives up, none may
-may_stop : (w : Ground) (c : Config) → GoesOn w.task c → length c.branches ≡ length w.base → MayStop w
-may_stop w c (no_search e) same search anchored = absurd (true≢false (sym search ∙ e))
-may_stop w c (one_start e) same search anchored = absurd (true≢false (sym e ∙ anchored))
-may_stop w c (two_branches le) same search anchored = (omega (arith, same, le), λ one. absurd (omega (arith, one, same, le)))
+none_gives_up : (w : Ground) (c : Config) → GoesOn w.task c → length c.branches ≡ length w.base → MayStop w
+none_gives_up w c (no_search e) same search anchored = absurd (true≢false (sym search ∙ e))
+none_gives_up w c (one_start e) same search anchored = absurd (true≢false (sym e ∙ anchored))
+none_gives_up w c (two_branches le) same search anchored = (omega (arith, same, le), λ one. absurd (omega (arith, one, same, le)))
 
 -- the first slot of the plan is the first of the program
 pub first_slot : (w : Ground) → (w.plan).analysis.explicit_capture_group_0 ≡ false → first w ≡ first_fresh w.plan never
@@ -52,17 +52,17 @@ module _ (i : Input) (accepted : IsAccepted i (length (undelegated_layout (plan 
   begins = begins_with_continue tree
 
   -- a node that is written out, where a `\G` in its code may give up only by this test
-  serves : (e : Tree) (depths : Depths) (at_start in_hard gives_up : Bool) → IsWritten tree e →
-      (begins tree ≡ true → gives_up ≡ true) → (at_start ≡ true → begins e ≡ true → gives_up ≡ true) →
+  serves : (e : Tree) (depths : Depths) (at_start in_hard may_stop : Bool) → IsWritten tree e →
+      (begins tree ≡ true → may_stop ≡ true) → (at_start ≡ true → begins e ≡ true → may_stop ≡ true) →
       Serves (plan i) (code_of_node (plan i) never depths e at_start in_hard) (λ q. ways q tree e depths)
-      (λ from. whole_key tree) gives_up
-  serves e depths at_start in_hard gives_up wr by_call by_node t c fresh s from fits is_text has goes_on le st so le' =
+      (λ from. whole_key tree) may_stop
+  serves e depths at_start in_hard may_stop wr by_call by_node t c fresh s from fits is_text has goes_on le st so le' =
       let bottom : ℕ → _ = λ count. after t (fail_to t c.branches (config 0 0 (λ k. 0) [] [] c.start count)) in
       let falls : (count : ℕ) → To (after t (fail_to t c.branches (config 0 0 (λ k. 0) [] [] c.start count))) (bottom count) =
       λ count. to_same in
       let w : Ground = ground i (length (undelegated_layout (plan i)).body) accepted t is_text fits c.start c.branches bottom falls in
       let r : Ready w = ready i (length (undelegated_layout (plan i)).body) accepted t is_text fits c.start c.branches bottom falls in
-      let stop : gives_up ≡ true → MayStop w = λ may. may_stop w c (goes_on may) refl in
+      let stop : may_stop ≡ true → MayStop w = λ may. none_gives_up w c (goes_on may) refl in
       let works =
       tree_works w r depths (calls_work w r (λ x. stop (by_call x)) (free_calls tree depths) depths refl) e wr at_start in_hard
       (λ x y. stop (by_node x y)) in

@@ -81,19 +81,22 @@ module _ (batches : BatchesWork) (repeaters : EasyRepeatersWork) (i : Input) (ac
   abbrev above : (t : Task) → IsText t.text → IsProgramFor (plan i) t.program → Config → Ground
   above t is_text fits c = w i (length (layout (plan i)).body) accepted t is_text fits c.start c.branches (bottom t c) (λ count. to_same)
 
-  abbrev given : (t : Task) (is_text : IsText t.text) (fits : IsProgramFor (plan i) t.program) (c : Config) → (begins tree ≡ true → MayStop (above t is_text fits c)) → Setup
+  abbrev given : (t : Task) (is_text : IsText t.text) (fits : IsProgramFor (plan i) t.program) (c : Config) →
+      (begins tree ≡ true → MayStop (above t is_text fits c)) → Setup
   given t is_text fits c stop =
       setup i (length (layout (plan i)).body) accepted t is_text fits c.start c.branches (bottom t c) (λ count. to_same) stop
-      (batches i accepted t is_text fits c.start c.branches (bottom t c) (λ count. to_same)) (repeaters i accepted t is_text fits c.start c.branches (bottom t c) (λ count. to_same))
+      (batches i accepted t is_text fits c.start c.branches (bottom t c) (λ count. to_same))
+      (repeaters i accepted t is_text fits c.start c.branches (bottom t c) (λ count. to_same))
 
   -- code that hands a list that serves, above all branches, where a `\G` in it may give up only by this test
-  serves : (depths : Depths) (in_hard gives_up : Bool) (code : Code) (f : Setting → Ways) → (begins tree ≡ true → gives_up ≡ true) →
-      ((t : Task) (is_text : IsText t.text) (fits : IsProgramFor (plan i) t.program) (c : Config) (stop : begins tree ≡ true → MayStop (above t is_text fits c)) →
-      (gives_up ≡ true → MayStop (above t is_text fits c)) → Thinned (given t is_text fits c stop) depths in_hard code (f (search_of (plan i) t.text t.options).setting)) →
-      Serves (plan i) code f (λ from. if in_hard then key (plan i) else easy_key (plan i) from) gives_up
-  serves depths in_hard gives_up code f by_call thinned t c fresh s from fits is_text has goes_on le st so le' =
+  serves : (depths : Depths) (in_hard may_stop : Bool) (code : Code) (f : Setting → Ways) → (begins tree ≡ true → may_stop ≡ true) →
+      ((t : Task) (is_text : IsText t.text) (fits : IsProgramFor (plan i) t.program) (c : Config)
+      (stop : begins tree ≡ true → MayStop (above t is_text fits c)) → (may_stop ≡ true → MayStop (above t is_text fits c)) →
+      Thinned (given t is_text fits c stop) depths in_hard code (f (search_of (plan i) t.text t.options).setting)) →
+      Serves (plan i) code f (λ from. if in_hard then key (plan i) else easy_key (plan i) from) may_stop
+  serves depths in_hard may_stop code f by_call thinned t c fresh s from fits is_text has goes_on le st so le' =
       let g = above t is_text fits c in
-      let stop : gives_up ≡ true → MayStop g = λ may. none_gives_up g c (goes_on may) refl in
+      let stop : may_stop ≡ true → MayStop g = λ may. none_gives_up g c (goes_on may) refl in
       let h = thinned t is_text fits c (λ x. stop (by_call x)) stop in
       let works : Works g code h.handed = h.works in
       let laid = code c.pc fresh in

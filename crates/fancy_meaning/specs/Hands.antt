@@ -63,15 +63,16 @@ module _ (t : Task) where
   abbrev pub IsOutsideState : ℕ → Type 0
   IsOutsideState k = (k ≡ 1) ⊎ (flag_slot t.program + bit (t.program).end_text ≤ k)
 
-  -- At c the part is left with state s, over branches of its own. Slots outside the state that it did not take are as at its
-  -- entry.
+  -- At c the part is left with state s, over branches of its own. Slots outside the state that it did not take are as at
+  -- its entry.
   pub record IsLeft (part : Stretch) (s : MatchState) (c : Config) (own : List _) : Type 0 where
     pub at_exit : c.pc ≡ part.exit
     pub branches : c.branches ≡ own ++ (part.entry).branches
     pub marks : c.marks ≡ (part.entry).marks
     pub start : c.start ≡ (part.entry).start
     pub stands : Stands c s
-    pub keeps : (k : ℕ) → IsOutsideState k → (k < part.taken_from) ⊎ (part.taken_to ≤ k) → c.slots k ≡ (part.entry).slots k
+    pub keeps : (k : ℕ) → IsOutsideState k → (k < part.taken_from) ⊎ (part.taken_to ≤ k) →
+        c.slots k ≡ (part.entry).slots k
 
   -- the part is left with these states in turn, and after the last it fails into the branches below
   pub data Hands (part : Stretch) : Next → List MatchState → Type 0 where

@@ -69,7 +69,8 @@ GivesUpRightly p program text o =
 abbrev pub EarlyNone : Type 0
 EarlyNone = (i : Input) (text : List ℕ) (o : RunOptions) → IsFit i text o →
     (IsAccepted i (length (layout (plan i)).body) → GivesUpRightly (plan i) (layout (plan i)) text o)
-    × (IsAccepted i (length (undelegated_layout (plan i)).body) → GivesUpRightly (plan i) (undelegated_layout (plan i)) text o)
+    × (IsAccepted i (length (undelegated_layout (plan i)).body) →
+    GivesUpRightly (plan i) (undelegated_layout (plan i)) text o)
 
 -- ---- a node hands its ways
 
@@ -86,17 +87,19 @@ pub record IsProgramFor (p : Plan) (program : Prog) : Type 0 where
   pub end_text : program.end_text ≡ p.end_text
   pub unicode : program.unicode ≡ p.unicode
 
--- a `\G` in the code of the node may give up the search: the tree begins with one, or the node does where a match begins
+-- A `\G` in the code of the node may give up the search: the tree begins with one, or the node does where a match begins.
 abbrev pub may_give_up : Tree → Tree → Bool → Bool
 may_give_up whole e at_start = begins_with_continue whole whole || (at_start && begins_with_continue whole e)
 
 -- Wherever the code stands, it hands from each sound state a list that serves by the key for what these ways give.
--- The key may depend on a place at or before the state's. Where a `\G` in the code may give up the search, none is to do so.
+-- The key may depend on a place at or before the state's. Where a `\G` in the code may give up the search, it stands above
+-- branches where none does.
 abbrev pub Serves : Plan → Code → (Setting → Ways) → (ℕ → Key) → Bool → Type 0
 Serves p code w by may_stop = (t : Task) (c : Config) (fresh : ℕ) (s : MatchState) (from : ℕ) →
     let q = (search_of p t.text t.options).setting in
     IsProgramFor p t.program → IsText t.text → HasAt (t.program).body c.pc (code c.pc fresh).instrs →
-    (may_stop ≡ true → GoesOn t c) → first_fresh p (λ e. false) ≤ fresh → Stands t c s → IsSound q p.analysis.tree s → from ≤ s.place →
+    (may_stop ≡ true → GoesOn t c) → first_fresh p (λ e. false) ≤ fresh → Stands t c s → IsSound q p.analysis.tree s →
+    from ≤ s.place →
     (hs : List MatchState) × Hands t (stretch_of code c fresh) (Goes c) hs × Thins (by from) hs (w q s)
 
 -- the code of a call, where these calls are open
@@ -109,26 +112,29 @@ code_of_root p easy depths in_hard = root_code p easy (code_of_call p easy depth
 
 -- of a node in its context, by whether a match begins with it
 abbrev pub code_of_node : Plan → (Tree → Bool) → Depths → Tree → (at_start in_hard : Bool) → Code
-code_of_node p easy depths e at_start in_hard = in_context p easy e (written p easy (code_of_call p easy depths) e at_start) in_hard
+code_of_node p easy depths e at_start in_hard =
+    in_context p easy e (written p easy (code_of_call p easy depths) e at_start) in_hard
 
--- The code of the root serves for the ways of the whole tree, and that of each node that is written out for the node's, by
--- the key of their context.
+-- The code of the root serves for the ways of the whole tree, and that of each node that is written out for the node's,
+-- by the key of their context.
 pub record AllServe (p : Plan) (easy : Tree → Bool) (by : (in_hard : Bool) → ℕ → Key) : Type 0 where
   pub root : (depths : Depths) (in_hard : Bool) →
       let whole = p.analysis.tree in
-      Serves p (code_of_root p easy depths in_hard) (λ q. ways q whole whole depths) (by in_hard) (begins_with_continue whole whole)
+      Serves p (code_of_root p easy depths in_hard) (λ q. ways q whole whole depths) (by in_hard)
+      (begins_with_continue whole whole)
   pub node : (e : Tree) (depths : Depths) (at_start in_hard : Bool) →
       let whole = p.analysis.tree in
       IsWritten whole e →
       Serves p (code_of_node p easy depths e at_start in_hard) (λ q. ways q whole e depths) (by in_hard)
       (may_give_up whole e at_start)
 
--- The composed theorem: with every node taken for hard, the code of the root and of each node that is written out hands its
--- ways, the same states in the same order, up to repeats.
+-- The composed theorem: with every node taken for hard, the code of the root and of each node that is written out hands
+-- its ways, the same states in the same order, up to repeats.
 abbrev pub ComposedTheorem : Type 0
 ComposedTheorem = (i : Input) →
     let p = plan i in
-    IsAccepted i (length (undelegated_layout p).body) → AllServe p (λ e. false) (λ in_hard from. whole_key p.analysis.tree)
+    IsAccepted i (length (undelegated_layout p).body) →
+    AllServe p (λ e. false) (λ in_hard from. whole_key p.analysis.tree)
 
 -- Delegation is harmless: in a hard context the code of the root and of each node that is written out hands a list that
 -- serves for its ways by the key, and in an easy one by the easy key.
