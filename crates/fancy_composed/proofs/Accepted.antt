@@ -9,7 +9,6 @@ use Rattle.fancy_meaning.specs.OpenCalls.{Depths, opened, call_depth, free_calls
 use Rattle.fancy_meaning.specs.Hard.{is_hard}
 use Rattle.fancy_meaning.specs.Code.{Code, nothing}
 use Rattle.fancy_meaning.specs.Constructs.{absent_code}
-use Rattle.fancy_meaning.specs.Instr.{Prog}
 use Rattle.fancy_meaning.specs.Layout.{absent_repeater_code, is_at_start}
 use Rattle.fancy_meaning.specs.Config.{Branch}
 use Rattle.fancy_meaning.specs.Machine.{Task, fail_to}

@@ -1,5 +1,5 @@
 -- Parts by construct: choices, groups, atomic parts, look-around and conditionals.
-use Rattle.std.proofs.Common.{◌≡◌, ℕ, ◌+◌, ◌*◌, ◌<◌, ◌≤◌, Bool, if◌then◌else◌, List, [], ◌∷◌, ◌++◌, length, map, flat_map, take, Option, Some, None, refl, sym, ap, ap₂, ◌∙◌, arith, inl, ⊎_elim}
+use Rattle.std.proofs.Common.{◌≡◌, ℕ, ◌+◌, ◌*◌, ◌<◌, ◌≤◌, Bool, if◌then◌else◌, List, [], ◌∷◌, ◌++◌, length, map, flat_map, take, Option, Some, None, refl, sym, ap, ap₂, ◌∙◌, arith, inl, inr, ⊎_elim}
 use Rattle.std.specs.Prelude.{slice_get}
 use Rattle.std.proofs.lemmas.Bool.Decides.{eqb_tells}
 use Rattle.fancy_meaning.specs.Hands.{start_number, end_number}
@@ -14,7 +14,7 @@ use Rattle.fancy_meaning.specs.Constructs.{split}
 use Rattle.fancy_composed.proofs.Courses.{To, to_same, to_eq, to_trans, after, Ground, here, go, failed, step_at_pc, pushed}
 use Rattle.fancy_composed.proofs.Alike.{Among}
 use Rattle.fancy_composed.proofs.Hands.{Hands, none, from, weaken, known, append, mapped, lead, cut, turned, forked, fork_split, chosen, from_first, where_none}
-use Rattle.fancy_composed.proofs.Parts.{put_same, put_other, outside_not, at_place, Sound, flag, first, body, flag_is, Stands, After, Part, after_trans, after_move, stands_put, stands_moved, part_wider, outside_more, whole}
+use Rattle.fancy_composed.proofs.Parts.{put_same, put_other, outside_state, outside_not, at_place, Sound, flag, first, body, flag_is, Stands, After, Part, after_trans, after_move, stands_put, stands_moved, part_wider, outside_more, whole}
 
 module _ (w : Ground) where
   pub part_fails : (a b n m : ℕ) → slice_get (body w) a ≡ Some Fail → Part w a b n m (λ s. [])
@@ -65,7 +65,7 @@ module _ (w : Ground) where
       first w ≤ n → n < m → slice_get (body w) b ≡ Some (Restore n) → b + 1 ≡ c → After w (n + 1) m (put n s.place slots) h r →
       After w n m slots (moved_to s.place h) r × To (go w b h.place r marks cs count) (go w c s.place r marks cs count)
   restored a b c n m s h slots r marks cs count ok fresh lt at e af =
-      let v : r n ≡ s.place = af.keeps n fresh (inl (omega arith)) ∙ put_same slots n n s.place refl in
+      let v : r n ≡ s.place = af.keeps n (inr fresh) (inl (omega arith)) ∙ put_same slots n n s.place refl in
       let d : Config = here w b h.place r marks cs count in (
         record {
           stands = stands_moved w h s.place r af.stands;
@@ -168,12 +168,13 @@ module _ (w : Ground) where
         from w (step_at_pc w (SaveCaptureGroupStart g n) a s.place slots marks bs count start)
         (mapped w (λ t. with_span g (s.place, t.place) t) (λ h r. paired g s.place h.place r) (f s) (omega arith)
         (λ h r cs count' af.
-        let v : r n ≡ s.place = af.keeps n fresh (inl (omega arith)) ∙ put_same slots n n s.place refl in (
+        let v : r n ≡ s.place = af.keeps n (inr fresh) (inl (omega arith)) ∙ put_same slots n n s.place refl in (
           record {
             stands = stands_paired g s.place h r pos le af.stands;
             keeps = λ k lo out.
-                put_other (put (2 * g) s.place r) (2 * g + 1) k h.place (λ x. omega (arith, flag_is w))
-                ∙ put_other r (2 * g) k s.place (λ x. omega (arith, flag_is w))
+                put_other (put (2 * g) s.place r) (2 * g + 1) k h.place
+                (outside_state w k (2 * g + 1) lo (λ x. omega arith) (omega (arith, flag_is w)))
+                ∙ put_other r (2 * g) k s.place (outside_state w k (2 * g) lo (λ x. omega arith) (omega (arith, flag_is w)))
                 ∙ af.keeps k lo (outside_more n m (n + 1) m k (omega arith) (omega arith) out)
                 ∙ put_other slots n k s.place (outside_not n m n k (omega arith) lt out);
           },

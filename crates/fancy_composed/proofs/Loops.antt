@@ -1,5 +1,5 @@
 -- Loops that count their iterations.
-use Rattle.std.proofs.Common.{◌≡◌, ◌≢◌, ℕ, zero, suc, ◌+◌, ◌-◌, ◌<◌, ◌≤◌, min, Bool, true, false, ◌&&◌, nat_lt, nat_le, ◌==◌, if◌then◌else◌, List, [], ◌∷◌, length, flat_map, Option, Some, None, unwrap_or, refl, sym, ap, ap₂, ◌∙◌, subst, arith, inl, ⊎_elim}
+use Rattle.std.proofs.Common.{◌≡◌, ◌≢◌, ℕ, zero, suc, ◌+◌, ◌-◌, ◌<◌, ◌≤◌, min, Bool, true, false, ◌&&◌, nat_lt, nat_le, ◌==◌, if◌then◌else◌, List, [], ◌∷◌, length, flat_map, Option, Some, None, unwrap_or, refl, sym, ap, ap₂, ◌∙◌, subst, arith, inl, inr, ⊎_elim}
 use Rattle.std.specs.Prelude.{slice_get}
 use Rattle.std.proofs.lemmas.Bool.{eq-eqb, ne_eqb, le-leb, lt-leb, lt-ltb, le-ltb}
 use Rattle.std.proofs.lemmas.Bool.Decides.{eqb_tells}
@@ -82,7 +82,7 @@ module _ (w : Ground) (a b c n k m : ℕ) (f : Ways) (fresh : first w ≤ n) (lk
         after_put w n m n (suc (slots n)) s slots slots fresh (omega arith) (omega arith) (after_move w n m s slots st)
 
     kept : (slots r : Slots) (h : MatchState) → After w k m (put n (suc (slots n)) slots) h r → r n ≡ suc (slots n)
-    kept slots r h af = af.keeps n fresh (inl (omega arith)) ∙ put_same slots n n (suc (slots n)) refl
+    kept slots r h af = af.keeps n (inr fresh) (inl (omega arith)) ∙ put_same slots n n (suc (slots n)) refl
 
     -- at most so many more
     may : (greatest : ℕ) → hi ≡ Some greatest → greatest < usize_max →
@@ -214,11 +214,11 @@ module _ (w : Ground) (a b c n k m : ℕ) (f : Ways) (fresh : first w ≤ n) (lk
         (forked w greedy a (a + 1) c s.place slots1 count (omega arith) (omega arith)
         (λ cs j. iterate (if_moved s (unbounded fuel greedy f)) s slots slots1 marks cs j ok af (λ h r ds i so m' ag.
         let count_is : r n ≡ x =
-        ag.keeps n fresh (inl lk)
+        ag.keeps n (inr fresh) (inl lk)
         ∙ put_other (put n x slots) (n + 1) n s.place (λ y. omega arith)
         ∙ put_same slots n n x refl in
         let check_is : r (n + 1) ≡ s.place =
-        ag.keeps (n + 1) (omega arith) (inl lk') ∙ put_same (put n x slots) (n + 1) (n + 1) s.place refl in
+        ag.keeps (n + 1) (inr (omega arith)) (inl lk') ∙ put_same (put n x slots) (n + 1) (n + 1) s.place refl in
         let is : (nat_lt lo (r n) && r (n + 1) == h.place) ≡ (s.place == h.place) =
         ap₂ (λ v y. v && y == h.place) (lt-ltb lo (r n) (omega arith)) check_is in
         let on = (keeps s h ok m').1 in
@@ -250,5 +250,5 @@ module _ (w : Ground) (a b c n k m : ℕ) (f : Ways) (fresh : first w ≤ n) (lk
         (iterate (required need f (λ t. unbounded (suc (length (w.task).text) - t.place) greedy f t)) s slots (more slots) marks bs count ok
         (after_put w n m n (suc (slots n)) s slots slots fresh (omega arith) (omega arith) (after_move w n m s slots st))
         (λ h r ds i so m' ag.
-        let q : r n ≡ suc (slots n) = ag.keeps n fresh (inl lk) ∙ put_same slots n n (suc (slots n)) refl in
+        let q : r n ≡ suc (slots n) = ag.keeps n (inr fresh) (inl lk) ∙ put_same slots n n (suc (slots n)) refl in
         must_checked need h r marks ds i (omega arith) so ag.stands))

@@ -1,5 +1,5 @@
 -- Parts of a program, and how they join.
-use Rattle.std.proofs.Common.{◌≡◌, ◌≢◌, ◌⊎◌, ℕ, ◌+◌, ◌*◌, ◌<◌, ◌≤◌, Bool, true, false, if◌then◌else◌, ◌&&◌, nat_le, List, [], ◌∷◌, length, flat_map, Option, Some, None, refl, ap, ◌∙◌, subst, arith, inl, inr, ⊎_elim}
+use Rattle.std.proofs.Common.{◌≡◌, ◌≢◌, ◌⊎◌, ℕ, ◌+◌, ◌*◌, ◌<◌, ◌≤◌, Bool, true, false, if◌then◌else◌, ◌&&◌, nat_le, List, [], ◌∷◌, length, flat_map, Option, Some, None, refl, sym, ap, ◌∙◌, subst, arith, inl, inr, ⊎_elim}
 use Rattle.std.specs.Prelude.{slice_get}
 use Rattle.std.proofs.lemmas.Bool.{ne_eqb, eq-eqb, leb-true}
 use Rattle.regex_hir.specs.Text.{is_boundary}
@@ -16,7 +16,7 @@ use Rattle.fancy_meaning.specs.Code.{Code}
 use Rattle.fancy_meaning.specs.Config.{Slots, Branch}
 use Rattle.fancy_meaning.specs.Machine.{flag_slot, goes_from, step}
 use Rattle.fancy_meaning.specs.Keys.{bit}
-use Rattle.fancy_meaning.specs.Hands.{HasAt, start_number, end_number}
+use Rattle.fancy_meaning.specs.Hands.{HasAt, start_number, end_number, IsOutsideState}
 use Rattle.fancy_meaning.specs.Premises.{IsSound}
 use Rattle.fancy_composed.proofs.Courses.{to_same, to_eq, to_trans, after, Ground, here, go, failed, step_at_pc}
 use Rattle.fancy_composed.proofs.Alike.{Among, Alike}
@@ -84,6 +84,10 @@ module _ (w : Ground) where
       (w.fits).implicit_group_0
       ∙ (let e = (w.fits).total_groups in omega arith)
 
+  -- a slot outside the state is none of these
+  pub outside_state : (k i : ℕ) → IsOutsideState w.task k → i ≢ 1 → i < first → k ≢ i
+  outside_state k i out ne lt = ⊎_elim {C = k ≢ i} (λ e x. ne (sym x ∙ e)) (λ le x. omega (arith, le, x, lt)) out
+
   pub sound_within : (s : MatchState) → Sound s → s.place ≤ length (w.task).text
   sound_within s ok = place_within (w.task).text s.place ok.place
 
@@ -97,7 +101,7 @@ module _ (w : Ground) where
   -- what a part leaves that takes the slots from n to m
   pub record After (n m : ℕ) (slots : Slots) (h : MatchState) (r : Slots) : Type 0 where
     pub stands : Stands h r
-    pub keeps : (k : ℕ) → first ≤ k → Outside n m k → r k ≡ slots k
+    pub keeps : (k : ℕ) → IsOutsideState w.task k → Outside n m k → r k ≡ slots k
 
   -- from a to b a part hands what f gives, with fresh slots from n to m
   pub record Part (a b n m : ℕ) (f : Ways) : Type 0 where

@@ -14,11 +14,11 @@ use Rattle.fancy_meaning.specs.Code as code
 use Rattle.fancy_meaning.specs.Keys.{bit}
 use Rattle.fancy_meaning.specs.Config.{forward, with_slot, Slots, Branch, Config, NoMatch, Goes, Ends}
 use Rattle.fancy_meaning.specs.Machine.{flagged, step, fail, fail_to, is_search, gives_up, goes_if}
-use Rattle.fancy_meaning.specs.Hands.{end_number}
+use Rattle.fancy_meaning.specs.Hands.{end_number, IsOutsideState}
 use Rattle.fancy_composed.proofs.Courses.{To, to_same, to_eq, to_trans, after, Ground, here, go, resume, failed, step_at_pc}
 use Rattle.fancy_composed.proofs.Alike.{alike_same}
 use Rattle.fancy_composed.proofs.Hands.{Hands, none, from, one}
-use Rattle.fancy_composed.proofs.Parts.{put_same, put_other, place_within, both_left, both_right, Sound, setting, flag, flag_is, first, body, whole, Stands, After, Works, after_move}
+use Rattle.fancy_composed.proofs.Parts.{put_same, put_other, place_within, both_left, both_right, Sound, setting, flag, flag_is, first, body, whole, outside_state, Stands, After, Works, after_move}
 use Rattle.fancy_composed.proofs.Works.{works_as}
 
 module _ (w : Ground) where
@@ -79,7 +79,7 @@ module _ (w : Ground) where
           ends = λ g lo hi. put_other slots 0 (2 * g + 1) s.place (λ x. omega arith) ∙ st.ends g lo hi;
           flagged = λ e. put_other slots 0 (flag w) s.place (λ x. omega (arith, flag_is w)) ∙ st.flagged e;
         };
-        keeps = λ k lo out. put_other slots 0 k s.place (λ x. omega (arith, flag_is w));
+        keeps = λ k lo out. put_other slots 0 k s.place (outside_state w k 0 lo (λ x. omega arith) (omega (arith, flag_is w)));
       })
       (λ s slots a marks bs count ok st. refl)
 
@@ -102,9 +102,11 @@ module _ (w : Ground) where
   stands_met false true is s slots st = st
   stands_met false false is s slots st = st
 
-  met_other : (u v : Bool) → ((w.task).program).end_text ≡ v → (slots : Slots) (k : ℕ) → first w ≤ k →
+  met_other : (u v : Bool) → ((w.task).program).end_text ≡ v → (slots : Slots) (k : ℕ) → IsOutsideState w.task k →
       met_slots (v && u) slots k ≡ slots k
-  met_other true true is slots k lo = let b = ap bit is in put_other slots (flag w) k 1 (λ x. omega (arith, b, lo, x))
+  met_other true true is slots k lo =
+      let b = ap bit is in
+      put_other slots (flag w) k 1 (outside_state w k (flag w) lo (λ x. omega (arith, flag_is w, x)) (omega (arith, b)))
   met_other true false is slots k lo = refl
   met_other false true is slots k lo = refl
   met_other false false is slots k lo = refl

@@ -30,7 +30,7 @@ use Rattle.fancy_composed.proofs.Ready.{Ready}
 use Rattle.fancy_composed.proofs.Starts.{or_left, or_right}
 use Rattle.fancy_laws.proofs.Characters.{no_chars}
 
-both : (a b : Bool) → a ≡ true → b ≡ true → (a && b) ≡ true
+pub both : (a b : Bool) → a ≡ true → b ≡ true → (a && b) ≡ true
 both true b e f = f
 both false b e f = e
 

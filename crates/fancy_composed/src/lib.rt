@@ -4,8 +4,8 @@
 
 ghost use Rattle.fancy_meaning.specs.Theorems.{ComposedTheorem, UndelegatedHeadline, UndelegatedRunsEnd};
 
-/// With every node taken for hard, the code of each node that is written out hands the node's ways from each sound
-/// state, wherever it stands: the same states in the same order, up to repeats.
+/// With every node taken for hard, the code of the root and of each node that is written out hands its ways from each
+/// sound state, wherever it stands: the same states in the same order, up to repeats.
 pub fn composed_theorem()
     ensures { ComposedTheorem }
 {}

@@ -13,7 +13,7 @@ use Rattle.fancy_meaning.specs.Layout.{in_context, called_code, target_code, fai
 use Rattle.fancy_meaning.specs.AnalysisRefusals.{SubroutineCallTargetNotFound}
 use Rattle.fancy_meaning.specs.CompileRefusals.{IsWritten, callee, root, missing_group}
 use Rattle.fancy_meaning.specs.Laws.{begins_with_continue}
-use Rattle.fancy_meaning.specs.Theorems.{code_of}
+use Rattle.fancy_meaning.specs.Theorems.{code_of_node}
 use Rattle.fancy_delegation.proofs.Nodes.{target_is_body, target_is_whole}
 use Rattle.fancy_delegation.proofs.Thinned.{thins_same}
 use Rattle.fancy_delegation.proofs.HandsWays.{Setup}
@@ -102,7 +102,7 @@ module _ (given : Setup) where
 
   -- Every node that is written out, in each context and wherever a match begins with it.
   pub delegation_thins : (depths : Depths) (e : Tree) → IsWritten (whole given depths) e → (at_start in_hard : Bool) → (at_start ≡ true → begins_with_continue (whole given depths) e ≡ true → given.MayStop) →
-      Thinned given depths in_hard (code_of (plan given depths) easy depths e at_start in_hard) (ways given.setting (whole given depths) e depths)
+      Thinned given depths in_hard (code_of_node (plan given depths) easy depths e at_start in_hard) (ways given.setting (whole given depths) e depths)
   delegation_thins depths e wr at_start in_hard k =
       node_thinned given depths (calls_thinned (free_calls (whole given depths) depths) depths refl) e wr at_start in_hard k
 

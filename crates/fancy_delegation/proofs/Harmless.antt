@@ -1,22 +1,27 @@
 -- Delegation is harmless where delegates hand the first way of their nodes, and absent repeaters of easy bodies all of theirs.
-use Rattle.std.proofs.Common.{◌≡◌, ℕ, ◌+◌, ◌≤◌, Bool, if◌then◌else◌, List, [], ◌∷◌, length, find, Some, refl, sym, ap, ◌∙◌, subst, arith, true≢false}
+use Rattle.std.proofs.Common.{◌≡◌, ℕ, ◌+◌, ◌≤◌, Bool, true, ◌&&◌, if◌then◌else◌, List, [], ◌∷◌, length, find, Some, refl, sym, ap, ◌∙◌, subst, arith, true≢false}
 use Rattle.fancy_meaning.specs.Tree.{Tree, AbsentRepeater}
 use Rattle.fancy_meaning.specs.OpenCalls.{Depths}
-use Rattle.fancy_meaning.specs.MatchState.{MatchState}
-use Rattle.fancy_meaning.specs.Ways.{absent, ways}
-use Rattle.fancy_meaning.specs.Code.{one}
+use Rattle.fancy_meaning.specs.MatchState.{MatchState, Ways}
+use Rattle.fancy_meaning.specs.Ways.{Setting, absent, ways}
+use Rattle.fancy_meaning.specs.Answer.{search_of}
+use Rattle.fancy_meaning.specs.Code.{Code, one}
 use Rattle.fancy_meaning.specs.Instr.{Instr}
 use Rattle.fancy_meaning.specs.Batches.{batch, fragment, pattern_of, group_range}
 use Rattle.fancy_meaning.specs.Layout.{layout}
 use Rattle.fancy_meaning.specs.Config.{Branch, Config, Goes}
 use Rattle.fancy_meaning.specs.Machine.{Task, fail_to, exec}
+use Rattle.fancy_meaning.specs.Keys.{key, easy_key}
 use Rattle.fancy_meaning.specs.Hands.{GoesOn, no_search, one_start, two_branches}
 use Rattle.fancy_meaning.specs.CompileRefusals.{IsWritten}
+use Rattle.fancy_meaning.specs.Laws.{begins_with_continue}
 use Rattle.fancy_meaning.specs.Premises.{Input, plan, IsAccepted, IsText}
-use Rattle.fancy_meaning.specs.Theorems.{IsProgramFor, code_of, DelegationIsHarmless}
+use Rattle.fancy_meaning.specs.Theorems.{IsProgramFor, Serves, may_give_up, code_of_root, code_of_node, AllServe, DelegationIsHarmless}
 use Rattle.fancy_composed.proofs.Courses.{Course, To, to_same, to_eq, after, Ground, config, here}
 use Rattle.fancy_composed.proofs.Parts.{setting, Works}
 use Rattle.fancy_composed.proofs.Tests.{MayStop}
+use Rattle.fancy_composed.proofs.Starts.{or_left, or_right}
+use Rattle.fancy_composed.proofs.Trees.{both}
 use Rattle.fancy_composed.proofs.Serving.{stands_here, handed_by}
 use Rattle.fancy_composed.proofs.Composed.{first_slot}
 use Rattle.fancy_delegation.proofs.Every.{Every}
@@ -24,8 +29,8 @@ use Rattle.fancy_delegation.proofs.FindsAlike.{find_first}
 use Rattle.fancy_delegation.proofs.Thinned.{context_key}
 use Rattle.fancy_delegation.proofs.ThinnedDelegates.{IsDelegated, first_of_batch}
 use Rattle.fancy_delegation.proofs.HandsWays.{Setup}
-use Rattle.fancy_delegation.proofs.Delegated.{is_easy}
-use Rattle.fancy_delegation.proofs.DelegatedCalls.{delegation_thins}
+use Rattle.fancy_delegation.proofs.Delegated.{is_easy, Thinned}
+use Rattle.fancy_delegation.proofs.DelegatedCalls.{delegation_thins, whole_thins}
 use Rattle.fancy_delegation.proofs.Serving.{serves_by}
 use Rattle.fancy_delegation.proofs.OnMachine.{analysed_of, w, setup}
 
@@ -59,23 +64,63 @@ find_is : (p : MatchState → Bool) (xs : List MatchState) → find p xs ≡ fin
 find_is p [] = refl
 find_is p (x ∷ xs) = ap (λ o. if p x then Some x else o) (find_is p xs)
 
+module _ (batches : BatchesWork) (repeaters : EasyRepeatersWork) (i : Input) (accepted : IsAccepted i (length (layout (plan i)).body)) where
+  abbrev tree : Tree
+  tree = (plan i).analysis.tree
+
+  abbrev begins : Tree → Bool
+  begins = begins_with_continue tree
+
+  abbrev easy : Tree → Bool
+  easy = is_easy (analysed_of i (length (layout (plan i)).body) accepted)
+
+  -- where a failure leads to from a configuration
+  abbrev bottom : Task → Config → ℕ → Course
+  bottom t c count = after t (fail_to t c.branches (config 0 0 (λ k. 0) [] [] c.start count))
+
+  abbrev above : (t : Task) → IsText t.text → IsProgramFor (plan i) t.program → Config → Ground
+  above t is_text fits c = w i (length (layout (plan i)).body) accepted t is_text fits c.start c.branches (bottom t c) (λ count. to_same)
+
+  abbrev given : (t : Task) (is_text : IsText t.text) (fits : IsProgramFor (plan i) t.program) (c : Config) →
+      (begins tree ≡ true → MayStop (above t is_text fits c)) → Setup
+  given t is_text fits c stop =
+      setup i (length (layout (plan i)).body) accepted t is_text fits c.start c.branches (bottom t c) (λ count. to_same) stop
+      (batches i accepted t is_text fits c.start c.branches (bottom t c) (λ count. to_same))
+      (repeaters i accepted t is_text fits c.start c.branches (bottom t c) (λ count. to_same))
+
+  -- code that hands a list that serves, above all branches, where a `\G` in it may give up only by this test
+  serves : (depths : Depths) (in_hard may_stop : Bool) (code : Code) (f : Setting → Ways) → (begins tree ≡ true → may_stop ≡ true) →
+      ((t : Task) (is_text : IsText t.text) (fits : IsProgramFor (plan i) t.program) (c : Config)
+      (stop : begins tree ≡ true → MayStop (above t is_text fits c)) → (may_stop ≡ true → MayStop (above t is_text fits c)) →
+      Thinned (given t is_text fits c stop) depths in_hard code (f (search_of (plan i) t.text t.options).setting)) →
+      Serves (plan i) code f (λ from. if in_hard then key (plan i) else easy_key (plan i) from) may_stop
+  serves depths in_hard may_stop code f by_call thinned t c fresh s from fits is_text has goes_on le st so le' =
+      let g = above t is_text fits c in
+      let stop : may_stop ≡ true → MayStop g = λ may. none_gives_up g c (goes_on may) refl in
+      let h = thinned t is_text fits c (λ x. stop (by_call x)) stop in
+      let works : Works g code h.handed = h.works in
+      let laid = code c.pc fresh in
+      let part = works.part c.pc (c.pc + length laid.instrs) fresh refl (subst (λ n. n ≤ fresh) (sym (first_slot g accepted.implicit_group_0)) le) has in (
+        works.handed s,
+        handed_by g (λ count. to_same) c.pc c.ix c.slots c.marks c.backtracks (c.pc + length laid.instrs) fresh laid.fresh (Goes c)
+            (to_eq (λ n. ap (λ x. exec t n (here g c.pc x c.slots c.marks [] c.backtracks)) st.place))
+            (part.hands s c.slots c.marks [] c.backtracks so (stands_here g (λ count. to_same) s c st)),
+        serves_by (context_key (plan i) in_hard from) (works.handed s) (h.handed s) (f (setting g) s)
+            (λ p. sym (find_is p (works.handed s)) ∙ (works.alike s so).tests p ∙ find_is p (h.handed s)) ((h.thins).by s from so le'),
+      )
+
+  all_serve : AllServe (plan i) easy (λ in_hard from. if in_hard then key (plan i) else easy_key (plan i) from)
+  all_serve = record {
+    root = λ depths in_hard.
+        serves depths in_hard (begins tree) (code_of_root (plan i) easy depths in_hard) (λ q. ways q tree tree depths) (λ x. x)
+        (λ t is_text fits c stop may. whole_thins (given t is_text fits c stop) depths in_hard);
+    node = λ e depths at_start in_hard wr.
+        serves depths in_hard (may_give_up tree e at_start) (code_of_node (plan i) easy depths e at_start in_hard) (λ q. ways q tree e depths)
+        (λ x. or_left (begins tree) (at_start && begins e) x)
+        (λ t is_text fits c stop may.
+        delegation_thins (given t is_text fits c stop) depths e wr at_start in_hard
+        (λ x y. may (or_right (begins tree) (at_start && begins e) (both at_start (begins e) x y))));
+  }
+
 pub delegation_is_harmless : BatchesWork → EasyRepeatersWork → DelegationIsHarmless
-delegation_is_harmless batches repeaters i e depths at_start in_hard accepted wr t c fresh s from fits is_text has goes_on le st so le' =
-    let program = layout (plan i) in
-    let bottom : ℕ → _ = λ count. after t (fail_to t c.branches (config 0 0 (λ k. 0) [] [] c.start count)) in
-    let falls : (count : ℕ) → To (after t (fail_to t c.branches (config 0 0 (λ k. 0) [] [] c.start count))) (bottom count) = λ count. to_same in
-    let g : Ground = w i (length program.body) accepted t is_text fits c.start c.branches bottom falls in
-    let stop : MayStop g = none_gives_up g c goes_on refl in
-    let given : Setup = setup i (length program.body) accepted t is_text fits c.start c.branches bottom falls (λ y. stop)
-    (batches i accepted t is_text fits c.start c.branches bottom falls) (repeaters i accepted t is_text fits c.start c.branches bottom falls) in
-    let h = delegation_thins given depths e wr at_start in_hard (λ x y. stop) in
-    let works : Works g (code_of (plan i) (is_easy given.tree) depths e at_start in_hard) h.handed = h.works in
-    let laid = code_of (plan i) (is_easy given.tree) depths e at_start in_hard c.pc fresh in
-    let part = works.part c.pc (c.pc + length laid.instrs) fresh refl (subst (λ n. n ≤ fresh) (sym (first_slot g accepted.implicit_group_0)) le) has in (
-      works.handed s,
-      handed_by g (λ count. to_same) c.pc c.ix c.slots c.marks c.backtracks (c.pc + length laid.instrs) fresh laid.fresh (Goes c)
-          (to_eq (λ n. ap (λ x. exec t n (here g c.pc x c.slots c.marks [] c.backtracks)) st.place))
-          (part.hands s c.slots c.marks [] c.backtracks so (stands_here g (λ count. to_same) s c st)),
-      serves_by (context_key (plan i) in_hard from) (works.handed s) (h.handed s) (ways (setting g) (plan i).analysis.tree e depths s)
-          (λ p. sym (find_is p (works.handed s)) ∙ (works.alike s so).tests p ∙ find_is p (h.handed s)) ((h.thins).by s from so le'),
-    )
+delegation_is_harmless batches repeaters i accepted = all_serve batches repeaters i accepted

@@ -6,7 +6,7 @@ use Rattle.fancy_meaning.specs.OpenCalls.{Depths, no_calls, free_calls}
 use Rattle.fancy_meaning.specs.MatchState.{MatchState, Ways, fails}
 use Rattle.fancy_meaning.specs.Ways.{Setting, absent, ways_with, ways}
 use Rattle.fancy_meaning.specs.Code.{Code, nothing, one}
-use Rattle.fancy_meaning.specs.Instr.{Instr, Prog}
+use Rattle.fancy_meaning.specs.Instr.{Instr}
 use Rattle.fancy_meaning.specs.Batches.{batch, fragment, pattern_of, group_range}
 use Rattle.fancy_meaning.specs.Layout.{written}
 use Rattle.fancy_meaning.specs.Sizes.{Size}

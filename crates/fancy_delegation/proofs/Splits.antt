@@ -1,5 +1,5 @@
 -- What passes the tests of a list that is cut in three.
-use Rattle.std.proofs.Common.{◌≡◌, ℕ, suc, ◌+◌, Bool, true, false, if◌then◌else◌, List, [], ◌∷◌, take, reverse, take_while, refl, subst, arith}
+use Rattle.std.proofs.Common.{◌≡◌, suc, ◌+◌, Bool, true, false, if◌then◌else◌, List, [], ◌∷◌, take, reverse, take_while, refl, subst, arith}
 use Rattle.std.specs.List.{prefix_len}
 use Rattle.fancy_laws.proofs.Splits.{back_while}
 use Rattle.fancy_delegation.proofs.Every.{Every, no_item, item, every_reverse}

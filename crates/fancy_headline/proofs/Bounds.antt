@@ -1,5 +1,5 @@
 -- Where the whole tree is easy, a run ends: one backtrack and eight instructions for each start are enough.
-use Rattle.std.proofs.Common.{◌≡◌, ⊎_elim, ℕ, zero, suc, ◌+◌, ◌*◌, ◌<◌, Bool, true, false, ◌&&◌, ◌||◌, ◌==◌, not, if◌then◌else◌, List, [], ◌∷◌, length, Option, Some, None, option_and_then, refl, sym, ap, ap₂, subst, arith}
+use Rattle.std.proofs.Common.{◌≡◌, ⊎_elim, ℕ, zero, suc, ◌+◌, ◌*◌, ◌<◌, ◌≤◌, Bool, true, false, ◌&&◌, ◌||◌, ◌==◌, not, if◌then◌else◌, List, [], ◌∷◌, length, Option, Some, None, option_and_then, refl, sym, ap, ap₂, subst, arith}
 use Rattle.std.specs.Char.{len_utf8}
 use Rattle.std.proofs.lemmas.Bool.{cases_lt, or_parts}
 use Rattle.std.proofs.lemmas.Str.{len_utf8_bounds}
@@ -16,12 +16,12 @@ use Rattle.fancy_meaning.specs.Batches.{batch}
 use Rattle.fancy_meaning.specs.Code.{Code}
 use Rattle.fancy_meaning.specs.Layout.{layout, program, called_code, written}
 use Rattle.fancy_meaning.specs.Config.{Slots, Branch, Config, Goes, push}
-use Rattle.fancy_meaning.specs.Machine.{Task, exec, goes_from, run, begin}
+use Rattle.fancy_meaning.specs.Machine.{Task, goes_from, run, begin}
 use Rattle.fancy_meaning.specs.Premises.{Input, plan, IsAccepted, IsFit}
-use Rattle.fancy_meaning.specs.Theorems.{BacktrackBound, InstructionBound}
+use Rattle.fancy_meaning.specs.Theorems.{BranchBound, BacktrackBound, InstructionBound}
 use Rattle.fancy_meaning.specs.Answer.{search_of, starts}
 use Rattle.fancy_meaning.specs.Numbers.{usize_max}
-use Rattle.fancy_composed.proofs.Courses.{after, config}
+use Rattle.fancy_composed.proofs.Courses.{config}
 use Rattle.fancy_composed.proofs.Parts.{place_within}
 use Rattle.fancy_composed.proofs.Places.{char_stands, places_on, places_at_end}
 use Rattle.fancy_composed.proofs.Programs.{Attempt, anchored_attempt, Searching, search_stands}
@@ -57,16 +57,16 @@ module _ (i : Input) (text : List ℕ) (o : RunOptions) (accepted : IsAccepted i
 
   -- an attempt above branches that are bounded
   attempted : (a : ℕ) → Attempt (plan i) (easy i) a →
-      (bs : List Branch) (count starts k : ℕ) (failing : FailsBounded task bs count starts k) → (c : Config) →
-      IsAt task bs count starts k failing a c → IsBounded task count starts (suc (suc (suc (suc (suc k))))) (λ n. exec task n c)
-  attempted a at bs count starts k failing =
-      attempt_bounded task bs count starts k failing a (plan i).end_text
+      (bs : List Branch) (few : length bs ≤ 1) (count starts k : ℕ) (failing : FailsBounded task bs count starts k) → (c : Config) →
+      IsAt task bs few count starts k failing a c → IsBounded task count starts (suc (suc (suc (suc (suc k))))) (Goes c)
+  attempted a at bs few count starts k failing =
+      attempt_bounded task bs few count starts k failing a (plan i).end_text
       (root_plain (a + 1) (programs.fresh (plan i) (easy i))) at.start at.tree at.end at.ends
 
   alone : (a starts : ℕ) → Attempt (plan i) (easy i) a → (c : Config) → c.pc ≡ a → c.branches ≡ [] → c.backtracks ≡ 0 →
-      IsBounded task 0 starts (suc (suc (suc (suc (suc 0))))) (λ n. exec task n c)
+      IsBounded task 0 starts (suc (suc (suc (suc (suc 0))))) (Goes c)
   alone a starts at c p b k =
-      attempted a at [] 0 starts 0 (none_left task 0 starts 0) c (record { pc = p; branches = b; backtracks = k })
+      attempted a at [] (omega arith) 0 starts 0 (none_left task 0 starts 0) c (record { pc = p; branches = b; backtracks = k })
 
   -- ---- the search
 
@@ -85,43 +85,43 @@ module _ (i : Input) (text : List ℕ) (o : RunOptions) (accepted : IsAccepted i
     -- it takes a character, and the search begins anew
     goes_again : (start count starts k c : ℕ) → char_at text start ≡ Some c →
         ((first : ℕ) →
-        IsBounded task count starts k (λ n. exec task n (config 0 (start + len_utf8 c) no_slots [] [] first count))) →
-        (first : ℕ) → IsBounded task count starts (suc (suc k)) (λ n. exec task n (config 1 start no_slots [] [] first count))
+        IsBounded task count starts k (Goes (config 0 (start + len_utf8 c) no_slots [] [] first count))) →
+        (first : ℕ) → IsBounded task count starts (suc (suc k)) (Goes (config 1 start no_slots [] [] first count))
     goes_again start count starts k c stands on first =
         let d : Config = config 1 start no_slots [] [] first count in
-        step_bounded task Instr.Any d at.any
-        (subst (λ v. IsBounded task count starts (suc k) (after task (goes_from task d (past start v)))) (sym stands)
-        (step_bounded task (Jmp 0) (config 2 (start + len_utf8 c) no_slots [] [] first count) at.back (on first)))
+        step_bounded task Instr.Any d at.any (omega arith)
+        (subst (λ v. IsBounded task count starts (suc k) (goes_from task d (past start v))) (sym stands)
+        (step_bounded task (Jmp 0) (config 2 (start + len_utf8 c) no_slots [] [] first count) at.back (omega arith) (on first)))
 
     -- or the text is at its end
     ends_there : (start count starts : ℕ) → char_at text start ≡ None →
-        (first : ℕ) → IsBounded task count starts (suc 0) (λ n. exec task n (config 1 start no_slots [] [] first count))
+        (first : ℕ) → IsBounded task count starts (suc 0) (Goes (config 1 start no_slots [] [] first count))
     ends_there start count starts stands first =
         let d : Config = config 1 start no_slots [] [] first count in
-        step_bounded task Instr.Any d at.any
-        (subst (λ v. IsBounded task count starts 0 (after task (goes_from task d (past start v)))) (sym stands)
+        step_bounded task Instr.Any d at.any (omega arith)
+        (subst (λ v. IsBounded task count starts 0 (goes_from task d (past start v))) (sym stands)
         (no_match_bounded task count starts 0))
 
     -- one start, from what comes after it
     begun : o.anchored ≡ false → (start before count starts k : ℕ) →
-        ((first : ℕ) → IsBounded task (count + 1) starts k (λ n. exec task n (config 1 start no_slots [] [] first (count + 1)))) →
+        ((first : ℕ) → IsBounded task (count + 1) starts k (Goes (config 1 start no_slots [] [] first (count + 1)))) →
         IsBounded task count (suc starts) (suc (suc (suc (suc (suc (suc k))))))
-        (λ n. exec task n (config 0 start no_slots [] [] before count))
+        (Goes (config 0 start no_slots [] [] before count))
     begun many start before count starts k next =
         let c : Config = config 0 start no_slots [] [] before count in
         let d : Config = config 3 start no_slots [] [] start count in
         let failing = one_left task (again start) count starts k next in
-        step_bounded task (SplitUnanchored 3 1) c at.split
+        step_bounded task (SplitUnanchored 3 1) c at.split (omega arith)
         (subst
-        (λ v. IsBounded task count (suc starts) (suc (suc (suc (suc (suc k))))) (after task (if v then Goes d else push 1 c d)))
+        (λ v. IsBounded task count (suc starts) (suc (suc (suc (suc (suc k))))) (if v then Goes d else push 1 c d))
         (sym many)
-        (attempted 3 at.attempt (again start ∷ []) count (suc starts) k failing (config 3 start no_slots [] (again start ∷ []) start count)
+        (attempted 3 at.attempt (again start ∷ []) (omega arith) count (suc starts) k failing (config 3 start no_slots [] (again start ∷ []) start count)
         (record { pc = refl; branches = refl; backtracks = refl })))
 
     -- all starts from one on
     abbrev AllBounded : ℕ → ℕ → ℕ → List ℕ → Type 0
     AllBounded start before count is =
-        IsBounded task count (length is) (8 * length is) (λ n. exec task n (config 0 start no_slots [] [] before count))
+        IsBounded task count (length is) (8 * length is) (Goes (config 0 start no_slots [] [] before count))
 
     searched : o.anchored ≡ false → (fuel start before count : ℕ) → is_place text start ≡ true → length text < start + fuel →
         AllBounded start before count (places_from text start)
@@ -148,8 +148,8 @@ module _ (i : Input) (text : List ℕ) (o : RunOptions) (accepted : IsAccepted i
         (cases_lt start (length text))
       where
         further : (m : ℕ) → IsBounded task count (suc m) (suc (suc (suc (suc (suc (suc (suc (suc (8 * m)))))))))
-            (λ n. exec task n (config 0 start no_slots [] [] before count)) →
-            IsBounded task count (suc m) (8 * suc m) (λ n. exec task n (config 0 start no_slots [] [] before count))
+            (Goes (config 0 start no_slots [] [] before count)) →
+            IsBounded task count (suc m) (8 * suc m) (Goes (config 0 start no_slots [] [] before count))
         further m b = bounded_more task (omega arith) b
 
   -- ---- the whole run
@@ -158,7 +158,7 @@ module _ (i : Input) (text : List ℕ) (o : RunOptions) (accepted : IsAccepted i
   the_starts = starts (search_of (plan i) text o)
 
   abbrev RunBounded : List ℕ → Type 0
-  RunBounded is = IsBounded task 0 (length is) (8 * length is) (λ n. exec task n (begin task))
+  RunBounded is = IsBounded task 0 (length is) (8 * length is) (Goes (begin task))
 
   pub run_bounded : RunBounded the_starts
   run_bounded = by_options (plan i).anchored o.anchored refl refl
@@ -173,13 +173,19 @@ module _ (i : Input) (text : List ℕ) (o : RunOptions) (accepted : IsAccepted i
           let d : Config = config 3 o.pos no_slots [] [] o.pos 0 in
           subst RunBounded (sym (ap₂ (λ x y. if x || y then o.pos ∷ [] else places_from text o.pos) is_v is_u))
           (bounded_more task (omega arith)
-          (step_bounded task (SplitUnanchored 3 1) (begin task) at.split
-          (subst (λ v. IsBounded task 0 1 (suc (suc (suc (suc (suc 0))))) (after task (if v then Goes d else push 1 (begin task) d))) (sym is_u)
+          (step_bounded task (SplitUnanchored 3 1) (begin task) at.split (omega arith)
+          (subst (λ v. IsBounded task 0 1 (suc (suc (suc (suc (suc 0))))) (if v then Goes d else push 1 (begin task) d)) (sym is_u)
           (alone 3 1 at.attempt d refl refl refl))))
       by_options false false is_v is_u =
           subst RunBounded (sym (ap₂ (λ x y. if x || y then o.pos ∷ [] else places_from text o.pos) is_v is_u))
           (searched (search_stands (plan i) (easy i) accepted.implicit_group_0 is_v) is_u
           (suc (length text)) o.pos o.pos 0 fit.pos (omega arith))
+
+pub branch_bound : BranchBound
+unfolding layout run
+branch_bound i text o known =
+    let bounded = run_bounded i text o known.0 known.1 known.2 in
+    (λ n c reaches. bounded.branches n c reaches, bounded.room o.step_limit)
 
 pub backtrack_bound : BacktrackBound
 unfolding layout run

@@ -138,7 +138,11 @@ module _ (w : Ground) where
       SameUnused (group_count (whole w)) (first_state s.place) k → After w n n slots h (with_pairs k.captures slots)
   laid_after n s h k slots st over steady unused = record {
     stands = laid_stands s h k slots st over steady unused;
-    keeps = λ i lo out. pair_none k.captures slots i (sym (unused (i / 2) (inr (omega (arith, flag_is w, lo)))));
+    keeps = λ i lo out.
+        pair_none k.captures slots i
+        (sym (unused (i / 2)
+        (⊎_elim {C = IsUnused (group_count (whole w)) (i / 2)} (λ one. inl (omega (arith, one)))
+        (λ le. inr (omega (arith, flag_is w, le))) lo)));
   }
 
   -- from the first way of the nodes from empty captures, if there is one

@@ -5,6 +5,7 @@ pub mod Batches
 pub mod Repeaters
 pub mod Works
 pub mod Answered
+pub mod Early
 pub mod Plain
 pub mod Bounded
 pub mod Bounds

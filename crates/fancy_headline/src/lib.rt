@@ -2,11 +2,11 @@
 //! within a bound. Each theorem is the contract of a function that does nothing.
 #![tactic(auto)]
 
-ghost use Rattle.fancy_meaning.specs.Theorems.{DelegationIsHarmless, Headline, RunsEnd, BacktrackBound, InstructionBound};
+ghost use Rattle.fancy_meaning.specs.Theorems.{DelegationIsHarmless, Headline, RunsEnd, EarlyNone, BranchBound, BacktrackBound, InstructionBound};
 
-/// With every easy node left to a plain search, the code of each node that is written out hands, from each sound state
-/// and wherever it stands, a list that serves for the node's ways: by the key in a hard context, and in an easy one by
-/// the easy key from each place at or before the state's.
+/// With every easy node left to a plain search, the code of the root and of each node that is written out hands, from
+/// each sound state and wherever it stands, a list that serves for its ways: by the key in a hard context, and in an
+/// easy one by the easy key from each place at or before the state's.
 pub fn delegation_is_harmless()
     ensures { DelegationIsHarmless }
 {}
@@ -21,8 +21,19 @@ pub fn runs_end()
     ensures { RunsEnd }
 {}
 
-/// Where the whole tree is left to a plain search, one backtrack for each start that is tried is enough, and the branches
-/// never are too many.
+/// Where a `\G` ends a run of an accepted tree's program early with nothing matched, no start that is tried has an
+/// admitted way: so it is with delegates and without.
+pub fn early_none()
+    ensures { EarlyNone }
+{}
+
+/// Where the whole tree is left to a plain search, a run holds at most one branch, whatever its limits are, and so the
+/// branches never are too many.
+pub fn branch_bound()
+    ensures { BranchBound }
+{}
+
+/// Where the whole tree is left to a plain search, one backtrack for each start that is tried is enough.
 pub fn backtrack_bound()
     ensures { BacktrackBound }
 {}

@@ -72,14 +72,19 @@ module _ (t : Task) where
     pub ends : (g : ℕ) → 0 < g → 2 * g < flag_slot t.program → c.slots (2 * g + 1) ≡ end_number (s.captures g)
     pub flag : (t.program).end_text ≡ Bool.true → c.slots (flag_slot t.program) ≡ (if s.text_end then 1 else usize_max)
 
-  -- At c the part is left with state s, over branches of its own. Slots that it did not take are as at its entry.
+  -- nothing of the state stands in this slot: it is the end of group 0, or behind the groups and the flag
+  abbrev pub IsOutsideState : ℕ → Type 0
+  IsOutsideState k = (k ≡ 1) ⊎ (flag_slot t.program + bit (t.program).end_text ≤ k)
+
+  -- At c the part is left with state s, over branches of its own. Slots outside the state that it did not take are as at
+  -- its entry.
   pub record IsLeft (part : Stretch) (s : MatchState) (c : Config) (own : List _) : Type 0 where
     pub at_exit : c.pc ≡ part.exit
     pub branches : c.branches ≡ own ++ (part.entry).branches
     pub marks : c.marks ≡ (part.entry).marks
     pub start : c.start ≡ (part.entry).start
     pub stands : Stands c s
-    pub keeps : (k : ℕ) → flag_slot t.program + bit (t.program).end_text ≤ k → (k < part.taken_from) ⊎ (part.taken_to ≤ k) →
+    pub keeps : (k : ℕ) → IsOutsideState k → (k < part.taken_from) ⊎ (part.taken_to ≤ k) →
         c.slots k ≡ (part.entry).slots k
 
   -- the part is left with these states in turn, and after the last it fails into the branches below

@@ -1,5 +1,5 @@
 -- The theorems on programs, as types.
-use Rattle.std.specs.Prelude.{◌≡◌, ◌≢◌, ◌↔◌, ℕ, ◌*◌, ◌+◌, ◌≤◌, ◌⊎◌, Bool, true, false, not, List, length, flat_map, Contains, Option, Some, None, IsTrue, IsFalse, if◌then◌else◌}
+use Rattle.std.specs.Prelude.{◌≡◌, ◌≢◌, ◌↔◌, ℕ, ◌*◌, ◌+◌, ◌≤◌, ◌⊎◌, Bool, true, false, ◌&&◌, ◌||◌, not, List, length, flat_map, Contains, Option, Some, None, IsTrue, IsFalse, if◌then◌else◌, ◌==◌, slice_get}
 use Rattle.fancy_meaning.specs.Tree.{Tree, parts, Group, DefineGroup}
 use Rattle.fancy_meaning.specs.Nodes.{nodes, group_count, is_read}
 use Rattle.fancy_meaning.specs.OpenCalls.{Depths, free_calls}
@@ -8,14 +8,15 @@ use Rattle.fancy_meaning.specs.Ways.{Setting, ways}
 use Rattle.fancy_meaning.specs.Answer.{search_of, starts, answer}
 use Rattle.fancy_meaning.specs.Options.{Plan, RunOptions}
 use Rattle.fancy_meaning.specs.Hard.{is_hard, is_root_hard}
-use Rattle.fancy_meaning.specs.Instr.{Prog}
+use Rattle.fancy_meaning.specs.Instr.{Prog, ContinueFromPreviousMatchEnd}
 use Rattle.fancy_meaning.specs.Code.{Code}
-use Rattle.fancy_meaning.specs.Layout.{written, in_context, called_code, first_fresh, layout, undelegated_layout}
+use Rattle.fancy_meaning.specs.Layout.{written, in_context, root_code, called_code, first_fresh, layout, undelegated_layout}
 use Rattle.fancy_meaning.specs.AnalysisRefusals.{CompileError, AnalysisRefuses}
 use Rattle.fancy_meaning.specs.CompileRefusals.{IsWritten, IsAmong}
 use Rattle.fancy_meaning.specs.Config.{Config, Outcome, Match, NoMatch, BacktrackLimitExceeded, StackOverflow, StepLimitExceeded, Goes}
-use Rattle.fancy_meaning.specs.Machine.{Task, run}
+use Rattle.fancy_meaning.specs.Machine.{Task, gives_up, Reaches, run}
 use Rattle.fancy_meaning.specs.Fits.{program_fits}
+use Rattle.fancy_meaning.specs.Laws.{begins_with_continue}
 use Rattle.fancy_meaning.specs.Keys.{Key, whole_key, key, easy_key, Coarser, Thins, Respects}
 use Rattle.fancy_meaning.specs.Hands.{IsLimit, Stretch, HasAt, Stands, GoesOn, Hands}
 use Rattle.fancy_meaning.specs.Premises.{Analysed, analysis, tree_of, Input, plan, IsAccepted, IsText, IsFit, IsSound}
@@ -66,6 +67,28 @@ UndelegatedRunsEnd = (i : Input) (text : List ℕ) (o : RunOptions) →
     IsAccepted i (length (undelegated_layout (plan i)).body) → IsFit i text o →
     HasEnough (undelegated_layout (plan i)) text o
 
+-- ---- the answer that a `\G` gives early
+
+-- a marked `\G` stands here, does not hold, and gives up the search
+pub record GivesUp (t : Task) (c : Config) : Type 0 where
+  pub at_start : Bool
+  pub stands : slice_get (t.program).body c.pc ≡ Some (ContinueFromPreviousMatchEnd at_start)
+  pub fails : (c.ix == t.pos && t.continued) ≡ false
+  pub is_last : gives_up t at_start c ≡ true
+
+-- where a run comes to that, no start that is tried has an admitted way
+abbrev pub GivesUpRightly : Plan → Prog → List ℕ → RunOptions → Type 0
+GivesUpRightly p program text o =
+    let t : Task = record { program = program; text = text; options = o } in
+    (n : ℕ) (c : Config) → Reaches t n c → GivesUp t c → answer (search_of p text o) ≡ None
+
+-- So it is in each run of an accepted tree's program, with delegates and without.
+abbrev pub EarlyNone : Type 0
+EarlyNone = (i : Input) (text : List ℕ) (o : RunOptions) → IsFit i text o →
+    (IsAccepted i (length (layout (plan i)).body) → GivesUpRightly (plan i) (layout (plan i)) text o)
+    × (IsAccepted i (length (undelegated_layout (plan i)).body) →
+    GivesUpRightly (plan i) (undelegated_layout (plan i)) text o)
+
 -- ---- a node hands its ways
 
 -- code stands in a program where a configuration is, and its slots are those from `fresh` on
@@ -81,39 +104,62 @@ pub record IsProgramFor (p : Plan) (program : Prog) : Type 0 where
   pub end_text : program.end_text ≡ p.end_text
   pub unicode : program.unicode ≡ p.unicode
 
+-- A `\G` in the code of the node may give up the search: the tree begins with one, or the node does where a match begins.
+abbrev pub may_give_up : Tree → Tree → Bool → Bool
+may_give_up whole e at_start = begins_with_continue whole whole || (at_start && begins_with_continue whole e)
+
 -- Wherever the code stands, it hands from each sound state a list that serves by the key for what these ways give.
--- The key may depend on a place at or before the state's.
-abbrev pub Serves : Plan → Code → (Setting → Ways) → (ℕ → Key) → Type 0
-Serves p code w by = (t : Task) (c : Config) (fresh : ℕ) (s : MatchState) (from : ℕ) →
+-- The key may depend on a place at or before the state's. Where a `\G` in the code may give up the search, it stands above
+-- branches where none does.
+abbrev pub Serves : Plan → Code → (Setting → Ways) → (ℕ → Key) → Bool → Type 0
+Serves p code w by may_stop = (t : Task) (c : Config) (fresh : ℕ) (s : MatchState) (from : ℕ) →
     let q = (search_of p t.text t.options).setting in
-    IsProgramFor p t.program → IsText t.text → HasAt (t.program).body c.pc (code c.pc fresh).instrs → GoesOn t c →
-    first_fresh p (λ e. false) ≤ fresh → Stands t c s → IsSound q p.analysis.tree s → from ≤ s.place →
+    IsProgramFor p t.program → IsText t.text → HasAt (t.program).body c.pc (code c.pc fresh).instrs →
+    (may_stop ≡ true → GoesOn t c) → first_fresh p (λ e. false) ≤ fresh → Stands t c s → IsSound q p.analysis.tree s →
+    from ≤ s.place →
     (hs : List MatchState) × Hands t (stretch_of code c fresh) (Goes c) hs × Thins (by from) hs (w q s)
 
--- the code of a part of the tree in its context, where these calls are open
-abbrev pub code_of : Plan → (Tree → Bool) → Depths → Tree → (at_start in_hard : Bool) → Code
-code_of p easy depths e at_start in_hard =
-    let call = called_code p easy (free_calls p.analysis.tree depths) depths in
-    in_context p easy e (written p easy call e at_start) in_hard
+-- the code of a call, where these calls are open
+abbrev pub code_of_call : Plan → (Tree → Bool) → Depths → ℕ → Bool → Code
+code_of_call p easy depths = called_code p easy (free_calls p.analysis.tree depths) depths
 
--- The composed theorem: with every node taken for hard, the code of each node that is written out hands its ways, the
--- same states in the same order, up to repeats.
+-- of the root, as the program has it, and as a call of 0 writes it
+abbrev pub code_of_root : Plan → (Tree → Bool) → Depths → (in_hard : Bool) → Code
+code_of_root p easy depths in_hard = root_code p easy (code_of_call p easy depths) in_hard
+
+-- of a node in its context, by whether a match begins with it
+abbrev pub code_of_node : Plan → (Tree → Bool) → Depths → Tree → (at_start in_hard : Bool) → Code
+code_of_node p easy depths e at_start in_hard =
+    in_context p easy e (written p easy (code_of_call p easy depths) e at_start) in_hard
+
+-- The code of the root serves for the ways of the whole tree, and that of each node that is written out for the node's,
+-- by the key of their context.
+pub record AllServe (p : Plan) (easy : Tree → Bool) (by : (in_hard : Bool) → ℕ → Key) : Type 0 where
+  pub root : (depths : Depths) (in_hard : Bool) →
+      let whole = p.analysis.tree in
+      Serves p (code_of_root p easy depths in_hard) (λ q. ways q whole whole depths) (by in_hard)
+      (begins_with_continue whole whole)
+  pub node : (e : Tree) (depths : Depths) (at_start in_hard : Bool) →
+      let whole = p.analysis.tree in
+      IsWritten whole e →
+      Serves p (code_of_node p easy depths e at_start in_hard) (λ q. ways q whole e depths) (by in_hard)
+      (may_give_up whole e at_start)
+
+-- The composed theorem: with every node taken for hard, the code of the root and of each node that is written out hands
+-- its ways, the same states in the same order, up to repeats.
 abbrev pub ComposedTheorem : Type 0
-ComposedTheorem = (i : Input) (e : Tree) (depths : Depths) (at_start in_hard : Bool) →
+ComposedTheorem = (i : Input) →
     let p = plan i in
-    let whole = p.analysis.tree in
-    IsAccepted i (length (undelegated_layout p).body) → IsWritten whole e →
-    Serves p (code_of p (λ d. false) depths e at_start in_hard) (λ q. ways q whole e depths) (λ from. whole_key whole)
+    IsAccepted i (length (undelegated_layout p).body) →
+    AllServe p (λ e. false) (λ in_hard from. whole_key p.analysis.tree)
 
--- Delegation is harmless: in a hard context the code of a node hands a list that serves for its ways by the key, and in
--- an easy one by the easy key.
+-- Delegation is harmless: in a hard context the code of the root and of each node that is written out hands a list that
+-- serves for its ways by the key, and in an easy one by the easy key.
 abbrev pub DelegationIsHarmless : Type 0
-DelegationIsHarmless = (i : Input) (e : Tree) (depths : Depths) (at_start in_hard : Bool) →
+DelegationIsHarmless = (i : Input) →
     let p = plan i in
-    let whole = p.analysis.tree in
-    IsAccepted i (length (layout p).body) → IsWritten whole e →
-    Serves p (code_of p (λ d. not (is_hard p.analysis d)) depths e at_start in_hard) (λ q. ways q whole e depths)
-    (λ from. if in_hard then key p else easy_key p from)
+    IsAccepted i (length (layout p).body) →
+    AllServe p (λ e. not (is_hard p.analysis e)) (λ in_hard from. if in_hard then key p else easy_key p from)
 
 -- ---- what carries it
 
@@ -159,13 +205,21 @@ EasyRun i text o =
 abbrev pub tried : Input → List ℕ → RunOptions → ℕ
 tried i text o = length (starts (search_of (plan i) text o))
 
-abbrev pub outcome : Input → List ℕ → RunOptions → Outcome
-outcome i text o = run (record { program = layout (plan i); text = text; options = o })
+abbrev pub task : Input → List ℕ → RunOptions → Task
+task i text o = record { program = layout (plan i); text = text; options = o }
 
--- one backtrack for each start is enough, and the branches never are too many
+abbrev pub outcome : Input → List ℕ → RunOptions → Outcome
+outcome i text o = run (task i text o)
+
+-- At most one branch is held, whatever the limits are, so the branches never are too many.
+abbrev pub BranchBound : Type 0
+BranchBound = (i : Input) (text : List ℕ) (o : RunOptions) → EasyRun i text o →
+    ((n : ℕ) (c : Config) → Reaches (task i text o) n c → length c.branches ≤ 1) × (outcome i text o ≢ StackOverflow)
+
+-- one backtrack for each start is enough
 abbrev pub BacktrackBound : Type 0
 BacktrackBound = (i : Input) (text : List ℕ) (o : RunOptions) → EasyRun i text o → tried i text o ≤ o.backtrack_limit →
-    (outcome i text o ≢ BacktrackLimitExceeded) × (outcome i text o ≢ StackOverflow)
+    outcome i text o ≢ BacktrackLimitExceeded
 
 -- eight instructions for each start are enough
 abbrev pub InstructionBound : Type 0

@@ -29,3 +29,4 @@ pub mod PlainTrees
 mod WrittenParts
 mod AcceptedInputs
 mod EndlessLoop
+mod Reached
