@@ -1,5 +1,5 @@
 -- What a run comes to on its way, and where a `\G` gives up.
-use Rattle.std.proofs.Common.{◌≡◌, ℕ, zero, suc, ◌+◌, ⊎_elim, Bool, true, false, if◌then◌else◌, nat_lt, List, [], ◌∷◌, refl, arith}
+use Rattle.std.proofs.Common.{◌≡◌, ◌∙◌, ap, subst, sym, ℕ, zero, suc, ◌+◌, ⊎_elim, Bool, true, false, if◌then◌else◌, nat_lt, List, [], ◌∷◌, refl, arith}
 use Rattle.fancy_meaning.specs.Tree.{Tree, ContinueFromPreviousMatchEnd}
 use Rattle.fancy_meaning.specs.OpenCalls.{no_calls}
 use Rattle.fancy_meaning.specs.MatchState.{MatchState, put, first_state}
@@ -13,7 +13,7 @@ use Rattle.fancy_meaning.specs.Layout.{layout, undelegated_layout}
 use Rattle.fancy_meaning.specs.Config.{Slots, Branch, Config, NoMatch, BacktrackLimitExceeded, Goes, Ends}
 use Rattle.fancy_meaning.specs.Machine.{Task, Reaches, then_on, exec}
 use Rattle.fancy_meaning.specs.Keys.{whole_key, reduced}
-use Rattle.fancy_meaning.specs.Hands.{Hands, no_more}
+use Rattle.fancy_meaning.specs.Hands.{Hands, IsBranchLimit, no_more, outcome_after}
 use Rattle.fancy_meaning.specs.Laws.{begins_with_continue}
 use Rattle.fancy_meaning.specs.Theorems.{Serves, stretch_of, code_of_root, code_of_node, GivesUp}
 use Rattle.fancy_rows.proofs.Notation.{plain, with_end_text, from, lit, cat, star, row, code, delegate}
