@@ -54,7 +54,8 @@ pub fn answers_are_pairs()
     ensures { AnswersArePairs }
 {}
 
-/// A tree that begins with the text's start, or where the match before ended, has ways from there alone.
+/// Where a tree as it is handed in begins with the text's start, or where the match before ended, the tree that is searched
+/// for, its groups numbered, has ways from there alone.
 pub fn anchor_law()
     ensures { AnchorLaw }
 {}

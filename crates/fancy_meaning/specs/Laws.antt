@@ -8,6 +8,7 @@ use Rattle.fancy_meaning.specs.MatchState.{MatchState, moved_to}
 use Rattle.fancy_meaning.specs.Loops.{prefer, if_moved}
 use Rattle.fancy_meaning.specs.Ways.{Setting, ends_here, captured_by_call, ways}
 use Rattle.fancy_meaning.specs.Answer.{Search, ways_from, answer}
+use Rattle.fancy_meaning.specs.Options.{AnalysisOptions, analysis_of}
 use Rattle.fancy_meaning.specs.Numbers.{usize_max}
 use Rattle.fancy_meaning.specs.Sizes.{size}
 use Rattle.fancy_meaning.specs.Layout.{takes_nothing}
@@ -95,15 +96,17 @@ abbrev pub is_start_text : Tree → Bool
 is_start_text (Assert within StartText) = true
 is_start_text e = false
 
--- `can_compile_as_anchored`
+-- what `can_compile_as_anchored` answers of a tree as it is handed in
 abbrev pub can_be_anchored : Tree → Bool
 can_be_anchored (Concat (more e es)) = is_anchor e
 can_be_anchored e = is_start_text e
 
--- Then a way exists only at the text's start or where the match before ended.
+-- Then the tree, its groups numbered, has a way only at the text's start or where the match before ended.
 abbrev pub AnchorLaw : Type 0
-AnchorLaw = (q : Setting) (whole e : Tree) (depths : Depths) (s t : MatchState) → can_be_anchored e ≡ true →
-    Contains (ways q whole e depths s) t → (s.place ≡ 0) ⊎ ((q.continued ≡ true) × (s.place ≡ q.pos))
+AnchorLaw = (q : Setting) (parsed : Tree) (options : AnalysisOptions) (depths : Depths) (s t : MatchState) →
+    let whole = (analysis_of parsed options).tree in
+    can_be_anchored parsed ≡ true → Contains (ways q whole whole depths s) t →
+    (s.place ≡ 0) ⊎ ((q.continued ≡ true) × (s.place ≡ q.pos))
 
 -- a `\G` is reached from the root through groups, and in sequences past what takes nothing
 module _ (whole : Tree) where
