@@ -2,7 +2,7 @@
 use Rattle.std.proofs.Common.{◌≡◌, ◌≢◌, ℕ, ◌<◌, ◌≤◌, ⊎_elim, true, ◌&&◌, ◌==◌, List, [], ◌∷◌, Contains, IsTrue, refl, sym, subst, ◌∙◌, arith, eqb-true}
 use Rattle.std.proofs.lemmas.Bool.{and_parts, or_cases, false≢true, cases_lt}
 use Rattle.fancy_meaning.specs.Tree.{Tree, Trees, none, more, ContinueFromPreviousMatchEnd, Group, Concat}
-use Rattle.fancy_meaning.specs.Nodes.{nodes, nodes_of_each}
+use Rattle.fancy_meaning.specs.Nodes.{nodes, nodes_of_each, is_read}
 use Rattle.fancy_meaning.specs.OpenCalls.{Depths, no_calls, free_calls}
 use Rattle.fancy_meaning.specs.Places.{is_place}
 use Rattle.fancy_meaning.specs.MatchState.{MatchState, Ways, with_span, in_order, first_state}
@@ -27,9 +27,9 @@ nothing_there (x ∷ xs) (item p h) no_way = absurd (no_way x p)
 
 module _ (q : Setting) (whole : Tree) (depths : Depths)
     (sizes : (e : Tree) → Contains (nodes whole) e → (s : MatchState) → IsSound q whole s →
-    Every (IsSizedWay q whole (size whole e) s) (ways q whole e depths s)) where
+    Every (IsSizedWay q whole (is_read whole) (size whole e) s) (ways q whole e depths s)) where
   -- a way that takes no characters ends where it began
-  no_move : (e : Tree) (s t : MatchState) → takes_nothing whole e ≡ true → IsSizedWay q whole (size whole e) s t →
+  no_move : (e : Tree) (s t : MatchState) → takes_nothing whole e ≡ true → IsSizedWay q whole (is_read whole) (size whole e) s t →
       t.place ≡ s.place
   no_move e s t nothing way = ⊎_elim
       (λ (lt : s.place < t.place). absurd
@@ -67,7 +67,7 @@ module _ (q : Setting) (whole : Tree) (depths : Depths)
         (λ first. every_flat_map {P = λ t. s.place ≡ q.pos} rest (λ t at. every_anything (rest t) (λ u. at))
         (begins e mine first s sound))
         (λ later. let both = and_parts (takes_nothing whole e) (first_begins whole es) later in
-        every_flat_map {P = IsSizedWay q whole (size whole e) s} rest
+        every_flat_map {P = IsSizedWay q whole (is_read whole) (size whole e) s} rest
         (λ t way. every_weaker (λ u at. sym (no_move e s t both.0 way) ∙ at)
         (each_begins es (includes_right (nodes whole) (nodes e) (nodes_of_each es) part) both.1 t way.sound))
         (sizes e (mine e (itself_contained e)) s sound))

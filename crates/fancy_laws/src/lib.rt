@@ -1,7 +1,7 @@
 //! Laws and theorems over the definitions alone: each is the contract of a function that does nothing.
 #![tactic(auto)]
 
-ghost use Rattle.fancy_meaning.specs.Laws.{LoopLaw, RequiredLaw, CallLaw, RefusedCallLaw, AtomicHasOneWay, NegativeLookChangesNothing, AheadHasWaysOfBody, BehindHasWaysOfBody, BehindGoesByBranches, AnswersArePairs, AnchorLaw, SizeLaw, ContinueLaw};
+ghost use Rattle.fancy_meaning.specs.Laws.{LoopLaw, RequiredLaw, CallLaw, RefusedCallLaw, AtomicHasOneWay, NegativeLookChangesNothing, AheadHasWaysOfBody, BehindHasWaysOfBody, BehindGoesByBranches, AnswersArePairs, AnchorLaw, SizeLaw, SpanSizeLaw, ContinueLaw};
 
 /// With none required, an unbounded loop goes on by a way of its body, and by one that moves nothing it is left; or it
 /// stops. Greedy it goes on first, lazy it stops first.
@@ -63,6 +63,11 @@ pub fn anchor_law()
 /// From a sound state each way of a part of an analysed tree takes as many characters as its size allows, and is sound.
 pub fn size_law()
     ensures { SizeLaw }
+{}
+
+/// From a sound state whose spans all keep the sizes of their groups, read or not, each way leads to such a state.
+pub fn span_size_law()
+    ensures { SpanSizeLaw }
 {}
 
 /// Where a tree begins with where the match before ended, no other start has a way.

@@ -12,7 +12,7 @@ use Rattle.fancy_meaning.specs.Options.{AnalysisOptions, analysis_of}
 use Rattle.fancy_meaning.specs.Numbers.{usize_max}
 use Rattle.fancy_meaning.specs.Sizes.{size}
 use Rattle.fancy_meaning.specs.Layout.{takes_nothing}
-use Rattle.fancy_meaning.specs.Premises.{Analysed, tree_of, IsText, IsSpan, IsSized, IsSound}
+use Rattle.fancy_meaning.specs.Premises.{Analysed, tree_of, IsText, IsSpan, IsSized, IsSoundFor, IsSound}
 
 -- ---- loops and calls, without a count
 
@@ -83,6 +83,13 @@ SizeLaw = (q : Setting) (a : Analysed) (e : Tree) (depths : Depths) (s t : Match
     let whole = tree_of a in
     IsText q.text → Contains (nodes whole) e → IsSound q whole s → Contains (ways q whole e depths s) t →
     IsSound q whole t × IsSized (size whole e) (chars_between q.text s.place t.place)
+
+-- From a sound state whose spans all keep the sizes of their groups, read or not, each way leads to such a state.
+abbrev pub SpanSizeLaw : Type 0
+SpanSizeLaw = (q : Setting) (a : Analysed) (e : Tree) (depths : Depths) (s t : MatchState) →
+    let whole = tree_of a in
+    IsText q.text → Contains (nodes whole) e → IsSoundFor q whole (λ g. true) s → Contains (ways q whole e depths s) t →
+    IsSoundFor q whole (λ g. true) t
 
 -- ---- where a match can begin
 
