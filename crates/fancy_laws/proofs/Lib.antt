@@ -12,6 +12,7 @@ pub mod Characters
 pub mod Pieces
 pub mod AtPlaces
 pub mod AnswerPairs
+pub mod SpansHold
 pub mod Anchors
 pub mod NodesBelow
 pub mod Numbering

@@ -1,7 +1,7 @@
 //! Laws and theorems over the definitions alone: each is the contract of a function that does nothing.
 #![tactic(auto)]
 
-ghost use Rattle.fancy_meaning.specs.Laws.{LoopLaw, RequiredLaw, CallLaw, RefusedCallLaw, AtomicHasOneWay, NegativeLookChangesNothing, AheadHasWaysOfBody, BehindHasWaysOfBody, BehindGoesByBranches, AnswersArePairs, AnchorLaw, SizeLaw, SpanSizeLaw, ContinueLaw};
+ghost use Rattle.fancy_meaning.specs.Laws.{LoopLaw, RequiredLaw, CallLaw, RefusedCallLaw, AtomicHasOneWay, NegativeLookChangesNothing, AheadHasWaysOfBody, BehindHasWaysOfBody, BehindGoesByBranches, AnswersArePairs, SpanLaw, ReferenceLaw, AnchorLaw, SizeLaw, SpanSizeLaw, ContinueLaw};
 
 /// With none required, an unbounded loop goes on by a way of its body, and by one that moves nothing it is left; or it
 /// stops. Greedy it goes on first, lazy it stops first.
@@ -52,6 +52,16 @@ pub fn behind_goes_by_branches()
 /// Each pair of an answer's numbers is unset in both, or two places of the text in order.
 pub fn answers_are_pairs()
     ensures { AnswersArePairs }
+{}
+
+/// Where every span lies between two places of the text, in order, each way of every tree keeps it so, from place to place.
+pub fn span_law()
+    ensures { SpanLaw }
+{}
+
+/// There a back reference reads a span in order, and its way takes as many bytes as the span has.
+pub fn reference_law()
+    ensures { ReferenceLaw }
 {}
 
 /// Where a tree as it is handed in begins with the text's start, or where the match before ended, the tree that is searched

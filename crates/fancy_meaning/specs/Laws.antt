@@ -1,10 +1,10 @@
 -- Laws of what a tree means, as types.
-use Rattle.std.specs.Prelude.{◌≡◌, ◌≢◌, ℕ, suc, ◌<◌, ◌≤◌, ◌⊎◌, Bool, true, false, ◌&&◌, ◌||◌, List, [], ◌∷◌, length, map, flat_map, Contains, Some, None, IfSome, IsTrue}
-use Rattle.fancy_meaning.specs.Tree.{Tree, none, more, Trees, children, Assert, StartText, ContinueFromPreviousMatchEnd, Concat, Alt, Group, LookAround, LookAhead, LookAheadNeg, LookBehind, LookBehindNeg, Repeat, AtomicGroup, SubroutineCall}
+use Rattle.std.specs.Prelude.{◌≡◌, ◌≢◌, ℕ, suc, ◌+◌, ◌-◌, ◌<◌, ◌≤◌, ◌⊎◌, Bool, true, false, ◌&&◌, ◌||◌, List, [], ◌∷◌, length, map, flat_map, Contains, Some, None, IfSome, IsTrue}
+use Rattle.fancy_meaning.specs.Tree.{Tree, none, more, Trees, children, Assert, StartText, ContinueFromPreviousMatchEnd, Concat, Alt, Group, LookAround, LookAhead, LookAheadNeg, LookBehind, LookBehindNeg, Repeat, Backref, AtomicGroup, SubroutineCall}
 use Rattle.fancy_meaning.specs.Nodes.{nodes, target}
 use Rattle.fancy_meaning.specs.OpenCalls.{Depths, opened, call_depth}
 use Rattle.fancy_meaning.specs.Places.{is_place, chars_between}
-use Rattle.fancy_meaning.specs.MatchState.{MatchState, moved_to}
+use Rattle.fancy_meaning.specs.MatchState.{MatchState, Span, moved_to}
 use Rattle.fancy_meaning.specs.Loops.{prefer, if_moved}
 use Rattle.fancy_meaning.specs.Ways.{Setting, ends_here, captured_by_call, ways}
 use Rattle.fancy_meaning.specs.Answer.{Search, ways_from, answer}
@@ -12,7 +12,7 @@ use Rattle.fancy_meaning.specs.Options.{AnalysisOptions, analysis_of}
 use Rattle.fancy_meaning.specs.Numbers.{usize_max}
 use Rattle.fancy_meaning.specs.Sizes.{size}
 use Rattle.fancy_meaning.specs.Layout.{takes_nothing}
-use Rattle.fancy_meaning.specs.Premises.{Analysed, tree_of, IsText, IsSpan, IsSized, IsSoundFor, IsSound}
+use Rattle.fancy_meaning.specs.Premises.{Analysed, tree_of, IsText, IsSpan, HasSpans, IsSized, IsSoundFor, IsSound}
 
 -- ---- loops and calls, without a count
 
@@ -74,6 +74,19 @@ ArePairs text (i ∷ j ∷ rest) = (((i ≡ usize_max) × (j ≡ usize_max)) ⊎
 
 abbrev pub AnswersArePairs : Type 0
 AnswersArePairs = (q : Search) → IsText q.text → IsTrue (is_place q.text q.pos) → IfSome (answer q) (ArePairs q.text)
+
+-- ---- spans
+
+-- Where every span lies between two places of the text, in order, each way of every tree keeps it so, from place to place.
+abbrev pub SpanLaw : Type 0
+SpanLaw = (q : Setting) (whole e : Tree) (depths : Depths) (s t : MatchState) → IsText q.text → IsTrue (is_place q.text s.place) →
+    HasSpans q.text s.captures → Contains (ways q whole e depths s) t → IsTrue (is_place q.text t.place) × HasSpans q.text t.captures
+
+-- There a back reference reads a span in order, and its way takes as many bytes as the span has.
+abbrev pub ReferenceLaw : Type 0
+ReferenceLaw = (q : Setting) (whole : Tree) (depths : Depths) (g : ℕ) (casei : Bool) (s t : MatchState) → HasSpans q.text s.captures →
+    Contains (ways q whole (Backref g casei) depths s) t →
+    (span : Span) × (s.captures g ≡ Some span) × (span.0 ≤ span.1) × (t ≡ moved_to (s.place + (span.1 - span.0)) s)
 
 -- ---- sizes
 
