@@ -22,4 +22,5 @@ pub mod SizeRules
 pub mod Rounds
 pub mod SizedWays
 pub mod SizesHold
+pub mod Marks
 pub mod Continues

@@ -1,7 +1,7 @@
 //! Laws and theorems over the definitions alone: each is the contract of a function that does nothing.
 #![tactic(auto)]
 
-ghost use Rattle.fancy_meaning.specs.Laws.{LoopLaw, RequiredLaw, CallLaw, RefusedCallLaw, AtomicHasOneWay, NegativeLookChangesNothing, AheadHasWaysOfBody, BehindHasWaysOfBody, BehindGoesByBranches, AnswersArePairs, SpanLaw, ReferenceLaw, AnchorLaw, SizeLaw, SpanSizeLaw, ContinueLaw};
+ghost use Rattle.fancy_meaning.specs.Laws.{LoopLaw, RequiredLaw, CallLaw, RefusedCallLaw, AtomicHasOneWay, NegativeLookChangesNothing, AheadHasWaysOfBody, BehindHasWaysOfBody, BehindGoesByBranches, AnswersArePairs, SpanLaw, ReferenceLaw, AnchorLaw, SizeLaw, SpanSizeLaw, MarkLaw, ContinueLaw};
 
 /// With none required, an unbounded loop goes on by a way of its body, and by one that moves nothing it is left; or it
 /// stops. Greedy it goes on first, lazy it stops first.
@@ -80,7 +80,12 @@ pub fn span_size_law()
     ensures { SpanSizeLaw }
 {}
 
-/// Where a tree begins with where the match before ended, no other start has a way.
+/// The marked nodes of a part are the part, and where it passes its mark on those of its children.
+pub fn mark_law()
+    ensures { MarkLaw }
+{}
+
+/// Where a `\G` of a tree is marked, no other start has a way.
 pub fn continue_law()
     ensures { ContinueLaw }
 {}

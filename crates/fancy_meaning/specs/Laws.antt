@@ -1,6 +1,6 @@
 -- Laws of what a tree means, as types.
-use Rattle.std.specs.Prelude.{◌≡◌, ◌≢◌, ℕ, suc, ◌+◌, ◌-◌, ◌<◌, ◌≤◌, ◌⊎◌, Bool, true, false, ◌&&◌, ◌||◌, List, [], ◌∷◌, length, map, flat_map, Contains, Some, None, IfSome, IsTrue}
-use Rattle.fancy_meaning.specs.Tree.{Tree, none, more, Trees, children, Assert, StartText, ContinueFromPreviousMatchEnd, Concat, Alt, Group, LookAround, LookAhead, LookAheadNeg, LookBehind, LookBehindNeg, Repeat, Backref, AtomicGroup, SubroutineCall}
+use Rattle.std.specs.Prelude.{◌≡◌, ◌≢◌, ℕ, suc, ◌+◌, ◌-◌, ◌<◌, ◌≤◌, ◌⊎◌, Bool, true, false, if◌then◌else◌, List, [], ◌∷◌, length, map, flat_map, Contains, Some, None, IfSome, IsTrue}
+use Rattle.fancy_meaning.specs.Tree.{Tree, none, more, Trees, children, parts, Assert, StartText, ContinueFromPreviousMatchEnd, Concat, Alt, Group, LookAround, LookAhead, LookAheadNeg, LookBehind, LookBehindNeg, Repeat, Backref, AtomicGroup, SubroutineCall}
 use Rattle.fancy_meaning.specs.Nodes.{nodes, target}
 use Rattle.fancy_meaning.specs.OpenCalls.{Depths, opened, call_depth}
 use Rattle.fancy_meaning.specs.Places.{is_place, chars_between}
@@ -11,7 +11,7 @@ use Rattle.fancy_meaning.specs.Answer.{Search, ways_from, answer}
 use Rattle.fancy_meaning.specs.Options.{AnalysisOptions, analysis_of}
 use Rattle.fancy_meaning.specs.Numbers.{usize_max}
 use Rattle.fancy_meaning.specs.Sizes.{size}
-use Rattle.fancy_meaning.specs.Layout.{takes_nothing}
+use Rattle.fancy_meaning.specs.Marks.{passes_mark, marked, first_marked, has_marked_continue}
 use Rattle.fancy_meaning.specs.Premises.{Analysed, tree_of, IsText, IsSpan, HasSpans, IsSized, IsSoundFor, IsSound}
 
 -- ---- loops and calls, without a count
@@ -128,20 +128,13 @@ AnchorLaw = (q : Setting) (parsed : Tree) (options : AnalysisOptions) (depths : 
     can_be_anchored parsed ≡ true → Contains (ways q whole whole depths s) t →
     (s.place ≡ 0) ⊎ ((q.continued ≡ true) × (s.place ≡ q.pos))
 
--- a `\G` is reached from the root through groups, and in sequences past what takes nothing
-module _ (whole : Tree) where
-  abbrev mutual
-    pub begins_with_continue : Tree → Bool
-    begins_with_continue ContinueFromPreviousMatchEnd = true
-    begins_with_continue (Group g e) = begins_with_continue e
-    begins_with_continue (Concat es) = first_begins es
-    begins_with_continue e = false
+-- ---- what is marked
 
-    pub first_begins : Trees → Bool
-    first_begins none = false
-    first_begins (more e es) = begins_with_continue e || (takes_nothing whole e && first_begins es)
+-- The marked nodes of a part are the part, and where it passes its mark on those of its children.
+abbrev pub MarkLaw : Type 0
+MarkLaw = (whole e : Tree) → marked whole e ≡ e ∷ (if passes_mark e then first_marked whole (parts e) else [])
 
--- Then no other start has a way.
+-- Where a `\G` is marked, no other start has a way.
 abbrev pub ContinueLaw : Type 0
 ContinueLaw = (q : Search) (a : Analysed) (start : ℕ) → q.tree ≡ tree_of a → IsText q.text → IsTrue (is_place q.text start) →
-    begins_with_continue q.tree q.tree ≡ true → start ≢ q.pos → ways_from q start ≡ []
+    has_marked_continue q.tree q.tree ≡ true → start ≢ q.pos → ways_from q start ≡ []
