@@ -30,7 +30,6 @@ use Rattle.fancy_composed.proofs.Ready.{Ready}
 use Rattle.fancy_laws.proofs.Characters.{no_chars}
 use Rattle.fancy_laws.proofs.Marks.{first_has_continue, continue_in_first, continue_later}
 
-
 module _ (w : Ground) (r : Ready w) (depths : Depths) where
   abbrev pub call : ℕ → Bool → Code
   call = called_code w.plan never (free_calls (whole w) depths) depths

@@ -1,6 +1,6 @@
 -- The code of each node that is written out hands a list that serves for its ways in its context: by induction over the tree.
 use Rattle.std.proofs.Common.{◌≡◌, ◌≢◌, ℕ, Bool, true, false, ◌&&◌, ◌||◌, List, ◌∷◌, map, Some, None, refl, sym, ap, ◌∙◌, subst, subst₂, true≢false}
-use Rattle.std.proofs.lemmas.Bool.{and_parts, and_from, or_left, or_right}
+use Rattle.std.proofs.lemmas.Bool.{and_parts}
 use Rattle.fancy_meaning.specs.Tree.{Tree, Trees, none, more, children, Empty, KeepOut, ContinueFromPreviousMatchEnd, AbsentClear, Any, Assert, GeneralNewline, Literal, LiteralBytes, Delegate, Concat, Alt, Group, LookAround, Repeat, Backref, BackrefWithLevel, BackrefExists, AtomicGroup, DefineGroup, AbsentRepeater, AbsentStopper, AbsentExpression, Control, Conditional, SubroutineCall, AstNode, Look, Fail, Accept, Commit, Skip, Prune}
 use Rattle.fancy_meaning.specs.Nodes.{is_read}
 use Rattle.fancy_meaning.specs.OpenCalls.{Depths, free_calls}

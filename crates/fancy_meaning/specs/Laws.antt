@@ -1,6 +1,6 @@
 -- Laws of what a tree means, as types.
 use Rattle.std.specs.Prelude.{◌≡◌, ◌≢◌, ℕ, suc, ◌+◌, ◌-◌, ◌<◌, ◌≤◌, ◌⊎◌, Bool, true, false, if◌then◌else◌, List, [], ◌∷◌, length, map, flat_map, Contains, Some, None, IfSome, IsTrue}
-use Rattle.fancy_meaning.specs.Tree.{Tree, none, more, Trees, children, parts, Assert, StartText, ContinueFromPreviousMatchEnd, Concat, Alt, Group, LookAround, LookAhead, LookAheadNeg, LookBehind, LookBehindNeg, Repeat, Backref, AtomicGroup, SubroutineCall}
+use Rattle.fancy_meaning.specs.Tree.{Tree, more, Trees, children, parts, Assert, StartText, ContinueFromPreviousMatchEnd, Concat, Alt, LookAround, LookAhead, LookAheadNeg, LookBehind, LookBehindNeg, Repeat, Backref, AtomicGroup, SubroutineCall}
 use Rattle.fancy_meaning.specs.Nodes.{nodes, target}
 use Rattle.fancy_meaning.specs.OpenCalls.{Depths, opened, call_depth}
 use Rattle.fancy_meaning.specs.Places.{is_place, chars_between}

@@ -1,7 +1,7 @@
 -- The program of a tree.
-use Rattle.std.specs.Prelude.{ℕ, zero, suc, ◌+◌, ◌-◌, ◌*◌, max, Bool, true, false, ◌&&◌, ◌||◌, not, List, [], ◌∷◌, ◌++◌, length, map, take, drop, reverse, take_while, Option, Some, None, if◌then◌else◌, ◌==◌, nat_lt, nat_eq, encode_utf8_all}
+use Rattle.std.specs.Prelude.{ℕ, zero, suc, ◌+◌, ◌-◌, ◌*◌, max, Bool, true, false, ◌&&◌, ◌||◌, not, List, [], ◌∷◌, length, map, take, drop, reverse, take_while, Option, Some, None, if◌then◌else◌, ◌==◌, nat_lt, encode_utf8_all}
 use Rattle.std.specs.List.{list_any}
-use Rattle.fancy_meaning.specs.Tree.{Tree, Trees, none, more, KeepOut, ContinueFromPreviousMatchEnd, AbsentClear, Any, Assert, GeneralNewline, Literal, LiteralBytes, Delegate, Concat, Alt, Group, LookAround, Repeat, Backref, BackrefExists, AtomicGroup, AbsentRepeater, AbsentStopper, AbsentExpression, Control, Conditional, SubroutineCall, Fail}
+use Rattle.fancy_meaning.specs.Tree.{Tree, Trees, none, more, KeepOut, ContinueFromPreviousMatchEnd, Any, Assert, GeneralNewline, Literal, LiteralBytes, Delegate, Concat, Alt, Group, LookAround, Repeat, Backref, BackrefExists, AtomicGroup, AbsentRepeater, Control, Conditional, SubroutineCall, Fail}
 use Rattle.fancy_meaning.specs.Nodes.{nodes, group_count, target, is_read, is_absent}
 use Rattle.fancy_meaning.specs.OpenCalls.{Depths, opened, no_calls, call_depth, free_calls}
 use Rattle.fancy_meaning.specs.Assertions.{assertion_within}
