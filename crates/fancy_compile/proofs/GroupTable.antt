@@ -154,17 +154,25 @@ module _ (a : Analysis) where
   left_starts is = filter_map group_number (first_marked a.tree (trees (map info_tree is)))
 
   -- those of the first, and those of the rest if the first takes nothing
-  left_split : (l : List Info) (i : ℕ) (x : Info) (b : Bool) → i < length l → x ≡ get_or l i x → takes_nothing a.tree (info_tree x) ≡ b → left_starts (drop i l) ≡ marked_groups a.tree (info_tree x) ++ filter_map group_number (if b then first_marked a.tree (trees (map info_tree (drop (i + 1) l))) else [])
+  left_split : (l : List Info) (i : ℕ) (x : Info) (b : Bool) → i < length l → x ≡ get_or l i x →
+      takes_nothing a.tree (info_tree x) ≡ b →
+      left_starts (drop i l)
+      ≡ marked_groups a.tree (info_tree x)
+      ++ filter_map group_number (if b then first_marked a.tree (trees (map info_tree (drop (i + 1) l))) else [])
   left_split l i x b lt at is =
       let rest : Bool → List Tree = λ v. if v then first_marked a.tree (trees (map info_tree (drop (i + 1) l))) else [] in
       ap left_starts (rest_at l i x lt at)
       ∙ filter_map-append group_number (marked a.tree (info_tree x)) (rest (takes_nothing a.tree (info_tree x)))
       ∙ ap (λ v. marked_groups a.tree (info_tree x) ++ filter_map group_number (rest v)) is
 
-  pub left_more : (l : List Info) (i : ℕ) (x : Info) → i < length l → x ≡ get_or l i x → takes_nothing a.tree (info_tree x) ≡ true → left_starts (drop i l) ≡ marked_groups a.tree (info_tree x) ++ left_starts (drop (i + 1) l)
+  pub left_more : (l : List Info) (i : ℕ) (x : Info) → i < length l → x ≡ get_or l i x →
+      takes_nothing a.tree (info_tree x) ≡ true →
+      left_starts (drop i l) ≡ marked_groups a.tree (info_tree x) ++ left_starts (drop (i + 1) l)
   left_more l i x lt at empty = left_split l i x true lt at empty
 
-  pub left_last : (l : List Info) (i : ℕ) (x : Info) → i < length l → x ≡ get_or l i x → takes_nothing a.tree (info_tree x) ≡ false → left_starts (drop i l) ≡ marked_groups a.tree (info_tree x)
+  pub left_last : (l : List Info) (i : ℕ) (x : Info) → i < length l → x ≡ get_or l i x →
+      takes_nothing a.tree (info_tree x) ≡ false →
+      left_starts (drop i l) ≡ marked_groups a.tree (info_tree x)
   left_last l i x lt at takes = left_split l i x false lt at takes ∙ append-nil (marked_groups a.tree (info_tree x))
 
   pub left_done : (l : List Info) (i : ℕ) → length l ≤ i → left_starts (drop i l) ≡ []

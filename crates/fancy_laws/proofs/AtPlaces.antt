@@ -38,7 +38,8 @@ pub record GoesByPlaces (text : List ℕ) (Kept : ℕ → Type 0) (s t : MatchSt
   pub on : s.place ≤ t.place
   pub there : StandsAtPlaces text Kept t
 
-moves_to : (text : List ℕ) (Kept : ℕ → Type 0) (s : MatchState) (i : ℕ) → StandsAtPlaces text Kept s → s.place ≤ i → is_place text i ≡ true →
+moves_to : (text : List ℕ) (Kept : ℕ → Type 0) (s : MatchState) (i : ℕ) → StandsAtPlaces text Kept s → s.place ≤ i →
+    is_place text i ≡ true →
     GoesByPlaces text Kept s (record s { place = i })
 moves_to text Kept s i good le at = record { on = le; there = record { place = at; spans = good.spans; kept = good.kept } }
 

@@ -54,7 +54,7 @@ pub fn answers_are_pairs()
     ensures { AnswersArePairs }
 {}
 
-/// Where every span lies between two places of the text, in order, each way of every tree keeps it so, from place to place.
+/// Where every span lies between two places of the text, in order, each way keeps it so, and leads from place to place.
 pub fn span_law()
     ensures { SpanLaw }
 {}
@@ -64,8 +64,8 @@ pub fn reference_law()
     ensures { ReferenceLaw }
 {}
 
-/// Where a tree as it is handed in begins with the text's start, or where the match before ended, the tree that is searched
-/// for, its groups numbered, has ways from there alone.
+/// Where a tree as it is handed in begins with the text's start, or where the match before ended, the tree that is
+/// searched for, its groups numbered, has ways from there alone.
 pub fn anchor_law()
     ensures { AnchorLaw }
 {}

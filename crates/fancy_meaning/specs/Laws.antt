@@ -77,15 +77,16 @@ AnswersArePairs = (q : Search) → IsText q.text → IsTrue (is_place q.text q.p
 
 -- ---- spans
 
--- Where every span lies between two places of the text, in order, each way of every tree keeps it so, from place to place.
+-- Where every span lies between two places of the text, in order, each way keeps it so, and leads from place to place.
 abbrev pub SpanLaw : Type 0
-SpanLaw = (q : Setting) (whole e : Tree) (depths : Depths) (s t : MatchState) → IsText q.text → IsTrue (is_place q.text s.place) →
-    HasSpans q.text s.captures → Contains (ways q whole e depths s) t → IsTrue (is_place q.text t.place) × HasSpans q.text t.captures
+SpanLaw = (q : Setting) (whole e : Tree) (depths : Depths) (s t : MatchState) → IsText q.text →
+    IsTrue (is_place q.text s.place) → HasSpans q.text s.captures → Contains (ways q whole e depths s) t →
+    IsTrue (is_place q.text t.place) × HasSpans q.text t.captures
 
 -- There a back reference reads a span in order, and its way takes as many bytes as the span has.
 abbrev pub ReferenceLaw : Type 0
-ReferenceLaw = (q : Setting) (whole : Tree) (depths : Depths) (g : ℕ) (casei : Bool) (s t : MatchState) → HasSpans q.text s.captures →
-    Contains (ways q whole (Backref g casei) depths s) t →
+ReferenceLaw = (q : Setting) (whole : Tree) (depths : Depths) (g : ℕ) (casei : Bool) (s t : MatchState) →
+    HasSpans q.text s.captures → Contains (ways q whole (Backref g casei) depths s) t →
     (span : Span) × (s.captures g ≡ Some span) × (span.0 ≤ span.1) × (t ≡ moved_to (s.place + (span.1 - span.0)) s)
 
 -- ---- sizes

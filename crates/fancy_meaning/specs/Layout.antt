@@ -95,17 +95,19 @@ module _ (p : Plan) (easy : Tree → Bool) where
       written (SubroutineCall g) is_marked in_hard = λ base fresh. call g in_hard base fresh
       written (Repeat lo hi greedy e) is_marked in_hard =
           let form = loop_form lo hi ((size_of e).least == 0) in
-          repeat_code greedy (loop_body e (written e (passes_mark (Repeat lo hi greedy e) && is_marked)) form in_hard) form
+          let below = written e (passes_mark (Repeat lo hi greedy e) && is_marked) in
+          repeat_code greedy (loop_body e below form in_hard) form
       written (LookAround look (Alt es)) is_marked in_hard =
           let ws = each_part (passes_mark (LookAround look (Alt es)) && is_marked) es in
           look_around_code look (body_code (record { tree = Alt es; code = in_context (Alt es) (alt_code ws) })) (map body_code ws)
       written (LookAround look e) is_marked in_hard =
-          let body : Part = record { tree = e; code = in_context e (written e (passes_mark (LookAround look e) && is_marked)) } in
-          look_around_code look (body_code body) []
+          let below = written e (passes_mark (LookAround look e) && is_marked) in
+          look_around_code look (body_code (record { tree = e; code = in_context e below })) []
       written (Backref g casei) is_marked in_hard = one (Instr.Backref (2 * g) casei p.unicode)
       written (BackrefExists g None) is_marked in_hard = one (Instr.BackrefExistsCondition g)
       written (Control Fail) is_marked in_hard = one Instr.Fail
-      written (AtomicGroup e) is_marked in_hard = atomic_code (in_context e (written e (passes_mark (AtomicGroup e) && is_marked)) false)
+      written (AtomicGroup e) is_marked in_hard =
+          atomic_code (in_context e (written e (passes_mark (AtomicGroup e) && is_marked)) false)
       written KeepOut is_marked in_hard = one (Instr.Save 0)
       written ContinueFromPreviousMatchEnd is_marked in_hard = one (Instr.ContinueFromPreviousMatchEnd is_marked)
       written (Conditional c t f) is_marked in_hard =
@@ -114,14 +116,16 @@ module _ (p : Plan) (easy : Tree → Bool) where
           (in_context c (written c below) in_hard)
           (in_context t (written t below) in_hard)
           (in_context f (written f below) in_hard)
-      written (AbsentRepeater e) is_marked in_hard = absent_repeater_code e (written e (passes_mark (AbsentRepeater e) && is_marked))
+      written (AbsentRepeater e) is_marked in_hard =
+          absent_repeater_code e (written e (passes_mark (AbsentRepeater e) && is_marked))
       -- `Empty`, `DefineGroup`, and what is refused
       written e is_marked in_hard = nothing
 
       pub each_part : (is_marked : Bool) → Trees → List Part
       each_part is_marked none = []
       each_part is_marked (more e es) =
-          record { tree = e; code = in_context e (written e is_marked) } ∷ each_part (is_marked && takes_nothing whole e) es
+          let w : Part = record { tree = e; code = in_context e (written e is_marked) } in
+          w ∷ each_part (is_marked && takes_nothing whole e) es
 
   -- the whole tree, which may be hard for its own reason
   abbrev pub is_root_easy : Bool
@@ -134,7 +138,8 @@ module _ (p : Plan) (easy : Tree → Bool) where
   abbrev pub target_code : ℕ → (ℕ → Bool → Code) → Bool → Option Tree → Code
   target_code g call in_hard None = nothing
   target_code zero call in_hard (Some e) = root_code call in_hard
-  target_code (suc g) call in_hard (Some e) = group_body (suc g) e (written call e (is_marked_group whole (suc g))) in_hard
+  target_code (suc g) call in_hard (Some e) =
+      group_body (suc g) e (written call e (is_marked_group whole (suc g))) in_hard
 
   -- the code of a call where these calls are open, and at most n more may be opened
   abbrev pub called_code : ℕ → Depths → ℕ → Bool → Code
