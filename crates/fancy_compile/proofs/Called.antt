@@ -6,7 +6,7 @@ use Rattle.std.proofs.lemmas.List.{length-map}
 use Rattle.std.proofs.Math.ListN.{get_or-map}
 use Rattle.fancy_meaning.specs.Tree as plain
 use Rattle.fancy_meaning.specs.Tree.{Tree}
-use Rattle.fancy_meaning.specs.Layout.{groups_at_start}
+use Rattle.fancy_meaning.specs.Marks.{marked_groups}
 use Rattle.fancy_meaning.specs.Nodes.{groups, target}
 use Rattle.fancy_meaning.specs.Numbering.{numbered}
 use Rattle.fancy_meaning.specs.Options.{Analysis}
@@ -78,11 +78,11 @@ module _ (a : Analysis) (task : Task) (s : IsServed a task) (g : ℕ) where
     pub body_facts : IsBody a (node_count task.root.now) b
     body_facts = each_at (IsBody a (node_count task.root.now)) bodies (g - first) b s.known lt at
 
-    pub body_starts : slice_index_or task.groups.now.starts.items (g - first) false ≡ list_any (nat_eq g) (groups_at_start a.tree a.tree)
+    pub body_starts : slice_index_or task.groups.now.starts.items (g - first) false ≡ list_any (nat_eq g) (marked_groups a.tree a.tree)
     body_starts =
         let here : first + (g - first) ≡ g = omega (arith, low) in
-        s.starts (g - first) ∙ ap (λ t. t && list_any (nat_eq (first + (g - first))) (groups_at_start a.tree a.tree)) (lt-ltb (g - first) (length bodies) lt)
-        ∙ ap (λ n. list_any (nat_eq n) (groups_at_start a.tree a.tree)) here
+        s.starts (g - first) ∙ ap (λ t. t && list_any (nat_eq (first + (g - first))) (marked_groups a.tree a.tree)) (lt-ltb (g - first) (length bodies) lt)
+        ∙ ap (λ n. list_any (nat_eq n) (marked_groups a.tree a.tree)) here
 
   -- something is called
   pub some_target : has_target task.groups.now g ≡ true → (b : Tree) × (target a.tree g ≡ Some b)
@@ -116,11 +116,11 @@ module _ (a : Analysed) (i : Info) (r : IsRoot (analysis a) i) (first : ℕ) (g 
   pub table_known : Each (IsBody (analysis a) (node_count i)) g.bodies.items
   table_known = (t.bodies).known (analysis a) (node_count i) (root_known a i r) (omega arith) tt
 
-  pub table_starts : (k : ℕ) → slice_index_or g.starts.items k false ≡ (nat_lt k (length g.bodies.items) && list_any (nat_eq (g.first + k)) (groups_at_start (analysis a).tree (analysis a).tree))
+  pub table_starts : (k : ℕ) → slice_index_or g.starts.items k false ≡ (nat_lt k (length g.bodies.items) && list_any (nat_eq (g.first + k)) (marked_groups (analysis a).tree (analysis a).tree))
   table_starts k =
       t.starts (analysis a) (root_known a i r) k
-      ∙ ap (λ n. nat_lt k (length g.bodies.items) && list_any (nat_eq (n + k)) (groups_at_start (analysis a).tree (info_tree i))) (sym t.from)
-      ∙ ap (λ e. nat_lt k (length g.bodies.items) && list_any (nat_eq (g.first + k)) (groups_at_start (analysis a).tree e)) r.tree
+      ∙ ap (λ n. nat_lt k (length g.bodies.items) && list_any (nat_eq (n + k)) (marked_groups (analysis a).tree (info_tree i))) (sym t.from)
+      ∙ ap (λ e. nat_lt k (length g.bodies.items) && list_any (nat_eq (g.first + k)) (marked_groups (analysis a).tree e)) r.tree
 
   numbers_from : (n : ℕ) (e : Tree) → AreNumbered n (groups (numbered n e))
   unfolding numbered

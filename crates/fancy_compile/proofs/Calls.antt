@@ -13,7 +13,8 @@ use Rattle.fancy_meaning.specs.OpenCalls.{opened, call_depth, free_calls}
 use Rattle.fancy_meaning.specs.Code.{Code, Laid, one}
 use Rattle.fancy_meaning.specs.Constructs.{group_code}
 use Rattle.fancy_meaning.specs.Instr.{Instr}
-use Rattle.fancy_meaning.specs.Layout.{groups_at_start, called_code, target_code, fail_code}
+use Rattle.fancy_meaning.specs.Layout.{called_code, target_code, fail_code}
+use Rattle.fancy_meaning.specs.Marks.{marked_groups}
 use Rattle.fancy_meaning.specs.Options.{Analysis}
 use Rattle.fancy_laws.proofs.Calls.{opening_lowers}
 use Rattle.fancy_expr.specs.declared.error.Error.{Error}
@@ -127,7 +128,7 @@ module _ (p : Site) (in_hard : Bool) (inner : ℕ → Bool → Code) (b : Tree) 
   pub code_of_zero : (g : ℕ) → g ≡ 0 → target_code p.plan no_node g inner in_hard (Some b) ≡ hard_code p inner p.analysis.tree true in_hard
   code_of_zero g is = ap (λ n. target_code p.plan no_node n inner in_hard (Some b)) is
 
-  pub code_of_group : (g : ℕ) (starts : Bool) → ¬ (g ≡ 0) → starts ≡ list_any (nat_eq g) (groups_at_start p.analysis.tree p.analysis.tree) → target_code p.plan no_node g inner in_hard (Some b) ≡ group_code g (hard_code p inner b starts (in_hard || is_read p.analysis.tree g))
+  pub code_of_group : (g : ℕ) (starts : Bool) → ¬ (g ≡ 0) → starts ≡ list_any (nat_eq g) (marked_groups p.analysis.tree p.analysis.tree) → target_code p.plan no_node g inner in_hard (Some b) ≡ group_code g (hard_code p inner b starts (in_hard || is_read p.analysis.tree g))
   code_of_group zero starts h is = absurd (h refl)
   code_of_group (suc g) starts h is = ap (λ m. group_code (suc g) (hard_code p inner b m (in_hard || is_read p.analysis.tree (suc g)))) (sym is)
 

@@ -8,7 +8,8 @@ use Rattle.fancy_compile.specs.Sites.{Site}
 use Rattle.fancy_meaning.specs.Batches.{batch}
 use Rattle.fancy_meaning.specs.Code.{Code, nothing, one, ◌>>◌, in_turn, branches}
 use Rattle.fancy_meaning.specs.Constructs.{look_code, negative_look_code, behind_code}
-use Rattle.fancy_meaning.specs.Layout.{Part, concat_code, each_part, takes_nothing, in_context, written, body_code}
+use Rattle.fancy_meaning.specs.Marks.{takes_nothing}
+use Rattle.fancy_meaning.specs.Layout.{Part, concat_code, each_part, in_context, written, body_code}
 use Rattle.fancy_compile.specs.Drafts.{no_node, hard_code}
 use Rattle.fancy_compile.specs.Nodes.{codes_in_turn, codes_of_branches, codes_of_none}
 

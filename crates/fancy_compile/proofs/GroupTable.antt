@@ -6,7 +6,7 @@ use Rattle.std.proofs.lemmas.List.{length-map, map-append, drop_all}
 use Rattle.std.proofs.lemmas.List.Elements.{filter_map-append}
 use Rattle.fancy_meaning.specs.Tree as plain
 use Rattle.fancy_meaning.specs.Tree.{Tree, Trees, none, more, trees, Within}
-use Rattle.fancy_meaning.specs.Layout.{groups_at_start, first_at_start, takes_nothing}
+use Rattle.fancy_meaning.specs.Marks.{takes_nothing, marked_groups, group_number, marked_nodes, first_marked_nodes}
 use Rattle.fancy_meaning.specs.Nodes.{nodes, nodes_of_each, as_group, groups, target, body_in}
 use Rattle.fancy_meaning.specs.Options.{Analysis}
 use Rattle.fancy_expr.specs.declared.expr.Absent.{Absent}
@@ -116,51 +116,64 @@ module _ (first : ℕ) where
 -- ---- what a match begins with
 
 module _ (a : Analysis) where
-  absent_starts : (x : Absent) (es : Trees) → groups_at_start a.tree (absent_over x es) ≡ []
+  absent_starts : (x : Absent) (es : Trees) → marked_groups a.tree (absent_over x es) ≡ []
   absent_starts (code_absent.Repeater' b e) es = refl
   absent_starts (code_absent.Expression' b x c e) es = refl
   absent_starts (code_absent.Stopper' b e) es = refl
   absent_starts code_absent.Clear es = refl
 
-  other_starts : (e : Expr) (n : ℕ) (w : Within) (es : Trees) → is_group e ≡ false → is_concat e ≡ false → groups_at_start a.tree (node_over e n w es) ≡ []
+  other_starts : (e : Expr) (n : ℕ) (w : Within) (es : Trees) → is_group e ≡ false → is_concat e ≡ false → marked_groups a.tree (node_over e n w es) ≡ []
   other_starts (code.Group' b e) n w es g c = absurd (true≢false g)
   other_starts (code.Concat' shape row) n w es g c = absurd (true≢false c)
   other_starts (code.Absent x) n w es g c = absent_starts x es
   other_starts e n w es g c = refl
 
-  concat_starts : (e : Expr) (n : ℕ) (w : Within) (es : Trees) → is_concat e ≡ true → groups_at_start a.tree (node_over e n w es) ≡ first_at_start a.tree es
+  concat_starts : (e : Expr) (n : ℕ) (w : Within) (es : Trees) → is_concat e ≡ true → marked_groups a.tree (node_over e n w es) ≡ filter_map group_number (first_marked_nodes a.tree es)
   concat_starts (code.Concat' shape row) n w es c = refl
   concat_starts e n w es c = absurd (true≢false (sym c))
 
-  group_starts_over : (e : Expr) (n : ℕ) (w : Within) (t : Tree) → is_group e ≡ true → groups_at_start a.tree (node_over e n w (trees (t ∷ []))) ≡ n ∷ groups_at_start a.tree t
+  group_starts_over : (e : Expr) (n : ℕ) (w : Within) (t : Tree) → is_group e ≡ true → marked_groups a.tree (node_over e n w (trees (t ∷ []))) ≡ n ∷ marked_groups a.tree t
   group_starts_over (code.Group' b e) n w t g = refl
   group_starts_over e n w t g = absurd (true≢false (sym g))
 
   module _ (i : Info) where
-    pub no_starts : is_group (info_facts i).expr ≡ false → is_concat (info_facts i).expr ≡ false → groups_at_start a.tree (info_tree i) ≡ []
-    no_starts g c = ap (groups_at_start a.tree) (tree_out i) ∙ other_starts (out-Info i).expr.now (out-Info i).start_group (info_within i) (trees (map info_tree (info_children i))) g c
+    pub no_starts : is_group (info_facts i).expr ≡ false → is_concat (info_facts i).expr ≡ false → marked_groups a.tree (info_tree i) ≡ []
+    no_starts g c = ap (marked_groups a.tree) (tree_out i) ∙ other_starts (out-Info i).expr.now (out-Info i).start_group (info_within i) (trees (map info_tree (info_children i))) g c
 
-    pub starts_of_concat : is_concat (info_facts i).expr ≡ true → groups_at_start a.tree (info_tree i) ≡ first_at_start a.tree (trees (map info_tree (info_children i)))
-    starts_of_concat c = ap (groups_at_start a.tree) (tree_out i) ∙ concat_starts (out-Info i).expr.now (out-Info i).start_group (info_within i) (trees (map info_tree (info_children i))) c
+    pub starts_of_concat : is_concat (info_facts i).expr ≡ true → marked_groups a.tree (info_tree i) ≡ filter_map group_number (first_marked_nodes a.tree (trees (map info_tree (info_children i))))
+    starts_of_concat c = ap (marked_groups a.tree) (tree_out i) ∙ concat_starts (out-Info i).expr.now (out-Info i).start_group (info_within i) (trees (map info_tree (info_children i))) c
 
-    pub starts_of_group : (b : Info) → is_group (info_facts i).expr ≡ true → info_children i ≡ b ∷ [] → groups_at_start a.tree (info_tree i) ≡ (info_facts i).start_group ∷ groups_at_start a.tree (info_tree b)
+    pub starts_of_group : (b : Info) → is_group (info_facts i).expr ≡ true → info_children i ≡ b ∷ [] → marked_groups a.tree (info_tree i) ≡ (info_facts i).start_group ∷ marked_groups a.tree (info_tree b)
     starts_of_group b g only =
-        ap (groups_at_start a.tree) (tree_out i)
-        ∙ ap (λ l. groups_at_start a.tree (node_over (out-Info i).expr.now (out-Info i).start_group (info_within i) (trees (map info_tree l)))) only
+        ap (marked_groups a.tree) (tree_out i)
+        ∙ ap (λ l. marked_groups a.tree (node_over (out-Info i).expr.now (out-Info i).start_group (info_within i) (trees (map info_tree l)))) only
         ∙ group_starts_over (out-Info i).expr.now (out-Info i).start_group (info_within i) (info_tree b) g
 
   -- the groups at the start of what is left of neighbours
   abbrev pub left_starts : List Info → List ℕ
-  left_starts is = first_at_start a.tree (trees (map info_tree is))
+  left_starts is = filter_map group_number (first_marked_nodes a.tree (trees (map info_tree is)))
 
-  pub left_more : (l : List Info) (i : ℕ) (x : Info) → i < length l → x ≡ get_or l i x → takes_nothing a.tree (info_tree x) ≡ true → left_starts (drop i l) ≡ groups_at_start a.tree (info_tree x) ++ left_starts (drop (i + 1) l)
-  left_more l i x lt at empty =
-      ap left_starts (rest_at l i x lt at) ∙ ap (λ b. groups_at_start a.tree (info_tree x) ++ (if b then left_starts (drop (i + 1) l) else [])) empty
+  -- those of the first, and those of the rest if the first takes nothing
+  left_split : (l : List Info) (i : ℕ) (x : Info) (b : Bool) → i < length l → x ≡ get_or l i x →
+      takes_nothing a.tree (info_tree x) ≡ b →
+      left_starts (drop i l)
+      ≡ marked_groups a.tree (info_tree x)
+      ++ filter_map group_number (if b then first_marked_nodes a.tree (trees (map info_tree (drop (i + 1) l))) else [])
+  left_split l i x b lt at is =
+      let rest : Bool → List Tree = λ v. if v then first_marked_nodes a.tree (trees (map info_tree (drop (i + 1) l))) else [] in
+      ap left_starts (rest_at l i x lt at)
+      ∙ filter_map-append group_number (marked_nodes a.tree (info_tree x)) (rest (takes_nothing a.tree (info_tree x)))
+      ∙ ap (λ v. marked_groups a.tree (info_tree x) ++ filter_map group_number (rest v)) is
 
-  pub left_last : (l : List Info) (i : ℕ) (x : Info) → i < length l → x ≡ get_or l i x → takes_nothing a.tree (info_tree x) ≡ false → left_starts (drop i l) ≡ groups_at_start a.tree (info_tree x)
-  left_last l i x lt at takes =
-      ap left_starts (rest_at l i x lt at) ∙ ap (λ b. groups_at_start a.tree (info_tree x) ++ (if b then left_starts (drop (i + 1) l) else [])) takes
-      ∙ append-nil (groups_at_start a.tree (info_tree x))
+  pub left_more : (l : List Info) (i : ℕ) (x : Info) → i < length l → x ≡ get_or l i x →
+      takes_nothing a.tree (info_tree x) ≡ true →
+      left_starts (drop i l) ≡ marked_groups a.tree (info_tree x) ++ left_starts (drop (i + 1) l)
+  left_more l i x lt at empty = left_split l i x true lt at empty
+
+  pub left_last : (l : List Info) (i : ℕ) (x : Info) → i < length l → x ≡ get_or l i x →
+      takes_nothing a.tree (info_tree x) ≡ false →
+      left_starts (drop i l) ≡ marked_groups a.tree (info_tree x)
+  left_last l i x lt at takes = left_split l i x false lt at takes ∙ append-nil (marked_groups a.tree (info_tree x))
 
   pub left_done : (l : List Info) (i : ℕ) → length l ≤ i → left_starts (drop i l) ≡ []
   left_done l i end = ap left_starts (drop_all i l end)

@@ -4,7 +4,7 @@ use Rattle.std.proofs.lemmas.List.{drop_all}
 use Rattle.fancy_meaning.specs.Tree.{Tree, trees, Concat, Alt}
 use Rattle.fancy_meaning.specs.Instr.{Instr}
 use Rattle.fancy_meaning.specs.Code.{Code, nothing, one, ◌>>◌, in_turn, branch, branches}
-use Rattle.fancy_meaning.specs.Layout.{takes_nothing}
+use Rattle.fancy_meaning.specs.Marks.{takes_nothing}
 use Rattle.fancy_compile.specs.Sites.{Site}
 use Rattle.fancy_meaning.specs.Sizes.{Size, size}
 use Rattle.fancy_tree.specs.declared.info.Info.{Info}

@@ -12,7 +12,8 @@ use Rattle.fancy_meaning.specs.Code.{Code, nothing, one, in_turn, branches}
 use Rattle.fancy_meaning.specs.Instr.{Instr}
 use Rattle.fancy_meaning.specs.Hard.{is_hard}
 use Rattle.fancy_meaning.specs.Constructs.{conditional_code, negative_look_code}
-use Rattle.fancy_meaning.specs.Layout.{takes_nothing, groups_at_start, called_code}
+use Rattle.fancy_meaning.specs.Marks.{takes_nothing, marked_groups}
+use Rattle.fancy_meaning.specs.Layout.{called_code}
 use Rattle.fancy_meaning.specs.Nodes.{groups}
 use Rattle.fancy_meaning.specs.OpenCalls.{Depths, free_calls}
 use Rattle.fancy_meaning.specs.Sizes.{size}
@@ -63,7 +64,7 @@ pub record IsServed (a : Analysis) (task : Task) : Type 0 where
   pub known : Each (IsBody a (node_count task.root.now)) task.groups.now.bodies.items
   pub starts : (k : ℕ)
       → slice_index_or task.groups.now.starts.items k false
-      ≡ (nat_lt k (length task.groups.now.bodies.items) && list_any (nat_eq (task.groups.now.first + k)) (groups_at_start a.tree a.tree))
+      ≡ (nat_lt k (length task.groups.now.bodies.items) && list_any (nat_eq (task.groups.now.first + k)) (marked_groups a.tree a.tree))
 
 -- a task for an analysed tree
 abbrev pub IsMade : Task → Type 0

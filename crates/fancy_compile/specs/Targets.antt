@@ -3,7 +3,7 @@ use Rattle.std.specs.Prelude.{◌≡◌, ℕ, ◌+◌, ◌≤◌, Bool, true, fa
 use Rattle.std.specs.Borrow.{Bor}
 use Rattle.std.specs.List.{list_any}
 use Rattle.fancy_meaning.specs.Tree.{Tree}
-use Rattle.fancy_meaning.specs.Layout.{groups_at_start}
+use Rattle.fancy_meaning.specs.Marks.{marked_groups}
 use Rattle.fancy_meaning.specs.Nodes.{groups}
 use Rattle.fancy_meaning.specs.Options.{Analysis}
 use Rattle.fancy_expr.specs.declared.expr.Expr.{Expr}
@@ -48,7 +48,7 @@ pub record MarksAll (first : ℕ) (gs : List ℕ) (old new : List Bool) : Type 0
   pub marks : (k : ℕ) → slice_index_or new k false ≡ (slice_index_or old k false || (nat_lt k (length old) && list_any (nat_eq (first + k)) gs))
 
 abbrev pub Marks : Info → ℕ → List Bool → List Bool → Type 0
-Marks i first old new = (a : Analysis) → IsKnown a i → MarksAll first (groups_at_start a.tree (info_tree i)) old new
+Marks i first old new = (a : Analysis) → IsKnown a i → MarksAll first (marked_groups a.tree (info_tree i)) old new
 
 -- the table of a tree's groups
 pub record IsTable (i : Info) (first : ℕ) (g : Groups) : Type 0 where
@@ -56,4 +56,4 @@ pub record IsTable (i : Info) (first : ℕ) (g : Groups) : Type 0 where
   pub bodies : Gathers i [] g.bodies.items
   pub starts : (a : Analysis) → IsKnown a i → (k : ℕ)
       → slice_index_or g.starts.items k false
-      ≡ (nat_lt k (length g.bodies.items) && list_any (nat_eq (first + k)) (groups_at_start a.tree (info_tree i)))
+      ≡ (nat_lt k (length g.bodies.items) && list_any (nat_eq (first + k)) (marked_groups a.tree (info_tree i)))

@@ -9,21 +9,22 @@ use Rattle.fancy_meaning.specs.OpenCalls.{Depths, opened, call_depth, free_calls
 use Rattle.fancy_meaning.specs.Hard.{is_hard}
 use Rattle.fancy_meaning.specs.Code.{Code, nothing}
 use Rattle.fancy_meaning.specs.Constructs.{absent_code}
-use Rattle.fancy_meaning.specs.Layout.{absent_repeater_code, is_at_start}
+use Rattle.fancy_meaning.specs.Layout.{absent_repeater_code}
+use Rattle.fancy_meaning.specs.Instr.{Prog}
 use Rattle.fancy_meaning.specs.Config.{Branch}
 use Rattle.fancy_meaning.specs.Machine.{Task, fail_to}
 use Rattle.fancy_meaning.specs.AnalysisRefusals.{before_end, reference_with_level, unresolved_call, unresolved_node, group_out_of_range, is_no_group, has_level, SubroutineCallTargetNotFound, UnresolvedAstNode, FeatureNotYetSupported, InvalidBackref}
 use Rattle.fancy_meaning.specs.CompileRefusals.{IsWritten, refused_node, absent_in_hard_repeater}
 use Rattle.fancy_meaning.specs.WellFormed.{refers}
-use Rattle.fancy_meaning.specs.Laws.{begins_with_continue}
 use Rattle.fancy_meaning.specs.Premises.{Input, plan, IsAccepted, Analysed, IsText}
 use Rattle.fancy_meaning.specs.Theorems.{IsProgramFor}
+use Rattle.fancy_meaning.specs.Marks.{has_marked_continue, is_marked_group}
 use Rattle.fancy_composed.proofs.Courses.{Course, To, after, Ground, config}
 use Rattle.fancy_composed.proofs.Branches.{never}
 use Rattle.fancy_composed.proofs.Ready.{Ready, IsResolved}
 use Rattle.fancy_composed.proofs.Written.{written_is_node, has_node}
 use Rattle.fancy_composed.proofs.Numbers.{number_of_group, number_of_target, opening_takes_one}
-use Rattle.fancy_composed.proofs.Starts.{group_at_start}
+use Rattle.fancy_composed.proofs.Starts.{marked_group}
 use Rattle.fancy_laws.proofs.Every.{every_contained}
 use Rattle.fancy_laws.proofs.Orderly.{analysed_is_fine, analysed_is_orderly}
 use Rattle.fancy_laws.proofs.SizesHold.{ways_have_sizes}
@@ -86,12 +87,12 @@ module _ (i : Input) (instructions : ℕ) (accepted : IsAccepted i instructions)
       at_most zero u = omega arith
       at_most (suc h) u = number h e u
 
-  begins : (g : ℕ) (e : Tree) → target tree (suc g) ≡ Some e → is_at_start (plan i) never (suc g) ≡ true →
-      begins_with_continue tree e ≡ true → begins_with_continue tree tree ≡ true
+  begins : (g : ℕ) (e : Tree) → target tree (suc g) ≡ Some e → is_marked_group tree (suc g) ≡ true →
+      has_marked_continue tree e ≡ true → has_marked_continue tree tree ≡ true
   begins g e t at b =
-      let r = group_at_start tree (suc g) tree at in
+      let r = marked_group tree (suc g) tree at in
       let same : r.body ≡ e = same_Some r.body e (sym ((analysed_is_orderly analysed).groups g r.body r.is_there) ∙ t) in
-      r.begins_too (ap (begins_with_continue tree) same ∙ b)
+      r.continues_too (ap (has_marked_continue tree) same ∙ b)
 
   -- an absent repeater with a body that is refused is refused
   repeater : (e : Tree) (code : Bool → Code) → IsWritten tree (AbsentRepeater e) →

@@ -12,7 +12,8 @@ use Rattle.fancy_meaning.specs.Numbers.{usize_max}
 use Rattle.fancy_meaning.specs.Batches.{batch}
 use Rattle.fancy_meaning.specs.Code.{Code, nothing, ◌>>◌, in_turn, branches}
 use Rattle.fancy_meaning.specs.Constructs.{behind_code, look_code, negative_look_code}
-use Rattle.fancy_meaning.specs.Layout.{Part, takes_nothing, written, each_part, concat_code, alt_code, body_code}
+use Rattle.fancy_meaning.specs.Layout.{Part, written, each_part, concat_code, alt_code, body_code}
+use Rattle.fancy_meaning.specs.Marks.{takes_nothing}
 use Rattle.fancy_composed.proofs.Courses.{Ground}
 use Rattle.fancy_composed.proofs.Alike.{among_front, among_back}
 use Rattle.fancy_composed.proofs.Parts.{at_place, Sound, setting, whole, Works, Keeps}

@@ -6,10 +6,10 @@ use Rattle.fancy_meaning.specs.Nodes.{target, is_read}
 use Rattle.fancy_meaning.specs.OpenCalls.{Depths, opened, call_depth, free_calls}
 use Rattle.fancy_meaning.specs.MatchState.{fails}
 use Rattle.fancy_meaning.specs.Ways.{ways_with, called, ways_of_target}
-use Rattle.fancy_meaning.specs.Layout.{called_code, target_code, fail_code, is_at_start, written}
+use Rattle.fancy_meaning.specs.Layout.{called_code, target_code, fail_code, written}
 use Rattle.fancy_meaning.specs.AnalysisRefusals.{SubroutineCallTargetNotFound}
 use Rattle.fancy_meaning.specs.CompileRefusals.{IsWritten, callee, root, missing_group}
-use Rattle.fancy_meaning.specs.Laws.{begins_with_continue}
+use Rattle.fancy_meaning.specs.Marks.{has_marked_continue, is_marked_group}
 use Rattle.fancy_composed.proofs.Courses.{Ground}
 use Rattle.fancy_composed.proofs.Parts.{setting, whole, Works}
 use Rattle.fancy_composed.proofs.Works.{works_fails, works_group}
@@ -18,10 +18,10 @@ use Rattle.fancy_composed.proofs.Branches.{never}
 use Rattle.fancy_composed.proofs.Ready.{Ready}
 use Rattle.fancy_composed.proofs.Trees.{CallsWork, Marked, tree_works}
 
-module _ (w : Ground) (r : Ready w) (stop : begins_with_continue (whole w) (whole w) ≡ true → MayStop w) where
+module _ (w : Ground) (r : Ready w) (stop : has_marked_continue (whole w) (whole w) ≡ true → MayStop w) where
   -- a tree's code where so many more calls may be opened
   tree_at : (n : ℕ) (depths : Depths) → free_calls (whole w) depths ≡ n → CallsWork w r depths → (e : Tree) →
-      IsWritten (whole w) e → (at_start in_hard : Bool) → Marked w r depths at_start (begins_with_continue (whole w) e) →
+      IsWritten (whole w) e → (at_start in_hard : Bool) → Marked w r depths at_start (has_marked_continue (whole w) e) →
       Works w (written w.plan never (called_code w.plan never n depths) e at_start in_hard)
       (ways_with (setting w) (called (setting w) (whole w) n depths) e)
   tree_at n depths e calls d wr at_start in_hard k =
@@ -49,7 +49,7 @@ module _ (w : Ground) (r : Ready w) (stop : begins_with_continue (whole w) (whol
       (tree_at n depths (n' b e) (calls (n' b e)) (whole w) root true in_hard (λ x y. stop y))
   of_target n depths (suc g) in_hard n' calls wr (Some b) e =
       works_group w (suc g) _ _ (omega arith) (r.number g b e)
-      (tree_at n depths (n' b e) (calls (n' b e)) b (callee wr e) (is_at_start w.plan never (suc g))
+      (tree_at n depths (n' b e) (calls (n' b e)) b (callee wr e) (is_marked_group (whole w) (suc g))
       (in_hard || is_read (whole w) (suc g)) (λ x y. stop (r.begins g b e x y)))
 
   -- a call that is not opened

@@ -9,7 +9,7 @@ use Rattle.fancy_meaning.specs.Config.{Config, Goes}
 use Rattle.fancy_meaning.specs.Machine.{exec, fail_to}
 use Rattle.fancy_meaning.specs.Keys.{bit, whole_key}
 use Rattle.fancy_meaning.specs.Hands.{GoesOn, no_search, one_start, two_branches}
-use Rattle.fancy_meaning.specs.Laws.{begins_with_continue}
+use Rattle.fancy_meaning.specs.Marks.{has_marked_continue}
 use Rattle.fancy_meaning.specs.CompileRefusals.{IsWritten, root}
 use Rattle.fancy_meaning.specs.Premises.{Input, plan, IsAccepted}
 use Rattle.fancy_meaning.specs.Theorems.{Serves, may_give_up, code_of_node, AllServe, ComposedTheorem}
@@ -49,7 +49,7 @@ module _ (i : Input) (accepted : IsAccepted i (length (undelegated_layout (plan 
   tree = (plan i).analysis.tree
 
   abbrev begins : Tree → Bool
-  begins = begins_with_continue tree
+  begins = has_marked_continue tree
 
   -- a node that is written out, where a `\G` in its code may give up only by this test
   serves : (e : Tree) (depths : Depths) (at_start in_hard may_stop : Bool) → IsWritten tree e →

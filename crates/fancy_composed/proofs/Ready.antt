@@ -9,12 +9,12 @@ use Rattle.fancy_meaning.specs.Ways.{ways}
 use Rattle.fancy_meaning.specs.Sizes.{size}
 use Rattle.fancy_meaning.specs.Code.{Code}
 use Rattle.fancy_meaning.specs.Constructs.{absent_code}
-use Rattle.fancy_meaning.specs.Layout.{is_at_start, absent_repeater_code}
+use Rattle.fancy_meaning.specs.Layout.{absent_repeater_code}
 use Rattle.fancy_meaning.specs.AnalysisRefusals.{CompileError}
 use Rattle.fancy_meaning.specs.CompileRefusals.{IsWritten, RefusesNode}
 use Rattle.fancy_meaning.specs.WellFormed.{IsFine, refers}
-use Rattle.fancy_meaning.specs.Laws.{begins_with_continue}
 use Rattle.fancy_meaning.specs.Premises.{IsSized}
+use Rattle.fancy_meaning.specs.Marks.{has_marked_continue, is_marked_group}
 use Rattle.fancy_composed.proofs.Courses.{Ground}
 use Rattle.fancy_composed.proofs.Parts.{Sound, setting, whole}
 use Rattle.fancy_composed.proofs.Branches.{never}
@@ -40,5 +40,5 @@ pub record Ready (w : Ground) : Type 0 where
   pub number : (g : ℕ) (e : Tree) → target (whole w) (suc g) ≡ Some e → suc g ≤ group_count (whole w)
   pub opens : (g : ℕ) (e : Tree) (depths : Depths) → target (whole w) g ≡ Some e → depths g < call_depth →
       free_calls (whole w) depths ≡ suc (free_calls (whole w) (opened g depths))
-  pub begins : (g : ℕ) (e : Tree) → target (whole w) (suc g) ≡ Some e → is_at_start w.plan never (suc g) ≡ true →
-      begins_with_continue (whole w) e ≡ true → begins_with_continue (whole w) (whole w) ≡ true
+  pub begins : (g : ℕ) (e : Tree) → target (whole w) (suc g) ≡ Some e → is_marked_group (whole w) (suc g) ≡ true →
+      has_marked_continue (whole w) e ≡ true → has_marked_continue (whole w) (whole w) ≡ true

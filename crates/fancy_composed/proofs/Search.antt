@@ -18,11 +18,12 @@ use Rattle.fancy_meaning.specs.Instr.{Instr, Save, Jmp, SplitUnanchored}
 use Rattle.fancy_meaning.specs.Layout.{program}
 use Rattle.fancy_meaning.specs.Config.{Slots, Branch, Config, Outcome, NoMatch, BacktrackLimitExceeded, Goes, Ends, push}
 use Rattle.fancy_meaning.specs.Machine.{Task, exec, fail_to, then_on, goes_from, is_search, begin, run}
-use Rattle.fancy_meaning.specs.Laws.{begins_with_continue}
 use Rattle.fancy_meaning.specs.Premises.{Input, plan, IsAccepted, IsFit, Analysed}
 use Rattle.fancy_meaning.specs.Theorems.{IsProgramFor, outcome_of, Answers, HasEnough}
 use Rattle.fancy_composed.proofs.Courses.{Course, Meets, limit, same, To, to_now, to_same, to_eq, to_trans, after, Ground, config, task_step, step_at_pc}
 use Rattle.fancy_composed.proofs.Runs.{limit_or_answer, enough_steps}
+use Rattle.fancy_meaning.specs.Hands.{IsLimit}
+use Rattle.fancy_meaning.specs.Marks.{has_marked_continue}
 use Rattle.fancy_composed.proofs.Alike.{or_first}
 use Rattle.fancy_composed.proofs.Parts.{Works, place_within, flag, flag_is, put_same, put_other, Stands}
 use Rattle.fancy_composed.proofs.Places.{char_stands, places_on, places_at_end}
@@ -107,7 +108,7 @@ module _ (i : Input) (text : List ℕ) (o : RunOptions) (easy : Tree → Bool) (
   -- what falling leads to where a marked `\G` gives up
   abbrev Stops : List Branch → Course → Type 0
   Stops base other =
-      begins_with_continue tree tree ≡ true → is_search (slice_get (program (plan i) easy).body 0) ≡ true →
+      has_marked_continue tree tree ≡ true → is_search (slice_get (program (plan i) easy).body 0) ≡ true →
       o.anchored ≡ false → (1 ≤ length base) × (length base ≡ 1 → (count : ℕ) → To (λ n. NoMatch) other)
 
   -- the code of the root hands a list in which the last test finds first what it finds in the ways
@@ -116,7 +117,7 @@ module _ (i : Input) (text : List ℕ) (o : RunOptions) (easy : Tree → Bool) (
       (falls : (count : ℕ) → To (after task (fail_to task base (config 0 0 (λ s. 0) [] [] start count))) other) →
       is_place text start ≡ true →
       let w = ground i (length (program (plan i) easy).body) accepted task fit.is_text fits start base (λ n. other) falls in
-      (begins_with_continue tree tree ≡ true → MayStop w) →
+      (has_marked_continue tree tree ≡ true → MayStop w) →
       (handed : Ways) × Works w (programs.root (plan i) easy) handed × (find (is_admitted q start) (handed (first_state start)) ≡ attempt q start)
 
   module _ (roots : RootHands) where
@@ -126,7 +127,7 @@ module _ (i : Input) (text : List ℕ) (o : RunOptions) (easy : Tree → Bool) (
         (count : ℕ) → To (λ n. exec task n (config a start no_slots [] base start count)) (or_else groups (attempt q start) other)
     attempted a start at place base other falls stops count =
         let w : Ground = ground i (length (program (plan i) easy).body) accepted task fit.is_text fits start base (λ n. other) falls in
-        let stop : begins_with_continue tree tree ≡ true → MayStop w = λ b search anchored. stops b search anchored in
+        let stop : has_marked_continue tree tree ≡ true → MayStop w = λ b search anchored. stops b search anchored in
         let root = roots start base other falls place stop in
         let works = root.1 in
         let fresh = programs.fresh (plan i) easy in
@@ -153,12 +154,12 @@ module _ (i : Input) (text : List ℕ) (o : RunOptions) (easy : Tree → Bool) (
 
     -- ---- no start after the first one, where the tree begins with a `\G`
 
-    no_attempt : begins_with_continue tree tree ≡ true → (start : ℕ) → is_place text start ≡ true → start ≢ o.pos →
+    no_attempt : has_marked_continue tree tree ≡ true → (start : ℕ) → is_place text start ≡ true → start ≢ o.pos →
         attempt q start ≡ None
     no_attempt b start place ne =
         ap (λ hs. slice_get (filter (is_admitted q start) hs) 0) (continued_ways q analysed start refl fit.is_text place b ne)
 
-    none_in : begins_with_continue tree tree ≡ true → (n k : ℕ) → o.pos < k →
+    none_in : has_marked_continue tree tree ≡ true → (n k : ℕ) → o.pos < k →
         first_of (attempt q) (filter (is_place text) (range_from k n)) ≡ None
     unfolding first_of
     none_in b zero k lt = refl
@@ -170,7 +171,7 @@ module _ (i : Input) (text : List ℕ) (o : RunOptions) (easy : Tree → Bool) (
         by_place true e rest = ap₂ or_first (no_attempt b k e (λ x. omega arith)) rest
         by_place false e rest = rest
 
-    none_later : begins_with_continue tree tree ≡ true → (k : ℕ) → o.pos < k → first_of (attempt q) (places_from text k) ≡ None
+    none_later : has_marked_continue tree tree ≡ true → (k : ℕ) → o.pos < k → first_of (attempt q) (places_from text k) ≡ None
     unfolding places_from
     none_later b k lt = none_in b (suc (length text) - k) k lt
 

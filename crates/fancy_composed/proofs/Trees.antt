@@ -11,10 +11,10 @@ use Rattle.fancy_meaning.specs.MatchState.{Ways}
 use Rattle.fancy_meaning.specs.Ways.{called}
 use Rattle.fancy_meaning.specs.Code.{Code}
 use Rattle.fancy_meaning.specs.Constructs.{loop_form}
-use Rattle.fancy_meaning.specs.Layout.{takes_nothing, called_code, is_at_most_once}
+use Rattle.fancy_meaning.specs.Layout.{called_code, is_at_most_once}
 use Rattle.fancy_meaning.specs.AnalysisRefusals.{FeatureNotYetSupported, InnerError}
 use Rattle.fancy_meaning.specs.CompileRefusals.{IsWritten, IsAmong, here, there, part, existence_with_level, absent_other, no_class}
-use Rattle.fancy_meaning.specs.Laws.{begins_with_continue, first_begins}
+use Rattle.fancy_meaning.specs.Marks.{takes_nothing, has_marked_continue}
 use Rattle.fancy_composed.proofs.Courses.{Ground}
 use Rattle.fancy_composed.proofs.Alike.{contains}
 use Rattle.fancy_composed.proofs.Parts.{both_left, both_right, setting, whole, Works, Keeps}
@@ -27,8 +27,8 @@ use Rattle.fancy_composed.proofs.Absent.{works_absent}
 use Rattle.fancy_composed.proofs.Branches.{never, code_at, means, size_of, EachWorks, EachKnown, concat_works}
 use Rattle.fancy_composed.proofs.Nodes.{has_one, alternation_works, OfBranches, control_works, repeat_works, written_body, look_works}
 use Rattle.fancy_composed.proofs.Ready.{Ready}
-use Rattle.fancy_composed.proofs.Starts.{or_left, or_right}
 use Rattle.fancy_laws.proofs.Characters.{no_chars}
+use Rattle.fancy_laws.proofs.Marks.{first_has_continue, continue_in_first, continue_later}
 
 pub both : (a b : Bool) → a ≡ true → b ≡ true → (a && b) ≡ true
 both true b e f = f
@@ -92,7 +92,7 @@ module _ (w : Ground) (r : Ready w) (depths : Depths) where
   module _ (calls : CallsWork) where
     mutual
       pub tree_works : (e : Tree) → IsWritten (whole w) e → (at_start in_hard : Bool) →
-          Marked at_start (begins_with_continue (whole w) e) →
+          Marked at_start (has_marked_continue (whole w) e) →
           Works w (code_at w call meant e at_start in_hard) (means w call meant e)
       tree_works Empty wr a h k = works_nothing w
       tree_works (DefineGroup e) wr a h k = works_nothing w
@@ -125,22 +125,22 @@ module _ (w : Ground) (r : Ready w) (depths : Depths) where
           concat_works w call meant es a h (each_works es each a true k) (each_known es each) (keeps_node (Concat es) wr)
       tree_works (Alt es) wr a h k =
           alternation_works w call meant es h (has_one es (r.fine (Alt es) (r.there (Alt es) wr)))
-          (each_works es (λ x m. part wr m) false h (not_marked (first_begins (whole w) es)))
+          (each_works es (λ x m. part wr m) false h (not_marked (first_has_continue (whole w) es)))
       tree_works (Group g e) wr a h k =
           let i = r.group g e (r.there (Group g e) wr) in
           works_group w g _ _ i.0 i.1 (tree_works e (part wr here) a (h || is_read (whole w) g) k)
       tree_works (AtomicGroup e) wr a h k =
-          works_atomic w _ _ (tree_works e (part wr here) false false (not_marked (begins_with_continue (whole w) e)))
+          works_atomic w _ _ (tree_works e (part wr here) false false (not_marked (has_marked_continue (whole w) e)))
       tree_works (Conditional c t f) wr a h k =
           works_conditional w _ _ _ _ _ _
-          (tree_works c (part wr here) false h (not_marked (begins_with_continue (whole w) c)))
+          (tree_works c (part wr here) false h (not_marked (has_marked_continue (whole w) c)))
           (keeps_node c (part wr here))
-          (tree_works t (part wr (there here)) false h (not_marked (begins_with_continue (whole w) t)))
-          (tree_works f (part wr (there (there here))) false h (not_marked (begins_with_continue (whole w) f)))
+          (tree_works t (part wr (there here)) false h (not_marked (has_marked_continue (whole w) t)))
+          (tree_works f (part wr (there (there here))) false h (not_marked (has_marked_continue (whole w) f)))
       tree_works (AbsentRepeater e) wr a h k =
           subst (λ c. Works w c (means w call meant (AbsentRepeater e))) (sym (r.repeater e (code_at w call meant e false) wr))
           (works_absent w (w.is_text).utf8 (means w call meant e) (code_at w call meant e false false) (w.is_text).fits
-          (tree_works e (part wr here) false false (not_marked (begins_with_continue (whole w) e))))
+          (tree_works e (part wr here) false false (not_marked (has_marked_continue (whole w) e))))
       tree_works (Repeat lo hi greedy e) wr a h k =
           let ok = r.fine (Repeat lo hi greedy e) (r.there (Repeat lo hi greedy e) wr) in
           repeat_works w call meant lo hi greedy ((size_of w call meant e).least == 0) _ (means w call meant e) ok.0 ok.1
@@ -148,33 +148,31 @@ module _ (w : Ground) (r : Ready w) (depths : Depths) where
           (λ ne. let wr' = written_body w call meant lo hi greedy e ne wr in record {
             works =
                 tree_works e wr' false (h || not (is_at_most_once (loop_form lo hi ((size_of w call meant e).least == 0))))
-                (not_marked (begins_with_continue (whole w) e));
+                (not_marked (has_marked_continue (whole w) e));
             keeps = keeps_node e wr';
             moves = moves_node e wr';
           })
       tree_works (LookAround look e) wr a h k =
           look_works w call meant e (w.is_text).fits
-          (tree_works e (part wr here) false false (not_marked (begins_with_continue (whole w) e)))
+          (tree_works e (part wr here) false false (not_marked (has_marked_continue (whole w) e)))
           (keeps_node e (part wr here)) (sized_node e (part wr here)) (of_branches e (part wr here)) look a h
           (λ error. r.allowed (LookAround look e) error wr)
 
       each_works : (es : Trees) → ((x : Tree) → IsAmong x es → IsWritten (whole w) x) → (at_start in_hard : Bool) →
-          Marked at_start (first_begins (whole w) es) → EachWorks w call meant at_start in_hard es
+          Marked at_start (first_has_continue (whole w) es) → EachWorks w call meant at_start in_hard es
       each_works none wr a h k = tt
       each_works (more e es) wr a h k = (
         tree_works e (wr e here) a h
-            (λ x y. k x (or_left (begins_with_continue (whole w) e) (takes_nothing (whole w) e && first_begins (whole w) es) y)),
+            (λ x y. k x (continue_in_first (whole w) e es y)),
         each_works es (λ x m. wr x (there m)) (a && takes_nothing (whole w) e) h
             (λ x y.
-            k (both_left a (takes_nothing (whole w) e) x)
-            (or_right (begins_with_continue (whole w) e) (takes_nothing (whole w) e && first_begins (whole w) es)
-            (both (takes_nothing (whole w) e) (first_begins (whole w) es) (both_right a (takes_nothing (whole w) e) x) y))),
+            k (both_left a (takes_nothing (whole w) e) x) (continue_later (whole w) e es (both_right a (takes_nothing (whole w) e) x) y)),
       )
 
       of_branches : (e : Tree) → IsWritten (whole w) e → OfBranches w call meant e
       of_branches (Alt es) wr = (
         has_one es (r.fine (Alt es) (r.there (Alt es) wr)),
-        each_works es (λ x m. part wr m) false false (not_marked (first_begins (whole w) es)),
+        each_works es (λ x m. part wr m) false false (not_marked (first_has_continue (whole w) es)),
         each_known es (λ x m. part wr m),
       )
       of_branches e wr = tt

@@ -9,11 +9,11 @@ use Rattle.fancy_meaning.specs.MatchState.{Ways, fails}
 use Rattle.fancy_meaning.specs.Ways.{ways_with, called, ways_of_target, ways}
 use Rattle.fancy_meaning.specs.Code.{Code, one}
 use Rattle.fancy_meaning.specs.Instr.{Instr}
-use Rattle.fancy_meaning.specs.Layout.{in_context, called_code, target_code, fail_code, root_code, is_root_easy, is_at_start}
+use Rattle.fancy_meaning.specs.Layout.{in_context, called_code, target_code, fail_code, root_code, is_root_easy}
 use Rattle.fancy_meaning.specs.AnalysisRefusals.{SubroutineCallTargetNotFound}
 use Rattle.fancy_meaning.specs.CompileRefusals.{IsWritten, callee, root, missing_group}
-use Rattle.fancy_meaning.specs.Laws.{begins_with_continue}
 use Rattle.fancy_meaning.specs.Theorems.{code_of_node}
+use Rattle.fancy_meaning.specs.Marks.{has_marked_continue, is_marked_group}
 use Rattle.fancy_delegation.proofs.Nodes.{target_is_body, target_is_whole}
 use Rattle.fancy_delegation.proofs.Thinned.{thins_same}
 use Rattle.fancy_delegation.proofs.HandsWays.{Setup}
@@ -54,9 +54,9 @@ module _ (given : Setup) where
     body_thinned g b in_hard wr e =
         let inner = in_hard || is_read (whole given depths) (suc g) in
         group_thinned given depths in_hard (suc g) b
-        (in_context (plan given depths) easy b (code_at given depths b (is_at_start (plan given depths) easy (suc g))) inner)
+        (in_context (plan given depths) easy b (code_at given depths b (is_marked_group (whole given depths) (suc g))) inner)
         (means given depths b) (target_is_body (whole given depths) g b e)
-        (node_thinned given depths calls b (callee wr e) (is_at_start (plan given depths) easy (suc g)) inner (λ x y. given.may_stop ((given.ready).begins g b e x y)))
+        (node_thinned given depths calls b (callee wr e) (is_marked_group (whole given depths) (suc g)) inner (λ x y. given.may_stop ((given.ready).begins g b e x y)))
 
     target_thinned : (g : ℕ) (in_hard : Bool) → IsWritten (whole given depths) (SubroutineCall g) → (o : Option Tree) → target (whole given depths) g ≡ o →
         Thinned given depths in_hard (target_code (plan given depths) easy g (call given depths) in_hard o) (ways_of_target given.setting (whole given depths) g (meant given depths) o)
@@ -101,7 +101,7 @@ module _ (given : Setup) where
           (opened_target (λ b t. let more = (given.ready).opens g b depths t (ltb-true (depths g) call_depth lt) in omega (arith, more, e)) ih (target (whole given depths) g) refl)
 
   -- Every node that is written out, in each context and wherever a match begins with it.
-  pub delegation_thins : (depths : Depths) (e : Tree) → IsWritten (whole given depths) e → (at_start in_hard : Bool) → (at_start ≡ true → begins_with_continue (whole given depths) e ≡ true → given.MayStop) →
+  pub delegation_thins : (depths : Depths) (e : Tree) → IsWritten (whole given depths) e → (at_start in_hard : Bool) → (at_start ≡ true → has_marked_continue (whole given depths) e ≡ true → given.MayStop) →
       Thinned given depths in_hard (code_of_node (plan given depths) easy depths e at_start in_hard) (ways given.setting (whole given depths) e depths)
   delegation_thins depths e wr at_start in_hard k =
       node_thinned given depths (calls_thinned (free_calls (whole given depths) depths) depths refl) e wr at_start in_hard k

@@ -1,6 +1,6 @@
 -- The code of each node that is written out hands a list that serves for its ways in its context: by induction over the tree.
 use Rattle.std.proofs.Common.{◌≡◌, ◌≢◌, ℕ, Bool, true, false, ◌&&◌, ◌||◌, List, ◌∷◌, map, Some, None, refl, sym, ap, ◌∙◌, subst, subst₂, true≢false}
-use Rattle.std.proofs.lemmas.Bool.{and_parts, and_from, or_left, or_right}
+use Rattle.std.proofs.lemmas.Bool.{and_parts}
 use Rattle.fancy_meaning.specs.Tree.{Tree, Trees, none, more, children, Empty, KeepOut, ContinueFromPreviousMatchEnd, AbsentClear, Any, Assert, GeneralNewline, Literal, LiteralBytes, Delegate, Concat, Alt, Group, LookAround, Repeat, Backref, BackrefWithLevel, BackrefExists, AtomicGroup, DefineGroup, AbsentRepeater, AbsentStopper, AbsentExpression, Control, Conditional, SubroutineCall, AstNode, Look, Fail, Accept, Commit, Skip, Prune}
 use Rattle.fancy_meaning.specs.Nodes.{is_read}
 use Rattle.fancy_meaning.specs.OpenCalls.{Depths, free_calls}
@@ -9,9 +9,10 @@ use Rattle.fancy_meaning.specs.Ways.{called, ways_with, each_ways}
 use Rattle.fancy_meaning.specs.Sizes.{size}
 use Rattle.fancy_meaning.specs.Code.{Code, branches}
 use Rattle.fancy_meaning.specs.Constructs.{look_around_code}
-use Rattle.fancy_meaning.specs.Layout.{Part, takes_nothing, in_context, alt_code, written, each_part, called_code}
+use Rattle.fancy_meaning.specs.Layout.{Part, in_context, alt_code, written, each_part, called_code}
 use Rattle.fancy_meaning.specs.CompileRefusals.{IsWritten, IsAmong, here, there, part}
-use Rattle.fancy_meaning.specs.Laws.{begins_with_continue, first_begins}
+use Rattle.fancy_meaning.specs.Marks.{takes_nothing, has_marked_continue}
+use Rattle.fancy_laws.proofs.Marks.{first_has_continue, continue_in_first, continue_later}
 use Rattle.fancy_delegation.proofs.Every.{Every, no_item, item}
 use Rattle.fancy_delegation.proofs.Related.{look_ways}
 use Rattle.fancy_delegation.proofs.Thinned.{thins_same}
@@ -55,7 +56,7 @@ module _ (given : Setup) (depths : Depths) where
   abbrev pub CallsThinned : Type 0
   CallsThinned = (g : ℕ) (in_hard : Bool) → IsWritten (whole given depths) (SubroutineCall g) → Thinned given depths in_hard (λ base fresh. call g in_hard base fresh) (λ s. meant g s)
 
-  leaf_thinned : (e : Tree) → IsLeaf e → IsWritten (whole given depths) e → (at_start in_hard : Bool) → Marked at_start (begins_with_continue (whole given depths) e) → Thinned given depths in_hard (written (plan given depths) (λ d. false) call e at_start in_hard) (ways_with given.setting meant e)
+  leaf_thinned : (e : Tree) → IsLeaf e → IsWritten (whole given depths) e → (at_start in_hard : Bool) → Marked at_start (has_marked_continue (whole given depths) e) → Thinned given depths in_hard (written (plan given depths) (λ d. false) call e at_start in_hard) (ways_with given.setting meant e)
   leaf_thinned e leaf wr at_start in_hard k = record {
     handed = ways_with given.setting meant e;
     works = (given.laws).hands_leaf e call meant at_start in_hard leaf wr k;
@@ -104,7 +105,7 @@ module _ (given : Setup) (depths : Depths) where
 
   module _ (calls : CallsThinned) where
     mutual
-      known : (e : Tree) → IsWritten (whole given depths) e → (at_start in_hard : Bool) → Marked at_start (begins_with_continue (whole given depths) e) → Known e at_start in_hard
+      known : (e : Tree) → IsWritten (whole given depths) e → (at_start in_hard : Bool) → Marked at_start (has_marked_continue (whole given depths) e) → Known e at_start in_hard
       known Empty wr a h k = (leaf_thinned Empty tt wr a h k, tt)
       known KeepOut wr a h k = (leaf_thinned KeepOut tt wr a h k, tt)
       known ContinueFromPreviousMatchEnd wr a h k = (leaf_thinned ContinueFromPreviousMatchEnd tt wr a h k, tt)
@@ -132,7 +133,7 @@ module _ (given : Setup) (depths : Depths) where
       known (Concat es) wr a h k = (sequence_thinned es a h (each_known es (λ x m. part wr m) a true k), tt)
       known (Alt es) wr a h k =
           let each : (x : Tree) → IsAmong x es → IsWritten (whole given depths) x = λ x m. part wr m in
-          let unmarked = not_marked (first_begins (whole given depths) es) in
+          let unmarked = not_marked (first_has_continue (whole given depths) es) in
           (alternation_thinned es h ((given.ready).choices es wr) (each_known es each false h unmarked), each_known es each false false unmarked)
       known (Group g e) wr a h k =
           let inner = h || is_read (whole given depths) g in (
@@ -142,19 +143,19 @@ module _ (given : Setup) (depths : Depths) where
           )
       known (Repeat lo hi greedy e) wr a h k = (
         loop_thinned given depths lo hi greedy e (in_context (plan given depths) easy e (code_at e false)) h wr
-            (λ context we. context_thinned given depths e (code_at e false) context we (known e we false context (not_marked (begins_with_continue (whole given depths) e))).0),
+            (λ context we. context_thinned given depths e (code_at e false) context we (known e we false context (not_marked (has_marked_continue (whole given depths) e))).0),
         tt,
       )
       known (LookAround look e) wr a h k =
-          let body = known e (part wr here) false false (not_marked (begins_with_continue (whole given depths) e)) in
+          let body = known e (part wr here) false false (not_marked (has_marked_continue (whole given depths) e)) in
           (around_thinned look e a h wr (context_thinned given depths e (code_at e false) false (part wr here) body.0) body.1, tt)
       known (AtomicGroup e) wr a h k =
-          let body = known e (part wr here) false false (not_marked (begins_with_continue (whole given depths) e)) in
+          let body = known e (part wr here) false false (not_marked (has_marked_continue (whole given depths) e)) in
           (atomic_thinned given depths h (in_context (plan given depths) easy e (code_at e false) false) (means given depths e) (context_thinned given depths e (code_at e false) false (part wr here) body.0), tt)
       known (Conditional c t f) wr a h k =
-          let of_c = known c (part wr here) false h (not_marked (begins_with_continue (whole given depths) c)) in
-          let of_t = known t (part wr (there here)) false h (not_marked (begins_with_continue (whole given depths) t)) in
-          let of_f = known f (part wr (there (there here))) false h (not_marked (begins_with_continue (whole given depths) f)) in (
+          let of_c = known c (part wr here) false h (not_marked (has_marked_continue (whole given depths) c)) in
+          let of_t = known t (part wr (there here)) false h (not_marked (has_marked_continue (whole given depths) t)) in
+          let of_f = known f (part wr (there (there here))) false h (not_marked (has_marked_continue (whole given depths) f)) in (
             conditional_thinned given depths h (in_context (plan given depths) easy c (code_at c false) h) (in_context (plan given depths) easy t (code_at t false) h) (in_context (plan given depths) easy f (code_at f false) h)
                 (means given depths c) (means given depths t) (means given depths f) (part_of given depths c (part wr here))
                 (context_thinned given depths c (code_at c false) h (part wr here) of_c.0)
@@ -163,23 +164,23 @@ module _ (given : Setup) (depths : Depths) where
             tt,
           )
       known (AbsentRepeater e) wr a h k =
-          let body = known e (part wr here) false false (not_marked (begins_with_continue (whole given depths) e)) in
+          let body = known e (part wr here) false false (not_marked (has_marked_continue (whole given depths) e)) in
           (repeater_thinned given depths h e (code_at e false) wr (context_thinned given depths e (code_at e false) false (part wr here) body.0), tt)
 
-      each_known : (es : Trees) → ((x : Tree) → IsAmong x es → IsWritten (whole given depths) x) → (at_start in_hard : Bool) → Marked at_start (first_begins (whole given depths) es) → Every (ChildThinned given depths in_hard) (parts_at at_start es)
+      each_known : (es : Trees) → ((x : Tree) → IsAmong x es → IsWritten (whole given depths) x) → (at_start in_hard : Bool) → Marked at_start (first_has_continue (whole given depths) es) → Every (ChildThinned given depths in_hard) (parts_at at_start es)
       each_known none wr a h k = no_item
       each_known (more e es) wr a h k =
           let we = wr e here in
-          item (we, context_thinned given depths e (code_at e a) h we (known e we a h (λ x y. k x (or_left (begins_with_continue (whole given depths) e) (takes_nothing (whole given depths) e && first_begins (whole given depths) es) y))).0)
+          item (we, context_thinned given depths e (code_at e a) h we (known e we a h (λ x y. k x (continue_in_first (whole given depths) e es y))).0)
           (each_known es (λ x m. wr x (there m)) (a && takes_nothing (whole given depths) e) h
           (λ x y.
           let both = and_parts a (takes_nothing (whole given depths) e) x in
-          k both.0 (or_right (begins_with_continue (whole given depths) e) (takes_nothing (whole given depths) e && first_begins (whole given depths) es) (and_from (takes_nothing (whole given depths) e) (first_begins (whole given depths) es) both.1 y))))
+          k both.0 (continue_later (whole given depths) e es both.1 y)))
 
     -- a node as it is written out
-    pub tree_thinned : (e : Tree) → IsWritten (whole given depths) e → (at_start in_hard : Bool) → Marked at_start (begins_with_continue (whole given depths) e) → Thinned given depths in_hard (code_at e at_start in_hard) (ways_with given.setting meant e)
+    pub tree_thinned : (e : Tree) → IsWritten (whole given depths) e → (at_start in_hard : Bool) → Marked at_start (has_marked_continue (whole given depths) e) → Thinned given depths in_hard (code_at e at_start in_hard) (ways_with given.setting meant e)
     tree_thinned e wr a h k = (known e wr a h k).0
 
     -- and in its context
-    pub node_thinned : (e : Tree) → IsWritten (whole given depths) e → (at_start in_hard : Bool) → Marked at_start (begins_with_continue (whole given depths) e) → Thinned given depths in_hard (in_context (plan given depths) easy e (code_at e at_start) in_hard) (means given depths e)
+    pub node_thinned : (e : Tree) → IsWritten (whole given depths) e → (at_start in_hard : Bool) → Marked at_start (has_marked_continue (whole given depths) e) → Thinned given depths in_hard (in_context (plan given depths) easy e (code_at e at_start) in_hard) (means given depths e)
     node_thinned e wr a h k = context_thinned given depths e (code_at e a) h wr (tree_thinned e wr a h k)

@@ -14,12 +14,13 @@ use Rattle.fancy_meaning.specs.Instr.{Instr}
 use Rattle.fancy_meaning.specs.Code.{Code, nothing, one, ◌>>◌, branch}
 use Rattle.fancy_meaning.specs.Batches.{batch, fragment, pattern_of, group_range}
 use Rattle.fancy_meaning.specs.Constructs.{group_code, atomic_code, conditional_code, look_code, negative_look_code, behind_code, loop_form, repeat_code, absent_code}
-use Rattle.fancy_meaning.specs.Layout.{written, is_at_start}
+use Rattle.fancy_meaning.specs.Layout.{written}
 use Rattle.fancy_meaning.specs.AnalysisRefusals.{CompileError}
 use Rattle.fancy_meaning.specs.Spots.{is_never}
 use Rattle.fancy_meaning.specs.CompileRefusals.{IsWritten, RefusesNode}
-use Rattle.fancy_meaning.specs.Laws.{SizeLaw, begins_with_continue}
+use Rattle.fancy_meaning.specs.Laws.{SizeLaw}
 use Rattle.fancy_meaning.specs.Premises.{Analysed, tree_of, IsText, IsSound, IsSized}
+use Rattle.fancy_meaning.specs.Marks.{has_marked_continue, is_marked_group}
 use Rattle.fancy_delegation.proofs.Every.{Every, IsIn}
 use Rattle.fancy_delegation.proofs.EasyKeeps.{SameEndText}
 use Rattle.fancy_delegation.proofs.Evenly.{KeepsSound, TakesSome}
@@ -49,7 +50,7 @@ module _ (a : Analysed) (o : CompileOptions) (q : Setting) where
     pub choices : (es : Trees) → IsWritten (tree_of a) (Alt es) → es ≢ none
     pub bounds : (lo : ℕ) (hi : Option ℕ) (greedy : Bool) (e : Tree) → IsWritten (tree_of a) (Repeat lo hi greedy e) → (lo < usize_max) × IfSome hi (λ n. (lo ≤ n) × (n < usize_max))
     pub opens : (g : ℕ) (e : Tree) (depths : Depths) → target (tree_of a) g ≡ Some e → depths g < call_depth → free_calls (tree_of a) depths ≡ suc (free_calls (tree_of a) (opened g depths))
-    pub begins : (g : ℕ) (e : Tree) → target (tree_of a) (suc g) ≡ Some e → is_at_start (plan_for a o) (λ d. false) (suc g) ≡ true → begins_with_continue (tree_of a) e ≡ true → begins_with_continue (tree_of a) (tree_of a) ≡ true
+    pub begins : (g : ℕ) (e : Tree) → target (tree_of a) (suc g) ≡ Some e → is_marked_group (tree_of a) (suc g) ≡ true → has_marked_continue (tree_of a) e ≡ true → has_marked_continue (tree_of a) (tree_of a) ≡ true
     pub allowed : (e : Tree) (error : CompileError) → IsWritten (tree_of a) e → ¬ RefusesNode (plan_for a o) e error
 
   -- `Works c f` says that the code hands what f gives, up to repeats.
@@ -73,7 +74,7 @@ module _ (a : Analysed) (o : CompileOptions) (q : Setting) where
     pub hands_batch : (es : List Tree) (depths : Depths) → Every (IsDelegated a) es → Every (IsWritten (tree_of a)) es → Works (batch o.unicode es) (first_of_batch q a depths es)
     pub hands_easy_absent : (e : Tree) (depths : Depths) → IsDelegated a e → IsWritten (tree_of a) (AbsentRepeater e) →
         Works (one (Instr.AbsentRepeater (pattern_of o.unicode (e ∷ [])) (fragment o.unicode (e ∷ [])) (group_range (e ∷ [])))) (absent q (ways q (tree_of a) e depths))
-    pub hands_leaf : (e : Tree) (call : ℕ → Bool → Code) (meant : ℕ → Ways) (at_start in_hard : Bool) → IsLeaf e → IsWritten (tree_of a) e → (at_start ≡ true → begins_with_continue (tree_of a) e ≡ true → MayStop) →
+    pub hands_leaf : (e : Tree) (call : ℕ → Bool → Code) (meant : ℕ → Ways) (at_start in_hard : Bool) → IsLeaf e → IsWritten (tree_of a) e → (at_start ≡ true → has_marked_continue (tree_of a) e ≡ true → MayStop) →
         Works (written (plan_for a o) (λ d. false) call e at_start in_hard) (ways_with q meant e)
     -- the lookbehind of an alternation of one size is that of its branches
     pub by_branches : (z : Size) (fs : List Ways) (s : MatchState) → z.is_const ≡ true → SizedBy z (one_of fs) → KeepsSound q (tree_of a) (one_of fs) → IsSound q (tree_of a) s → ends_here q (one_of fs) s ≡ one_of (map (ends_here q) fs) s
@@ -90,5 +91,5 @@ pub record Setup : Type 1 where
   pub same_end_text : SameEndText (plan_for tree options)
   pub ready : IsReady tree options setting
   -- a `\G` that the whole tree begins with may give up the search
-  pub may_stop : begins_with_continue (tree_of tree) (tree_of tree) ≡ true → MayStop
+  pub may_stop : has_marked_continue (tree_of tree) (tree_of tree) ≡ true → MayStop
   pub laws : HandsWays tree options setting Works MayStop

@@ -14,7 +14,7 @@ use Rattle.fancy_meaning.specs.Machine.{Task, fail_to, exec}
 use Rattle.fancy_meaning.specs.Keys.{key, easy_key}
 use Rattle.fancy_meaning.specs.Hands.{GoesOn, no_search, one_start, two_branches}
 use Rattle.fancy_meaning.specs.CompileRefusals.{IsWritten}
-use Rattle.fancy_meaning.specs.Laws.{begins_with_continue}
+use Rattle.fancy_meaning.specs.Marks.{has_marked_continue}
 use Rattle.fancy_meaning.specs.Premises.{Input, plan, IsAccepted, IsText}
 use Rattle.fancy_meaning.specs.Theorems.{IsProgramFor, Serves, may_give_up, code_of_root, code_of_node, AllServe, DelegationIsHarmless}
 use Rattle.fancy_composed.proofs.Courses.{Course, To, to_same, to_eq, after, Ground, config, here}
@@ -69,7 +69,7 @@ module _ (batches : BatchesWork) (repeaters : EasyRepeatersWork) (i : Input) (ac
   tree = (plan i).analysis.tree
 
   abbrev begins : Tree → Bool
-  begins = begins_with_continue tree
+  begins = has_marked_continue tree
 
   abbrev easy : Tree → Bool
   easy = is_easy (analysed_of i (length (layout (plan i)).body) accepted)

@@ -15,8 +15,8 @@ use Rattle.fancy_meaning.specs.Machine.{Task, fail_to}
 use Rattle.fancy_meaning.specs.WellFormed.{IsFine}
 use Rattle.fancy_meaning.specs.Theorems.{IsProgramFor}
 use Rattle.fancy_meaning.specs.CompileRefusals.{IsWritten}
-use Rattle.fancy_meaning.specs.Laws.{begins_with_continue}
 use Rattle.fancy_meaning.specs.Premises.{Analysed, Input, plan, tree_of, IsAccepted, IsText}
+use Rattle.fancy_meaning.specs.Marks.{has_marked_continue}
 use Rattle.fancy_composed.proofs.Courses.{Course, To, after, Ground, config}
 use Rattle.fancy_composed.proofs.Alike.{Among, at_head, further}
 use Rattle.fancy_composed.proofs.Parts.{setting, Works, Keeps}
@@ -79,11 +79,11 @@ module _ (i : Input) (instructions : ℕ) (accepted : IsAccepted i instructions)
       has_choice none fine e = fine
       has_choice (more e es) fine q' = cc
 
-  module _ (stop : begins_with_continue (tree_of a) (tree_of a) ≡ true → MayStop w) where
+  module _ (stop : has_marked_continue (tree_of a) (tree_of a) ≡ true → MayStop w) where
     calls : CallsWork w r no_calls
     calls = calls_work w r stop (free_calls (tree_of a) no_calls) no_calls refl
 
-    leaf_works : (e : Tree) (call : ℕ → Bool → Code) (meant : ℕ → Ways) (at_start in_hard : Bool) → IsLeaf e → IsWritten (tree_of a) e → (at_start ≡ true → begins_with_continue (tree_of a) e ≡ true → MayStop w) →
+    leaf_works : (e : Tree) (call : ℕ → Bool → Code) (meant : ℕ → Ways) (at_start in_hard : Bool) → IsLeaf e → IsWritten (tree_of a) e → (at_start ≡ true → has_marked_continue (tree_of a) e ≡ true → MayStop w) →
         Works w (written (plan_for a i.options) (λ d. false) call e at_start in_hard) (ways_with q meant e)
     leaf_works Empty call meant at h leaf wr k = tree_works w r no_calls calls Empty wr at h k
     leaf_works KeepOut call meant at h leaf wr k = tree_works w r no_calls calls KeepOut wr at h k

@@ -7,7 +7,8 @@ use Rattle.fancy_meaning.specs.Options.{Plan}
 use Rattle.fancy_meaning.specs.Instr.{Instr}
 use Rattle.fancy_meaning.specs.Code.{Code}
 use Rattle.fancy_meaning.specs.Batches.{batch}
-use Rattle.fancy_meaning.specs.Layout.{is_root_easy, root_code, is_at_start, target_code, fail_code, called_code, written}
+use Rattle.fancy_meaning.specs.Layout.{is_root_easy, root_code, target_code, fail_code, called_code, written}
+use Rattle.fancy_meaning.specs.Marks.{is_marked_group}
 use Rattle.fancy_laws.proofs.Every.{every_contained}
 use Rattle.fancy_laws.proofs.NodesBelow.{group_of_target}
 use Rattle.fancy_fits.proofs.Codes.{fits_if, fits_nothing}
@@ -38,8 +39,8 @@ module _ (p : Plan) (easy : Tree → Bool) (len count slots : ℕ) (two : 2 ≤ 
       let of_group = every_contained (Group (suc g) b) (every_known count slots whole known) (group_of_target whole g b e) in
       let below = known_below count slots (Group (suc g) b) (nodes b) of_group in
       fits_group_body p easy len count slots two room (suc g) b
-      (written p easy call b (is_at_start p easy (suc g))) in_hard of_group
-      (λ h. fits_tree p easy len count slots two room call calls b below (is_at_start p easy (suc g)) h)
+      (written p easy call b (is_marked_group p.analysis.tree (suc g))) in_hard of_group
+      (λ h. fits_tree p easy len count slots two room call calls b below (is_marked_group p.analysis.tree (suc g)) h)
 
   fits_fail : (o : Option Tree) → Fits len slots (fail_code p easy o)
   fits_fail None = fits_nothing len slots

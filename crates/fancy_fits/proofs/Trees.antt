@@ -12,8 +12,9 @@ use Rattle.fancy_meaning.specs.Instr.{Instr}
 use Rattle.fancy_meaning.specs.Code.{Code, nothing, one, ◌>>◌, in_turn}
 use Rattle.fancy_meaning.specs.Batches.{batch, pattern_of, fragment, group_range}
 use Rattle.fancy_meaning.specs.Constructs.{loop_form, absent_code}
-use Rattle.fancy_meaning.specs.Layout.{Part, takes_nothing, in_context, is_prefix, is_suffix, concat_code, alt_code, body_code, group_body, is_at_most_once, absent_repeater_code, is_refused_body, written, each_part}
+use Rattle.fancy_meaning.specs.Layout.{Part, in_context, is_prefix, is_suffix, concat_code, alt_code, body_code, group_body, is_at_most_once, absent_repeater_code, is_refused_body, written, each_part}
 use Rattle.fancy_meaning.specs.WellFormed.{refers}
+use Rattle.fancy_meaning.specs.Marks.{takes_nothing}
 use Rattle.fancy_laws.proofs.Every.{Every, no_item, item, every_map, every_append_parts}
 use Rattle.fancy_laws.proofs.Numbering.{numbers_of}
 use Rattle.fancy_laws.proofs.Splits.{back_while, before_back, cut_in_three}

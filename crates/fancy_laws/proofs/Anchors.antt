@@ -1,7 +1,9 @@
 -- A tree that begins with the text's start, or where the match before ended, has ways from there alone.
-use Rattle.std.proofs.Common.{◌≡◌, ℕ, ◌⊎◌, inl, inr, true, ◌&&◌, ◌==◌, Contains, refl, eqb-true}
+use Rattle.std.proofs.Common.{◌≡◌, ℕ, ◌⊎◌, inl, inr, true, ◌&&◌, ◌==◌, if◌then◌else◌, Contains, refl, eqb-true}
 use Rattle.std.proofs.lemmas.Bool.{and_parts, false≢true}
-use Rattle.fancy_meaning.specs.Tree.{Tree, more, Assert, NoLook, InLookAhead, InLookBehind, StartText, ContinueFromPreviousMatchEnd, Concat}
+use Rattle.fancy_meaning.specs.Tree.{Tree, more, Assert, Within, NoLook, InLookAhead, InLookBehind, StartText, ContinueFromPreviousMatchEnd, Concat}
+use Rattle.fancy_meaning.specs.Numbering.{numbered_within, numbered}
+use Rattle.fancy_meaning.specs.Options.{AnalysisOptions, analysis_of}
 use Rattle.fancy_meaning.specs.OpenCalls.{Depths, free_calls}
 use Rattle.fancy_meaning.specs.Assertions.{holds}
 use Rattle.fancy_meaning.specs.MatchState.{MatchState, Ways, in_order}
@@ -34,8 +36,24 @@ module _ (q : Setting) (call : ℕ → Ways) where
   every_anchored (Assert within StartText) s is = every_anchor (Assert within StartText) s refl
   every_anchored e s is = absurd (false≢true is)
 
-pub anchored_ways : (q : Setting) (whole e : Tree) (depths : Depths) (s t : MatchState) → can_be_anchored e ≡ true →
-    Contains (ways q whole e depths s) t →
+-- ---- numbering keeps what a tree begins with
+
+anchor_numbered : (w : Within) (n : ℕ) (e : Tree) → is_anchor e ≡ true → is_anchor (numbered_within w n e) ≡ true
+anchor_numbered w n (Assert old StartText) is = refl
+anchor_numbered w n ContinueFromPreviousMatchEnd is = refl
+anchor_numbered w n e is = absurd (false≢true is)
+
+anchored_numbered : (w : Within) (n : ℕ) (e : Tree) → can_be_anchored e ≡ true → can_be_anchored (numbered_within w n e) ≡ true
+anchored_numbered w n (Concat (more e es)) is = anchor_numbered w n e is
+anchored_numbered w n (Assert old StartText) is = refl
+anchored_numbered w n e is = absurd (false≢true is)
+
+pub anchored_ways : (q : Setting) (parsed : Tree) (options : AnalysisOptions) (depths : Depths) (s t : MatchState) →
+    can_be_anchored parsed ≡ true → let whole = (analysis_of parsed options).tree in Contains (ways q whole whole depths s) t →
     (s.place ≡ 0) ⊎ ((q.continued ≡ true) × (s.place ≡ q.pos))
-anchored_ways q whole e depths s t is c =
-    every_contained t (every_anchored q (called q whole (free_calls whole depths) depths) e s is) c
+unfolding numbered
+anchored_ways q parsed options depths s t is c =
+    let first = if options.explicit_capture_group_0 then 0 else 1 in
+    let whole = numbered_within NoLook first parsed in
+    every_contained t
+    (every_anchored q (called q whole (free_calls whole depths) depths) whole s (anchored_numbered NoLook first parsed is)) c

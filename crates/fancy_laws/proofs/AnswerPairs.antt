@@ -7,11 +7,11 @@ use Rattle.fancy_meaning.specs.Places.{is_place, range_from}
 use Rattle.fancy_meaning.specs.MatchState.{MatchState, Span, first_state}
 use Rattle.fancy_meaning.specs.OpenCalls.{no_calls}
 use Rattle.fancy_meaning.specs.Answer.{Search, span_numbers, as_numbers, starts, is_admitted, attempt, answer}
-use Rattle.fancy_meaning.specs.Premises.{IsText, IsSpan}
+use Rattle.fancy_meaning.specs.Premises.{IsText, IsSpan, HasSpans}
 use Rattle.fancy_meaning.specs.Laws.{ArePairs}
 use Rattle.fancy_laws.proofs.Every.{Every, no_item, item, every_one, every_if, every_filter, every_first, every_weaker}
 use Rattle.fancy_laws.proofs.WaysOf.{every_place_from}
-use Rattle.fancy_laws.proofs.AtPlaces.{StandsAtPlaces, HasSpans, ways_go_by_places, first_stands}
+use Rattle.fancy_laws.proofs.AtPlaces.{StandsAtPlaces, ways_go_by_places, first_stands}
 
 pub every_filter_map : {A B : Type 0} {P : A → Type 0} {Q : B → Type 0} {xs : List A} (h : A → Option B) →
     ((x : A) → P x → IfSome (h x) Q) → Every P xs → Every Q (filter_map h xs)
@@ -41,7 +41,10 @@ spans_are_pairs text captures has (suc n) g = go _ (captures g) (has g) (spans_a
     go rest None is r = (inl (refl, refl), r)
     go rest (Some (i, j)) is r = (inr (is (i, j) refl), r)
 
-numbers_are_pairs : (text : List ℕ) (n : ℕ) (s : MatchState) → StandsAtPlaces text s → ArePairs text (as_numbers n s)
+abbrev AtPlace : List ℕ → ℕ → Type 0
+AtPlace text i = IsTrue (is_place text i)
+
+numbers_are_pairs : (text : List ℕ) (n : ℕ) (s : MatchState) → StandsAtPlaces text (AtPlace text) s → ArePairs text (as_numbers n s)
 unfolding as_numbers
 numbers_are_pairs text n s at =
     let first = min_is_place text s.kept s.place at.kept at.place in
@@ -51,13 +54,13 @@ pub answers_are_pairs : (q : Search) → IsText q.text → IsTrue (is_place q.te
 unfolding answer
 answers_are_pairs q is at =
     mapped (slice_get (filter_map (attempt q) (starts q)) 0)
-    (every_first (every_filter_map {Q = StandsAtPlaces q.text} (attempt q)
-    (λ start here. every_first (every_filter {P = StandsAtPlaces q.text} (is_admitted q start) (λ t stands e. stands)
+    (every_first (every_filter_map {Q = StandsAtPlaces q.text (AtPlace q.text)} (attempt q)
+    (λ start here. every_first (every_filter {P = StandsAtPlaces q.text (AtPlace q.text)} (is_admitted q start) (λ t stands e. stands)
     (every_weaker (λ t goes. goes.there)
     (ways_go_by_places q.setting is.utf8 q.tree q.tree no_calls (first_state start) (first_stands q.text start here)))))
     (every_start q at)))
   where
-    mapped : (o : Option MatchState) → IfSome o (StandsAtPlaces q.text) →
+    mapped : (o : Option MatchState) → IfSome o (StandsAtPlaces q.text (AtPlace q.text)) →
         IfSome (option_map (as_numbers (group_count q.tree)) o) (ArePairs q.text)
     mapped None h = tt
     mapped (Some s) h = numbers_are_pairs q.text (group_count q.tree) s h

@@ -7,7 +7,7 @@ use Rattle.fancy_meaning.specs.Tree.{Tree}
 use Rattle.fancy_meaning.specs.OpenCalls.{Depths}
 use Rattle.fancy_meaning.specs.Places.{is_place}
 use Rattle.fancy_meaning.specs.MatchState.{MatchState, Span, put, first_state}
-use Rattle.fancy_meaning.specs.Premises.{IsSpan}
+use Rattle.fancy_meaning.specs.Premises.{IsSpan, HasSpans}
 use Rattle.fancy_meaning.specs.Ways.{Setting, ways}
 use Rattle.fancy_laws.proofs.Every.{Every}
 use Rattle.fancy_laws.proofs.Pieces.{past_char_moves, past_newline_moves, past_piece_moves}
@@ -22,44 +22,44 @@ put_tells captures g new h span e = ⊎_elim
     (λ other. inr (sym (cond-false (h == g) (Some new) (captures h) other.0) ∙ e))
     (eqb_tells h g)
 
--- each span that is set lies between two places, in order
-abbrev pub HasSpans : List ℕ → (ℕ → Option Span) → Type 0
-HasSpans text captures = (g : ℕ) (span : Span) → captures g ≡ Some span → IsSpan text span
-
 pub spans_with : (text : List ℕ) (captures : ℕ → Option Span) (g : ℕ) (new : Span) → HasSpans text captures → IsSpan text new →
     HasSpans text (put g (Some new) captures)
 spans_with text captures g new has is h span e =
     ⊎_elim (λ (here : (h ≡ g) × (new ≡ span)). subst (IsSpan text) here.1 is) (λ before. has h span before)
     (put_tells captures g new h span e)
 
-pub record StandsAtPlaces (text : List ℕ) (s : MatchState) : Type 0 where
+-- `Kept` is what is known of the kept start
+pub record StandsAtPlaces (text : List ℕ) (Kept : ℕ → Type 0) (s : MatchState) : Type 0 where
   pub place : IsTrue (is_place text s.place)
   pub spans : HasSpans text s.captures
-  pub kept : IsTrue (is_place text s.kept)
+  pub kept : Kept s.kept
 
-pub record GoesByPlaces (text : List ℕ) (s t : MatchState) : Type 0 where
+pub record GoesByPlaces (text : List ℕ) (Kept : ℕ → Type 0) (s t : MatchState) : Type 0 where
   pub on : s.place ≤ t.place
-  pub there : StandsAtPlaces text t
+  pub there : StandsAtPlaces text Kept t
 
-moves_to : (text : List ℕ) (s : MatchState) (i : ℕ) → StandsAtPlaces text s → s.place ≤ i → is_place text i ≡ true →
-    GoesByPlaces text s (record s { place = i })
-moves_to text s i good le at = record { on = le; there = record { place = at; spans = good.spans; kept = good.kept } }
+moves_to : (text : List ℕ) (Kept : ℕ → Type 0) (s : MatchState) (i : ℕ) → StandsAtPlaces text Kept s → s.place ≤ i →
+    is_place text i ≡ true →
+    GoesByPlaces text Kept s (record s { place = i })
+moves_to text Kept s i good le at = record { on = le; there = record { place = at; spans = good.spans; kept = good.kept } }
 
-pub place_motion : (q : Setting) → IsUtf8 q.text → IsMotion q (StandsAtPlaces q.text) (GoesByPlaces q.text)
-place_motion q utf8 = record {
+pub place_motion : (q : Setting) → IsUtf8 q.text → (Kept : ℕ → Type 0) → ((i : ℕ) → is_place q.text i ≡ true → Kept i) →
+    IsMotion q (StandsAtPlaces q.text Kept) (GoesByPlaces q.text Kept)
+place_motion q utf8 Kept kept_there = record {
   arrives = λ s t good step. step.there;
   stays = λ s good. record { on = omega arith; there = good };
   onward = λ s t u good one two. record { on = omega (arith, one.on, two.on); there = two.there };
   past_one = λ test s i good e.
       let m = past_char_moves q.text utf8 test s.place i good.place e in
-      moves_to q.text s i good m.on m.to;
+      moves_to q.text Kept s i good m.on m.to;
   past_line = λ unicode s i good e.
       let m = past_newline_moves q.text utf8 unicode s.place i good.place e in
-      moves_to q.text s i good (m.3).on (m.3).to;
+      moves_to q.text Kept s i good (m.3).on (m.3).to;
   past_group = λ g span casei s i good set e.
       let m = past_piece_moves q.text utf8 q.unicode casei span s.place i good.place (good.spans g span set) e in
-      moves_to q.text s i good m.on m.to;
-  keeps = λ s good. record { on = omega arith; there = record { place = good.place; spans = good.spans; kept = good.place } };
+      moves_to q.text Kept s i good m.on m.to;
+  keeps = λ s good.
+      record { on = omega arith; there = record { place = good.place; spans = good.spans; kept = kept_there s.place good.place } };
   meets_end = λ s good. record { on = omega arith; there = record { place = good.place; spans = good.spans; kept = good.kept } };
   captures = λ g s t good step. record {
     on = step.on;
@@ -76,14 +76,23 @@ place_motion q utf8 = record {
   };
   goes_back = λ s i good le at. record { place = at; spans = good.spans; kept = good.kept };
   comes_here = λ s t i good le at step here. record { on = omega (arith, here); there = step.there };
-  goes_on = λ s i good le at. moves_to q.text s i good le at;
+  goes_on = λ s i good le at. moves_to q.text Kept s i good le at;
 }
 
-pub ways_go_by_places : (q : Setting) → IsUtf8 q.text → (whole e : Tree) (depths : Depths) (s : MatchState) →
-    StandsAtPlaces q.text s →
-    Every (GoesByPlaces q.text s) (ways q whole e depths s)
-ways_go_by_places q utf8 whole e depths = ways_lead (place_motion q utf8) whole e depths
+module _ (q : Setting) (utf8 : IsUtf8 q.text) (whole e : Tree) (depths : Depths) (s : MatchState) where
+  abbrev KeptAtPlace : ℕ → Type 0
+  KeptAtPlace i = IsTrue (is_place q.text i)
+
+  pub ways_go_by_places : StandsAtPlaces q.text KeptAtPlace s → Every (GoesByPlaces q.text KeptAtPlace s) (ways q whole e depths s)
+  ways_go_by_places = ways_lead (place_motion q utf8 KeptAtPlace (λ i at. at)) whole e depths s
+
+  -- the spans alone
+  pub ways_keep_spans : IsTrue (is_place q.text s.place) → HasSpans q.text s.captures →
+      Every (GoesByPlaces q.text (λ i. Unit {0}) s) (ways q whole e depths s)
+  ways_keep_spans at spans =
+      ways_lead (place_motion q utf8 (λ i. Unit {0}) (λ i at. tt)) whole e depths s (record { place = at; spans = spans; kept = tt })
 
 -- an attempt begins at places
-pub first_stands : (text : List ℕ) (start : ℕ) → is_place text start ≡ true → StandsAtPlaces text (first_state start)
+pub first_stands : (text : List ℕ) (start : ℕ) → is_place text start ≡ true →
+    StandsAtPlaces text (λ i. IsTrue (is_place text i)) (first_state start)
 first_stands text start at = record { place = at; spans = λ g span e. absurd (none-some span e); kept = at }

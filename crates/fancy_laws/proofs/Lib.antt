@@ -13,6 +13,7 @@ pub mod Characters
 pub mod Pieces
 pub mod AtPlaces
 pub mod AnswerPairs
+pub mod SpansHold
 pub mod Anchors
 pub mod NodesBelow
 pub mod Numbering
@@ -22,4 +23,5 @@ pub mod SizeRules
 pub mod Rounds
 pub mod SizedWays
 pub mod SizesHold
+pub mod Marks
 pub mod Continues

@@ -9,7 +9,7 @@ use Rattle.fancy_meaning.specs.Places.{is_place, chars_between}
 use Rattle.fancy_meaning.specs.MatchState.{MatchState, Span, Ways, moved_to, with_span, first_state, one_of}
 use Rattle.fancy_meaning.specs.Ways.{Setting, ways_with, each_ways}
 use Rattle.fancy_meaning.specs.Sizes.{Size, exactly, plus, either, any_of, size_of_group, each_size, known_of, size}
-use Rattle.fancy_meaning.specs.Premises.{IsSound, IsSized}
+use Rattle.fancy_meaning.specs.Premises.{IsSoundFor, IsSound, IsSized}
 use Rattle.fancy_laws.proofs.Every.{Every, no_item, item, every_append, every_weaker, every_contained}
 use Rattle.fancy_laws.proofs.Looks.{IsLooking}
 use Rattle.fancy_laws.proofs.Loops.{IsIterable}
@@ -20,15 +20,15 @@ use Rattle.fancy_laws.proofs.SizeRules.{IsTimes, no_times, once_more, sized_exac
 use Rattle.fancy_laws.proofs.Rounds.{Refines, sized_refined, size_is_bounded}
 
 -- a way that takes so many characters as the size allows
-pub record IsSizedWay (q : Setting) (whole : Tree) (z : Size) (s t : MatchState) : Type 0 where
+pub record IsSizedWay (q : Setting) (whole : Tree) (groups : ℕ → Bool) (z : Size) (s t : MatchState) : Type 0 where
   pub on : s.place ≤ t.place
-  pub sound : IsSound q whole t
+  pub sound : IsSoundFor q whole groups t
   pub sized : IsSized z (chars_between q.text s.place t.place)
 
 -- so many ways of the size, one after the other
-pub record IsIteratedWay (q : Setting) (whole : Tree) (z : Size) (k : ℕ) (s t : MatchState) : Type 0 where
+pub record IsIteratedWay (q : Setting) (whole : Tree) (groups : ℕ → Bool) (z : Size) (k : ℕ) (s t : MatchState) : Type 0 where
   pub on : s.place ≤ t.place
-  pub sound : IsSound q whole t
+  pub sound : IsSoundFor q whole groups t
   pub times : IsTimes z k (chars_between q.text s.place t.place)
 
 -- a back reference reads its group
@@ -54,24 +54,24 @@ pub first_is_sound : (q : Setting) (whole : Tree) (start : ℕ) → is_place q.t
 first_is_sound q whole start at =
     record { place = at; spans = λ g span e. absurd (none-some span e); sizes = λ g span read e. absurd (none-some span e) }
 
-module _ (q : Setting) (whole : Tree) where
-  pub stays_there : (s t : MatchState) → t.place ≡ s.place → IsSound q whole t → IsSizedWay q whole (exactly 0) s t
+module _ (q : Setting) (whole : Tree) (groups : ℕ → Bool) where
+  pub stays_there : (s t : MatchState) → t.place ≡ s.place → IsSoundFor q whole groups t → IsSizedWay q whole groups (exactly 0) s t
   stays_there s t e is = record {
     on = omega (arith, e);
     sound = is;
     sized = subst (IsSized (exactly 0)) (sym (ap (chars_between q.text s.place) e ∙ no_chars q.text s.place)) (sized_exactly 0);
   }
 
-  pub moved_sound : (s : MatchState) (i : ℕ) → IsSound q whole s → is_place q.text i ≡ true → IsSound q whole (moved_to i s)
+  pub moved_sound : (s : MatchState) (i : ℕ) → IsSoundFor q whole groups s → is_place q.text i ≡ true → IsSoundFor q whole groups (moved_to i s)
   moved_sound s i is at = record { place = at; spans = is.spans; sizes = is.sizes }
 
-  pub moves_on : (z : Size) (s : MatchState) (i n : ℕ) → IsSound q whole s → IsMove q.text s.place i n → IsSized z n →
-      IsSizedWay q whole z s (moved_to i s)
+  pub moves_on : (z : Size) (s : MatchState) (i n : ℕ) → IsSoundFor q whole groups s → IsMove q.text s.place i n → IsSized z n →
+      IsSizedWay q whole groups z s (moved_to i s)
   moves_on z s i n is m sized =
       record { on = m.on; sound = moved_sound s i is m.to; sized = subst (IsSized z) (sym m.takes) sized }
 
-  pub one_then : (a b : Size) (s t u : MatchState) → IsSizedWay q whole a s t → IsSizedWay q whole b t u →
-      IsSizedWay q whole (plus a b) s u
+  pub one_then : (a b : Size) (s t u : MatchState) → IsSizedWay q whole groups a s t → IsSizedWay q whole groups b t u →
+      IsSizedWay q whole groups (plus a b) s u
   one_then a b s t u f g = record {
     on = omega (arith, f.on, g.on);
     sound = g.sound;
@@ -79,11 +79,11 @@ module _ (q : Setting) (whole : Tree) where
         (sized_plus a b (chars_between q.text s.place t.place) (chars_between q.text t.place u.place) f.sized g.sized);
   }
 
-  pub resized : (a b : Size) (s t : MatchState) → ((n : ℕ) → IsSized a n → IsSized b n) → IsSizedWay q whole a s t →
-      IsSizedWay q whole b s t
+  pub resized : (a b : Size) (s t : MatchState) → ((n : ℕ) → IsSized a n → IsSized b n) → IsSizedWay q whole groups a s t →
+      IsSizedWay q whole groups b s t
   resized a b s t h f = record { on = f.on; sound = f.sound; sized = h (chars_between q.text s.place t.place) f.sized }
 
-  pub iterable : (z : Size) → IsIterable (IsSound q whole) (IsSizedWay q whole z) (IsIteratedWay q whole z)
+  pub iterable : (z : Size) → IsIterable (IsSoundFor q whole groups) (IsSizedWay q whole groups z) (IsIteratedWay q whole groups z)
   iterable z = record {
     arrives = λ s t is f. f.sound;
     none = λ s is.
@@ -96,7 +96,7 @@ module _ (q : Setting) (whole : Tree) where
     };
   }
 
-  pub looking : (z : Size) → IsLooking q (IsSound q whole) (IsSizedWay q whole z) (IsSizedWay q whole (exactly 0))
+  pub looking : (z : Size) → IsLooking q (IsSoundFor q whole groups) (IsSizedWay q whole groups z) (IsSizedWay q whole groups (exactly 0))
   looking z = record {
     stays = λ s is. stays_there s s refl is;
     restores = λ s t is f. stays_there s (moved_to s.place t) refl (moved_sound t s.place f.sound is.place);
@@ -105,9 +105,9 @@ module _ (q : Setting) (whole : Tree) where
   }
 
   -- the span that a group's close sets has the size of the group
-  pub captures_sound : (g : ℕ) (z : Size) (s t : MatchState) → Refines z (size_of_group (known_of whole) g) → IsSound q whole s →
-      IsSizedWay q whole z s t →
-      IsSizedWay q whole z s (with_span g (s.place, t.place) t)
+  pub captures_sound : (g : ℕ) (z : Size) (s t : MatchState) → Refines z (size_of_group (known_of whole) g) → IsSoundFor q whole groups s →
+      IsSizedWay q whole groups z s t →
+      IsSizedWay q whole groups z s (with_span g (s.place, t.place) t)
   captures_sound g z s t r is f = record {
     on = f.on;
     sound = record {
@@ -127,9 +127,9 @@ module _ (q : Setting) (whole : Tree) where
 
   -- the first branch, or a later one
   pub alt_more : (call : ℕ → Ways) (e : Tree) (es : Trees) (s : MatchState) →
-      Every (IsSizedWay q whole (size whole e) s) (ways_with q call e s) →
-      Every (IsSizedWay q whole (any_of (each_size (known_of whole) es)) s) (one_of (each_ways q call es) s) →
-      Every (IsSizedWay q whole (any_of (each_size (known_of whole) (more e es))) s) (one_of (each_ways q call (more e es)) s)
+      Every (IsSizedWay q whole groups (size whole e) s) (ways_with q call e s) →
+      Every (IsSizedWay q whole groups (any_of (each_size (known_of whole) es)) s) (one_of (each_ways q call es) s) →
+      Every (IsSizedWay q whole groups (any_of (each_size (known_of whole) (more e es))) s) (one_of (each_ways q call (more e es)) s)
   alt_more call e none s h k = every_append h no_item
   alt_more call e (more e' es) s h k =
       let rest = any_of (each_size (known_of whole) (more e' es)) in

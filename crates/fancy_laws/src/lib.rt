@@ -1,7 +1,7 @@
 //! Laws and theorems over the definitions alone: each is the contract of a function that does nothing.
 #![tactic(auto)]
 
-ghost use Rattle.fancy_meaning.specs.Laws.{LoopLaw, RequiredLaw, CallLaw, RefusedCallLaw, AtomicHasOneWay, NegativeLookChangesNothing, AheadHasWaysOfBody, BehindHasWaysOfBody, BehindGoesByBranches, AnswersArePairs, AnchorLaw, SizeLaw, ContinueLaw, SettableGroupsLaw};
+ghost use Rattle.fancy_meaning.specs.Laws.{LoopLaw, RequiredLaw, CallLaw, RefusedCallLaw, AtomicHasOneWay, NegativeLookChangesNothing, AheadHasWaysOfBody, BehindHasWaysOfBody, BehindGoesByBranches, AnswersArePairs, AnchorLaw, SizeLaw, ContinueLaw, SettableGroupsLaw, SpanLaw, ReferenceLaw, SpanSizeLaw, MarkLaw};
 
 /// With none required, an unbounded loop goes on by a way of its body, and by one that moves nothing it is left; or it
 /// stops. Greedy it goes on first, lazy it stops first.
@@ -54,7 +54,18 @@ pub fn answers_are_pairs()
     ensures { AnswersArePairs }
 {}
 
-/// A tree that begins with the text's start, or where the match before ended, has ways from there alone.
+/// Where every span lies between two places of the text, in order, each way keeps it so, and leads from place to place.
+pub fn span_law()
+    ensures { SpanLaw }
+{}
+
+/// There a back reference reads a span in order, and its way takes as many bytes as the span has.
+pub fn reference_law()
+    ensures { ReferenceLaw }
+{}
+
+/// Where a tree as it is handed in begins with the text's start, or where the match before ended, the tree that is
+/// searched for, its groups numbered, has ways from there alone.
 pub fn anchor_law()
     ensures { AnchorLaw }
 {}
@@ -64,7 +75,17 @@ pub fn size_law()
     ensures { SizeLaw }
 {}
 
-/// Where a tree begins with where the match before ended, no other start has a way.
+/// From a sound state whose spans all keep the sizes of their groups, read or not, each way leads to such a state.
+pub fn span_size_law()
+    ensures { SpanSizeLaw }
+{}
+
+/// The marked nodes of a part are the part, and where it passes its mark on those of its children.
+pub fn mark_law()
+    ensures { MarkLaw }
+{}
+
+/// Where a `\G` of a tree is marked, no other start has a way.
 pub fn continue_law()
     ensures { ContinueLaw }
 {}

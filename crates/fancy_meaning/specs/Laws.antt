@@ -1,18 +1,19 @@
 -- Laws of what a tree means, as types.
-use Rattle.std.specs.Prelude.{◌≡◌, ◌≢◌, ℕ, suc, ◌<◌, ◌≤◌, ◌⊎◌, Bool, true, false, ◌&&◌, ◌||◌, List, [], ◌∷◌, length, map, flat_map, Contains, Some, None, IfSome, IsTrue}
-use Rattle.fancy_meaning.specs.Tree.{Tree, none, more, Trees, children, Assert, StartText, ContinueFromPreviousMatchEnd, Concat, Alt, Group, LookAround, LookAhead, LookAheadNeg, LookBehind, LookBehindNeg, Repeat, AtomicGroup, SubroutineCall}
+use Rattle.std.specs.Prelude.{◌≡◌, ◌≢◌, ℕ, suc, ◌+◌, ◌-◌, ◌<◌, ◌≤◌, ◌⊎◌, Bool, true, false, if◌then◌else◌, List, [], ◌∷◌, length, map, flat_map, Contains, Some, None, IfSome, IsTrue}
+use Rattle.fancy_meaning.specs.Tree.{Tree, more, Trees, children, parts, Assert, StartText, ContinueFromPreviousMatchEnd, Concat, Alt, LookAround, LookAhead, LookAheadNeg, LookBehind, LookBehindNeg, Repeat, Backref, AtomicGroup, SubroutineCall}
 use Rattle.fancy_meaning.specs.Nodes.{nodes, target}
 use Rattle.fancy_meaning.specs.OpenCalls.{Depths, opened, call_depth}
 use Rattle.fancy_meaning.specs.Places.{is_place, chars_between}
-use Rattle.fancy_meaning.specs.MatchState.{MatchState, moved_to, fails, in_order}
+use Rattle.fancy_meaning.specs.MatchState.{MatchState, moved_to, fails, in_order, Span}
 use Rattle.fancy_meaning.specs.Loops.{prefer, if_moved}
 use Rattle.fancy_meaning.specs.Ways.{Setting, ends_here, ways_with, captured_by_call, ways}
 use Rattle.fancy_meaning.specs.Answer.{Search, ways_from, answer}
+use Rattle.fancy_meaning.specs.Options.{AnalysisOptions, analysis_of}
 use Rattle.fancy_meaning.specs.Numbers.{usize_max}
 use Rattle.fancy_meaning.specs.Sizes.{size}
-use Rattle.fancy_meaning.specs.Layout.{takes_nothing}
 use Rattle.fancy_meaning.specs.Fits.{settable_groups}
-use Rattle.fancy_meaning.specs.Premises.{Analysed, tree_of, IsText, IsSpan, IsSized, IsSound}
+use Rattle.fancy_meaning.specs.Premises.{Analysed, tree_of, IsText, IsSpan, IsSized, IsSound, HasSpans, IsSoundFor}
+use Rattle.fancy_meaning.specs.Marks.{passes_mark, marked_nodes, first_marked_nodes, has_marked_continue}
 
 -- ---- loops and calls, without a count
 
@@ -75,7 +76,19 @@ ArePairs text (i ∷ j ∷ rest) = (((i ≡ usize_max) × (j ≡ usize_max)) ⊎
 abbrev pub AnswersArePairs : Type 0
 AnswersArePairs = (q : Search) → IsText q.text → IsTrue (is_place q.text q.pos) → IfSome (answer q) (ArePairs q.text)
 
--- ---- captures
+-- ---- spans
+
+-- Where every span lies between two places of the text, in order, each way keeps it so, and leads from place to place.
+abbrev pub SpanLaw : Type 0
+SpanLaw = (q : Setting) (whole e : Tree) (depths : Depths) (s t : MatchState) → IsText q.text →
+    IsTrue (is_place q.text s.place) → HasSpans q.text s.captures → Contains (ways q whole e depths s) t →
+    IsTrue (is_place q.text t.place) × HasSpans q.text t.captures
+
+-- There a back reference reads a span in order, and its way takes as many bytes as the span has.
+abbrev pub ReferenceLaw : Type 0
+ReferenceLaw = (q : Setting) (whole : Tree) (depths : Depths) (g : ℕ) (casei : Bool) (s t : MatchState) →
+    HasSpans q.text s.captures → Contains (ways q whole (Backref g casei) depths s) t →
+    (span : Span) × (s.captures g ≡ Some span) × (span.0 ≤ span.1) × (t ≡ moved_to (s.place + (span.1 - span.0)) s)
 
 -- A way of a fragment leaves the span of each group as it was, but for those that its nodes can set.
 abbrev pub SettableGroupsLaw : Type 0
@@ -92,6 +105,13 @@ SizeLaw = (q : Setting) (a : Analysed) (e : Tree) (depths : Depths) (s t : Match
     IsText q.text → Contains (nodes whole) e → IsSound q whole s → Contains (ways q whole e depths s) t →
     IsSound q whole t × IsSized (size whole e) (chars_between q.text s.place t.place)
 
+-- From a sound state whose spans all keep the sizes of their groups, read or not, each way leads to such a state.
+abbrev pub SpanSizeLaw : Type 0
+SpanSizeLaw = (q : Setting) (a : Analysed) (e : Tree) (depths : Depths) (s t : MatchState) →
+    let whole = tree_of a in
+    IsText q.text → Contains (nodes whole) e → IsSoundFor q whole (λ g. true) s → Contains (ways q whole e depths s) t →
+    IsSoundFor q whole (λ g. true) t
+
 -- ---- where a match can begin
 
 -- the tree begins with the text's start, or where the match before ended
@@ -104,30 +124,25 @@ abbrev pub is_start_text : Tree → Bool
 is_start_text (Assert within StartText) = true
 is_start_text e = false
 
--- `can_compile_as_anchored`
+-- what `can_compile_as_anchored` answers of a tree as it is handed in
 abbrev pub can_be_anchored : Tree → Bool
 can_be_anchored (Concat (more e es)) = is_anchor e
 can_be_anchored e = is_start_text e
 
--- Then a way exists only at the text's start or where the match before ended.
+-- Then the tree, its groups numbered, has a way only at the text's start or where the match before ended.
 abbrev pub AnchorLaw : Type 0
-AnchorLaw = (q : Setting) (whole e : Tree) (depths : Depths) (s t : MatchState) → can_be_anchored e ≡ true →
-    Contains (ways q whole e depths s) t → (s.place ≡ 0) ⊎ ((q.continued ≡ true) × (s.place ≡ q.pos))
+AnchorLaw = (q : Setting) (parsed : Tree) (options : AnalysisOptions) (depths : Depths) (s t : MatchState) →
+    let whole = (analysis_of parsed options).tree in
+    can_be_anchored parsed ≡ true → Contains (ways q whole whole depths s) t →
+    (s.place ≡ 0) ⊎ ((q.continued ≡ true) × (s.place ≡ q.pos))
 
--- a `\G` is reached from the root through groups, and in sequences past what takes nothing
-module _ (whole : Tree) where
-  abbrev mutual
-    pub begins_with_continue : Tree → Bool
-    begins_with_continue ContinueFromPreviousMatchEnd = true
-    begins_with_continue (Group g e) = begins_with_continue e
-    begins_with_continue (Concat es) = first_begins es
-    begins_with_continue e = false
+-- ---- what is marked
 
-    pub first_begins : Trees → Bool
-    first_begins none = false
-    first_begins (more e es) = begins_with_continue e || (takes_nothing whole e && first_begins es)
+-- The marked nodes of a part are the part, and where it passes its mark on those of its children.
+abbrev pub MarkLaw : Type 0
+MarkLaw = (whole e : Tree) → marked_nodes whole e ≡ e ∷ (if passes_mark e then first_marked_nodes whole (parts e) else [])
 
--- Then no other start has a way.
+-- Where a `\G` is marked, no other start has a way.
 abbrev pub ContinueLaw : Type 0
 ContinueLaw = (q : Search) (a : Analysed) (start : ℕ) → q.tree ≡ tree_of a → IsText q.text → IsTrue (is_place q.text start) →
-    begins_with_continue q.tree q.tree ≡ true → start ≢ q.pos → ways_from q start ≡ []
+    has_marked_continue q.tree q.tree ≡ true → start ≢ q.pos → ways_from q start ≡ []

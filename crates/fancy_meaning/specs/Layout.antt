@@ -1,5 +1,5 @@
 -- The program of a tree.
-use Rattle.std.specs.Prelude.{ℕ, zero, suc, ◌+◌, ◌-◌, ◌*◌, max, Bool, true, false, ◌&&◌, ◌||◌, not, List, [], ◌∷◌, ◌++◌, length, map, take, drop, reverse, take_while, Option, Some, None, if◌then◌else◌, ◌==◌, nat_lt, nat_eq, encode_utf8_all}
+use Rattle.std.specs.Prelude.{ℕ, zero, suc, ◌+◌, ◌-◌, ◌*◌, max, Bool, true, false, ◌&&◌, ◌||◌, not, List, [], ◌∷◌, length, map, take, drop, reverse, take_while, Option, Some, None, if◌then◌else◌, ◌==◌, nat_lt, encode_utf8_all}
 use Rattle.std.specs.List.{list_any}
 use Rattle.fancy_meaning.specs.Tree.{Tree, Trees, none, more, KeepOut, ContinueFromPreviousMatchEnd, Any, Assert, GeneralNewline, Literal, LiteralBytes, Delegate, Concat, Alt, Group, LookAround, Repeat, Backref, BackrefExists, AtomicGroup, AbsentRepeater, Control, Conditional, SubroutineCall, Fail}
 use Rattle.fancy_meaning.specs.Nodes.{nodes, group_count, target, is_read, is_absent}
@@ -7,6 +7,7 @@ use Rattle.fancy_meaning.specs.OpenCalls.{Depths, opened, no_calls, call_depth, 
 use Rattle.fancy_meaning.specs.Assertions.{assertion_within}
 use Rattle.fancy_meaning.specs.Options.{Plan}
 use Rattle.fancy_meaning.specs.Sizes.{Size, size}
+use Rattle.fancy_meaning.specs.Marks.{passes_mark, takes_nothing, is_marked_group}
 use Rattle.fancy_meaning.specs.Hard.{is_hard}
 use Rattle.fancy_meaning.specs.Instr.{Instr, Prog}
 use Rattle.fancy_meaning.specs.Code.{Code, nothing, one, ◌>>◌, in_turn, branches}
@@ -21,24 +22,6 @@ is_at_most_once form = false
 pub record Part : Type 0 where
   pub tree : Tree
   pub code : Bool → Code
-
--- ---- what a match begins with
-
-module _ (whole : Tree) where
-  -- nothing is taken before what follows
-  abbrev pub takes_nothing : Tree → Bool
-  takes_nothing e = (size whole e).most == 0
-
-  -- the groups that are reached from the start through groups, and in sequences past what takes nothing
-  abbrev mutual
-    pub groups_at_start : Tree → List ℕ
-    groups_at_start (Group g e) = g ∷ groups_at_start e
-    groups_at_start (Concat es) = first_at_start es
-    groups_at_start e = []
-
-    pub first_at_start : Trees → List ℕ
-    first_at_start none = []
-    first_at_start (more e es) = groups_at_start e ++ (if takes_nothing e then first_at_start es else [])
 
 -- ---- the layout, where `easy` tells which nodes may be left to a plain search
 module _ (p : Plan) (easy : Tree → Bool) where
@@ -95,48 +78,54 @@ module _ (p : Plan) (easy : Tree → Bool) where
       if easy e then one (Instr.AbsentRepeater (pattern_of p.unicode (e ∷ [])) (fragment p.unicode (e ∷ [])) (group_range (e ∷ [])))
       else (if is_refused_body e then nothing else absent_code (in_context e written false))
 
-  -- Each node as it is written out: whether a match begins with it, and whether its context is hard.
+  -- Each node as it is written out: whether it is marked, and whether its context is hard.
   -- `call g in_hard` is the code of a call of g.
   module _ (call : ℕ → Bool → Code) where
     abbrev mutual
-      pub written : Tree → (at_start in_hard : Bool) → Code
-      written (Literal c casei) at_start in_hard = batch p.unicode (Literal c casei ∷ [])
-      written (LiteralBytes cs) at_start in_hard = one (Instr.Lit (encode_utf8_all cs))
-      written (Any newline crlf) at_start in_hard = one (any_instr newline crlf)
-      written (Delegate inner casei) at_start in_hard = class_code p.unicode inner casei
-      written (Assert within a) at_start in_hard = one (Instr.Assert (assertion_within within a))
-      written (GeneralNewline unicode) at_start in_hard = newline_code unicode
-      written (Concat es) at_start in_hard = concat_code (each_part at_start es) in_hard
-      written (Alt es) at_start in_hard = alt_code (each_part false es) in_hard
-      written (Group g e) at_start in_hard = group_body g e (written e at_start) in_hard
-      written (SubroutineCall g) at_start in_hard = λ base fresh. call g in_hard base fresh
-      written (Repeat lo hi greedy e) at_start in_hard =
+      pub written : Tree → (is_marked in_hard : Bool) → Code
+      written (Literal c casei) is_marked in_hard = batch p.unicode (Literal c casei ∷ [])
+      written (LiteralBytes cs) is_marked in_hard = one (Instr.Lit (encode_utf8_all cs))
+      written (Any newline crlf) is_marked in_hard = one (any_instr newline crlf)
+      written (Delegate inner casei) is_marked in_hard = class_code p.unicode inner casei
+      written (Assert within a) is_marked in_hard = one (Instr.Assert (assertion_within within a))
+      written (GeneralNewline unicode) is_marked in_hard = newline_code unicode
+      written (Concat es) is_marked in_hard = concat_code (each_part (passes_mark (Concat es) && is_marked) es) in_hard
+      written (Alt es) is_marked in_hard = alt_code (each_part (passes_mark (Alt es) && is_marked) es) in_hard
+      written (Group g e) is_marked in_hard = group_body g e (written e (passes_mark (Group g e) && is_marked)) in_hard
+      written (SubroutineCall g) is_marked in_hard = λ base fresh. call g in_hard base fresh
+      written (Repeat lo hi greedy e) is_marked in_hard =
           let form = loop_form lo hi ((size_of e).least == 0) in
-          repeat_code greedy (loop_body e (written e false) form in_hard) form
-      written (LookAround look (Alt es)) at_start in_hard =
-          let ws = each_part false es in
+          let below = written e (passes_mark (Repeat lo hi greedy e) && is_marked) in
+          repeat_code greedy (loop_body e below form in_hard) form
+      written (LookAround look (Alt es)) is_marked in_hard =
+          let ws = each_part (passes_mark (LookAround look (Alt es)) && is_marked) es in
           look_around_code look (body_code (record { tree = Alt es; code = in_context (Alt es) (alt_code ws) })) (map body_code ws)
-      written (LookAround look e) at_start in_hard =
-          look_around_code look (body_code (record { tree = e; code = in_context e (written e false) })) []
-      written (Backref g casei) at_start in_hard = one (Instr.Backref (2 * g) casei p.unicode)
-      written (BackrefExists g None) at_start in_hard = one (Instr.BackrefExistsCondition g)
-      written (Control Fail) at_start in_hard = one Instr.Fail
-      written (AtomicGroup e) at_start in_hard = atomic_code (in_context e (written e false) false)
-      written KeepOut at_start in_hard = one (Instr.Save 0)
-      written ContinueFromPreviousMatchEnd at_start in_hard = one (Instr.ContinueFromPreviousMatchEnd at_start)
-      written (Conditional c t f) at_start in_hard =
+      written (LookAround look e) is_marked in_hard =
+          let below = written e (passes_mark (LookAround look e) && is_marked) in
+          look_around_code look (body_code (record { tree = e; code = in_context e below })) []
+      written (Backref g casei) is_marked in_hard = one (Instr.Backref (2 * g) casei p.unicode)
+      written (BackrefExists g None) is_marked in_hard = one (Instr.BackrefExistsCondition g)
+      written (Control Fail) is_marked in_hard = one Instr.Fail
+      written (AtomicGroup e) is_marked in_hard =
+          atomic_code (in_context e (written e (passes_mark (AtomicGroup e) && is_marked)) false)
+      written KeepOut is_marked in_hard = one (Instr.Save 0)
+      written ContinueFromPreviousMatchEnd is_marked in_hard = one (Instr.ContinueFromPreviousMatchEnd is_marked)
+      written (Conditional c t f) is_marked in_hard =
+          let below = passes_mark (Conditional c t f) && is_marked in
           conditional_code
-          (in_context c (written c false) in_hard)
-          (in_context t (written t false) in_hard)
-          (in_context f (written f false) in_hard)
-      written (AbsentRepeater e) at_start in_hard = absent_repeater_code e (written e false)
+          (in_context c (written c below) in_hard)
+          (in_context t (written t below) in_hard)
+          (in_context f (written f below) in_hard)
+      written (AbsentRepeater e) is_marked in_hard =
+          absent_repeater_code e (written e (passes_mark (AbsentRepeater e) && is_marked))
       -- `Empty`, `DefineGroup`, and what is refused
-      written e at_start in_hard = nothing
+      written e is_marked in_hard = nothing
 
-      pub each_part : (at_start : Bool) → Trees → List Part
-      each_part at_start none = []
-      each_part at_start (more e es) =
-          record { tree = e; code = in_context e (written e at_start) } ∷ each_part (at_start && takes_nothing whole e) es
+      pub each_part : (is_marked : Bool) → Trees → List Part
+      each_part is_marked none = []
+      each_part is_marked (more e es) =
+          let w : Part = record { tree = e; code = in_context e (written e is_marked) } in
+          w ∷ each_part (is_marked && takes_nothing whole e) es
 
   -- the whole tree, which may be hard for its own reason
   abbrev pub is_root_easy : Bool
@@ -146,13 +135,11 @@ module _ (p : Plan) (easy : Tree → Bool) where
   root_code call in_hard =
       if is_root_easy && not in_hard then batch p.unicode (whole ∷ []) else written call whole true in_hard
 
-  abbrev pub is_at_start : ℕ → Bool
-  is_at_start g = list_any (nat_eq g) (groups_at_start whole whole)
-
   abbrev pub target_code : ℕ → (ℕ → Bool → Code) → Bool → Option Tree → Code
   target_code g call in_hard None = nothing
   target_code zero call in_hard (Some e) = root_code call in_hard
-  target_code (suc g) call in_hard (Some e) = group_body (suc g) e (written call e (is_at_start (suc g))) in_hard
+  target_code (suc g) call in_hard (Some e) =
+      group_body (suc g) e (written call e (is_marked_group whole (suc g))) in_hard
 
   -- a call that is not opened, where there is such a target
   abbrev pub fail_code : Option Tree → Code

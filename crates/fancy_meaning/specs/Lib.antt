@@ -15,6 +15,7 @@ pub mod Answer
 pub mod Sizes
 pub mod Hard
 pub mod Spots
+pub mod Marks
 pub mod Recursion
 pub mod WellFormed
 pub mod AnalysisRefusals

@@ -1,5 +1,5 @@
 -- What the theorems ask of trees, options, texts and states.
-use Rattle.std.specs.Prelude.{◌≡◌, ℕ, ◌<◌, ◌≤◌, ◌⊎◌, true, false, List, length, Some, IsTrue, IsUtf8}
+use Rattle.std.specs.Prelude.{◌≡◌, ℕ, ◌<◌, ◌≤◌, ◌⊎◌, Bool, true, false, List, length, Option, Some, IsTrue, IsUtf8}
 use Rattle.fancy_meaning.specs.Tree.{Tree}
 use Rattle.fancy_meaning.specs.Nodes.{is_read}
 use Rattle.fancy_meaning.specs.Places.{is_place, chars_between}
@@ -66,9 +66,17 @@ pub record IsSpan (text : List ℕ) (span : Span) : Type 0 where
   pub to : IsTrue (is_place text span.1)
   pub in_order : span.0 ≤ span.1
 
--- a place of the text, and the spans of groups that are read keep the sizes of their groups
-pub record IsSound (q : Setting) (whole : Tree) (s : MatchState) : Type 0 where
+-- each span that is set does
+abbrev pub HasSpans : List ℕ → (ℕ → Option Span) → Type 0
+HasSpans text captures = (g : ℕ) (span : Span) → captures g ≡ Some span → IsSpan text span
+
+-- a place of the text, spans in order, and those of these groups keep the sizes of their groups
+pub record IsSoundFor (q : Setting) (whole : Tree) (sized : ℕ → Bool) (s : MatchState) : Type 0 where
   pub place : IsTrue (is_place q.text s.place)
-  pub spans : (g : ℕ) (span : Span) → s.captures g ≡ Some span → IsSpan q.text span
-  pub sizes : (g : ℕ) (span : Span) → is_read whole g ≡ true → s.captures g ≡ Some span →
+  pub spans : HasSpans q.text s.captures
+  pub sizes : (g : ℕ) (span : Span) → sized g ≡ true → s.captures g ≡ Some span →
       IsSized (size_of_group (known_of whole) g) (chars_between q.text span.0 span.1)
+
+-- so it is for the groups that are read
+abbrev pub IsSound : Setting → Tree → MatchState → Type 0
+IsSound q whole = IsSoundFor q whole (is_read whole)

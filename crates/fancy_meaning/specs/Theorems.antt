@@ -16,7 +16,7 @@ use Rattle.fancy_meaning.specs.CompileRefusals.{IsWritten, IsAmong}
 use Rattle.fancy_meaning.specs.Config.{Config, Outcome, Match, NoMatch, BacktrackLimitExceeded, StackOverflow, StepLimitExceeded, Goes}
 use Rattle.fancy_meaning.specs.Machine.{Task, gives_up, Reaches, run}
 use Rattle.fancy_meaning.specs.Fits.{program_fits}
-use Rattle.fancy_meaning.specs.Laws.{begins_with_continue}
+use Rattle.fancy_meaning.specs.Marks.{has_marked_continue}
 use Rattle.fancy_meaning.specs.Keys.{Key, whole_key, key, easy_key, Coarser, Thins, Respects}
 use Rattle.fancy_meaning.specs.Hands.{IsLimit, Stretch, HasAt, Stands, GoesOn, Hands}
 use Rattle.fancy_meaning.specs.Premises.{Analysed, analysis, tree_of, Input, plan, IsAccepted, IsText, IsFit, IsSound}
@@ -106,7 +106,7 @@ pub record IsProgramFor (p : Plan) (program : Prog) : Type 0 where
 
 -- A `\G` in the code of the node may give up the search: the tree begins with one, or the node does where a match begins.
 abbrev pub may_give_up : Tree → Tree → Bool → Bool
-may_give_up whole e at_start = begins_with_continue whole whole || (at_start && begins_with_continue whole e)
+may_give_up whole e at_start = has_marked_continue whole whole || (at_start && has_marked_continue whole e)
 
 -- Wherever the code stands, it hands from each sound state a list that serves by the key for what these ways give.
 -- The key may depend on a place at or before the state's. Where a `\G` in the code may give up the search, it stands above
@@ -138,7 +138,7 @@ pub record AllServe (p : Plan) (easy : Tree → Bool) (by : (in_hard : Bool) →
   pub root : (depths : Depths) (in_hard : Bool) →
       let whole = p.analysis.tree in
       Serves p (code_of_root p easy depths in_hard) (λ q. ways q whole whole depths) (by in_hard)
-      (begins_with_continue whole whole)
+      (has_marked_continue whole whole)
   pub node : (e : Tree) (depths : Depths) (at_start in_hard : Bool) →
       let whole = p.analysis.tree in
       IsWritten whole e →

@@ -2,7 +2,8 @@
 use Rattle.std.specs.Prelude.{◌≡◌, true, false, [], ◌∷◌, refl}
 use Rattle.fancy_meaning.specs.Numbering.{numbered}
 use Rattle.fancy_meaning.specs.Tree.{ContinueFromPreviousMatchEnd, KeepOut, StartLine, StartText}
-use Rattle.fancy_meaning.specs.Laws.{can_be_anchored, begins_with_continue}
+use Rattle.fancy_meaning.specs.Laws.{can_be_anchored}
+use Rattle.fancy_meaning.specs.Marks.{has_marked_continue}
 use Rattle.fancy_rows.proofs.Notation.{lit, cat, alt, grp, rep, assert, ahead, row}
 
 text_start : can_be_anchored (assert StartText) ≡ true
@@ -45,26 +46,26 @@ branches_of_text_start : can_be_anchored (alt (assert StartText ∷ assert Start
 unfolding row
 branches_of_text_start = refl
 
-begins_in_groups : (let e = numbered 1 (grp (cat (grp ContinueFromPreviousMatchEnd ∷ lit "a" ∷ []))) in begins_with_continue e e) ≡ true
+begins_in_groups : (let e = numbered 1 (grp (cat (grp ContinueFromPreviousMatchEnd ∷ lit "a" ∷ []))) in has_marked_continue e e) ≡ true
 unfolding row
 begins_in_groups = refl
 
-begins_past_nothing : (let e = numbered 1 (cat (ahead (lit "ab") ∷ assert (StartLine false) ∷ KeepOut ∷ ContinueFromPreviousMatchEnd ∷ [])) in begins_with_continue e e) ≡ true
+begins_past_nothing : (let e = numbered 1 (cat (ahead (lit "ab") ∷ assert (StartLine false) ∷ KeepOut ∷ ContinueFromPreviousMatchEnd ∷ [])) in has_marked_continue e e) ≡ true
 unfolding row
 begins_past_nothing = refl
 
-does_not_begin_past_a_letter : (let e = numbered 1 (cat (lit "a" ∷ ContinueFromPreviousMatchEnd ∷ [])) in begins_with_continue e e) ≡ false
+does_not_begin_past_a_letter : (let e = numbered 1 (cat (lit "a" ∷ ContinueFromPreviousMatchEnd ∷ [])) in has_marked_continue e e) ≡ false
 unfolding row
 does_not_begin_past_a_letter = refl
 
-does_not_begin_past_an_option : (let e = numbered 1 (cat (rep 0 1 (lit "a") ∷ ContinueFromPreviousMatchEnd ∷ [])) in begins_with_continue e e) ≡ false
+does_not_begin_past_an_option : (let e = numbered 1 (cat (rep 0 1 (lit "a") ∷ ContinueFromPreviousMatchEnd ∷ [])) in has_marked_continue e e) ≡ false
 unfolding row
 does_not_begin_past_an_option = refl
 
-does_not_begin_in_a_branch : (let e = numbered 1 (alt (ContinueFromPreviousMatchEnd ∷ ContinueFromPreviousMatchEnd ∷ [])) in begins_with_continue e e) ≡ false
+does_not_begin_in_a_branch : (let e = numbered 1 (alt (ContinueFromPreviousMatchEnd ∷ ContinueFromPreviousMatchEnd ∷ [])) in has_marked_continue e e) ≡ false
 unfolding row
 does_not_begin_in_a_branch = refl
 
-does_not_begin_in_a_look_ahead : (let e = numbered 1 (ahead ContinueFromPreviousMatchEnd) in begins_with_continue e e) ≡ false
+does_not_begin_in_a_look_ahead : (let e = numbered 1 (ahead ContinueFromPreviousMatchEnd) in has_marked_continue e e) ≡ false
 unfolding row
 does_not_begin_in_a_look_ahead = refl

@@ -14,7 +14,7 @@ use Rattle.fancy_meaning.specs.Config.{Slots, Branch, Config, NoMatch, Backtrack
 use Rattle.fancy_meaning.specs.Machine.{Task, Reaches, then_on, exec}
 use Rattle.fancy_meaning.specs.Keys.{whole_key, reduced}
 use Rattle.fancy_meaning.specs.Hands.{Hands, IsBranchLimit, no_more, outcome_after}
-use Rattle.fancy_meaning.specs.Laws.{begins_with_continue}
+use Rattle.fancy_meaning.specs.Marks.{has_marked_continue}
 use Rattle.fancy_meaning.specs.Theorems.{Serves, stretch_of, code_of_root, code_of_node, GivesUp}
 use Rattle.fancy_rows.proofs.Notation.{plain, with_end_text, from, lit, cat, star, row, code, delegate}
 use Rattle.std.specs.Prelude.{not, codes, None}
@@ -76,7 +76,7 @@ later_continue = plain (cat (lit "a" ∷ ContinueFromPreviousMatchEnd ∷ []))
 abbrev whole : Tree
 whole = later_continue.analysis.tree
 
-begins_with_a_letter : begins_with_continue whole whole ≡ false
+begins_with_a_letter : has_marked_continue whole whole ≡ false
 unfolding row
 begins_with_a_letter = refl
 
@@ -123,7 +123,7 @@ not_handed [] (no_more d st l) e =
     (λ x. other 1 d.start (d.backtracks + 1) (nat_lt d.backtracks t.backtrack_limit) (sym gone ∙ x)) (l.by 1)
 not_handed (h ∷ hs) k e = cc
 
-marked_node_does_not_serve : Serves later_continue marked (λ q. ways q whole ContinueFromPreviousMatchEnd no_calls) (λ from. whole_key whole) (begins_with_continue whole whole) → ⊥
+marked_node_does_not_serve : Serves later_continue marked (λ q. ways q whole ContinueFromPreviousMatchEnd no_calls) (λ from. whole_key whole) (has_marked_continue whole whole) → ⊥
 unfolding row
 marked_node_does_not_serve serves =
     let r = serves t c 2 s 0 (record { total_groups = refl; implicit_group_0 = refl; end_text = refl; unicode = refl })

@@ -1,5 +1,5 @@
 use Rattle.std.proofs.Common.{◌≡◌, ◌<◌, ◌==◌, ◌∷◌, [], length, map, sym, ap, ◌∙◌, subst, arith, eq-eqb, ne_eqb}
-use Rattle.fancy_meaning.specs.Layout.{groups_at_start}
+use Rattle.fancy_meaning.specs.Marks.{marked_groups}
 use Rattle.fancy_meaning.specs.Sizes.{Size}
 use Rattle.fancy_tree.specs.Infos.{Each, IsAnalysed, info_tree, info_facts}
 use Rattle.fancy_compile.specs.Nodes.{node_count, total}
@@ -20,7 +20,7 @@ returns-then-is_group t c = λ a k.
     let i = c.args.info.now in
     let b = c.child.result.now in
     let g = ap is_group (sym c.expr-expr.ensures) ∙ sym c.is_group.ensures ∙ c.if-is_group.true in
-    let gs = groups_at_start a.tree (info_tree b) in
+    let gs = marked_groups a.tree (info_tree b) in
     let own = subst (λ n. MarksAll c.args.first (n ∷ []) c.args.marks.now c.mark_group.new.marks) c.start_group.ensures c.mark_group.ensures in
     subst (λ l. MarksAll c.args.first l c.args.marks.now c.mark.new.marks) (sym (starts_of_group a i b g (only_body i b g c.child.ensures a k)))
     (marks_then c.args.first ((info_facts i).start_group ∷ []) gs c.args.marks.now c.mark_group.new.marks c.mark.new.marks own (c.mark.ensures a (body_known i b g c.child.ensures a k)))
