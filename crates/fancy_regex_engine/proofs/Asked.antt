@@ -72,9 +72,9 @@ module _ (q : Question) (t : ExprTree) (read : IsRead q.tree t) where
   refused_by e context is h = refused {t = t} read (subst (λ x. IsRefusedAs (parsed_of t) (options_of x) e) is h)
 
   -- what was analysed may be compiled
-  pub may_compile : (i : Info) (context : AnalyzeContext) → context ≡ line.analysis q.arguments → (o : CompileOptions) → o ≡ line.compilation q.arguments → IsAnalysisOf (parsed_of t) (options_of context) i → MayCompile (analysed q t read) i o
+  pub may_compile : (i : Info) (context : AnalyzeContext) → context ≡ line.analysis q.arguments → (o : CompileOptions) → o ≡ line.compilation q.arguments → IsAnalysisOf t (options_of context) i → MayCompile (analysed q t read) i o
   may_compile i context is o os h =
-      let analysed_so = subst (λ x. IsAnalysisOf (parsed_of t) (options_of x) i) is h in
+      let analysed_so = subst (λ x. IsAnalysisOf t (options_of x) i) is h in
       let so : MayCompile (analysed q t read) i (line.compilation q.arguments) = record { root = analysed_so.root; accepted = analysed_so.accepted; end_text = λ e. e } in
       subst (λ x. MayCompile (analysed q t read) i x) (sym os) so
 
