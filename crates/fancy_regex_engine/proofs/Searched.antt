@@ -55,7 +55,7 @@ module _ (t : ExprTree) (context : AnalyzeContext) (o : CompileOptions) (ok : Is
   same_end_text : o.disallow_empty_match_at_eof_after_newline ≡ true → context.disallow_empty_match_at_eof_after_newline ≡ true
   same_end_text = implied _ _ fits
 
-  pub may_compile : (i : Info) → IsAnalysisOf (parsed_of t) (options_of context) i → MayCompile analysed i o
+  pub may_compile : (i : Info) → IsAnalysisOf t (options_of context) i → MayCompile analysed i o
   may_compile i h = record { root = h.root; accepted = h.accepted; end_text = same_end_text }
 
   -- the refusal of the analysis
@@ -76,7 +76,7 @@ module _ (t : ExprTree) (context : AnalyzeContext) (o : CompileOptions) (ok : Is
   compiler_refused error.Memory h = h
   compiler_refused (error.TreeFault at) h = h
 
-  pub compiled_from : (i : Info) (prog : Prog) → IsAnalysisOf (parsed_of t) (options_of context) i →
+  pub compiled_from : (i : Info) (prog : Prog) → IsAnalysisOf t (options_of context) i →
       Compiles (plan_with analysed o) (Ok prog) → IsCompiledFrom input (record { prog = prog })
   compiled_from i prog h compiled = record {
     accepted = λ implicit. record {

@@ -134,12 +134,13 @@ module _ (t : Task) (f : Info-F Info) where
 
   pub made : size_of f.size ≡ size_over (task_known t) f.expr.now (map info_size f.children.items) → f.is_read ≡ read_flag t.reads.now f.expr.now f.start_group → f.hard ≡ hard_over (options_of t.context) f.expr.now (within_of f.within) (size_of f.size) f.is_read (map info_hard f.children.items) → f.context ≡ t.context → IsMade t f.expr.now f.start_group f.end_group (within_of f.within) f.children.items (roll-Info f)
   made sized flagged hard context = record {
+    expr = ap (λ x. x.expr.now) (out-roll-Info f);
     tree = tree_roll f;
     start_group = ap (λ x. x.start_group) (out-roll-Info f);
     end_group = ap (λ x. x.end_group) (out-roll-Info f);
     within = ap (λ x. within_of x.within) (out-roll-Info f);
     size = λ arity below. each_made (IsSizedNode (task_known t)) f (record { size = size-over sized below; arity = arity }) below;
-    found = λ a suits arity below analysed in_turn ends.
+    found = λ a suits arity exprs below analysed in_turn ends.
         let here : size_of f.size ≡ size a.tree (tree_over (facts f) f.children.items) = size-over sized below ∙ ap (λ k. size_by k (tree_over (facts f) f.children.items)) suits.known in
         let flag : f.is_read ≡ is_read_group a.tree (tree_over (facts f) f.children.items) = flagged ∙ node-read a t.reads.now suits.reads f.expr.now f.start_group (within_of f.within) (trees (map info_tree f.children.items)) in
         each_made (IsFound a) f
@@ -148,6 +149,7 @@ module _ (t : Task) (f : Info-F Info) where
             size = here;
             read = flag;
             arity = arity;
+            exprs = exprs;
             end_group = ends ∙ ap (λ x. f.start_group + group_count x) (tree_roll f);
             in_turn = in_turn;
             options = ap options_of context ∙ suits.options;

@@ -15,7 +15,7 @@ use Rattle.fancy_expr.specs.declared.expr.Expr.{Expr}
 use Rattle.fancy_expr.specs.declared.expr.Expr.TheVariants as code
 use Rattle.fancy_expr.specs.Views.{tree_of, absent_of}
 use Rattle.fancy_expr.specs.Exprs.{below, exprs, exprs_of_each}
-use Rattle.fancy_tree.specs.Infos.{absent_over, node_over, info_tree, info_within, Each, AreInTurn, IsAnalysed, start_inside, within_inside}
+use Rattle.fancy_tree.specs.Infos.{absent_over, node_over, info_tree, info_expr, info_within, Each, AreInTurn, IsAnalysed, start_inside, within_inside}
 use Rattle.fancy_tree.specs.Made.{task_known, IsSized, IsMade, Suits}
 use Rattle.fancy_tree.specs.Visited.{IsVisited}
 use Rattle.fancy_expr.proofs.Groups.{group_total, own_group, total-append, count-total, total-taken, total-all, total-most, count-below}
@@ -34,6 +34,7 @@ end_of n (i ∷ is) = end_of (out-Info i).end_group is
 
 pub record AreVisited (t : Task) (es : List Expr) (start : ℕ) (w : plain.Within) (next : ℕ) (infos : List Info) : Type 0 where
   pub counted : next ≡ start + group_total (exprs_of_each es)
+  pub exprs : map info_expr infos ≡ es
   pub trees : map info_tree infos ≡ each_from w start es
   pub in_turn : AreInTurn w start infos
   pub ends : end_of start infos ≡ next
@@ -61,13 +62,17 @@ from-more w n m (x ∷ es) e at =
     ap (λ l. numbered_within w n (tree_of x) ∷ l) (from-more w (n + group_count (tree_of x)) m es e rest)
 
 pub visited_none : (t : Task) (w : plain.Within) (n : ℕ) → AreVisited t [] n w n []
-visited_none t w n = record { counted = omega arith; trees = refl; in_turn = tt; ends = refl; sizes = tt; found = λ a suits. tt }
+visited_none t w n = record { counted = omega arith; exprs = refl; trees = refl; in_turn = tt; ends = refl; sizes = tt; found = λ a suits. tt }
 
 module _ (t : Task) (es : List Expr) (i : ℕ) (e : Expr) (start : ℕ) (w : plain.Within) (next : ℕ) (infos after : List Info) (info : Info) where
   pub visited_more : i < length es → e ≡ get_or es i e → AreVisited t (take i es) start w next infos → IsVisited t e next w info → after ≡ infos ++ info ∷ [] → AreVisited t (take (i + 1) es) start w (out-Info info).end_group after
   visited_more h at before here pushed =
       subst (λ l. AreVisited t (take (i + 1) es) start w (out-Info info).end_group l) (sym pushed) (record {
         counted = omega (arith, here.end_group, before.counted, total-taken es i e h at);
+        exprs = map-append info_expr infos (info ∷ [])
+            ∙ ap (λ l. l ++ info_expr info ∷ []) before.exprs
+            ∙ ap (λ x. take i es ++ x ∷ []) here.expr
+            ∙ sym (taken es i e h at);
         trees = map-append info_tree infos (info ∷ [])
             ∙ ap (λ l. l ++ info_tree info ∷ []) before.trees
             ∙ ap (λ x. each_from w start (take i es) ++ x ∷ []) here.tree
@@ -127,12 +132,13 @@ visited_node t e i start w next infos info h before made =
     ∙ length-from inner first (take i (below e))
     ∙ ap length (take_all i (below e) h) in
     record {
+      expr = made.expr;
       tree = tree;
       start_group = made.start_group;
       end_group = made.end_group ∙ ends;
       within = made.within;
       size = made.size arity before.sizes;
-      found = λ a suits. made.found a suits arity before.sizes (before.found a suits) before.in_turn
+      found = λ a suits. made.found a suits arity (before.exprs ∙ take_all i (below e) h) before.sizes (before.found a suits) before.in_turn
           (ends ∙ ap (λ k. start + k) (sym (ap group_count tree ∙ count-numbered w start (tree_of e))));
     }
 

@@ -21,6 +21,7 @@ use Rattle.fancy_expr.specs.declared.expr.Expr.{Expr}
 use Rattle.fancy_expr.specs.declared.expr.Expr.TheVariants as code
 use Rattle.fancy_expr.specs.Views.{tree_of, assertion_of, look_of, bound_of}
 use Rattle.fancy_expr.specs.Exprs.{below}
+use Rattle.fancy_tree.specs.Refusals.{first_number}
 use Rattle.fancy_tree.specs.Sized.{size_of}
 
 abbrev pub within_of : Within → plain.Within
@@ -83,6 +84,9 @@ tree_step i = node_over i.expr.now i.start_group (within_of i.within) (trees i.c
 -- the tree that an `Info` stands for, its groups numbered
 abbrev pub info_tree : Info → Tree
 info_tree = fold-Info Tree tree_step
+
+abbrev pub info_expr : Info → Expr
+info_expr i = (out-Info i).expr.now
 
 abbrev pub info_children : Info → List Info
 info_children i = (out-Info i).children.items
@@ -153,6 +157,8 @@ module _ (a : Analysis) where
     pub size : f.size ≡ size a.tree (tree_over f children)
     pub read : f.is_read ≡ is_read_group a.tree (tree_over f children)
     pub arity : length children ≡ length (below f.expr)
+    -- the children are the node's own, in order
+    pub exprs : map info_expr children ≡ below f.expr
     pub end_group : f.end_group ≡ f.start_group + group_count (tree_over f children)
     pub in_turn : AreInTurn (within_inside f.expr f.within) (start_inside f.expr f.start_group) children
     pub options : f.options ≡ a.options
@@ -169,6 +175,7 @@ module _ (a : Analysis) where
   pub record IsRoot (i : Info) : Type 0 where
     pub tree : info_tree i ≡ a.tree
     pub within : info_within i ≡ plain.NoLook
+    pub start_group : (info_facts i).start_group ≡ first_number a.options
     pub node : IsNode (info_facts i) (info_children i)
     pub hard : info_hard i ≡ is_root_hard a
     pub children : Each IsAnalysed (info_children i)

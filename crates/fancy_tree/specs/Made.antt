@@ -17,7 +17,7 @@ use Rattle.fancy_expr.specs.declared.expr.Expr.TheVariants as code
 use Rattle.fancy_expr.specs.Views.{assertion_of, bound_of}
 use Rattle.fancy_expr.specs.Exprs.{below}
 use Rattle.fancy_tree.specs.Sized.{size_of}
-use Rattle.fancy_tree.specs.Infos.{options_of, node_over, start_inside, within_inside, info_tree, info_within, Each, EachNode, Facts, tree_over, AreInTurn, IsAnalysed}
+use Rattle.fancy_tree.specs.Infos.{options_of, node_over, start_inside, within_inside, info_tree, info_expr, info_within, Each, EachNode, Facts, tree_over, AreInTurn, IsAnalysed}
 
 abbrev pub nth_size : List Size → ℕ → Size
 nth_size [] i = exactly 0
@@ -116,11 +116,12 @@ pub record Suits (a : Analysis) (t : Task) : Type 0 where
 
 -- a node that was made over its children
 pub record IsMade (t : Task) (e : Expr) (start end : ℕ) (w : plain.Within) (children : List Info) (info : Info) : Type 0 where
+  pub expr : info_expr info ≡ e
   pub tree : info_tree info ≡ node_over e start w (trees (map info_tree children))
   pub start_group : (out-Info info).start_group ≡ start
   pub end_group : (out-Info info).end_group ≡ end
   pub within : info_within info ≡ w
   pub size : length children ≡ length (below e) → Each (IsSized (task_known t)) children → IsSized (task_known t) info
-  pub found : (a : Analysis) → Suits a t → length children ≡ length (below e) → Each (IsSized (task_known t)) children →
-      Each (IsAnalysed a) children → AreInTurn (within_inside e w) (start_inside e start) children →
+  pub found : (a : Analysis) → Suits a t → length children ≡ length (below e) → map info_expr children ≡ below e →
+      Each (IsSized (task_known t)) children → Each (IsAnalysed a) children → AreInTurn (within_inside e w) (start_inside e start) children →
       end ≡ start + group_count (info_tree info) → IsAnalysed a info

@@ -9,10 +9,11 @@ use Rattle.fancy_tree.specs.declared.info.Info.{Info}
 use Rattle.fancy_tree.specs.declared.info.Info.TheViews.{out-Info}
 use Rattle.fancy_expr.specs.declared.expr.Expr.{Expr}
 use Rattle.fancy_expr.specs.Views.{tree_of}
-use Rattle.fancy_tree.specs.Infos.{info_tree, info_within, IsAnalysed}
+use Rattle.fancy_tree.specs.Infos.{info_tree, info_expr, info_within, IsAnalysed}
 use Rattle.fancy_tree.specs.Made.{task_known, IsSized, Suits}
 
 pub record IsVisited (t : Task) (e : Expr) (start : ℕ) (w : plain.Within) (info : Info) : Type 0 where
+  pub expr : info_expr info ≡ e
   pub tree : info_tree info ≡ numbered_within w start (tree_of e)
   pub start_group : (out-Info info).start_group ≡ start
   pub end_group : (out-Info info).end_group ≡ start + group_count (tree_of e)

@@ -5,7 +5,8 @@ ghost use Rattle.fancy_meaning.specs.Laws.{can_be_anchored, is_anchor};
 ghost use Rattle.fancy_meaning.specs.Options.{Analysis};
 ghost use Rattle.fancy_meaning.specs.Tree as plain;
 ghost use Rattle.fancy_tree.specs.Analyses.{IsAnalysisOf, IsRefusedAs};
-ghost use Rattle.fancy_tree.specs.Infos.{IsAnalysed, IsRoot, info_hard, info_size, info_tree, info_within, options_of};
+ghost use Rattle.fancy_tree.specs.Infos.{IsAnalysed, IsRoot, info_expr, info_facts, info_hard, info_size, info_tree, info_within, options_of};
+ghost use Rattle.fancy_tree.specs.Refusals.{first_number};
 ghost use Rattle.fancy_expr.specs.Sound.{IsWellFormedTree};
 ghost use Rattle.fancy_expr.specs.Views.{parsed_of, tree_of};
 
@@ -32,9 +33,10 @@ fn as_root<'a>(info: Info<'a>, context: AnalyzeContext) -> Info<'a>
     ensures { (a : Analysis)
         → options_of context ≡ a.options
         → info_within info.entry ≡ plain.NoLook
+        → (info_facts info.entry).start_group ≡ first_number a.options
         → info_tree info.entry ≡ a.tree
         → IsAnalysed a info.entry
-        → IsRoot a result }
+        → IsRoot a result × (info_expr result ≡ info_expr info.entry) }
 {
     let hard = is_root_hard(&info, context);
     let mut root = info;
@@ -56,7 +58,7 @@ pub fn analyze<'a>(
     requires { IsWellFormedTree tree.now }
     ensures { MatchResult
         result
-        (λ info. IsAnalysisOf (parsed_of tree.now) (options_of context) info)
+        (λ info. IsAnalysisOf tree.now (options_of context) info)
         (λ error. IsRefusedAs (parsed_of tree.now) (options_of context) error) }
 {
     if let Some(error) = refusal(tree, context) {

@@ -1,13 +1,14 @@
 use Rattle.std.proofs.Common.{◌≡◌, false, map, Result, Ok, Err, slice_index_or, MatchOption, MatchResult, refl, sym, ap, ◌∙◌, subst}
 use Rattle.std.specs.Result.{IsErr, IsErrAnd}
 use Rattle.fancy_meaning.specs.Numbering.{numbered, numbered_within}
-use Rattle.fancy_meaning.specs.Options.{ParsedTree, AnalysisOptions, analysis_of}
+use Rattle.fancy_meaning.specs.Options.{AnalysisOptions, analysis_of}
 use Rattle.fancy_meaning.specs.Sizes.{known_of}
 use Rattle.fancy_meaning.specs.Tree.{NoLook}
 use Rattle.fancy_tree.specs.Endings.{IsWhole}
 use Rattle.fancy_tree.specs.Infos.{options_of}
 use Rattle.fancy_tree.specs.Analyses.{IsAnalysisOf, IsRefusedAs}
 use Rattle.fancy_tree.specs.declared.info.Info.{Info}
+use Rattle.fancy_expr.specs.declared.expr.ExprTree.{ExprTree}
 use Rattle.fancy_expr.specs.declared.error.Error.{Error}
 use Rattle.fancy_expr.specs.declared.error.Error.TheVariants.{Memory}
 use Rattle.fancy_meaning.specs.AnalysisRefusals.{AnalysisRefuses}
@@ -31,9 +32,11 @@ returns c =
       reads = λ g. ap (λ l. slice_index_or l g false) c.deref-3.ensures.value ∙ c.in_ok-reads.ensures g ∙ flag_is_read p o c.requires.0.groups quiet g;
       known = ap (map size_of) c.deref-2.ensures.value ∙ c.in_ok-known.ensures ∙ ap (λ n. known_of (numbered_within NoLook n p.tree)) c.first_group-first.ensures;
     }) in
+    let root = c.as_root.ensures a refl c.in_ok-info.ensures.within (c.in_ok-info.ensures.start_group ∙ c.first_group-first.ensures) whole.tree whole.analysed in
     record {
       accepted = subst (λ r. MatchOption r (IsAnalysable p o) (λ error. AnalysisRefuses p o (error_of error))) c.in_default-2.is (c.in_ok-refused.ensures o quiet whole);
-      root = c.as_root.ensures a refl c.in_ok-info.ensures.within whole.tree whole.analysed;
+      expr = root.1 ∙ c.in_ok-info.ensures.expr;
+      root = root.0;
     }
 
 pub returns-in-Some-2 : goal.returns-in-Some-2
@@ -49,10 +52,10 @@ returns-in-Some-2 c =
     }) in
     subst (λ r. MatchOption r (IsAnalysable p o) (λ error. AnalysisRefuses p o (error_of error))) c.in-Some-2.is (c.in_ok-refused.ensures o quiet whole)
 
-memory_only : (p : ParsedTree) (o : AnalysisOptions) (r : Result Info Error) (x : Error) → IsErr r → IsErrAnd r (λ e. e ≡ x) → x ≡ Memory →
-    MatchResult r (λ info. IsAnalysisOf p o info) (λ error. IsRefusedAs p o error)
-memory_only p o (Ok info) x h is at = absurd (false_true h)
-memory_only p o (Err e) x h is at = subst (IsRefusedAs p o) (sym (is ∙ at)) tt
+memory_only : (tree : ExprTree) (o : AnalysisOptions) (r : Result Info Error) (x : Error) → IsErr r → IsErrAnd r (λ e. e ≡ x) → x ≡ Memory →
+    MatchResult r (λ info. IsAnalysisOf tree o info) (λ error. IsRefusedAs (parsed_of tree) o error)
+memory_only tree o (Ok info) x h is at = absurd (false_true h)
+memory_only tree o (Err e) x h is at = subst (IsRefusedAs (parsed_of tree) o) (sym (is ∙ at)) tt
 
 pub returns-in_err-refused : goal.returns-in_err-refused
 unfolding numbered
@@ -66,4 +69,4 @@ returns-in_err-refused c =
       known = ap (map size_of) c.deref-2.ensures.value ∙ c.in_ok-known.ensures ∙ ap (λ n. known_of (numbered_within NoLook n p.tree)) c.first_group-first.ensures;
     }) in
     let from = c.from_residual-in_err-refused in
-    memory_only p o from.result c.in_err-refused.field-0.0 from.ensures.0 from.ensures.1 (c.in_err-refused.ensures o quiet whole)
+    memory_only c.args.tree.now o from.result c.in_err-refused.field-0.0 from.ensures.0 from.ensures.1 (c.in_err-refused.ensures o quiet whole)
