@@ -19,7 +19,7 @@ use Rattle.fancy_composed.proofs.Tests.{MayStop}
 use Rattle.fancy_composed.proofs.Branches.{never}
 use Rattle.fancy_composed.proofs.Ready.{Ready}
 use Rattle.fancy_composed.proofs.Accepted.{ground, ready}
-use Rattle.fancy_composed.proofs.Starts.{or_left, or_right}
+use Rattle.std.proofs.lemmas.Bool.{or_left, or_right}
 use Rattle.fancy_composed.proofs.Trees.{both, tree_works}
 use Rattle.fancy_composed.proofs.Calls.{calls_work}
 use Rattle.fancy_composed.proofs.Reduced.{alike_thins}

@@ -20,7 +20,7 @@ use Rattle.fancy_meaning.specs.Theorems.{IsProgramFor, Serves, may_give_up, code
 use Rattle.fancy_composed.proofs.Courses.{Course, To, to_same, to_eq, after, Ground, config, here}
 use Rattle.fancy_composed.proofs.Parts.{setting, Works}
 use Rattle.fancy_composed.proofs.Tests.{MayStop}
-use Rattle.fancy_composed.proofs.Starts.{or_left, or_right}
+use Rattle.std.proofs.lemmas.Bool.{or_left, or_right}
 use Rattle.fancy_composed.proofs.Trees.{both}
 use Rattle.fancy_composed.proofs.Serving.{stands_here, handed_by}
 use Rattle.fancy_composed.proofs.Composed.{first_slot}
