@@ -66,7 +66,8 @@ pub record IsSpan (text : List ℕ) (span : Span) : Type 0 where
   pub to : IsTrue (is_place text span.1)
   pub in_order : span.0 ≤ span.1
 
--- a place of the text, and the spans of groups that are read keep the sizes of their groups
+-- It stands at a place of the text, every span lies between two places in order, and those of groups that are read keep
+-- the sizes of their groups.
 pub record IsSound (q : Setting) (whole : Tree) (s : MatchState) : Type 0 where
   pub place : IsTrue (is_place q.text s.place)
   pub spans : (g : ℕ) (span : Span) → s.captures g ≡ Some span → IsSpan q.text span
