@@ -70,7 +70,8 @@ pub record IsSpan (text : List ℕ) (span : Span) : Type 0 where
 abbrev pub HasSpans : List ℕ → (ℕ → Option Span) → Type 0
 HasSpans text captures = (g : ℕ) (span : Span) → captures g ≡ Some span → IsSpan text span
 
--- a place of the text, spans in order, and those of these groups keep the sizes of their groups
+-- It stands at a place of the text, every span lies between two places in order, and those of these groups keep the
+-- sizes of their groups.
 pub record IsSoundFor (q : Setting) (whole : Tree) (sized : ℕ → Bool) (s : MatchState) : Type 0 where
   pub place : IsTrue (is_place q.text s.place)
   pub spans : HasSpans q.text s.captures
