@@ -1,17 +1,7 @@
-//! Rows from the text of a tree to what is answered.
+//! Memory that is refused, and writers that fail: what no table of rows shows (those are in fancy_answers).
 #![tactic(auto)]
 
 #[cfg(test)]
-mod answers;
-#[cfg(test)]
-mod comparison;
-#[cfg(test)]
-mod layouts;
-#[cfg(test)]
-mod long_texts;
-#[cfg(test)]
 mod memory;
 #[cfg(test)]
-mod program;
-#[cfg(test)]
-mod searches;
+mod writers;

@@ -1,12 +1,12 @@
 //! Memory that is refused, and memory that is used again. Where one request for memory is refused (`rt try --test --fail-alloc N`), a
 //! call ends by its answer or by `Memory`, and the same call made again gives the answer: so each test here passes whichever it is.
 
-use crate::searches::compiled;
 use fancy_machine_tests::again;
 use fancy_regex_engine::analyze::AnalyzeContext;
 use fancy_regex_engine::compile::CompileOptions;
 use fancy_regex_engine::error::{CompileError, Error};
-use fancy_regex_engine::expr::read_tree;
+use fancy_regex_engine::expr::{is_well_formed, read_tree};
+use fancy_regex_engine::search::{Compiled, options_fit};
 use fancy_regex_engine::vm::{Prog, RunOptions, Scratch, run, run_default, run_spans};
 use std::alloc::Global;
 use std::process::Abort;
@@ -43,25 +43,18 @@ const CONDITION: Row = (
 
 const CLASS: Row = (r#"(cat (iset "[b-dé]") nl)"#, "É\r\n", &[0, 4]);
 
-fn program(alloc: Global, tree: &str) -> Result<Prog, Error> {
-    let tree = read_tree(alloc, tree)?;
-    compiled(
-        alloc,
-        &tree,
-        AnalyzeContext::default(),
-        CompileOptions::default(),
-    )
-}
-
-/// How many instructions the program has where group 0 is the tree's own.
-fn explicit_length(alloc: Global, tree: &str) -> Result<usize, Error> {
+/// The program of a tree, with group 0 the tree's own or not.
+fn compiled(alloc: Global, tree: &str, explicit_group_0: bool) -> Result<Prog, Error> {
     let tree = read_tree(alloc, tree)?;
     let context = AnalyzeContext {
-        explicit_capture_group_0: true,
+        explicit_capture_group_0: explicit_group_0,
         ..AnalyzeContext::default()
     };
-    let prog = compiled(alloc, &tree, context, CompileOptions::default())?;
-    Ok(prog.body().len())
+    let options = CompileOptions::default();
+    if !is_well_formed(&tree) || !options_fit(context, options) {
+        return Err(Error::TreeFault { at: 0 });
+    }
+    Ok(Compiled::new(alloc, &tree, context, options)?.into_program())
 }
 
 fn numbers(
@@ -122,44 +115,22 @@ fn check_runs(
 }
 
 fn check(rt: &impl Abort, alloc: Global, row: &Row) -> Result<(), Fail> {
-    let prog = again!(program(alloc, row.0))?;
+    let prog = again!(compiled(alloc, row.0, false))?;
     check_runs(rt, alloc, &prog, row, &mut Scratch::new(alloc))
 }
 
 #[test]
-fn references(rt: HostRuntime) -> Result<(), Fail> {
-    check(&rt, rt.alloc(), &REFERENCE)
-}
-
-#[test]
-fn loops(rt: HostRuntime) -> Result<(), Fail> {
-    check(&rt, rt.alloc(), &LOOP)
-}
-
-#[test]
-fn calls(rt: HostRuntime) -> Result<(), Fail> {
-    check(&rt, rt.alloc(), &CALLS)
-}
-
-#[test]
-fn absent(rt: HostRuntime) -> Result<(), Fail> {
-    check(&rt, rt.alloc(), &ABSENT)
-}
-
-#[test]
-fn conditions(rt: HostRuntime) -> Result<(), Fail> {
-    check(&rt, rt.alloc(), &CONDITION)
-}
-
-#[test]
-fn classes(rt: HostRuntime) -> Result<(), Fail> {
-    check(&rt, rt.alloc(), &CLASS)
+fn searches(rt: HostRuntime) -> Result<(), Fail> {
+    for row in [&REFERENCE, &LOOP, &CALLS, &ABSENT, &CONDITION, &CLASS] {
+        check(&rt, rt.alloc(), row)?;
+    }
+    Ok(())
 }
 
 #[test]
 fn refusals(rt: HostRuntime) -> Result<(), Fail> {
     let alloc = rt.alloc();
-    let refused = again!(program(alloc, r#"(set "[z-a]")"#));
+    let refused = again!(compiled(alloc, r#"(set "[z-a]")"#, false));
     assert!(rt;
         matches!(
             refused,
@@ -167,22 +138,23 @@ fn refusals(rt: HostRuntime) -> Result<(), Fail> {
         )
     );
     let endless = "(grp (cat (grp dot) (call 1)))";
-    let refused = again!(program(alloc, endless));
+    let refused = again!(compiled(alloc, endless, false));
     assert!(rt;
         matches!(
             refused,
             Err(Error::CompileError(CompileError::NeverEndingRecursion))
         )
     );
-    assert_eq!(rt; again!(explicit_length(alloc, endless))?, 12);
+    let explicit = again!(compiled(alloc, endless, true))?;
+    assert_eq!(rt; explicit.body().len(), 12);
     Ok(())
 }
 
 #[test]
 fn one_scratch_serves_two_programs(rt: HostRuntime) -> Result<(), Fail> {
     let alloc = rt.alloc();
-    let calls = again!(program(alloc, CALLS.0))?;
-    let condition = again!(program(alloc, CONDITION.0))?;
+    let calls = again!(compiled(alloc, CALLS.0, false))?;
+    let condition = again!(compiled(alloc, CONDITION.0, false))?;
     let mut scratch = Scratch::new(alloc);
     for _round in 0..3 {
         check_runs(&rt, alloc, &calls, &CALLS, &mut scratch)?;

@@ -1,11 +1,7 @@
-//! Rows of trees, their notation and their analysis, and of tests on characters and places: what needs no program.
+//! Trees that no notation spells, and tests on characters and places: what no table of rows shows (those are in fancy_tree_rows).
 #![tactic(auto)]
 
 #[cfg(test)]
 mod characters;
-#[cfg(test)]
-mod notation;
-#[cfg(test)]
-mod sizes;
 #[cfg(test)]
 mod trees;

@@ -1,28 +1,13 @@
-//! Trees and their programs compiled anchored, a row a line: TREE, `E` where group 0 is the tree's own, and the instructions.
+//! Trees and their programs, compiled anchored.
 
 use crate::searches::compiled;
 use fancy_regex_engine::analyze::AnalyzeContext;
 use fancy_regex_engine::classes::CharClassMatcher;
 use fancy_regex_engine::compile::CompileOptions;
+use fancy_regex_engine::error::Error;
 use fancy_regex_engine::expr::read_tree;
-use fancy_regex_engine::vm::Insn;
+use fancy_regex_engine::vm::{Insn, Prog};
 use std::alloc::{AllocError, Global};
-use std::process::Abort;
-use std::test::Fail;
-
-const LAYOUTS: &str = r#"
-(cat "a" (grp (alt "b" "bc")) "d") | - | Save(0) Lit(a) SCGS{1,4} Split(4,6) Lit(b) Jmp(8) Lit(b) Lit(c) SCG{1,4} Lit(d) Save(1) End
-(if "a" "c" "d") | E | BeginAtomic Split(2,6) Lit(a) EndAtomic Lit(c) Jmp(8) EndAtomic Lit(d) End
-(define (grp "a")) | E | End
-(cat (nahead "x") cont) | E | Split(1,3) Lit(x) FailNegativeLookAround Cont{true} End
-(cat "a" keep) | E | Lit(a) Save(0) End
-(atom (alt "a" (verb fail))) | E | BeginAtomic Split(2,4) Lit(a) Jmp(5) Fail EndAtomic End
-(ahead "a") | E | Save(0) Lit(a) Restore(0) End
-(rep 0 * (grp (rep 0 1 "a"))) | E | Save0(2) RepeatEpsilonGr{0,7,2,3} SCGS{0,4} Split(4,5) Lit(a) SCG{0,4} Jmp(1) End
-(grp (cat (grp dot) (call 1))) | E | SCGS{0,4} SCGS{1,5} AnyNoNL SCG{1,5} SCGS{1,6} AnyNoNL SCG{1,6} SCG{0,4} End
-(cat (behind (cat wb "a")) "b") | E | Save(0) GoBack(1) Assertion(WordBoundary) Lit(a) Restore(0) Lit(b) End
-(cat (grp dot) (grp "a") (ref 1)) | E | SCGS{0,4} AnyNoNL SCG{0,4} SCGS{1,5} Lit(a) SCG{1,5} Backref(2) End
-"#;
 
 /// An instruction as these rows write it.
 fn push_insn(line: &mut String, insn: &Insn) -> Result<(), AllocError> {
@@ -82,8 +67,8 @@ fn push_insn(line: &mut String, insn: &Insn) -> Result<(), AllocError> {
     }
 }
 
-/// The instructions of the tree's program, compiled anchored.
-fn layout(alloc: Global, tree: &str, explicit_group_0: bool) -> Result<String, Fail> {
+/// The program of the tree, compiled anchored.
+fn program(alloc: Global, tree: &str, explicit_group_0: bool) -> Result<Prog, Error> {
     let tree = read_tree(alloc, tree)?;
     let context = AnalyzeContext {
         explicit_capture_group_0: explicit_group_0,
@@ -93,27 +78,26 @@ fn layout(alloc: Global, tree: &str, explicit_group_0: bool) -> Result<String, F
         anchored: true,
         ..CompileOptions::default()
     };
-    let prog = compiled(alloc, &tree, context, options)?;
+    compiled(alloc, &tree, context, options)
+}
+
+fn line(alloc: Global, insns: &[Insn]) -> Result<String, AllocError> {
     let mut line = String::new(alloc);
-    for insn in prog.body() {
+    for insn in insns {
+        if !line.is_empty() {
+            line.push(' ')?;
+        }
         push_insn(&mut line, insn)?;
-        line.push(' ')?;
     }
+    line.push('\n')?;
     Ok(line)
 }
 
-fn check(rt: &impl Abort, alloc: Global, rows: &str) -> Result<(), Fail> {
-    for row in rows.trim().lines() {
-        let mut columns = row.split(" | ");
-        let tree = columns.next().unwrap_or("");
-        let explicit_group_0 = columns.next() == Some("E");
-        let found = layout(alloc, tree, explicit_group_0)?;
-        assert_eq!(rt; Some(found.trim_end()), columns.next(), "{row}");
+/// The instructions of the program of TREE, in which group 0 is the tree's own where `E` follows.
+pub fn layout(alloc: Global, key: &str) -> Result<String, AllocError> {
+    let (tree, letter) = key.split_once(" | ").unwrap_or((key, ""));
+    match program(alloc, tree, letter == "E") {
+        Ok(prog) => line(alloc, prog.body()),
+        Err(error) => format!(in alloc; "{error:?}\n"),
     }
-    Ok(())
-}
-
-#[test]
-fn layouts(rt: HostRuntime) -> Result<(), Fail> {
-    check(&rt, rt.alloc(), LAYOUTS)
 }

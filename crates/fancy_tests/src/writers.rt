@@ -1,6 +1,5 @@
-//! The program: its words, its lines and its statuses.
+//! The program where a write fails.
 
-use crate::searches::{printed, words};
 use fancy_regex_engine::command::command;
 use std::alloc::{AllocError, Global};
 use std::io;
@@ -8,61 +7,12 @@ use std::io::{ErrorKind, Write};
 use std::process::Abort;
 use std::test::Fail;
 
-const USAGE: &str = "usage: fancyrun TREE TEXT [POS] [options]\n";
-
-/// Words that ask nothing.
-const MISUSES: &[&[&str]] = &[
-    &[],
-    &["empty"],
-    &[r#""é""#, "é", "1"],
-    &["(", "é", "1"],
-    &["empty", "", "1"],
-    &["empty", "", "x"],
-    &["empty", "", "-1"],
-    &["empty", "", "+0"],
-    &["empty", "", ""],
-    &["empty", "", "0", "0"],
-    &["empty", "", "18446744073709551616"],
-    &["empty", "", "--anchored", "0"],
-    &["empty", "", "--anchored", "--anchored"],
-    &["empty", "", "--longest"],
-    &["empty", "", "--steps"],
-    &["empty", "", "--steps", "--ascii"],
-    &["empty", "", "--steps", "+1"],
-    &["empty", "", "--steps", "18446744073709551616"],
-    &["empty", "", "--steps", "1", "--steps", "1"],
-    &[
-        "empty",
-        "",
-        "--max-prog",
-        "9",
-        "--backtracks",
-        "9",
-        "--max-prog",
-        "9",
-    ],
-];
-
 fn owned(alloc: Global, words: &[&str]) -> Result<Vec<String>, AllocError> {
     let mut all = Vec::new(alloc);
     for word in words {
         all.push(String::from_str(alloc, word)?)?;
     }
     Ok(all)
-}
-
-#[test]
-fn says_how_it_is_used(rt: HostRuntime) -> Result<(), Fail> {
-    let alloc = rt.alloc();
-    for words in MISUSES {
-        let (status, out, err) = printed(alloc, &owned(alloc, words)?)?;
-        assert_eq!(rt;
-            (status, out.as_str(), err.as_str()),
-            (2, "", USAGE),
-            "{words:?}"
-        );
-    }
-    Ok(())
 }
 
 /// Takes so many bytes, and then fails.
@@ -113,8 +63,8 @@ fn check_closed(rt: &impl Abort, alloc: Global, words: &[String], length: usize,
 #[test]
 fn ends_where_a_write_fails(rt: HostRuntime) -> Result<(), Fail> {
     let alloc = rt.alloc();
-    check_closed(&rt, alloc, &words(alloc, "empty", "", "")?, 4, 0);
-    check_closed(&rt, alloc, &words(alloc, "(ref 7)", "", "")?, 17, 1);
-    check_closed(&rt, alloc, &words(alloc, "empty", "", "x")?, 42, 2);
+    check_closed(&rt, alloc, &owned(alloc, &["empty", ""])?, 4, 0);
+    check_closed(&rt, alloc, &owned(alloc, &["(ref 7)", ""])?, 17, 1);
+    check_closed(&rt, alloc, &owned(alloc, &["empty", "", "x"])?, 42, 2);
     Ok(())
 }

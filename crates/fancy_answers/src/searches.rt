@@ -1,0 +1,228 @@
+//! Searches by each call that makes one.
+
+use crate::comparison::{answers_as_meant, equal};
+use crate::rows::{differ, with_line_ends, written_out};
+use fancy_regex_engine::analyze::AnalyzeContext;
+use fancy_regex_engine::arguments::{Arguments, read_arguments};
+use fancy_regex_engine::command::command;
+use fancy_regex_engine::compile::CompileOptions;
+use fancy_regex_engine::error::Error;
+use fancy_regex_engine::expr::{ExprTree, is_well_formed, read_tree};
+use fancy_regex_engine::search::{Compiled, options_fit, search};
+use fancy_regex_engine::vm::{Prog, RunOptions, Scratch, run, run_default, run_spans};
+use std::alloc::{AllocError, Global};
+
+/// TREE, TEXT, and these words.
+fn words(alloc: Global, tree: &str, text: &str, after: &str) -> Result<Vec<String>, AllocError> {
+    let mut words = Vec::new(alloc);
+    words.push(String::from_str(alloc, tree)?)?;
+    words.push(String::from_str(alloc, text)?)?;
+    for word in after.split_whitespace() {
+        words.push(String::from_str(alloc, word)?)?;
+    }
+    Ok(words)
+}
+
+/// The program of a tree.
+pub fn compiled(
+    alloc: Global,
+    tree: &ExprTree,
+    context: AnalyzeContext,
+    options: CompileOptions,
+) -> Result<Prog, Error> {
+    if !is_well_formed(tree) || !options_fit(context, options) {
+        return Err(Error::TreeFault { at: 0 });
+    }
+    Ok(Compiled::new(alloc, tree, context, options)?.into_program())
+}
+
+/// Both found the same span, or nothing, or passed the same limit.
+fn agree(
+    whole: &Result<Option<Vec<usize>>, Error>,
+    pair: &Result<Option<(usize, usize)>, Error>,
+) -> bool {
+    match (whole, pair) {
+        (Ok(None), Ok(None)) => true,
+        (Ok(Some(numbers)), Ok(Some((from, to)))) => {
+            numbers.first() == Some(from) && numbers.get(1) == Some(to)
+        }
+        (Err(Error::RuntimeError(one)), Err(Error::RuntimeError(other))) => *one == *other,
+        _ => false,
+    }
+}
+
+/// Nothing but the place is set for the run.
+fn is_default(arguments: &Arguments) -> bool {
+    !(arguments.anchored || arguments.not_continued || arguments.not_empty)
+        && arguments.backtracks.is_none()
+        && arguments.steps.is_none()
+}
+
+/// Of the calls that run a program, one that answers otherwise.
+fn differing_run(
+    alloc: Global,
+    prog: &Prog,
+    text: &str,
+    arguments: &Arguments,
+) -> Option<&'static str> {
+    let options = arguments.running();
+    if !options.fits(prog, text) {
+        return Some("fits");
+    }
+    let mut scratch = Scratch::new(alloc);
+    let whole = run(alloc, prog, text, &options, &mut scratch);
+    if !agree(
+        &whole,
+        &run_spans(alloc, prog, text, &options, &mut scratch),
+    ) {
+        return Some("run_spans");
+    }
+    if !equal(&whole, &run(alloc, prog, text, &options, &mut scratch)) {
+        return Some("run");
+    }
+    if !default_agrees(alloc, prog, text, arguments, &whole) {
+        return Some("run_default");
+    }
+    None
+}
+
+/// Where nothing is set for the run, the call with default options answers so too.
+fn default_agrees(
+    alloc: Global,
+    prog: &Prog,
+    text: &str,
+    arguments: &Arguments,
+    whole: &Result<Option<Vec<usize>>, Error>,
+) -> bool {
+    let options = RunOptions {
+        pos: arguments.pos,
+        ..RunOptions::default()
+    };
+    if !is_default(arguments) || !options.fits(prog, text) {
+        return true;
+    }
+    equal(whole, &run_default(alloc, prog, text, arguments.pos))
+}
+
+/// The call that makes the whole search answers as the run does.
+fn search_agrees(
+    alloc: Global,
+    tree: &ExprTree,
+    prog: &Prog,
+    text: &str,
+    arguments: &Arguments,
+) -> bool {
+    let options = arguments.options();
+    if !is_well_formed(tree) || !options.fits(text) || !options.run.fits(prog, text) {
+        return false;
+    }
+    let mut scratch = Scratch::new(alloc);
+    let found = search(alloc, tree, text, &options, &mut scratch);
+    equal(&found, &run(alloc, prog, text, &options.run, &mut scratch))
+}
+
+/// Of the calls that search for the tree, one that answers otherwise than the run; none where the tree is refused.
+fn differing_call(
+    alloc: Global,
+    tree: &ExprTree,
+    text: &str,
+    arguments: &Arguments,
+) -> Option<&'static str> {
+    let Ok(prog) = compiled(alloc, tree, arguments.analysis(), arguments.compilation()) else {
+        return None;
+    };
+    if let Some(call) = differing_run(alloc, &prog, text, arguments) {
+        return Some(call);
+    }
+    if !search_agrees(alloc, tree, &prog, text, arguments) {
+        return Some("search");
+    }
+    if !answers_as_meant(alloc, tree, &prog, text, arguments) {
+        return Some("fancy_reference");
+    }
+    None
+}
+
+/// Of the calls that search as the words ask, one that answers otherwise.
+fn differing(alloc: Global, words: &[String]) -> Option<&'static str> {
+    let (tree, rest) = words.split_first()?;
+    let (text, after) = rest.split_first()?;
+    let Some(arguments) = read_arguments(after) else {
+        return Some("read_arguments");
+    };
+    let Ok(tree) = read_tree(alloc, tree.as_str()) else {
+        return None;
+    };
+    differing_call(alloc, &tree, text.as_str(), &arguments)
+}
+
+/// What the program writes, and its status.
+#[derive(Drop)]
+pub struct Output {
+    pub status: u8,
+    pub out: String,
+    pub err: String,
+}
+
+fn text_of(alloc: Global, bytes: Vec<u8>) -> Result<String, AllocError> {
+    match String::from_utf8(bytes) {
+        Ok(text) => Ok(text),
+        Err(_) => String::from_str(alloc, "no text\n"),
+    }
+}
+
+pub fn printed(alloc: Global, words: &[String]) -> Result<Output, AllocError> {
+    let mut out = Vec::new(alloc);
+    let mut err = Vec::new(alloc);
+    let status = command(alloc, words, &mut out, &mut err);
+    Ok(Output {
+        status,
+        out: text_of(alloc, out)?,
+        err: text_of(alloc, err)?,
+    })
+}
+
+/// A line that begins with a capital letter is a refusal.
+fn wanted_status(line: &str) -> u8 {
+    match line.as_bytes().first() {
+        Some(byte) if byte.is_ascii_uppercase() => 1,
+        _ => 0,
+    }
+}
+
+/// The line that is printed, with the status that goes with it.
+fn line(alloc: Global, words: &[String]) -> Result<String, AllocError> {
+    let Output { status, out, err } = printed(alloc, words)?;
+    if !err.is_empty() || status != wanted_status(out.as_str()) {
+        return differ(alloc, "command");
+    }
+    Ok(out)
+}
+
+/// TREE, TEXT and the words of a row.
+fn columns(alloc: Global, key: &str) -> Result<Vec<String>, AllocError> {
+    let mut columns = key.split(" | ");
+    let tree = written_out(alloc, columns.next().unwrap_or(""))?;
+    let text = written_out(alloc, columns.next().unwrap_or(""))?;
+    let text = with_line_ends(alloc, text.as_str())?;
+    words(
+        alloc,
+        tree.as_str(),
+        text.as_str(),
+        columns.next().unwrap_or(""),
+    )
+}
+
+/// The line that is printed.
+pub fn answered(alloc: Global, key: &str) -> Result<String, AllocError> {
+    line(alloc, &columns(alloc, key)?)
+}
+
+/// The line that is printed, where the calls that make the search agree.
+pub fn compared(alloc: Global, key: &str) -> Result<String, AllocError> {
+    let words = columns(alloc, key)?;
+    match differing(alloc, &words) {
+        Some(call) => differ(alloc, call),
+        None => line(alloc, &words),
+    }
+}
