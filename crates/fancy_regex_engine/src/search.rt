@@ -1,8 +1,11 @@
 //! A search for a tree in a text by one call, and a tree that is compiled once and searched for many times.
 
-ghost use Rattle.std.specs.Prelude.{◌≡◌, ℕ, List, None, IsTrue, IsUtf8, MatchResult, true};
+ghost use Rattle.std.specs.Prelude.{◌≡◌, ℕ, List, None, IsTrue, IsUtf8, MatchResult, false, true};
 ghost use Rattle.fancy_meaning.specs.Fits.{run_fits};
+ghost use Rattle.fancy_meaning.specs.Options as plain;
 ghost use Rattle.fancy_meaning.specs.Premises.{Input};
+ghost use Rattle.fancy_tree.specs.Infos.{options_of as analysis_options_of};
+ghost use Rattle.fancy_compile.specs.Compiled.{options_of as compile_options_of};
 ghost use Rattle.fancy_expr.specs.Sound.{IsWellFormedTree};
 ghost use Rattle.fancy_machine.specs.Programs.{default_at, options_of as run_options_of, task_of};
 ghost use Rattle.fancy_regex_engine.specs.Searches.{IsCompiledFrom, IsRefusedAs, Promises, input_of, program, search_fits};
@@ -53,9 +56,17 @@ impl Default for SearchOptions {
     /// The defaults of the three stages, which fit every text.
     fn default() -> SearchOptions
         ensures fits { (text : List ℕ) → IsUtf8 text → IsTrue (search_fits result text) }
+        ensures analysis { analysis_options_of result.analysis
+            ≡ record { explicit_capture_group_0 = false; find_not_empty = false; end_text = false } }
+        ensures compilation { compile_options_of result.compilation
+            ≡ record {
+              anchored = false;
+              end_text = false;
+              bytes_mode = plain.Unicode;
+              unicode = true;
+              max_prog_size = None;
+            } }
         ensures run { run_options_of result.run ≡ default_at 0 }
-        ensures unicode { result.compilation.unicode ≡ true }
-        ensures no_bound { result.compilation.max_prog_size ≡ None }
     {
         SearchOptions {
             analysis: AnalyzeContext::default(),
