@@ -17,12 +17,12 @@ use Rattle.fancy_expr.specs.declared.expr.Absent.{Absent}
 use Rattle.fancy_expr.specs.declared.expr.Absent.TheVariants as code_absent
 use Rattle.fancy_expr.specs.declared.expr.Expr.{Expr}
 use Rattle.fancy_expr.specs.declared.expr.Expr.TheVariants as code
-use Rattle.fancy_tree.specs.declared.info.Info.{Info}
-use Rattle.fancy_tree.specs.declared.info.Info.TheViews.{out-Info}
+use Rattle.fancy_analysis.specs.declared.info.Info.{Info}
+use Rattle.fancy_analysis.specs.declared.info.Info.TheViews.{out-Info}
 use Rattle.fancy_expr.specs.Exprs.{below, below_absent}
-use Rattle.fancy_tree.specs.Infos.{nth, node_over, absent_over, info_tree, info_within, info_children, info_facts, info_hard, IsFound, IsAnalysed}
-use Rattle.fancy_tree.proofs.GroupSizes.{nodes-parts}
-use Rattle.fancy_tree.proofs.Unfolded.{tree_out, each_here}
+use Rattle.fancy_analysis.specs.Infos.{nth, node_over, absent_over, info_tree, info_within, info_children, info_facts, info_hard, IsFound, IsAnalysed}
+use Rattle.fancy_analysis.proofs.GroupSizes.{nodes-parts}
+use Rattle.fancy_analysis.proofs.Unfolded.{tree_out, each_here}
 use Rattle.fancy_compile.specs.Faults.{Rejects, refused, out_of_range, HasRejected}
 use Rattle.fancy_compile.specs.Drafts.{Draft, Writes, hard_code}
 use Rattle.fancy_compile.specs.Nodes.{is_repeater, is_absent_expr, IsKnown}

@@ -12,9 +12,10 @@ use Rattle.fancy_meaning.specs.Numbering.{numbered}
 use Rattle.fancy_meaning.specs.Options.{Analysis}
 use Rattle.fancy_meaning.specs.Places.{range_from}
 use Rattle.fancy_meaning.specs.Premises.{Analysed, analysis}
-use Rattle.fancy_tree.specs.declared.info.Info.{Info}
-use Rattle.fancy_tree.specs.Infos.{info_tree, Each, IsRoot}
-use Rattle.fancy_tree.proofs.GroupNumbers.{numbers}
+use Rattle.fancy_analysis.specs.declared.info.Info.{Info}
+use Rattle.fancy_analysis.specs.Infos.{info_tree, IsRoot}
+use Rattle.fancy_expr.specs.Each.{Each}
+use Rattle.fancy_analysis.proofs.GroupNumbers.{numbers}
 use Rattle.fancy_compile.specs.declared.task.Task.{Task}
 use Rattle.fancy_compile.specs.declared.task.Groups.{Groups}
 use Rattle.fancy_compile.specs.Nodes.{AreNumbered, IsBody, IsServed, has_target, node_count}

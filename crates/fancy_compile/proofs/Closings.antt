@@ -15,7 +15,7 @@ use Rattle.fancy_compile.specs.declared.around.Start.{Start}
 use Rattle.fancy_compile.specs.Arounds.{IsStart, around_code, opening, unknown}
 use Rattle.fancy_compile.specs.declared.compiler.Compiler.{Compiler}
 use Rattle.fancy_compile.specs.Drafts.{Draft, Adds, Writes, patched, draft_of}
-use Rattle.fancy_machine.specs.Insns.{insn_of}
+use Rattle.fancy_vm.specs.Insns.{insn_of}
 use Rattle.std.proofs.lemmas.List.{length-map}
 use Rattle.fancy_compile.proofs.Writing.{extended_length, adds_to, wrote_then}
 

@@ -12,10 +12,11 @@ use Rattle.fancy_expr.specs.declared.expr.Absent.{Absent}
 use Rattle.fancy_expr.specs.declared.expr.Absent.TheVariants as code_absent
 use Rattle.fancy_expr.specs.declared.expr.Expr.{Expr}
 use Rattle.fancy_expr.specs.declared.expr.Expr.TheVariants as code
-use Rattle.fancy_tree.specs.declared.info.Info.{Info}
-use Rattle.fancy_tree.specs.declared.info.Info.TheViews.{out-Info}
-use Rattle.fancy_tree.specs.Infos.{node_over, absent_over, info_tree, info_size, info_within, info_children, info_facts, Each, IsAnalysed}
-use Rattle.fancy_tree.proofs.Unfolded.{tree_out}
+use Rattle.fancy_analysis.specs.declared.info.Info.{Info}
+use Rattle.fancy_analysis.specs.declared.info.Info.TheViews.{out-Info}
+use Rattle.fancy_analysis.specs.Infos.{node_over, absent_over, info_tree, info_size, info_within, info_children, info_facts, IsAnalysed}
+use Rattle.fancy_expr.specs.Each.{Each}
+use Rattle.fancy_analysis.proofs.Unfolded.{tree_out}
 use Rattle.fancy_compile.specs.declared.around.Around.TheVariants as around
 use Rattle.fancy_compile.specs.Arounds.{around_code}
 use Rattle.fancy_compile.specs.Faults.{Rejects, refused, out_of_range, HasRejected}

@@ -7,8 +7,8 @@ use Rattle.fancy_meaning.specs.Code.{Code, nothing, one, ◌>>◌, in_turn, bran
 use Rattle.fancy_meaning.specs.Marks.{takes_nothing}
 use Rattle.fancy_compile.specs.Sites.{Site}
 use Rattle.fancy_meaning.specs.Sizes.{Size, size}
-use Rattle.fancy_tree.specs.declared.info.Info.{Info}
-use Rattle.fancy_tree.specs.Infos.{info_tree, info_size}
+use Rattle.fancy_analysis.specs.declared.info.Info.{Info}
+use Rattle.fancy_analysis.specs.Infos.{info_tree, info_size}
 use Rattle.fancy_compile.specs.declared.around.Around.TheVariants as around
 use Rattle.fancy_compile.specs.Arounds.{around_code}
 use Rattle.fancy_compile.specs.Drafts.{Draft, Writes, hard_code, patched, all_patched}

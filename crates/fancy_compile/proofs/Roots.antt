@@ -4,11 +4,11 @@ use Rattle.fancy_meaning.specs.Tree as plain
 use Rattle.fancy_meaning.specs.Nodes.{group_count}
 use Rattle.fancy_meaning.specs.Numbering.{numbered}
 use Rattle.fancy_meaning.specs.Premises.{Analysed, analysis}
-use Rattle.fancy_tree.specs.declared.info.Info.{Info}
-use Rattle.fancy_tree.specs.declared.info.Info.TheViews.{out-Info}
-use Rattle.fancy_tree.specs.Infos.{IsRoot}
-use Rattle.fancy_tree.proofs.Unfolded.{tree_out}
-use Rattle.fancy_tree.proofs.Numbered.{count-numbered}
+use Rattle.fancy_analysis.specs.declared.info.Info.{Info}
+use Rattle.fancy_analysis.specs.declared.info.Info.TheViews.{out-Info}
+use Rattle.fancy_analysis.specs.Infos.{IsRoot}
+use Rattle.fancy_analysis.proofs.Unfolded.{tree_out}
+use Rattle.fancy_expr.proofs.Numbered.{count-numbered}
 use Rattle.fancy_compile.specs.Nodes.{IsKnown}
 
 module _ (a : Analysed) (i : Info) (r : IsRoot (analysis a) i) where

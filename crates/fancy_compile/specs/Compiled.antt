@@ -8,12 +8,12 @@ use Rattle.fancy_meaning.specs.AnalysisRefusals as refusal
 use Rattle.fancy_meaning.specs.AnalysisRefusals.{AnalysisRefuses}
 use Rattle.fancy_meaning.specs.CompileRefusals.{CompileRefuses, MayBeTooBig}
 use Rattle.fancy_meaning.specs.Layout.{first_fresh, program_code, undelegated_layout}
-use Rattle.fancy_machine.specs.Programs.{prog_of}
-use Rattle.fancy_machine.specs.declared.insn.Prog.{Prog}
+use Rattle.fancy_vm.specs.Programs.{prog_of}
+use Rattle.fancy_vm.specs.declared.insn.Prog.{Prog}
 use Rattle.fancy_expr.specs.declared.error.Error.{Error}
 use Rattle.fancy_expr.specs.declared.error.Error.TheVariants as error
-use Rattle.fancy_tree.specs.declared.info.Info.{Info}
-use Rattle.fancy_tree.specs.Infos.{IsRoot}
+use Rattle.fancy_analysis.specs.declared.info.Info.{Info}
+use Rattle.fancy_analysis.specs.Infos.{IsRoot}
 use Rattle.fancy_compile.specs.declared.options.BytesMode.{BytesMode}
 use Rattle.fancy_compile.specs.declared.options.BytesMode.TheVariants as code
 use Rattle.fancy_compile.specs.declared.options.CompileOptions.{CompileOptions}

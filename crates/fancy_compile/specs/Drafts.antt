@@ -6,7 +6,7 @@ use Rattle.fancy_meaning.specs.Code.{Code, Laid}
 use Rattle.fancy_compile.specs.Sites.{Site}
 use Rattle.fancy_meaning.specs.Layout.{written}
 use Rattle.fancy_meaning.specs.AnalysisRefusals as plain
-use Rattle.fancy_machine.specs.Insns.{insn_of}
+use Rattle.fancy_vm.specs.Insns.{insn_of}
 use Rattle.fancy_expr.specs.declared.error.Error.{Error}
 use Rattle.fancy_expr.specs.declared.error.Error.TheVariants as error
 use Rattle.fancy_compile.specs.declared.compiler.Compiler.{Compiler}

@@ -1,7 +1,7 @@
 //! What is written behind a node.
 
 ghost use Rattle.std.specs.Prelude.{◌≡◌, ℕ};
-ghost use Rattle.fancy_machine.specs.Insns.{insn_of};
+ghost use Rattle.fancy_vm.specs.Insns.{insn_of};
 ghost use Rattle.fancy_meaning.specs.Constructs.{split};
 ghost use Rattle.fancy_meaning.specs.Instr.{Instr};
 ghost use Rattle.fancy_compile.specs.Arounds.{Ends};
@@ -12,7 +12,7 @@ ghost use Rattle.fancy_expr.specs.Views.{bound_of};
 
 use crate::around::{Around, LoopKind, Start};
 use crate::compiler::Compiler;
-use fancy_machine::vm::Insn;
+use fancy_vm::vm::Insn;
 
 /// The split that goes on first, or last.
 fn split_insn(greedy: bool, on: usize, off: usize) -> Insn

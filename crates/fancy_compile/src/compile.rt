@@ -9,16 +9,16 @@ ghost use Rattle.fancy_meaning.specs.Premises.{Analysed, analysis};
 ghost use Rattle.fancy_compile.specs.Compiled.{Compiles, IsWritingOf, MayCompile, mode_of, plan_with};
 ghost use Rattle.fancy_compile.specs.Drafts.{Writes, draft_of, no_node};
 ghost use Rattle.fancy_compile.specs.Nodes.{IsMade, IsServed};
-ghost use Rattle.fancy_tree.specs.Infos.{IsRoot};
+ghost use Rattle.fancy_analysis.specs.Infos.{IsRoot};
 ghost use Rattle.fancy_compile.specs.Sites.{Site, top};
 
 use crate::compiler::Compiler;
 pub use crate::options::{BytesMode, CompileOptions};
 use crate::shared::SharedClasses;
 use crate::task::{Groups, Task};
-use fancy_machine::vm::{Insn, Prog, ProgParts};
-use fancy_tree::error::{CompileError, Error};
-use fancy_tree::info::Info;
+use fancy_vm::vm::{Insn, Prog, ProgParts};
+use fancy_expr::error::{CompileError, Error};
+use fancy_analysis::info::Info;
 use std::alloc::Global;
 
 fn is_unicode(mode: BytesMode) -> bool

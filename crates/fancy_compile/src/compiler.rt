@@ -4,8 +4,8 @@ ghost use Rattle.std.specs.Prelude.{◌≡◌, ◌+◌, ◌≤◌, ◌^◌, List
 ghost use Rattle.std.specs.Option.{ForSome};
 
 use crate::shared::SharedClasses;
-use fancy_machine::vm::Insn;
-use fancy_tree::error::{CompileError, Error};
+use fancy_vm::vm::Insn;
+use fancy_expr::error::{CompileError, Error};
 
 /// A program in the making. After a fault nothing more is written.
 #[derive(Drop)]
@@ -22,7 +22,7 @@ pub struct Compiler {
 }
 
 impl Compiler {
-    ghost use Rattle.fancy_machine.specs.Insns.{insn_of};
+    ghost use Rattle.fancy_vm.specs.Insns.{insn_of};
     ghost use Rattle.fancy_meaning.specs.Code.{Laid, one};
     ghost use Rattle.fancy_meaning.specs.Tree.{Tree};
     ghost use Rattle.fancy_compile.specs.Sites.{Site};

@@ -7,8 +7,8 @@ ghost use Rattle.fancy_compile.specs.Targets.{Gathers, GathersOwn, IsTable, Mark
 
 use crate::nodes::child;
 use crate::task::Groups;
-use fancy_tree::expr::Expr;
-use fancy_tree::info::Info;
+use fancy_expr::expr::Expr;
+use fancy_analysis::info::Info;
 use std::alloc::{AllocError, Global};
 
 fn is_group(expr: &Expr) -> bool

@@ -1,7 +1,7 @@
 //! Nodes that are written by themselves.
 
 ghost use Rattle.std.specs.Prelude.{◌≡◌, ◌^◌, List, [], ◌∷◌, IfOk, encode_utf8_all, nat_le, slice_index, string_bytes, chars, true};
-ghost use Rattle.fancy_machine.specs.Insns.{insn_of};
+ghost use Rattle.fancy_vm.specs.Insns.{insn_of};
 ghost use Rattle.fancy_meaning.specs.AnalysisRefusals as plain;
 ghost use Rattle.fancy_meaning.specs.Batches.{any_instr, literal_instr};
 ghost use Rattle.fancy_meaning.specs.Code.{Laid, one};
@@ -17,10 +17,10 @@ ghost use Rattle.fancy_expr.specs.Views.{assertion_of, verb_of};
 
 use crate::compiler::Compiler;
 use crate::task::Task;
-use fancy_machine::vm::Insn;
-use fancy_tree::classes::{CaseiLiteral, CharClassMatcher};
-use fancy_tree::error::{CompileError, Error};
-use fancy_tree::expr::{Assertion, BacktrackingControlVerb, Expr};
+use fancy_vm::vm::Insn;
+use fancy_characters::classes::{CaseiLiteral, CharClassMatcher};
+use fancy_expr::error::{CompileError, Error};
+use fancy_expr::expr::{Assertion, BacktrackingControlVerb, Expr};
 use std::alloc::{AllocError, Global};
 use std::rc::Rc;
 

@@ -13,17 +13,17 @@ ghost use Rattle.fancy_compile.specs.Drafts.{Adds, draft_of};
 ghost use Rattle.fancy_compile.specs.Faults.{HasRejected};
 ghost use Rattle.fancy_compile.specs.Nodes.{AreWhole, IsKnown, IsMade, IsWhole, WritesAbsent, WritesBranches, WritesCall, WritesConditional, WritesInTurn, WritesLook, WritesNode, WritesNoneBehind, WritesOver, WritesRepeat, branch_over, has_const_branches, is_absent_expr, is_alt, is_repeater, step_past};
 ghost use Rattle.fancy_expr.specs.Views.{bound_of, look_of};
-ghost use Rattle.fancy_tree.specs.Infos.{info_children, info_facts, info_hard, info_size, info_tree};
+ghost use Rattle.fancy_analysis.specs.Infos.{info_children, info_facts, info_hard, info_size, info_tree};
 
 use crate::around::{Around, LoopKind};
 use crate::compiler::Compiler;
 use crate::groups::is_marked;
 use crate::opening::loop_kind;
 use crate::task::{OpenCall, Task};
-use fancy_machine::vm::Insn;
-use fancy_tree::error::{CompileError, Error};
-use fancy_tree::expr::{Absent, Expr, LookAround};
-use fancy_tree::info::Info;
+use fancy_vm::vm::Insn;
+use fancy_expr::error::{CompileError, Error};
+use fancy_expr::expr::{Absent, Expr, LookAround};
+use fancy_analysis::info::Info;
 
 /// So deep are calls of one group written out.
 const CALL_DEPTH: usize = 19;

@@ -9,7 +9,7 @@ ghost use Rattle.fancy_expr.specs.Views.{bound_of};
 
 use crate::around::{Around, LoopKind, Start};
 use crate::compiler::Compiler;
-use fancy_machine::vm::Insn;
+use fancy_vm::vm::Insn;
 
 /// The loop's kind; none where the body is never entered.
 pub fn loop_kind(lo: usize, hi: usize, may_be_empty: bool) -> Option<LoopKind>

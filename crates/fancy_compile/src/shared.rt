@@ -6,8 +6,8 @@ ghost use Rattle.fancy_meaning.specs.Instr.{Codepoint};
 ghost use Rattle.fancy_characters.specs.Classes.{IsClassRefusal, class_of};
 ghost use Rattle.fancy_compile.specs.ClassKeys.{AreClasses, class_key, reading};
 
-use fancy_tree::classes::CharClassMatcher;
-use fancy_tree::error::Error;
+use fancy_characters::classes::CharClassMatcher;
+use fancy_expr::error::Error;
 use std::alloc::{AllocError, Global};
 use std::collections::BTreeMap;
 use std::rc::Rc;

@@ -3,7 +3,7 @@
 ghost use Rattle.std.specs.Prelude.{◌≡◌};
 ghost use Rattle.fancy_compile.specs.OpenTasks.{depths_in, depths_of};
 
-use fancy_tree::info::Info;
+use fancy_analysis::info::Info;
 use std::alloc::Global;
 
 /// A call that is being written out, within others.

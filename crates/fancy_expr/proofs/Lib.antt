@@ -4,3 +4,5 @@ pub mod Walks
 pub mod SoundNodes
 pub mod Groups
 pub mod Listed
+pub mod Numbered
+pub mod Starts

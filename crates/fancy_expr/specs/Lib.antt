@@ -2,3 +2,5 @@ pub mod Views
 pub mod Exprs
 pub mod Questions
 pub mod Sound
+pub mod Walk
+pub mod Each

@@ -6,4 +6,5 @@ pub mod expr;
 pub mod nodes;
 pub mod parts;
 mod sound;
+pub mod walk;
 pub mod well_formed;

@@ -1,12 +1,4 @@
-//! The machine: instructions, programs, states and runs.
+//! A face with no code of its own: instructions, programs, states and runs, under the names of fancy-regex.
 #![tactic(auto)]
 
-mod insn;
-mod machine;
-mod moves;
-mod old_values;
-mod program;
-mod runs;
-mod state;
-mod steps;
-pub mod vm;
+pub use fancy_vm::vm;

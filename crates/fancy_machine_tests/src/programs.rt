@@ -1,9 +1,9 @@
 //! Programs that are built by hand.
 
 use fancy_machine::vm::{Insn, Prog, ProgParts, RunOptions, Scratch, run, run_default};
-use fancy_tree::classes::{CaseiLiteral, CharClassMatcher};
-use fancy_tree::error::{Error, RuntimeError};
-use fancy_tree::expr::Assertion;
+use fancy_characters::classes::{CaseiLiteral, CharClassMatcher};
+use fancy_expr::error::{Error, RuntimeError};
+use fancy_expr::expr::Assertion;
 use std::alloc::Global;
 use std::process::Abort;
 use std::rc::Rc;

@@ -4,7 +4,7 @@ ghost use Rattle.std.specs.Prelude.{◌≡◌, length};
 
 use crate::again;
 use fancy_machine::vm::State;
-use fancy_tree::error::{Error, RuntimeError};
+use fancy_expr::error::{Error, RuntimeError};
 use std::alloc::Global;
 use std::process::Abort;
 use std::test::Fail;

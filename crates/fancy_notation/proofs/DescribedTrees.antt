@@ -15,7 +15,7 @@ use Rattle.fancy_meaning.specs.Nodes.{nodes, group_count}
 use Rattle.fancy_meaning.specs.WellFormed.{Has, refers, is_call, is_any_call, most_groups}
 use Rattle.fancy_expr.specs.declared.expr.ExprTree.{ExprTree}
 use Rattle.fancy_expr.specs.Views.{tree_of}
-use Rattle.fancy_tree.specs.Infos.{Each}
+use Rattle.fancy_expr.specs.Each.{Each}
 use Rattle.fancy_expr.specs.Sound.{AllSound, IsWellFormedTree}
 use Rattle.fancy_expr.proofs.SoundNodes.{nodes_fine, all_one_char}
 use Rattle.fancy_notation.specs.Surveys.{Surveyed, none_noted, noted, noted_all}

@@ -16,7 +16,7 @@ use Rattle.fancy_expr.specs.declared.expr.Absent.{Absent}
 use Rattle.fancy_expr.specs.declared.expr.Absent.TheVariants as code_absent
 use Rattle.fancy_expr.specs.Views.{tree_of, absent_of}
 use Rattle.fancy_expr.specs.Exprs.{exprs}
-use Rattle.fancy_tree.specs.Infos.{Each}
+use Rattle.fancy_expr.specs.Each.{Each}
 use Rattle.fancy_expr.specs.Sound.{IsOneChar, IsSound, AllSound}
 use Rattle.fancy_expr.proofs.Exprs.{nodes-exprs}
 use Rattle.fancy_expr.proofs.SoundNodes.{sound_literal}

@@ -12,7 +12,7 @@ use Rattle.fancy_notation.specs.Words.{byte_of}
 use Rattle.fancy_notation.specs.Grammar.{Point, in_word, opening, closing, quoted, is_at_text, parts_of_text, Takes, SpellsBytes, no_byte, byte, Spells, SpellsParts, no_part, spliced, part}
 use Rattle.fancy_notation.specs.Misfit.{Want, Node, Parts, Bytes, with_groups, given, next_step, many_step, misfit}
 use Rattle.fancy_notation.specs.NotationViews.{placed_of, all_placed, point_of}
-use Rattle.fancy_tree.specs.Infos.{Each}
+use Rattle.fancy_expr.specs.Each.{Each}
 use Rattle.fancy_notation.specs.Reading.{first_gives, next_token, Skips, IsFaultHere, SpellsPartsAfter, Fails, OneCharEach}
 use Rattle.fancy_notation.proofs.FineNodes.{each_append}
 use Rattle.fancy_notation.proofs.Stack.{byte_goes_on, none_goes_on, wants_node, text_stands, node_stands, not_closing, first_is, text_not_closing}

@@ -8,7 +8,7 @@ use Rattle.fancy_expr.specs.declared.expr.Expr.TheVariants as code
 use Rattle.fancy_expr.specs.declared.expr.Absent.TheViews as view
 use Rattle.fancy_expr.specs.Views.{tree_of}
 use Rattle.fancy_expr.specs.Exprs.{below, exprs, exprs_of_each}
-use Rattle.fancy_tree.specs.Infos.{Each}
+use Rattle.fancy_expr.specs.Each.{Each}
 use Rattle.fancy_expr.specs.Sound.{IsOneChar}
 use Rattle.fancy_expr.proofs.Exprs.{nodes-exprs, exprs-below, below-concat, below-alt}
 use Rattle.fancy_notation.specs.declared.forms.Naming.{Naming}

@@ -1,6 +1,6 @@
 //! The words of the notation.
 
-use fancy_tree::expr::LookAround;
+use fancy_expr::expr::LookAround;
 
 /// What stands around one expression.
 #[derive(Clone, Copy, Debug, PartialEq, Eq)]

@@ -7,7 +7,7 @@ ghost use Rattle.fancy_notation.specs.NotationViews.{token_of, lexing_of, all_pl
 ghost use Rattle.fancy_notation.specs.Reading.{Lexes};
 
 use crate::tokens::{Placed, Token};
-use fancy_tree::error::Error;
+use fancy_expr::error::Error;
 use std::alloc::Global;
 use std::mem;
 

@@ -13,8 +13,8 @@ ghost use Rattle.fancy_notation.specs.Reading.{IsFault};
 use crate::lexer::tokens;
 use crate::reader::Reader;
 use crate::survey::Survey;
-use fancy_tree::error::Error;
-use fancy_tree::expr::{Expr, ExprTree};
+use fancy_expr::error::Error;
+use fancy_expr::expr::{Expr, ExprTree};
 use std::alloc::Global;
 use std::collections::{BTreeMap, BTreeSet};
 

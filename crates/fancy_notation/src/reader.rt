@@ -4,7 +4,7 @@ ghost use Rattle.std.specs.Prelude.{◌≡◌, ◌<◌, ◌&&◌, ◌++◌, [], 
 ghost use Rattle.std.specs.Option.{option_map};
 ghost use Rattle.fancy_meaning.specs.Tree as plain;
 ghost use Rattle.fancy_meaning.specs.Tree.{trees};
-ghost use Rattle.fancy_tree.specs.Infos.{Each};
+ghost use Rattle.fancy_expr.specs.Each.{Each};
 ghost use Rattle.fancy_expr.specs.Views.{tree_of, verb_of as verb_view, bound_of as bound_view};
 ghost use Rattle.fancy_notation.specs.Words.{leaf_of, verb_of, number_of, level_of, count_of, bound_of, byte_of};
 ghost use Rattle.fancy_notation.specs.Tokens as tokens;
@@ -18,8 +18,8 @@ use crate::forms::{Enclosing, Form, Leveled, Naming};
 use crate::tokens::{Placed, Token};
 use crate::words::{bound, byte, count, form, leaf, level, number, verb};
 use fancy_expr::well_formed::MOST_GROUPS;
-use fancy_tree::error::Error;
-use fancy_tree::expr::{Absent, BacktrackingControlVerb, Expr};
+use fancy_expr::error::Error;
+use fancy_expr::expr::{Absent, BacktrackingControlVerb, Expr};
 use std::alloc::Global;
 
 /// What is left to read.

@@ -7,9 +7,9 @@ ghost use Rattle.fancy_notation.specs.NotationViews.{surveyed_of};
 ghost use Rattle.fancy_expr.specs.Views.{tree_of};
 ghost use Rattle.fancy_meaning.specs.Nodes.{nodes};
 
-use fancy_tree::error::Error;
-use fancy_tree::expr::Expr;
-use fancy_tree::parts::{part, part_count};
+use fancy_expr::error::Error;
+use fancy_expr::expr::Expr;
+use fancy_expr::parts::{part, part_count};
 
 /// What the nodes that were seen name.
 #[derive(Drop)]

@@ -6,7 +6,7 @@ ghost use Rattle.fancy_expr.specs.Views.{tree_of, assertion_of, verb_of as verb_
 ghost use Rattle.fancy_notation.specs.Words.{found, assertions, plain_leaves, leaf_of, enclosings, other_forms, form_of, verb_of, number_of, level_of, count_of, bound_of, byte_of};
 
 use crate::forms::{Enclosing, Form, Leveled, Naming};
-use fancy_tree::expr::{Absent, Assertion, BacktrackingControlVerb, Expr, LookAround};
+use fancy_expr::expr::{Absent, Assertion, BacktrackingControlVerb, Expr, LookAround};
 
 /// The expression that a word alone stands for.
 pub fn leaf(word: &str) -> Option<Expr>

@@ -12,7 +12,7 @@ use Rattle.fancy_meaning.specs.MatchState.{MatchState, first_state}
 use Rattle.fancy_meaning.specs.Places.{range_from}
 use Rattle.fancy_meaning.specs.Ways.{Setting, ways, ways_with, called}
 use Rattle.fancy_meaning.specs.Answer.{Search, search_of, is_admitted, ways_from, attempt, starts, answer, as_numbers}
-use Rattle.fancy_tree.proofs.Numbered.{count-numbered}
+use Rattle.fancy_expr.proofs.Numbered.{count-numbered}
 use Rattle.fancy_reference.specs.declared.options.SearchOptions.{SearchOptions}
 use Rattle.fancy_reference.specs.Asked.{asked, IsAsked}
 use Rattle.fancy_reference.specs.States.{depths_of}

@@ -11,7 +11,7 @@ use Rattle.fancy_expr.specs.declared.expr.Absent.TheVariants as code_absent
 use Rattle.fancy_expr.specs.declared.expr.Expr.{Expr}
 use Rattle.fancy_expr.specs.declared.expr.Expr.TheVariants as code
 use Rattle.fancy_expr.specs.Views.{tree_of, absent_of}
-use Rattle.fancy_tree.specs.Infos.{within_of, within_inside, start_inside}
+use Rattle.fancy_expr.specs.Walk.{within_of, within_inside, start_inside}
 use Rattle.fancy_expr.specs.Exprs.{below, exprs, exprs_of_each}
 use Rattle.fancy_expr.proofs.Exprs.{parts-below, exprs-below}
 use Rattle.fancy_expr.proofs.Groups.{group_total, total-append, total-taken, count-total}

@@ -10,7 +10,7 @@ use Rattle.fancy_expr.specs.declared.expr.Absent.{Absent}
 use Rattle.fancy_expr.specs.declared.expr.Absent.TheVariants as code_absent
 use Rattle.fancy_expr.specs.declared.expr.Expr.{Expr}
 use Rattle.fancy_expr.specs.declared.expr.Expr.TheVariants as code
-use Rattle.fancy_tree.specs.Infos.{within_of}
+use Rattle.fancy_expr.specs.Walk.{within_of}
 use Rattle.fancy_expr.specs.Views.{tree_of, trees_of, absent_of, bound_of, look_of}
 use Rattle.std.proofs.lemmas.Simd.{map-map}
 use Rattle.std.proofs.lemmas.List.{length-map}

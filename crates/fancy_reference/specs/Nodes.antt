@@ -4,7 +4,7 @@ use Rattle.fancy_meaning.specs.Tree.{Tree, Alt, parts, children}
 use Rattle.fancy_meaning.specs.Numbering.{numbered_within}
 use Rattle.fancy_expr.specs.declared.expr.Expr.{Expr}
 use Rattle.fancy_expr.specs.declared.expr.Expr.TheVariants as code
-use Rattle.fancy_tree.specs.Infos.{within_of}
+use Rattle.fancy_expr.specs.Walk.{within_of}
 use Rattle.fancy_expr.specs.Views.{tree_of}
 use Rattle.fancy_expr.specs.Exprs.{exprs}
 use Rattle.fancy_reference.specs.declared.nodes.Node.{Node}

@@ -5,7 +5,7 @@ ghost use Rattle.fancy_reference.specs.Searches.{is_repeater, left_after};
 
 use crate::bounds::Bounds;
 use crate::states::State;
-use fancy_tree::expr::Absent;
+use fancy_expr::expr::Absent;
 
 /// How many iterations more there are at most, behind the required ones; where there is no bound, how many that move.
 pub(crate) fn left_after(bounds: Bounds, text: &str, place: usize) -> usize

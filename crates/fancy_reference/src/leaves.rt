@@ -6,7 +6,7 @@ ghost use Rattle.fancy_meaning.specs.MatchState.{Ways, stays_if};
 ghost use Rattle.fancy_meaning.specs.Numbering.{numbered_within};
 ghost use Rattle.fancy_meaning.specs.Ways.{asserts, moves, repeats_group, ways_with};
 ghost use Rattle.fancy_meaning.specs.Tree as plain;
-ghost use Rattle.fancy_tree.specs.Infos.{within_of};
+ghost use Rattle.fancy_expr.specs.Walk.{within_of};
 ghost use Rattle.fancy_expr.specs.Views.{assertion_of, tree_of};
 ghost use Rattle.fancy_reference.specs.Refusals.{IsRefusal};
 ghost use Rattle.fancy_reference.specs.States.{state_of, states_of};
@@ -16,11 +16,11 @@ use crate::moves::{past_chars, past_class, past_literal, past_newline};
 use crate::nodes::Node;
 use crate::states::State;
 use fancy_characters::places::past_any;
-use fancy_tree::classes::past_piece;
-use fancy_tree::error::Error;
-use fancy_tree::expr::{Assertion, Expr};
-use fancy_tree::info::Within;
-use fancy_tree::look::holds;
+use fancy_characters::classes::past_piece;
+use fancy_expr::error::Error;
+use fancy_expr::expr::{Assertion, Expr};
+use fancy_expr::walk::Within;
+use fancy_characters::look::holds;
 use std::alloc::{AllocError, Global};
 
 /// What is searched, and how.

@@ -2,13 +2,12 @@
 
 ghost use Rattle.std.specs.Prelude.{◌≡◌, ◌+◌, ◌<◌, ◌≤◌, ◌^◌, length, map, IfOk, IfSome, option_map};
 ghost use Rattle.fancy_meaning.specs.Nodes.{group_count, groups, body_in};
-ghost use Rattle.fancy_meaning.specs.Numbering.{within};
-ghost use Rattle.fancy_tree.specs.Infos.{start_inside, within_inside, within_of};
-ghost use Rattle.fancy_expr.specs.Views.{look_of, tree_of};
+ghost use Rattle.fancy_expr.specs.Views.{tree_of};
 
-use fancy_tree::expr::{Expr, LookAround};
-use fancy_tree::info::Within;
-use fancy_tree::parts::{part, part_count};
+use fancy_expr::expr::Expr;
+use fancy_expr::parts::{part, part_count};
+use fancy_expr::walk::{Within, start_inside, within_inside};
+use fancy_expr::well_formed::count_groups;
 use std::alloc::{AllocError, Global};
 
 /// A node of a tree.
@@ -20,53 +19,6 @@ pub(crate) struct Node<'a> {
     /// The innermost look-around around it.
     pub within: Within,
     ghost room: { start + group_count (tree_of expr.now) < 2 ^ 64 },
-}
-
-/// How many groups a node has, itself and those below it.
-pub(crate) fn count_groups(expr: &Expr) -> usize
-    requires { group_count (tree_of expr.now) < 2 ^ 64 }
-    ensures { result ≡ group_count (tree_of expr.now) }
-{
-    let mut count: usize = match expr {
-        Expr::Group(_) => 1,
-        _ => 0,
-    };
-    for i in 0..part_count(expr) {
-        count += count_groups(part(expr, i));
-    }
-    count
-}
-
-fn within_look(look: LookAround) -> Within
-    ensures { within_of result ≡ within (look_of look) }
-{
-    match look {
-        LookAround::LookAhead => Within::InLookAhead,
-        LookAround::LookAheadNeg => Within::InLookAhead,
-        LookAround::LookBehind => Within::InLookBehind,
-        LookAround::LookBehindNeg => Within::InLookBehind,
-    }
-}
-
-/// The look-around around a node's children.
-fn within_inside(expr: &Expr, around: Within) -> Within
-    ensures { within_of result ≡ within_inside expr.now (within_of around) }
-{
-    match expr {
-        Expr::LookAround(_, look) => within_look(*look),
-        _ => around,
-    }
-}
-
-/// The number of the first group below a node.
-fn start_inside(expr: &Expr, start: usize) -> usize
-    requires { start + group_count (tree_of expr.now) < 2 ^ 64 }
-    ensures { result ≡ start_inside expr.now start }
-{
-    match expr {
-        Expr::Group(_) => start + 1,
-        _ => start,
-    }
 }
 
 impl<'a> Node<'a> {

@@ -20,9 +20,9 @@ use crate::nodes::Node;
 use crate::options::SearchOptions;
 use crate::states::State;
 use fancy_characters::places::is_after;
-use fancy_tree::error::Error;
-use fancy_tree::expr::ExprTree;
-use fancy_tree::info::Within;
+use fancy_expr::error::Error;
+use fancy_expr::expr::ExprTree;
+use fancy_expr::walk::Within;
 use std::alloc::{AllocError, Global};
 
 /// An attempt from the start may end with this state.

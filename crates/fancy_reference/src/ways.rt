@@ -18,8 +18,8 @@ use crate::lists::{all_at, all_captured, all_moved_to, moved_to_each, prefer, sa
 use crate::moves::{places_back, places_from};
 use crate::nodes::Node;
 use crate::states::State;
-use fancy_tree::error::Error;
-use fancy_tree::expr::{Expr, LookAround};
+use fancy_expr::error::Error;
+use fancy_expr::expr::{Expr, LookAround};
 use std::alloc::AllocError;
 
 impl<'a> Search<'a> {

@@ -1,20 +1,8 @@
-//! The analysis of trees. The trees themselves, and the tests on characters and places, stand here too, under the names of fancy-regex.
+//! A face with no code of its own: trees, their notation, the tests on characters and the analysis, under the names of fancy-regex.
 #![tactic(auto)]
 
-pub mod analyze;
-mod context;
-mod endings;
-pub mod info;
-mod late_reads;
-mod links;
-mod make;
-mod reached;
-mod reads;
-mod recursion;
-mod refusals;
-mod rounds;
-mod size;
-mod visit;
+pub mod expr;
 
+pub use fancy_analysis::{analyze, info};
 pub use fancy_characters::{classes, look};
-pub use fancy_expr::{error, expr, parts};
+pub use fancy_expr::{error, parts};

@@ -1,5 +1,5 @@
 use Rattle.std.proofs.Common.{length, if◌then◌else◌, map, refl, ap, ◌∙◌, arith}
-use Rattle.fancy_machine.specs.Insns.{insn_of}
+use Rattle.fancy_vm.specs.Insns.{insn_of}
 use Rattle.fancy_meaning.specs.CompileRefusals.{bytes_mode}
 use Rattle.fancy_meaning.specs.Options.{AnalysisOptions}
 use Rattle.fancy_meaning.specs.Premises.{analysis}

@@ -1,6 +1,7 @@
 use Rattle.std.proofs.Common.{◌++◌, ◌∷◌, [], sym, ap, ◌∙◌, subst, arith}
 use Rattle.std.proofs.lemmas.List.{map-append}
-use Rattle.fancy_tree.specs.Infos.{info_tree, Each}
+use Rattle.fancy_analysis.specs.Infos.{info_tree}
+use Rattle.fancy_expr.specs.Each.{Each}
 use Rattle.fancy_compile.specs.Nodes.{IsBody}
 use Rattle.fancy_compile.specs.Targets.{is_group, trees_of}
 use Rattle.fancy_compile.proofs.GroupTable.{own_body, body_known, body_smaller, each_append}

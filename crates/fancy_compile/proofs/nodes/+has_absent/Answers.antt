@@ -1,5 +1,6 @@
 use Rattle.std.proofs.Common.{◌+◌, ◌||◌, drop, ◌<◌, length, map, sym, ap, ◌∙◌, subst, arith}
-use Rattle.fancy_tree.specs.Infos.{Each, IsAnalysed, info_children}
+use Rattle.fancy_analysis.specs.Infos.{IsAnalysed, info_children}
+use Rattle.fancy_expr.specs.Each.{Each}
 use Rattle.fancy_compile.specs.Nodes.{node_count, total, is_absent_expr}
 use Rattle.fancy_compile.proofs.Infos.{counted, child_count, each_at, known_child}
 use Rattle.fancy_compile.proofs.Absents.{any_below, any_more, any_of_info, found_below, none_found}

@@ -1,7 +1,7 @@
 use Rattle.std.proofs.Common.{◌≡◌, ◌++◌, map}
 use Rattle.fancy_meaning.specs.Tree.{Literal}
 use Rattle.fancy_expr.specs.Views.{tree_of}
-use Rattle.fancy_tree.specs.Infos.{Each}
+use Rattle.fancy_expr.specs.Each.{Each}
 use Rattle.fancy_notation.specs.Reading.{OneCharEach}
 use Rattle.fancy_notation.proofs.reader.push_literals.Given as goal
 

@@ -2,16 +2,17 @@ use Rattle.std.proofs.Common.{◌≡◌, ◌+◌, ◌-◌, ◌<◌, ◌≤◌, �
 use Rattle.std.specs.Prelude.{slice_index_or}
 use Rattle.std.specs.Result.{is_ok}
 use Rattle.std.proofs.lemmas.List.{length-map}
-use Rattle.fancy_machine.specs.Insns.{insn_of}
+use Rattle.fancy_vm.specs.Insns.{insn_of}
 use Rattle.fancy_meaning.specs.Tree as plain
 use Rattle.fancy_meaning.specs.Tree.{trees}
 use Rattle.fancy_meaning.specs.Nodes.{is_read, nodes, is_absent}
 use Rattle.fancy_meaning.specs.Code.{Code, nothing, one, ◌>>◌, branch}
 use Rattle.fancy_meaning.specs.Constructs.{group_code, loop_form}
 use Rattle.fancy_meaning.specs.Instr.{Instr}
-use Rattle.fancy_tree.specs.declared.info.Info.TheViews.{out-Info}
-use Rattle.fancy_tree.specs.Infos.{node_over, info_tree, info_size, info_children, info_within, IsAnalysed, Each}
-use Rattle.fancy_tree.proofs.Unfolded.{tree_out}
+use Rattle.fancy_analysis.specs.declared.info.Info.TheViews.{out-Info}
+use Rattle.fancy_analysis.specs.Infos.{node_over, info_tree, info_size, info_children, info_within, IsAnalysed}
+use Rattle.fancy_expr.specs.Each.{Each}
+use Rattle.fancy_analysis.proofs.Unfolded.{tree_out}
 use Rattle.fancy_compile.specs.Drafts.{draft_of, patched, all_patched, Adds, Writes, hard_code}
 use Rattle.fancy_meaning.specs.AnalysisRefusals as refusal
 use Rattle.fancy_meaning.specs.Sizes.{Size}

@@ -1,6 +1,6 @@
 use Rattle.std.proofs.Common.{List, ap}
 use Rattle.std.proofs.lemmas.List.{map-set}
-use Rattle.fancy_machine.specs.Insns.{insn_of}
+use Rattle.fancy_vm.specs.Insns.{insn_of}
 use Rattle.fancy_meaning.specs.Instr.{Instr}
 use Rattle.fancy_compile.specs.Drafts.{Draft, draft_of}
 use Rattle.fancy_compile.proofs.compiler.Compiler.patch.Goals as goal

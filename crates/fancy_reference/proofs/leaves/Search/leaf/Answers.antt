@@ -1,7 +1,7 @@
 use Rattle.std.proofs.Common.{sym, ap, ◌∙◌}
 use Rattle.fancy_meaning.specs.Numbering.{numbered_within}
 use Rattle.fancy_meaning.specs.Ways.{ways_with}
-use Rattle.fancy_tree.specs.Infos.{within_of}
+use Rattle.fancy_expr.specs.Walk.{within_of}
 use Rattle.fancy_expr.specs.Views.{tree_of}
 use Rattle.fancy_reference.specs.States.{state_of}
 use Rattle.fancy_reference.specs.Searches.{setting_of}

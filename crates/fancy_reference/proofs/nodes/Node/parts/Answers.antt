@@ -1,6 +1,6 @@
 use Rattle.std.proofs.Common.{◌+◌, refl, ap, arith}
 use Rattle.fancy_expr.specs.Exprs.{below}
-use Rattle.fancy_tree.proofs.VisitedParts.{room}
+use Rattle.fancy_expr.proofs.Starts.{room}
 use Rattle.fancy_reference.proofs.NodeLaws.{pushed_more, pushed_all}
 use Rattle.fancy_reference.proofs.nodes.Node.parts.Goals as goal
 

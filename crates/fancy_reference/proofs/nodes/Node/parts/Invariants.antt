@@ -1,6 +1,6 @@
 use Rattle.std.proofs.Common.{take}
 use Rattle.fancy_expr.specs.Exprs.{below}
-use Rattle.fancy_tree.specs.Infos.{start_inside, within_inside, within_of}
+use Rattle.fancy_expr.specs.Walk.{start_inside, within_inside, within_of}
 use Rattle.fancy_reference.proofs.NodeLaws.{ArePushed}
 use Rattle.fancy_reference.proofs.nodes.Node.parts.Given as goal
 

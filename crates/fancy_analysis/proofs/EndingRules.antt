@@ -1,0 +1,392 @@
+-- The flags that no round changes tell what can end.
+use Rattle.std.proofs.Common.{◌≡◌, ℕ, zero, suc, ◌+◌, ◌<◌, ◌≤◌, ◌⊎◌, inl, inr, ⊎_elim, max, Bool, true, false, ◌&&◌, ◌||◌, ◌==◌, nat_lt, List, [], ◌∷◌, length, map, replicate, filter_map, slice_index_or, slice_set, Option, Some, None, sym, ap, ◌∙◌, refl, subst, arith, lt-ltb}
+use Rattle.std.specs.List.{list_any}
+use Rattle.std.proofs.lemmas.Bool.{cases_lt, eqb-true, cond-true, cond-false}
+use Rattle.std.proofs.lemmas.Bool.Decides.{eqb_tells}
+use Rattle.std.proofs.lemmas.Option.{none-some}
+use Rattle.fancy_meaning.specs.Tree.{Tree, Trees, none, more, parts, Concat, Alt, Group, LookAround, Repeat, AtomicGroup, DefineGroup, Conditional, SubroutineCall, AbsentRepeater, AbsentStopper, AbsentExpression}
+use Rattle.fancy_meaning.specs.Nodes.{nodes, as_group, groups, body_in, target}
+use Rattle.fancy_meaning.specs.Places.{range_from}
+use Rattle.fancy_meaning.specs.Recursion.{CanEnd, AllEnd, SomeEnds, EndsWithParts, ends_with_parts, one_ends, not_required, body_ends, false_branch_ends, true_branch_ends, target_ends, no_target, none_left, and_more, this_one, a_later}
+use Rattle.fancy_meaning.specs.Nodes.{group_count}
+use Rattle.fancy_meaning.specs.Numbering.{numbered}
+use Rattle.fancy_meaning.specs.Options.{Analysis}
+use Rattle.fancy_meaning.specs.Tree.{NoLook}
+use Rattle.fancy_analysis.specs.declared.info.Info.{Info}
+use Rattle.fancy_analysis.specs.declared.info.Info.TheViews.{out-Info}
+use Rattle.fancy_analysis.specs.Endings.{IsWhole, ends_by, all_end_by, some_end_by, is_ended_group, group_ends, set_count}
+use Rattle.fancy_analysis.specs.Infos.{info_tree}
+use Rattle.fancy_analysis.specs.Endings as flag
+use Rattle.fancy_analysis.proofs.GroupNumbers.{numbers}
+use Rattle.fancy_expr.proofs.Listed.{false_true}
+
+-- ---- tests
+
+pub or_left : (a b : Bool) → a ≡ true → (a || b) ≡ true
+or_left a b h = ap (λ x. x || b) h
+
+pub or_right : (a b : Bool) → b ≡ true → (a || b) ≡ true
+or_right true b h = refl
+or_right false b h = h
+
+pub both : (a b : Bool) → a ≡ true → b ≡ true → (a && b) ≡ true
+both a b p q = ap (λ x. x && b) p ∙ q
+
+pub first_true : (a b : Bool) → (a && b) ≡ true → a ≡ true
+first_true true b h = refl
+first_true false b h = h
+
+pub second_true : (a b : Bool) → (a && b) ≡ true → b ≡ true
+second_true true b h = h
+second_true false b h = absurd (false_true h)
+
+pub one_true : (a b : Bool) → (a || b) ≡ true → (a ≡ true) ⊎ (b ≡ true)
+one_true true b h = inl refl
+one_true false b h = inr h
+
+some_same : {X : Type 0} (x y : X) → Some x ≡ Some y → x ≡ y
+some_same x y h = cc
+
+-- ---- groups by number
+
+abbrev numbers_of : List (ℕ × Tree) → List ℕ
+numbers_of hs = map (λ h. h.0) hs
+
+module _ (f : Tree → Bool) (g : ℕ) where
+  abbrev passes : ℕ × Tree → Bool
+  passes h = (h.0 == g) && f h.1
+
+  here_false : (h : ℕ × Tree) (hs : List (ℕ × Tree)) → (h.0 == g) ≡ false → list_any passes (h ∷ hs) ≡ list_any passes hs
+  here_false h hs other = ap (λ b. (b && f h.1) || list_any passes hs) other
+
+  number_of : (hs : List (ℕ × Tree)) (m : ℕ) → numbers_of hs ≡ range_from m (length hs) → list_any passes hs ≡ true → m ≤ g
+  number_of [] m row h = absurd (false_true h)
+  number_of (k ∷ hs) m row h =
+      let head : k.0 ≡ m = cc in
+      ⊎_elim
+      (λ same. let is : k.0 ≡ g = same.1 in omega (arith, head, is))
+      (λ other. let rest : suc m ≤ g = number_of hs (suc m) (cc) (sym (here_false k hs other.0) ∙ h) in omega (arith, rest))
+      (eqb_tells k.0 g)
+
+  pub body_of : (hs : List (ℕ × Tree)) (m : ℕ) → numbers_of hs ≡ range_from m (length hs) → list_any passes hs ≡ true →
+      (e : Tree) × (body_in hs g ≡ Some e) × (f e ≡ true)
+  body_of [] m row h = absurd (false_true h)
+  body_of (k ∷ hs) m row h =
+      let head : k.0 ≡ m = cc in
+      let tail : numbers_of hs ≡ range_from (suc m) (length hs) = cc in
+      ⊎_elim
+      (λ same. (
+        k.1,
+        cond-true (k.0 == g) (Some k.1) (body_in hs g) same.0,
+        ⊎_elim
+            (λ here. second_true (k.0 == g) (f k.1) here)
+            (λ later. let rest : suc m ≤ g = number_of hs (suc m) tail later in let is : k.0 ≡ g = same.1 in absurd (omega (arith, head, is, rest)))
+            (one_true (passes k) (list_any passes hs) h),
+      ))
+      (λ other. let rest = body_of hs (suc m) tail (sym (here_false k hs other.0) ∙ h) in (rest.0, cond-false (k.0 == g) (Some k.1) (body_in hs g) other.0 ∙ rest.1, rest.2))
+      (eqb_tells k.0 g)
+
+  pub any_of_body : (hs : List (ℕ × Tree)) (e : Tree) → body_in hs g ≡ Some e → f e ≡ true → list_any passes hs ≡ true
+  any_of_body [] e is h = absurd (none-some e is)
+  any_of_body (k ∷ hs) e is h =
+      ⊎_elim
+      (λ same. or_left (passes k) (list_any passes hs) (both (k.0 == g) (f k.1) same.0 (ap f (some_same k.1 e (sym (cond-true (k.0 == g) (Some k.1) (body_in hs g) same.0) ∙ is)) ∙ h)))
+      (λ other. here_false k hs other.0 ∙ any_of_body hs e (sym (cond-false (k.0 == g) (Some k.1) (body_in hs g) other.0) ∙ is) h)
+      (eqb_tells k.0 g)
+
+pub none_past : (hs : List (ℕ × Tree)) (m g : ℕ) → numbers_of hs ≡ range_from m (length hs) → m + length hs ≤ g → body_in hs g ≡ None
+none_past [] m g row h = refl
+none_past (k ∷ hs) m g row h =
+    let head : k.0 ≡ m = cc in
+    ⊎_elim
+    (λ same. let is : k.0 ≡ g = same.1 in absurd (omega (arith, head, is, h)))
+    (λ other. cond-false (k.0 == g) (Some k.1) (body_in hs g) other.0 ∙ none_past hs (suc m) g (cc) (omega (arith, h)))
+    (eqb_tells k.0 g)
+
+pub some_within : (hs : List (ℕ × Tree)) (m g : ℕ) → numbers_of hs ≡ range_from m (length hs) → m ≤ g → g < m + length hs → body_in hs g ≡ None → ⊥
+some_within [] m g row low high is = absurd (omega (arith, low, high))
+some_within (k ∷ hs) m g row low high is =
+    let head : k.0 ≡ m = cc in
+    ⊎_elim
+    (λ same. none-some k.1 (sym is ∙ cond-true (k.0 == g) (Some k.1) (body_in hs g) same.0))
+    (λ other. ⊎_elim
+    (λ lt. some_within hs (suc m) g (cc) lt (omega (arith, high)) (sym (cond-false (k.0 == g) (Some k.1) (body_in hs g) other.0) ∙ is))
+    (λ ge. let is_same : k.0 ≡ g = omega (arith, head, ge, low) in absurd (other.1 is_same))
+    (cases_lt m g))
+    (eqb_tells k.0 g)
+
+any-groups : (flags : List Bool) (g : ℕ) (es : List Tree) → list_any (is_ended_group flags g) es ≡ list_any (passes (ends_by flags) g) (filter_map as_group es)
+any-groups flags g [] = refl
+any-groups flags g (Group h e ∷ es) = ap (λ b. ((h == g) && ends_by flags e) || b) (any-groups flags g es)
+any-groups flags g (e ∷ es) = any-groups flags g es
+
+-- ---- flags
+
+within_or_past : (flags : List Bool) (g : ℕ) → slice_index_or flags g true ≡ true → (slice_index_or flags g false ≡ true) ⊎ (length flags ≤ g)
+within_or_past [] g h = inr (omega arith)
+within_or_past (b ∷ flags) zero h = inl h
+within_or_past (b ∷ flags) (suc g) h = ⊎_elim (λ p. inl p) (λ q. inr (omega (arith, q))) (within_or_past flags g h)
+
+true_past : (flags : List Bool) (g : ℕ) → length flags ≤ g → slice_index_or flags g true ≡ true
+true_past [] g h = refl
+true_past (b ∷ flags) zero h = absurd (omega (arith, h))
+true_past (b ∷ flags) (suc g) h = true_past flags g (omega (arith, h))
+
+true_within : (flags : List Bool) (g : ℕ) → slice_index_or flags g false ≡ true → slice_index_or flags g true ≡ true
+true_within [] g h = refl
+true_within (b ∷ flags) zero h = h
+true_within (b ∷ flags) (suc g) h = true_within flags g h
+
+-- each set flag is set there too
+abbrev pub Grows : List Bool → List Bool → Type 0
+Grows xs ys = (g : ℕ) → slice_index_or xs g false ≡ true → slice_index_or ys g false ≡ true
+
+more_set : (xs ys : List Bool) → length ys ≡ length xs → Grows xs ys → set_count xs ≤ set_count ys
+more_set [] ys h grows = omega arith
+more_set (x ∷ xs) [] h grows = absurd (omega (arith, h))
+more_set (true ∷ xs) (true ∷ ys) h grows = let rest = more_set xs ys (omega (arith, h)) (λ g. grows (suc g)) in omega (arith, rest)
+more_set (true ∷ xs) (false ∷ ys) h grows = absurd (false_true (grows 0 refl))
+more_set (false ∷ xs) (true ∷ ys) h grows = let rest = more_set xs ys (omega (arith, h)) (λ g. grows (suc g)) in omega (arith, rest)
+more_set (false ∷ xs) (false ∷ ys) h grows = more_set xs ys (omega (arith, h)) (λ g. grows (suc g))
+
+pub count_grows : (xs ys : List Bool) → length ys ≡ length xs → Grows xs ys → set_count xs ≤ set_count ys
+count_grows xs ys h grows = more_set xs ys h grows
+
+pub same_flags : (xs ys : List Bool) → length ys ≡ length xs → Grows xs ys → set_count ys ≡ set_count xs → ys ≡ xs
+same_flags [] [] h grows same = refl
+same_flags [] (y ∷ ys) h grows same = absurd (omega (arith, h))
+same_flags (x ∷ xs) [] h grows same = absurd (omega (arith, h))
+same_flags (true ∷ xs) (true ∷ ys) h grows same = ap (λ l. true ∷ l) (same_flags xs ys (omega (arith, h)) (λ g. grows (suc g)) (omega (arith, same)))
+same_flags (true ∷ xs) (false ∷ ys) h grows same = absurd (false_true (grows 0 refl))
+same_flags (false ∷ xs) (true ∷ ys) h grows same =
+    let rest = more_set xs ys (omega (arith, h)) (λ g. grows (suc g)) in absurd (omega (arith, rest, same))
+same_flags (false ∷ xs) (false ∷ ys) h grows same = ap (λ l. false ∷ l) (same_flags xs ys (omega (arith, h)) (λ g. grows (suc g)) same)
+
+pub count_most : (xs : List Bool) → set_count xs ≤ length xs
+count_most [] = omega arith
+count_most (true ∷ xs) = let rest = count_most xs in omega (arith, rest)
+count_most (false ∷ xs) = let rest = count_most xs in omega (arith, rest)
+
+pub all_set : (xs : List Bool) → 0 < length xs → length xs ≤ set_count xs → slice_index_or xs 0 false ≡ true
+all_set [] some h = absurd (omega (arith, some))
+all_set (true ∷ xs) some h = refl
+all_set (false ∷ xs) some h = let rest = count_most xs in absurd (omega (arith, rest, h))
+
+pub first_flag : (xs : List Bool) (d : Bool) → 0 < length xs → slice_index_or xs 0 d ≡ slice_index_or xs 0 false
+first_flag [] d some = absurd (omega (arith, some))
+first_flag (x ∷ xs) d some = refl
+
+pub none_set : (n : ℕ) → set_count (replicate n false) ≡ 0
+none_set zero = refl
+none_set (suc n) = none_set n
+
+pub no_flag : (n g : ℕ) → slice_index_or (replicate n false) g false ≡ false
+no_flag zero g = refl
+no_flag (suc n) zero = refl
+no_flag (suc n) (suc g) = no_flag n g
+
+-- ---- what the flags say
+
+-- a target that can end
+pub record TargetEnds (whole : Tree) (g : ℕ) : Type 0 where
+  pub body : Tree
+  pub is_target : target whole g ≡ Some body
+  pub ends : CanEnd whole body
+
+-- each set flag is that of a target that can end
+abbrev pub IsSoundFor : Tree → List Bool → Type 0
+IsSoundFor whole flags = (g : ℕ) → slice_index_or flags g false ≡ true → TargetEnds whole g
+
+-- the groups are numbered from n on, and there is a flag for each target
+pub record HasFlags (whole : Tree) (n : ℕ) (flags : List Bool) : Type 0 where
+  pub is_first : n ≤ 1
+  pub numbers : map (λ h. h.0) (groups whole) ≡ range_from n (length (groups whole))
+  pub count : length flags ≡ max (n + length (groups whole)) 1
+
+module _ (whole : Tree) (n : ℕ) (flags : List Bool) (has : HasFlags whole n flags) where
+  -- ---- what ends by sound flags can end
+
+  module _ (sound : IsSoundFor whole flags) where
+    past_none : (g : ℕ) → length flags ≤ g → target whole g ≡ None
+    unfolding target
+    past_none zero h = absurd (omega (arith, h, has.count))
+    past_none (suc g) h = none_past (groups whole) n (suc g) has.numbers (omega (arith, h, has.count))
+
+    call_sound : (g : ℕ) → slice_index_or flags g true ≡ true → CanEnd whole (SubroutineCall g)
+    call_sound g h =
+        ⊎_elim
+        (λ set. let there = sound g set in target_ends there.is_target there.ends)
+        (λ past. no_target (past_none g past))
+        (within_or_past flags g h)
+
+    repeat_sound : (lo : ℕ) (hi : Option ℕ) (greedy : Bool) (e : Tree) → (ends_by flags e ≡ true → CanEnd whole e) →
+        ((lo == 0) || ends_by flags e) ≡ true → CanEnd whole (Repeat lo hi greedy e)
+    repeat_sound lo hi greedy e body h =
+        ⊎_elim
+        (λ none. subst (λ k. CanEnd whole (Repeat k hi greedy e)) (sym (eqb-true lo 0 none)) not_required)
+        (λ ends. body_ends (body ends))
+        (one_true (lo == 0) (ends_by flags e) h)
+
+    conditional_sound : (c t f : Tree) → (ends_by flags c ≡ true → CanEnd whole c) → (ends_by flags t ≡ true → CanEnd whole t) →
+        (ends_by flags f ≡ true → CanEnd whole f) → ((ends_by flags c && ends_by flags t) || ends_by flags f) ≡ true →
+        CanEnd whole (Conditional c t f)
+    conditional_sound c t f at_c at_t at_f h =
+        ⊎_elim
+        (λ p. true_branch_ends (at_c (first_true (ends_by flags c) (ends_by flags t) p)) (at_t (second_true (ends_by flags c) (ends_by flags t) p)))
+        (λ q. false_branch_ends (at_f q))
+        (one_true (ends_by flags c && ends_by flags t) (ends_by flags f) h)
+
+    some_sound_of : (e : Tree) (es : Trees) → (ends_by flags e ≡ true → CanEnd whole e) → (some_end_by flags es ≡ true → SomeEnds whole es) →
+        (ends_by flags e || some_end_by flags es) ≡ true → SomeEnds whole (more e es)
+    some_sound_of e es here later h = ⊎_elim (λ p. this_one (here p)) (λ q. a_later (later q)) (one_true (ends_by flags e) (some_end_by flags es) h)
+
+    mutual
+      pub ends_sound : (e : Tree) → ends_by flags e ≡ true → CanEnd whole e
+      ends_sound (Concat es) h = ends_with_parts tt (all_sound es h)
+      ends_sound (Alt es) h = one_ends (some_sound es h)
+      ends_sound (Group g e) h = ends_with_parts tt (and_more (ends_sound e h) none_left)
+      ends_sound (LookAround look e) h = ends_with_parts tt (and_more (ends_sound e h) none_left)
+      ends_sound (Repeat lo hi greedy e) h = repeat_sound lo hi greedy e (ends_sound e) h
+      ends_sound (AtomicGroup e) h = ends_with_parts tt (and_more (ends_sound e h) none_left)
+      ends_sound (DefineGroup e) h = ends_with_parts tt (and_more (ends_sound e h) none_left)
+      ends_sound (Conditional c t f) h = conditional_sound c t f (ends_sound c) (ends_sound t) (ends_sound f) h
+      ends_sound (SubroutineCall g) h = call_sound g h
+      ends_sound (AbsentRepeater e) h = ends_with_parts tt (and_more (ends_sound e h) none_left)
+      ends_sound (AbsentStopper e) h = ends_with_parts tt (and_more (ends_sound e h) none_left)
+      ends_sound (AbsentExpression a e) h =
+          ends_with_parts tt (and_more (ends_sound a (first_true (ends_by flags a) (ends_by flags e) h)) (and_more (ends_sound e (second_true (ends_by flags a) (ends_by flags e) h)) none_left))
+      ends_sound e h = ends_with_parts tt none_left
+
+      all_sound : (es : Trees) → all_end_by flags es ≡ true → AllEnd whole es
+      all_sound none h = none_left
+      all_sound (more e es) h = and_more (ends_sound e (first_true (ends_by flags e) (all_end_by flags es) h)) (all_sound es (second_true (ends_by flags e) (all_end_by flags es) h))
+
+      some_sound : (es : Trees) → some_end_by flags es ≡ true → SomeEnds whole es
+      some_sound none h = absurd (false_true h)
+      some_sound (more e es) h = some_sound_of e es (ends_sound e) (some_sound es) h
+
+    pub target_sound : (g : ℕ) → flag.target_ends flags whole g ≡ true → TargetEnds whole g
+    unfolding target groups
+    target_sound zero h = record { body = whole; is_target = refl; ends = ends_sound whole h }
+    target_sound (suc g) h =
+        let found = body_of (ends_by flags) (suc g) (groups whole) n has.numbers (sym (any-groups flags (suc g) (nodes whole)) ∙ h) in
+        record { body = found.0; is_target = found.1; ends = ends_sound found.0 found.2 }
+
+  -- ---- what can end does so by flags that no round changes
+
+  module _ (closed : (g : ℕ) → g < length flags → flag.target_ends flags whole g ≡ true → slice_index_or flags g false ≡ true) where
+    target_complete : (g : ℕ) (e : Tree) → target whole g ≡ Some e → ends_by flags e ≡ true → flag.target_ends flags whole g ≡ true
+    unfolding target groups
+    target_complete zero e is h = ap (ends_by flags) (some_same whole e is) ∙ h
+    target_complete (suc g) e is h = any-groups flags (suc g) (nodes whole) ∙ any_of_body (ends_by flags) (suc g) (groups whole) e is h
+
+    call_complete : (g : ℕ) (e : Tree) → target whole g ≡ Some e → ends_by flags e ≡ true → slice_index_or flags g true ≡ true
+    call_complete g e is h =
+        ⊎_elim
+        (λ lt. true_within flags g (closed g lt (target_complete g e is h)))
+        (λ ge. true_past flags g ge)
+        (cases_lt g (length flags))
+
+    no_target_within : (g : ℕ) → target whole g ≡ None → g < length flags → ⊥
+    unfolding target
+    no_target_within zero is lt = none-some whole (sym is)
+    no_target_within (suc g) is lt =
+        let low : n ≤ suc g = omega (arith, has.is_first) in
+        some_within (groups whole) n (suc g) has.numbers low (omega (arith, lt, has.count)) is
+
+    none_complete : (g : ℕ) → target whole g ≡ None → slice_index_or flags g true ≡ true
+    none_complete g is = ⊎_elim (λ lt. absurd (no_target_within g is lt)) (λ ge. true_past flags g ge) (cases_lt g (length flags))
+
+    alone : (e : Tree) → (ends_by flags e && true) ≡ true → ends_by flags e ≡ true
+    alone e h = first_true (ends_by flags e) true h
+
+    parts_complete : (e : Tree) → EndsWithParts e → all_end_by flags (parts e) ≡ true → ends_by flags e ≡ true
+    parts_complete (Concat es) t h = h
+    parts_complete (Alt es) t h = absurd t
+    parts_complete (Group g e) t h = alone e h
+    parts_complete (LookAround look e) t h = alone e h
+    parts_complete (Repeat lo hi greedy e) t h = absurd t
+    parts_complete (AtomicGroup e) t h = alone e h
+    parts_complete (DefineGroup e) t h = alone e h
+    parts_complete (Conditional c x f) t h = absurd t
+    parts_complete (SubroutineCall g) t h = absurd t
+    parts_complete (AbsentRepeater e) t h = alone e h
+    parts_complete (AbsentStopper e) t h = alone e h
+    parts_complete (AbsentExpression a e) t h =
+        both (ends_by flags a) (ends_by flags e) (first_true (ends_by flags a) (ends_by flags e && true) h) (alone e (second_true (ends_by flags a) (ends_by flags e && true) h))
+    parts_complete e t h = refl
+
+    mutual
+      pub ends_complete : {e : Tree} → CanEnd whole e → ends_by flags e ≡ true
+      ends_complete (ends_with_parts {e = e} t all) = parts_complete e t (all_complete all)
+      ends_complete (one_ends s) = some_complete s
+      ends_complete not_required = refl
+      ends_complete (body_ends {lo = lo} {e = e} d) = or_right (lo == 0) (ends_by flags e) (ends_complete d)
+      ends_complete (false_branch_ends {c = c} {t = t} {f = f} d) = or_right (ends_by flags c && ends_by flags t) (ends_by flags f) (ends_complete d)
+      ends_complete (true_branch_ends {c = c} {t = t} {f = f} p q) =
+          or_left (ends_by flags c && ends_by flags t) (ends_by flags f) (both (ends_by flags c) (ends_by flags t) (ends_complete p) (ends_complete q))
+      ends_complete (target_ends {g = g} {e = e} is d) = call_complete g e is (ends_complete d)
+      ends_complete (no_target {g = g} is) = none_complete g is
+
+      all_complete : {es : Trees} → AllEnd whole es → all_end_by flags es ≡ true
+      all_complete none_left = refl
+      all_complete (and_more {e = e} {es = es} d ds) = both (ends_by flags e) (all_end_by flags es) (ends_complete d) (all_complete ds)
+
+      some_complete : {es : Trees} → SomeEnds whole es → some_end_by flags es ≡ true
+      some_complete (this_one {e = e} {es = es} d) = or_left (ends_by flags e) (some_end_by flags es) (ends_complete d)
+      some_complete (a_later {e = e} {es = es} d) = or_right (ends_by flags e) (some_end_by flags es) (some_complete d)
+
+-- ---- rounds
+
+-- what a round makes of the flags
+abbrev pub NextFlags : Tree → List Bool → List Bool → Type 0
+NextFlags whole flags next =
+    (g : ℕ) → slice_index_or next g false ≡ (slice_index_or flags g false || (nat_lt g (length flags) && flag.target_ends flags whole g))
+
+pub next_of : (flags next : List Bool) (whole : Tree) (ends : Bool) → 0 < length flags → length next ≡ length flags → ends ≡ ends_by flags whole →
+    ((g : ℕ) → slice_index_or next g false ≡ (slice_index_or flags g false || (nat_lt g (length flags) && group_ends flags whole g))) →
+    (g : ℕ) →
+    slice_index_or (slice_set next 0 (slice_index_or flags 0 false || ends)) g false ≡ (slice_index_or flags g false || (nat_lt g (length flags) && flag.target_ends flags whole g))
+next_of [] next whole ends some same is groups g = absurd (omega (arith, some))
+next_of (b ∷ flags) [] whole ends some same is groups g = absurd (omega (arith, same))
+next_of (b ∷ flags) (x ∷ next) whole ends some same is groups zero =
+    ap (λ e. b || e) is ∙ ap (λ t. b || (t && ends_by (b ∷ flags) whole)) (sym (lt-ltb 0 (length (b ∷ flags)) some))
+next_of (b ∷ flags) (x ∷ next) whole ends some same is groups (suc g) = groups (suc g)
+
+pub grows_next : (whole : Tree) (flags next : List Bool) → NextFlags whole flags next → Grows flags next
+grows_next whole flags next is g set = is g ∙ or_left _ _ set
+
+pub has_flags : (a : Analysis) (root : Info) (w : IsWhole a root) (flags : List Bool) → length flags ≡ max (out-Info root).end_group 1 →
+    HasFlags a.tree w.first flags
+unfolding numbered group_count
+has_flags a root w flags h = record {
+  is_first = w.is_first;
+  numbers = subst (λ t. map (λ k. k.0) (groups t) ≡ range_from w.first (length (groups t))) (sym w.numbered) (numbers NoLook w.first w.parsed);
+  count = h ∙ ap (λ k. max k 1) w.end_group;
+}
+
+pub sound_first : (whole : Tree) (flags : List Bool) → IsSoundFor whole flags → slice_index_or flags 0 false ≡ true → CanEnd whole whole
+unfolding target
+sound_first whole flags sound set = let there = sound 0 set in subst (CanEnd whole) (sym (some_same whole there.body there.is_target)) there.ends
+
+-- a round over the flags that are held
+pub next_of_tree : {a : Analysis} {root : Info} (w : IsWhole a root) (flags held next : List Bool) → NextFlags (info_tree root) held next →
+    held ≡ flags → NextFlags a.tree flags next
+next_of_tree {a} {root} w flags held next is at = subst (λ t. NextFlags t flags next) w.tree (subst (λ l. NextFlags (info_tree root) l next) at is)
+
+module _ (whole : Tree) (n : ℕ) (flags next : List Bool) (has : HasFlags whole n flags) (sound : IsSoundFor whole flags) (is : NextFlags whole flags next) where
+  pub sound_next : IsSoundFor whole next
+  sound_next g set =
+      ⊎_elim
+      (λ old. sound g old)
+      (λ new. target_sound whole n flags has sound g (second_true (nat_lt g (length flags)) (flag.target_ends flags whole g) new))
+      (one_true (slice_index_or flags g false) (nat_lt g (length flags) && flag.target_ends flags whole g) (sym (is g) ∙ set))
+
+  pub first_complete : next ≡ flags → CanEnd whole whole → slice_index_or flags 0 false ≡ true
+  first_complete same ends =
+      let closed : (g : ℕ) → g < length flags → flag.target_ends flags whole g ≡ true → slice_index_or flags g false ≡ true =
+      λ g lt h.
+      ap (λ l. slice_index_or l g false) (sym same)
+      ∙ is g
+      ∙ or_right (slice_index_or flags g false) (nat_lt g (length flags) && flag.target_ends flags whole g) (both (nat_lt g (length flags)) (flag.target_ends flags whole g) (lt-ltb g (length flags) lt) h) in
+      closed 0 (omega (arith, has.count)) (ends_complete whole n flags has closed ends)

@@ -1,0 +1,159 @@
+-- The sizes of groups, node by node.
+use Rattle.std.proofs.Common.{◌≡◌, ℕ, zero, suc, ◌+◌, ◌<◌, ◌≤◌, List, [], ◌∷◌, ◌++◌, length, map, take, filter_map, get_or, refl, sym, ap, ◌∙◌, subst, arith, append-nil, append_assoc}
+use Rattle.std.proofs.lemmas.List.{map-append, take_all, length-map}
+use Rattle.std.proofs.lemmas.List.Elements.{filter_map-append}
+use Rattle.fancy_meaning.specs.Tree as plain
+use Rattle.fancy_meaning.specs.Tree.{Tree, Trees, none, more, trees, parts, Concat, Alt, Group, LookAround, Repeat, AtomicGroup, DefineGroup, Conditional, AbsentRepeater, AbsentStopper, AbsentExpression}
+use Rattle.fancy_meaning.specs.Nodes.{nodes, nodes_of_each, as_group, groups}
+use Rattle.fancy_meaning.specs.Sizes.{Size, Known, size_by}
+use Rattle.fancy_analysis.specs.declared.info.Info.{Info}
+use Rattle.fancy_expr.specs.declared.expr.Absent.{Absent}
+use Rattle.fancy_expr.specs.declared.expr.Absent.TheVariants as code_absent
+use Rattle.fancy_expr.specs.declared.expr.Expr.{Expr}
+use Rattle.fancy_expr.specs.declared.expr.Expr.TheVariants as code
+use Rattle.fancy_expr.specs.Exprs.{below, below_absent}
+use Rattle.fancy_analysis.specs.Infos.{nth, absent_over, node_over, info_tree, info_size, info_children, info_facts, tree_over}
+use Rattle.fancy_expr.specs.Each.{Each}
+use Rattle.fancy_analysis.specs.Made.{IsSizedNode, IsSized, own_size}
+use Rattle.fancy_analysis.proofs.Unfolded.{tree_out, each_here, each_below}
+use Rattle.fancy_expr.proofs.Walks.{taken}
+
+-- ---- a tree's nodes, child by child
+
+alone : (e : Tree) → nodes e ≡ nodes_of_each (more e none)
+alone e = sym (append-nil (nodes e))
+
+pub nodes-parts : (t : Tree) → nodes t ≡ t ∷ nodes_of_each (parts t)
+nodes-parts (Group g e) = ap (λ l. Group g e ∷ l) (alone e)
+nodes-parts (LookAround look e) = ap (λ l. LookAround look e ∷ l) (alone e)
+nodes-parts (Repeat lo hi greedy e) = ap (λ l. Repeat lo hi greedy e ∷ l) (alone e)
+nodes-parts (AtomicGroup e) = ap (λ l. AtomicGroup e ∷ l) (alone e)
+nodes-parts (DefineGroup e) = ap (λ l. DefineGroup e ∷ l) (alone e)
+nodes-parts (Conditional c t f) = ap (λ l. Conditional c t f ∷ (nodes c ++ (nodes t ++ l))) (alone f)
+nodes-parts (AbsentRepeater e) = ap (λ l. AbsentRepeater e ∷ l) (alone e)
+nodes-parts (AbsentStopper e) = ap (λ l. AbsentStopper e ∷ l) (alone e)
+nodes-parts (AbsentExpression a e) = ap (λ l. AbsentExpression a e ∷ (nodes a ++ l)) (alone e)
+nodes-parts t = refl
+
+-- ---- the children of a node over its children
+
+one_part : (ts : List Tree) → length ts ≡ 1 → more (nth (trees ts) 0) none ≡ trees ts
+one_part [] h = absurd (omega arith)
+one_part (a ∷ []) h = refl
+one_part (a ∷ b ∷ ts) h = absurd (omega arith)
+
+two_parts : (ts : List Tree) → length ts ≡ 2 → more (nth (trees ts) 0) (more (nth (trees ts) 1) none) ≡ trees ts
+two_parts [] h = absurd (omega arith)
+two_parts (a ∷ ts) h = ap (more a) (one_part ts (omega arith))
+
+three_parts : (ts : List Tree) → length ts ≡ 3 → more (nth (trees ts) 0) (more (nth (trees ts) 1) (more (nth (trees ts) 2) none)) ≡ trees ts
+three_parts [] h = absurd (omega arith)
+three_parts (a ∷ ts) h = ap (more a) (two_parts ts (omega arith))
+
+no_parts : (ts : List Tree) → length ts ≡ 0 → none ≡ trees ts
+no_parts [] h = refl
+no_parts (a ∷ ts) h = absurd (omega arith)
+
+absent-parts : (a : Absent) (ts : List Tree) → length ts ≡ length (below_absent a) → parts (absent_over a (trees ts)) ≡ trees ts
+absent-parts (code_absent.Repeater' b e) ts h = one_part ts h
+absent-parts (code_absent.Expression' b a c e) ts h = two_parts ts h
+absent-parts (code_absent.Stopper' b e) ts h = one_part ts h
+absent-parts code_absent.Clear ts h = no_parts ts h
+
+pub over-parts : (e : Expr) (n : ℕ) (w : plain.Within) (ts : List Tree) → length ts ≡ length (below e) → parts (node_over e n w (trees ts)) ≡ trees ts
+over-parts (code.Concat' shape row) n w ts h = refl
+over-parts (code.Alt' shape row) n w ts h = refl
+over-parts (code.Group' b e) n w ts h = one_part ts h
+over-parts (code.LookAround' b e look) n w ts h = one_part ts h
+over-parts (code.Repeat' b e lo hi greedy) n w ts h = one_part ts h
+over-parts (code.AtomicGroup' b e) n w ts h = one_part ts h
+over-parts (code.Conditional' b c d t x f) n w ts h = three_parts ts h
+over-parts (code.Absent a) n w ts h = absent-parts a ts h
+over-parts (code.DefineGroup' b e) n w ts h = one_part ts h
+over-parts e n w ts h = no_parts ts h
+
+-- ---- sizes
+
+module _ (known : Known) where
+  -- the sizes of a tree's groups, in the order in which they open
+  abbrev pub sizes_in : Tree → List Size
+  sizes_in t = map (λ g. size_by known g.1) (groups t)
+
+  abbrev pub sizes_in_each : List Info → List Size
+  sizes_in_each [] = []
+  sizes_in_each (i ∷ is) = sizes_in (info_tree i) ++ sizes_in_each is
+
+  sizes_among : List Tree → List Size
+  sizes_among ts = map (λ g. size_by known g.1) (filter_map as_group ts)
+
+  among-append : (a b : List Tree) → sizes_among (a ++ b) ≡ sizes_among a ++ sizes_among b
+  unfolding sizes_among
+  among-append a b =
+      ap (map (λ g. size_by known g.1)) (filter_map-append as_group a b)
+      ∙ map-append (λ g. size_by known g.1) (filter_map as_group a) (filter_map as_group b)
+
+  in-among : (t : Tree) → sizes_in t ≡ sizes_among (nodes t)
+  unfolding sizes_among groups
+  in-among t = refl
+
+  each-among : (is : List Info) → sizes_among (nodes_of_each (trees (map info_tree is))) ≡ sizes_in_each is
+  unfolding sizes_among groups
+  each-among [] = refl
+  each-among (i ∷ is) = among-append (nodes (info_tree i)) (nodes_of_each (trees (map info_tree is))) ∙ ap (λ l. sizes_in (info_tree i) ++ l) (each-among is)
+
+  absent-alone : (a : Absent) (es : Trees) → sizes_among (absent_over a es ∷ []) ≡ []
+  unfolding sizes_among
+  absent-alone (code_absent.Repeater' b e) es = refl
+  absent-alone (code_absent.Expression' b a c e) es = refl
+  absent-alone (code_absent.Stopper' b e) es = refl
+  absent-alone code_absent.Clear es = refl
+
+  over-alone : (e : Expr) (n : ℕ) (w : plain.Within) (es : Trees) → sizes_among (node_over e n w es ∷ []) ≡ own_size e (size_by known (node_over e n w es))
+  unfolding sizes_among
+  over-alone (code.Group' b e) n w es = refl
+  over-alone (code.Absent a) n w es = absent-alone a es
+  over-alone e n w es = refl
+
+  -- the groups of a node: itself, and those of its children
+  pub sizes-below : (i : Info) → IsSized known i → sizes_in (info_tree i) ≡ own_size (info_facts i).expr (info_size i) ++ sizes_in_each (info_children i)
+  sizes-below i h =
+      let f = info_facts i in
+      let ts = map info_tree (info_children i) in
+      let here = each_here (IsSizedNode known) i h in
+      let t = tree_over f (info_children i) in
+      in-among (info_tree i)
+      ∙ ap (λ x. sizes_among (nodes x)) (tree_out i)
+      ∙ ap sizes_among (nodes-parts t)
+      ∙ among-append (t ∷ []) (nodes_of_each (parts t))
+      ∙ ap (λ l. l ++ sizes_among (nodes_of_each (parts t))) (over-alone f.expr f.start_group f.within (trees ts) ∙ ap (own_size f.expr) (sym here.size))
+      ∙ ap (λ x. own_size f.expr (info_size i) ++ sizes_among (nodes_of_each x)) (over-parts f.expr f.start_group f.within ts (length-map (info_children i) info_tree ∙ here.arity))
+      ∙ ap (λ l. own_size f.expr (info_size i) ++ l) (each-among (info_children i))
+
+  each-append : (xs : List Info) (x : Info) → sizes_in_each (xs ++ x ∷ []) ≡ sizes_in_each xs ++ sizes_in (info_tree x)
+  each-append [] x = append-nil (sizes_in (info_tree x))
+  each-append (y ∷ xs) x = ap (λ l. sizes_in (info_tree y) ++ l) (each-append xs x) ∙ sym (append_assoc (sizes_in (info_tree y)) (sizes_in_each xs) (sizes_in (info_tree x)))
+
+  pub each-taken : (is : List Info) (n : ℕ) (i : Info) → n < length is → i ≡ get_or is n i → sizes_in_each (take (n + 1) is) ≡ sizes_in_each (take n is) ++ sizes_in (info_tree i)
+  each-taken is n i h at = ap sizes_in_each (taken is n i h at) ∙ each-append (take n is) i
+
+pub each_at : {X : Type 0} (P : X → Type 0) (xs : List X) (i : ℕ) (x : X) → i < length xs → x ≡ get_or xs i x → Each P xs → P x
+each_at P [] i x h at all = absurd (omega arith)
+each_at P (y ∷ xs) zero x h at all = subst P (sym at) all.0
+each_at P (y ∷ xs) (suc i) x h at all = each_at P xs i x (omega arith) at all.1
+
+pub sized_more : (known : Known) (info : Info) (n : ℕ) (child : Info) (before old after : List Size) → n < length (info_children info) → child ≡ get_or (info_children info) n child → before ≡ old ++ sizes_in_each known (take n (info_children info)) → after ≡ before ++ sizes_in known (info_tree child) → after ≡ old ++ sizes_in_each known (take (n + 1) (info_children info))
+sized_more known info n child before old after h at so_far pushed =
+    pushed
+    ∙ ap (λ l. l ++ sizes_in known (info_tree child)) so_far
+    ∙ append_assoc old (sizes_in_each known (take n (info_children info))) (sizes_in known (info_tree child))
+    ∙ ap (λ l. old ++ l) (sym (each-taken known (info_children info) n child h at))
+
+pub child_sized : (known : Known) (info : Info) (n : ℕ) (child : Info) → n < length (info_children info) → child ≡ get_or (info_children info) n child → IsSized known info → IsSized known child
+child_sized known info n child h at sized = each_at (IsSized known) (info_children info) n child h at (each_below (IsSizedNode known) info sized)
+
+pub sized_all : (known : Known) (info : Info) (n : ℕ) (old after : List Size) → length (info_children info) ≤ n → IsSized known info → after ≡ old ++ own_size (info_facts info).expr (info_size info) ++ sizes_in_each known (take n (info_children info)) → after ≡ old ++ sizes_in known (info_tree info)
+sized_all known info n old after h sized so_far =
+    so_far
+    ∙ append_assoc old (own_size (info_facts info).expr (info_size info)) (sizes_in_each known (take n (info_children info)))
+    ∙ ap (λ l. old ++ (own_size (info_facts info).expr (info_size info) ++ sizes_in_each known l)) (take_all n (info_children info) h)
+    ∙ ap (λ l. old ++ l) (sym (sizes-below known info sized))

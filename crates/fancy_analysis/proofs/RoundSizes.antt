@@ -1,0 +1,113 @@
+-- One round after the other.
+use Rattle.std.proofs.Common.{◌≡◌, ◌≢◌, ℕ, zero, suc, ◌+◌, ◌-◌, ◌≤◌, Bool, true, false, ◌==◌, if◌then◌else◌, List, [], ◌∷◌, ◌++◌, length, map, Some, refl, sym, ap, ◌∙◌, arith}
+use Rattle.std.proofs.lemmas.Bool.{eq-eqb, eqb-true}
+use Rattle.fancy_meaning.specs.Tree.{Tree, Within}
+use Rattle.fancy_meaning.specs.Nodes.{groups, group_count, body_in, target}
+use Rattle.fancy_meaning.specs.Numbering.{numbered_within}
+use Rattle.fancy_meaning.specs.Places.{range_from}
+use Rattle.fancy_meaning.specs.Sizes.{Size, Known, size_by, size_in_round, next_round, after_rounds, known_of, unknown}
+use Rattle.fancy_analysis.specs.Made.{from_0, from_1, past_first}
+use Rattle.fancy_analysis.proofs.GroupNumbers.{numbers}
+
+-- ---- lists of numbers
+
+-- what is the same from this number on
+range_same : {X : Type 0} (f g : ℕ → X) (n k : ℕ) → ((i : ℕ) → k ≤ i → f i ≡ g i) → map f (range_from k n) ≡ map g (range_from k n)
+range_same f g zero k h = refl
+range_same f g (suc n) k h = ap (λ x. x ∷ map f (range_from (suc k) n)) (h k (omega arith)) ∙ ap (λ l. g k ∷ l) (range_same f g n (suc k) (λ i le. h i (omega arith)))
+
+pub range_more : {X : Type 0} (f : ℕ → X) (k n : ℕ) → map f (range_from k (n + 1)) ≡ map f (range_from k n) ++ f (k + n) ∷ []
+range_more f k zero =
+    let same : k ≡ k + zero = omega arith in
+    ap (λ i. f i ∷ []) same
+range_more f k (suc n) =
+    let up : suc n + 1 ≡ suc (n + 1) = omega arith in
+    let shift : suc k + n ≡ k + suc n = omega arith in
+    ap (λ m. map f (range_from k m)) up ∙ ap (λ l. f k ∷ l) (range_more f (suc k) n) ∙ ap (λ i. f k ∷ (map f (range_from (suc k) n) ++ f i ∷ [])) shift
+
+-- ---- groups by their numbers
+
+test_no : (a b : ℕ) → a ≢ b → (a == b) ≡ false
+test_no a b h = by_test (a == b) refl
+  where
+    by_test : (t : Bool) → (a == b) ≡ t → t ≡ false
+    by_test true is = absurd (h (eqb-true a b is))
+    by_test false is = refl
+
+module _ (known : Known) where
+  abbrev in_round : List (ℕ × Tree) → ℕ → Size
+  in_round gs g = size_in_round known (body_in gs g)
+
+  first_group : (j : ℕ) (b : Tree) (gs : List (ℕ × Tree)) (g : ℕ) → j ≡ g → in_round ((j, b) ∷ gs) g ≡ size_by known b
+  first_group j b gs g is = ap (λ t. size_in_round known (if t then Some b else body_in gs g)) (eq-eqb j g is)
+
+  later_group : (j : ℕ) (b : Tree) (gs : List (ℕ × Tree)) (g : ℕ) → j ≢ g → in_round ((j, b) ∷ gs) g ≡ in_round gs g
+  later_group j b gs g h = ap (λ t. size_in_round known (if t then Some b else body_in gs g)) (test_no j g h)
+
+  -- with the numbers in order, from k on, each group is found by its number
+  by_number : (k : ℕ) (gs : List (ℕ × Tree)) → map (λ h. h.0) gs ≡ range_from k (length gs) → map (in_round gs) (range_from k (length gs)) ≡ map (λ h. size_by known h.1) gs
+  by_number k [] at = refl
+  by_number k (h ∷ gs) at =
+      let here : h.0 ≡ k = cc at in
+      let rest : map (λ x. x.0) gs ≡ range_from (suc k) (length gs) = cc at in
+      ap (λ s. s ∷ map (in_round (h ∷ gs)) (range_from (suc k) (length gs))) (first_group h.0 h.1 gs k here)
+      ∙ ap (λ l. size_by known h.1 ∷ l) (range_same (in_round (h ∷ gs)) (in_round gs) (length gs) (suc k) (λ i le. later_group h.0 h.1 gs i (omega arith)))
+      ∙ ap (λ l. size_by known h.1 ∷ l) (by_number (suc k) gs rest)
+
+  -- past the last one there is none
+  none_past : (k : ℕ) (gs : List (ℕ × Tree)) (g : ℕ) → map (λ h. h.0) gs ≡ range_from k (length gs) → k + length gs ≤ g → in_round gs g ≡ unknown
+  none_past k [] g at le = refl
+  none_past k (h ∷ gs) g at le =
+      let here : h.0 ≡ k = cc at in
+      let rest : map (λ x. x.0) gs ≡ range_from (suc k) (length gs) = cc at in
+      later_group h.0 h.1 gs g (omega arith) ∙ none_past (suc k) gs g rest (omega arith)
+
+  targets : (whole : Tree) (n : ℕ) → map (λ g. size_in_round known (target whole g)) (range_from 1 n) ≡ map (in_round (groups whole)) (range_from 1 n)
+  unfolding target
+  targets whole n = range_same _ _ n 1 (λ i le. target_at whole i le)
+    where
+      target_at : (e : Tree) (i : ℕ) → 1 ≤ i → size_in_round known (target e i) ≡ in_round (groups e) i
+      target_at e zero le = absurd (omega arith)
+      target_at e (suc i) le = refl
+
+  pub round_from_1 : (w : Within) (e : Tree) → from_1 known (numbered_within w 1 e) ≡ next_round (numbered_within w 1 e) known
+  unfolding target group_count
+  round_from_1 w e =
+      let whole = numbered_within w 1 e in
+      ap (λ l. size_by known whole ∷ l) (sym (by_number 1 (groups whole) (numbers w 1 e)) ∙ sym (targets whole (length (groups whole))))
+
+  from_0_list : (whole : Tree) (gs : List (ℕ × Tree)) → map (λ h. h.0) gs ≡ range_from 0 (length gs) → past_first (map (λ h. size_by known h.1) gs) ≡ map (in_round gs) (range_from 1 (length gs))
+  from_0_list whole [] at = refl
+  from_0_list whole (h ∷ gs) at =
+      let here : h.0 ≡ 0 = cc at in
+      let rest : map (λ x. x.0) gs ≡ range_from 1 (length gs) = cc at in
+      let up : length gs + 1 ≡ suc (length gs) = omega arith in
+      ap (λ l. l ++ unknown ∷ []) (sym (by_number 1 gs rest))
+      ∙ ap (λ s. map (in_round gs) (range_from 1 (length gs)) ++ s ∷ []) (sym (none_past 1 gs (1 + length gs) rest (omega arith)))
+      ∙ sym (range_more (in_round gs) 1 (length gs))
+      ∙ ap (λ n. map (in_round gs) (range_from 1 n)) up
+      ∙ range_same (in_round gs) (in_round (h ∷ gs)) (suc (length gs)) 1 (λ i le. sym (later_group h.0 h.1 gs i (omega arith)))
+
+  pub round_from_0 : (w : Within) (e : Tree) → from_0 known (numbered_within w 0 e) ≡ next_round (numbered_within w 0 e) known
+  unfolding target group_count
+  round_from_0 w e =
+      let whole = numbered_within w 0 e in
+      ap (λ l. size_by known whole ∷ l) (from_0_list whole (groups whole) (numbers w 0 e) ∙ sym (targets whole (length (groups whole))))
+
+-- ---- rounds that change nothing
+
+pub steady : (whole : Tree) (i m : ℕ) → next_round whole (after_rounds whole i) ≡ after_rounds whole i → after_rounds whole (m + i) ≡ after_rounds whole i
+steady whole i zero h = ap (after_rounds whole) (omega arith)
+steady whole i (suc m) h =
+    let next : suc m + i ≡ suc (m + i) = omega arith in
+    ap (after_rounds whole) next ∙ ap (next_round whole) (steady whole i m h) ∙ h
+
+pub settled : (whole : Tree) (i : ℕ) → i ≤ group_count whole → next_round whole (after_rounds whole i) ≡ after_rounds whole i → after_rounds whole i ≡ known_of whole
+unfolding known_of
+settled whole i le h =
+    let total : group_count whole - i + i ≡ group_count whole = omega arith in
+    sym (steady whole i (group_count whole - i) h) ∙ ap (after_rounds whole) total
+
+pub last_round : (whole : Tree) (i : ℕ) → i ≡ group_count whole → after_rounds whole i ≡ known_of whole
+unfolding known_of
+last_round whole i h = ap (after_rounds whole) h

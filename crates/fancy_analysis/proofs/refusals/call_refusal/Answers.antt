@@ -1,0 +1,56 @@
+use Rattle.std.proofs.Common.{◌≡◌, ℕ, true, false, MatchOption, sym, ◌∙◌, subst, string_bytes}
+use Rattle.std.specs.List.{list_any}
+use Rattle.fancy_meaning.specs.Nodes.{nodes}
+use Rattle.fancy_meaning.specs.Options.{analysis_of}
+use Rattle.fancy_meaning.specs.WellFormed.{is_call}
+use Rattle.fancy_meaning.specs.AnalysisRefusals.{ReadsAfterCall}
+use Rattle.fancy_meaning.specs.Recursion.{IsLeftRecursive}
+use Rattle.fancy_analysis.specs.Names.{IsDescriptionOfLeast, names_of}
+use Rattle.fancy_expr.specs.Views.{parsed_of, tree_of}
+use Rattle.fancy_expr.proofs.Listed.{true_false, any-nodes}
+use Rattle.fancy_analysis.proofs.CallRefusals.{late_refused, left_refused, without_calls, that_end, never_refused}
+use Rattle.fancy_analysis.proofs.refusals.call_refusal.Goals as goal
+
+pub returns-then-not-has_node : goal.returns-then-not-has_node
+returns-then-not-has_node c = λ options quiet w.
+    let t = c.args.tree.now in
+    let none : list_any is_call (nodes (tree_of t.expr)) ≡ false = sym (any-nodes is_call t.expr) ∙ sym c.has_node.ensures ∙ c.if-not-has_node.true in
+    without_calls (parsed_of t) options c.requires.0.groups quiet none
+
+pub returns-then-reads_after_call : goal.returns-then-reads_after_call
+returns-then-reads_after_call c = λ options quiet w.
+    let p = parsed_of c.args.tree.now in
+    let a = analysis_of p.tree options in
+    let late = (c.reads_after_call.ensures a w.analysed).0 c.if-reads_after_call.true in
+    late_refused p options (late.0, subst (λ t. ReadsAfterCall t late.0) w.tree late.1)
+
+pub returns-in-Some : goal.returns-in-Some
+returns-in-Some c = λ options quiet w.
+    let t = c.args.tree.now in
+    let p = parsed_of t in
+    let whole = (analysis_of p.tree options).tree in
+    left_refused p options (string_bytes c.in-Some.text)
+    (subst (λ o. MatchOption o ((g : ℕ) → ¬ IsLeftRecursive whole g) (λ text. IsDescriptionOfLeast whole (names_of t.named_groups.entries) (string_bytes text))) c.in-Some.is (c.in_ok-text.ensures whole w.tree w.sized))
+
+pub returns-then-branch : goal.returns-then-branch
+returns-then-branch c = λ options quiet w.
+    let t = c.args.tree.now in
+    let p = parsed_of t in
+    let a = analysis_of p.tree options in
+    let no_late : (g : ℕ) → ¬ ReadsAfterCall a.tree g = λ g late. (c.reads_after_call.ensures a w.analysed).1 c.if-reads_after_call.false g (subst (λ x. ReadsAfterCall x g) (sym w.tree) late) in
+    let no_left : (g : ℕ) → ¬ IsLeftRecursive a.tree g =
+    subst (λ o. MatchOption o ((g : ℕ) → ¬ IsLeftRecursive a.tree g) (λ text. IsDescriptionOfLeast a.tree (names_of t.named_groups.entries) (string_bytes text)))
+    c.in_default.is (c.in_ok-text.ensures a.tree w.tree w.sized) in
+    that_end p options c.requires.0.groups quiet no_late no_left ((c.in_ok-can_end.ensures a w).0 c.if-branch.true)
+
+pub returns-else-branch : goal.returns-else-branch
+returns-else-branch c = λ options quiet w.
+    let t = c.args.tree.now in
+    let p = parsed_of t in
+    let a = analysis_of p.tree options in
+    let no_late : (g : ℕ) → ¬ ReadsAfterCall a.tree g = λ g late. (c.reads_after_call.ensures a w.analysed).1 c.if-reads_after_call.false g (subst (λ x. ReadsAfterCall x g) (sym w.tree) late) in
+    let no_left : (g : ℕ) → ¬ IsLeftRecursive a.tree g =
+    subst (λ o. MatchOption o ((g : ℕ) → ¬ IsLeftRecursive a.tree g) (λ text. IsDescriptionOfLeast a.tree (names_of t.named_groups.entries) (string_bytes text)))
+    c.in_default.is (c.in_ok-text.ensures a.tree w.tree w.sized) in
+    let some : list_any is_call (nodes (tree_of t.expr)) ≡ true = sym (any-nodes is_call t.expr) ∙ sym c.has_node.ensures ∙ c.if-not-has_node.false in
+    never_refused p options c.requires.0.groups quiet no_late no_left some (λ ends. true_false (sym ((c.in_ok-can_end.ensures a w).1 ends) ∙ c.if-branch.false))

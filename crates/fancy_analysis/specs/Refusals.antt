@@ -1,0 +1,62 @@
+-- When a tree is refused by the code.
+use Rattle.std.specs.Prelude.{◌≡◌, ℕ, ◌+◌, ◌-◌, Bool, false, [], IsTrue, ◌&&◌, not, if◌then◌else◌, string_bytes, ◌==◌, length}
+use Rattle.std.specs.List.{list_any}
+use Rattle.fancy_meaning.specs.Tree as plain
+use Rattle.fancy_meaning.specs.Tree.{Tree}
+use Rattle.fancy_meaning.specs.Options.{ParsedTree, AnalysisOptions}
+use Rattle.fancy_meaning.specs.Nodes.{nodes}
+use Rattle.fancy_expr.specs.Questions.{is_refused}
+use Rattle.fancy_meaning.specs.AnalysisRefusals as plain_errors
+use Rattle.fancy_meaning.specs.AnalysisRefusals.{AnalysisRefuses}
+use Rattle.fancy_analysis.specs.declared.context.AnalyzeContext.{AnalyzeContext}
+use Rattle.fancy_expr.specs.declared.error.CompileError.{CompileError}
+use Rattle.fancy_expr.specs.declared.error.CompileError.TheVariants as code_error
+use Rattle.fancy_expr.specs.declared.expr.ExprTree.{ExprTree}
+
+abbrev pub error_of : CompileError → plain_errors.CompileError
+error_of code_error.NamedBackrefOnly = plain_errors.NamedBackrefOnly
+error_of code_error.FeatureNotYetSupported = plain_errors.FeatureNotYetSupported
+error_of code_error.SubroutineCallTargetNotFound = plain_errors.SubroutineCallTargetNotFound
+error_of code_error.UnresolvedAstNode = plain_errors.UnresolvedAstNode
+error_of (code_error.InvalidBackref g) = plain_errors.InvalidBackref g
+error_of (code_error.LeftRecursiveSubroutineCall text) = plain_errors.LeftRecursiveSubroutineCall (string_bytes text)
+error_of code_error.NeverEndingRecursion = plain_errors.NeverEndingRecursion
+error_of code_error.VariableLookBehindRequiresFeature = plain_errors.VariableLookBehindRequiresFeature
+error_of (code_error.InnerError text) = plain_errors.InnerError (string_bytes text)
+error_of (code_error.ClassTooBig text) = plain_errors.ClassTooBig (string_bytes text)
+error_of code_error.PatternTooComplex = plain_errors.PatternTooComplex
+
+-- the error of a node that is refused
+abbrev pub refusal_of : Tree → plain_errors.CompileError
+refusal_of (plain.Backref g casei) = plain_errors.InvalidBackref g
+refusal_of (plain.BackrefExists g level) = plain_errors.InvalidBackref g
+refusal_of (plain.AstNode plain.UnresolvedCall) = plain_errors.SubroutineCallTargetNotFound
+refusal_of (plain.AstNode plain.UnresolvedOther) = plain_errors.UnresolvedAstNode
+refusal_of e = plain_errors.FeatureNotYetSupported
+
+-- the number of the first group
+abbrev pub first_number : AnalysisOptions → ℕ
+first_number options = if options.explicit_capture_group_0 then 0 else 1
+
+-- the number of the last group, and 0 where there is none
+abbrev pub last_number : ParsedTree → AnalysisOptions → ℕ
+last_number p options = first_number options + p.total_groups - 1
+
+abbrev pub first_of : AnalyzeContext → ℕ
+first_of c = if c.explicit_capture_group_0 then 0 else 1
+
+-- the number of the last group, and 0 where there is none
+abbrev pub last_of : ExprTree → AnalyzeContext → ℕ
+last_of t c = first_of c + t.total_groups - 1
+
+abbrev pub has_named_and_numbered : ExprTree → Bool
+has_named_and_numbered t = t.numbered_groups_ignored && t.numeric_capture_group_references && not (length t.named_groups.entries == 0)
+
+-- no case of a refusal holds
+abbrev pub IsAnalysable : ParsedTree → AnalysisOptions → Type 0
+IsAnalysable p options = (error : plain_errors.CompileError) → ¬ AnalysisRefuses p options error
+
+-- no node of the tree is refused, and no group without a name is referred to where such groups are left out
+pub record HasNoRefusedNode (p : ParsedTree) (options : AnalysisOptions) : Type 0 where
+  pub nodes : list_any (is_refused (first_number options) (last_number p options)) (nodes p.tree) ≡ false
+  pub names : IsTrue (p.numbered_groups_ignored && p.numeric_capture_group_references) → ¬ (p.named_groups ≡ []) → ⊥

@@ -1,0 +1,6 @@
+-- The definitions' sizes of the code's.
+use Rattle.fancy_analysis.specs.declared.size.Size.{Size}
+use Rattle.fancy_meaning.specs.Sizes as plain
+
+abbrev pub size_of : Size → plain.Size
+size_of s = record { least = s.least; most = s.most; is_const = s.is_const }

@@ -1,0 +1,147 @@
+//! The sizes of groups, round by round.
+
+ghost use Rattle.std.specs.Prelude.{◌≡◌, ◌≤◌, ◌++◌, IfOk, IsTrue, map, replicate};
+ghost use Rattle.fancy_meaning.specs.Nodes.{group_count, groups};
+ghost use Rattle.fancy_meaning.specs.Numbering.{numbered_within};
+ghost use Rattle.fancy_meaning.specs.Sizes.{Known, known_of, next_round, size_by, unknown};
+ghost use Rattle.fancy_meaning.specs.Tree as plain;
+ghost use Rattle.fancy_meaning.specs.WellFormed.{most_groups};
+ghost use Rattle.fancy_analysis.specs.Infos.{info_tree};
+ghost use Rattle.fancy_analysis.specs.Made.{IsSized, from_0, from_1, own_size, task_known};
+ghost use Rattle.fancy_expr.specs.Views.{tree_of};
+ghost use Rattle.fancy_analysis.specs.declared.info.Info.TheViews.{out-Info};
+ghost use Rattle.fancy_analysis.specs.Sized.{size_of};
+
+use crate::context::AnalyzeContext;
+use crate::info::Info;
+use fancy_expr::walk::Within;
+use crate::make::Task;
+use crate::size::Size;
+use crate::visit::visit;
+use fancy_expr::expr::{Expr, ExprTree};
+use std::alloc::{AllocError, Global};
+
+fn add_own_size(info: &Info, table: &mut Vec<Size>) -> Result<(), AllocError>
+    ensures { IfOk result (λ _. table.new.items ≡ table.old.items ++ own_size (out-Info info.now).expr.now (out-Info info.now).size) }
+{
+    match info.expr {
+        Expr::Group(_) => table.push(info.size)?,
+        _ => {}
+    }
+    Ok(())
+}
+
+/// Adds the sizes of a node's groups in the order in which they open.
+fn add_sizes(info: &Info, table: &mut Vec<Size>) -> Result<(), AllocError>
+    ensures { (known : Known)
+        → IsSized known info.now
+        → IfOk
+        result
+        (λ _. map size_of table.new.items ≡ map size_of table.old.items ++ map (λ g. size_by known g.1) (groups (info_tree info.now))) }
+{
+    add_own_size(info, table)?;
+    for child in &info.children {
+        add_sizes(child, table)?;
+    }
+    Ok(())
+}
+
+fn is_same(a: Size, b: Size) -> bool
+    ensures { IsTrue result → size_of a ≡ size_of b }
+{
+    a.least == b.least && a.most == b.most && a.is_const == b.is_const
+}
+
+fn are_same(a: &[Size], b: &[Size]) -> bool
+    ensures { IsTrue result → map size_of a.now ≡ map size_of b.now }
+{
+    if a.len() != b.len() {
+        return false;
+    }
+    for i in 0..a.len() {
+        if !is_same(a[i], b[i]) {
+            return false;
+        }
+    }
+    true
+}
+
+fn unknown_sizes(alloc: Global, count: usize) -> Result<Vec<Size>, AllocError>
+    ensures { IfOk result (λ v. map size_of v.items ≡ replicate count unknown) }
+{
+    let mut sizes = Vec::new(alloc);
+    for i in 0..count {
+        sizes.push(Size::unknown())?;
+    }
+    Ok(sizes)
+}
+
+/// The sizes by number where the first group has number 1.
+fn sizes_from_1(alloc: Global, info: &Info) -> Result<Vec<Size>, AllocError>
+    ensures { (known : Known) → IsSized known info.now → IfOk result (λ v. map size_of v.items ≡ from_1 known (info_tree info.now)) }
+{
+    let mut table = Vec::new(alloc);
+    table.push(info.size)?;
+    add_sizes(info, &mut table)?;
+    Ok(table)
+}
+
+/// The sizes by number where the first group has number 0, which as a target is the whole tree.
+fn sizes_from_0(alloc: Global, info: &Info) -> Result<Vec<Size>, AllocError>
+    ensures { (known : Known) → IsSized known info.now → IfOk result (λ v. map size_of v.items ≡ from_0 known (info_tree info.now)) }
+{
+    let mut table = Vec::new(alloc);
+    add_sizes(info, &mut table)?;
+    table.push(Size::unknown())?;
+    table[0] = info.size;
+    Ok(table)
+}
+
+fn next_sizes(
+    alloc: Global,
+    task: &Task,
+    tree: &ExprTree,
+    first: usize,
+) -> Result<Vec<Size>, AllocError>
+    requires few { group_count (tree_of tree.now.expr) ≤ most_groups }
+    requires first { first ≤ 1 }
+    ensures { IfOk
+        result
+        (λ v. map size_of v.items ≡ next_round (numbered_within plain.NoLook first (tree_of tree.now.expr)) (task_known task.now)) }
+{
+    let info = visit(alloc, task, &tree.expr, first, Within::NoLook)?;
+    if first == 0 {
+        sizes_from_0(alloc, &info)
+    } else {
+        sizes_from_1(alloc, &info)
+    }
+}
+
+/// The sizes by number that the last round goes by. A round that changes nothing is the last that is needed.
+pub fn known_sizes(
+    alloc: Global,
+    tree: &ExprTree,
+    context: AnalyzeContext,
+    reads: &[bool],
+    first: usize,
+) -> Result<Vec<Size>, AllocError>
+    requires groups { tree.now.total_groups ≡ group_count (tree_of tree.now.expr) }
+    requires few { tree.now.total_groups ≤ most_groups }
+    requires first { first ≤ 1 }
+    ensures { IfOk result (λ v. map size_of v.items ≡ known_of (numbered_within plain.NoLook first (tree_of tree.now.expr))) }
+{
+    let mut known = unknown_sizes(alloc, tree.total_groups + 1)?;
+    for round in 0..tree.total_groups {
+        let task = Task {
+            context,
+            known: &known,
+            reads,
+        };
+        let next = next_sizes(alloc, &task, tree, first)?;
+        if are_same(&next, &known) {
+            return Ok(known);
+        }
+        known = next;
+    }
+    Ok(known)
+}

@@ -1,0 +1,4 @@
+pub mod Arguments
+pub mod Printing
+pub mod Writing
+pub mod Commands

@@ -1,9 +1,0 @@
-use Rattle.std.proofs.Common.{ap, arith}
-use Rattle.fancy_tree.specs.Infos.{start_inside}
-use Rattle.fancy_expr.proofs.Groups.{count-below}
-use Rattle.fancy_tree.proofs.VisitedParts.{start-own}
-use Rattle.fancy_reference.proofs.nodes.start_inside.Goals as goal
-
-pub overflow_add-result : goal.overflow_add-result
-overflow_add-result c =
-    omega (arith, c.requires, count-below c.args.expr.now, start-own c.args.expr.now c.args.start, ap (λ x. start_inside x c.args.start) c.in-Group.is)

@@ -1,4 +1,0 @@
-pub mod Asked
-pub mod Searched
-pub mod Performed
-pub mod Parts

@@ -1,7 +1,0 @@
-use Rattle.std.proofs.Common.{◌≡◌, ◌++◌, ◌∷◌, take, string_bytes}
-use Rattle.std.specs.List.{flat_map}
-use Rattle.fancy_regex_engine.specs.Printing as printed
-use Rattle.fancy_regex_engine.proofs.printing.push_numbers.Given as goal
-
-abbrev pub invariant-loop-number : goal.invariant-loop-number
-invariant-loop-number l = string_bytes l.line ≡ string_bytes l.initial.line ++ flat_map (λ m. 32 ∷ printed.number_text m) (take l.number-index l.others)

@@ -1,6 +1,0 @@
-use Rattle.fancy_regex_engine.proofs.Searched.{run_promises}
-use Rattle.fancy_regex_engine.proofs.search.Compiled.search.Goals as goal
-
-pub returns : goal.returns
-returns c i from =
-    run_promises i c.args.self.now c.args.text.now c.args.options.now from c.requires c.run.result c.run.ensures.machine c.run.ensures.meaning

@@ -1,5 +1,0 @@
-pub mod Arguments
-pub mod Printing
-pub mod Writing
-pub mod Searches
-pub mod Commands

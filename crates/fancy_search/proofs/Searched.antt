@@ -1,0 +1,171 @@
+-- A search by the engine's calls answers as is promised.
+use Rattle.std.proofs.Common.{◌≡◌, ℕ, Bool, true, false, not, ◌&&◌, ◌||◌, List, length, Option, Some, None, Result, Ok, Err, refl, sym, ap, ◌∙◌, subst}
+use Rattle.std.specs.Prelude.{IfOk, IsUtf8}
+use Rattle.std.specs.declared.vec.Vec.{Vec}
+use Rattle.std.specs.declared.alloc.Global.{Global}
+use Rattle.std.proofs.lemmas.Bool.{and_parts, and_from}
+use Rattle.std.proofs.lemmas.Str.{IsCharBoundary-start}
+use Rattle.fancy_meaning.specs.Instr as plain_program
+use Rattle.fancy_meaning.specs.Layout.{undelegated_layout}
+use Rattle.fancy_meaning.specs.Machine as machine
+use Rattle.fancy_meaning.specs.Fits.{run_fits}
+use Rattle.fancy_meaning.specs.Places.{is_place}
+use Rattle.fancy_meaning.specs.Premises.{Analysed, Input, plan, IsAccepted}
+use Rattle.fancy_meaning.specs.Promise.{IsRefused, by_analysis, by_compiler, by_regex}
+use Rattle.fancy_expr.specs.declared.error.Error.{Error}
+use Rattle.fancy_expr.specs.declared.error.Error.TheVariants as error
+use Rattle.fancy_expr.specs.declared.error.RuntimeError.{RuntimeError}
+use Rattle.fancy_expr.specs.declared.error.RuntimeError.TheVariants as limit
+use Rattle.fancy_expr.specs.declared.expr.ExprTree.{ExprTree}
+use Rattle.fancy_expr.specs.Sound.{IsWellFormedTree}
+use Rattle.fancy_expr.specs.Views.{parsed_of}
+use Rattle.fancy_analysis.specs.declared.context.AnalyzeContext.{AnalyzeContext}
+use Rattle.fancy_analysis.specs.declared.info.Info.{Info}
+use Rattle.fancy_analysis.specs.Analyses.{IsAnalysisOf, IsRefusedAs}
+use Rattle.fancy_analysis.specs.Infos.{options_of}
+use Rattle.fancy_vm.proofs.FitsLaws.{run_implicit}
+use Rattle.fancy_vm.specs.declared.insn.Prog.{Prog}
+use Rattle.fancy_vm.specs.declared.runs.RunOptions.{RunOptions}
+use Rattle.fancy_vm.specs.Means.{Means, numbers_of}
+use Rattle.fancy_vm.specs.Meant.{RunAnswers, outcome_of}
+use Rattle.fancy_vm.specs.Programs.{prog_of, task_of, options_of as run_options_of}
+use Rattle.fancy_compile.specs.declared.options.CompileOptions.{CompileOptions}
+use Rattle.fancy_compile.specs.Compiled.{Compiles, MayAnswer, MayCompile, plan_with, refuses, too_big}
+use Rattle.fancy_search.specs.declared.search.Compiled.{Compiled}
+use Rattle.fancy_search.specs.Searches as searches
+use Rattle.fancy_search.specs.declared.search.SearchOptions.{SearchOptions}
+use Rattle.fancy_search.specs.Searches.{IsCompiledFrom, Promises, input_of, limit_of, program, program_of, instructions_of, options_fit, search_fits}
+
+pub place_of : (text : List ℕ) (i : ℕ) → IsCharBoundary text i → is_place text i ≡ true
+place_of text i h = and_from _ _ (le-leb _ _ h.0) (test_of_IsCharBoundary text i h)
+
+implied : (b c : Bool) → (not b || c) ≡ true → b ≡ true → c ≡ true
+implied true c h e = h
+implied false c h e = cc
+
+none_of : (b : Bool) → not b ≡ true → b ≡ false
+none_of true e = cc
+none_of false e = refl
+
+module _ (t : ExprTree) (context : AnalyzeContext) (o : CompileOptions) (ok : IsWellFormedTree t) (fits : options_fit context o ≡ true) where
+  abbrev pub analysed : Analysed
+  analysed = record { parsed = parsed_of t; options = options_of context; well_formed = ok.0 }
+
+  abbrev input : Input
+  input = input_of t context o
+
+  same_end_text : o.disallow_empty_match_at_eof_after_newline ≡ true → context.disallow_empty_match_at_eof_after_newline ≡ true
+  same_end_text = implied _ _ fits
+
+  pub may_compile : (i : Info) → IsAnalysisOf t (options_of context) i → MayCompile analysed i o
+  may_compile i h = record { root = h.root; accepted = h.accepted; end_text = same_end_text }
+
+  -- the refusal of the analysis
+  pub analysis_refused : (e : Error) → IsRefusedAs (parsed_of t) (options_of context) e → searches.IsRefusedAs input e
+  analysis_refused (error.CompileError e) h = by_analysis h
+  analysis_refused (error.RuntimeError e) h = h
+  analysis_refused error.Memory h = h
+  analysis_refused (error.TreeFault at) h = h
+
+  may_answer : {e : _} → MayAnswer (plan input) e → IsRefused input (instructions_of input) e
+  may_answer (refuses h) = by_compiler h
+  may_answer (too_big h) = by_regex h
+
+  -- the refusal of the compiler
+  pub compiler_refused : (e : Error) → Compiles (plan_with analysed o) (Err e) → searches.IsRefusedAs input e
+  compiler_refused (error.CompileError e) h = may_answer h
+  compiler_refused (error.RuntimeError e) h = h
+  compiler_refused error.Memory h = h
+  compiler_refused (error.TreeFault at) h = h
+
+  pub compiled_from : (i : Info) (prog : Prog) → IsAnalysisOf t (options_of context) i →
+      Compiles (plan_with analysed o) (Ok prog) → IsCompiledFrom input (record { prog = prog })
+  compiled_from i prog h compiled = record {
+    accepted = λ implicit. record {
+      well_formed = ok.0;
+      same_end_text = same_end_text;
+      analysed = h.accepted;
+      compiled = compiled.not_refused;
+      implicit_group_0 = implicit;
+    };
+    program = compiled.layout;
+  }
+
+passes_of : (l : RuntimeError) → outcome_of l ≡ searches.outcome_of (limit_of l)
+passes_of limit.BacktrackLimitExceeded = refl
+passes_of limit.StackOverflow = refl
+passes_of limit.StepLimitExceeded = refl
+
+module _ (i : Input) (compiled : Compiled) (text : List ℕ) (o : RunOptions) (from : IsCompiledFrom i compiled)
+    (fits : run_fits (task_of (program compiled) text o) ≡ true) where
+  abbrev prog : plain_program.Prog
+  prog = prog_of (program compiled)
+
+  implicit : (i.analysis).explicit_capture_group_0 ≡ false
+  unfolding undelegated_layout
+  implicit = sym (ap (λ (p : plain_program.Prog). p.explicit_group_0) from.program) ∙ run_implicit (task_of (program compiled) text o) fits
+
+  is_accepted : IsAccepted i (instructions_of i)
+  is_accepted = from.accepted implicit
+
+  accepted : IsAccepted i (length prog.body)
+  accepted = subst (λ (p : plain_program.Prog). IsAccepted i (length p.body)) (sym from.program) is_accepted
+
+  -- a run of the tree's program answers as is promised
+  pub run_promises : (result : Result (Option (Vec ℕ Global)) Error) → RunAnswers (machine.run (task_of (program compiled) text o)) result →
+      IfOk result (λ found. Means prog text (run_options_of o) (numbers_of found)) → Promises i text (run_options_of o) result
+  run_promises (Ok None) answers means = (is_accepted, means i accepted from.program)
+  run_promises (Ok (Some numbers)) answers means = (is_accepted, means i accepted from.program)
+  run_promises (Err (error.RuntimeError l)) answers means = (
+    is_accepted,
+    sym (ap (λ p. machine.run (record { program = p; text = text; options = run_options_of o })) from.program) ∙ answers ∙ passes_of l,
+  )
+  run_promises (Err error.Memory) answers means = tt
+  run_promises (Err (error.CompileError e)) answers means = absurd answers
+  run_promises (Err (error.TreeFault at)) answers means = absurd answers
+
+-- a refusal is one that is promised
+pub refusal_promises : (i : Input) (text : List ℕ) (o : RunOptions) (e : Error) → searches.IsRefusedAs i e →
+    Promises i text (run_options_of o) (Err e)
+refusal_promises i text o (error.CompileError e) h = h
+refusal_promises i text o (error.RuntimeError e) h = absurd h
+refusal_promises i text o error.Memory h = tt
+refusal_promises i text o (error.TreeFault at) h = absurd h
+
+-- what fits the search
+pub record FitsSearch (s : SearchOptions) (text : List ℕ) : Type 0 where
+  pub compilation : options_fit s.analysis s.compilation ≡ true
+  pub implicit : not (s.analysis).explicit_capture_group_0 ≡ true
+  pub pos : is_place text (s.run).pos ≡ true
+  pub not_empty : (not (s.run).not_empty || (s.analysis).find_not_empty) ≡ true
+
+pub fits_search : (s : SearchOptions) (text : List ℕ) → search_fits s text ≡ true → FitsSearch s text
+fits_search s text fits =
+    let a = options_fit s.analysis s.compilation in
+    let b = not (s.analysis).explicit_capture_group_0 in
+    let c = is_place text (s.run).pos in
+    let d = not (s.run).not_empty || (s.analysis).find_not_empty in
+    let p = and_parts (a && b && c) d fits in
+    let q = and_parts (a && b) c p.0 in
+    let r = and_parts a b q.0 in
+    record { compilation = r.0; implicit = r.1; pos = q.1; not_empty = p.1 }
+
+-- it fits the run of the program
+pub may_run : (s : SearchOptions) (t : ExprTree) (compiled : Compiled) (text : List ℕ) → search_fits s text ≡ true →
+    IsCompiledFrom (input_of t s.analysis s.compilation) compiled → run_fits (task_of (program compiled) text s.run) ≡ true
+unfolding run_fits undelegated_layout
+may_run s t compiled text fits from =
+    let h = fits_search s text fits in
+    let n = not (s.run).not_empty in
+    let b = not (s.analysis).explicit_capture_group_0 in
+    let d = n || (s.analysis).find_not_empty in
+    subst (λ (x : plain_program.Prog). (is_place text (s.run).pos && (not x.explicit_group_0 && (n || x.find_not_empty))) ≡ true)
+    (sym from.program) (and_from (is_place text (s.run).pos) (b && d) h.pos (and_from b d h.implicit h.not_empty))
+
+-- from the start, with no option set
+pub defaults_fit : (o : SearchOptions) (text : List ℕ) →
+    o.analysis ≡ record { explicit_capture_group_0 = false; find_not_empty = false; disallow_empty_match_at_eof_after_newline = false } →
+    (o.compilation).disallow_empty_match_at_eof_after_newline ≡ false → (o.run).pos ≡ 0 → (o.run).not_empty ≡ false → IsUtf8 text →
+    search_fits o text ≡ true
+defaults_fit o text as_analysed as_compiled at empty utf8 =
+    rw (as_analysed, as_compiled, at, empty) (and_from (is_place text 0) true (place_of text 0 (IsCharBoundary-start text utf8)) refl)

@@ -1,0 +1,98 @@
+-- What a search by the engine answers, in the words of the promise.
+use Rattle.std.specs.Prelude.{◌≡◌, ℕ, Bool, false, ◌&&◌, ◌||◌, not, List, Option, length, Result, Ok, Err}
+use Rattle.std.specs.declared.vec.Vec.{Vec}
+use Rattle.std.specs.declared.alloc.Global.{Global}
+use Rattle.fancy_meaning.specs.Options as plain
+use Rattle.fancy_meaning.specs.Places.{is_place}
+use Rattle.fancy_meaning.specs.Config.{Outcome, BacktrackLimitExceeded, StackOverflow, StepLimitExceeded}
+use Rattle.fancy_meaning.specs.Instr as plain_program
+use Rattle.fancy_meaning.specs.Layout.{undelegated_layout}
+use Rattle.fancy_meaning.specs.Machine as machine
+use Rattle.fancy_meaning.specs.Premises.{Input, plan, IsAccepted}
+use Rattle.fancy_meaning.specs.Promise.{Limit, Backtracks, Branches, Instructions, Reply, Found, Refused, Passed, OutOfMemory, IsRefused, Promise}
+use Rattle.fancy_expr.specs.declared.error.Error.{Error}
+use Rattle.fancy_expr.specs.declared.error.Error.TheVariants as error
+use Rattle.fancy_expr.specs.declared.error.RuntimeError.{RuntimeError}
+use Rattle.fancy_expr.specs.declared.error.RuntimeError.TheVariants as limit
+use Rattle.fancy_expr.specs.declared.expr.ExprTree.{ExprTree}
+use Rattle.fancy_expr.specs.Views.{parsed_of}
+use Rattle.fancy_analysis.specs.declared.context.AnalyzeContext.{AnalyzeContext}
+use Rattle.fancy_analysis.specs.Infos.{options_of as analysis_options_of}
+use Rattle.fancy_vm.specs.Means.{numbers_of}
+use Rattle.fancy_vm.specs.declared.insn.Prog.{Prog}
+use Rattle.fancy_vm.specs.Programs.{prog_of}
+use Rattle.fancy_compile.specs.declared.options.CompileOptions.{CompileOptions}
+use Rattle.fancy_compile.specs.Compiled.{options_of as compile_options_of}
+use Rattle.fancy_compile.specs.Faults.{error_of}
+use Rattle.fancy_search.specs.declared.search.Compiled.{Compiled}
+use Rattle.fancy_search.specs.declared.search.SearchOptions.{SearchOptions}
+
+-- a tree that is handed in, with the options of its analysis and of the compiler
+abbrev pub input_of : ExprTree → AnalyzeContext → CompileOptions → Input
+input_of t context options = record {
+  parsed = parsed_of t;
+  analysis = analysis_options_of context;
+  options = compile_options_of options;
+}
+
+-- the end-of-text option of the compiler is set only with that of the analysis
+abbrev pub options_fit : AnalyzeContext → CompileOptions → Bool
+options_fit context options =
+    not options.disallow_empty_match_at_eof_after_newline || context.disallow_empty_match_at_eof_after_newline
+
+-- The same, group 0 is implicit, the search begins at a place of the text, and only where the analysis knew of it a match
+-- has to take something.
+abbrev pub search_fits : SearchOptions → List ℕ → Bool
+search_fits o text =
+    options_fit o.analysis o.compilation && not (o.analysis).explicit_capture_group_0 && is_place text (o.run).pos
+    && (not (o.run).not_empty || (o.analysis).find_not_empty)
+
+-- what a tree was compiled to
+abbrev pub program : Compiled → Prog
+program compiled = compiled.prog
+
+-- the program of a tree and its options
+abbrev pub program_of : Input → plain_program.Prog
+program_of i = undelegated_layout (plan i)
+
+abbrev pub instructions_of : Input → ℕ
+instructions_of i = length (program_of i).body
+
+abbrev pub limit_of : RuntimeError → Limit
+limit_of limit.BacktrackLimitExceeded = Backtracks
+limit_of limit.StackOverflow = Branches
+limit_of limit.StepLimitExceeded = Instructions
+
+abbrev pub outcome_of : Limit → Outcome
+outcome_of Backtracks = BacktrackLimitExceeded
+outcome_of Branches = StackOverflow
+outcome_of Instructions = StepLimitExceeded
+
+module _ (i : Input) where
+  -- a run of the tree's program on the text passes the limit
+  abbrev pub Passes : List ℕ → plain.RunOptions → Limit → Type 0
+  Passes text o l = machine.run (record { program = program_of i; text = text; options = o }) ≡ outcome_of l
+
+  -- this reply is one that is promised
+  abbrev pub MayReply : List ℕ → plain.RunOptions → Reply → Type 0
+  MayReply text o reply = Promise i (instructions_of i) (Passes text o) text o reply
+
+  -- a search of the text answers as is promised
+  abbrev pub Promises : List ℕ → plain.RunOptions → Result (Option (Vec ℕ Global)) Error → Type 0
+  Promises text o (Ok found) = MayReply text o (Found (numbers_of found))
+  Promises text o (Err (error.CompileError e)) = MayReply text o (Refused (error_of e))
+  Promises text o (Err (error.RuntimeError e)) = MayReply text o (Passed (limit_of e))
+  Promises text o (Err error.Memory) = MayReply text o OutOfMemory
+  Promises text o (Err (error.TreeFault at)) = ⊥
+
+  -- the tree is refused with the error, or memory was
+  abbrev pub IsRefusedAs : Error → Type 0
+  IsRefusedAs (error.CompileError e) = IsRefused i (instructions_of i) (error_of e)
+  IsRefusedAs (error.RuntimeError e) = ⊥
+  IsRefusedAs error.Memory = Unit {0}
+  IsRefusedAs (error.TreeFault at) = ⊥
+
+  -- what was compiled is the program of the tree, which is accepted where group 0 is implicit
+  pub record IsCompiledFrom (compiled : Compiled) : Type 0 where
+    pub accepted : (i.analysis).explicit_capture_group_0 ≡ false → IsAccepted i (instructions_of i)
+    pub program : prog_of (program compiled) ≡ program_of i

@@ -1,0 +1,173 @@
+//! A search for a tree in a text by one call, and a tree that is compiled once and searched for many times.
+
+ghost use Rattle.std.specs.Prelude.{◌≡◌, ℕ, List, None, IsTrue, IsUtf8, MatchResult, false, true};
+ghost use Rattle.fancy_meaning.specs.Fits.{run_fits};
+ghost use Rattle.fancy_meaning.specs.Options as plain;
+ghost use Rattle.fancy_meaning.specs.Premises.{Input};
+ghost use Rattle.fancy_analysis.specs.Infos.{options_of as analysis_options_of};
+ghost use Rattle.fancy_compile.specs.Compiled.{options_of as compile_options_of};
+ghost use Rattle.fancy_expr.specs.Sound.{IsWellFormedTree};
+ghost use Rattle.fancy_vm.specs.Programs.{default_at, options_of as run_options_of, task_of};
+ghost use Rattle.fancy_search.specs.Searches.{IsCompiledFrom, IsRefusedAs, Promises, input_of, program, search_fits};
+ghost use Rattle.fancy_search.specs.Searches as searches;
+
+use fancy_characters::places::is_place;
+use fancy_compile::compile::{CompileOptions, compile};
+use fancy_vm::vm::{Prog, RunOptions, Scratch, run};
+use fancy_analysis::analyze::{AnalyzeContext, analyze};
+use fancy_expr::error::Error;
+use fancy_expr::expr::ExprTree;
+use std::alloc::Global;
+
+/// The options of the three stages of a search.
+#[derive(Clone, Copy, Debug)]
+pub struct SearchOptions {
+    /// How the tree is analysed.
+    pub analysis: AnalyzeContext,
+    /// How it is compiled.
+    pub compilation: CompileOptions,
+    /// How its program is run.
+    pub run: RunOptions,
+}
+
+/// A tree may be analysed and compiled with these options: the end-of-text option of the compiler is set only with that of the
+/// analysis.
+pub fn options_fit(context: AnalyzeContext, options: CompileOptions) -> bool
+    ensures { result ≡ searches.options_fit context options }
+{
+    !options.disallow_empty_match_at_eof_after_newline
+        || context.disallow_empty_match_at_eof_after_newline
+}
+
+impl SearchOptions {
+    /// A search of the text with these options may be made: `options_fit`, group 0 is implicit, `run.pos` is a character boundary of the
+    /// text, and `run.not_empty` is set only with `analysis.find_not_empty`.
+    pub fn fits(&self, text: &str) -> bool
+        ensures { result ≡ search_fits self.now text.now }
+    {
+        options_fit(self.analysis, self.compilation)
+            && !self.analysis.explicit_capture_group_0
+            && is_place(text.as_bytes(), self.run.pos)
+            && (!self.run.not_empty || self.analysis.find_not_empty)
+    }
+}
+
+impl Default for SearchOptions {
+    /// The defaults of the three stages, which fit every text.
+    fn default() -> SearchOptions
+        ensures fits { (text : List ℕ) → IsUtf8 text → IsTrue (search_fits result text) }
+        ensures analysis { analysis_options_of result.analysis
+            ≡ record { explicit_capture_group_0 = false; find_not_empty = false; end_text = false } }
+        ensures compilation { compile_options_of result.compilation
+            ≡ record {
+              anchored = false;
+              end_text = false;
+              bytes_mode = plain.Unicode;
+              unicode = true;
+              max_prog_size = None;
+            } }
+        ensures run { run_options_of result.run ≡ default_at 0 }
+    {
+        SearchOptions {
+            analysis: AnalyzeContext::default(),
+            compilation: CompileOptions::default(),
+            run: RunOptions::default(),
+        }
+    }
+}
+
+/// A tree that was compiled for searches: its program.
+#[derive(Drop)]
+pub struct Compiled {
+    prog: Prog,
+}
+
+impl Compiled {
+    /// Analyses and compiles the tree.
+    ///
+    /// A tree is refused as `Error::CompileError` where a case of `analyze` or `compile` holds. Want of memory is `Error::Memory`.
+    pub fn new(
+        alloc: Global,
+        tree: &ExprTree,
+        context: AnalyzeContext,
+        options: CompileOptions,
+    ) -> Result<Compiled, Error>
+        requires well_formed { IsWellFormedTree tree.now }
+        requires fits { IsTrue (searches.options_fit context options) }
+        ensures { MatchResult
+            result
+            (λ compiled. IsCompiledFrom (input_of tree.now context options) compiled)
+            (λ error. IsRefusedAs (input_of tree.now context options) error) }
+    {
+        let info = analyze(alloc, tree, context)?;
+        let prog = compile(alloc, &info, options)?;
+        Ok(Compiled { prog })
+    }
+
+    /// The program.
+    pub fn program(&self) -> &Prog
+        ensures { result.now ≡ program self.now }
+    {
+        &self.prog
+    }
+
+    /// The program alone.
+    pub fn into_program(self) -> Prog
+        ensures { result ≡ program self }
+    {
+        self.prog
+    }
+
+    /// A search of the text with these options may be made: `pos` is a character boundary of the text, and `not_empty` is set only
+    /// where the analysis had `find_not_empty`.
+    pub fn fits(&self, text: &str, options: &RunOptions) -> bool
+        ensures { result ≡ run_fits (task_of (program self.now) text.now options.now) }
+    {
+        options.fits(&self.prog, text)
+    }
+
+    /// Searches the text from `options.pos` on, a byte of it, for the tree that was compiled: start and end of each group from 0 up, in
+    /// bytes of the text, with `usize::MAX` for a group that is not set, or none.
+    ///
+    /// A `RuntimeError` tells which limit was passed, and `Memory` that a request for memory was refused. The scratch may be used again
+    /// after either.
+    pub fn search(
+        &self,
+        alloc: Global,
+        text: &str,
+        options: &RunOptions,
+        scratch: &mut Scratch,
+    ) -> Result<Option<Vec<usize>>, Error>
+        requires { IsTrue (run_fits (task_of (program self.now) text.now options.now)) }
+        ensures { (i : Input)
+            → IsCompiledFrom i self.now
+            → Promises i text.now (run_options_of options.now) result }
+    {
+        run(alloc, &self.prog, text, options, scratch)
+    }
+}
+
+/// Searches the text for the tree, by `analyze`, `compile` and `run`: start and end of each group from 0 up, in bytes of the text, with
+/// `usize::MAX` for a group that is not set, or none. It is the first admitted way at the earliest start that has one.
+///
+/// `tree` has passed `is_well_formed`, and the options `SearchOptions::fits`. A tree is refused as `Error::CompileError` where a case of
+/// `analyze` or `compile` holds; a `RuntimeError` tells which limit was passed, and `Memory` that a request for memory was refused. The
+/// scratch may be used again after any of them.
+pub fn search(
+    alloc: Global,
+    tree: &ExprTree,
+    text: &str,
+    options: &SearchOptions,
+    scratch: &mut Scratch,
+) -> Result<Option<Vec<usize>>, Error>
+    requires well_formed { IsWellFormedTree tree.now }
+    requires fits { IsTrue (search_fits options.now text.now) }
+    ensures { Promises
+        (input_of tree.now options.now.analysis options.now.compilation)
+        text.now
+        (run_options_of options.now.run)
+        result }
+{
+    let compiled = Compiled::new(alloc, tree, options.analysis, options.compilation)?;
+    compiled.search(alloc, text, &options.run, scratch)
+}

@@ -1,7 +1,0 @@
-use Rattle.std.proofs.Common.{refl}
-use Rattle.fancy_meaning.specs.Laws.{is_anchor}
-use Rattle.fancy_expr.proofs.AbsentTests.{absent_fails}
-use Rattle.fancy_tree.proofs.analyze.is_anchor.Goals as goal
-
-pub returns-in-Absent : goal.returns-in-Absent
-returns-in-Absent c = absent_fails is_anchor (λ x. refl) (λ x y. refl) (λ x. refl) refl _ _ c.in-Absent.is

@@ -1,0 +1,39 @@
+use Rattle.std.proofs.Common.{◌≡◌, ◌-◌, ◌+◌, ℕ, arith, sym, ap, ◌∙◌, subst, Err}
+use Rattle.fancy_meaning.specs.Config as config
+use Rattle.fancy_meaning.specs.Machine as machine
+use Rattle.fancy_vm.specs.Meant.{meant, Finds}
+use Rattle.fancy_vm.proofs.StepLaws.{exec_of, runs_on, err_finds}
+use Rattle.std.proofs.lemmas.Result.{err_from_is_err_and}
+use Rattle.fancy_vm.proofs.machine.Task.run.Goals as goal
+
+pub steps-init : goal.steps-init
+unfolding machine.run
+steps-init c =
+    let task = c.args.self.now in
+    let whole : task.options.now.step_limit - 0 ≡ task.options.now.step_limit = omega arith in
+    record {
+      made = c.requires.made;
+      same = ap (machine.exec (meant task) (task.options.now.step_limit - 0)) c.requires.begins
+          ∙ ap (λ n. machine.exec (meant task) n (machine.begin (meant task))) whole;
+    }
+
+pub steps-preserved : goal.steps-preserved
+steps-preserved c =
+    let task = c.args.self.now in
+    let left : ℕ = task.options.now.step_limit - c.steps._step in
+    let one : task.options.now.step_limit - (c.steps._step + 1) ≡ left - 1 = omega arith in
+    record {
+      made = c.in_ok-step.ensures.made;
+      same = ap (λ n. exec_of task n c.step.new.m) one
+          ∙ sym (runs_on task c.steps.m c.step.new.m left (omega arith) (rw c.in-On.is at c.in_ok-step.ensures.leads))
+          ∙ c.steps.invariant.same;
+    }
+
+pub returns-in_err-step-clause-finds : goal.returns-in_err-step-clause-finds
+returns-in_err-step-clause-finds c =
+    let task = c.args.self.now in
+    let left : ℕ = task.options.now.step_limit - c.steps._step in
+    let p = err_from_is_err_and c.from_residual.result c.from_residual.ensures.1 in
+    rw (p.1, p.2)
+    (subst (λ (o : config.Outcome). Finds task o (Err c.in_err-step.field-0.0) c.step.new.m) c.steps.invariant.same
+    (err_finds task c.steps.m c.step.new.m left c.in_err-step.field-0.0 (omega arith) c.in_err-step.ensures.leads))

@@ -1,0 +1,12 @@
+//! The machine: instructions, programs, states and runs.
+#![tactic(auto)]
+
+mod insn;
+mod machine;
+mod moves;
+mod old_values;
+mod program;
+mod runs;
+mod state;
+mod steps;
+pub mod vm;

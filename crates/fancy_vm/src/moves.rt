@@ -1,0 +1,64 @@
+//! One step in a text: from a place the place after what is taken, if it is there.
+
+ghost use Rattle.std.specs.Prelude.{◌≡◌, ◌&&◌, nat_le, IfOk, IfErr};
+ghost use Rattle.fancy_meaning.specs.Moves as moves;
+ghost use Rattle.fancy_meaning.specs.Places as place;
+ghost use Rattle.fancy_meaning.specs.Machine.{class_test};
+ghost use Rattle.fancy_characters.specs.Classes.{class_of};
+ghost use Rattle.fancy_characters.specs.Literals.{literal_tests};
+ghost use Rattle.fancy_vm.specs.Refused.{IsMemory};
+
+use fancy_characters::places::is_place;
+use fancy_characters::classes::{CaseiLiteral, CharClassMatcher};
+use fancy_expr::error::Error;
+use std::alloc::Global;
+
+/// The place this many characters before.
+pub(crate) fn back_by(text: &[u8], chars: usize, ix: usize) -> Option<usize>
+    ensures { result ≡ place.back_by text.now chars ix }
+{
+    let mut left = chars;
+    let mut at = ix;
+    'back: loop {
+        if is_place(text, at) {
+            if left == 0 {
+                return Some(at);
+            }
+            left -= 1;
+        }
+        if at == 0 {
+            return None;
+        }
+        at -= 1;
+    }
+}
+
+/// Past the characters of the literal.
+pub(crate) fn past_literal(literal: &CaseiLiteral, text: &str, ix: usize) -> Option<usize>
+    ensures { result ≡ moves.past_chars text.now (literal_tests literal.now) ix }
+{
+    Some(ix + literal.match_len(text, ix)?)
+}
+
+/// Past one character of the class. `Memory` where a request for memory was refused.
+pub(crate) fn past_class(
+    alloc: Global,
+    class: &CharClassMatcher,
+    text: &str,
+    ix: usize,
+) -> Result<Option<usize>, Error>
+    ensures ok { IfOk result (λ to. to ≡ moves.past_char text.now (class_test (class_of class.now)) ix) }
+    ensures err { IfErr result IsMemory }
+{
+    match class.match_len(alloc, text, ix)? {
+        None => Ok(None),
+        Some(len) => Ok(Some(ix + len)),
+    }
+}
+
+/// The two are places of the text, in order.
+pub(crate) fn is_span(text: &[u8], from: usize, to: usize) -> bool
+    ensures { result ≡ (nat_le from to && (place.is_place text.now from && place.is_place text.now to)) }
+{
+    from <= to && is_place(text, from) && is_place(text, to)
+}

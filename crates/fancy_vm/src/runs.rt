@@ -1,0 +1,215 @@
+//! Runs of a program.
+
+ghost use Rattle.std.specs.Prelude.{◌≡◌, IsTrue, IfOk, IfErr, false};
+ghost use Rattle.fancy_meaning.specs.Machine as machine;
+ghost use Rattle.fancy_meaning.specs.Fits.{run_fits};
+ghost use Rattle.fancy_vm.specs.Means.{Means, MeansPair, numbers_of};
+ghost use Rattle.fancy_vm.specs.Meant.{RunAnswers, RunAnswersPair, Finds, IsMade, config_of, meant};
+ghost use Rattle.fancy_vm.specs.Programs.{IsUnused, allocator_of, default_at, default_task, options_of, prog_of, task_of};
+ghost use Rattle.fancy_vm.specs.Refused.{IsMemory};
+
+use crate::insn::Prog;
+use crate::machine::{MAX_BRANCHES, Machine, Next, Task};
+use crate::state::State;
+use fancy_characters::places::is_place;
+use fancy_expr::error::{Error, RuntimeError};
+use std::alloc::Global;
+
+/// How a program is run.
+#[derive(Clone, Copy, Debug)]
+pub struct RunOptions {
+    /// Where the search begins, a byte of the text.
+    pub pos: usize,
+    /// The first start alone is tried.
+    pub anchored: bool,
+    /// The previous match ended at `pos`.
+    pub continued: bool,
+    /// A match has to take something.
+    pub not_empty: bool,
+    /// How often a run may fall back to a branch.
+    pub backtrack_limit: usize,
+    /// How many instructions a run may execute.
+    pub step_limit: u64,
+}
+
+impl RunOptions {
+    /// The default from this place on.
+    fn at(pos: usize) -> RunOptions
+        ensures { options_of result ≡ default_at pos }
+    {
+        RunOptions {
+            pos,
+            anchored: false,
+            continued: true,
+            not_empty: false,
+            backtrack_limit: 1_000_000,
+            step_limit: u64::MAX,
+        }
+    }
+
+    /// A run with these options may be made: `pos` is a character boundary of the text, group 0 is implicit, and
+    /// `not_empty` is set only where the analysis knew of it.
+    #[tactic(auto, unfolding(fancy_meaning::specs::Fits::run_fits))]
+    pub fn fits(&self, prog: &Prog, text: &str) -> bool
+        ensures { result ≡ run_fits (task_of prog.now text.now self.now) }
+    {
+        is_place(text.as_bytes(), self.pos)
+            && !prog.parts.explicit_group_0
+            && (!self.not_empty || prog.parts.find_not_empty)
+    }
+}
+
+impl Default for RunOptions {
+    /// From the text's start, not anchored, continued, with empty matches, at most 1,000,000 backtracks and as many
+    /// instructions as can be counted.
+    fn default() -> RunOptions
+        ensures { options_of result ≡ default_at 0 }
+    {
+        RunOptions::at(0)
+    }
+}
+
+/// Memory that runs use again, of this allocator. No answer depends on it.
+#[derive(Drop)]
+pub struct Scratch {
+    alloc: Global,
+    state: Option<State>,
+}
+
+impl Scratch {
+    /// Holds no memory yet, and takes none.
+    pub fn new(alloc: Global) -> Scratch
+        ensures alloc { allocator_of result ≡ alloc }
+        ensures unused { IsUnused result }
+    {
+        Scratch { alloc, state: None }
+    }
+}
+
+/// Runs the program on the text from `options.pos` on, a byte of it. The answer is start and end of each group from 0
+/// up, in bytes of the text, with `usize::MAX` for a group that is not set; or none. If the program is that of a tree,
+/// these are the numbers of the first admitted way that the tree has in the text.
+///
+/// A `RuntimeError` tells which limit was passed, and `Memory` that a request for memory was refused. The scratch may
+/// be used again after either.
+pub fn run(
+    alloc: Global,
+    prog: &Prog,
+    text: &str,
+    options: &RunOptions,
+    scratch: &mut Scratch,
+) -> Result<Option<Vec<usize>>, Error>
+    requires { IsTrue (run_fits (task_of prog.now text.now options.now)) }
+    ensures machine { RunAnswers (machine.run (task_of prog.now text.now options.now)) result }
+    ensures meaning { IfOk result (λ found. Means (prog_of prog.now) text.now (options_of options.now) (numbers_of found)) }
+{
+    let task = Task {
+        prog,
+        text,
+        options,
+        alloc,
+    };
+    let mut m = scratch.begin(&task)?;
+    let answer = task.answer(&mut m);
+    scratch.state = Some(m.state);
+    answer
+}
+
+/// As `run`, with the first pair of its numbers for an answer: start and end of the match in bytes.
+pub fn run_spans(
+    alloc: Global,
+    prog: &Prog,
+    text: &str,
+    options: &RunOptions,
+    scratch: &mut Scratch,
+) -> Result<Option<(usize, usize)>, Error>
+    requires { IsTrue (run_fits (task_of prog.now text.now options.now)) }
+    ensures machine { RunAnswersPair (machine.run (task_of prog.now text.now options.now)) result }
+    ensures meaning { IfOk result (λ found. MeansPair (prog_of prog.now) text.now (options_of options.now) found) }
+{
+    let task = Task {
+        prog,
+        text,
+        options,
+        alloc,
+    };
+    let mut m = scratch.begin(&task)?;
+    let answer = task.answer_pair(&mut m);
+    scratch.state = Some(m.state);
+    answer
+}
+
+/// As `run` with default options from `pos` on, a byte of the text, and with memory of its own.
+pub fn run_default(
+    alloc: Global,
+    prog: &Prog,
+    text: &str,
+    pos: usize,
+) -> Result<Option<Vec<usize>>, Error>
+    requires { IsTrue (run_fits (default_task prog.now text.now pos)) }
+    ensures machine { RunAnswers (machine.run (default_task prog.now text.now pos)) result }
+    ensures meaning { IfOk result (λ found. Means (prog_of prog.now) text.now (default_at pos) (numbers_of found)) }
+{
+    let mut scratch = Scratch::new(alloc);
+    run(alloc, prog, text, &RunOptions::at(pos), &mut scratch)
+}
+
+impl Scratch {
+    /// A machine at the start of the task, with the scratch's memory.
+    fn begin(&mut self, task: &Task<'_>) -> Result<Machine, Error>
+        ensures begins { IfOk result (λ m. config_of m ≡ machine.begin (meant task.now)) }
+        ensures made { IfOk result (IsMade task.now) }
+        ensures err { IfErr result IsMemory }
+    {
+        let slots = task.prog.parts.slots;
+        let state = match self.state.take() {
+            None => State::new(self.alloc, slots, MAX_BRANCHES)?,
+            Some(state) => state.renew(slots, MAX_BRANCHES)?,
+        };
+        Ok(Machine::begin(task, state))
+    }
+}
+
+impl Task<'_> {
+    /// Steps until a match is found, which the machine then holds, or none is there.
+    fn run(&self, m: &mut Machine) -> Result<bool, Error>
+        requires made { IsMade self.now m.old }
+        requires begins { config_of m.old ≡ machine.begin (meant self.now) }
+        ensures finds { Finds self.now (machine.run (meant self.now)) result m.new }
+        ensures made { IsMade self.now m.new }
+    {
+        'steps: for _step in 0..self.options.step_limit {
+            match self.step(m)? {
+                Next::On => {}
+                Next::Matched => return Ok(true),
+                Next::Failed => return Ok(false),
+            }
+        }
+        Err(Error::RuntimeError(RuntimeError::StepLimitExceeded))
+    }
+
+    /// The numbers that the run answers.
+    fn answer(&self, m: &mut Machine) -> Result<Option<Vec<usize>>, Error>
+        requires made { IsMade self.now m.old }
+        requires begins { config_of m.old ≡ machine.begin (meant self.now) }
+        ensures { RunAnswers (machine.run (meant self.now)) result }
+    {
+        if !self.run(m)? {
+            return Ok(None);
+        }
+        Ok(Some(self.numbers(m)?))
+    }
+
+    /// The first pair of the numbers that the run answers.
+    fn answer_pair(&self, m: &mut Machine) -> Result<Option<(usize, usize)>, Error>
+        requires made { IsMade self.now m.old }
+        requires begins { config_of m.old ≡ machine.begin (meant self.now) }
+        requires implicit { self.now.prog.now.parts.explicit_group_0 ≡ false }
+        ensures { RunAnswersPair (machine.run (meant self.now)) result }
+    {
+        if !self.run(m)? {
+            return Ok(None);
+        }
+        Ok(Some(self.first_pair(m)))
+    }
+}
