@@ -1,10 +1,12 @@
 -- A search by the engine's calls answers as is promised.
-use Rattle.std.proofs.Common.{◌≡◌, ℕ, Bool, true, false, not, ◌&&◌, ◌||◌, List, length, Option, Some, None, Result, Ok, Err, refl, sym, ap, ◌∙◌, subst}
+use Rattle.std.proofs.Common.{◌≡◌, ℕ, Bool, true, false, not, ◌&&◌, ◌||◌, List, length, Option, Some, None, Result, Ok, Err, refl, sym, ap, ◌∙◌, subst, le-leb}
 use Rattle.std.specs.Prelude.{IfOk, IsUtf8}
 use Rattle.std.specs.declared.vec.Vec.{Vec}
 use Rattle.std.specs.declared.alloc.Global.{Global}
 use Rattle.std.proofs.lemmas.Bool.{and_parts, and_from}
 use Rattle.std.proofs.lemmas.Str.{IsCharBoundary-start}
+use Rattle.std.specs.Str.{IsCharBoundary}
+use Rattle.regex.proofs.Utf8Lemmas.{test_of_IsCharBoundary}
 use Rattle.fancy_meaning.specs.Instr as plain_program
 use Rattle.fancy_meaning.specs.Layout.{undelegated_layout}
 use Rattle.fancy_meaning.specs.Machine as machine
@@ -36,6 +38,7 @@ use Rattle.fancy_search.specs.Searches as searches
 use Rattle.fancy_search.specs.declared.search.SearchOptions.{SearchOptions}
 use Rattle.fancy_search.specs.Searches.{IsCompiledFrom, Promises, input_of, limit_of, program, program_of, instructions_of, options_fit, search_fits}
 
+-- where a character begins or the text ends, the test for a place says yes
 pub place_of : (text : List ℕ) (i : ℕ) → IsCharBoundary text i → is_place text i ≡ true
 place_of text i h = and_from _ _ (le-leb _ _ h.0) (test_of_IsCharBoundary text i h)
 
