@@ -1,4 +1,4 @@
--- The code's tests to refuse a tree, and the plain error of each error of the code.
+-- When a tree is refused by the code.
 use Rattle.std.specs.Prelude.{◌≡◌, ℕ, ◌+◌, ◌-◌, Bool, false, [], IsTrue, ◌&&◌, not, if◌then◌else◌, string_bytes, ◌==◌, length}
 use Rattle.std.specs.List.{list_any}
 use Rattle.fancy_meaning.specs.Tree as plain
