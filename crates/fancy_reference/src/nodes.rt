@@ -1,4 +1,4 @@
-//! Nodes with the numbers of their groups and the look-around that they stand in, their children, and the group of a number.
+//! Nodes with their group numbers and the look-around around them, their children, and the group of a number.
 
 ghost use Rattle.std.specs.Prelude.{◌≡◌, ◌+◌, ◌<◌, ◌≤◌, ◌^◌, length, map, IfOk, IfSome, option_map};
 ghost use Rattle.fancy_meaning.specs.Nodes.{group_count, groups, body_in};
