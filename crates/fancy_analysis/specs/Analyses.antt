@@ -1,4 +1,4 @@
--- What the analysis answers.
+-- What `analyze` answers: a tree of `Info`s that is right, or an error that holds.
 use Rattle.std.specs.Prelude.{◌≡◌}
 use Rattle.fancy_meaning.specs.AnalysisRefusals.{AnalysisRefuses}
 use Rattle.fancy_meaning.specs.Options.{ParsedTree, AnalysisOptions, analysis_of}

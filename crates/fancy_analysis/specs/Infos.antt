@@ -1,4 +1,4 @@
--- What an `Info` says: the tree that it stands for, and what was found of each of its nodes.
+-- The views of an `Info`: the tree that it stands for, and the facts that it says of each node.
 use Rattle.std.specs.Prelude.{◌≡◌, ℕ, zero, suc, ◌+◌, Bool, false, List, [], ◌∷◌, map, length}
 use Rattle.fancy_meaning.specs.Tree as plain
 use Rattle.fancy_meaning.specs.Tree.{Tree, Trees, none, more, trees}

@@ -1,4 +1,4 @@
--- Back references behind a call of their group, in the group.
+-- References behind a call of their group, inside it, found by one walk in the order of the tree.
 use Rattle.std.specs.Prelude.{ℕ, Bool, false, ◌&&◌, ◌||◌, ◌==◌, List, [], ◌∷◌, ◌++◌}
 use Rattle.fancy_meaning.specs.Tree.{Tree, Trees, none, more, Concat, Alt, Group, LookAround, Repeat, AtomicGroup, DefineGroup, Conditional, AbsentRepeater, AbsentStopper, AbsentExpression, Backref, SubroutineCall}
 use Rattle.fancy_analysis.specs.declared.late_reads.Met.{Met}

@@ -1,4 +1,4 @@
--- What leads from one target to another: tracked calls, and from the whole tree to its outer groups.
+-- Links from target to target: tracked calls, and from the whole tree to its outer groups.
 use Rattle.std.specs.Prelude.{◌≡◌, ℕ, Bool, true, false, ◌||◌, ◌&&◌, not, List, filter_map, Option, Some, None, if◌then◌else◌, ◌==◌}
 use Rattle.fancy_meaning.specs.Tree as plain
 use Rattle.fancy_meaning.specs.Tree.{Tree}

@@ -1,4 +1,4 @@
--- A node's size and hardness, by those of its children.
+-- A node's size and hardness from those of its children, and when an `Info` was made right.
 use Rattle.std.specs.Prelude.{◌≡◌, ℕ, zero, suc, ◌+◌, Bool, true, false, ◌&&◌, ◌||◌, not, ◌==◌, List, [], ◌∷◌, ◌++◌, map, length, slice_index_or}
 use Rattle.fancy_meaning.specs.Tree as plain
 use Rattle.fancy_meaning.specs.Tree.{Tree, trees}

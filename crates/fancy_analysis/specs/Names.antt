@@ -1,4 +1,4 @@
--- The names of groups, and how the least that is left recursive is described.
+-- The names of groups, and the description of the least group that is left recursive.
 use Rattle.std.specs.Prelude.{ℕ, List, map, string_bytes, String, Vec}
 use Rattle.std.specs.Global.{Global}
 use Rattle.fancy_meaning.specs.Tree.{Tree}

@@ -1,4 +1,4 @@
--- What links reach, and which lead into a cycle.
+-- Flags of targets: those that links reach, and those that lead into a cycle.
 use Rattle.std.specs.Prelude.{◌≡◌, ℕ, ◌<◌, Bool, true, false, not, ◌⊎◌, ◌↔◌, List, length, Contains, All, slice_index_or, count_by}
 use Rattle.fancy_analysis.specs.declared.links.Link.{Link}
 

@@ -1,4 +1,4 @@
--- Which groups are read.
+-- The test whether the group that a node reads is this one.
 use Rattle.std.specs.Prelude.{ℕ, Bool, false, Option, Some, None, nat_eq}
 
 -- the number is this one

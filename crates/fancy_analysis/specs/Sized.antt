@@ -1,4 +1,4 @@
--- The definitions' sizes of the code's.
+-- The view of a `Size`: the size of the definitions.
 use Rattle.fancy_analysis.specs.declared.size.Size.{Size}
 use Rattle.fancy_meaning.specs.Sizes as plain
 

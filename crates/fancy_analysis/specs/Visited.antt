@@ -1,4 +1,4 @@
--- What the walk gives for a node.
+-- What the visit of one node gives: its `Info`, and the next group's number.
 use Rattle.std.specs.Prelude.{◌≡◌, ℕ, ◌+◌}
 use Rattle.fancy_meaning.specs.Tree as plain
 use Rattle.fancy_meaning.specs.Nodes.{group_count}

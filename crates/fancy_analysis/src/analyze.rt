@@ -1,4 +1,4 @@
-//! The analysis of a tree.
+//! `analyze`: refusals, sizes in rounds, the visit, refusals for calls; and `can_compile_as_anchored`.
 
 ghost use Rattle.std.specs.Prelude.{◌≡◌, ◌&&◌, ◌||◌, ◌==◌, MatchResult};
 ghost use Rattle.fancy_meaning.specs.Laws.{can_be_anchored, is_anchor};

@@ -1,4 +1,4 @@
-//! How a tree is analysed.
+//! The options of the analysis.
 
 ghost use Rattle.std.specs.Prelude.{◌≡◌, false};
 

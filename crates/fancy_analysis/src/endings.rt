@@ -1,4 +1,4 @@
-//! What can end.
+//! Targets that can end, as a set that grows in rounds until none is added.
 
 ghost use Rattle.std.specs.Prelude.{
   ◌≡◌,

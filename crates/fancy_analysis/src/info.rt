@@ -1,4 +1,4 @@
-//! What the analysis says of a node.
+//! `Info`, a node with its group numbers, size, hardness and options, and its readers.
 
 ghost use Rattle.std.specs.Prelude.{◌≡◌};
 ghost use Rattle.fancy_analysis.specs.Infos.{info_children, info_facts, info_size, is_look};

@@ -1,4 +1,4 @@
-//! Back references behind a call of their group, in the group.
+//! References that stand, inside a group, behind a call of that group: one walk in the order of the tree.
 
 ghost use Rattle.std.specs.Prelude.{◌≡◌, ◌==◌, ℕ, IsFalse, IsTrue};
 ghost use Rattle.std.specs.List.{list_any};

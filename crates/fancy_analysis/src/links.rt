@@ -1,4 +1,4 @@
-//! What leads from one target to another: the calls of a tree, and its outer groups.
+//! Links from target to target: the tracked calls of a tree, and its outer groups.
 
 ghost use Rattle.std.specs.Prelude.{◌≡◌, ◌++◌, IfOk, option_to_list};
 ghost use Rattle.fancy_meaning.specs.Sizes.{known_of, size};

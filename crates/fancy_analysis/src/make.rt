@@ -1,4 +1,4 @@
-//! What the analysis says of a node, by what it says of its children.
+//! The `Info` of one node, its size and hardness, from those of its children.
 
 ghost use Rattle.std.specs.Prelude.{◌≡◌, map, slice_index_or, false};
 ghost use Rattle.fancy_meaning.specs.Hard.{is_hard_assertion, is_in_behind, is_outside};

@@ -1,4 +1,4 @@
-//! Which targets are reached, and which lead into a cycle.
+//! The targets that links reach, and those that lead into a cycle, as sets of flags.
 
 ghost use Rattle.std.specs.Prelude.{◌≡◌, ◌<◌, ◌≤◌, ◌↔◌, ◌&&◌, ◌⊎◌, ℕ, Bool, All, IfOk, IsFalse, IsTrue, MatchBool, MatchOption, length, true};
 ghost use Rattle.fancy_analysis.specs.Reached.{

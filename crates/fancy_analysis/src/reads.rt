@@ -1,4 +1,4 @@
-//! Which groups are read.
+//! The groups that back references and existence conditions read, as flags.
 
 ghost use Rattle.std.specs.Prelude.{◌≡◌, ◌+◌, ◌&&◌, ◌||◌, ℕ, IfOk, false, length, nat_lt, replicate, slice_index_or};
 ghost use Rattle.fancy_meaning.specs.Nodes.{is_read, read_by};

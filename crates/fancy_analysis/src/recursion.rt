@@ -1,4 +1,4 @@
-//! Groups that call themselves before anything is taken.
+//! Left recursion: groups that call themselves before anything is taken, and the least one's description.
 
 ghost use Rattle.std.specs.Prelude.{◌≡◌, ◌++◌, ◌↔◌, ℕ, List, Contains, IfOk, IsTrue, MatchOption, MatchResult, codes, decimal, string_bytes};
 ghost use Rattle.fancy_meaning.specs.AnalysisRefusals.{Describes, IsLeastName, IsNamed};

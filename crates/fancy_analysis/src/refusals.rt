@@ -1,4 +1,4 @@
-//! When a tree is refused.
+//! Refusals: those that one node causes, those of the tree's fields, and those about calls.
 
 ghost use Rattle.std.specs.Prelude.{◌≡◌, ◌≤◌, ◌+◌, ◌-◌, ℕ, MatchOption, MatchResult, false, if◌then◌else◌};
 ghost use Rattle.fancy_meaning.specs.AnalysisRefusals.{AnalysisRefuses};

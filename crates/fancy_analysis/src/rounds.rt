@@ -1,4 +1,4 @@
-//! The sizes of groups, round by round.
+//! The sizes of groups, round by round, until a round changes nothing.
 
 ghost use Rattle.std.specs.Prelude.{◌≡◌, ◌≤◌, ◌++◌, IfOk, IsTrue, map, replicate};
 ghost use Rattle.fancy_meaning.specs.Nodes.{group_count, groups};

@@ -1,4 +1,4 @@
-//! How many characters a node takes.
+//! `Size`, how many characters a node takes: the least, the greatest, whether always as many; and how sizes join.
 
 ghost use Rattle.std.specs.Prelude.{◌≡◌, false};
 ghost use Rattle.fancy_meaning.specs.Sizes.{between, either, exactly, plus, times, unknown};

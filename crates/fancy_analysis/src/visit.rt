@@ -1,4 +1,4 @@
-//! The walk that analyses a tree.
+//! The visit of a tree that makes an `Info` of each node, children first.
 
 ghost use Rattle.std.specs.Prelude.{◌≡◌, ◌+◌, ◌<◌, ◌^◌, IfOk};
 ghost use Rattle.fancy_meaning.specs.Nodes.{group_count};

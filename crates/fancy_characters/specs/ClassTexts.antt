@@ -1,4 +1,4 @@
--- A class by its text, and the pattern that `regex` compiles for it.
+-- A class by its text: the pattern that `regex` compiles for it, and its answers for ASCII.
 use Rattle.std.specs.Prelude.{◌≡◌, ℕ, ◌+◌, ◌-◌, ◌<◌, Bool, false, List, length, slice_range, slice_index_or, Option, IfSome}
 use Rattle.regex.specs.Strings.{regex_source, regex_config, IsReadFromSource}
 use Rattle.regex.specs.declared.string.regex.Regex.{Regex}

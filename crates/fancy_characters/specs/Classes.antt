@@ -1,4 +1,4 @@
--- What a matcher of one character takes, and why a class is refused.
+-- What a matcher of one character takes, and when a class text is refused.
 use Rattle.std.specs.Prelude.{◌≡◌, ℕ, Bool, List, Option, Some, None, IsTrue, IsFalse, ⊤, string_bytes}
 use Rattle.fancy_meaning.specs.Chars.{is_class}
 use Rattle.fancy_meaning.specs.Instr as plain

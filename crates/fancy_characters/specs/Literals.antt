@@ -1,4 +1,4 @@
--- What a literal takes of which some characters are folded.
+-- What a literal takes, of which each character is folded or not.
 use Rattle.std.specs.Prelude.{ℕ, Bool, List, map}
 use Rattle.fancy_meaning.specs.Chars.{literal_takes}
 use Rattle.fancy_characters.specs.declared.folding.CaseiLiteral.{CaseiLiteral}

@@ -1,4 +1,4 @@
--- The characters beyond ASCII that a pattern matches, listed as ranges.
+-- The members beyond ASCII of a pattern that is one set, as ranges.
 use Rattle.std.specs.Prelude.{◌≡◌, ℕ, ◌≤◌, Bool, List, Option, is_some, encode_utf8, option_and_then}
 use Rattle.std.specs.Char.{IsScalar}
 use Rattle.regex_class.specs.Ranges.{Range, in_ranges}

@@ -1,4 +1,4 @@
-//! Tests on one character.
+//! Matchers of one character: a class or a newline (`CharClassMatcher`).
 
 ghost use Rattle.std.specs.Prelude.{◌≡◌, ◌+◌, ◌≤◌, Some, length, option_map, IfOk, IfErr, IfSome, IsTrue};
 ghost use Rattle.regex_hir.specs.Text as spelled;

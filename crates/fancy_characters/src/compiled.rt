@@ -1,4 +1,4 @@
-//! A class of characters that `regex` has compiled.
+//! A class that `regex` has compiled, with its answers for ASCII and, where they are listed, its other members.
 
 ghost use Rattle.std.specs.Prelude.{◌≡◌, ℕ, ◌<◌, ◌++◌, false, is_some, slice_index_or, encode_utf8, string_bytes, IfOk, IfErr, IsTrue};
 ghost use Rattle.regex.specs.Patterns.{find_str};

@@ -1,4 +1,4 @@
-//! Characters that are equal by simple case folding.
+//! Simple case folding: characters and texts that fold to the same, and literals with folded characters.
 
 ghost use Rattle.std.specs.Prelude.{◌≡◌, ◌+◌, ◌≤◌, max, length, chars, option_map, IfSome};
 ghost use Rattle.std.specs.Char.{to_ascii_lowercase};

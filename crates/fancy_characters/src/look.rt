@@ -1,4 +1,4 @@
-//! Where assertions hold.
+//! Assertions: the table of where each holds, of text, line and word.
 
 ghost use Rattle.std.specs.Prelude.{◌≡◌, ◌==◌, ◌||◌, ◌&&◌};
 ghost use Rattle.fancy_meaning.specs.Assertions as meant;

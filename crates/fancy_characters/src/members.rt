@@ -1,4 +1,4 @@
-//! The members of a class beyond ASCII, read once from its pattern.
+//! The members of a class beyond ASCII as ranges, read once from its pattern.
 
 ghost use Rattle.std.specs.Prelude.{IfOk, IfSome};
 ghost use Rattle.regex_hir.specs.Meaning.{meaning};

@@ -1,4 +1,4 @@
-//! A piece of a text that stands there once more.
+//! Back references: where a piece of the text that stands there once more ends, folded or not.
 
 ghost use Rattle.std.specs.Prelude.{◌≡◌, true, slice_range};
 ghost use Rattle.std.specs.List.{list_all};

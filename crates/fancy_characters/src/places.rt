@@ -1,4 +1,4 @@
-//! Places of a text, and what stands at them.
+//! Places of a text: whether a byte is one, what stands there, and the place past bytes or a character.
 
 ghost use Rattle.std.specs.Prelude.{◌≡◌};
 ghost use Rattle.regex_hir.specs.Text.{has_bytes_at};

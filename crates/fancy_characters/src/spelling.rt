@@ -1,4 +1,4 @@
-//! The characters that bytes spell, one after the other. Bytes that are no text spell some numbers too.
+//! The characters that bytes spell, one after the other; bytes that are no text spell some numbers too.
 
 ghost use Rattle.std.specs.Prelude.{◌≡◌, ◌<◌, ◌≤◌, [], ◌∷◌, drop, length, IfSome, IfNone};
 ghost use Rattle.std.specs.Char as char;

@@ -1,4 +1,4 @@
--- What the words of the command line say.
+-- The question that the words of a command line ask, and the options that they make.
 use Rattle.std.specs.Prelude.{ℕ, ◌-◌, ◌^◌, Bool, true, false, not, List, [], ◌∷◌, Option, Some, None, is_some, unwrap_or, codes}
 use Rattle.fancy_meaning.specs.Options.{RunOptions}
 use Rattle.fancy_meaning.specs.Places.{is_place}

@@ -1,4 +1,4 @@
--- What the program does.
+-- What the program does: which line it writes on which stream, and with which status.
 use Rattle.std.specs.Prelude.{◌≡◌, ℕ, Bool, List, length, Option, Some, None, Result, Ok, Err, string_bytes, if◌then◌else◌}
 use Rattle.std.specs.declared.vec.Vec.{Vec}
 use Rattle.std.specs.declared.string.String.{String}

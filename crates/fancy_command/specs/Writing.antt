@@ -1,4 +1,4 @@
--- What is left of a line on a stream.
+-- A line on a stream that takes all of it, or only a part from its start.
 use Rattle.std.specs.Prelude.{ℕ, ◌<◌, Bool, true, false, List, length, take, Option}
 use Rattle.std.specs.Io.KnownBytes.{Appends}
 

@@ -1,4 +1,4 @@
-//! The words after TREE and TEXT on the command line.
+//! The words after TREE and TEXT: a position, flags and limits, and the options that they make.
 
 ghost use Rattle.std.specs.Prelude.{◌≡◌, ℕ, ◌+◌, ◌^◌, ◌<◌, false, None, Some, map, string_bytes};
 ghost use Rattle.fancy_notation.specs.Words.{found, number_of};

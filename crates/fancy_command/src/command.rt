@@ -1,4 +1,4 @@
-//! The program: a search by a command line.
+//! `command`: from the words of a command line to a line on a stream and a status.
 
 ghost use Rattle.std.specs.Prelude.{◌≡◌, IfSome, IsTrue, map, option_map, string_bytes};
 ghost use Rattle.fancy_meaning.specs.Places.{is_place};

@@ -1,4 +1,4 @@
-//! What the program prints.
+//! The lines of the program: numbers, names of refusals and limits, usage; and writing one.
 
 ghost use Rattle.std.specs.Prelude.{◌≡◌, ◌++◌, IfOk, OnOk, map, option_map, string_bytes};
 ghost use Rattle.fancy_expr.specs.declared.error.Error.TheVariants as error;

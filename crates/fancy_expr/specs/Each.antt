@@ -1,4 +1,4 @@
--- What holds of each element of a list, as one pair after the other.
+-- Of each element of a list something holds, as nested pairs.
 use Rattle.std.specs.Prelude.{List, [], ◌∷◌}
 
 abbrev pub Each : {X : Type 0} → (X → Type 0) → List X → Type 0

@@ -1,4 +1,4 @@
--- The nodes of an `Expr`.
+-- The nodes of an `Expr`, and those directly below one.
 use Rattle.std.specs.Prelude.{List, [], ◌∷◌, ◌++◌}
 use Rattle.fancy_expr.specs.declared.expr.Expr.{Expr, Row_of-Expr, end_of-Expr, more_of-Expr}
 use Rattle.fancy_expr.specs.declared.expr.Expr.TheVariants.{Literal, Concat', Alt', Group', LookAround', Repeat', AtomicGroup', Conditional', DefineGroup'}

@@ -1,4 +1,4 @@
--- What is asked of nodes.
+-- The questions that `find_node` and `has_node` answer of the nodes of a tree.
 use Rattle.std.specs.Prelude.{ℕ, Bool, true, false, not, ◌&&◌, ◌||◌, List, nat_eq, nat_lt, nat_le, ◌==◌}
 use Rattle.std.specs.List.{list_any}
 use Rattle.fancy_meaning.specs.Tree as plain

@@ -1,4 +1,4 @@
--- What each node of a tree has to be.
+-- A well-formed tree of the code: its plain tree is well-formed, and each literal is one character.
 use Rattle.std.specs.Prelude.{◌≡◌, All, length, string_bytes, chars}
 use Rattle.fancy_meaning.specs.WellFormed.{IsFine, IsWellFormed}
 use Rattle.fancy_expr.specs.declared.expr.Expr.{Expr}

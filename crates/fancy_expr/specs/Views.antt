@@ -1,4 +1,4 @@
--- What the types of the code stand for: the tree of an `Expr`, what comes with a tree, and the options of its analysis.
+-- The views of the code's types: the plain tree of an `Expr`, and what comes with an `ExprTree`.
 use Rattle.std.specs.Prelude.{ℕ, ◌-◌, ◌^◌, Option, Some, None, if◌then◌else◌, ◌==◌, slice_index, string_bytes, chars, map}
 use Rattle.fancy_expr.specs.declared.expr.Expr.{Expr, Row_of-Expr, end_of-Expr, more_of-Expr}
 use Rattle.fancy_expr.specs.declared.expr.Expr.TheVariants as code

@@ -1,4 +1,4 @@
--- What a walk down a tree carries along.
+-- What a walk down a tree carries along: the innermost look-around, and the number of the next group.
 use Rattle.std.specs.Prelude.{ℕ, suc}
 use Rattle.fancy_meaning.specs.Tree as plain
 use Rattle.fancy_meaning.specs.Numbering.{within}

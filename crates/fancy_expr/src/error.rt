@@ -1,4 +1,4 @@
-//! What can go wrong.
+//! The errors of the engine: why a tree is not read or refused, which limit a run passed, want of memory.
 
 ghost use Rattle.std.specs.Prelude.{◌≡◌};
 ghost use Rattle.fancy_expr.specs.declared.error.Error.TheVariants.{Memory};

@@ -1,4 +1,4 @@
-//! The trees that the engine is given.
+//! Trees: `Expr` and its parts, and `ExprTree`, a tree with what its reader says of it.
 
 pub use crate::well_formed::is_well_formed;
 use std::collections::{BTreeMap, BTreeSet};

@@ -1,4 +1,4 @@
-//! Questions about the nodes of a tree, answered in one walk.
+//! Questions about the nodes of a tree: whether some node is such, and which is the first, in one walk.
 
 ghost use Rattle.std.specs.Prelude.{◌≡◌, MatchOption, false, true, Contains};
 ghost use Rattle.std.specs.List.{list_any};

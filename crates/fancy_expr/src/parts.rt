@@ -1,4 +1,4 @@
-//! The children of a node.
+//! The children of a node: how many, and each by its index.
 
 ghost use Rattle.std.specs.Prelude.{◌≡◌, ◌<◌, length, slice_index_or};
 ghost use Rattle.fancy_expr.specs.Exprs.{below, below_absent};

@@ -1,4 +1,4 @@
-//! The test on single nodes of a tree.
+//! The test on one node: its numbers are within their types, and a literal is one character.
 
 ghost use Rattle.std.specs.Prelude.{◌≡◌, ◌<◌, ◌^◌, ◌↔◌, All, IfSome, FitsSigned, IsTrue, true, length, chars};
 ghost use Rattle.std.specs.Int.{w64};

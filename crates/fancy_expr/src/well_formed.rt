@@ -1,4 +1,4 @@
-//! Which trees may be handed in.
+//! The test whether a tree may be handed in: each node, and the fields that come with the tree.
 
 ghost use Rattle.std.specs.Prelude.{◌≡◌, ◌<◌, ◌≤◌, ◌↔◌, ℕ, Bool, All, Contains, IfSome, IsFalse, IsTrue, true, false};
 ghost use Rattle.std.specs.List.{list_any, list_all};

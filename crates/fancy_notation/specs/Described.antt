@@ -1,4 +1,4 @@
--- What comes with a tree that was read.
+-- What comes with a tree that was read: references, group count, calls.
 use Rattle.std.specs.Prelude.{◌≡◌, ℕ, Bool, true, false, List, [], ◌∷◌, filter_map, Option, Some, None, if◌then◌else◌, nat_lt, nat_le}
 use Rattle.std.specs.List.{list_any}
 use Rattle.std.specs.Ordering.{nat_cmp}

@@ -1,4 +1,4 @@
--- Where the tokens of a text cease to be those of an expression.
+-- Where a fault is: the first token, or the end, that no expression goes on with.
 use Rattle.std.specs.Prelude.{◌≡◌, ℕ, List, [], ◌∷◌, ◌++◌}
 use Rattle.fancy_meaning.specs.Tree.{Tree}
 use Rattle.fancy_notation.specs.Tokens.{Placed}

@@ -1,4 +1,4 @@
--- Which tokens spell which tree.
+-- The grammar: which tokens spell which tree, as a relation between a point before and one behind.
 use Rattle.std.specs.Prelude.{◌≡◌, ℕ, ℤ, suc, Bool, true, false, List, [], ◌∷◌, ◌++◌, map, chars, Option, Some, None, if◌then◌else◌, nat_lt}
 use Rattle.fancy_meaning.specs.Tree as plain
 use Rattle.fancy_meaning.specs.Tree.{Tree, trees}

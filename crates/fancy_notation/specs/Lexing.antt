@@ -1,4 +1,4 @@
--- The tokens of a text.
+-- The lexer as a machine of modes: which tokens a text has.
 use Rattle.std.specs.Prelude.{ℕ, ◌+◌, ◌*◌, Bool, true, false, ◌&&◌, List, [], ◌∷◌, ◌++◌, if◌then◌else◌, ◌==◌, nat_lt, codes, chars, encode_utf8}
 use lib.Utf8.{scalar}
 use Rattle.std.specs.Char.{len_utf8, digit_value}

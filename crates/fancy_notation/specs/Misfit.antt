@@ -1,4 +1,4 @@
--- The first token that cannot stand where it stands: what may come next is kept as a stack.
+-- The first token that cannot stand where it stands, with what may come next kept as a stack.
 use Rattle.std.specs.Prelude.{ℕ, List, [], ◌∷◌, ◌++◌, Option, Some, None}
 use Rattle.fancy_notation.specs.declared.forms.Form.{Form}
 use Rattle.fancy_notation.specs.declared.forms.Form.TheVariants as form

@@ -1,4 +1,4 @@
--- What the values of the reader stand for.
+-- The views of the reader's values: tokens, lexer, points, survey.
 use Rattle.std.specs.Prelude.{List, map, string_bytes}
 use Rattle.fancy_notation.specs.declared.tokens.Token.{Token}
 use Rattle.fancy_notation.specs.declared.tokens.Token.TheVariants as code

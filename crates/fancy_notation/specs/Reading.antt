@@ -1,4 +1,4 @@
--- What the calls of the reader answer.
+-- The contracts of the reader's calls: what each reads, or where it fails.
 use Rattle.std.specs.Prelude.{◌≡◌, ℕ, Bool, List, map, [], ◌∷◌, ◌++◌, Option, Some, None, Result, Ok, Err}
 use Rattle.fancy_meaning.specs.Tree.{Tree}
 use Rattle.fancy_expr.specs.Views.{tree_of}

@@ -1,4 +1,4 @@
--- The tokens of the notation.
+-- Tokens as plain values, with the byte of each.
 use Rattle.std.specs.Prelude.{ℕ, Bool, List}
 
 pub data Token : Type 0 where

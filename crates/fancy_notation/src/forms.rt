@@ -1,4 +1,4 @@
-//! The words of the notation.
+//! The head words of the notation, by what follows them: `Form` and its parts.
 
 use fancy_expr::expr::LookAround;
 

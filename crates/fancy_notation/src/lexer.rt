@@ -1,4 +1,4 @@
-//! From a text to its tokens.
+//! The lexer: from a text to its tokens, with the byte of each.
 
 ghost use Rattle.std.specs.Prelude.{◌≡◌, [], MatchResult};
 ghost use Rattle.fancy_expr.specs.declared.error.Error.TheVariants.{Memory};

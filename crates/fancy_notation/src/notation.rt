@@ -1,4 +1,4 @@
-//! The reader of the notation.
+//! `read_tree`: lexer, reader and survey, one after the other.
 
 ghost use Rattle.std.specs.Prelude.{◌≡◌, [], length, MatchResult};
 ghost use Rattle.fancy_meaning.specs.Tree.{Tree};

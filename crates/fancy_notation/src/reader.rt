@@ -1,4 +1,4 @@
-//! From the tokens of a text to its tree.
+//! The reader by recursive descent: from tokens to an `Expr`, one form after its head word.
 
 ghost use Rattle.std.specs.Prelude.{◌≡◌, ◌<◌, ◌&&◌, ◌++◌, [], ◌∷◌, true, length, map, MatchResult, Some, None, if◌then◌else◌};
 ghost use Rattle.std.specs.Option.{option_map};

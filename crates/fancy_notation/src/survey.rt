@@ -1,4 +1,4 @@
-//! What the nodes of a tree name.
+//! What comes with a tree that was read: the groups that it names, and whether there is a call.
 
 ghost use Rattle.std.specs.Prelude.{◌≡◌, MatchResult};
 ghost use Rattle.fancy_expr.specs.declared.error.Error.TheVariants.{Memory};

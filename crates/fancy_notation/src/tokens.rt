@@ -1,4 +1,4 @@
-//! The tokens of the notation.
+//! Tokens: parentheses, words, quoted texts and broken ones, each with its byte.
 
 /// A token.
 #[derive(Drop, Debug)]

@@ -1,4 +1,4 @@
-//! What words mean.
+//! The tables of words: leaves, head words and verbs, and numbers.
 
 ghost use Rattle.std.specs.Prelude.{◌≡◌, ◌-◌, ◌^◌, if◌then◌else◌, ◌==◌, None, Some};
 ghost use Rattle.std.specs.Option.{option_map};

@@ -1,4 +1,4 @@
--- What is asked of a search.
+-- The search that the options ask for, in the words of the definitions.
 use Rattle.std.specs.Prelude.{◌≡◌, ℕ, List, ◌||◌}
 use Rattle.fancy_meaning.specs.Tree.{Tree}
 use Rattle.fancy_meaning.specs.Answer.{Search}

@@ -1,4 +1,4 @@
--- What the nodes of the code stand for.
+-- The view of a node of the code: the numbered node of the definitions.
 use Rattle.std.specs.Prelude.{◌≡◌, ℕ, ◌+◌, ◌<◌, Bool, true, false, List, [], ◌∷◌, length, map, ◌==◌}
 use Rattle.fancy_meaning.specs.Tree.{Tree, Alt, parts, children}
 use Rattle.fancy_meaning.specs.Numbering.{numbered_within}

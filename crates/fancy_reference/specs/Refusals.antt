@@ -1,4 +1,4 @@
--- When there is no answer.
+-- Why there is no answer: want of memory, or a class that is too big.
 use Rattle.std.specs.Prelude.{Bool, true, false, IsTrue, ⊤, string_bytes}
 use Rattle.fancy_meaning.specs.Chars.{is_class}
 use Rattle.fancy_expr.specs.declared.error.Error.{Error}

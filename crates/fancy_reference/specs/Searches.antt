@@ -1,4 +1,4 @@
--- What the program computes: the ways of a node, where these calls are open.
+-- What each function computes: the ways of a node, of a loop, of a list, where these calls are open.
 use Rattle.std.specs.Prelude.{ℕ, ℤ, Option, Some, None, is_some, suc, ◌-◌, ◌^◌, Bool, true, false, List, ◌∷◌, length, map, if◌then◌else◌, ◌==◌}
 use Rattle.fancy_meaning.specs.MatchState.{MatchState, Ways, fails, one_of, stays_if}
 use Rattle.fancy_meaning.specs.Loops.{at_most, unbounded}

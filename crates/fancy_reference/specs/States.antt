@@ -1,4 +1,4 @@
--- What the states of the code stand for.
+-- The view of a state of the code, and of a list of them.
 use Rattle.std.specs.Prelude.{ℕ, List, [], ◌∷◌, map, Option, Some, None}
 use Rattle.fancy_meaning.specs.MatchState.{MatchState, Span, put}
 use Rattle.fancy_meaning.specs.OpenCalls.{Depths, no_calls, opened}

@@ -1,4 +1,4 @@
-//! The bounds of a loop.
+//! The bounds of a loop, and whether it is greedy.
 
 /// With `usize::MAX` as `hi` there is no upper bound.
 #[derive(Clone, Copy)]

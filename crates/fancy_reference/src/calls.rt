@@ -1,4 +1,4 @@
-//! The calls that are open.
+//! The calls that are open, counted for each target.
 
 ghost use Rattle.std.specs.Prelude.{◌≡◌, ◌-◌, ◌+◌, ◌<◌, IfOk};
 ghost use Rattle.fancy_meaning.specs.OpenCalls.{opened};

@@ -1,4 +1,4 @@
-//! How loops go on, and which parts are carried.
+//! Loops and absent nodes: how many iterations are left, whether a loop is left, which node is a repeater.
 
 ghost use Rattle.std.specs.Prelude.{◌≡◌, ◌-◌, ◌^◌, ◌==◌, ◌&&◌};
 ghost use Rattle.fancy_reference.specs.Searches.{is_repeater, left_after};

@@ -1,4 +1,4 @@
-//! The ways of the nodes that have none below them.
+//! The ways of nodes without children: characters, assertions, references, `\K` and `\G`.
 
 ghost use Rattle.std.specs.Prelude.{◌≡◌, ◌∷◌, [], ℕ, true, IfOk, IfErr, Option, is_some, string_bytes, chars, slice_index};
 ghost use Rattle.fancy_meaning.specs.Assertions.{assertion_within, is_of_end};

@@ -1,4 +1,4 @@
-//! Lists of states.
+//! Lists of states: one or none, all of them moved or captured, and which of two lists comes first.
 
 ghost use Rattle.std.specs.Prelude.{◌≡◌, ◌∷◌, ◌==◌, ◌++◌, [], map, filter, if◌then◌else◌, IfOk};
 ghost use Rattle.fancy_meaning.specs.Loops.{prefer};

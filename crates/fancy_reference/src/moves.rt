@@ -1,4 +1,4 @@
-//! What is taken from a text: from a place the place after it, if it stands there.
+//! Moves over the text: from a place the place behind what is taken, if it stands there.
 
 ghost use Rattle.std.specs.Prelude.{◌≡◌, ◌-◌, List, map, nat_eq, true, false, suc, length, IfOk, IfErr};
 ghost use Rattle.fancy_meaning.specs.Chars.{class_takes, literal_takes};

@@ -1,4 +1,4 @@
-//! The nodes of a tree, with the numbers of their groups.
+//! Nodes with their group numbers and the look-around around them, their children, and the group of a number.
 
 ghost use Rattle.std.specs.Prelude.{◌≡◌, ◌+◌, ◌<◌, ◌≤◌, ◌^◌, length, map, IfOk, IfSome, option_map};
 ghost use Rattle.fancy_meaning.specs.Nodes.{group_count, groups, body_in};

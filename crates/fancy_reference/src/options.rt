@@ -1,4 +1,4 @@
-//! How a tree is searched for.
+//! The options of a search: groups, characters, what is admitted, and where it starts.
 
 /// How a tree is searched for.
 #[derive(Clone, Copy, Debug, PartialEq, Eq)]

@@ -1,4 +1,4 @@
-//! What a search answers: the first admitted way at the earliest start that has one.
+//! `answer`: the first admitted way at the earliest start that has one.
 
 ghost use Rattle.std.specs.Prelude.{◌≡◌, ◌+◌, ◌<◌, ◌∷◌, [], if◌then◌else◌, ◌^◌, filter, slice_get, option_map, IfOk, IfErr};
 ghost use Rattle.fancy_meaning.specs.Answer.{as_numbers, answer, is_admitted};

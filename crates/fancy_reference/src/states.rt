@@ -1,4 +1,4 @@
-//! The states of an attempt.
+//! States of an attempt: place, spans, kept start, text-end flag.
 
 ghost use Rattle.std.specs.Prelude.{◌≡◌, IfOk, OnOk};
 ghost use Rattle.fancy_meaning.specs.MatchState.{first_state, moved_to, with_span};

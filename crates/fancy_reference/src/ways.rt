@@ -1,4 +1,4 @@
-//! The ways of nodes, as lists of states.
+//! The ways of nodes with children: sequence, choice, group, loop, look-around, atomic, conditional, call, absent.
 
 ghost use Rattle.std.specs.Prelude.{◌≡◌, ◌≤◌, ◌-◌, ◌^◌, ◌==◌, ◌&&◌, ◌∷◌, [], ℕ, flat_map, length, map, option_map, true, IfOk, IfErr, IfSome};
 ghost use Rattle.fancy_meaning.specs.Loops.{repeats};

@@ -1,4 +1,4 @@
--- What a search by the engine answers, in the words of the promise.
+-- The promise filled in for a search of the code: its input, its program, its reply, and what it was compiled from.
 use Rattle.std.specs.Prelude.{◌≡◌, ℕ, Bool, false, ◌&&◌, ◌||◌, not, List, Option, length, Result, Ok, Err}
 use Rattle.std.specs.declared.vec.Vec.{Vec}
 use Rattle.std.specs.declared.alloc.Global.{Global}

@@ -1,4 +1,4 @@
-//! A search for a tree in a text by one call, and a tree that is compiled once and searched for many times.
+//! `search`, `SearchOptions`, and `Compiled`, a tree that is compiled once and searched for many times.
 
 ghost use Rattle.std.specs.Prelude.{◌≡◌, ℕ, List, None, IsTrue, IsUtf8, MatchResult, false, true};
 ghost use Rattle.fancy_meaning.specs.Fits.{run_fits};
