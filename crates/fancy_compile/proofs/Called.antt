@@ -17,7 +17,7 @@ use Rattle.fancy_analysis.specs.Infos.{info_tree, IsRoot}
 use Rattle.fancy_expr.specs.Each.{Each}
 use Rattle.fancy_analysis.proofs.GroupNumbers.{numbers}
 use Rattle.fancy_compile.specs.declared.task.Task.{Task}
-use Rattle.fancy_compile.specs.declared.task.Groups.{Groups}
+use Rattle.fancy_compile.specs.declared.group_table.Groups.{Groups}
 use Rattle.fancy_compile.specs.Nodes.{AreNumbered, IsBody, IsServed, has_target, node_count}
 use Rattle.fancy_compile.specs.Targets.{IsTable, group_trees}
 use Rattle.fancy_compile.proofs.Infos.{each_at}

@@ -10,7 +10,7 @@ use Rattle.fancy_compile.specs.Sites.{Site}
 use Rattle.fancy_expr.specs.Views.{bound_of}
 use Rattle.fancy_compile.specs.declared.around.Around.{Around}
 use Rattle.fancy_compile.specs.declared.around.Around.TheVariants as around
-use Rattle.fancy_compile.specs.declared.around.LoopKind.TheVariants as kind
+use Rattle.fancy_compile.specs.declared.loops.LoopKind.TheVariants as kind
 use Rattle.fancy_compile.specs.declared.around.Start.{Start}
 use Rattle.fancy_compile.specs.Arounds.{IsStart, around_code, opening, unknown}
 use Rattle.fancy_compile.specs.declared.compiler.Compiler.{Compiler}

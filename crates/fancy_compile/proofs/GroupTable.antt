@@ -22,7 +22,7 @@ use Rattle.fancy_analysis.proofs.Unfolded.{tree_out}
 use Rattle.fancy_compile.specs.Nodes.{AreNumbered, IsKnown, node_count}
 use Rattle.fancy_compile.specs.Targets.{is_group, is_concat, group_trees, own_trees, MarksAll}
 use Rattle.fancy_compile.proofs.Infos.{rest_at, only_one, known_child, each_at, counted, child_count}
-use Rattle.fancy_compile.proofs.Absents.{nodes_of_info}
+use Rattle.fancy_compile.proofs.AbsentLaws.{nodes_of_info}
 
 -- ---- the bodies of a node's groups
 

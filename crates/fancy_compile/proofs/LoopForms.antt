@@ -8,8 +8,8 @@ use Rattle.fancy_meaning.specs.Layout.{is_at_most_once}
 use Rattle.fancy_meaning.specs.Sizes.{size}
 use Rattle.fancy_compile.specs.Sites.{Site}
 use Rattle.fancy_expr.specs.Views.{bound_of}
-use Rattle.fancy_compile.specs.declared.around.LoopKind.{LoopKind}
-use Rattle.fancy_compile.specs.declared.around.LoopKind.TheVariants as kind
+use Rattle.fancy_compile.specs.declared.loops.LoopKind.{LoopKind}
+use Rattle.fancy_compile.specs.declared.loops.LoopKind.TheVariants as kind
 use Rattle.fancy_compile.specs.Arounds.{kind_form}
 use Rattle.fancy_compile.specs.Drafts.{Draft, Writes, hard_code}
 use Rattle.fancy_compile.proofs.Writing.{wrote_nothing}

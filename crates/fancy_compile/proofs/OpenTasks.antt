@@ -1,10 +1,10 @@
 -- How many calls of each group are open, a call at a time.
 use Rattle.std.proofs.Common.{◌≡◌, ℕ, Option, Some, None, if◌then◌else◌, ◌==◌, ap, refl, ◌∙◌, Bor}
 use Rattle.fancy_meaning.specs.OpenCalls.{Depths}
-use Rattle.fancy_compile.specs.declared.task.OpenCall.{OpenCall}
-use Rattle.fancy_compile.specs.declared.task.OpenCall.TheOpen.{OpenCall-F}
-use Rattle.fancy_compile.specs.declared.task.OpenCall.TheViews.{out-OpenCall, roll-OpenCall}
-use Rattle.fancy_compile.specs.declared.task.OpenCall.TheFolds.{fold_out-OpenCall, fold-roll-OpenCall, map-OpenCall}
+use Rattle.fancy_compile.specs.declared.calls.OpenCall.{OpenCall}
+use Rattle.fancy_compile.specs.declared.calls.OpenCall.TheOpen.{OpenCall-F}
+use Rattle.fancy_compile.specs.declared.calls.OpenCall.TheViews.{out-OpenCall, roll-OpenCall}
+use Rattle.fancy_compile.specs.declared.calls.OpenCall.TheFolds.{fold_out-OpenCall, fold-roll-OpenCall, map-OpenCall}
 use Rattle.fancy_compile.specs.OpenTasks.{depths_in, depths_step, outer_depths, depths_of}
 
 abbrev pub depth_by : ℕ → ℕ → ℕ → ℕ → ℕ

@@ -25,7 +25,7 @@ use Rattle.fancy_analysis.specs.declared.info.Info.TheFolds.{fold-Info}
 use Rattle.fancy_analysis.specs.Infos.{node_over, info_tree, info_facts, info_size, info_hard, info_children, IsNode, IsAnalysed}
 use Rattle.fancy_expr.specs.Each.{Each}
 use Rattle.fancy_compile.specs.declared.task.Task.{Task}
-use Rattle.fancy_compile.specs.declared.task.Groups.{Groups}
+use Rattle.fancy_compile.specs.declared.group_table.Groups.{Groups}
 use Rattle.fancy_compile.specs.OpenTasks.{depths_of}
 use Rattle.fancy_compile.specs.declared.around.Around.TheVariants as around
 use Rattle.fancy_compile.specs.Arounds.{around_code}

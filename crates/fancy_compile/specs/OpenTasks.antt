@@ -2,9 +2,9 @@
 use Rattle.std.specs.Prelude.{Option, Some, None, if◌then◌else◌, ◌==◌}
 use Rattle.std.specs.Borrow.{Bor}
 use Rattle.fancy_meaning.specs.OpenCalls.{Depths}
-use Rattle.fancy_compile.specs.declared.task.OpenCall.{OpenCall}
-use Rattle.fancy_compile.specs.declared.task.OpenCall.TheOpen.{OpenCall-F}
-use Rattle.fancy_compile.specs.declared.task.OpenCall.TheFolds.{fold-OpenCall}
+use Rattle.fancy_compile.specs.declared.calls.OpenCall.{OpenCall}
+use Rattle.fancy_compile.specs.declared.calls.OpenCall.TheOpen.{OpenCall-F}
+use Rattle.fancy_compile.specs.declared.calls.OpenCall.TheFolds.{fold-OpenCall}
 
 abbrev pub outer_depths : Option (Bor Depths) → Depths
 outer_depths None g = 0

@@ -11,7 +11,7 @@ use Rattle.fancy_expr.specs.declared.expr.Expr.TheVariants as code
 use Rattle.fancy_analysis.specs.declared.info.Info.{Info}
 use Rattle.fancy_analysis.specs.Infos.{info_tree, info_facts, info_children}
 use Rattle.fancy_expr.specs.Each.{Each}
-use Rattle.fancy_compile.specs.declared.task.Groups.{Groups}
+use Rattle.fancy_compile.specs.declared.group_table.Groups.{Groups}
 use Rattle.fancy_compile.specs.Nodes.{node_count, IsKnown, IsBody}
 
 abbrev pub is_group : Expr → Bool

@@ -1,18 +1,12 @@
-//! What stands around a node.
+//! Constructs with one body: group, atomic, look-around, loop.
 
-ghost use Rattle.std.specs.Prelude.{◌<◌, ◌^◌, ◌-◌};
+ghost use Rattle.std.specs.Prelude.{[], ◌-◌, ◌<◌, ◌^◌};
 
-/// How a loop is written. Without `Counted` there is no bound but that of the name.
-#[derive(Clone, Copy)]
-pub enum LoopKind {
-    AtMostOnce,
-    /// The body may take nothing.
-    Epsilon { lo: usize },
-    Star,
-    Plus,
-    /// `usize::MAX` is no bound.
-    Counted { lo: usize, hi: usize },
-}
+use crate::compiler::Compiler;
+use crate::loops::LoopKind;
+use crate::task::Task;
+use fancy_analysis::info::Info;
+use fancy_vm::vm::Insn;
 
 /// What stands around a node.
 #[derive(Clone, Copy)]
@@ -34,4 +28,73 @@ pub struct Start {
     pub fresh: usize,
     ghost low: { base < 2 ^ 64 - 2 },
     ghost small: { fresh < 2 ^ 64 - 2 },
+}
+
+impl Compiler {
+    ghost use Rattle.fancy_compile.specs.Arounds.{Ends, IsStart, around_code, opening};
+    ghost use Rattle.fancy_compile.specs.Drafts.{Writes, draft_of};
+    ghost use Rattle.fancy_compile.specs.Nodes.{IsWhole, WritesOver};
+    ghost use Rattle.fancy_compile.specs.Sites.{Site};
+
+    /// The place of what comes next.
+    pub fn start(&self) -> Start
+        ensures { IsStart result (draft_of self.now) }
+    {
+        Start {
+            base: self.code.len(),
+            fresh: self.fresh,
+        }
+    }
+
+    /// What stands before a node.
+    pub fn begin(&mut self, around: Around)
+        ensures { (p : Site) → Writes p (opening around) [] (draft_of self.old) (draft_of self.new) }
+    {
+        let slot = self.fresh;
+        match around {
+            Around::Group(group) => self.push_over_slot(Insn::SaveCaptureGroupStart {
+                group,
+                slot,
+            }),
+            Around::Atomic => self.push(Insn::BeginAtomic),
+            Around::Ahead => self.push_over_slot(Insn::Save(slot)),
+            Around::NotAhead => self.push(Insn::Split(0, 0)),
+            Around::Behind(chars) => {
+                self.push_over_slot(Insn::Save(slot));
+                self.push(Insn::GoBack(chars));
+            }
+            Around::NotBehind(chars) => {
+                self.push(Insn::Split(0, 0));
+                self.push(Insn::GoBack(chars));
+            }
+            Around::Loop { kind, .. } => self.begin_loop(kind),
+        }
+    }
+
+    /// What stands behind a node, before which `begin` wrote at `start`.
+    pub fn end(&mut self, around: Around, start: Start)
+        ensures { Ends around start (draft_of self.old) (draft_of self.new) }
+    {
+        match around {
+            Around::Group(group) => self.end_group(group, start),
+            Around::Atomic => self.push(Insn::EndAtomic),
+            Around::Ahead => self.push(Insn::Restore(start.fresh)),
+            Around::NotAhead => self.end_negative(start),
+            Around::Behind(_) => self.push(Insn::Restore(start.fresh)),
+            Around::NotBehind(_) => self.end_negative(start),
+            Around::Loop { kind, greedy } => self.end_loop(kind, greedy, start),
+        }
+    }
+
+    /// A node with what stands around it.
+    #[cycle(emit)]
+    pub fn emit_around(&mut self, task: &Task, around: Around, body: &Info, at_start: bool)
+        requires { IsWhole task.now body.now }
+        ensures { WritesOver (around_code around) task.now body.now at_start (draft_of self.old) (draft_of self.new) }
+    {
+        let start = self.start();
+        self.begin(around);
+        self.emit(task, body, at_start);
+        self.end(around, start);
+    }
 }

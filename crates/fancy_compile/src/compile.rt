@@ -12,13 +12,14 @@ ghost use Rattle.fancy_compile.specs.Nodes.{IsMade, IsServed};
 ghost use Rattle.fancy_analysis.specs.Infos.{IsRoot};
 ghost use Rattle.fancy_compile.specs.Sites.{Site, top};
 
+use crate::classes::SharedClasses;
 use crate::compiler::Compiler;
+use crate::group_table::Groups;
 pub use crate::options::{BytesMode, CompileOptions};
-use crate::shared::SharedClasses;
-use crate::task::{Groups, Task};
-use fancy_vm::vm::{Insn, Prog, ProgParts};
-use fancy_expr::error::{CompileError, Error};
+use crate::task::Task;
 use fancy_analysis::info::Info;
+use fancy_expr::error::{CompileError, Error};
+use fancy_vm::vm::{Insn, Prog, ProgParts};
 use std::alloc::Global;
 
 fn is_unicode(mode: BytesMode) -> bool

@@ -3,9 +3,9 @@
 ghost use Rattle.std.specs.Prelude.{◌≡◌, ◌+◌, ◌≤◌, ◌^◌, List, length, [], true, false};
 ghost use Rattle.std.specs.Option.{ForSome};
 
-use crate::shared::SharedClasses;
-use fancy_vm::vm::Insn;
+use crate::classes::SharedClasses;
 use fancy_expr::error::{CompileError, Error};
+use fancy_vm::vm::Insn;
 
 /// A program in the making. After a fault nothing more is written.
 #[derive(Drop)]
@@ -26,7 +26,7 @@ impl Compiler {
     ghost use Rattle.fancy_meaning.specs.Code.{Laid, one};
     ghost use Rattle.fancy_meaning.specs.Tree.{Tree};
     ghost use Rattle.fancy_compile.specs.Sites.{Site};
-    ghost use Rattle.fancy_compile.specs.Drafts.{Adds, Breaks, IsOver, Writes, all_patched, draft_of, one_over_slot, patched};
+    ghost use Rattle.fancy_compile.specs.Drafts.{Adds, Breaks, IsOver, Writes, draft_of, one_over_slot, patched};
 
     /// One more instruction would be too many.
     fn is_full(&self) -> bool
@@ -83,17 +83,6 @@ impl Compiler {
     {
         if at < self.code.len() {
             self.code[at] = insn;
-        }
-    }
-
-    /// Writes the end of the code into jumps.
-    pub fn patch_jumps(&mut self, jumps: Vec<usize>)
-        ensures { draft_of self.new ≡ all_patched jumps.items (length self.old.code.items) (draft_of self.old) }
-    {
-        let mut left = jumps;
-        let end = self.code.len();
-        while let Some(jump) = left.pop() {
-            self.patch(jump, Insn::Jmp(end));
         }
     }
 }

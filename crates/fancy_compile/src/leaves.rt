@@ -17,10 +17,10 @@ ghost use Rattle.fancy_expr.specs.Views.{assertion_of, verb_of};
 
 use crate::compiler::Compiler;
 use crate::task::Task;
-use fancy_vm::vm::Insn;
 use fancy_characters::classes::{CaseiLiteral, CharClassMatcher};
 use fancy_expr::error::{CompileError, Error};
 use fancy_expr::expr::{Assertion, BacktrackingControlVerb, Expr};
+use fancy_vm::vm::Insn;
 use std::alloc::{AllocError, Global};
 use std::rc::Rc;
 
@@ -118,15 +118,6 @@ impl Compiler {
         match literal_insn(task.alloc, first_char(val), casei, task.unicode) {
             Ok(insn) => self.push(insn),
             Err(_) => self.fail(Error::Memory),
-        }
-    }
-
-    fn emit_class(&mut self, task: &Task, inner: &str, casei: bool)
-        ensures { WritesTree task.now (plain_tree.Delegate inner.now casei) (draft_of self.old) (draft_of self.new) }
-    {
-        match self.classes.get(task.alloc, inner, casei, task.unicode) {
-            Ok(class) => self.push(Insn::CharClass(class)),
-            Err(error) => self.fail(error),
         }
     }
 

@@ -29,14 +29,14 @@ use Rattle.fancy_meaning.specs.OpenCalls.{call_depth}
 use Rattle.fancy_compile.specs.OpenTasks.{depths_of}
 use Rattle.fancy_compile.specs.Sites.{under_call}
 use Rattle.fancy_compile.proofs.Called.{zero_target, in_range, no_target, some_target, body_target, body_facts, body_starts}
-use Rattle.fancy_compile.proofs.Calls.{missing_refused, wrote_full, code_of_zero, code_of_group, still_served, lighter, inner_code, inner_u, wrote_called}
+use Rattle.fancy_compile.proofs.CallLaws.{missing_refused, wrote_full, code_of_zero, code_of_group, still_served, lighter, inner_code, inner_u, wrote_called}
 use Rattle.fancy_compile.proofs.Alone.{wrote_assertion}
 use Rattle.fancy_compile.proofs.LoopForms.{wrote_repeat, wrote_never}
 use Rattle.fancy_compile.proofs.Lookbehinds.{const_branches, varying_branch, variable_refused, wrote_behind, wrote_not_behind, wrote_behind_branches, wrote_none_behind}
 use Rattle.fancy_compile.proofs.Written.{wrote_node, safe_fine}
-use Rattle.fancy_compile.proofs.Absents.{repeater_over, repeater_below, not_repeater, hard_child, repeater_refused, wrote_absent}
+use Rattle.fancy_compile.proofs.AbsentLaws.{repeater_over, repeater_below, not_repeater, hard_child, repeater_refused, wrote_absent}
 use Rattle.fancy_compile.proofs.Infos.{tree_by, each_at, whole_at, counted, child_count, whole_below, known_child, size_known, has_one, only_child, smaller_child, whole_child, known_only, three_children, smaller_three, whole_three, known_three}
-use Rattle.fancy_compile.proofs.Loops.{LeftBranches, LeftNone, in_turn_step, none_step, no_more_none, at_branch, last_step, branch_step, jumps_more, no_more_in_turn, no_more_branches, wrote_concat, wrote_alt}
+use Rattle.fancy_compile.proofs.Neighbours.{LeftBranches, LeftNone, in_turn_step, none_step, no_more_none, at_branch, last_step, branch_step, jumps_more, no_more_in_turn, no_more_branches, wrote_concat, wrote_alt}
 use Rattle.fancy_compile.proofs.compiler.Compiler.+emit.Goals as goal
 
 pub emit-emit_in_turn-requires : goal.emit-emit_in_turn-requires

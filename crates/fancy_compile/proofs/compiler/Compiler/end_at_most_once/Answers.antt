@@ -3,7 +3,7 @@ use Rattle.fancy_meaning.specs.Constructs.{split}
 use Rattle.fancy_compile.specs.Drafts.{draft_of, Writes}
 use Rattle.fancy_compile.specs.Arounds.{around_code}
 use Rattle.fancy_compile.specs.declared.around.Around.TheVariants as around
-use Rattle.fancy_compile.specs.declared.around.LoopKind.TheVariants as kind
+use Rattle.fancy_compile.specs.declared.loops.LoopKind.TheVariants as kind
 use Rattle.fancy_compile.proofs.Closings.{ended_at_most_once, same_patch, laid_length}
 use Rattle.fancy_compile.proofs.compiler.Compiler.end_at_most_once.Goals as goal
 

@@ -5,7 +5,7 @@ use Rattle.fancy_expr.specs.Each.{Each}
 use Rattle.fancy_compile.specs.Nodes.{node_count, IsKnown, IsBody}
 use Rattle.fancy_compile.specs.Targets.{trees_of, group_trees}
 use Rattle.fancy_compile.proofs.GroupTable.{each_group_trees}
-use Rattle.fancy_compile.proofs.groups.+gather.Given as goal
+use Rattle.fancy_compile.proofs.group_table.+gather.Given as goal
 
 abbrev pub decreases-gather : goal.decreases-gather
 decreases-gather l = node_count l.info.now

@@ -1,7 +1,7 @@
 use Rattle.std.proofs.Common.{◌≡◌, drop}
 use Rattle.fancy_compile.specs.Nodes.{node_count}
-use Rattle.fancy_compile.proofs.Absents.{any_below}
-use Rattle.fancy_compile.proofs.nodes.+has_absent.Given as goal
+use Rattle.fancy_compile.proofs.AbsentLaws.{any_below}
+use Rattle.fancy_compile.proofs.absents.+has_absent.Given as goal
 
 abbrev pub decreases-has_absent : goal.decreases-has_absent
 decreases-has_absent l = node_count l.info.now

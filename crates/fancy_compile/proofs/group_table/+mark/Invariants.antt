@@ -3,7 +3,7 @@ use Rattle.fancy_meaning.specs.Options.{Analysis}
 use Rattle.fancy_compile.specs.Nodes.{node_count, IsKnown}
 use Rattle.fancy_compile.specs.Targets.{MarksAll}
 use Rattle.fancy_compile.proofs.GroupTable.{left_starts}
-use Rattle.fancy_compile.proofs.groups.+mark.Given as goal
+use Rattle.fancy_compile.proofs.group_table.+mark.Given as goal
 
 abbrev pub decreases-mark : goal.decreases-mark
 decreases-mark l = node_count l.info.now

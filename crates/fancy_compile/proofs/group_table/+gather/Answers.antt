@@ -6,7 +6,7 @@ use Rattle.fancy_compile.specs.Targets.{is_group, own_trees, trees_of, group_tre
 use Rattle.fancy_analysis.specs.Infos.{info_facts, info_children}
 use Rattle.fancy_compile.proofs.Infos.{counted, child_count, each_at, known_child}
 use Rattle.fancy_compile.proofs.GroupTable.{each_group_trees, groups_of_info, each_rest}
-use Rattle.fancy_compile.proofs.groups.+gather.Goals as goal
+use Rattle.fancy_compile.proofs.group_table.+gather.Goals as goal
 
 pub loop-part-init : goal.loop-part-init
 loop-part-init t c =

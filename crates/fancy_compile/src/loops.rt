@@ -1,18 +1,57 @@
-//! What is written behind a node.
+//! Loops.
 
-ghost use Rattle.std.specs.Prelude.{◌≡◌, ℕ};
-ghost use Rattle.fancy_vm.specs.Insns.{insn_of};
-ghost use Rattle.fancy_meaning.specs.Constructs.{split};
-ghost use Rattle.fancy_meaning.specs.Instr.{Instr};
-ghost use Rattle.fancy_compile.specs.Arounds.{Ends};
-ghost use Rattle.fancy_compile.specs.Drafts.{draft_of};
 ghost use Rattle.fancy_compile.specs.declared.around.Around.TheVariants as around;
-ghost use Rattle.fancy_compile.specs.declared.around.LoopKind.TheVariants as kind;
+ghost use Rattle.fancy_compile.specs.declared.loops.LoopKind.TheVariants as kind;
+ghost use Rattle.fancy_compile.specs.Arounds.{Ends, form_of, loop_opening};
+ghost use Rattle.fancy_compile.specs.Drafts.{Writes, draft_of};
+ghost use Rattle.fancy_compile.specs.Nodes.{IsWhole, WritesRepeat};
+ghost use Rattle.fancy_compile.specs.Sites.{Site};
 ghost use Rattle.fancy_expr.specs.Views.{bound_of};
+ghost use Rattle.fancy_meaning.specs.Constructs.{loop_form, split};
+ghost use Rattle.fancy_meaning.specs.Instr.{Instr};
+ghost use Rattle.fancy_vm.specs.Insns.{insn_of};
+ghost use Rattle.std.specs.Prelude.{[], ◌≡◌};
 
-use crate::around::{Around, LoopKind, Start};
+use crate::around::{Around, Start};
 use crate::compiler::Compiler;
+use crate::task::Task;
+use fancy_analysis::info::Info;
 use fancy_vm::vm::Insn;
+
+/// How a loop is written. Without `Counted` there is no bound but that of the name.
+#[derive(Clone, Copy)]
+pub enum LoopKind {
+    AtMostOnce,
+    /// The body may take nothing.
+    Epsilon { lo: usize },
+    Star,
+    Plus,
+    /// `usize::MAX` is no bound.
+    Counted { lo: usize, hi: usize },
+}
+
+/// The loop's kind; none where the body is never entered.
+pub fn loop_kind(lo: usize, hi: usize, may_be_empty: bool) -> Option<LoopKind>
+    ensures { form_of result ≡ loop_form lo (bound_of hi) may_be_empty }
+{
+    if hi == 0 {
+        return None;
+    }
+    if lo == 0 && hi == 1 {
+        return Some(LoopKind::AtMostOnce);
+    }
+    if hi < usize::MAX {
+        return Some(LoopKind::Counted { lo, hi });
+    }
+    if may_be_empty {
+        return Some(LoopKind::Epsilon { lo });
+    }
+    match lo {
+        0 => Some(LoopKind::Star),
+        1 => Some(LoopKind::Plus),
+        _ => Some(LoopKind::Counted { lo, hi }),
+    }
+}
 
 /// The split that goes on first, or last.
 fn split_insn(greedy: bool, on: usize, off: usize) -> Insn
@@ -68,40 +107,38 @@ fn counted_insn(greedy: bool, lo: usize, hi: usize, next: usize, repeat: usize) 
 }
 
 impl Compiler {
-    /// What stands behind a node, before which `begin` wrote at `start`.
-    pub fn end(&mut self, around: Around, start: Start)
-        ensures { Ends around start (draft_of self.old) (draft_of self.new) }
+    /// A loop.
+    #[cycle(emit)]
+    pub fn emit_repeat(&mut self, task: &Task, lo: usize, hi: usize, greedy: bool, body: &Info)
+        requires { IsWhole task.now body.now }
+        ensures { WritesRepeat lo (bound_of hi) greedy task.now body.now (draft_of self.old) (draft_of self.new) }
     {
-        match around {
-            Around::Group(group) => self.end_group(group, start),
-            Around::Atomic => self.push(Insn::EndAtomic),
-            Around::Ahead => self.push(Insn::Restore(start.fresh)),
-            Around::NotAhead => self.end_negative(start),
-            Around::Behind(_) => self.push(Insn::Restore(start.fresh)),
-            Around::NotBehind(_) => self.end_negative(start),
-            Around::Loop { kind, greedy } => self.end_loop(kind, greedy, start),
+        match loop_kind(lo, hi, body.min_size() == 0) {
+            Some(kind) => self.emit_around(task, Around::Loop { kind, greedy }, body, false),
+            None => {}
         }
     }
 
-    fn end_group(&mut self, group: usize, start: Start)
-        ensures { Ends (around.Group group) start (draft_of self.old) (draft_of self.new) }
+    pub fn begin_loop(&mut self, kind: LoopKind)
+        ensures { (p : Site) → Writes p (loop_opening kind) [] (draft_of self.old) (draft_of self.new) }
     {
-        self.push(Insn::SaveCaptureGroup {
-            group,
-            slot: start.fresh,
-        });
+        let slot = self.fresh;
+        match kind {
+            LoopKind::AtMostOnce => self.push(Insn::Split(0, 0)),
+            LoopKind::Epsilon { .. } => {
+                self.push_over_slot(Insn::Save0(slot));
+                self.push_over_slot(Insn::Split(0, 0));
+            }
+            LoopKind::Star => self.push(Insn::Split(0, 0)),
+            LoopKind::Plus => {}
+            LoopKind::Counted { .. } => {
+                self.push_over_slot(Insn::Save0(slot));
+                self.push(Insn::Split(0, 0));
+            }
+        }
     }
 
-    fn end_negative(&mut self, start: Start)
-        ensures ahead { Ends around.NotAhead start (draft_of self.old) (draft_of self.new) }
-        ensures behind { (n : ℕ) → Ends (around.NotBehind n) start (draft_of self.old) (draft_of self.new) }
-    {
-        self.push(Insn::FailNegativeLookAround);
-        let after = self.code.len();
-        self.patch(start.base, Insn::Split(start.base + 1, after));
-    }
-
-    fn end_loop(&mut self, kind: LoopKind, greedy: bool, start: Start)
+    pub fn end_loop(&mut self, kind: LoopKind, greedy: bool, start: Start)
         ensures { Ends (around.Loop kind greedy) start (draft_of self.old) (draft_of self.new) }
     {
         match kind {

@@ -5,7 +5,7 @@ use Rattle.fancy_expr.specs.Each.{Each}
 use Rattle.fancy_compile.specs.Nodes.{IsBody}
 use Rattle.fancy_compile.specs.Targets.{is_group, trees_of}
 use Rattle.fancy_compile.proofs.GroupTable.{own_body, body_known, body_smaller, each_append}
-use Rattle.fancy_compile.proofs.groups.gather_own.Goals as goal
+use Rattle.fancy_compile.proofs.group_table.gather_own.Goals as goal
 
 pub returns : goal.returns
 returns c =

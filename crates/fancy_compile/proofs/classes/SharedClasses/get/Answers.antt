@@ -1,7 +1,7 @@
 use Rattle.std.proofs.Common.{sym, ap, ◌∙◌}
 use Rattle.fancy_characters.specs.Classes.{class_of}
 use Rattle.fancy_compile.proofs.ClassTable.{inserted}
-use Rattle.fancy_compile.proofs.shared.SharedClasses.get.Goals as goal
+use Rattle.fancy_compile.proofs.classes.SharedClasses.get.Goals as goal
 
 pub returns-in-Some-clause-class : goal.returns-in-Some-clause-class
 returns-in-Some-clause-class c =

@@ -7,7 +7,7 @@ use Rattle.fancy_compile.specs.Nodes.{node_count, total}
 use Rattle.fancy_compile.specs.Targets.{MarksAll, is_group, is_concat}
 use Rattle.fancy_compile.proofs.Infos.{counted, child_count, each_at, known_child, size_known}
 use Rattle.fancy_compile.proofs.GroupTable.{only_body, body_known, body_smaller, marks_then, marks_none, starts_of_group, starts_of_concat, no_starts, left_starts, left_more, left_last, left_done}
-use Rattle.fancy_compile.proofs.groups.+mark.Goals as goal
+use Rattle.fancy_compile.proofs.group_table.+mark.Goals as goal
 
 pub mark-requires : goal.mark-requires
 mark-requires t c =

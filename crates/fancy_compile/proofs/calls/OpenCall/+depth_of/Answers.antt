@@ -1,9 +1,9 @@
 use Rattle.std.proofs.Common.{◌==◌, sym, ap, ◌∙◌, eq-eqb, ne_eqb}
 use Rattle.std.proofs.lemmas.Bool.{cond-true, cond-false}
-use Rattle.fancy_compile.specs.declared.task.OpenCall.TheViews.{out-OpenCall}
+use Rattle.fancy_compile.specs.declared.calls.OpenCall.TheViews.{out-OpenCall}
 use Rattle.fancy_compile.specs.OpenTasks.{depths_of}
 use Rattle.fancy_compile.proofs.OpenTasks.{depth_out}
-use Rattle.fancy_compile.proofs.task.OpenCall.+depth_of.Goals as goal
+use Rattle.fancy_compile.proofs.calls.OpenCall.+depth_of.Goals as goal
 
 pub returns-then-self-group : goal.returns-then-self-group
 returns-then-self-group t c =

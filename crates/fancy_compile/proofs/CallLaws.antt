@@ -21,8 +21,8 @@ use Rattle.fancy_expr.specs.declared.error.Error.{Error}
 use Rattle.fancy_expr.specs.declared.error.Error.TheVariants as error
 use Rattle.fancy_analysis.specs.Infos.{info_tree}
 use Rattle.fancy_compile.specs.declared.task.Task.{Task}
-use Rattle.fancy_compile.specs.declared.task.OpenCall.{OpenCall}
-use Rattle.fancy_compile.specs.declared.task.OpenCall.TheViews.{roll-OpenCall}
+use Rattle.fancy_compile.specs.declared.calls.OpenCall.{OpenCall}
+use Rattle.fancy_compile.specs.declared.calls.OpenCall.TheViews.{roll-OpenCall}
 use Rattle.fancy_compile.specs.OpenTasks.{depths_in, depths_of}
 use Rattle.fancy_compile.specs.Sites.{Site, under_call}
 use Rattle.fancy_compile.specs.Faults.{IsBelow, itself, below, through, Rejects, MayReject, rejected, too_big, refused, out_of_range, IsCompilable, HasRejected}

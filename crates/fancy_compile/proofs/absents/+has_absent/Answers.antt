@@ -3,8 +3,8 @@ use Rattle.fancy_analysis.specs.Infos.{IsAnalysed, info_children}
 use Rattle.fancy_expr.specs.Each.{Each}
 use Rattle.fancy_compile.specs.Nodes.{node_count, total, is_absent_expr}
 use Rattle.fancy_compile.proofs.Infos.{counted, child_count, each_at, known_child}
-use Rattle.fancy_compile.proofs.Absents.{any_below, any_more, any_of_info, found_below, none_found}
-use Rattle.fancy_compile.proofs.nodes.+has_absent.Goals as goal
+use Rattle.fancy_compile.proofs.AbsentLaws.{any_below, any_more, any_of_info, found_below, none_found}
+use Rattle.fancy_compile.proofs.absents.+has_absent.Goals as goal
 
 pub returns-then-is_absent : goal.returns-then-is_absent
 returns-then-is_absent t c = sym (any_of_info c.requires.0 c.args.info.now c.requires.1 ∙ ap (λ b. b || any_below (info_children c.args.info.now)) (ap is_absent_expr (sym c.expr.ensures) ∙ sym c.is_absent.ensures ∙ c.if-is_absent.true))

@@ -1,13 +1,17 @@
-//! Classes that instructions share.
+//! Classes, which instructions share.
 
-ghost use Rattle.std.specs.Prelude.{◌≡◌, None, OnOk, IfOk, IfErr, IsTrue, string_bytes};
-ghost use Rattle.fancy_meaning.specs.Chars.{is_class};
-ghost use Rattle.fancy_meaning.specs.Instr.{Codepoint};
+ghost use Rattle.fancy_meaning.specs.Tree as plain_tree;
 ghost use Rattle.fancy_characters.specs.Classes.{IsClassRefusal, class_of};
 ghost use Rattle.fancy_compile.specs.ClassKeys.{AreClasses, class_key, reading};
+ghost use Rattle.fancy_meaning.specs.Chars.{is_class};
+ghost use Rattle.fancy_meaning.specs.Instr.{Codepoint};
+ghost use Rattle.std.specs.Prelude.{IfErr, IfOk, IsTrue, string_bytes, ◌≡◌};
 
+use crate::compiler::Compiler;
+use crate::task::Task;
 use fancy_characters::classes::CharClassMatcher;
 use fancy_expr::error::Error;
+use fancy_vm::vm::Insn;
 use std::alloc::{AllocError, Global};
 use std::collections::BTreeMap;
 use std::rc::Rc;
@@ -69,5 +73,19 @@ impl SharedClasses {
         let shared = Rc::new(alloc, class)?;
         self.classes.insert(key, Rc::clone(&shared)?)?;
         Ok(shared)
+    }
+}
+
+impl Compiler {
+    ghost use Rattle.fancy_compile.specs.Drafts.{draft_of};
+    ghost use Rattle.fancy_compile.specs.Nodes.{WritesTree};
+
+    pub fn emit_class(&mut self, task: &Task, inner: &str, casei: bool)
+        ensures { WritesTree task.now (plain_tree.Delegate inner.now casei) (draft_of self.old) (draft_of self.new) }
+    {
+        match self.classes.get(task.alloc, inner, casei, task.unicode) {
+            Ok(class) => self.push(Insn::CharClass(class)),
+            Err(error) => self.fail(error),
+        }
     }
 }
