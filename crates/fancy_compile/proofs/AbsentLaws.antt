@@ -21,7 +21,10 @@ use Rattle.fancy_analysis.specs.declared.info.Info.{Info}
 use Rattle.fancy_analysis.specs.declared.info.Info.TheViews.{out-Info}
 use Rattle.fancy_expr.specs.Exprs.{below, below_absent}
 use Rattle.fancy_analysis.specs.Infos.{nth, node_over, absent_over, info_tree, info_within, info_children, info_facts, info_hard, IsFound, IsAnalysed}
-use Rattle.fancy_analysis.proofs.GroupSizes.{nodes-parts}
+use Rattle.fancy_analysis.proofs.GroupSizes.{nodes-parts, over-parts}
+use Rattle.std.proofs.Math.Bool.{or-true}
+use Rattle.std.proofs.lemmas.Bool.{and_parts}
+use Rattle.std.proofs.lemmas.List.Folds.{list_any-append}
 use Rattle.fancy_analysis.proofs.Unfolded.{tree_out, each_here}
 use Rattle.fancy_compile.specs.Faults.{Rejects, refused, out_of_range, HasRejected}
 use Rattle.fancy_compile.specs.Drafts.{Draft, Writes, hard_code}
@@ -29,42 +32,7 @@ use Rattle.fancy_compile.specs.Nodes.{is_repeater, is_absent_expr, IsKnown}
 use Rattle.fancy_compile.proofs.Infos.{rest_at}
 use Rattle.fancy_compile.proofs.Written.{wrote_node, rejected_here, other_absent}
 
--- ---- the children of a node over its children
-
-one_part : (ts : List Tree) → length ts ≡ 1 → more (nth (trees ts) 0) none ≡ trees ts
-one_part [] h = absurd (omega arith)
-one_part (a ∷ []) h = refl
-one_part (a ∷ b ∷ ts) h = absurd (omega arith)
-
-two_parts : (ts : List Tree) → length ts ≡ 2 → more (nth (trees ts) 0) (more (nth (trees ts) 1) none) ≡ trees ts
-two_parts [] h = absurd (omega arith)
-two_parts (a ∷ ts) h = ap (more a) (one_part ts (omega arith))
-
-three_parts : (ts : List Tree) → length ts ≡ 3 → more (nth (trees ts) 0) (more (nth (trees ts) 1) (more (nth (trees ts) 2) none)) ≡ trees ts
-three_parts [] h = absurd (omega arith)
-three_parts (a ∷ ts) h = ap (more a) (two_parts ts (omega arith))
-
-no_parts : (ts : List Tree) → length ts ≡ 0 → none ≡ trees ts
-no_parts [] h = refl
-no_parts (a ∷ ts) h = absurd (omega arith)
-
-absent-parts : (a : Absent) (ts : List Tree) → length ts ≡ length (below_absent a) → parts (absent_over a (trees ts)) ≡ trees ts
-absent-parts (code_absent.Repeater' b e) ts h = one_part ts h
-absent-parts (code_absent.Expression' b a c e) ts h = two_parts ts h
-absent-parts (code_absent.Stopper' b e) ts h = one_part ts h
-absent-parts code_absent.Clear ts h = no_parts ts h
-
-over-parts : (e : Expr) (n : ℕ) (w : Within) (ts : List Tree) → length ts ≡ length (below e) → parts (node_over e n w (trees ts)) ≡ trees ts
-over-parts (code.Concat' shape row) n w ts h = refl
-over-parts (code.Alt' shape row) n w ts h = refl
-over-parts (code.Group' b e) n w ts h = one_part ts h
-over-parts (code.LookAround' b e look) n w ts h = one_part ts h
-over-parts (code.Repeat' b e lo hi greedy) n w ts h = one_part ts h
-over-parts (code.AtomicGroup' b e) n w ts h = one_part ts h
-over-parts (code.Conditional' b c d t x f) n w ts h = three_parts ts h
-over-parts (code.Absent a) n w ts h = absent-parts a ts h
-over-parts (code.DefineGroup' b e) n w ts h = one_part ts h
-over-parts e n w ts h = no_parts ts h
+-- ---- the nodes below a node
 
 pub nodes_of_info : (a : Analysis) (i : Info) → IsKnown a i → nodes (info_tree i) ≡ info_tree i ∷ nodes_of_each (trees (map info_tree (info_children i)))
 nodes_of_info a i k =
@@ -75,16 +43,14 @@ nodes_of_info a i k =
 
 -- ---- whether an absent node stands below a node
 
-any-append : (f : Tree → Bool) (xs ys : List Tree) → list_any f (xs ++ ys) ≡ (list_any f xs || list_any f ys)
-any-append f [] ys = refl
-any-append f (x ∷ xs) ys = elim (f x) as (λ b. (b || list_any f (xs ++ ys)) ≡ ((b || list_any f xs) || list_any f ys)) [ true ↦ refl | false ↦ any-append f xs ys ]
-
 -- the nodes of these, and below them
 abbrev pub any_below : List Info → Bool
 any_below is = list_any is_absent (nodes_of_each (trees (map info_tree is)))
 
-pub any_more : (l : List Info) (i : ℕ) (x : Info) → i < length l → x ≡ get_or l i x → any_below (drop i l) ≡ (list_any is_absent (nodes (info_tree x)) || any_below (drop (i + 1) l))
-any_more l i x lt at = ap any_below (rest_at l i x lt at) ∙ any-append is_absent (nodes (info_tree x)) (nodes_of_each (trees (map info_tree (drop (i + 1) l))))
+pub any_more : (l : List Info) (i : ℕ) (x : Info) → i < length l → x ≡ get_or l i x
+    → any_below (drop i l) ≡ (list_any is_absent (nodes (info_tree x)) || any_below (drop (i + 1) l))
+any_more l i x lt at = ap any_below (rest_at l i x lt at) ∙ list_any-append is_absent (nodes (info_tree x))
+    (nodes_of_each (trees (map info_tree (drop (i + 1) l))))
 
 pub any_done : (l : List Info) (i : ℕ) → length l ≤ i → any_below (drop i l) ≡ false
 any_done l i end = ap any_below (drop_all i l end)
@@ -100,20 +66,19 @@ module _ (es : Trees) (n : ℕ) (w : Within) where
   over_absent (code.Absent a) = absent_is a
   over_absent e = refl
 
-pub any_of_info : (a : Analysis) (i : Info) → IsKnown a i → list_any is_absent (nodes (info_tree i)) ≡ (is_absent_expr (info_facts i).expr || any_below (info_children i))
+pub any_of_info : (a : Analysis) (i : Info) → IsKnown a i → list_any is_absent (nodes (info_tree i)) ≡
+    (is_absent_expr (info_facts i).expr || any_below (info_children i))
 any_of_info a i k =
     ap (list_any is_absent) (nodes_of_info a i k)
-    ∙ ap (λ b. b || any_below (info_children i)) (ap is_absent (tree_out i) ∙ over_absent (trees (map info_tree (info_children i))) (out-Info i).start_group (info_within i) (out-Info i).expr.now)
-
-or_true : (b : Bool) → (b || true) ≡ true
-or_true true = refl
-or_true false = refl
+    ∙ ap (λ b. b || any_below (info_children i))
+    (ap is_absent (tree_out i) ∙ over_absent (trees (map info_tree (info_children i))) (out-Info i).start_group (info_within i) (out-Info i).expr.now)
 
 module _ (a : Analysis) (i : Info) (k : IsKnown a i) (l : List Info) (is : l ≡ info_children i) (n : ℕ) (so_far : any_below l ≡ any_below (drop n l)) where
-  pub found_below : (x : Info) → n < length l → x ≡ get_or l n x → list_any is_absent (nodes (info_tree x)) ≡ true → true ≡ list_any is_absent (nodes (info_tree i))
+  pub found_below : (x : Info) → n < length l → x ≡ get_or l n x → list_any is_absent (nodes (info_tree x)) ≡ true
+      → true ≡ list_any is_absent (nodes (info_tree i))
   found_below x lt at h =
       let here : any_below (info_children i) ≡ true = ap any_below (sym is) ∙ so_far ∙ any_more l n x lt at ∙ ap (λ b. b || any_below (drop (n + 1) l)) h in
-      sym (any_of_info a i k ∙ ap (λ b. is_absent_expr (info_facts i).expr || b) here ∙ or_true (is_absent_expr (info_facts i).expr))
+      sym (any_of_info a i k ∙ ap (λ b. is_absent_expr (info_facts i).expr || b) here ∙ or-true (is_absent_expr (info_facts i).expr))
 
   pub none_found : is_absent_expr (info_facts i).expr ≡ false → length l ≤ n → false ≡ list_any is_absent (nodes (info_tree i))
   none_found plainly end =
@@ -150,13 +115,9 @@ module _ (p : Site) (e : Tree) where
   abbrev is_refused : Bool
   is_refused = is_hard p.analysis e && list_any is_absent (nodes e)
 
-  both_true : (a b : Bool) → (a && b) ≡ true → (a ≡ true) × (b ≡ true)
-  both_true true b h = (refl, h)
-  both_true false b h = absurd (true≢false (sym h))
-
   pub repeater_refused : is_refused ≡ true → HasRejected p (AbsentRepeater e ∷ []) refusal.FeatureNotYetSupported
   repeater_refused h =
-      let both = both_true (is_hard p.analysis e) (list_any is_absent (nodes e)) h in
+      let both = and_parts (is_hard p.analysis e) (list_any is_absent (nodes e)) h in
       rejected_here p (AbsentRepeater e) refusal.FeatureNotYetSupported (refused (absent_in_hard_repeater both.0 both.1))
 
   repeater_fine : is_refused ≡ false → (x : refusal.CompileError) → ¬ Rejects p (AbsentRepeater e) x
@@ -164,7 +125,9 @@ module _ (p : Site) (e : Tree) where
   repeater_fine h x (refused (absent_other i n)) = n e refl
   repeater_fine h x (out_of_range i) = true≢false (sym i)
 
-  pub wrote_absent : (call : ℕ → Bool → Code) (at_start in_hard : Bool) (s t : Draft) → is_refused ≡ false → Writes p (absent_code (hard_code p call e false false)) (e ∷ []) s t → Writes p (hard_code p call (AbsentRepeater e) at_start in_hard) (AbsentRepeater e ∷ []) s t
+  pub wrote_absent : (call : ℕ → Bool → Code) (at_start in_hard : Bool) (s t : Draft) → is_refused ≡ false
+      → Writes p (absent_code (hard_code p call e false false)) (e ∷ []) s t
+      → Writes p (hard_code p call (AbsentRepeater e) at_start in_hard) (AbsentRepeater e ∷ []) s t
   wrote_absent call at_start in_hard s t h w =
       subst (λ k. Writes p k (AbsentRepeater e ∷ []) s t) (sym (ap (λ b. if b then nothing else absent_code (hard_code p call e false false)) h))
       (wrote_node p (absent_code (hard_code p call e false false) (length s.instrs) s.fresh) (AbsentRepeater e) s t (repeater_fine h, refl) w)

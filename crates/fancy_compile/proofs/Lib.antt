@@ -10,7 +10,7 @@ pub mod LoopForms
 pub mod Closings
 pub mod Lookbehinds
 pub mod AbsentLaws
-pub mod OpenTasks
+pub mod OpenDepths
 pub mod CallLaws
 pub mod GroupTable
 pub mod Called

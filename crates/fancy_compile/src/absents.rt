@@ -1,4 +1,4 @@
-//! Absent expressions.
+//! Absent expressions: the repeater is written, the others are refused.
 
 ghost use Rattle.fancy_analysis.specs.Infos.{info_hard, info_tree};
 ghost use Rattle.fancy_compile.specs.Drafts.{draft_of};
@@ -10,10 +10,12 @@ ghost use Rattle.std.specs.Prelude.{false, ◌&&◌, ◌≡◌};
 
 use crate::around::Around;
 use crate::compiler::Compiler;
+use crate::looks::LookKind;
 use crate::loops::LoopKind;
 use crate::nodes::child;
-use crate::task::Task;
+use crate::scope::Scope;
 use fancy_analysis::info::Info;
+use fancy_expr::error::CompileError;
 use fancy_expr::expr::{Absent, Expr};
 use fancy_vm::vm::Insn;
 
@@ -63,12 +65,12 @@ fn is_refused_body(body: &Info) -> bool
 impl Compiler {
     /// One character at a time, as long as the node has no way here.
     #[cycle(emit)]
-    pub fn emit_absent(&mut self, task: &Task, body: &Info)
-        requires { IsWhole task.now body.now }
-        ensures { WritesAbsent task.now body.now (draft_of self.old) (draft_of self.new) }
+    pub fn emit_absent(&mut self, scope: &Scope, body: &Info)
+        requires { IsWhole scope.now body.now }
+        ensures { WritesAbsent scope.now body.now (draft_of self.old) (draft_of self.new) }
     {
         if is_refused_body(body) {
-            self.refuse();
+            self.refuse(CompileError::FeatureNotYetSupported);
             return;
         }
         let rounds = Around::Loop {
@@ -77,20 +79,21 @@ impl Compiler {
         };
         let start = self.start();
         self.begin(rounds);
-        self.emit_step_past(task, body);
+        self.emit_step_past(scope, body);
         self.end(rounds, start);
     }
 
     /// One character where the node has no way here, and nothing where it has one.
     #[cycle(emit)]
-    fn emit_step_past(&mut self, task: &Task, body: &Info)
-        requires { IsWhole task.now body.now }
-        ensures { WritesOver step_past task.now body.now false (draft_of self.old) (draft_of self.new) }
+    fn emit_step_past(&mut self, scope: &Scope, body: &Info)
+        requires { IsWhole scope.now body.now }
+        ensures { WritesOver step_past scope.now body.now false
+            (draft_of self.old) (draft_of self.new) }
     {
         self.push(Insn::BeginAtomic);
         let split = self.code.len();
         self.push(Insn::Split(split + 1, 0));
-        self.emit_around(task, Around::NotAhead, body, false);
+        self.emit_around(scope, Around::Look(LookKind::NotAhead), body, false);
         self.push(Insn::EndAtomic);
         self.push(Insn::Any);
         let jump = self.code.len();

@@ -3,8 +3,9 @@
 ghost use Rattle.std.specs.Prelude.{[], ◌-◌, ◌<◌, ◌^◌};
 
 use crate::compiler::Compiler;
+use crate::looks::LookKind;
 use crate::loops::LoopKind;
-use crate::task::Task;
+use crate::scope::Scope;
 use fancy_analysis::info::Info;
 use fancy_vm::vm::Insn;
 
@@ -13,11 +14,7 @@ use fancy_vm::vm::Insn;
 pub enum Around {
     Group(usize),
     Atomic,
-    Ahead,
-    NotAhead,
-    /// So many characters back.
-    Behind(usize),
-    NotBehind(usize),
+    Look(LookKind),
     Loop { kind: LoopKind, greedy: bool },
 }
 
@@ -48,25 +45,13 @@ impl Compiler {
 
     /// What stands before a node.
     pub fn begin(&mut self, around: Around)
-        ensures { (p : Site) → Writes p (opening around) [] (draft_of self.old) (draft_of self.new) }
+        ensures { (p : Site)
+            → Writes p (opening around) [] (draft_of self.old) (draft_of self.new) }
     {
-        let slot = self.fresh;
         match around {
-            Around::Group(group) => self.push_over_slot(Insn::SaveCaptureGroupStart {
-                group,
-                slot,
-            }),
+            Around::Group(group) => self.begin_group(group),
             Around::Atomic => self.push(Insn::BeginAtomic),
-            Around::Ahead => self.push_over_slot(Insn::Save(slot)),
-            Around::NotAhead => self.push(Insn::Split(0, 0)),
-            Around::Behind(chars) => {
-                self.push_over_slot(Insn::Save(slot));
-                self.push(Insn::GoBack(chars));
-            }
-            Around::NotBehind(chars) => {
-                self.push(Insn::Split(0, 0));
-                self.push(Insn::GoBack(chars));
-            }
+            Around::Look(kind) => self.begin_look(kind),
             Around::Loop { kind, .. } => self.begin_loop(kind),
         }
     }
@@ -78,23 +63,21 @@ impl Compiler {
         match around {
             Around::Group(group) => self.end_group(group, start),
             Around::Atomic => self.push(Insn::EndAtomic),
-            Around::Ahead => self.push(Insn::Restore(start.fresh)),
-            Around::NotAhead => self.end_negative(start),
-            Around::Behind(_) => self.push(Insn::Restore(start.fresh)),
-            Around::NotBehind(_) => self.end_negative(start),
+            Around::Look(kind) => self.end_look(kind, start),
             Around::Loop { kind, greedy } => self.end_loop(kind, greedy, start),
         }
     }
 
     /// A node with what stands around it.
     #[cycle(emit)]
-    pub fn emit_around(&mut self, task: &Task, around: Around, body: &Info, at_start: bool)
-        requires { IsWhole task.now body.now }
-        ensures { WritesOver (around_code around) task.now body.now at_start (draft_of self.old) (draft_of self.new) }
+    pub fn emit_around(&mut self, scope: &Scope, around: Around, body: &Info, at_start: bool)
+        requires { IsWhole scope.now body.now }
+        ensures { WritesOver (around_code around) scope.now body.now at_start
+            (draft_of self.old) (draft_of self.new) }
     {
         let start = self.start();
         self.begin(around);
-        self.emit(task, body, at_start);
+        self.emit(scope, body, at_start);
         self.end(around, start);
     }
 }

@@ -1,20 +1,15 @@
 //! Calls: what a call names is written anew.
 
-ghost use Rattle.fancy_meaning.specs.AnalysisRefusals as plain;
-ghost use Rattle.fancy_compile.specs.Drafts.{Adds, draft_of};
-ghost use Rattle.fancy_compile.specs.Faults.{HasRejected};
-ghost use Rattle.fancy_compile.specs.Nodes.{IsMade, WritesCall};
-ghost use Rattle.fancy_compile.specs.OpenTasks.{depths_in, depths_of};
-ghost use Rattle.fancy_compile.specs.Sites.{Site};
-ghost use Rattle.fancy_meaning.specs.Code.{Laid};
-ghost use Rattle.fancy_meaning.specs.Tree.{Tree};
-ghost use Rattle.std.specs.Prelude.{List, ◌≡◌};
+ghost use Rattle.fancy_compile.specs.Drafts.{draft_of};
+ghost use Rattle.fancy_compile.specs.Nodes.{IsScope, WritesCall};
+ghost use Rattle.fancy_compile.specs.OpenDepths.{depths_in, depths_of};
+ghost use Rattle.std.specs.Prelude.{◌≡◌};
 
 use crate::around::Around;
 use crate::compiler::Compiler;
 use crate::group_table::is_marked;
-use crate::task::Task;
-use fancy_expr::error::{CompileError, Error};
+use crate::scope::Scope;
+use fancy_expr::error::CompileError;
 use fancy_vm::vm::Insn;
 
 /// So deep are calls of one group written out.
@@ -44,7 +39,7 @@ impl<'o> OpenCall<'o> {
     }
 }
 
-impl<'t, 'i, 'a, 'o> Task<'t, 'i, 'a, 'o> {
+impl<'t, 'i, 'a, 'o> Scope<'t, 'i, 'a, 'o> {
     /// How many calls of the group are open.
     fn open_calls(&self, group: usize) -> usize
         ensures { result ≡ depths_of self.now.calls group }
@@ -57,25 +52,17 @@ impl<'t, 'i, 'a, 'o> Task<'t, 'i, 'a, 'o> {
 }
 
 impl Compiler {
-    fn refuse_missing_group(&mut self)
-        ensures { (p : Site) (a : Laid) (es : List Tree)
-            → HasRejected p es plain.SubroutineCallTargetNotFound
-            → Adds p a es (draft_of self.old) (draft_of self.new) }
-    {
-        self.fail(Error::CompileError(CompileError::SubroutineCallTargetNotFound));
-    }
-
     /// A call: what it names is written anew.
     #[cycle(emit)]
-    pub fn emit_call(&mut self, task: &Task, group: usize)
-        requires { IsMade task.now }
-        ensures { WritesCall task.now group (draft_of self.old) (draft_of self.new) }
+    pub fn emit_call(&mut self, scope: &Scope, group: usize)
+        requires { IsScope scope.now }
+        ensures { WritesCall scope.now group (draft_of self.old) (draft_of self.new) }
     {
-        if !task.groups.has_target(group) {
-            self.refuse_missing_group();
+        if !scope.groups.has_target(group) {
+            self.refuse(CompileError::SubroutineCallTargetNotFound);
             return;
         }
-        let depth = task.open_calls(group);
+        let depth = scope.open_calls(group);
         if depth >= CALL_DEPTH {
             self.push(Insn::Fail);
             return;
@@ -83,21 +70,21 @@ impl Compiler {
         let call = OpenCall {
             group,
             depth: depth + 1,
-            outer: task.calls,
+            outer: scope.calls,
         };
-        let inner = Task {
-            alloc: task.alloc,
-            unicode: task.unicode,
-            root: task.root,
-            groups: task.groups,
+        let inner = Scope {
+            alloc: scope.alloc,
+            unicode: scope.unicode,
+            root: scope.root,
+            groups: scope.groups,
             calls: Some(&call),
         };
         if group == 0 {
-            self.emit(&inner, task.root, true);
+            self.emit(&inner, scope.root, true);
             return;
         }
-        let i = group - task.groups.first;
-        let at_start = is_marked(&task.groups.starts, i);
-        self.emit_around(&inner, Around::Group(group), task.groups.body(i), at_start);
+        let i = group - scope.groups.first;
+        let at_start = is_marked(&scope.groups.starts, i);
+        self.emit_around(&inner, Around::Group(group), scope.groups.body(i), at_start);
     }
 }

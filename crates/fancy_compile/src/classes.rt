@@ -1,4 +1,4 @@
-//! Classes, which instructions share.
+//! Classes: equal ones share one matcher.
 
 ghost use Rattle.fancy_meaning.specs.Tree as plain_tree;
 ghost use Rattle.fancy_characters.specs.Classes.{IsClassRefusal, class_of};
@@ -8,7 +8,7 @@ ghost use Rattle.fancy_meaning.specs.Instr.{Codepoint};
 ghost use Rattle.std.specs.Prelude.{IfErr, IfOk, IsTrue, string_bytes, ◌≡◌};
 
 use crate::compiler::Compiler;
-use crate::task::Task;
+use crate::scope::Scope;
 use fancy_characters::classes::CharClassMatcher;
 use fancy_expr::error::Error;
 use fancy_vm::vm::Insn;
@@ -60,7 +60,8 @@ impl SharedClasses {
         casei: bool,
         unicode: bool,
     ) -> Result<Rc<CharClassMatcher>, Error>
-        ensures class { IfOk result (λ class. class_of class.value ≡ Codepoint inner.now casei unicode) }
+        ensures class { IfOk result (λ class.
+            class_of class.value ≡ Codepoint inner.now casei unicode) }
         ensures is_class { IfOk result (λ _. IsTrue (is_class unicode inner.now casei)) }
         ensures refused { IfErr result (IsClassRefusal unicode inner.now casei) }
     {
@@ -80,10 +81,11 @@ impl Compiler {
     ghost use Rattle.fancy_compile.specs.Drafts.{draft_of};
     ghost use Rattle.fancy_compile.specs.Nodes.{WritesTree};
 
-    pub fn emit_class(&mut self, task: &Task, inner: &str, casei: bool)
-        ensures { WritesTree task.now (plain_tree.Delegate inner.now casei) (draft_of self.old) (draft_of self.new) }
+    pub fn emit_class(&mut self, scope: &Scope, inner: &str, casei: bool)
+        ensures { WritesTree scope.now (plain_tree.Delegate inner.now casei)
+            (draft_of self.old) (draft_of self.new) }
     {
-        match self.classes.get(task.alloc, inner, casei, task.unicode) {
+        match self.classes.get(scope.alloc, inner, casei, scope.unicode) {
             Ok(class) => self.push(Insn::CharClass(class)),
             Err(error) => self.fail(error),
         }

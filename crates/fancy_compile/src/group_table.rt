@@ -1,7 +1,7 @@
-//! The bodies of the groups, and with which of them a match may begin.
+//! The table of a tree's groups: their bodies, and with which of them a match may begin.
 
 ghost use Rattle.fancy_compile.specs.Nodes.{IsKnown, has_target};
-ghost use Rattle.fancy_compile.specs.Targets.{Gathers, GathersOwn, IsTable, Marks, MarksAll, is_concat, is_group};
+ghost use Rattle.fancy_compile.specs.GroupTables.{Gathers, GathersOwn, IsTable, Marks, MarksAll, is_concat, is_group};
 ghost use Rattle.fancy_meaning.specs.Options.{Analysis};
 ghost use Rattle.std.specs.Prelude.{IfOk, [], false, length, replicate, slice_index_or, ◌<◌, ◌∷◌, ◌≡◌};
 
@@ -10,12 +10,12 @@ use fancy_analysis::info::Info;
 use fancy_expr::expr::Expr;
 use std::alloc::{AllocError, Global};
 
-/// What calls may name.
+/// The groups of a tree, in order of their numbers.
 #[derive(Drop)]
-pub struct Groups<'i, 'a> {
+pub struct GroupTable<'i, 'a> {
     /// The number of the first group.
     pub first: usize,
-    /// The bodies of the groups, in order of their numbers.
+    /// The bodies of the groups.
     pub bodies: Vec<&'i Info<'a>>,
     /// Whether a match may begin with the group.
     pub starts: Vec<bool>,
@@ -117,9 +117,13 @@ fn mark(info: &Info, first: usize, marks: &mut [bool])
     }
 }
 
-impl<'i, 'a> Groups<'i, 'a> {
+impl<'i, 'a> GroupTable<'i, 'a> {
     /// The groups of a tree, the first of which has this number.
-    pub fn of(alloc: Global, root: &'i Info<'a>, first: usize) -> Result<Groups<'i, 'a>, AllocError>
+    pub fn of(
+        alloc: Global,
+        root: &'i Info<'a>,
+        first: usize,
+    ) -> Result<GroupTable<'i, 'a>, AllocError>
         requires { (a : Analysis) × IsKnown a root.now }
         ensures { IfOk result (λ g. IsTable root.now first g) }
     {
@@ -127,7 +131,7 @@ impl<'i, 'a> Groups<'i, 'a> {
         gather(root, &mut bodies)?;
         let mut starts = no_marks(alloc, bodies.len())?;
         mark(root, first, &mut starts);
-        Ok(Groups {
+        Ok(GroupTable {
             first,
             bodies,
             starts,

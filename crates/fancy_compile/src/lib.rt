@@ -17,4 +17,4 @@ mod looks;
 mod loops;
 mod nodes;
 pub mod options;
-mod task;
+mod scope;

@@ -1,4 +1,4 @@
-//! Loops.
+//! Loops: how each begins and ends.
 
 ghost use Rattle.fancy_compile.specs.declared.around.Around.TheVariants as around;
 ghost use Rattle.fancy_compile.specs.declared.loops.LoopKind.TheVariants as kind;
@@ -14,7 +14,7 @@ ghost use Rattle.std.specs.Prelude.{[], ◌≡◌};
 
 use crate::around::{Around, Start};
 use crate::compiler::Compiler;
-use crate::task::Task;
+use crate::scope::Scope;
 use fancy_analysis::info::Info;
 use fancy_vm::vm::Insn;
 
@@ -109,18 +109,20 @@ fn counted_insn(greedy: bool, lo: usize, hi: usize, next: usize, repeat: usize) 
 impl Compiler {
     /// A loop.
     #[cycle(emit)]
-    pub fn emit_repeat(&mut self, task: &Task, lo: usize, hi: usize, greedy: bool, body: &Info)
-        requires { IsWhole task.now body.now }
-        ensures { WritesRepeat lo (bound_of hi) greedy task.now body.now (draft_of self.old) (draft_of self.new) }
+    pub fn emit_repeat(&mut self, scope: &Scope, lo: usize, hi: usize, greedy: bool, body: &Info)
+        requires { IsWhole scope.now body.now }
+        ensures { WritesRepeat lo (bound_of hi) greedy scope.now body.now
+            (draft_of self.old) (draft_of self.new) }
     {
         match loop_kind(lo, hi, body.min_size() == 0) {
-            Some(kind) => self.emit_around(task, Around::Loop { kind, greedy }, body, false),
+            Some(kind) => self.emit_around(scope, Around::Loop { kind, greedy }, body, false),
             None => {}
         }
     }
 
     pub fn begin_loop(&mut self, kind: LoopKind)
-        ensures { (p : Site) → Writes p (loop_opening kind) [] (draft_of self.old) (draft_of self.new) }
+        ensures { (p : Site)
+            → Writes p (loop_opening kind) [] (draft_of self.old) (draft_of self.new) }
     {
         let slot = self.fresh;
         match kind {
@@ -152,7 +154,8 @@ impl Compiler {
 
     /// The body is entered, or not.
     fn end_at_most_once(&mut self, greedy: bool, start: Start)
-        ensures { Ends (around.Loop kind.AtMostOnce greedy) start (draft_of self.old) (draft_of self.new) }
+        ensures { Ends (around.Loop kind.AtMostOnce greedy) start
+            (draft_of self.old) (draft_of self.new) }
     {
         let after = self.code.len();
         self.patch(start.base, split_insn(greedy, start.base + 1, after));
@@ -160,7 +163,8 @@ impl Compiler {
 
     /// Back to the split before the body.
     fn end_star(&mut self, greedy: bool, start: Start)
-        ensures { Ends (around.Loop kind.Star greedy) start (draft_of self.old) (draft_of self.new) }
+        ensures { Ends (around.Loop kind.Star greedy) start
+            (draft_of self.old) (draft_of self.new) }
     {
         self.push(Insn::Jmp(start.base));
         let after = self.code.len();
@@ -169,7 +173,8 @@ impl Compiler {
 
     /// Back to the body.
     fn end_plus(&mut self, greedy: bool, start: Start)
-        ensures { Ends (around.Loop kind.Plus greedy) start (draft_of self.old) (draft_of self.new) }
+        ensures { Ends (around.Loop kind.Plus greedy) start
+            (draft_of self.old) (draft_of self.new) }
     {
         let here = self.code.len();
         self.push(split_insn(greedy, start.base, here + 1));
@@ -177,7 +182,8 @@ impl Compiler {
 
     /// Back to the head, which counts and leaves where the last round took nothing.
     fn end_epsilon(&mut self, greedy: bool, lo: usize, start: Start)
-        ensures { Ends (around.Loop (kind.Epsilon lo) greedy) start (draft_of self.old) (draft_of self.new) }
+        ensures { Ends (around.Loop (kind.Epsilon lo) greedy) start
+            (draft_of self.old) (draft_of self.new) }
     {
         let head = start.base + 1;
         self.push(Insn::Jmp(head));
@@ -190,7 +196,8 @@ impl Compiler {
 
     /// Back to the head, which counts.
     fn end_counted(&mut self, greedy: bool, lo: usize, hi: usize, start: Start)
-        ensures { Ends (around.Loop (kind.Counted lo hi) greedy) start (draft_of self.old) (draft_of self.new) }
+        ensures { Ends (around.Loop (kind.Counted lo hi) greedy) start
+            (draft_of self.old) (draft_of self.new) }
     {
         let head = start.base + 1;
         self.push(Insn::Jmp(head));

@@ -1,4 +1,4 @@
-//! Nodes with all below them.
+//! A node with all below it, by what it is.
 
 ghost use Rattle.fancy_analysis.specs.Infos.{info_children};
 ghost use Rattle.fancy_compile.specs.Drafts.{draft_of};
@@ -8,8 +8,9 @@ ghost use Rattle.std.specs.Prelude.{length, slice_index_or, ◌<◌, ◌≡◌};
 use crate::absents::is_repeater;
 use crate::around::Around;
 use crate::compiler::Compiler;
-use crate::task::Task;
+use crate::scope::Scope;
 use fancy_analysis::info::Info;
+use fancy_expr::error::CompileError;
 use fancy_expr::expr::Expr;
 
 /// A node's child with this index.
@@ -23,43 +24,43 @@ pub fn child<'i, 'a>(info: &'i Info<'a>, i: usize) -> &'i Info<'a>
 impl Compiler {
     /// A node and all below it.
     #[cycle(emit)]
-    pub fn emit(&mut self, task: &Task, info: &Info, at_start: bool)
-        requires { IsWhole task.now info.now }
-        ensures { WritesNode task.now info.now at_start (draft_of self.old) (draft_of self.new) }
+    pub fn emit(&mut self, scope: &Scope, info: &Info, at_start: bool)
+        requires { IsWhole scope.now info.now }
+        ensures { WritesNode scope.now info.now at_start (draft_of self.old) (draft_of self.new) }
     {
         if self.fault.is_some() {
             return;
         }
         let expr = info.expr();
         match expr {
-            Expr::Concat(_) => self.emit_in_turn(task, info.children(), at_start),
-            Expr::Alt(_) => self.emit_branches(task, info.children(), false),
+            Expr::Concat(_) => self.emit_in_turn(scope, info.children(), at_start),
+            Expr::Alt(_) => self.emit_branches(scope, info.children(), false),
             Expr::Group(_) => {
                 self.emit_around(
-                    task,
+                    scope,
                     Around::Group(info.start_group()),
                     child(info, 0),
                     at_start,
                 )
             }
-            Expr::AtomicGroup(_) => self.emit_around(task, Around::Atomic, child(info, 0), false),
+            Expr::AtomicGroup(_) => self.emit_around(scope, Around::Atomic, child(info, 0), false),
             Expr::Repeat { lo, hi, greedy, .. } => {
-                self.emit_repeat(task, *lo, *hi, *greedy, child(info, 0))
+                self.emit_repeat(scope, *lo, *hi, *greedy, child(info, 0))
             }
-            Expr::LookAround(_, look) => self.emit_look(task, *look, child(info, 0)),
+            Expr::LookAround(_, look) => self.emit_look(scope, *look, child(info, 0)),
             Expr::Conditional { .. } => {
-                self.emit_conditional(task, child(info, 0), child(info, 1), child(info, 2))
+                self.emit_conditional(scope, child(info, 0), child(info, 1), child(info, 2))
             }
             Expr::Absent(absent) => {
                 if is_repeater(absent) {
-                    self.emit_absent(task, child(info, 0));
+                    self.emit_absent(scope, child(info, 0));
                 } else {
-                    self.refuse();
+                    self.refuse(CompileError::FeatureNotYetSupported);
                 }
             }
-            Expr::SubroutineCall(group) => self.emit_call(task, *group),
+            Expr::SubroutineCall(group) => self.emit_call(scope, *group),
             Expr::Assertion(assertion) => self.emit_assertion(*assertion, info.in_look_around()),
-            _ => self.emit_leaf(task, expr, at_start),
+            _ => self.emit_leaf(scope, expr, at_start),
         }
     }
 }

@@ -6,7 +6,7 @@ use Rattle.fancy_meaning.specs.Premises.{analysis}
 use Rattle.fancy_compile.specs.Compiled.{plan_with, refuses}
 use Rattle.fancy_compile.specs.Drafts.{draft_of}
 use Rattle.fancy_compile.proofs.Called.{table_bodies, table_numbers, table_known, table_starts}
-use Rattle.fancy_compile.proofs.Finished.{begun}
+use Rattle.fancy_compile.proofs.Finished.{writing_from_start}
 use Rattle.fancy_compile.proofs.Roots.{root_known}
 use Rattle.fancy_compile.proofs.compile.compile.Goals as goal
 
@@ -32,7 +32,8 @@ pub emit_program-requires : goal.emit_program-requires
 emit_program-requires c =
     let a = c.requires.0 in
     let r = c.requires.1.root in
-    let first = ap (λ b. if b then 0 else 1) (c.explicit_capture_group_0-explicit_group_0.ensures ∙ ap (λ (o : AnalysisOptions). o.explicit_capture_group_0) (r.node).options) in
+    let first = ap (λ b. if b then 0 else 1) (c.explicit_capture_group_0-explicit_group_0.ensures
+    ∙ ap (λ (o : AnalysisOptions). o.explicit_capture_group_0) (r.node).options) in
     let t = c.in_ok-groups.ensures in
     record {
       whole = (
@@ -54,13 +55,16 @@ finish-requires c =
     let a = c.requires.0 in
     let m = c.requires.1 in
     let r = m.root in
-    let first = ap (λ b. if b then 0 else 1) (c.explicit_capture_group_0-explicit_group_0.ensures ∙ ap (λ (o : AnalysisOptions). o.explicit_capture_group_0) (r.node).options) in
+    let first = ap (λ b. if b then 0 else 1) (c.explicit_capture_group_0-explicit_group_0.ensures
+    ∙ ap (λ (o : AnalysisOptions). o.explicit_capture_group_0) (r.node).options) in
     let t = c.in_ok-groups.ensures in (
       a,
       m,
       c.is_unicode.ensures.yes c.if-not-is_unicode.false,
-      begun a c.args.info.now c.args.options m c.explicit_capture_group_0-explicit_group_0.result c.total_groups.result c.explicit_capture_group_0-explicit_group_0.ensures (c.total_groups.ensures.value a r)
-          (map insn_of c.new.result.items) c.first_fresh.result (draft_of c.emit_program.new.self) (ap (map insn_of) c.new.ensures.items) c.first_fresh.ensures.value
+      writing_from_start a c.args.info.now c.args.options m c.explicit_capture_group_0-explicit_group_0.result c.total_groups.result
+          c.explicit_capture_group_0-explicit_group_0.ensures (c.total_groups.ensures.value a r)
+          (map insn_of c.new.result.items) c.first_fresh.result (draft_of c.emit_program.new.self)
+          (ap (map insn_of) c.new.ensures.items) c.first_fresh.ensures.value
           (c.emit_program.ensures (plan_with a c.args.options) refl refl refl
           (record {
             tree = r.tree;
@@ -75,10 +79,12 @@ finish-requires c =
 pub returns : goal.returns
 returns c = λ a m.
     let r = m.root in
-    let first = ap (λ b. if b then 0 else 1) (c.explicit_capture_group_0-explicit_group_0.ensures ∙ ap (λ (o : AnalysisOptions). o.explicit_capture_group_0) (r.node).options) in
+    let first = ap (λ b. if b then 0 else 1) (c.explicit_capture_group_0-explicit_group_0.ensures
+    ∙ ap (λ (o : AnalysisOptions). o.explicit_capture_group_0) (r.node).options) in
     let t = c.in_ok-groups.ensures in
     c.finish.ensures a m (c.is_unicode.ensures.yes c.if-not-is_unicode.false)
-    (begun a c.args.info.now c.args.options m c.explicit_capture_group_0-explicit_group_0.result c.total_groups.result c.explicit_capture_group_0-explicit_group_0.ensures (c.total_groups.ensures.value a r)
+    (writing_from_start a c.args.info.now c.args.options m c.explicit_capture_group_0-explicit_group_0.result c.total_groups.result
+    c.explicit_capture_group_0-explicit_group_0.ensures (c.total_groups.ensures.value a r)
     (map insn_of c.new.result.items) c.first_fresh.result (draft_of c.emit_program.new.self) (ap (map insn_of) c.new.ensures.items) c.first_fresh.ensures.value
     (c.emit_program.ensures (plan_with a c.args.options) refl refl refl
     (record {

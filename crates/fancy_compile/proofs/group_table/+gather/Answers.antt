@@ -2,9 +2,9 @@ use Rattle.std.proofs.Common.{◌<◌, ◌++◌, length, map, drop, ◌+◌, sym
 use Rattle.fancy_analysis.specs.Infos.{IsAnalysed, info_tree}
 use Rattle.fancy_expr.specs.Each.{Each}
 use Rattle.fancy_compile.specs.Nodes.{node_count, total}
-use Rattle.fancy_compile.specs.Targets.{is_group, own_trees, trees_of, group_trees}
+use Rattle.fancy_compile.specs.GroupTables.{is_group, own_trees, trees_of, group_trees}
 use Rattle.fancy_analysis.specs.Infos.{info_facts, info_children}
-use Rattle.fancy_compile.proofs.Infos.{counted, child_count, each_at, known_child}
+use Rattle.fancy_compile.proofs.Infos.{node_count-below, child_count, each_at, known_child}
 use Rattle.fancy_compile.proofs.GroupTable.{each_group_trees, groups_of_info, each_rest}
 use Rattle.fancy_compile.proofs.group_table.+gather.Goals as goal
 
@@ -26,8 +26,17 @@ pub gather-requires : goal.gather-requires
 gather-requires t c =
     let lt : c.loop-part.part-index < length c.children-children.result.now = omega arith in
     let each = subst (Each (IsAnalysed c.requires.0)) (sym c.children-children.ensures) (c.requires.1).children in (
-      omega (arith, counted c.args.info.now, ap (λ l. total (map node_count l)) c.children-children.ensures, child_count c.children-children.result.now c.loop-part.part-index c.part-item.result lt c.part-item.is),
-      (c.requires.0, known_child c.requires.0 c.part-item.result (each_at (IsAnalysed c.requires.0) c.children-children.result.now c.loop-part.part-index c.part-item.result each lt c.part-item.is)),
+      omega (
+        arith,
+        node_count-below c.args.info.now,
+        ap (λ l. total (map node_count l)) c.children-children.ensures,
+        child_count c.children-children.result.now c.loop-part.part-index c.part-item.result lt c.part-item.is,
+      ),
+      (
+        c.requires.0,
+        known_child c.requires.0 c.part-item.result
+            (each_at (IsAnalysed c.requires.0) c.children-children.result.now c.loop-part.part-index c.part-item.result each lt c.part-item.is),
+      ),
     )
 
 pub loop-part-preserved : goal.loop-part-preserved
@@ -49,6 +58,12 @@ loop-part-preserved t c =
           let each = subst (Each (IsAnalysed a)) (sym c.children-children.ensures) k.children in
           let known = known_child a x (each_at (IsAnalysed a) children n x each lt c.part-item.is) in
           c.in_ok-gather.ensures.known a most known
-          (omega (arith, le, counted c.args.info.now, ap (λ l. total (map node_count l)) c.children-children.ensures, child_count children n x lt c.part-item.is))
+          (omega (
+            arith,
+            le,
+            node_count-below c.args.info.now,
+            ap (λ l. total (map node_count l)) c.children-children.ensures,
+            child_count children n x lt c.part-item.is,
+          ))
           (c.loop-part.invariant.known a most k le all);
     }
