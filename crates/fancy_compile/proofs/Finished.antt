@@ -8,17 +8,38 @@ use Rattle.fancy_meaning.specs.Sizes.{Size, size}
 use Rattle.fancy_meaning.specs.Layout.{program_code, first_fresh, undelegated_layout}
 use Rattle.fancy_meaning.specs.Premises.{Analysed, analysis}
 use Rattle.fancy_analysis.specs.declared.info.Info.{Info}
-use Rattle.fancy_analysis.specs.Infos.{info_size, info_facts}
+use Rattle.fancy_analysis.specs.Infos.{IsRoot, info_size, info_facts}
 use Rattle.fancy_compile.specs.declared.options.CompileOptions.{CompileOptions}
+use Rattle.fancy_compile.specs.declared.scope.Scope.{Scope}
+use Rattle.fancy_compile.specs.GroupTables.{IsTable}
+use Rattle.fancy_compile.specs.Nodes.{IsScopeOf}
 use Rattle.fancy_compile.specs.Sites.{top}
 use Rattle.fancy_compile.specs.Drafts.{Draft, Extends, Writes, no_node}
 use Rattle.fancy_meaning.specs.AnalysisRefusals.{CompileError, AnalysisRefuses}
 use Rattle.fancy_meaning.specs.Fits.{program_fits}
 use Rattle.fancy_fits.proofs.Programs.{layouts_fit}
 use Rattle.fancy_compile.specs.Compiled.{IsWritingOf, MayCompile, compile_options_of, plan_with}
+use Rattle.fancy_compile.proofs.Called.{table_bodies, table_numbers, table_known, table_starts}
 use Rattle.fancy_compile.proofs.Infos.{size_known}
 use Rattle.fancy_compile.proofs.Roots.{root_known}
 use Rattle.fancy_compile.proofs.Compiled.{start, whole_code, made, same_program}
+
+-- the scope of the root, with the table of its groups
+pub scope_of_table : (a : Analysed) (scope : Scope) → IsRoot (analysis a) scope.root.now
+    → (explicit : Bool) → explicit ≡ ((info_facts scope.root.now).options).explicit_capture_group_0
+    → (first : ℕ) → first ≡ (if explicit then 0 else 1) → IsTable scope.root.now first scope.groups.now → IsScopeOf (analysis a) scope
+scope_of_table a scope r explicit read first is t =
+    let i = scope.root.now in
+    let g = scope.groups.now in
+    let from = is ∙ ap (λ b. if b then 0 else 1) (read ∙ ap (λ (x : AnalysisOptions). x.explicit_capture_group_0) (r.node).options) in
+    record {
+      tree = r.tree;
+      root = root_known a i r;
+      bodies = table_bodies a i r first g t;
+      numbers = table_numbers a i r first g t from;
+      known = table_known a i r first g t;
+      starts = table_starts a i r first g t;
+    }
 
 module _ (a : Analysed) (i : Info) (o : CompileOptions) (m : MayCompile a i o) where
   abbrev p : Plan
