@@ -42,7 +42,8 @@ module _ (p : Site) (call : ℕ → Bool → Code) (at_start in_hard : Bool) (s 
   wrote_bytes cs bytes same h =
       wrote_node p _ (plain.LiteralBytes cs) s t (safe_fine p (plain.LiteralBytes cs) refl refl) (subst (λ l. Writes p (one (Instr.Lit l)) [] s t) same h)
 
-  pub wrote_backref : (g : ℕ) (casei : Bool) → is_out_of_range (plain.Backref g casei) ≡ false → Writes p (one (Instr.Backref (2 * g) casei p.unicode)) [] s t → Written (plain.Backref g casei)
+  pub wrote_backref : (g : ℕ) (casei : Bool) → is_out_of_range (plain.Backref g casei) ≡ false → Writes p (one (Instr.Backref (2 * g) casei p.unicode)) [] s t
+      → Written (plain.Backref g casei)
   wrote_backref g casei ranged h = wrote_node p _ (plain.Backref g casei) s t (safe_fine p (plain.Backref g casei) refl ranged) h
 
   -- ---- classes
@@ -52,7 +53,8 @@ module _ (p : Site) (call : ℕ → Bool → Code) (at_start in_hard : Bool) (s 
   class_fine inner casei ok x (refused (no_class i)) = true≢false (sym ok ∙ i)
   class_fine inner casei ok x (out_of_range i) = true≢false (sym i)
 
-  pub wrote_class : (inner : List ℕ) (casei : Bool) → is_class p.unicode inner casei ≡ true → Writes p (one (Instr.Class (Codepoint inner casei p.unicode))) [] s t → Written (plain.Delegate inner casei)
+  pub wrote_class : (inner : List ℕ) (casei : Bool) → is_class p.unicode inner casei ≡ true
+      → Writes p (one (Instr.Class (Codepoint inner casei p.unicode))) [] s t → Written (plain.Delegate inner casei)
   wrote_class inner casei ok h =
       wrote_node p _ (plain.Delegate inner casei) s t (class_fine inner casei ok, refl)
       (subst (λ k. Writes p k [] s t) (sym (ap (λ b. if b then one (Instr.Class (Codepoint inner casei p.unicode)) else nothing) ok)) h)
@@ -82,12 +84,15 @@ module _ (p : Site) (call : ℕ → Bool → Code) (at_start in_hard : Bool) (s 
   pub wrote_leaf : (start : ℕ) (w : plain.Within) (es : Trees) (x e : Expr) → x ≡ e → Written (node_over e start w es) → Written (node_over x start w es)
   wrote_leaf start w es x e is h = subst (λ y. Written (node_over y start w es)) (sym is) h
 
-pub class_refused : (p : Site) (s : Draft) (inner : List ℕ) (casei : Bool) (error : Error) → IsClassRefusal p.unicode inner casei error → (a : Laid) → Breaks p a (plain.Delegate inner casei ∷ []) s error
+pub class_refused : (p : Site) (s : Draft) (inner : List ℕ) (casei : Bool) (error : Error) → IsClassRefusal p.unicode inner casei error → (a : Laid)
+    → Breaks p a (plain.Delegate inner casei ∷ []) s error
 class_refused p s inner casei error.Memory h a = tt
 class_refused p s inner casei (error.CompileError (code.InnerError text)) h a =
-    inr (subst (λ l. HasRejected p (plain.Delegate inner casei ∷ []) (refusal.InnerError l)) (sym h.0) (rejected_here p (plain.Delegate inner casei) (refusal.InnerError inner) (refused (no_class h.1))))
+    inr (subst (λ l. HasRejected p (plain.Delegate inner casei ∷ []) (refusal.InnerError l)) (sym h.0)
+    (rejected_here p (plain.Delegate inner casei) (refusal.InnerError inner) (refused (no_class h.1))))
 class_refused p s inner casei (error.CompileError (code.ClassTooBig text)) h a =
-    inr (subst (λ l. HasRejected p (plain.Delegate inner casei ∷ []) (refusal.ClassTooBig l)) (sym h.0) (inl (record { node = plain.Delegate inner casei; is_below = itself; rejects = too_big })))
+    inr (subst (λ l. HasRejected p (plain.Delegate inner casei ∷ []) (refusal.ClassTooBig l)) (sym h.0)
+    (inl (record { node = plain.Delegate inner casei; is_below = itself; rejects = too_big })))
 class_refused p s inner casei (error.CompileError x) h a = absurd h
 class_refused p s inner casei (error.RuntimeError x) h a = h
 class_refused p s inner casei (error.TreeFault at) h a = h
@@ -101,7 +106,9 @@ inside_is plain.InLookAhead a = refl
 inside_is plain.InLookBehind (plain.StartLineOniguruma crlf) = refl
 inside_is plain.InLookBehind a = refl
 
-pub wrote_assertion : (p : Site) (call : ℕ → Bool → Code) (at_start in_hard : Bool) (s t : Draft) (w : plain.Within) (a : plain.Assertion) (in_look : Bool) → in_look ≡ is_look w → Writes p (one (Instr.Assert (assertion_inside in_look a))) [] s t → Writes p (hard_code p call (plain.Assert w a) at_start in_hard) (plain.Assert w a ∷ []) s t
+pub wrote_assertion : (p : Site) (call : ℕ → Bool → Code) (at_start in_hard : Bool) (s t : Draft) (w : plain.Within) (a : plain.Assertion) (in_look : Bool)
+    → in_look ≡ is_look w → Writes p (one (Instr.Assert (assertion_inside in_look a))) [] s t
+    → Writes p (hard_code p call (plain.Assert w a) at_start in_hard) (plain.Assert w a ∷ []) s t
 wrote_assertion p call at_start in_hard s t w a in_look is h =
     wrote_node p _ (plain.Assert w a) s t (safe_fine p (plain.Assert w a) refl refl)
     (subst (λ b. Writes p (one (Instr.Assert b)) [] s t) (ap (λ l. assertion_inside l a) is ∙ inside_is w a) h)

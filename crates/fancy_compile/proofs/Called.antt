@@ -2,6 +2,7 @@
 use Rattle.std.proofs.Common.{◌≡◌, ℕ, suc, ◌+◌, ◌-◌, ◌<◌, ◌≤◌, ◌==◌, ◌&&◌, ◌||◌, Bool, true, false, List, [], ◌∷◌, length, map, get_or, if◌then◌else◌, Some, None, nat_eq, nat_lt, nat_le, true≢false, refl, sym, ap, ◌∙◌, subst, arith, eq-eqb, ne_eqb, lt-ltb, ltb-true, ltb-false, leb-true, leb-false, eqb-true, Bor}
 use Rattle.std.specs.Prelude.{slice_index_or}
 use Rattle.std.specs.List.{list_any}
+use Rattle.std.proofs.lemmas.Bool.{and_parts}
 use Rattle.std.proofs.lemmas.List.{length-map}
 use Rattle.std.proofs.Math.ListN.{get_or-map}
 use Rattle.fancy_meaning.specs.Tree as plain
@@ -16,28 +17,24 @@ use Rattle.fancy_analysis.specs.declared.info.Info.{Info}
 use Rattle.fancy_analysis.specs.Infos.{info_tree, IsRoot}
 use Rattle.fancy_expr.specs.Each.{Each}
 use Rattle.fancy_analysis.proofs.GroupNumbers.{numbers}
-use Rattle.fancy_compile.specs.declared.task.Task.{Task}
-use Rattle.fancy_compile.specs.declared.task.Groups.{Groups}
-use Rattle.fancy_compile.specs.Nodes.{AreNumbered, IsBody, IsServed, has_target, node_count}
-use Rattle.fancy_compile.specs.Targets.{IsTable, group_trees}
+use Rattle.fancy_compile.specs.declared.scope.Scope.{Scope}
+use Rattle.fancy_compile.specs.declared.group_table.GroupTable.{GroupTable}
+use Rattle.fancy_compile.specs.Nodes.{AreNumbered, IsBody, IsScopeOf, has_target, node_count}
+use Rattle.fancy_compile.specs.GroupTables.{IsTable, group_trees}
 use Rattle.fancy_compile.proofs.Infos.{each_at}
 use Rattle.fancy_compile.proofs.GroupTable.{target_below, target_past, target_at}
 use Rattle.fancy_compile.proofs.Roots.{root_known}
-
-both_true : (a b : Bool) → (a && b) ≡ true → (a ≡ true) × (b ≡ true)
-both_true true b h = (refl, h)
-both_true false b h = absurd (true≢false (sym h))
 
 zero_calls : (whole : Tree) (g : ℕ) → g ≡ 0 → target whole g ≡ Some whole
 unfolding target
 zero_calls whole g is = ap (target whole) is
 
-module _ (a : Analysis) (task : Task) (s : IsServed a task) (g : ℕ) where
+module _ (a : Analysis) (scope : Scope) (s : IsScopeOf a scope) (g : ℕ) where
   abbrev first : ℕ
-  first = task.groups.now.first
+  first = scope.groups.now.first
 
   abbrev bodies : List (Bor Info)
-  bodies = task.groups.now.bodies.items
+  bodies = scope.groups.now.bodies.items
 
   as_many : length (groups a.tree) ≡ length bodies
   as_many = sym (length-map (groups a.tree) (λ h. h.1)) ∙ ap length (sym s.bodies) ∙ length-map bodies (λ b. info_tree b.now)
@@ -49,12 +46,12 @@ module _ (a : Analysis) (task : Task) (s : IsServed a task) (g : ℕ) where
   abbrev in_table : Bool
   in_table = nat_le first g && nat_lt (g - first) (length bodies)
 
-  test_of : ¬ (g ≡ 0) → has_target task.groups.now g ≡ in_table
+  test_of : ¬ (g ≡ 0) → has_target scope.groups.now g ≡ in_table
   test_of h = ap (λ b. b || in_table) (ne_eqb g 0 h)
 
-  pub in_range : ¬ (g ≡ 0) → has_target task.groups.now g ≡ true → (first ≤ g) × (g - first < length bodies)
+  pub in_range : ¬ (g ≡ 0) → has_target scope.groups.now g ≡ true → (first ≤ g) × (g - first < length bodies)
   in_range h found =
-      let both = both_true (nat_le first g) (nat_lt (g - first) (length bodies)) (sym (test_of h) ∙ found) in
+      let both = and_parts (nat_le first g) (nat_lt (g - first) (length bodies)) (sym (test_of h) ∙ found) in
       (leb-true first g both.0, ltb-true (g - first) (length bodies) both.1)
 
   no_body : ¬ (g ≡ 0) → (low : Bool) → nat_le first g ≡ low → (low && nat_lt (g - first) (length bodies)) ≡ false → target a.tree g ≡ None
@@ -63,7 +60,7 @@ module _ (a : Analysis) (task : Task) (s : IsServed a task) (g : ℕ) where
       let low = leb-true first g is in
       target_past a.tree first g s.numbers h (g - first) (omega (arith, low)) (omega (arith, as_many, ltb-false (g - first) (length bodies) missing))
 
-  pub no_target : has_target task.groups.now g ≡ false → target a.tree g ≡ None
+  pub no_target : has_target scope.groups.now g ≡ false → target a.tree g ≡ None
   no_target missing = by_zero (g == 0) refl
     where
       by_zero : (b : Bool) → (g == 0) ≡ b → target a.tree g ≡ None
@@ -74,27 +71,31 @@ module _ (a : Analysis) (task : Task) (s : IsServed a task) (g : ℕ) where
     pub body_target : ¬ (g ≡ 0) → target a.tree g ≡ Some (info_tree b.now)
     body_target h =
         target_at a.tree first g s.numbers h (g - first) (omega (arith, low)) (info_tree b.now) (omega (arith, lt, as_many))
-        ∙ ap Some (ap (λ l. get_or l (g - first) (info_tree b.now)) (sym s.bodies) ∙ get_or-map (λ x. info_tree x.now) bodies (g - first) b ∙ ap (λ x. info_tree x.now) (sym at))
+        ∙ ap Some (ap (λ l. get_or l (g - first) (info_tree b.now)) (sym s.bodies) ∙ get_or-map (λ x. info_tree x.now) bodies (g - first) b
+        ∙ ap (λ x. info_tree x.now) (sym at))
 
-    pub body_facts : IsBody a (node_count task.root.now) b
-    body_facts = each_at (IsBody a (node_count task.root.now)) bodies (g - first) b s.known lt at
+    pub body_facts : IsBody a (node_count scope.root.now) b
+    body_facts = each_at (IsBody a (node_count scope.root.now)) bodies (g - first) b s.known lt at
 
-    pub body_starts : slice_index_or task.groups.now.starts.items (g - first) false ≡ list_any (nat_eq g) (marked_groups a.tree a.tree)
+    pub body_starts : slice_index_or scope.groups.now.starts.items (g - first) false ≡ list_any (nat_eq g) (marked_groups a.tree a.tree)
     body_starts =
         let here : first + (g - first) ≡ g = omega (arith, low) in
         s.starts (g - first) ∙ ap (λ t. t && list_any (nat_eq (first + (g - first))) (marked_groups a.tree a.tree)) (lt-ltb (g - first) (length bodies) lt)
         ∙ ap (λ n. list_any (nat_eq n) (marked_groups a.tree a.tree)) here
 
   -- something is called
-  pub some_target : has_target task.groups.now g ≡ true → (b : Tree) × (target a.tree g ≡ Some b)
+  pub some_target : has_target scope.groups.now g ≡ true → (b : Tree) × (target a.tree g ≡ Some b)
   some_target found = by_zero (g == 0) refl
     where
       by_zero : (b : Bool) → (g == 0) ≡ b → (b : Tree) × (target a.tree g ≡ Some b)
       by_zero true is = (a.tree, zero_target (eqb-true g 0 is))
       by_zero false is =
           let h = λ (e : g ≡ 0). true≢false (sym (eq-eqb g 0 e) ∙ is) in
-          let range = in_range h found in
-          (get_or (group_trees a.tree) (g - first) a.tree, target_at a.tree first g s.numbers h (g - first) (omega (arith, range.0)) a.tree (omega (arith, range.1, as_many)))
+          let range = in_range h found in (
+            get_or (group_trees a.tree) (g - first) a.tree,
+            target_at a.tree first g s.numbers h (g - first) (omega (arith, range.0)) a.tree
+                (omega (arith, range.1, as_many)),
+          )
 
 -- ---- the table of an analysed tree
 
@@ -110,14 +111,15 @@ numbered_by : (n : ℕ) (hs : List (ℕ × Tree)) → map (λ h. h.0) hs ≡ ran
 numbered_by n [] e = tt
 numbered_by n (h ∷ hs) e = (ap head_of e, numbered_by (suc n) hs (ap tail_of e))
 
-module _ (a : Analysed) (i : Info) (r : IsRoot (analysis a) i) (first : ℕ) (g : Groups) (t : IsTable i first g) where
+module _ (a : Analysed) (i : Info) (r : IsRoot (analysis a) i) (first : ℕ) (g : GroupTable) (t : IsTable i first g) where
   pub table_bodies : map (λ b. info_tree b.now) g.bodies.items ≡ map (λ h. h.1) (groups (analysis a).tree)
   table_bodies = (t.bodies).bodies (analysis a) (root_known a i r) ∙ ap group_trees r.tree
 
   pub table_known : Each (IsBody (analysis a) (node_count i)) g.bodies.items
   table_known = (t.bodies).known (analysis a) (node_count i) (root_known a i r) (omega arith) tt
 
-  pub table_starts : (k : ℕ) → slice_index_or g.starts.items k false ≡ (nat_lt k (length g.bodies.items) && list_any (nat_eq (g.first + k)) (marked_groups (analysis a).tree (analysis a).tree))
+  pub table_starts : (k : ℕ) → slice_index_or g.starts.items k false ≡ (nat_lt k (length g.bodies.items) && list_any (nat_eq (g.first + k))
+      (marked_groups (analysis a).tree (analysis a).tree))
   table_starts k =
       t.starts (analysis a) (root_known a i r) k
       ∙ ap (λ n. nat_lt k (length g.bodies.items) && list_any (nat_eq (n + k)) (marked_groups (analysis a).tree (info_tree i))) (sym t.from)
@@ -128,4 +130,5 @@ module _ (a : Analysed) (i : Info) (r : IsRoot (analysis a) i) (first : ℕ) (g 
   numbers_from n e = numbered_by n (groups (numbered n e)) (numbers plain.NoLook n e)
 
   pub table_numbers : first ≡ (if (a.options).explicit_capture_group_0 then 0 else 1) → AreNumbered g.first (groups (analysis a).tree)
-  table_numbers is = subst (λ n. AreNumbered n (groups (analysis a).tree)) (sym (t.from ∙ is)) (numbers_from (if (a.options).explicit_capture_group_0 then 0 else 1) (a.parsed).tree)
+  table_numbers is = subst (λ n. AreNumbered n (groups (analysis a).tree)) (sym (t.from ∙ is))
+      (numbers_from (if (a.options).explicit_capture_group_0 then 0 else 1) (a.parsed).tree)

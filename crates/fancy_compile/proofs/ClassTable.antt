@@ -50,25 +50,29 @@ module _ (unicode casei u c : Bool) (inner other : List ℕ) (same : class_key u
 
 -- ---- the table with one more class
 
-module _ {Y Z : Type 0} (m n : BTreeMap (String Y) (Rc CharClassMatcher Z)) (unicode casei : Bool) (inner : List ℕ) (class : Rc CharClassMatcher Z) (is : IsClass unicode casei inner class)
+module _ {Y Z : Type 0} (m n : BTreeMap (String Y) (Rc CharClassMatcher Z)) (unicode casei : Bool) (inner : List ℕ) (class : Rc CharClassMatcher Z)
+    (is : IsClass unicode casei inner class)
     (sets : (key : List ℕ) → get_by_text n key ≡ update bytes_eq (get_by_text m) (class_key unicode inner casei) (Some class) key) where
   one_more : AreClasses m → AreClasses n
-  one_more known u c other found there = by_test (bytes_eq (class_key unicode inner casei) (class_key u other c)) refl (sym (sets (class_key u other c)) ∙ there)
+  one_more known u c other found there = by_test (bytes_eq (class_key unicode inner casei) (class_key u other c)) refl
+      (sym (sets (class_key u other c)) ∙ there)
     where
-      by_test : (v : Bool) → bytes_eq (class_key unicode inner casei) (class_key u other c) ≡ v → cond v (Some class) (get_by_text m (class_key u other c)) ≡ Some found → IsClass u c other found
+      by_test : (v : Bool) → bytes_eq (class_key unicode inner casei) (class_key u other c) ≡ v
+          → cond v (Some class) (get_by_text m (class_key u other c)) ≡ Some found → IsClass u c other found
       by_test true same h =
           subst (IsClass u c other) (ap (λ o. unwrap_or o class) h)
           (same_class unicode casei u c inner other ((bytes_eq-Decides (class_key unicode inner casei) (class_key u other c)).0 same) class is)
       by_test false other_key h = known u c other found h
 
 -- after an insertion, which may have been refused
-module _ {Y Z : Type 0} (m n : BTreeMap (String Y) (Rc CharClassMatcher Z)) (key : String Y) (class : Rc CharClassMatcher Z) (unicode casei : Bool) (inner : List ℕ)
+module _ {Y Z : Type 0} (m n : BTreeMap (String Y) (Rc CharClassMatcher Z)) (key : String Y) (class : Rc CharClassMatcher Z) (unicode casei : Bool)
+    (inner : List ℕ)
     (of_key : string_bytes key ≡ class_key unicode inner casei) (is : IsClass unicode casei inner class) (known : AreClasses m) where
-  pub inserted : {T E : Type 0} (r : Result T E) → OnOk r (Updates string_cmp m n key (Some class)) → OnErr r (IsUnchanged m n) → AreClasses n
-  inserted (Ok x) updates same =
+  pub classes_with_key : {T E : Type 0} (r : Result T E) → OnOk r (Updates string_cmp m n key (Some class)) → OnErr r (IsUnchanged m n) → AreClasses n
+  classes_with_key (Ok x) updates same =
       one_more m n unicode casei inner class is
       (subst (λ bytes. (k : List ℕ) → get_by_text n k ≡ update bytes_eq (get_by_text m) bytes (Some class) k) of_key
       (btree_map_updates_text (string_bytes key) m n (Some class) updates))
       known
-  inserted (Err e) updates same = λ u c other found there.
+  classes_with_key (Err e) updates same = λ u c other found there.
       known u c other found (sym (ap (lookup (is_at (λ k. slice_cmp nat_cmp (class_key u other c) (string_bytes k)))) same) ∙ there)

@@ -45,7 +45,8 @@ module _ (p : Plan) where
   below_last calls d b e (through {g = g} {body = c} lt at h) i = through lt at (below_last (opened g calls) c b e h i)
 
   -- what a call calls that is not calls too often before: there, or where it was called before
-  below_called : (calls : Depths) (d b : Tree) (g : ℕ) → IsBelow whole calls d (SubroutineCall g) → calls g < call_depth → target whole g ≡ Some b → IsBelow whole calls d b
+  below_called : (calls : Depths) (d b : Tree) (g : ℕ) → IsBelow whole calls d (SubroutineCall g) → calls g < call_depth → target whole g ≡ Some b
+      → IsBelow whole calls d b
   below_called calls d b g itself lt at = through lt at itself
   below_called calls d b g (below {c = c} j h) lt at = below j (below_called calls c b g h lt at)
   below_called calls d b g (through {g = k} {body = c} less there h) lt at = ⊎_elim
@@ -64,10 +65,10 @@ module _ (p : Plan) where
 
   -- ---- what is written
 
-  abbrev pub laid : Laid
-  laid = program_code p no_node 0 (first_fresh p no_node)
+  abbrev pub whole_code : Laid
+  whole_code = program_code p no_node 0 (first_fresh p no_node)
 
-  pub body_is : (undelegated_layout p).body ≡ laid.instrs
+  pub body_is : (undelegated_layout p).body ≡ whole_code.instrs
   unfolding undelegated_layout
   body_is = refl
 
@@ -80,27 +81,31 @@ module _ (p : Plan) where
   refused_at ranged e x w (rejected (out_of_range h)) = absurd (ranged e w h)
   refused_at ranged e x w (faults.too_big {casei = casei}) = too_big (casei, w)
 
-  refused_over : (most : Option ℕ) → p.max_prog_size ≡ most → IsOver most (length laid.instrs) → CompileRefuses p (length (undelegated_layout p).body) refusal.PatternTooComplex
+  refused_over : (most : Option ℕ) → p.max_prog_size ≡ most → IsOver most (length whole_code.instrs)
+      → CompileRefuses p (length (undelegated_layout p).body) refusal.PatternTooComplex
   refused_over None same h = absurd h
   refused_over (Some most) same h = too_long same (omega (arith, h, ap length body_is))
 
-  pub refused_breaks : AllInRange → (s : Draft) → s.limit ≡ p.max_prog_size → s.instrs ≡ [] → (x : Error) → Breaks (top p) laid (whole ∷ []) s x → Compiles p (Err x)
+  pub refused_breaks : AllInRange → (s : Draft) → s.limit ≡ p.max_prog_size → s.instrs ≡ [] → (x : Error) → Breaks (top p) whole_code (whole ∷ []) s x
+      → Compiles p (Err x)
   refused_breaks ranged s limit empty error.Memory h = h
   refused_breaks ranged s limit empty (error.CompileError x) (inl h) =
-      let count : length s.instrs + length laid.instrs ≡ length laid.instrs = omega (arith, ap length empty) in
-      let over = subst (λ n. IsOver p.max_prog_size n) count (subst (λ l. IsOver l (length s.instrs + length laid.instrs)) limit h.1) in
+      let count : length s.instrs + length whole_code.instrs ≡ length whole_code.instrs = omega (arith, ap length empty) in
+      let over = subst (λ n. IsOver p.max_prog_size n) count (subst (λ l. IsOver l (length s.instrs + length whole_code.instrs)) limit h.1) in
       subst (MayAnswer p) (sym h.0) (refuses (refused_over p.max_prog_size refl over))
-  refused_breaks ranged s limit empty (error.CompileError x) (inr (inl h)) = refused_at ranged h.node (error_of x) (written_below no_calls whole h.node root h.is_below) h.rejects
+  refused_breaks ranged s limit empty (error.CompileError x) (inr (inl h)) = refused_at ranged h.node (error_of x)
+      (written_below no_calls whole h.node root h.is_below) h.rejects
   refused_breaks ranged s limit empty (error.CompileError x) (inr (inr h)) = absurd h
   refused_breaks ranged s limit empty (error.RuntimeError x) h = h
   refused_breaks ranged s limit empty (error.TreeFault at) h = h
 
   -- ---- no case holds
 
-  small_enough : (most : ℕ) → p.max_prog_size ≡ Some most → ForSome p.max_prog_size (λ n. length laid.instrs ≤ n) → length laid.instrs ≤ most
+  small_enough : (most : ℕ) → p.max_prog_size ≡ Some most → ForSome p.max_prog_size (λ n. length whole_code.instrs ≤ n) → length whole_code.instrs ≤ most
   small_enough most same h = h most same
 
-  pub none_refused : IsCompilable (top p) whole → ForSome p.max_prog_size (λ n. length laid.instrs ≤ n) → p.bytes_mode ≡ plain.Unicode → (x : refusal.CompileError) → ¬ Refuses p x
+  pub none_refused : IsCompilable (top p) whole → ForSome p.max_prog_size (λ n. length whole_code.instrs ≤ n) → p.bytes_mode ≡ plain.Unicode
+      → (x : refusal.CompileError) → ¬ Refuses p x
   none_refused ok small mode x (refused_node {e = e} w r) = ok e (below_written e w) x (refused r)
   none_refused ok small mode x (too_long {most = most} same long) = absurd (omega (arith, long, ap length body_is, small_enough most same small))
   none_refused ok small mode x (bytes_mode h) = h mode
@@ -110,12 +115,15 @@ module _ (p : Plan) where
   abbrev pub start : ℕ → Draft
   start fresh = record { instrs = []; fresh = fresh; limit = p.max_prog_size; fault = None }
 
-  pub broken : AllInRange → (t : Draft) (x : Error) → Writes (top p) (program_code p no_node) (whole ∷ []) (start (first_fresh p no_node)) t → t.fault ≡ Some x → Compiles p (Err x)
-  broken ranged t x h is = refused_breaks ranged (start (first_fresh p no_node)) refl refl x (subst (Turns (top p) laid (whole ∷ []) (start (first_fresh p no_node)) t None) is h.turns)
+  pub error_may_answer : AllInRange → (t : Draft) (x : Error) → Writes (top p) (program_code p no_node) (whole ∷ []) (start (first_fresh p no_node)) t
+      → t.fault ≡ Some x → Compiles p (Err x)
+  error_may_answer ranged t x h is = refused_breaks ranged (start (first_fresh p no_node)) refl refl x
+      (subst (Turns (top p) whole_code (whole ∷ []) (start (first_fresh p no_node)) t None) is h.turns)
 
-  pub written : (t : Draft) → Writes (top p) (program_code p no_node) (whole ∷ []) (start (first_fresh p no_node)) t → t.fault ≡ None → Extends laid (start (first_fresh p no_node)) t × IsCompilable (top p) whole
+  pub written : (t : Draft) → Writes (top p) (program_code p no_node) (whole ∷ []) (start (first_fresh p no_node)) t → t.fault ≡ None
+      → Extends whole_code (start (first_fresh p no_node)) t × IsCompilable (top p) whole
   written t h is =
-      let done = subst (Turns (top p) laid (whole ∷ []) (start (first_fresh p no_node)) t None) is h.turns in
+      let done = subst (Turns (top p) whole_code (whole ∷ []) (start (first_fresh p no_node)) t None) is h.turns in
       (done.0, done.1.0)
 
   -- ---- the program
@@ -132,12 +140,14 @@ module _ (p : Plan) where
     unicode = p.unicode;
   }
 
-  pub same_program : (body : List Instr) (max_size total slots : ℕ) (explicit not_empty : Bool) → body ≡ laid.instrs → max_size ≡ (size whole whole).most → total ≡ group_count whole → slots ≡ max 2 laid.fresh → explicit ≡ (p.analysis.options).explicit_capture_group_0 → not_empty ≡ (p.analysis.options).find_not_empty → made body max_size total slots explicit not_empty ≡ undelegated_layout p
+  pub same_program : (body : List Instr) (max_size total slots : ℕ) (explicit not_empty : Bool) → body ≡ whole_code.instrs → max_size ≡ (size whole whole).most
+      → total ≡ group_count whole → slots ≡ max 2 whole_code.fresh → explicit ≡ (p.analysis.options).explicit_capture_group_0
+      → not_empty ≡ (p.analysis.options).find_not_empty → made body max_size total slots explicit not_empty ≡ undelegated_layout p
   unfolding undelegated_layout
   same_program body max_size total slots explicit not_empty b m g s e n =
       ap (λ x. made x max_size total slots explicit not_empty) b
-      ∙ ap (λ x. made laid.instrs x total slots explicit not_empty) m
-      ∙ ap (λ x. made laid.instrs (size whole whole).most x slots explicit not_empty) g
-      ∙ ap (λ x. made laid.instrs (size whole whole).most (group_count whole) x explicit not_empty) s
-      ∙ ap (λ x. made laid.instrs (size whole whole).most (group_count whole) (max 2 laid.fresh) x not_empty) e
-      ∙ ap (λ x. made laid.instrs (size whole whole).most (group_count whole) (max 2 laid.fresh) (p.analysis.options).explicit_capture_group_0 x) n
+      ∙ ap (λ x. made whole_code.instrs x total slots explicit not_empty) m
+      ∙ ap (λ x. made whole_code.instrs (size whole whole).most x slots explicit not_empty) g
+      ∙ ap (λ x. made whole_code.instrs (size whole whole).most (group_count whole) x explicit not_empty) s
+      ∙ ap (λ x. made whole_code.instrs (size whole whole).most (group_count whole) (max 2 whole_code.fresh) x not_empty) e
+      ∙ ap (λ x. made whole_code.instrs (size whole whole).most (group_count whole) (max 2 whole_code.fresh) (p.analysis.options).explicit_capture_group_0 x) n

@@ -28,7 +28,8 @@ module _ (p : Site) where
   rejected_second (e ∷ es) ds x h = inr (rejected_second es ds x h)
 
   module _ (a b : Laid) (es ds : List Tree) (s t : Draft) where
-    pub breaks_by : (IsOver t.limit (length t.instrs + length b.instrs) → IsOver s.limit (length s.instrs + length a.instrs)) → ((x : plain.CompileError) → HasRejected p ds x → HasRejected p es x) → (x : Error) → Breaks p b ds t x → Breaks p a es s x
+    pub breaks_by : (IsOver t.limit (length t.instrs + length b.instrs) → IsOver s.limit (length s.instrs + length a.instrs))
+        → ((x : plain.CompileError) → HasRejected p ds x → HasRejected p es x) → (x : Error) → Breaks p b ds t x → Breaks p a es s x
     breaks_by over rejected error.Memory h = h
     breaks_by over rejected (error.CompileError x) (inl h) = inl (h.0, over h.1)
     breaks_by over rejected (error.CompileError x) (inr h) = inr (rejected _ h)

@@ -8,17 +8,38 @@ use Rattle.fancy_meaning.specs.Sizes.{Size, size}
 use Rattle.fancy_meaning.specs.Layout.{program_code, first_fresh, undelegated_layout}
 use Rattle.fancy_meaning.specs.Premises.{Analysed, analysis}
 use Rattle.fancy_analysis.specs.declared.info.Info.{Info}
-use Rattle.fancy_analysis.specs.Infos.{info_size, info_facts}
+use Rattle.fancy_analysis.specs.Infos.{IsRoot, info_size, info_facts}
 use Rattle.fancy_compile.specs.declared.options.CompileOptions.{CompileOptions}
+use Rattle.fancy_compile.specs.declared.scope.Scope.{Scope}
+use Rattle.fancy_compile.specs.GroupTables.{IsTable}
+use Rattle.fancy_compile.specs.Nodes.{IsScopeOf}
 use Rattle.fancy_compile.specs.Sites.{top}
 use Rattle.fancy_compile.specs.Drafts.{Draft, Extends, Writes, no_node}
 use Rattle.fancy_meaning.specs.AnalysisRefusals.{CompileError, AnalysisRefuses}
 use Rattle.fancy_meaning.specs.Fits.{program_fits}
 use Rattle.fancy_fits.proofs.Programs.{layouts_fit}
-use Rattle.fancy_compile.specs.Compiled.{IsWritingOf, MayCompile, options_of, plan_with}
+use Rattle.fancy_compile.specs.Compiled.{IsWritingOf, MayCompile, compile_options_of, plan_with}
+use Rattle.fancy_compile.proofs.Called.{table_bodies, table_numbers, table_known, table_starts}
 use Rattle.fancy_compile.proofs.Infos.{size_known}
 use Rattle.fancy_compile.proofs.Roots.{root_known}
-use Rattle.fancy_compile.proofs.Compiled.{start, laid, made, same_program}
+use Rattle.fancy_compile.proofs.Compiled.{start, whole_code, made, same_program}
+
+-- the scope of the root, with the table of its groups
+pub scope_of_table : (a : Analysed) (scope : Scope) → IsRoot (analysis a) scope.root.now
+    → (explicit : Bool) → explicit ≡ ((info_facts scope.root.now).options).explicit_capture_group_0
+    → (first : ℕ) → first ≡ (if explicit then 0 else 1) → IsTable scope.root.now first scope.groups.now → IsScopeOf (analysis a) scope
+scope_of_table a scope r explicit read first is t =
+    let i = scope.root.now in
+    let g = scope.groups.now in
+    let from = is ∙ ap (λ b. if b then 0 else 1) (read ∙ ap (λ (x : AnalysisOptions). x.explicit_capture_group_0) (r.node).options) in
+    record {
+      tree = r.tree;
+      root = root_known a i r;
+      bodies = table_bodies a i r first g t;
+      numbers = table_numbers a i r first g t from;
+      known = table_known a i r first g t;
+      starts = table_starts a i r first g t;
+    }
 
 module _ (a : Analysed) (i : Info) (o : CompileOptions) (m : MayCompile a i o) where
   abbrev p : Plan
@@ -28,7 +49,8 @@ module _ (a : Analysed) (i : Info) (o : CompileOptions) (m : MayCompile a i o) w
   whole = p.analysis.tree
 
   -- what is read of the root
-  module _ (explicit : Bool) (total : ℕ) (explicit_read : explicit ≡ ((info_facts i).options).explicit_capture_group_0) (total_is : total ≡ group_count whole) where
+  module _ (explicit : Bool) (total : ℕ) (explicit_read : explicit ≡ ((info_facts i).options).explicit_capture_group_0)
+      (total_is : total ≡ group_count whole) where
     explicit_is : explicit ≡ ((analysis a).options).explicit_capture_group_0
     explicit_is = explicit_read ∙ ap (λ (x : AnalysisOptions). x.explicit_capture_group_0) ((m.root).node).options
 
@@ -42,18 +64,22 @@ module _ (a : Analysed) (i : Info) (o : CompileOptions) (m : MayCompile a i o) w
     draft instrs fresh = record { instrs = instrs; fresh = fresh; limit = o.max_prog_size; fault = None }
 
     -- the writing begins as the layout does
-    pub begun : (instrs : List Instr) (fresh : ℕ) (t : Draft) → instrs ≡ [] → fresh ≡ fresh_by explicit total → Writes (top p) (program_code p no_node) (whole ∷ []) (draft instrs fresh) t → IsWritingOf p t
-    begun instrs fresh t none at h =
+    pub writing_from_start : (instrs : List Instr) (fresh : ℕ) (t : Draft) → instrs ≡ [] → fresh ≡ fresh_by explicit total
+        → Writes (top p) (program_code p no_node) (whole ∷ []) (draft instrs fresh) t → IsWritingOf p t
+    writing_from_start instrs fresh t none at h =
         subst (λ n. Writes (top p) (program_code p no_node) (whole ∷ []) (draft [] n) t) (at ∙ fresh_is)
         (subst (λ l. Writes (top p) (program_code p no_node) (whole ∷ []) (draft l fresh) t) none h)
 
     -- the parts are those of the layout
-    pub finished : (not_empty : Bool) → not_empty ≡ ((info_facts i).options).find_not_empty → (most slots : ℕ) (t : Draft) → most ≡ (info_size i).most → Extends (laid p) (start p (first_fresh p no_node)) t → slots ≡ max 2 t.fresh → made p t.instrs most total slots explicit not_empty ≡ undelegated_layout p
-    finished not_empty not_empty_read most slots t size_is e room =
+    pub finish_compiles : (not_empty : Bool) → not_empty ≡ ((info_facts i).options).find_not_empty → (most slots : ℕ) (t : Draft) → most ≡ (info_size i).most
+        → Extends (whole_code p) (start p (first_fresh p no_node)) t → slots ≡ max 2 t.fresh
+        → made p t.instrs most total slots explicit not_empty ≡ undelegated_layout p
+    finish_compiles not_empty not_empty_read most slots t size_is e room =
         same_program p t.instrs most total slots explicit not_empty e.instrs
         (size_is ∙ ap (λ (s : Size). s.most) (size_known i (analysis a) (root_known a i m.root) ∙ ap (size whole) (m.root).tree))
         total_is (room ∙ ap (max 2) e.fresh) explicit_is (not_empty_read ∙ ap (λ (x : AnalysisOptions). x.find_not_empty) ((m.root).node).options)
 
 -- the machine takes the program
-pub fits : (a : Analysed) (o : CompileOptions) → ((error : CompileError) → ¬ AnalysisRefuses a.parsed a.options error) → program_fits (undelegated_layout (plan_with a o)) ≡ true
-fits a o accepted = (layouts_fit (record { parsed = a.parsed; analysis = a.options; options = options_of o }) accepted).0
+pub fits : (a : Analysed) (o : CompileOptions) → ((error : CompileError) → ¬ AnalysisRefuses a.parsed a.options error)
+    → program_fits (undelegated_layout (plan_with a o)) ≡ true
+fits a o accepted = (layouts_fit (record { parsed = a.parsed; analysis = a.options; options = compile_options_of o }) accepted).0

@@ -2,6 +2,7 @@
 use Rattle.std.proofs.Common.{◌≡◌, ℕ, zero, suc, ◌+◌, ◌<◌, ◌≤◌, ◌&&◌, ◌||◌, Bool, true, false, List, [], ◌∷◌, ◌++◌, length, map, drop, filter_map, get_or, Some, None, if◌then◌else◌, nat_eq, nat_lt, true≢false, refl, sym, ap, ap₂, ◌∙◌, arith, append-nil, eq-eqb, ne_eqb}
 use Rattle.std.specs.Prelude.{slice_index_or}
 use Rattle.std.specs.List.{list_any}
+use Rattle.std.proofs.lemmas.List.Folds.{list_any-append}
 use Rattle.std.proofs.lemmas.List.{length-map, map-append, drop_all}
 use Rattle.std.proofs.lemmas.List.Elements.{filter_map-append}
 use Rattle.fancy_meaning.specs.Tree as plain
@@ -20,9 +21,9 @@ use Rattle.fancy_analysis.specs.Infos.{nth, node_over, absent_over, info_tree, i
 use Rattle.fancy_expr.specs.Each.{Each}
 use Rattle.fancy_analysis.proofs.Unfolded.{tree_out}
 use Rattle.fancy_compile.specs.Nodes.{AreNumbered, IsKnown, node_count}
-use Rattle.fancy_compile.specs.Targets.{is_group, is_concat, group_trees, own_trees, MarksAll}
-use Rattle.fancy_compile.proofs.Infos.{rest_at, only_one, known_child, each_at, counted, child_count}
-use Rattle.fancy_compile.proofs.Absents.{nodes_of_info}
+use Rattle.fancy_compile.specs.GroupTables.{is_group, is_concat, group_trees, own_trees, MarksAll}
+use Rattle.fancy_compile.proofs.Infos.{rest_at, only_one, known_child, each_at, node_count-below, child_count}
+use Rattle.fancy_compile.proofs.AbsentLaws.{nodes_of_info}
 
 -- ---- the bodies of a node's groups
 
@@ -64,16 +65,19 @@ module _ (n : ℕ) (w : Within) where
   over_alone (code.Absent a) ts h = absent_alone a (trees ts)
   over_alone e ts h = refl
 
-pub groups_of_info : (a : Analysis) (i : Info) → IsKnown a i → group_trees (info_tree i) ≡ own_trees (is_group (info_facts i).expr) (map info_tree (info_children i)) ++ each_group_trees (info_children i)
+pub groups_of_info : (a : Analysis) (i : Info) → IsKnown a i → group_trees (info_tree i) ≡ own_trees (is_group (info_facts i).expr)
+    (map info_tree (info_children i)) ++ each_group_trees (info_children i)
 groups_of_info a i k =
     let ts = map info_tree (info_children i) in
     in_among (info_tree i) ∙ ap bodies_among (nodes_of_info a i k)
     ∙ among-append (info_tree i ∷ []) (nodes_of_each (trees ts))
     ∙ ap₂ (λ x y. x ++ y)
-    (ap (λ t. bodies_among (t ∷ [])) (tree_out i) ∙ over_alone (out-Info i).start_group (info_within i) (out-Info i).expr.now ts (length-map (info_children i) info_tree ∙ (k.node).arity))
+    (ap (λ t. bodies_among (t ∷ [])) (tree_out i) ∙ over_alone (out-Info i).start_group (info_within i) (out-Info i).expr.now ts
+    (length-map (info_children i) info_tree ∙ (k.node).arity))
     (each-among (info_children i))
 
-pub each_rest : (l : List Info) (i : ℕ) (x : Info) → i < length l → x ≡ get_or l i x → each_group_trees (drop i l) ≡ group_trees (info_tree x) ++ each_group_trees (drop (i + 1) l)
+pub each_rest : (l : List Info) (i : ℕ) (x : Info) → i < length l → x ≡ get_or l i x
+    → each_group_trees (drop i l) ≡ group_trees (info_tree x) ++ each_group_trees (drop (i + 1) l)
 each_rest l i x lt at = ap each_group_trees (rest_at l i x lt at)
 
 pub each_done : (l : List Info) (i : ℕ) → length l ≤ i → each_group_trees (drop i l) ≡ []
@@ -84,10 +88,6 @@ each_append P [] x h hx = (hx, tt)
 each_append P (y ∷ l) x h hx = (h.0, each_append P l x h.1 hx)
 
 -- ---- marks
-
-any-append : (f : ℕ → Bool) (xs ys : List ℕ) → list_any f (xs ++ ys) ≡ (list_any f xs || list_any f ys)
-any-append f [] ys = refl
-any-append f (x ∷ xs) ys = elim (f x) as (λ b. (b || list_any f (xs ++ ys)) ≡ ((b || list_any f xs) || list_any f ys)) [ true ↦ refl | false ↦ any-append f xs ys ]
 
 or_and : (o l g h : Bool) → ((o || (l && g)) || (l && h)) ≡ (o || (l && (g || h)))
 or_and true l g h = refl
@@ -108,7 +108,7 @@ module _ (first : ℕ) where
         g.marks k
         ∙ ap₂ (λ x n. x || (nat_lt k n && list_any (nat_eq (first + k)) hs)) (h.marks k) h.as_many
         ∙ or_and (slice_index_or old k false) (nat_lt k (length old)) (list_any (nat_eq (first + k)) gs) (list_any (nat_eq (first + k)) hs)
-        ∙ ap (λ b. slice_index_or old k false || (nat_lt k (length old) && b)) (sym (any-append (nat_eq (first + k)) gs hs));
+        ∙ ap (λ b. slice_index_or old k false || (nat_lt k (length old) && b)) (sym (list_any-append (nat_eq (first + k)) gs hs));
   }
 
   pub marks_none : (old : List Bool) → MarksAll first [] old old
@@ -129,22 +129,28 @@ module _ (a : Analysis) where
   other_starts (code.Absent x) n w es g c = absent_starts x es
   other_starts e n w es g c = refl
 
-  concat_starts : (e : Expr) (n : ℕ) (w : Within) (es : Trees) → is_concat e ≡ true → marked_groups a.tree (node_over e n w es) ≡ filter_map group_number (first_marked_nodes a.tree es)
+  concat_starts : (e : Expr) (n : ℕ) (w : Within) (es : Trees) → is_concat e ≡ true
+      → marked_groups a.tree (node_over e n w es) ≡ filter_map group_number (first_marked_nodes a.tree es)
   concat_starts (code.Concat' shape row) n w es c = refl
   concat_starts e n w es c = absurd (true≢false (sym c))
 
-  group_starts_over : (e : Expr) (n : ℕ) (w : Within) (t : Tree) → is_group e ≡ true → marked_groups a.tree (node_over e n w (trees (t ∷ []))) ≡ n ∷ marked_groups a.tree t
+  group_starts_over : (e : Expr) (n : ℕ) (w : Within) (t : Tree) → is_group e ≡ true
+      → marked_groups a.tree (node_over e n w (trees (t ∷ []))) ≡ n ∷ marked_groups a.tree t
   group_starts_over (code.Group' b e) n w t g = refl
   group_starts_over e n w t g = absurd (true≢false (sym g))
 
   module _ (i : Info) where
     pub no_starts : is_group (info_facts i).expr ≡ false → is_concat (info_facts i).expr ≡ false → marked_groups a.tree (info_tree i) ≡ []
-    no_starts g c = ap (marked_groups a.tree) (tree_out i) ∙ other_starts (out-Info i).expr.now (out-Info i).start_group (info_within i) (trees (map info_tree (info_children i))) g c
+    no_starts g c = ap (marked_groups a.tree) (tree_out i) ∙ other_starts (out-Info i).expr.now (out-Info i).start_group (info_within i)
+        (trees (map info_tree (info_children i))) g c
 
-    pub starts_of_concat : is_concat (info_facts i).expr ≡ true → marked_groups a.tree (info_tree i) ≡ filter_map group_number (first_marked_nodes a.tree (trees (map info_tree (info_children i))))
-    starts_of_concat c = ap (marked_groups a.tree) (tree_out i) ∙ concat_starts (out-Info i).expr.now (out-Info i).start_group (info_within i) (trees (map info_tree (info_children i))) c
+    pub starts_of_concat : is_concat (info_facts i).expr ≡ true → marked_groups a.tree (info_tree i) ≡ filter_map group_number
+        (first_marked_nodes a.tree (trees (map info_tree (info_children i))))
+    starts_of_concat c = ap (marked_groups a.tree) (tree_out i) ∙ concat_starts (out-Info i).expr.now (out-Info i).start_group (info_within i)
+        (trees (map info_tree (info_children i))) c
 
-    pub starts_of_group : (b : Info) → is_group (info_facts i).expr ≡ true → info_children i ≡ b ∷ [] → marked_groups a.tree (info_tree i) ≡ (info_facts i).start_group ∷ marked_groups a.tree (info_tree b)
+    pub starts_of_group : (b : Info) → is_group (info_facts i).expr ≡ true → info_children i ≡ b ∷ []
+        → marked_groups a.tree (info_tree i) ≡ (info_facts i).start_group ∷ marked_groups a.tree (info_tree b)
     starts_of_group b g only =
         ap (marked_groups a.tree) (tree_out i)
         ∙ ap (λ l. marked_groups a.tree (node_over (out-Info i).expr.now (out-Info i).start_group (info_within i) (trees (map info_tree l)))) only
@@ -195,7 +201,7 @@ module _ (i b : Info) (g : is_group (info_facts i).expr ≡ true) (at : b ≡ ge
   body_known = known_child a b (each_at (IsAnalysed a) (info_children i) 0 b k.children (omega (arith, one_child)) at)
 
   pub body_smaller : node_count b < node_count i
-  body_smaller = omega (arith, counted i, child_count (info_children i) 0 b (omega (arith, one_child)) at)
+  body_smaller = omega (arith, node_count-below i, child_count (info_children i) 0 b (omega (arith, one_child)) at)
 
   pub own_body : own_trees (is_group (info_facts i).expr) (map info_tree (info_children i)) ≡ info_tree b ∷ []
   own_body = ap (λ t. own_trees t (map info_tree (info_children i))) g ∙ ap (λ l. own_trees true (map info_tree l)) only_body

@@ -12,7 +12,7 @@ use Rattle.fancy_expr.specs.Exprs.{below}
 use Rattle.fancy_analysis.specs.Infos.{info_tree, info_children, info_size, info_within, node_over, IsFound, IsAnalysed}
 use Rattle.fancy_expr.specs.Each.{Each}
 use Rattle.fancy_analysis.proofs.Unfolded.{tree_out, each_here, each_below}
-use Rattle.fancy_compile.specs.declared.task.Task.{Task}
+use Rattle.fancy_compile.specs.declared.scope.Scope.{Scope}
 use Rattle.fancy_compile.specs.Nodes.{total, size_step, node_count, IsWhole, AreWhole, IsKnown}
 
 -- ---- lists
@@ -43,8 +43,8 @@ children_trees (e ∷ es) = ap (λ l. e ∷ l) (children_trees es)
 
 -- ---- how many nodes there are
 
-pub counted : (i : Info) → node_count i ≡ suc (total (map node_count (info_children i)))
-counted i = fold_out-Info ℕ size_step i
+pub node_count-below : (i : Info) → node_count i ≡ suc (total (map node_count (info_children i)))
+node_count-below i = fold_out-Info ℕ size_step i
 
 pub child_count : (l : List Info) (i : ℕ) (x : Info) → i < length l → x ≡ get_or l i x → node_count x ≤ total (map node_count l)
 child_count [] i x h e = absurd (omega arith)
@@ -56,19 +56,26 @@ child_count (y ∷ l) (suc i) x h e = omega (arith, child_count l i x (omega ari
 pub known_child : (a : Analysis) (i : Info) → IsAnalysed a i → IsKnown a i
 known_child a i h = record { node = (each_here (IsFound a) i h).node; children = each_below (IsFound a) i h }
 
-module _ (task : Task) where
-  pub whole_below : (i : Info) → IsWhole task i → AreWhole task (info_children i)
-  whole_below i h = record { analysis = h.analysis; served = h.served; each = (h.known).children; small = omega (arith, counted i, h.small) }
+module _ (scope : Scope) where
+  pub whole_below : (i : Info) → IsWhole scope i → AreWhole scope (info_children i)
+  whole_below i h = record { analysis = h.analysis; of_tree = h.of_tree; each = (h.known).children; small = omega (arith, node_count-below i, h.small) }
 
-  pub whole_arity : (i : Info) → IsWhole task i → length (info_children i) ≡ length (below (out-Info i).expr.now)
+  pub whole_arity : (i : Info) → IsWhole scope i → length (info_children i) ≡ length (below (out-Info i).expr.now)
   whole_arity i h = ((h.known).node).arity
 
-  pub whole_at : (l : List Info) (i : ℕ) (x : Info) → AreWhole task l → i < length l → x ≡ get_or l i x → IsWhole task x
-  whole_at l i x h lt at = record { analysis = h.analysis; served = h.served; known = known_child h.analysis x (each_at (IsAnalysed h.analysis) l i x h.each lt at); small = omega (arith, child_count l i x lt at, h.small) }
+  pub whole_at : (l : List Info) (i : ℕ) (x : Info) → AreWhole scope l → i < length l → x ≡ get_or l i x → IsWhole scope x
+  whole_at l i x h lt at = record {
+    analysis = h.analysis;
+    of_tree = h.of_tree;
+    known = known_child h.analysis x
+        (each_at (IsAnalysed h.analysis) l i x h.each lt at);
+    small = omega (arith, child_count l i x lt at, h.small);
+  }
 
 module _ (info : Info) where
   -- the tree by this expression and these children
-  pub tree_by : (e : Expr) (l : List Info) → (out-Info info).expr.now ≡ e → info_children info ≡ l → info_tree info ≡ node_over e (out-Info info).start_group (info_within info) (trees (map info_tree l))
+  pub tree_by : (e : Expr) (l : List Info) → (out-Info info).expr.now ≡ e → info_children info ≡ l
+      → info_tree info ≡ node_over e (out-Info info).start_group (info_within info) (trees (map info_tree l))
   tree_by e l at kids =
       tree_out info ∙ ap (λ x. node_over x (out-Info info).start_group (info_within info) (trees (map info_tree (info_children info)))) at
       ∙ ap (λ m. node_over e (out-Info info).start_group (info_within info) (trees (map info_tree m))) kids
@@ -76,42 +83,43 @@ module _ (info : Info) where
   pub size_known : (a : Analysis) → IsKnown a info → info_size info ≡ size a.tree (info_tree info)
   size_known a k = k.node.size ∙ ap (size a.tree) (sym (tree_out info))
 
-module _ (task : Task) (info : Info) where
+module _ (scope : Scope) (info : Info) where
   -- a node over one other
-  module _ (d : Info) (e : Expr) (at : (out-Info info).expr.now ≡ e) (whole : IsWhole task info) (one : length (below e) ≡ 1) where
+  module _ (d : Info) (e : Expr) (at : (out-Info info).expr.now ≡ e) (whole : IsWhole scope info) (one : length (below e) ≡ 1) where
     pub has_one : length (info_children info) ≡ 1
-    has_one = whole_arity task info whole ∙ ap (λ x. length (below x)) at ∙ one
+    has_one = whole_arity scope info whole ∙ ap (λ x. length (below x)) at ∙ one
 
     pub only_child : d ≡ get_or (info_children info) 0 d → info_children info ≡ d ∷ []
     only_child here = only_one (info_children info) d has_one here
 
     -- its body is smaller and whole
     pub smaller_child : d ≡ get_or (info_children info) 0 d → node_count d < node_count info
-    smaller_child here = omega (arith, counted info, has_one, child_count (info_children info) 0 d (omega (arith, has_one)) here)
+    smaller_child here = omega (arith, node_count-below info, has_one, child_count (info_children info) 0 d (omega (arith, has_one)) here)
 
-    pub whole_child : d ≡ get_or (info_children info) 0 d → IsWhole task d
-    whole_child here = whole_at task (info_children info) 0 d (whole_below task info whole) (omega (arith, has_one)) here
+    pub whole_child : d ≡ get_or (info_children info) 0 d → IsWhole scope d
+    whole_child here = whole_at scope (info_children info) 0 d (whole_below scope info whole) (omega (arith, has_one)) here
 
     pub known_only : d ≡ get_or (info_children info) 0 d → (a : Analysis) → IsKnown a info → IsKnown a d
     known_only here a k = known_child a d (each_at (IsAnalysed a) (info_children info) 0 d k.children (omega (arith, has_one)) here)
 
   -- a node over three others
-  module _ (c d x : Info) (e : Expr) (at : (out-Info info).expr.now ≡ e) (whole : IsWhole task info) (three : length (below e) ≡ 3) (c_at : c ≡ get_or (info_children info) 0 c) (d_at : d ≡ get_or (info_children info) 1 d) (x_at : x ≡ get_or (info_children info) 2 x) where
+  module _ (c d x : Info) (e : Expr) (at : (out-Info info).expr.now ≡ e) (whole : IsWhole scope info) (three : length (below e) ≡ 3)
+      (c_at : c ≡ get_or (info_children info) 0 c) (d_at : d ≡ get_or (info_children info) 1 d) (x_at : x ≡ get_or (info_children info) 2 x) where
     pub has_three : length (info_children info) ≡ 3
-    has_three = whole_arity task info whole ∙ ap (λ y. length (below y)) at ∙ three
+    has_three = whole_arity scope info whole ∙ ap (λ y. length (below y)) at ∙ three
 
     pub three_children : info_children info ≡ c ∷ d ∷ x ∷ []
     three_children = only_three (info_children info) c d x has_three c_at d_at x_at
 
     pub smaller_three : node_count c + node_count d + node_count x < node_count info
-    smaller_three = omega (arith, counted info, ap (λ l. total (map node_count l)) three_children)
+    smaller_three = omega (arith, node_count-below info, ap (λ l. total (map node_count l)) three_children)
 
-    pub whole_three : IsWhole task c × (IsWhole task d × IsWhole task x)
+    pub whole_three : IsWhole scope c × (IsWhole scope d × IsWhole scope x)
     whole_three = (
-      whole_at task (info_children info) 0 c (whole_below task info whole) (omega (arith, has_three)) c_at,
+      whole_at scope (info_children info) 0 c (whole_below scope info whole) (omega (arith, has_three)) c_at,
       (
-        whole_at task (info_children info) 1 d (whole_below task info whole) (omega (arith, has_three)) d_at,
-        whole_at task (info_children info) 2 x (whole_below task info whole) (omega (arith, has_three)) x_at,
+        whole_at scope (info_children info) 1 d (whole_below scope info whole) (omega (arith, has_three)) d_at,
+        whole_at scope (info_children info) 2 x (whole_below scope info whole) (omega (arith, has_three)) x_at,
       ),
     )
 

@@ -5,13 +5,13 @@ pub mod Written
 pub mod Infos
 pub mod Concat
 pub mod Alone
-pub mod Loops
+pub mod Neighbours
 pub mod LoopForms
 pub mod Closings
 pub mod Lookbehinds
-pub mod Absents
-pub mod OpenTasks
-pub mod Calls
+pub mod AbsentLaws
+pub mod OpenDepths
+pub mod CallLaws
 pub mod GroupTable
 pub mod Called
 pub mod Compiled

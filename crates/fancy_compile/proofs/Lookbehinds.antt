@@ -17,8 +17,7 @@ use Rattle.fancy_analysis.specs.declared.info.Info.TheViews.{out-Info}
 use Rattle.fancy_analysis.specs.Infos.{node_over, absent_over, info_tree, info_size, info_within, info_children, info_facts, IsAnalysed}
 use Rattle.fancy_expr.specs.Each.{Each}
 use Rattle.fancy_analysis.proofs.Unfolded.{tree_out}
-use Rattle.fancy_compile.specs.declared.around.Around.TheVariants as around
-use Rattle.fancy_compile.specs.Arounds.{around_code}
+use Rattle.fancy_compile.specs.Arounds.{around_code, behind, not_behind}
 use Rattle.fancy_compile.specs.Faults.{Rejects, refused, out_of_range, HasRejected}
 use Rattle.fancy_compile.specs.Drafts.{Draft, Writes, hard_code}
 use Rattle.fancy_compile.specs.Nodes.{is_alt, has_const_branches, IsKnown, codes_of_branches, codes_of_none}
@@ -66,10 +65,10 @@ module _ (n : ℕ) (w : Within) (es : Trees) where
   absent_alone (code_absent.Stopper' b e) = refl
   absent_alone code_absent.Clear = refl
 
-  alone : (e : Expr) → is_alt e ≡ false → branches_of (node_over e n w es) ≡ more (node_over e n w es) none
-  alone (code.Alt' shape row) h = absurd (true≢false h)
-  alone (code.Absent a) h = absent_alone a
-  alone e h = refl
+  other_branches : (e : Expr) → is_alt e ≡ false → branches_of (node_over e n w es) ≡ more (node_over e n w es) none
+  other_branches (code.Alt' shape row) h = absurd (true≢false h)
+  other_branches (code.Absent a) h = absent_alone a
+  other_branches e h = refl
 
 module _ (a : Analysis) where
   abbrev is_const : Tree → Bool
@@ -80,20 +79,23 @@ module _ (a : Analysis) where
   const_sizes (i ∷ l) h = ap₂ (λ x y. x && y) (ap (λ (z : Size). z.is_const) (size_known i a (known_child a i h.0))) (const_sizes l h.1)
 
   module _ (i : Info) (k : IsKnown a i) where
-    pub const_branches : has_const_branches i ≡ true → (info_tree i ≡ Alt (trees (map info_tree (info_children i)))) × (list_all is_const (map info_tree (info_children i)) ≡ true)
+    pub const_branches : has_const_branches i ≡ true → (info_tree i ≡ Alt (trees (map info_tree (info_children i)))) ×
+        (list_all is_const (map info_tree (info_children i)) ≡ true)
     const_branches h =
         let both = both_true (is_alt (info_facts i).expr) _ h in (
           tree_out i ∙ alt_over (out-Info i).start_group (info_within i) (trees (map info_tree (info_children i))) (out-Info i).expr.now both.0,
           sym (const_sizes (info_children i) k.children) ∙ both.1,
         )
 
-    varying_by : (b : Bool) → is_alt (info_facts i).expr ≡ b → (b && list_all (λ c. (info_size c).is_const) (info_children i)) ≡ false → is_const (info_tree i) ≡ false → Failing is_const (branches_of (info_tree i))
+    varying_by : (b : Bool) → is_alt (info_facts i).expr ≡ b → (b && list_all (λ c. (info_size c).is_const) (info_children i)) ≡ false
+        → is_const (info_tree i) ≡ false → Failing is_const (branches_of (info_tree i))
     varying_by true is h varies =
         let tree = tree_out i ∙ alt_over (out-Info i).start_group (info_within i) (trees (map info_tree (info_children i))) (out-Info i).expr.now is in
-        subst (λ t. Failing is_const (branches_of t)) (sym tree) (one_fails is_const (map info_tree (info_children i)) (sym (const_sizes (info_children i) k.children) ∙ h))
+        subst (λ t. Failing is_const (branches_of t)) (sym tree)
+        (one_fails is_const (map info_tree (info_children i)) (sym (const_sizes (info_children i) k.children) ∙ h))
     varying_by false is h varies =
-        let alone = alone (out-Info i).start_group (info_within i) (trees (map info_tree (info_children i))) (out-Info i).expr.now is in
-        let same = ap branches_of (tree_out i) ∙ alone ∙ ap (λ t. more t none) (sym (tree_out i)) in
+        let other_branches = other_branches (out-Info i).start_group (info_within i) (trees (map info_tree (info_children i))) (out-Info i).expr.now is in
+        let same = ap branches_of (tree_out i) ∙ other_branches ∙ ap (λ t. more t none) (sym (tree_out i)) in
         subst (λ bs. Failing is_const bs) (sym same) (record { branch = info_tree i; among = here; fails = varies })
 
     pub varying_branch : has_const_branches i ≡ false → is_const (info_tree i) ≡ false → Failing is_const (branches_of (info_tree i))
@@ -107,7 +109,8 @@ module _ (p : Site) where
   behind_fine look e h x (refused (variable_lookbehind v)) = h v
   behind_fine look e h x (out_of_range i) = true≢false (sym i)
 
-  pub variable_refused : (look : Look) (e : Tree) → is_behind look ≡ true → (size p.analysis.tree e).is_const ≡ false → Failing (λ b. (size p.analysis.tree b).is_const) (branches_of e) → HasRejected p (LookAround look e ∷ []) refusal.VariableLookBehindRequiresFeature
+  pub variable_refused : (look : Look) (e : Tree) → is_behind look ≡ true → (size p.analysis.tree e).is_const ≡ false
+      → Failing (λ b. (size p.analysis.tree b).is_const) (branches_of e) → HasRejected p (LookAround look e ∷ []) refusal.VariableLookBehindRequiresFeature
   variable_refused look e behind varies f =
       rejected_here p (LookAround look e) refusal.VariableLookBehindRequiresFeature
       (refused (variable_lookbehind (record {
@@ -125,15 +128,19 @@ module _ (p : Site) where
     constant_fine : (look : Look) (e : Tree) → (size p.analysis.tree e).is_const ≡ true → IsFine p (LookAround look e)
     constant_fine look e h = (behind_fine look e (λ v. v.body_varies h), refl)
 
-    pub wrote_behind : (e : Tree) (n : ℕ) → (size p.analysis.tree e).is_const ≡ true → n ≡ (size p.analysis.tree e).least → Writes p (around_code (around.Behind n) (hard_code p call e false false)) (e ∷ []) s t → Wrote LookBehind e
+    pub wrote_behind : (e : Tree) (n : ℕ) → (size p.analysis.tree e).is_const ≡ true → n ≡ (size p.analysis.tree e).least
+        → Writes p (around_code (behind n) (hard_code p call e false false)) (e ∷ []) s t → Wrote LookBehind e
     wrote_behind e n const is h =
         wrote_node p _ (LookAround LookBehind e) s t (constant_fine LookBehind e const)
-        (subst (λ k. Writes p k (e ∷ []) s t) (ap (λ m. around_code (around.Behind m) (hard_code p call e false false)) is ∙ sym (behind_by p call at_start in_hard e const)) h)
+        (subst (λ k. Writes p k (e ∷ []) s t) (ap (λ m. around_code (behind m) (hard_code p call e false false)) is
+        ∙ sym (behind_by p call at_start in_hard e const)) h)
 
-    pub wrote_not_behind : (e : Tree) (n : ℕ) → (size p.analysis.tree e).is_const ≡ true → n ≡ (size p.analysis.tree e).least → Writes p (around_code (around.NotBehind n) (hard_code p call e false false)) (e ∷ []) s t → Wrote LookBehindNeg e
+    pub wrote_not_behind : (e : Tree) (n : ℕ) → (size p.analysis.tree e).is_const ≡ true → n ≡ (size p.analysis.tree e).least
+        → Writes p (around_code (not_behind n) (hard_code p call e false false)) (e ∷ []) s t → Wrote LookBehindNeg e
     wrote_not_behind e n const is h =
         wrote_node p _ (LookAround LookBehindNeg e) s t (constant_fine LookBehindNeg e const)
-        (subst (λ k. Writes p k (e ∷ []) s t) (ap (λ m. around_code (around.NotBehind m) (hard_code p call e false false)) is ∙ sym (not_behind_by p call at_start in_hard e const)) h)
+        (subst (λ k. Writes p k (e ∷ []) s t) (ap (λ m. around_code (not_behind m) (hard_code p call e false false)) is
+        ∙ sym (not_behind_by p call at_start in_hard e const)) h)
 
     -- over branches
     branches_fine : (look : Look) (es : List Tree) → AllConst p call es → IsFine p (LookAround look (Alt (trees es)))
@@ -142,16 +149,23 @@ module _ (p : Site) where
 
     -- the alternation itself is not refused
     as_branches : (es : List Tree) (k : Code) → Writes p k es s t → Writes p k (Alt (trees es) ∷ []) s t
-    as_branches es k h = wrote_node p _ (Alt (trees es)) s t (safe_fine p (Alt (trees es)) refl refl) (subst (λ ds. Writes p k ds s t) (sym (children_trees es)) h)
+    as_branches es k h = wrote_node p _ (Alt (trees es)) s t (safe_fine p (Alt (trees es)) refl refl)
+        (subst (λ ds. Writes p k ds s t) (sym (children_trees es)) h)
 
-    pub wrote_behind_branches : (e : Tree) (es : List Tree) → e ≡ Alt (trees es) → (size p.analysis.tree e).is_const ≡ false → AllConst p call es → Writes p (branches (codes_of_branches p call true false es)) es s t → Wrote LookBehind e
+    pub wrote_behind_branches : (e : Tree) (es : List Tree) → e ≡ Alt (trees es) → (size p.analysis.tree e).is_const ≡ false → AllConst p call es
+        → Writes p (branches (codes_of_branches p call true false es)) es s t → Wrote LookBehind e
     wrote_behind_branches e es is varies all h =
         subst (λ d. Wrote LookBehind d) (sym is)
         (wrote_node p _ (LookAround LookBehind (Alt (trees es))) s t (branches_fine LookBehind es all)
-        (subst (λ k. Writes p k (Alt (trees es) ∷ []) s t) (sym (behind_alt_by p call at_start in_hard es (ap (λ d. (size p.analysis.tree d).is_const) (sym is) ∙ varies) all)) (as_branches es (branches (codes_of_branches p call true false es)) h)))
+        (subst (λ k. Writes p k (Alt (trees es) ∷ []) s t)
+        (sym (behind_alt_by p call at_start in_hard es (ap (λ d. (size p.analysis.tree d).is_const) (sym is) ∙ varies) all))
+        (as_branches es (branches (codes_of_branches p call true false es)) h)))
 
-    pub wrote_none_behind : (e : Tree) (es : List Tree) → e ≡ Alt (trees es) → (size p.analysis.tree e).is_const ≡ false → AllConst p call es → Writes p (in_turn (codes_of_none p call es)) es s t → Wrote LookBehindNeg e
+    pub wrote_none_behind : (e : Tree) (es : List Tree) → e ≡ Alt (trees es) → (size p.analysis.tree e).is_const ≡ false → AllConst p call es
+        → Writes p (in_turn (codes_of_none p call es)) es s t → Wrote LookBehindNeg e
     wrote_none_behind e es is varies all h =
         subst (λ d. Wrote LookBehindNeg d) (sym is)
         (wrote_node p _ (LookAround LookBehindNeg (Alt (trees es))) s t (branches_fine LookBehindNeg es all)
-        (subst (λ k. Writes p k (Alt (trees es) ∷ []) s t) (sym (not_behind_alt_by p call at_start in_hard es (ap (λ d. (size p.analysis.tree d).is_const) (sym is) ∙ varies) all)) (as_branches es (in_turn (codes_of_none p call es)) h)))
+        (subst (λ k. Writes p k (Alt (trees es) ∷ []) s t)
+        (sym (not_behind_alt_by p call at_start in_hard es (ap (λ d. (size p.analysis.tree d).is_const) (sym is) ∙ varies) all))
+        (as_branches es (in_turn (codes_of_none p call es)) h)))

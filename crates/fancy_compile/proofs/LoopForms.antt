@@ -8,8 +8,8 @@ use Rattle.fancy_meaning.specs.Layout.{is_at_most_once}
 use Rattle.fancy_meaning.specs.Sizes.{size}
 use Rattle.fancy_compile.specs.Sites.{Site}
 use Rattle.fancy_expr.specs.Views.{bound_of}
-use Rattle.fancy_compile.specs.declared.around.LoopKind.{LoopKind}
-use Rattle.fancy_compile.specs.declared.around.LoopKind.TheVariants as kind
+use Rattle.fancy_compile.specs.declared.loops.LoopKind.{LoopKind}
+use Rattle.fancy_compile.specs.declared.loops.LoopKind.TheVariants as kind
 use Rattle.fancy_compile.specs.Arounds.{kind_form}
 use Rattle.fancy_compile.specs.Drafts.{Draft, Writes, hard_code}
 use Rattle.fancy_compile.proofs.Writing.{wrote_nothing}
@@ -45,11 +45,11 @@ never_is (suc (suc m)) None false h = clash _ h refl
 abbrev most : ℕ
 most = 2 ^ 64 - 1
 
-bounded : (hi : ℕ) → hi < most → bound_of hi ≡ Some hi
-bounded hi h = cond-false (hi == most) None (Some hi) (ne_eqb hi most (λ e. omega (arith, e, h)))
+bound-some : (hi : ℕ) → hi < most → bound_of hi ≡ Some hi
+bound-some hi h = cond-false (hi == most) None (Some hi) (ne_eqb hi most (λ e. omega (arith, e, h)))
 
-unbounded : (hi : ℕ) → ¬ (hi < most) → hi < 2 ^ 64 → bound_of hi ≡ None
-unbounded hi h fits = let e : hi ≡ most = omega (arith, h, fits) in cond-true (hi == most) None (Some hi) (eq-eqb hi most e)
+bound-none : (hi : ℕ) → ¬ (hi < most) → hi < 2 ^ 64 → bound_of hi ≡ None
+bound-none hi h fits = let e : hi ≡ most = omega (arith, h, fits) in cond-true (hi == most) None (Some hi) (eq-eqb hi most e)
 
 module _ (lo hi : ℕ) (empty : Bool) where
   pub chosen_never : hi ≡ 0 → Never ≡ loop_form lo (bound_of hi) empty
@@ -66,11 +66,11 @@ counted_below (suc m) (suc n) empty h g = refl
 
 module _ (lo hi : ℕ) (empty : Bool) where
   pub chosen_counted : ¬ (hi ≡ 0) → ¬ ((lo ≡ 0) × (hi ≡ 1)) → hi < most → Counted lo (bound_of hi) ≡ loop_form lo (bound_of hi) empty
-  chosen_counted h g lt = subst (λ b. Counted lo b ≡ loop_form lo b empty) (sym (bounded hi lt)) (counted_below lo hi empty h g)
+  chosen_counted h g lt = subst (λ b. Counted lo b ≡ loop_form lo b empty) (sym (bound-some hi lt)) (counted_below lo hi empty h g)
 
   module _ (past : ¬ (hi < most)) (fits : hi < 2 ^ 64) where
     pub chosen_open : (f : LoopForm) → f ≡ loop_form lo None empty → f ≡ loop_form lo (bound_of hi) empty
-    chosen_open f e = subst (λ b. f ≡ loop_form lo b empty) (sym (unbounded hi past fits)) e
+    chosen_open f e = subst (λ b. f ≡ loop_form lo b empty) (sym (bound-none hi past fits)) e
 
 pub counted_open : (lo : ℕ) → ¬ (lo ≡ 0) → ¬ (lo ≡ 1) → Counted lo None ≡ loop_form lo None false
 counted_open zero h g = absurd (h refl)
@@ -98,11 +98,14 @@ module _ (p : Site) (call : ℕ → Bool → Code) (at_start in_hard : Bool) (lo
       wrote_node p _ (Repeat lo None greedy e) s t (safe_fine p (Repeat lo None greedy e) refl refl)
       (subst (λ f. Writes p (repeat_code greedy (body f) f) (e ∷ []) s t) is h)
 
-  pub wrote_repeat : (hi : Option ℕ) (k : LoopKind) → kind_form k ≡ form hi → ((b : Bool) → Writes p (repeat_code greedy (hard_code p call e false b) (kind_form k)) (e ∷ []) s t) → Wrote hi
+  pub wrote_repeat : (hi : Option ℕ) (k : LoopKind) → kind_form k ≡ form hi
+      → ((b : Bool) → Writes p (repeat_code greedy (hard_code p call e false b) (kind_form k)) (e ∷ []) s t) → Wrote hi
   wrote_repeat hi k is h = wrote_form hi k is (h (in_hard || not (is_at_most_once (kind_form k))))
 
 -- a loop that is never entered
-pub wrote_never : (p : Site) (call : ℕ → Bool → Code) (at_start in_hard : Bool) (lo : ℕ) (greedy : Bool) (e : Tree) (s : Draft) (hi : Option ℕ) → Never ≡ loop_form lo hi ((size p.analysis.tree e).least == 0) → Writes p (hard_code p call (Repeat lo hi greedy e) at_start in_hard) (Repeat lo hi greedy e ∷ []) s s
+pub wrote_never : (p : Site) (call : ℕ → Bool → Code) (at_start in_hard : Bool) (lo : ℕ) (greedy : Bool) (e : Tree) (s : Draft) (hi : Option ℕ)
+    → Never ≡ loop_form lo hi ((size p.analysis.tree e).least == 0) → Writes p (hard_code p call (Repeat lo hi greedy e) at_start in_hard)
+    (Repeat lo hi greedy e ∷ []) s s
 wrote_never p call at_start in_hard lo greedy e s hi is =
     subst (λ b. Writes p (hard_code p call (Repeat lo b greedy e) at_start in_hard) (Repeat lo b greedy e ∷ []) s s) (sym (never_is lo hi _ is))
     (wrote_node p _ (Repeat lo (Some 0) greedy e) s s (safe_fine p (Repeat lo (Some 0) greedy e) refl refl) (wrote_nothing p s))

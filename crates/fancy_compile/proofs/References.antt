@@ -11,12 +11,13 @@ use Rattle.fancy_meaning.specs.WellFormed.{refers}
 use Rattle.fancy_composed.proofs.Written.{written_is_node}
 use Rattle.fancy_compile.specs.Kinds.{is_out_of_range}
 
-module _ (a : Analysed) (few : group_count ((analysis a).tree) ≤ 1_000_000) (allowed : (error : CompileError) → ¬ AnalysisRefuses a.parsed a.options error) where
+module _ (a : Analysed) (few : group_count ((analysis a).tree) ≤ 1_000_000)
+    (allowed : (error : CompileError) → ¬ AnalysisRefuses a.parsed a.options error) where
   abbrev whole : Tree
   whole = (analysis a).tree
 
-  named : (g : ℕ) (casei : Bool) → Contains (nodes whole) (Backref g casei) → list_any (refers g) (nodes whole) ≡ true
-  named g casei c = list_any_at (refers g) (nodes whole) c.0 (Backref g casei) c.1 (ap (refers g) c.2 ∙ eq-eqb g g refl)
+  reference_named : (g : ℕ) (casei : Bool) → Contains (nodes whole) (Backref g casei) → list_any (refers g) (nodes whole) ≡ true
+  reference_named g casei c = list_any_at (refers g) (nodes whole) c.0 (Backref g casei) c.1 (ap (refers g) c.2 ∙ eq-eqb g g refl)
 
   or_true : (b : Bool) → (b || true) ≡ true
   or_true true = refl
@@ -34,5 +35,6 @@ module _ (a : Analysed) (few : group_count ((analysis a).tree) ≤ 1_000_000) (a
 
   pub all_in_range : (e : Tree) → IsWritten whole e → ¬ (is_out_of_range e ≡ true)
   all_in_range (Backref g casei) w h =
-      allowed (InvalidBackref g) (before_end (group_out_of_range g (named g casei (written_is_node whole (Backref g casei) w)) (too_far g (leb-true (2 ^ 63) g h))))
+      allowed (InvalidBackref g)
+      (before_end (group_out_of_range g (reference_named g casei (written_is_node whole (Backref g casei) w)) (too_far g (leb-true (2 ^ 63) g h))))
   all_in_range e w h = true≢false (sym h)

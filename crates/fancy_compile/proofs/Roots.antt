@@ -23,4 +23,10 @@ module _ (a : Analysed) (i : Info) (r : IsRoot (analysis a) i) where
   numbered_count n e = count-numbered plain.NoLook n e
 
   pub few_groups : group_count ((analysis a).tree) ≤ 1_000_000
-  few_groups = omega (arith, numbered_count (if (a.options).explicit_capture_group_0 then 0 else 1) (a.parsed).tree, (a.well_formed).groups, (a.well_formed).not_too_many)
+  few_groups = omega (
+    arith,
+    numbered_count (if (a.options).explicit_capture_group_0 then 0 else 1)
+        (a.parsed).tree,
+    (a.well_formed).groups,
+    (a.well_formed).not_too_many,
+  )

@@ -19,7 +19,8 @@ module _ (p : Site) where
   accepted_among (more e es) c here h = h.0
   accepted_among (more e es) c (there i) h = accepted_among es c i h.1
 
-  rejected_among : (d : Tree) (es : Trees) → ((c : Tree) → IsAmong c es → IsAmong c (written_parts d)) → (x : refusal.CompileError) → HasRejected p (children es) x → IsRejected p d x
+  rejected_among : (d : Tree) (es : Trees) → ((c : Tree) → IsAmong c es → IsAmong c (written_parts d)) → (x : refusal.CompileError)
+      → HasRejected p (children es) x → IsRejected p d x
   rejected_among d none sub x h = absurd h
   rejected_among d (more e es) sub x (inl h) = record { node = h.node; is_below = below (sub e here) h.is_below; rejects = h.rejects }
   rejected_among d (more e es) sub x (inr h) = rejected_among d es (λ c i. sub c (there i)) x h

@@ -8,8 +8,10 @@ use Rattle.fancy_compile.specs.Sites.{Site}
 use Rattle.fancy_expr.specs.Views.{bound_of}
 use Rattle.fancy_compile.specs.declared.around.Around.{Around}
 use Rattle.fancy_compile.specs.declared.around.Around.TheVariants as around
-use Rattle.fancy_compile.specs.declared.around.LoopKind.{LoopKind}
-use Rattle.fancy_compile.specs.declared.around.LoopKind.TheVariants as kind
+use Rattle.fancy_compile.specs.declared.looks.LookKind.{LookKind}
+use Rattle.fancy_compile.specs.declared.looks.LookKind.TheVariants as look
+use Rattle.fancy_compile.specs.declared.loops.LoopKind.{LoopKind}
+use Rattle.fancy_compile.specs.declared.loops.LoopKind.TheVariants as kind
 use Rattle.fancy_compile.specs.declared.around.Start.{Start}
 use Rattle.fancy_compile.specs.Drafts.{Draft, Writes, one_over_slot}
 
@@ -24,38 +26,56 @@ abbrev pub form_of : Option LoopKind → LoopForm
 form_of None = Never
 form_of (Some k) = kind_form k
 
+abbrev pub look_over : LookKind → Code → Code
+look_over look.Ahead body = look_code body
+look_over look.NotAhead body = negative_look_code body
+look_over (look.Behind n) body = look_code (one (Instr.GoBack n) >> body)
+look_over (look.NotBehind n) body = negative_look_code (one (Instr.GoBack n) >> body)
+
 -- with the body's code
 abbrev pub around_code : Around → Code → Code
 around_code (around.Group g) body = group_code g body
 around_code around.Atomic body = atomic_code body
-around_code around.Ahead body = look_code body
-around_code around.NotAhead body = negative_look_code body
-around_code (around.Behind n) body = look_code (one (Instr.GoBack n) >> body)
-around_code (around.NotBehind n) body = negative_look_code (one (Instr.GoBack n) >> body)
+around_code (around.Look k) body = look_over k body
 around_code (around.Loop k greedy) body = repeat_code greedy body (kind_form k)
+
+abbrev pub ahead : Around
+ahead = around.Look look.Ahead
+
+abbrev pub not_ahead : Around
+not_ahead = around.Look look.NotAhead
+
+abbrev pub behind : ℕ → Around
+behind n = around.Look (look.Behind n)
+
+abbrev pub not_behind : ℕ → Around
+not_behind n = around.Look (look.NotBehind n)
 
 -- ---- what is written before the body, where an instruction that knows the place after it is not known yet
 
-abbrev pub unknown : Instr
-unknown = Instr.Split 0 0
+abbrev pub open_split : Instr
+open_split = Instr.Split 0 0
 
 abbrev pub over_slot : (ℕ → Instr) → Code
 over_slot i base fresh = one_over_slot (i fresh) base fresh
 
 abbrev pub loop_opening : LoopKind → Code
-loop_opening kind.AtMostOnce = one unknown
-loop_opening (kind.Epsilon lo) = over_slot Instr.Save0 >> one_over_slot unknown
-loop_opening kind.Star = one unknown
+loop_opening kind.AtMostOnce = one open_split
+loop_opening (kind.Epsilon lo) = over_slot Instr.Save0 >> one_over_slot open_split
+loop_opening kind.Star = one open_split
 loop_opening kind.Plus = nothing
-loop_opening (kind.Counted lo hi) = over_slot Instr.Save0 >> one unknown
+loop_opening (kind.Counted lo hi) = over_slot Instr.Save0 >> one open_split
+
+abbrev pub look_opening : LookKind → Code
+look_opening look.Ahead = over_slot Instr.Save
+look_opening look.NotAhead = one open_split
+look_opening (look.Behind n) = over_slot Instr.Save >> one (Instr.GoBack n)
+look_opening (look.NotBehind n) = one open_split >> one (Instr.GoBack n)
 
 abbrev pub opening : Around → Code
 opening (around.Group g) = over_slot (Instr.SaveCaptureGroupStart g)
 opening around.Atomic = one Instr.BeginAtomic
-opening around.Ahead = over_slot Instr.Save
-opening around.NotAhead = one unknown
-opening (around.Behind n) = over_slot Instr.Save >> one (Instr.GoBack n)
-opening (around.NotBehind n) = one unknown >> one (Instr.GoBack n)
+opening (around.Look k) = look_opening k
 opening (around.Loop k greedy) = loop_opening k
 
 -- ---- what is written behind it

@@ -20,7 +20,8 @@ class_key unicode inner casei = reading unicode casei ++ inner
 
 -- the class of this text, read so
 abbrev pub IsClass : {Z : Type 0} → Bool → Bool → List ℕ → Rc CharClassMatcher Z → Type 0
-IsClass unicode casei inner class = (class_of class.value ≡ Codepoint inner casei unicode) × IsTrue (is_class unicode inner casei)
+IsClass unicode casei inner class = (class_of class.value ≡ Codepoint inner casei unicode) × IsTrue
+    (is_class unicode inner casei)
 
 -- each class is the one that its key tells
 abbrev pub AreClasses : {Y Z : Type 0} → BTreeMap (String Y) (Rc CharClassMatcher Z) → Type 0

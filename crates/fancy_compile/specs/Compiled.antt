@@ -26,8 +26,8 @@ mode_of code.Ascii = plain.Ascii
 mode_of code.Unicode = plain.Unicode
 mode_of code.UnicodeBytes = plain.UnicodeBytes
 
-abbrev pub options_of : CompileOptions → plain.CompileOptions
-options_of o = record {
+abbrev pub compile_options_of : CompileOptions → plain.CompileOptions
+compile_options_of o = record {
   anchored = o.anchored;
   end_text = o.disallow_empty_match_at_eof_after_newline;
   bytes_mode = mode_of o.bytes_mode;
@@ -37,9 +37,10 @@ options_of o = record {
 
 -- an analysed tree, compiled so
 abbrev pub plan_with : Analysed → CompileOptions → Plan
-plan_with a o = record { analysis = analysis a; options = options_of o }
+plan_with a o = record { analysis = analysis a; options = compile_options_of o }
 
--- the root is what the analysis answered, which did not refuse the tree, and the end-of-text option is set only where it was set there
+-- the root is what the analysis answered, which did not refuse the tree,
+-- and the end-of-text option is set only where it was set there
 pub record MayCompile (a : Analysed) (i : Info) (o : CompileOptions) : Type 0 where
   pub root : IsRoot (analysis a) i
   pub accepted : (error : refusal.CompileError) → ¬ AnalysisRefuses a.parsed a.options error

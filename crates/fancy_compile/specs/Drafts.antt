@@ -25,13 +25,13 @@ abbrev pub draft_of : Compiler → Draft
 draft_of c = record { instrs = map insn_of c.code.items; fresh = c.fresh; limit = c.limit; fault = c.fault }
 
 -- one instruction is written over
-abbrev pub patched : Draft → ℕ → Instr → Draft
-patched s at i = record s { instrs = slice_set s.instrs at i }
+abbrev pub with_patch : Draft → ℕ → Instr → Draft
+with_patch s at i = record s { instrs = slice_set s.instrs at i }
 
 -- the last of these jumps first, to the end of the code
-abbrev pub all_patched : List ℕ → ℕ → Draft → Draft
-all_patched [] end s = s
-all_patched (j ∷ js) end s = patched (all_patched js end s) j (Instr.Jmp end)
+abbrev pub with_jumps : List ℕ → ℕ → Draft → Draft
+with_jumps [] end s = s
+with_jumps (j ∷ js) end s = with_patch (with_jumps js end s) j (Instr.Jmp end)
 
 -- so many instructions are too many
 abbrev pub IsOver : Option ℕ → ℕ → Type 0
@@ -47,7 +47,8 @@ pub record Extends (a : Laid) (s t : Draft) : Type 0 where
 abbrev pub Breaks : Site → Laid → List Tree → Draft → Error → Type 0
 Breaks p a es s error.Memory = Unit {0}
 Breaks p a es s (error.CompileError x) =
-    ((error_of x ≡ plain.PatternTooComplex) × IsOver s.limit (length s.instrs + length a.instrs)) ⊎ HasRejected p es (error_of x)
+    ((error_of x ≡ plain.PatternTooComplex) × IsOver s.limit (length s.instrs + length a.instrs)) ⊎ HasRejected p es
+    (error_of x)
 Breaks p a es s (error.RuntimeError x) = ⊥
 Breaks p a es s (error.TreeFault at) = ⊥
 

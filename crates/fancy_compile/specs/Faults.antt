@@ -27,7 +27,8 @@ error_of code.PatternTooComplex = plain.PatternTooComplex
 -- the node is written out with the other, where these calls are calls
 pub data IsBelow (whole : Tree) : Depths → Tree → Tree → Type 0 where
   itself : {calls : Depths} {e : Tree} → IsBelow whole calls e e
-  below : {calls : Depths} {d c e : Tree} → IsAmong c (written_parts d) → IsBelow whole calls c e → IsBelow whole calls d e
+  below : {calls : Depths} {d c e : Tree} → IsAmong c (written_parts d) → IsBelow whole calls c e
+      → IsBelow whole calls d e
   through : {calls : Depths} {g : ℕ} {body e : Tree} → calls g < call_depth → target whole g ≡ Some body →
       IsBelow whole (opened g calls) body e → IsBelow whole calls (SubroutineCall g) e
 

@@ -1,10 +1,10 @@
 pub mod Kinds
 pub mod Sites
-pub mod OpenTasks
+pub mod OpenDepths
 pub mod Faults
 pub mod Drafts
 pub mod Arounds
 pub mod Nodes
-pub mod Targets
+pub mod GroupTables
 pub mod Compiled
 pub mod ClassKeys

@@ -24,11 +24,10 @@ use Rattle.fancy_analysis.specs.declared.info.Info.TheOpen.{Info-F}
 use Rattle.fancy_analysis.specs.declared.info.Info.TheFolds.{fold-Info}
 use Rattle.fancy_analysis.specs.Infos.{node_over, info_tree, info_facts, info_size, info_hard, info_children, IsNode, IsAnalysed}
 use Rattle.fancy_expr.specs.Each.{Each}
-use Rattle.fancy_compile.specs.declared.task.Task.{Task}
-use Rattle.fancy_compile.specs.declared.task.Groups.{Groups}
-use Rattle.fancy_compile.specs.OpenTasks.{depths_of}
-use Rattle.fancy_compile.specs.declared.around.Around.TheVariants as around
-use Rattle.fancy_compile.specs.Arounds.{around_code}
+use Rattle.fancy_compile.specs.declared.scope.Scope.{Scope}
+use Rattle.fancy_compile.specs.declared.group_table.GroupTable.{GroupTable}
+use Rattle.fancy_compile.specs.OpenDepths.{depths_of}
+use Rattle.fancy_compile.specs.Arounds.{around_code, behind, not_behind}
 use Rattle.fancy_compile.specs.Drafts.{Draft, Writes, hard_code, no_node}
 
 abbrev pub total : List ℕ → ℕ
@@ -56,64 +55,65 @@ AreNumbered n (h ∷ hs) = (h.0 ≡ n) × AreNumbered (suc n) hs
 abbrev pub IsBody : Analysis → ℕ → Bor Info → Type 0
 IsBody a most b = IsKnown a b.now × (node_count b.now ≤ most)
 
--- What a task says of the whole tree: it has the root, and the groups in order of their numbers.
-pub record IsServed (a : Analysis) (task : Task) : Type 0 where
-  pub tree : info_tree task.root.now ≡ a.tree
-  pub root : IsKnown a task.root.now
-  pub bodies : map (λ b. info_tree b.now) task.groups.now.bodies.items ≡ map (λ h. h.1) (groups a.tree)
-  pub numbers : AreNumbered task.groups.now.first (groups a.tree)
-  pub known : Each (IsBody a (node_count task.root.now)) task.groups.now.bodies.items
+-- What a scope says of the whole tree: it has the root, and the groups in order of their numbers.
+pub record IsScopeOf (a : Analysis) (scope : Scope) : Type 0 where
+  pub tree : info_tree scope.root.now ≡ a.tree
+  pub root : IsKnown a scope.root.now
+  pub bodies : map (λ b. info_tree b.now) scope.groups.now.bodies.items ≡ map (λ h. h.1) (groups a.tree)
+  pub numbers : AreNumbered scope.groups.now.first (groups a.tree)
+  pub known : Each (IsBody a (node_count scope.root.now)) scope.groups.now.bodies.items
   pub starts : (k : ℕ)
-      → slice_index_or task.groups.now.starts.items k false
-      ≡ (nat_lt k (length task.groups.now.bodies.items) && list_any (nat_eq (task.groups.now.first + k)) (marked_groups a.tree a.tree))
+      → slice_index_or scope.groups.now.starts.items k false
+      ≡ (nat_lt k (length scope.groups.now.bodies.items) && list_any (nat_eq (scope.groups.now.first + k))
+      (marked_groups a.tree a.tree))
 
--- a task for an analysed tree
-abbrev pub IsMade : Task → Type 0
-IsMade task = (a : Analysis) × IsServed a task
+-- a scope for an analysed tree
+abbrev pub IsScope : Scope → Type 0
+IsScope scope = (a : Analysis) × IsScopeOf a scope
 
--- the node is one of the task's tree
-pub record IsWhole (task : Task) (i : Info) : Type 0 where
+-- the node is one of the scope's tree
+pub record IsWhole (scope : Scope) (i : Info) : Type 0 where
   pub analysis : Analysis
-  pub served : IsServed analysis task
+  pub of_tree : IsScopeOf analysis scope
   pub known : IsKnown analysis i
-  pub small : node_count i ≤ node_count task.root.now
+  pub small : node_count i ≤ node_count scope.root.now
 
-pub record AreWhole (task : Task) (is : List Info) : Type 0 where
+pub record AreWhole (scope : Scope) (is : List Info) : Type 0 where
   pub analysis : Analysis
-  pub served : IsServed analysis task
+  pub of_tree : IsScopeOf analysis scope
   pub each : Each (IsAnalysed analysis) is
-  pub small : total (map node_count is) ≤ node_count task.root.now
+  pub small : total (map node_count is) ≤ node_count scope.root.now
 
--- the plan, the open calls, and the code of calls, of a task
-pub record IsTaskOf (p : Site) (call : ℕ → Bool → Code) (task : Task) : Type 0 where
-  pub unicode : p.unicode ≡ task.unicode
-  pub served : IsServed p.analysis task
-  pub depths : p.depths ≡ depths_of task.calls
+-- the plan, the open calls, and the code of calls, of a scope
+pub record IsScopeAt (p : Site) (call : ℕ → Bool → Code) (scope : Scope) : Type 0 where
+  pub unicode : p.unicode ≡ scope.unicode
+  pub of_tree : IsScopeOf p.analysis scope
+  pub depths : p.depths ≡ depths_of scope.calls
   -- so many more calls may be opened, at least
   pub budget : ℕ
   pub enough : free_calls p.analysis.tree p.depths ≤ budget
   pub calls : call ≡ called_code p.plan no_node budget p.depths
 
 -- the node is written as in the layout without delegates
-abbrev pub WritesNode : Task → Info → Bool → Draft → Draft → Type 0
-WritesNode task i at_start s t =
+abbrev pub WritesNode : Scope → Info → Bool → Draft → Draft → Type 0
+WritesNode scope i at_start s t =
     (p : Site) (call : ℕ → Bool → Code) (in_hard : Bool)
-    → IsTaskOf p call task
+    → IsScopeAt p call scope
     → IsKnown p.analysis i
     → Writes p (hard_code p call (info_tree i) at_start in_hard) (info_tree i ∷ []) s t
 
 -- a node of this tree
-abbrev pub WritesTree : Task → Tree → Draft → Draft → Type 0
-WritesTree task e s t =
+abbrev pub WritesTree : Scope → Tree → Draft → Draft → Type 0
+WritesTree scope e s t =
     (p : Site) (call : ℕ → Bool → Code) (at_start in_hard : Bool)
-    → p.unicode ≡ task.unicode
+    → p.unicode ≡ scope.unicode
     → Writes p (hard_code p call e at_start in_hard) (e ∷ []) s t
 
 -- a node of this expression, over any children
-abbrev pub WritesLeaf : Task → Expr → Bool → Draft → Draft → Type 0
-WritesLeaf task e at_start s t =
+abbrev pub WritesLeaf : Scope → Expr → Bool → Draft → Draft → Type 0
+WritesLeaf scope e at_start s t =
     (p : Site) (call : ℕ → Bool → Code) (in_hard : Bool) (start : ℕ) (w : plain.Within) (es : Trees)
-    → p.unicode ≡ task.unicode
+    → p.unicode ≡ scope.unicode
     → Writes p (hard_code p call (node_over e start w es) at_start in_hard) (node_over e start w es ∷ []) s t
 
 -- the assertion of a node, which may stand in a look-around
@@ -131,7 +131,7 @@ codes_in_turn p call at_start (e ∷ es) =
 
 -- a branch, which may be looked for behind the place
 abbrev pub branch_over : (is_behind : Bool) → ℕ → Code → Code
-branch_over true least body = around_code (around.Behind least) body
+branch_over true least body = around_code (behind least) body
 branch_over false least body = body
 
 -- the codes of branches
@@ -145,44 +145,44 @@ codes_of_branches p call is_behind in_hard (e ∷ es) =
 abbrev pub codes_of_none : Site → (ℕ → Bool → Code) → List Tree → List Code
 codes_of_none p call [] = []
 codes_of_none p call (e ∷ es) =
-    around_code (around.NotBehind (size p.analysis.tree e).least) (hard_code p call e false false)
+    around_code (not_behind (size p.analysis.tree e).least) (hard_code p call e false false)
     ∷ codes_of_none p call es
 
-abbrev pub WritesInTurn : Task → List Info → Bool → Draft → Draft → Type 0
-WritesInTurn task is at_start s t =
+abbrev pub WritesInTurn : Scope → List Info → Bool → Draft → Draft → Type 0
+WritesInTurn scope is at_start s t =
     (p : Site) (call : ℕ → Bool → Code)
-    → IsTaskOf p call task
+    → IsScopeAt p call scope
     → Each (IsAnalysed p.analysis) is
     → Writes p (in_turn (codes_in_turn p call at_start (map info_tree is))) (map info_tree is) s t
 
-abbrev pub WritesBranches : (is_behind : Bool) → Task → List Info → Draft → Draft → Type 0
-WritesBranches is_behind task is s t =
+abbrev pub WritesBranches : (is_behind : Bool) → Scope → List Info → Draft → Draft → Type 0
+WritesBranches is_behind scope is s t =
     (p : Site) (call : ℕ → Bool → Code) (in_hard : Bool)
-    → IsTaskOf p call task
+    → IsScopeAt p call scope
     → Each (IsAnalysed p.analysis) is
     → Writes p (branches (codes_of_branches p call is_behind in_hard (map info_tree is))) (map info_tree is) s t
 
-abbrev pub WritesNoneBehind : Task → List Info → Draft → Draft → Type 0
-WritesNoneBehind task is s t =
+abbrev pub WritesNoneBehind : Scope → List Info → Draft → Draft → Type 0
+WritesNoneBehind scope is s t =
     (p : Site) (call : ℕ → Bool → Code)
-    → IsTaskOf p call task
+    → IsScopeAt p call scope
     → Each (IsAnalysed p.analysis) is
     → Writes p (in_turn (codes_of_none p call (map info_tree is))) (map info_tree is) s t
 
 -- ---- nodes over others
 
 -- code that is made of that of one node
-abbrev pub WritesOver : (Code → Code) → Task → Info → Bool → Draft → Draft → Type 0
-WritesOver over task i at_start s t =
+abbrev pub WritesOver : (Code → Code) → Scope → Info → Bool → Draft → Draft → Type 0
+WritesOver over scope i at_start s t =
     (p : Site) (call : ℕ → Bool → Code) (in_hard : Bool)
-    → IsTaskOf p call task
+    → IsScopeAt p call scope
     → IsKnown p.analysis i
     → Writes p (over (hard_code p call (info_tree i) at_start in_hard)) (info_tree i ∷ []) s t
 
-abbrev pub WritesConditional : Task → Info → Info → Info → Draft → Draft → Type 0
-WritesConditional task c d e s t =
+abbrev pub WritesConditional : Scope → Info → Info → Info → Draft → Draft → Type 0
+WritesConditional scope c d e s t =
     (p : Site) (call : ℕ → Bool → Code) (in_hard : Bool)
-    → IsTaskOf p call task
+    → IsScopeAt p call scope
     → IsKnown p.analysis c
     → IsKnown p.analysis d
     → IsKnown p.analysis e
@@ -197,18 +197,18 @@ WritesConditional task c d e s t =
     t
 
 -- a node over one other, which is made so
-abbrev pub WritesMade : (Tree → Tree) → Task → Info → Draft → Draft → Type 0
-WritesMade made task i s t =
+abbrev pub WritesParent : (Tree → Tree) → Scope → Info → Draft → Draft → Type 0
+WritesParent made scope i s t =
     (p : Site) (call : ℕ → Bool → Code) (at_start in_hard : Bool)
-    → IsTaskOf p call task
+    → IsScopeAt p call scope
     → IsKnown p.analysis i
     → Writes p (hard_code p call (made (info_tree i)) at_start in_hard) (made (info_tree i) ∷ []) s t
 
-abbrev pub WritesLook : plain.Look → Task → Info → Draft → Draft → Type 0
-WritesLook look = WritesMade (λ e. plain.LookAround look e)
+abbrev pub WritesLook : plain.Look → Scope → Info → Draft → Draft → Type 0
+WritesLook look = WritesParent (λ e. plain.LookAround look e)
 
-abbrev pub WritesRepeat : ℕ → Option ℕ → Bool → Task → Info → Draft → Draft → Type 0
-WritesRepeat lo hi greedy = WritesMade (λ e. plain.Repeat lo hi greedy e)
+abbrev pub WritesRepeat : ℕ → Option ℕ → Bool → Scope → Info → Draft → Draft → Type 0
+WritesRepeat lo hi greedy = WritesParent (λ e. plain.Repeat lo hi greedy e)
 
 -- ---- lookbehind over branches
 
@@ -235,24 +235,25 @@ abbrev pub step_past : Code → Code
 step_past body = conditional_code (negative_look_code body) (one Instr.Any) nothing
 
 -- an absent repeater, whose body's hardness was found
-abbrev pub WritesAbsent : Task → Info → Draft → Draft → Type 0
-WritesAbsent task i s t =
+abbrev pub WritesAbsent : Scope → Info → Draft → Draft → Type 0
+WritesAbsent scope i s t =
     (p : Site) (call : ℕ → Bool → Code) (at_start in_hard : Bool)
-    → IsTaskOf p call task
+    → IsScopeAt p call scope
     → IsKnown p.analysis i
     → info_hard i ≡ is_hard p.analysis (info_tree i)
-    → Writes p (hard_code p call (plain.AbsentRepeater (info_tree i)) at_start in_hard) (plain.AbsentRepeater (info_tree i) ∷ []) s t
+    → Writes p (hard_code p call (plain.AbsentRepeater (info_tree i)) at_start in_hard)
+    (plain.AbsentRepeater (info_tree i) ∷ []) s t
 
 -- ---- calls
 
-abbrev pub WritesCall : Task → ℕ → Draft → Draft → Type 0
-WritesCall task g s t =
+abbrev pub WritesCall : Scope → ℕ → Draft → Draft → Type 0
+WritesCall scope g s t =
     (p : Site) (call : ℕ → Bool → Code) (at_start in_hard : Bool)
-    → IsTaskOf p call task
+    → IsScopeAt p call scope
     → Writes p (hard_code p call (plain.SubroutineCall g) at_start in_hard) (plain.SubroutineCall g ∷ []) s t
 
 -- there is something that a call of the number calls
-abbrev pub has_target : Groups → ℕ → Bool
+abbrev pub has_target : GroupTable → ℕ → Bool
 has_target gs g = g == 0 || (nat_le gs.first g && nat_lt (g - gs.first) (length gs.bodies.items))
 
 -- ---- how far there is to go
@@ -261,5 +262,5 @@ has_target gs g = g == 0 || (nat_le gs.first g && nat_lt (g - gs.first) (length 
 unfoldable pub work_by : Info → Depths → ℕ
 work_by root depths = (8 * node_count root + 16) * free_calls (info_tree root) depths
 
-abbrev pub work : Task → ℕ
-work task = work_by task.root.now (depths_of task.calls)
+abbrev pub work : Scope → ℕ
+work scope = work_by scope.root.now (depths_of scope.calls)

@@ -1,29 +1,20 @@
-//! What stands around a node.
+//! Constructs with one body: group, atomic, look-around, loop.
 
-ghost use Rattle.std.specs.Prelude.{◌<◌, ◌^◌, ◌-◌};
+ghost use Rattle.std.specs.Prelude.{[], ◌-◌, ◌<◌, ◌^◌};
 
-/// How a loop is written. Without `Counted` there is no bound but that of the name.
-#[derive(Clone, Copy)]
-pub enum LoopKind {
-    AtMostOnce,
-    /// The body may take nothing.
-    Epsilon { lo: usize },
-    Star,
-    Plus,
-    /// `usize::MAX` is no bound.
-    Counted { lo: usize, hi: usize },
-}
+use crate::compiler::Compiler;
+use crate::looks::LookKind;
+use crate::loops::LoopKind;
+use crate::scope::Scope;
+use fancy_analysis::info::Info;
+use fancy_vm::vm::Insn;
 
 /// What stands around a node.
 #[derive(Clone, Copy)]
 pub enum Around {
     Group(usize),
     Atomic,
-    Ahead,
-    NotAhead,
-    /// So many characters back.
-    Behind(usize),
-    NotBehind(usize),
+    Look(LookKind),
     Loop { kind: LoopKind, greedy: bool },
 }
 
@@ -34,4 +25,59 @@ pub struct Start {
     pub fresh: usize,
     ghost low: { base < 2 ^ 64 - 2 },
     ghost small: { fresh < 2 ^ 64 - 2 },
+}
+
+impl Compiler {
+    ghost use Rattle.fancy_compile.specs.Arounds.{Ends, IsStart, around_code, opening};
+    ghost use Rattle.fancy_compile.specs.Drafts.{Writes, draft_of};
+    ghost use Rattle.fancy_compile.specs.Nodes.{IsWhole, WritesOver};
+    ghost use Rattle.fancy_compile.specs.Sites.{Site};
+
+    /// The place of what comes next.
+    pub fn start(&self) -> Start
+        ensures { IsStart result (draft_of self.now) }
+    {
+        Start {
+            base: self.code.len(),
+            fresh: self.fresh,
+        }
+    }
+
+    /// What stands before a node.
+    pub fn begin(&mut self, around: Around)
+        ensures { (p : Site)
+            → Writes p (opening around) [] (draft_of self.old) (draft_of self.new) }
+    {
+        match around {
+            Around::Group(group) => self.begin_group(group),
+            Around::Atomic => self.push(Insn::BeginAtomic),
+            Around::Look(kind) => self.begin_look(kind),
+            Around::Loop { kind, .. } => self.begin_loop(kind),
+        }
+    }
+
+    /// What stands behind a node, before which `begin` wrote at `start`.
+    pub fn end(&mut self, around: Around, start: Start)
+        ensures { Ends around start (draft_of self.old) (draft_of self.new) }
+    {
+        match around {
+            Around::Group(group) => self.end_group(group, start),
+            Around::Atomic => self.push(Insn::EndAtomic),
+            Around::Look(kind) => self.end_look(kind, start),
+            Around::Loop { kind, greedy } => self.end_loop(kind, greedy, start),
+        }
+    }
+
+    /// A node with what stands around it.
+    #[cycle(emit)]
+    pub fn emit_around(&mut self, scope: &Scope, around: Around, body: &Info, at_start: bool)
+        requires { IsWhole scope.now body.now }
+        ensures { WritesOver (around_code around) scope.now body.now at_start
+            (draft_of self.old) (draft_of self.new) }
+    {
+        let start = self.start();
+        self.begin(around);
+        self.emit(scope, body, at_start);
+        self.end(around, start);
+    }
 }

@@ -8,17 +8,18 @@ ghost use Rattle.fancy_meaning.specs.Nodes.{group_count};
 ghost use Rattle.fancy_meaning.specs.Premises.{Analysed, analysis};
 ghost use Rattle.fancy_compile.specs.Compiled.{Compiles, IsWritingOf, MayCompile, mode_of, plan_with};
 ghost use Rattle.fancy_compile.specs.Drafts.{Writes, draft_of, no_node};
-ghost use Rattle.fancy_compile.specs.Nodes.{IsMade, IsServed};
+ghost use Rattle.fancy_compile.specs.Nodes.{IsScope, IsScopeOf};
 ghost use Rattle.fancy_analysis.specs.Infos.{IsRoot};
 ghost use Rattle.fancy_compile.specs.Sites.{Site, top};
 
+use crate::classes::SharedClasses;
 use crate::compiler::Compiler;
+use crate::group_table::GroupTable;
 pub use crate::options::{BytesMode, CompileOptions};
-use crate::shared::SharedClasses;
-use crate::task::{Groups, Task};
-use fancy_vm::vm::{Insn, Prog, ProgParts};
-use fancy_expr::error::{CompileError, Error};
+use crate::scope::Scope;
 use fancy_analysis::info::Info;
+use fancy_expr::error::{CompileError, Error};
+use fancy_vm::vm::{Insn, Prog, ProgParts};
 use std::alloc::Global;
 
 fn is_unicode(mode: BytesMode) -> bool
@@ -35,7 +36,9 @@ fn is_unicode(mode: BytesMode) -> bool
 /// How many groups there are.
 fn total_groups(info: &Info) -> usize
     requires { (a : Analysed) × IsRoot (analysis a) info.now }
-    ensures value { (a : Analysed) → IsRoot (analysis a) info.now → result ≡ group_count (analysis a).tree }
+    ensures value { (a : Analysed)
+        → IsRoot (analysis a) info.now
+        → result ≡ group_count (analysis a).tree }
     ensures small { result ≤ 1_000_000 }
 {
     info.end_group() - info.start_group()
@@ -51,7 +54,9 @@ fn first_number(explicit_group_0: bool) -> usize
 /// The first slot that is no group's, nor that of the text-end flag.
 fn first_fresh(total_groups: usize, explicit_group_0: bool, end_text: bool) -> usize
     requires { total_groups ≤ 1_000_000 }
-    ensures value { result ≡ 2 * (if explicit_group_0 then total_groups else total_groups + 1) + (if end_text then 1 else 0) }
+    ensures value { result
+        ≡ 2 * (if explicit_group_0 then total_groups else total_groups + 1)
+        + (if end_text then 1 else 0) }
     ensures small { result ≤ 2 ^ 62 }
 {
     let numbers = total_groups + if explicit_group_0 { 0 } else { 1 };
@@ -61,7 +66,9 @@ fn first_fresh(total_groups: usize, explicit_group_0: bool, end_text: bool) -> u
 impl Compiler {
     /// The search for a start.
     fn emit_search(&mut self, anchored: bool)
-        ensures { (p : Site) → p.anchored ≡ anchored → Writes p (search_code p.plan no_node) [] (draft_of self.old) (draft_of self.new) }
+        ensures { (p : Site)
+            → p.anchored ≡ anchored
+            → Writes p (search_code p.plan no_node) [] (draft_of self.old) (draft_of self.new) }
     {
         if anchored {
             return;
@@ -83,7 +90,9 @@ impl Compiler {
     }
 
     fn emit_end_text(&mut self, end_text: bool)
-        ensures { (p : Site) → p.end_text ≡ end_text → Writes p (end_text_code p.plan no_node) [] (draft_of self.old) (draft_of self.new) }
+        ensures { (p : Site)
+            → p.end_text ≡ end_text
+            → Writes p (end_text_code p.plan no_node) [] (draft_of self.old) (draft_of self.new) }
     {
         if end_text {
             self.push(Insn::RejectEmptyMatchAtEOFFollowingNewline);
@@ -91,20 +100,21 @@ impl Compiler {
     }
 
     /// The whole program.
-    fn emit_program(&mut self, task: &Task, anchored: bool, end_text: bool)
-        requires whole { IsMade task.now }
-        requires begins { task.now.calls ≡ None }
+    fn emit_program(&mut self, scope: &Scope, anchored: bool, end_text: bool)
+        requires whole { IsScope scope.now }
+        requires begins { scope.now.calls ≡ None }
         ensures { (p : Plan)
-            → p.unicode ≡ task.now.unicode
+            → p.unicode ≡ scope.now.unicode
             → p.anchored ≡ anchored
             → p.end_text ≡ end_text
-            → IsServed p.analysis task.now
-            → Writes (top p) (program_code p no_node) (p.analysis.tree ∷ []) (draft_of self.old) (draft_of self.new) }
+            → IsScopeOf p.analysis scope.now
+            → Writes (top p) (program_code p no_node) (p.analysis.tree ∷ [])
+            (draft_of self.old) (draft_of self.new) }
     {
-        let explicit = task.root.explicit_capture_group_0();
+        let explicit = scope.root.explicit_capture_group_0();
         self.emit_search(anchored);
         self.emit_edge(explicit, 0);
-        self.emit(task, task.root, true);
+        self.emit(scope, scope.root, true);
         self.emit_edge(explicit, 1);
         self.emit_end_text(end_text);
         self.push(Insn::End);
@@ -155,15 +165,17 @@ impl Compiler {
 /// Want of memory is `Error::Memory`.
 pub fn compile(alloc: Global, info: &Info, options: CompileOptions) -> Result<Prog, Error>
     requires { (a : Analysed) × MayCompile a info.now options }
-    ensures { (a : Analysed) → MayCompile a info.now options → Compiles (plan_with a options) result }
+    ensures { (a : Analysed)
+        → MayCompile a info.now options
+        → Compiles (plan_with a options) result }
 {
     if !is_unicode(options.bytes_mode) {
         return Err(Error::CompileError(CompileError::FeatureNotYetSupported));
     }
     let explicit_group_0 = info.explicit_capture_group_0();
     let end_text = options.disallow_empty_match_at_eof_after_newline;
-    let groups = Groups::of(alloc, info, first_number(explicit_group_0))?;
-    let task = Task {
+    let groups = GroupTable::of(alloc, info, first_number(explicit_group_0))?;
+    let scope = Scope {
         alloc,
         unicode: options.unicode,
         root: info,
@@ -177,6 +189,6 @@ pub fn compile(alloc: Global, info: &Info, options: CompileOptions) -> Result<Pr
         fault: None,
         classes: SharedClasses::new(alloc),
     };
-    compiler.emit_program(&task, options.anchored, end_text);
+    compiler.emit_program(&scope, options.anchored, end_text);
     compiler.finish(info, options)
 }

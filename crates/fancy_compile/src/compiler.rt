@@ -3,9 +3,9 @@
 ghost use Rattle.std.specs.Prelude.{◌≡◌, ◌+◌, ◌≤◌, ◌^◌, List, length, [], true, false};
 ghost use Rattle.std.specs.Option.{ForSome};
 
-use crate::shared::SharedClasses;
-use fancy_vm::vm::Insn;
+use crate::classes::SharedClasses;
 use fancy_expr::error::{CompileError, Error};
+use fancy_vm::vm::Insn;
 
 /// A program in the making. After a fault nothing more is written.
 #[derive(Drop)]
@@ -26,12 +26,14 @@ impl Compiler {
     ghost use Rattle.fancy_meaning.specs.Code.{Laid, one};
     ghost use Rattle.fancy_meaning.specs.Tree.{Tree};
     ghost use Rattle.fancy_compile.specs.Sites.{Site};
-    ghost use Rattle.fancy_compile.specs.Drafts.{Adds, Breaks, IsOver, Writes, all_patched, draft_of, one_over_slot, patched};
+    ghost use Rattle.fancy_compile.specs.Faults.{HasRejected, error_of};
+    ghost use Rattle.fancy_compile.specs.Drafts.{Adds, Breaks, IsOver, Writes, draft_of, one_over_slot, with_patch};
 
     /// One more instruction would be too many.
     fn is_full(&self) -> bool
         ensures full { result ≡ true → IsOver self.now.limit (length self.now.code.items + 1) }
-        ensures room { result ≡ false → ForSome self.now.limit (λ most. length self.now.code.items + 1 ≤ most) }
+        ensures room { result ≡ false
+            → ForSome self.now.limit (λ most. length self.now.code.items + 1 ≤ most) }
     {
         match self.limit {
             Some(most) => self.code.len() >= most,
@@ -41,7 +43,8 @@ impl Compiler {
 
     /// One more instruction.
     pub fn push(&mut self, insn: Insn)
-        ensures writes { (p : Site) → Writes p (one (insn_of insn)) [] (draft_of self.old) (draft_of self.new) }
+        ensures writes { (p : Site)
+            → Writes p (one (insn_of insn)) [] (draft_of self.old) (draft_of self.new) }
         ensures grows { length self.old.code.items ≤ length self.new.code.items }
         ensures fresh { self.new.fresh ≡ self.old.fresh }
     {
@@ -59,7 +62,8 @@ impl Compiler {
 
     /// One more instruction, which takes the next slot.
     pub fn push_over_slot(&mut self, insn: Insn)
-        ensures { (p : Site) → Writes p (one_over_slot (insn_of insn)) [] (draft_of self.old) (draft_of self.new) }
+        ensures { (p : Site)
+            → Writes p (one_over_slot (insn_of insn)) [] (draft_of self.old) (draft_of self.new) }
     {
         let before = self.code.len();
         self.push(insn);
@@ -77,23 +81,21 @@ impl Compiler {
         }
     }
 
+    /// Nothing more is written, since a node is refused.
+    pub fn refuse(&mut self, error: CompileError)
+        ensures { (p : Site) (a : Laid) (es : List Tree)
+            → HasRejected p es (error_of error)
+            → Adds p a es (draft_of self.old) (draft_of self.new) }
+    {
+        self.fail(Error::CompileError(error));
+    }
+
     /// Writes over an instruction.
     pub fn patch(&mut self, at: usize, insn: Insn)
-        ensures { draft_of self.new ≡ patched (draft_of self.old) at (insn_of insn) }
+        ensures { draft_of self.new ≡ with_patch (draft_of self.old) at (insn_of insn) }
     {
         if at < self.code.len() {
             self.code[at] = insn;
-        }
-    }
-
-    /// Writes the end of the code into jumps.
-    pub fn patch_jumps(&mut self, jumps: Vec<usize>)
-        ensures { draft_of self.new ≡ all_patched jumps.items (length self.old.code.items) (draft_of self.old) }
-    {
-        let mut left = jumps;
-        let end = self.code.len();
-        while let Some(jump) = left.pop() {
-            self.patch(jump, Insn::Jmp(end));
         }
     }
 }

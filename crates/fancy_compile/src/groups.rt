@@ -1,144 +1,32 @@
-//! What calls may name.
+//! Groups that are captured: where one begins, and where it ends.
 
-ghost use Rattle.std.specs.Prelude.{◌≡◌, ◌<◌, ◌∷◌, [], IfOk, false, length, replicate, slice_index_or};
-ghost use Rattle.fancy_meaning.specs.Options.{Analysis};
-ghost use Rattle.fancy_compile.specs.Nodes.{IsKnown, has_target};
-ghost use Rattle.fancy_compile.specs.Targets.{Gathers, GathersOwn, IsTable, Marks, MarksAll, is_concat, is_group};
+ghost use Rattle.fancy_compile.specs.declared.around.Around.TheVariants as around;
+ghost use Rattle.std.specs.Prelude.{[]};
+ghost use Rattle.fancy_meaning.specs.Instr.{Instr};
+ghost use Rattle.fancy_compile.specs.Sites.{Site};
+ghost use Rattle.fancy_compile.specs.Arounds.{Ends, over_slot};
+ghost use Rattle.fancy_compile.specs.Drafts.{Writes, draft_of};
 
-use crate::nodes::child;
-use crate::task::Groups;
-use fancy_expr::expr::Expr;
-use fancy_analysis::info::Info;
-use std::alloc::{AllocError, Global};
+use crate::around::Start;
+use crate::compiler::Compiler;
+use fancy_vm::vm::Insn;
 
-fn is_group(expr: &Expr) -> bool
-    ensures { result ≡ is_group expr.now }
-{
-    match expr {
-        Expr::Group(_) => true,
-        _ => false,
-    }
-}
-
-fn is_concat(expr: &Expr) -> bool
-    ensures { result ≡ is_concat expr.now }
-{
-    match expr {
-        Expr::Concat(_) => true,
-        _ => false,
-    }
-}
-
-/// The body of a group.
-fn gather_own<'i, 'a>(info: &'i Info<'a>, bodies: &mut Vec<&'i Info<'a>>) -> Result<(), AllocError>
-    requires { (a : Analysis) × IsKnown a info.now }
-    ensures { IfOk result (λ u. GathersOwn info.now bodies.old.items bodies.new.items) }
-{
-    if !is_group(info.expr()) {
-        return Ok(());
-    }
-    bodies.push(child(info, 0))?;
-    Ok(())
-}
-
-/// The bodies of the groups of a node, in the order in which they open.
-fn gather<'i, 'a>(info: &'i Info<'a>, bodies: &mut Vec<&'i Info<'a>>) -> Result<(), AllocError>
-    requires { (a : Analysis) × IsKnown a info.now }
-    ensures { IfOk result (λ u. Gathers info.now bodies.old.items bodies.new.items) }
-{
-    gather_own(info, bodies)?;
-    let children = info.children();
-    for part in children {
-        gather(part, bodies)?;
-    }
-    Ok(())
-}
-
-/// Whether the number is marked.
-pub fn is_marked(marks: &[bool], i: usize) -> bool
-    ensures { result ≡ slice_index_or marks.now i false }
-{
-    i < marks.len() && marks[i]
-}
-
-fn no_marks(alloc: Global, count: usize) -> Result<Vec<bool>, AllocError>
-    ensures { IfOk result (λ v. v.items ≡ replicate count false) }
-{
-    let mut marks = Vec::new(alloc);
-    for i in 0..count {
-        marks.push(false)?;
-    }
-    Ok(marks)
-}
-
-/// Marks a group.
-fn mark_group(marks: &mut [bool], first: usize, group: usize)
-    ensures { MarksAll first (group ∷ []) marks.old marks.new }
-{
-    if group < first {
-        return;
-    }
-    let i = group - first;
-    if i < marks.len() {
-        marks[i] = true;
-    }
-}
-
-/// Marks the groups with which a match may begin, where it may begin with the node.
-fn mark(info: &Info, first: usize, marks: &mut [bool])
-    requires { (a : Analysis) × IsKnown a info.now }
-    ensures { Marks info.now first marks.old marks.new }
-{
-    let expr = info.expr();
-    if is_group(expr) {
-        mark_group(marks, first, info.start_group());
-        mark(child(info, 0), first, marks);
-        return;
-    }
-    if !is_concat(expr) {
-        return;
-    }
-    let children = info.children();
-    for part in children {
-        mark(part, first, marks);
-        if part.max_size() != 0 {
-            return;
-        }
-    }
-}
-
-impl<'i, 'a> Groups<'i, 'a> {
-    /// The groups of a tree, the first of which has this number.
-    pub fn of(alloc: Global, root: &'i Info<'a>, first: usize) -> Result<Groups<'i, 'a>, AllocError>
-        requires { (a : Analysis) × IsKnown a root.now }
-        ensures { IfOk result (λ g. IsTable root.now first g) }
+impl Compiler {
+    pub fn begin_group(&mut self, group: usize)
+        ensures { (p : Site)
+            → Writes p (over_slot (Instr.SaveCaptureGroupStart group)) []
+            (draft_of self.old) (draft_of self.new) }
     {
-        let mut bodies = Vec::new(alloc);
-        gather(root, &mut bodies)?;
-        let mut starts = no_marks(alloc, bodies.len())?;
-        mark(root, first, &mut starts);
-        Ok(Groups {
-            first,
-            bodies,
-            starts,
-        })
+        let slot = self.fresh;
+        self.push_over_slot(Insn::SaveCaptureGroupStart { group, slot });
     }
 
-    /// There is a group with this number, or it is 0, which stands for the whole tree.
-    pub fn has_target(&self, group: usize) -> bool
-        ensures { result ≡ has_target self.now group }
+    pub fn end_group(&mut self, group: usize, start: Start)
+        ensures { Ends (around.Group group) start (draft_of self.old) (draft_of self.new) }
     {
-        if group == 0 {
-            return true;
-        }
-        group >= self.first && group - self.first < self.bodies.len()
-    }
-
-    /// The body of the group with this index.
-    pub fn body(&self, i: usize) -> &'i Info<'a>
-        requires { i < length self.now.bodies.items }
-        ensures { result ≡ slice_index_or self.now.bodies.items i result }
-    {
-        self.bodies[i]
+        self.push(Insn::SaveCaptureGroup {
+            group,
+            slot: start.fresh,
+        });
     }
 }

@@ -2,25 +2,23 @@
 
 ghost use Rattle.std.specs.Prelude.{◌≡◌, ◌^◌, List, [], ◌∷◌, IfOk, encode_utf8_all, nat_le, slice_index, string_bytes, chars, true};
 ghost use Rattle.fancy_vm.specs.Insns.{insn_of};
-ghost use Rattle.fancy_meaning.specs.AnalysisRefusals as plain;
 ghost use Rattle.fancy_meaning.specs.Batches.{any_instr, literal_instr};
-ghost use Rattle.fancy_meaning.specs.Code.{Laid, one};
+ghost use Rattle.fancy_meaning.specs.Code.{one};
 ghost use Rattle.fancy_meaning.specs.Instr.{Instr, Newline};
 ghost use Rattle.fancy_compile.specs.Sites.{Site};
 ghost use Rattle.fancy_meaning.specs.Tree as plain_tree;
 ghost use Rattle.fancy_meaning.specs.Tree.{Tree};
-ghost use Rattle.fancy_compile.specs.Drafts.{Adds, Writes, draft_of};
-ghost use Rattle.fancy_compile.specs.Faults.{HasRejected};
+ghost use Rattle.fancy_compile.specs.Drafts.{Writes, draft_of};
 ghost use Rattle.fancy_compile.specs.Nodes.{WritesLeaf, WritesTree, assertion_inside};
 ghost use Rattle.fancy_compile.specs.Kinds.{is_leaf};
 ghost use Rattle.fancy_expr.specs.Views.{assertion_of, verb_of};
 
 use crate::compiler::Compiler;
-use crate::task::Task;
-use fancy_vm::vm::Insn;
+use crate::scope::Scope;
 use fancy_characters::classes::{CaseiLiteral, CharClassMatcher};
 use fancy_expr::error::{CompileError, Error};
 use fancy_expr::expr::{Assertion, BacktrackingControlVerb, Expr};
+use fancy_vm::vm::Insn;
 use std::alloc::{AllocError, Global};
 use std::rc::Rc;
 
@@ -103,45 +101,29 @@ fn is_out_of_range(group: usize) -> bool
 }
 
 impl Compiler {
-    /// Refuses a node that is not supported.
-    pub fn refuse(&mut self)
-        ensures { (p : Site) (a : Laid) (es : List Tree)
-            → HasRejected p es plain.FeatureNotYetSupported
-            → Adds p a es (draft_of self.old) (draft_of self.new) }
+    fn emit_literal(&mut self, scope: &Scope, val: &str, casei: bool)
+        ensures { WritesTree scope.now (plain_tree.Literal (slice_index (chars val.now) 0) casei)
+            (draft_of self.old) (draft_of self.new) }
     {
-        self.fail(Error::CompileError(CompileError::FeatureNotYetSupported));
-    }
-
-    fn emit_literal(&mut self, task: &Task, val: &str, casei: bool)
-        ensures { WritesTree task.now (plain_tree.Literal (slice_index (chars val.now) 0) casei) (draft_of self.old) (draft_of self.new) }
-    {
-        match literal_insn(task.alloc, first_char(val), casei, task.unicode) {
+        match literal_insn(scope.alloc, first_char(val), casei, scope.unicode) {
             Ok(insn) => self.push(insn),
             Err(_) => self.fail(Error::Memory),
         }
     }
 
-    fn emit_class(&mut self, task: &Task, inner: &str, casei: bool)
-        ensures { WritesTree task.now (plain_tree.Delegate inner.now casei) (draft_of self.old) (draft_of self.new) }
-    {
-        match self.classes.get(task.alloc, inner, casei, task.unicode) {
-            Ok(class) => self.push(Insn::CharClass(class)),
-            Err(error) => self.fail(error),
-        }
-    }
-
     /// CR LF, or else one newline.
-    fn emit_newline(&mut self, task: &Task, unicode: bool)
-        ensures { WritesTree task.now (plain_tree.GeneralNewline unicode) (draft_of self.old) (draft_of self.new) }
+    fn emit_newline(&mut self, scope: &Scope, unicode: bool)
+        ensures { WritesTree scope.now (plain_tree.GeneralNewline unicode)
+            (draft_of self.old) (draft_of self.new) }
     {
-        let both = match bytes_text(task.alloc, &[13, 10]) {
+        let both = match bytes_text(scope.alloc, &[13, 10]) {
             Ok(text) => text,
             Err(_) => {
                 self.fail(Error::Memory);
                 return;
             }
         };
-        let one = match newline_insn(task.alloc, unicode) {
+        let one = match newline_insn(scope.alloc, unicode) {
             Ok(insn) => insn,
             Err(_) => {
                 self.fail(Error::Memory);
@@ -163,68 +145,74 @@ impl Compiler {
 
     /// An assertion, which may stand in a look-around.
     pub fn emit_assertion(&mut self, assertion: Assertion, in_look: bool)
-        ensures { (p : Site) → Writes p (one (Instr.Assert (assertion_inside in_look (assertion_of assertion)))) [] (draft_of self.old) (draft_of self.new) }
+        ensures { (p : Site)
+            → Writes p (one (Instr.Assert (assertion_inside in_look (assertion_of assertion)))) []
+            (draft_of self.old) (draft_of self.new) }
     {
         self.push(Insn::Assertion(assertion_inside(assertion, in_look)));
     }
 
-    fn emit_bytes(&mut self, task: &Task, bytes: &[u8])
-        ensures { WritesTree task.now (plain_tree.LiteralBytes bytes.now) (draft_of self.old) (draft_of self.new) }
+    fn emit_bytes(&mut self, scope: &Scope, bytes: &[u8])
+        ensures { WritesTree scope.now (plain_tree.LiteralBytes bytes.now)
+            (draft_of self.old) (draft_of self.new) }
     {
-        match bytes_text(task.alloc, bytes) {
+        match bytes_text(scope.alloc, bytes) {
             Ok(text) => self.push(Insn::Lit(text)),
             Err(_) => self.fail(Error::Memory),
         }
     }
 
-    fn emit_backref(&mut self, task: &Task, group: usize, casei: bool)
-        ensures { WritesTree task.now (plain_tree.Backref group casei) (draft_of self.old) (draft_of self.new) }
+    fn emit_backref(&mut self, scope: &Scope, group: usize, casei: bool)
+        ensures { WritesTree scope.now (plain_tree.Backref group casei)
+            (draft_of self.old) (draft_of self.new) }
     {
         if is_out_of_range(group) {
-            self.refuse();
+            self.refuse(CompileError::FeatureNotYetSupported);
             return;
         }
         self.push(Insn::Backref {
             slot: 2 * group,
             casei,
-            unicode: task.unicode,
+            unicode: scope.unicode,
         });
     }
 
-    fn emit_existence(&mut self, task: &Task, group: usize, level: Option<isize>)
-        ensures { WritesTree task.now (plain_tree.BackrefExists group level) (draft_of self.old) (draft_of self.new) }
+    fn emit_existence(&mut self, scope: &Scope, group: usize, level: Option<isize>)
+        ensures { WritesTree scope.now (plain_tree.BackrefExists group level)
+            (draft_of self.old) (draft_of self.new) }
     {
         match level {
-            Some(_) => self.refuse(),
+            Some(_) => self.refuse(CompileError::FeatureNotYetSupported),
             None => self.push(Insn::BackrefExistsCondition(group)),
         }
     }
 
-    fn emit_verb(&mut self, task: &Task, verb: BacktrackingControlVerb)
-        ensures { WritesTree task.now (plain_tree.Control (verb_of verb)) (draft_of self.old) (draft_of self.new) }
+    fn emit_verb(&mut self, scope: &Scope, verb: BacktrackingControlVerb)
+        ensures { WritesTree scope.now (plain_tree.Control (verb_of verb))
+            (draft_of self.old) (draft_of self.new) }
     {
         match verb {
             BacktrackingControlVerb::Fail => self.push(Insn::Fail),
-            BacktrackingControlVerb::Accept => self.refuse(),
-            BacktrackingControlVerb::Commit => self.refuse(),
-            BacktrackingControlVerb::Skip => self.refuse(),
-            BacktrackingControlVerb::Prune => self.refuse(),
+            BacktrackingControlVerb::Accept => self.refuse(CompileError::FeatureNotYetSupported),
+            BacktrackingControlVerb::Commit => self.refuse(CompileError::FeatureNotYetSupported),
+            BacktrackingControlVerb::Skip => self.refuse(CompileError::FeatureNotYetSupported),
+            BacktrackingControlVerb::Prune => self.refuse(CompileError::FeatureNotYetSupported),
         }
     }
 
     /// A node that is written by itself.
-    pub fn emit_leaf(&mut self, task: &Task, expr: &Expr, at_start: bool)
+    pub fn emit_leaf(&mut self, scope: &Scope, expr: &Expr, at_start: bool)
         requires { is_leaf expr.now ≡ true }
-        ensures { WritesLeaf task.now expr.now at_start (draft_of self.old) (draft_of self.new) }
+        ensures { WritesLeaf scope.now expr.now at_start (draft_of self.old) (draft_of self.new) }
     {
         match expr {
             Expr::Empty => {}
             Expr::Any { newline, crlf } => self.push(any_insn(*newline, *crlf)),
-            Expr::GeneralNewline { unicode } => self.emit_newline(task, *unicode),
-            Expr::Literal { val, casei } => self.emit_literal(task, val, *casei),
-            Expr::LiteralBytes { bytes } => self.emit_bytes(task, bytes),
-            Expr::Delegate { inner, casei } => self.emit_class(task, inner, *casei),
-            Expr::Backref { group, casei } => self.emit_backref(task, *group, *casei),
+            Expr::GeneralNewline { unicode } => self.emit_newline(scope, *unicode),
+            Expr::Literal { val, casei } => self.emit_literal(scope, val, *casei),
+            Expr::LiteralBytes { bytes } => self.emit_bytes(scope, bytes),
+            Expr::Delegate { inner, casei } => self.emit_class(scope, inner, *casei),
+            Expr::Backref { group, casei } => self.emit_backref(scope, *group, *casei),
             Expr::BackrefWithRelativeRecursionLevel { .. } => {}
             Expr::KeepOut => self.push(Insn::Save(0)),
             Expr::ContinueFromPreviousMatchEnd => {
@@ -233,8 +221,8 @@ impl Compiler {
             Expr::BackrefExistsCondition {
                 group,
                 relative_recursion_level,
-            } => self.emit_existence(task, *group, *relative_recursion_level),
-            Expr::BacktrackingControlVerb(verb) => self.emit_verb(task, *verb),
+            } => self.emit_existence(scope, *group, *relative_recursion_level),
+            Expr::BacktrackingControlVerb(verb) => self.emit_verb(scope, *verb),
             Expr::DefineGroup { .. } => {}
             Expr::AstNode(_, _) => {}
             _ => {}

@@ -1,14 +1,20 @@
 //! The compiler, from an analysed tree to a program of the machine.
 #![tactic(auto)]
 
+mod absents;
+mod alternations;
 mod around;
-mod closing;
+mod calls;
+mod classes;
 pub mod compile;
 mod compiler;
+mod concatenations;
+mod conditionals;
+mod group_table;
 mod groups;
 mod leaves;
+mod looks;
+mod loops;
 mod nodes;
-mod opening;
 pub mod options;
-mod shared;
-mod task;
+mod scope;

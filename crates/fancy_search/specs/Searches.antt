@@ -22,7 +22,7 @@ use Rattle.fancy_vm.specs.Means.{numbers_of}
 use Rattle.fancy_vm.specs.declared.insn.Prog.{Prog}
 use Rattle.fancy_vm.specs.Programs.{prog_of}
 use Rattle.fancy_compile.specs.declared.options.CompileOptions.{CompileOptions}
-use Rattle.fancy_compile.specs.Compiled.{options_of as compile_options_of}
+use Rattle.fancy_compile.specs.Compiled.{compile_options_of}
 use Rattle.fancy_compile.specs.Faults.{error_of}
 use Rattle.fancy_search.specs.declared.search.Compiled.{Compiled}
 use Rattle.fancy_search.specs.declared.search.SearchOptions.{SearchOptions}

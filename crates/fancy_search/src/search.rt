@@ -5,7 +5,7 @@ ghost use Rattle.fancy_meaning.specs.Fits.{run_fits};
 ghost use Rattle.fancy_meaning.specs.Options as plain;
 ghost use Rattle.fancy_meaning.specs.Premises.{Input};
 ghost use Rattle.fancy_analysis.specs.Infos.{options_of as analysis_options_of};
-ghost use Rattle.fancy_compile.specs.Compiled.{options_of as compile_options_of};
+ghost use Rattle.fancy_compile.specs.Compiled.{compile_options_of};
 ghost use Rattle.fancy_expr.specs.Sound.{IsWellFormedTree};
 ghost use Rattle.fancy_vm.specs.Programs.{default_at, options_of as run_options_of, task_of};
 ghost use Rattle.fancy_search.specs.Searches.{IsCompiledFrom, IsRefusedAs, Promises, input_of, program, search_fits};

@@ -1,12 +1,10 @@
 use Rattle.std.proofs.Common.{length, if◌then◌else◌, map, refl, ap, ◌∙◌, arith}
 use Rattle.fancy_vm.specs.Insns.{insn_of}
 use Rattle.fancy_meaning.specs.CompileRefusals.{bytes_mode}
-use Rattle.fancy_meaning.specs.Options.{AnalysisOptions}
 use Rattle.fancy_meaning.specs.Premises.{analysis}
 use Rattle.fancy_compile.specs.Compiled.{plan_with, refuses}
 use Rattle.fancy_compile.specs.Drafts.{draft_of}
-use Rattle.fancy_compile.proofs.Called.{table_bodies, table_numbers, table_known, table_starts}
-use Rattle.fancy_compile.proofs.Finished.{begun}
+use Rattle.fancy_compile.proofs.Finished.{scope_of_table, writing_from_start}
 use Rattle.fancy_compile.proofs.Roots.{root_known}
 use Rattle.fancy_compile.proofs.compile.compile.Goals as goal
 
@@ -32,19 +30,11 @@ pub emit_program-requires : goal.emit_program-requires
 emit_program-requires c =
     let a = c.requires.0 in
     let r = c.requires.1.root in
-    let first = ap (λ b. if b then 0 else 1) (c.explicit_capture_group_0-explicit_group_0.ensures ∙ ap (λ (o : AnalysisOptions). o.explicit_capture_group_0) (r.node).options) in
-    let t = c.in_ok-groups.ensures in
     record {
       whole = (
         analysis a,
-        record {
-          tree = r.tree;
-          root = root_known a c.args.info.now r;
-          bodies = table_bodies a c.args.info.now r _ c.in_ok-groups.groups t;
-          numbers = table_numbers a c.args.info.now r _ c.in_ok-groups.groups t (c.first_number.ensures ∙ first);
-          known = table_known a c.args.info.now r _ c.in_ok-groups.groups t;
-          starts = table_starts a c.args.info.now r _ c.in_ok-groups.groups t;
-        },
+        scope_of_table a _ r c.explicit_capture_group_0-explicit_group_0.result c.explicit_capture_group_0-explicit_group_0.ensures _
+            c.first_number.ensures c.in_ok-groups.ensures,
       );
       begins = refl;
     }
@@ -53,39 +43,26 @@ pub finish-requires : goal.finish-requires
 finish-requires c =
     let a = c.requires.0 in
     let m = c.requires.1 in
-    let r = m.root in
-    let first = ap (λ b. if b then 0 else 1) (c.explicit_capture_group_0-explicit_group_0.ensures ∙ ap (λ (o : AnalysisOptions). o.explicit_capture_group_0) (r.node).options) in
-    let t = c.in_ok-groups.ensures in (
+    let r = m.root in (
       a,
       m,
       c.is_unicode.ensures.yes c.if-not-is_unicode.false,
-      begun a c.args.info.now c.args.options m c.explicit_capture_group_0-explicit_group_0.result c.total_groups.result c.explicit_capture_group_0-explicit_group_0.ensures (c.total_groups.ensures.value a r)
-          (map insn_of c.new.result.items) c.first_fresh.result (draft_of c.emit_program.new.self) (ap (map insn_of) c.new.ensures.items) c.first_fresh.ensures.value
+      writing_from_start a c.args.info.now c.args.options m c.explicit_capture_group_0-explicit_group_0.result c.total_groups.result
+          c.explicit_capture_group_0-explicit_group_0.ensures (c.total_groups.ensures.value a r)
+          (map insn_of c.new.result.items) c.first_fresh.result (draft_of c.emit_program.new.self)
+          (ap (map insn_of) c.new.ensures.items) c.first_fresh.ensures.value
           (c.emit_program.ensures (plan_with a c.args.options) refl refl refl
-          (record {
-            tree = r.tree;
-            root = root_known a c.args.info.now r;
-            bodies = table_bodies a c.args.info.now r _ c.in_ok-groups.groups t;
-            numbers = table_numbers a c.args.info.now r _ c.in_ok-groups.groups t (c.first_number.ensures ∙ first);
-            known = table_known a c.args.info.now r _ c.in_ok-groups.groups t;
-            starts = table_starts a c.args.info.now r _ c.in_ok-groups.groups t;
-          })),
+          (scope_of_table a _ r c.explicit_capture_group_0-explicit_group_0.result c.explicit_capture_group_0-explicit_group_0.ensures _
+          c.first_number.ensures c.in_ok-groups.ensures)),
     )
 
 pub returns : goal.returns
 returns c = λ a m.
     let r = m.root in
-    let first = ap (λ b. if b then 0 else 1) (c.explicit_capture_group_0-explicit_group_0.ensures ∙ ap (λ (o : AnalysisOptions). o.explicit_capture_group_0) (r.node).options) in
-    let t = c.in_ok-groups.ensures in
     c.finish.ensures a m (c.is_unicode.ensures.yes c.if-not-is_unicode.false)
-    (begun a c.args.info.now c.args.options m c.explicit_capture_group_0-explicit_group_0.result c.total_groups.result c.explicit_capture_group_0-explicit_group_0.ensures (c.total_groups.ensures.value a r)
+    (writing_from_start a c.args.info.now c.args.options m c.explicit_capture_group_0-explicit_group_0.result c.total_groups.result
+    c.explicit_capture_group_0-explicit_group_0.ensures (c.total_groups.ensures.value a r)
     (map insn_of c.new.result.items) c.first_fresh.result (draft_of c.emit_program.new.self) (ap (map insn_of) c.new.ensures.items) c.first_fresh.ensures.value
     (c.emit_program.ensures (plan_with a c.args.options) refl refl refl
-    (record {
-      tree = r.tree;
-      root = root_known a c.args.info.now r;
-      bodies = table_bodies a c.args.info.now r _ c.in_ok-groups.groups t;
-      numbers = table_numbers a c.args.info.now r _ c.in_ok-groups.groups t (c.first_number.ensures ∙ first);
-      known = table_known a c.args.info.now r _ c.in_ok-groups.groups t;
-      starts = table_starts a c.args.info.now r _ c.in_ok-groups.groups t;
-    })))
+    (scope_of_table a _ r c.explicit_capture_group_0-explicit_group_0.result c.explicit_capture_group_0-explicit_group_0.ensures _
+    c.first_number.ensures c.in_ok-groups.ensures)))

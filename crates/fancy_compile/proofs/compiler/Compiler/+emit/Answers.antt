@@ -13,7 +13,7 @@ use Rattle.fancy_analysis.specs.declared.info.Info.TheViews.{out-Info}
 use Rattle.fancy_analysis.specs.Infos.{node_over, info_tree, info_size, info_children, info_within, IsAnalysed}
 use Rattle.fancy_expr.specs.Each.{Each}
 use Rattle.fancy_analysis.proofs.Unfolded.{tree_out}
-use Rattle.fancy_compile.specs.Drafts.{draft_of, patched, all_patched, Adds, Writes, hard_code}
+use Rattle.fancy_compile.specs.Drafts.{draft_of, with_patch, with_jumps, Adds, Writes, hard_code}
 use Rattle.fancy_meaning.specs.AnalysisRefusals as refusal
 use Rattle.fancy_meaning.specs.Sizes.{Size}
 use Rattle.fancy_compile.specs.Faults.{HasRejected}
@@ -23,76 +23,86 @@ use Rattle.fancy_compile.proofs.Writing.{wrote_then, wrote_nothing}
 use Rattle.fancy_compile.proofs.Patches.{wrote_both}
 use Rattle.fancy_compile.proofs.Concat.{ahead_by, negative_by}
 use Rattle.fancy_expr.specs.Views.{look_of, bound_of}
-use Rattle.fancy_compile.specs.declared.around.Around.TheVariants as around
-use Rattle.fancy_compile.specs.Arounds.{around_code, form_of}
+use Rattle.fancy_compile.specs.Arounds.{around_code, form_of, behind, not_ahead, not_behind}
 use Rattle.fancy_meaning.specs.OpenCalls.{call_depth}
-use Rattle.fancy_compile.specs.OpenTasks.{depths_of}
+use Rattle.fancy_compile.specs.OpenDepths.{depths_of}
 use Rattle.fancy_compile.specs.Sites.{under_call}
 use Rattle.fancy_compile.proofs.Called.{zero_target, in_range, no_target, some_target, body_target, body_facts, body_starts}
-use Rattle.fancy_compile.proofs.Calls.{missing_refused, wrote_full, code_of_zero, code_of_group, still_served, lighter, inner_code, inner_u, wrote_called}
+use Rattle.fancy_compile.proofs.CallLaws.{missing_refused, wrote_full, code_of_zero, code_of_group, same_tree, lighter, inner_code, inner_u, wrote_called}
 use Rattle.fancy_compile.proofs.Alone.{wrote_assertion}
 use Rattle.fancy_compile.proofs.LoopForms.{wrote_repeat, wrote_never}
 use Rattle.fancy_compile.proofs.Lookbehinds.{const_branches, varying_branch, variable_refused, wrote_behind, wrote_not_behind, wrote_behind_branches, wrote_none_behind}
 use Rattle.fancy_compile.proofs.Written.{wrote_node, safe_fine}
-use Rattle.fancy_compile.proofs.Absents.{repeater_over, repeater_below, not_repeater, hard_child, repeater_refused, wrote_absent}
-use Rattle.fancy_compile.proofs.Infos.{tree_by, each_at, whole_at, counted, child_count, whole_below, known_child, size_known, has_one, only_child, smaller_child, whole_child, known_only, three_children, smaller_three, whole_three, known_three}
-use Rattle.fancy_compile.proofs.Loops.{LeftBranches, LeftNone, in_turn_step, none_step, no_more_none, at_branch, last_step, branch_step, jumps_more, no_more_in_turn, no_more_branches, wrote_concat, wrote_alt}
+use Rattle.fancy_compile.proofs.AbsentLaws.{repeater_over, repeater_below, not_repeater, hard_child, repeater_refused, wrote_absent}
+use Rattle.fancy_compile.proofs.Infos.{tree_by, each_at, whole_at, node_count-below, child_count, whole_below, known_child, size_known, has_one, only_child, smaller_child, whole_child, known_only, three_children, smaller_three, whole_three, known_three}
+use Rattle.fancy_compile.proofs.Neighbours.{LeftBranches, LeftNone, in_turn_step, none_step, no_more_none, at_branch, last_step, branch_step, jumps_more, no_more_in_turn, no_more_branches, wrote_concat, wrote_alt}
 use Rattle.fancy_compile.proofs.compiler.Compiler.+emit.Goals as goal
 
 pub emit-emit_in_turn-requires : goal.emit-emit_in_turn-requires
 emit-emit_in_turn-requires t c = (
-  omega (arith, counted c.args.info.now, ap (λ l. total (map node_count l)) c.children.ensures),
-  subst (AreWhole c.args.task.now) (sym c.children.ensures) (whole_below c.args.task.now c.args.info.now c.requires),
+  omega (arith, node_count-below c.args.info.now, ap (λ l. total (map node_count l)) c.children.ensures),
+  subst (AreWhole c.args.scope.now) (sym c.children.ensures) (whole_below c.args.scope.now c.args.info.now c.requires),
 )
 
 pub emit-emit_branches-requires : goal.emit-emit_branches-requires
 emit-emit_branches-requires t c = (
-  omega (arith, counted c.args.info.now, ap (λ l. total (map node_count l)) c.children-in-Alt.ensures),
-  subst (AreWhole c.args.task.now) (sym c.children-in-Alt.ensures) (whole_below c.args.task.now c.args.info.now c.requires),
+  omega (arith, node_count-below c.args.info.now, ap (λ l. total (map node_count l)) c.children-in-Alt.ensures),
+  subst (AreWhole c.args.scope.now) (sym c.children-in-Alt.ensures) (whole_below c.args.scope.now c.args.info.now c.requires),
 )
 
 pub emit-child-requires : goal.emit-child-requires
-emit-child-requires t c = omega (arith, has_one c.args.task.now c.args.info.now c.args.info.now _ (sym c.expr-expr.ensures ∙ c.in-Group.is) c.requires refl)
+emit-child-requires t c = omega (arith, has_one c.args.scope.now c.args.info.now c.args.info.now _ (sym c.expr-expr.ensures ∙ c.in-Group.is) c.requires refl)
 
 pub emit-emit_around-requires : goal.emit-emit_around-requires
 emit-emit_around-requires t c =
     let at = sym c.expr-expr.ensures ∙ c.in-Group.is in
-    let body = c.child.result.now in
-    (omega (arith, smaller_child c.args.task.now c.args.info.now body _ at c.requires refl c.child.ensures), whole_child c.args.task.now c.args.info.now body _ at c.requires refl c.child.ensures)
+    let body = c.child.result.now in (
+      omega (arith, smaller_child c.args.scope.now c.args.info.now body _ at c.requires refl c.child.ensures),
+      whole_child c.args.scope.now c.args.info.now body _ at c.requires refl c.child.ensures,
+    )
 
 pub emit-child-requires-in-AtomicGroup : goal.emit-child-requires-in-AtomicGroup
-emit-child-requires-in-AtomicGroup t c = omega (arith, has_one c.args.task.now c.args.info.now c.args.info.now _ (sym c.expr-expr.ensures ∙ c.in-AtomicGroup.is) c.requires refl)
+emit-child-requires-in-AtomicGroup t c = omega (
+  arith,
+  has_one c.args.scope.now c.args.info.now c.args.info.now _
+      (sym c.expr-expr.ensures ∙ c.in-AtomicGroup.is) c.requires refl,
+)
 
 pub emit-emit_around-requires-in-AtomicGroup : goal.emit-emit_around-requires-in-AtomicGroup
 emit-emit_around-requires-in-AtomicGroup t c =
     let at = sym c.expr-expr.ensures ∙ c.in-AtomicGroup.is in
-    let body = c.child-in-AtomicGroup.result.now in
-    (omega (arith, smaller_child c.args.task.now c.args.info.now body _ at c.requires refl c.child-in-AtomicGroup.ensures), whole_child c.args.task.now c.args.info.now body _ at c.requires refl c.child-in-AtomicGroup.ensures)
+    let body = c.child-in-AtomicGroup.result.now in (
+      omega (arith, smaller_child c.args.scope.now c.args.info.now body _ at c.requires refl c.child-in-AtomicGroup.ensures),
+      whole_child c.args.scope.now c.args.info.now body _ at c.requires refl c.child-in-AtomicGroup.ensures,
+    )
 
 pub emit-returns-in-Concat : goal.emit-returns-in-Concat
 emit-returns-in-Concat t c = λ p call in_hard u known.
     let at = sym c.expr-expr.ensures ∙ c.in-Concat.is in
     let tree = tree_by c.args.info.now _ c.children.result.now at (sym c.children.ensures) in
     subst (λ e. Writes p (hard_code p call e c.args.at_start in_hard) (e ∷ []) (draft_of c.args.self.now) (draft_of c.emit_in_turn.new.self)) (sym tree)
-    (wrote_concat p call (map info_tree c.children.result.now) c.args.at_start in_hard _ _ (c.emit_in_turn.ensures p call u (subst (Each (IsAnalysed p.analysis)) (sym c.children.ensures) known.children)))
+    (wrote_concat p call (map info_tree c.children.result.now) c.args.at_start in_hard _ _
+    (c.emit_in_turn.ensures p call u (subst (Each (IsAnalysed p.analysis)) (sym c.children.ensures) known.children)))
 
 pub emit-returns-in-Alt : goal.emit-returns-in-Alt
 emit-returns-in-Alt t c = λ p call in_hard u known.
     let at = sym c.expr-expr.ensures ∙ c.in-Alt.is in
     let tree = tree_by c.args.info.now _ c.children-in-Alt.result.now at (sym c.children-in-Alt.ensures) in
     subst (λ e. Writes p (hard_code p call e c.args.at_start in_hard) (e ∷ []) (draft_of c.args.self.now) (draft_of c.emit_branches.new.self)) (sym tree)
-    (wrote_alt p call (map info_tree c.children-in-Alt.result.now) c.args.at_start in_hard _ _ (c.emit_branches.ensures p call in_hard u (subst (Each (IsAnalysed p.analysis)) (sym c.children-in-Alt.ensures) known.children)))
+    (wrote_alt p call (map info_tree c.children-in-Alt.result.now) c.args.at_start in_hard _ _
+    (c.emit_branches.ensures p call in_hard u (subst (Each (IsAnalysed p.analysis)) (sym c.children-in-Alt.ensures) known.children)))
 
 pub emit-returns-in-Group : goal.emit-returns-in-Group
 emit-returns-in-Group t c = λ p call in_hard u known.
     let at = sym c.expr-expr.ensures ∙ c.in-Group.is in
     let body = c.child.result.now in
     let n = (out-Info c.args.info.now).start_group in
-    let tree = tree_by c.args.info.now _ (body ∷ []) at (only_child c.args.task.now c.args.info.now body _ at c.requires refl c.child.ensures) in
+    let tree = tree_by c.args.info.now _ (body ∷ []) at (only_child c.args.scope.now c.args.info.now body _ at c.requires refl c.child.ensures) in
     let s = draft_of c.args.self.now in
     let t = draft_of c.emit_around.new.self in
     let inside = in_hard || is_read p.analysis.tree n in
-    let wrote = c.emit_around.ensures p call inside u (known_only c.args.task.now c.args.info.now body _ at c.requires refl c.child.ensures p.analysis known) in
+    let wrote = c.emit_around.ensures p call inside u (known_only c.args.scope.now c.args.info.now body _ at c.requires refl c.child.ensures p.analysis known)
+    in
     subst (λ e. Writes p (hard_code p call e c.args.at_start in_hard) (e ∷ []) s t) (sym tree)
     (wrote_node p _ (plain.Group n (info_tree body)) s t (safe_fine p (plain.Group n (info_tree body)) refl refl)
     (subst (λ m. Writes p (group_code m (hard_code p call (info_tree body) c.args.at_start inside)) (info_tree body ∷ []) s t) c.start_group.ensures wrote))
@@ -101,42 +111,66 @@ pub emit-returns-in-AtomicGroup : goal.emit-returns-in-AtomicGroup
 emit-returns-in-AtomicGroup t c = λ p call in_hard u known.
     let at = sym c.expr-expr.ensures ∙ c.in-AtomicGroup.is in
     let body = c.child-in-AtomicGroup.result.now in
-    let tree = tree_by c.args.info.now _ (body ∷ []) at (only_child c.args.task.now c.args.info.now body _ at c.requires refl c.child-in-AtomicGroup.ensures) in
+    let tree = tree_by c.args.info.now _ (body ∷ []) at (only_child c.args.scope.now c.args.info.now body _ at c.requires refl c.child-in-AtomicGroup.ensures)
+    in
     let s = draft_of c.args.self.now in
     let t = draft_of c.emit_around-in-AtomicGroup.new.self in
     subst (λ e. Writes p (hard_code p call e c.args.at_start in_hard) (e ∷ []) s t) (sym tree)
     (wrote_node p _ (plain.AtomicGroup (info_tree body)) s t (safe_fine p (plain.AtomicGroup (info_tree body)) refl refl)
-    (c.emit_around-in-AtomicGroup.ensures p call false u (known_only c.args.task.now c.args.info.now body _ at c.requires refl c.child-in-AtomicGroup.ensures p.analysis known)))
+    (c.emit_around-in-AtomicGroup.ensures p call false u
+    (known_only c.args.scope.now c.args.info.now body _ at c.requires refl c.child-in-AtomicGroup.ensures p.analysis known)))
 
 pub emit-child-requires-in-LookAround : goal.emit-child-requires-in-LookAround
-emit-child-requires-in-LookAround t c = omega (arith, has_one c.args.task.now c.args.info.now c.args.info.now _ (sym c.expr-expr.ensures ∙ c.in-LookAround.is) c.requires refl)
+emit-child-requires-in-LookAround t c = omega (
+  arith,
+  has_one c.args.scope.now c.args.info.now c.args.info.now _
+      (sym c.expr-expr.ensures ∙ c.in-LookAround.is) c.requires refl,
+)
 
 pub emit-emit_look-requires : goal.emit-emit_look-requires
 emit-emit_look-requires t c =
     let at = sym c.expr-expr.ensures ∙ c.in-LookAround.is in
-    let body = c.child-in-LookAround.result.now in
-    (omega (arith, smaller_child c.args.task.now c.args.info.now body _ at c.requires refl c.child-in-LookAround.ensures), whole_child c.args.task.now c.args.info.now body _ at c.requires refl c.child-in-LookAround.ensures)
+    let body = c.child-in-LookAround.result.now in (
+      omega (arith, smaller_child c.args.scope.now c.args.info.now body _ at c.requires refl c.child-in-LookAround.ensures),
+      whole_child c.args.scope.now c.args.info.now body _ at c.requires refl c.child-in-LookAround.ensures,
+    )
 
 pub emit-returns-in-LookAround : goal.emit-returns-in-LookAround
 emit-returns-in-LookAround t c = λ p call in_hard u known.
     let at = sym c.expr-expr.ensures ∙ c.in-LookAround.is in
     let body = c.child-in-LookAround.result.now in
-    let tree = tree_by c.args.info.now _ (body ∷ []) at (only_child c.args.task.now c.args.info.now body _ at c.requires refl c.child-in-LookAround.ensures) in
+    let tree = tree_by c.args.info.now _ (body ∷ []) at (only_child c.args.scope.now c.args.info.now body _ at c.requires refl c.child-in-LookAround.ensures) in
     subst (λ e. Writes p (hard_code p call e c.args.at_start in_hard) (e ∷ []) (draft_of c.args.self.now) (draft_of c.emit_look.new.self)) (sym tree)
-    (c.emit_look.ensures p call c.args.at_start in_hard u (known_only c.args.task.now c.args.info.now body _ at c.requires refl c.child-in-LookAround.ensures p.analysis known))
+    (c.emit_look.ensures p call c.args.at_start in_hard u
+    (known_only c.args.scope.now c.args.info.now body _ at c.requires refl c.child-in-LookAround.ensures p.analysis known))
 
 pub emit-returns-in-Conditional : goal.emit-returns-in-Conditional
 emit-returns-in-Conditional t c = λ p call in_hard u known.
-    let tree = tree_by c.args.info.now _ _ (sym c.expr-expr.ensures ∙ c.in-Conditional.is) (three_children c.args.task.now c.args.info.now c.child-in-Conditional.result.now c.child-in-Conditional-2.result.now c.child-in-Conditional-3.result.now _ (sym c.expr-expr.ensures ∙ c.in-Conditional.is) c.requires refl c.child-in-Conditional.ensures c.child-in-Conditional-2.ensures c.child-in-Conditional-3.ensures) in
-    let each = known_three c.args.task.now c.args.info.now c.child-in-Conditional.result.now c.child-in-Conditional-2.result.now c.child-in-Conditional-3.result.now _ (sym c.expr-expr.ensures ∙ c.in-Conditional.is) c.requires refl c.child-in-Conditional.ensures c.child-in-Conditional-2.ensures c.child-in-Conditional-3.ensures p.analysis known in
-    let e = plain.Conditional (info_tree c.child-in-Conditional.result.now) (info_tree c.child-in-Conditional-2.result.now) (info_tree c.child-in-Conditional-3.result.now) in
+    let tree = tree_by c.args.info.now _ _ (sym c.expr-expr.ensures ∙ c.in-Conditional.is)
+    (three_children c.args.scope.now c.args.info.now c.child-in-Conditional.result.now c.child-in-Conditional-2.result.now
+    c.child-in-Conditional-3.result.now _ (sym c.expr-expr.ensures ∙ c.in-Conditional.is) c.requires refl c.child-in-Conditional.ensures
+    c.child-in-Conditional-2.ensures c.child-in-Conditional-3.ensures) in
+    let each = known_three c.args.scope.now c.args.info.now c.child-in-Conditional.result.now c.child-in-Conditional-2.result.now
+    c.child-in-Conditional-3.result.now _ (sym c.expr-expr.ensures ∙ c.in-Conditional.is) c.requires refl c.child-in-Conditional.ensures
+    c.child-in-Conditional-2.ensures c.child-in-Conditional-3.ensures p.analysis known in
+    let e = plain.Conditional (info_tree c.child-in-Conditional.result.now) (info_tree c.child-in-Conditional-2.result.now)
+    (info_tree c.child-in-Conditional-3.result.now) in
     subst (λ x. Writes p (hard_code p call x c.args.at_start in_hard) (x ∷ []) (draft_of c.args.self.now) (draft_of c.emit_conditional.new.self)) (sym tree)
     (wrote_node p _ e _ _ (safe_fine p e refl refl) (c.emit_conditional.ensures p call in_hard u each.0 each.1.0 each.1.1))
 
 pub emit-emit_conditional-requires : goal.emit-emit_conditional-requires
 emit-emit_conditional-requires t c =
-    let each = whole_three c.args.task.now c.args.info.now c.child-in-Conditional.result.now c.child-in-Conditional-2.result.now c.child-in-Conditional-3.result.now _ (sym c.expr-expr.ensures ∙ c.in-Conditional.is) c.requires refl c.child-in-Conditional.ensures c.child-in-Conditional-2.ensures c.child-in-Conditional-3.ensures in
-    (omega (arith, smaller_three c.args.task.now c.args.info.now c.child-in-Conditional.result.now c.child-in-Conditional-2.result.now c.child-in-Conditional-3.result.now _ (sym c.expr-expr.ensures ∙ c.in-Conditional.is) c.requires refl c.child-in-Conditional.ensures c.child-in-Conditional-2.ensures c.child-in-Conditional-3.ensures), each)
+    let each = whole_three c.args.scope.now c.args.info.now c.child-in-Conditional.result.now c.child-in-Conditional-2.result.now
+    c.child-in-Conditional-3.result.now _ (sym c.expr-expr.ensures ∙ c.in-Conditional.is) c.requires refl c.child-in-Conditional.ensures
+    c.child-in-Conditional-2.ensures c.child-in-Conditional-3.ensures in (
+      omega (
+        arith,
+        smaller_three c.args.scope.now c.args.info.now c.child-in-Conditional.result.now c.child-in-Conditional-2.result.now
+            c.child-in-Conditional-3.result.now _ (sym c.expr-expr.ensures ∙ c.in-Conditional.is) c.requires refl c.child-in-Conditional.ensures
+            c.child-in-Conditional-2.ensures c.child-in-Conditional-3.ensures,
+      ),
+      each,
+    )
 
 pub emit_conditional-returns : goal.emit_conditional-returns
 emit_conditional-returns t c = λ p call in_hard u first second third.
@@ -148,29 +182,35 @@ emit_conditional-returns t c = λ p call in_hard u first second third.
     let b : Code = end >> at_third in
     let es = info_tree c.args.first.now ∷ info_tree c.args.second.now ∷ [] in
     let ds = info_tree c.args.third.now ∷ [] in
-    let wrote_a = wrote_then p at_first (end >> at_second) (info_tree c.args.first.now ∷ []) (info_tree c.args.second.now ∷ []) _ _ _ (c.emit.ensures p call in_hard u first)
+    let wrote_a = wrote_then p at_first (end >> at_second) (info_tree c.args.first.now ∷ []) (info_tree c.args.second.now ∷ []) _ _ _
+    (c.emit.ensures p call in_hard u first)
     (wrote_then p end at_second [] (info_tree c.args.second.now ∷ []) _ _ _ (c.push-3.ensures.writes p) (c.emit-2.ensures p call in_hard u second)) in
     let wrote_b = wrote_then p end at_third [] ds _ _ _ (c.push-5.ensures.writes p) (c.emit-3.ensures p call in_hard u third) in
     let jump = subst (λ d. Writes p (one (Instr.Jmp 0)) [] d (draft_of c.push-4.new.self)) c.patch.ensures (c.push-4.ensures.writes p) in
-    let both = wrote_both p es ds a b (draft_of c.push.new.self) (draft_of c.push-2.new.self) (draft_of c.emit-2.new.self) (draft_of c.push-4.new.self) (draft_of c.emit-3.new.self) c.len-split.result c.len-jump.result _ _
+    let both = wrote_both p es ds a b (draft_of c.push.new.self) (draft_of c.push-2.new.self) (draft_of c.emit-2.new.self) (draft_of c.push-4.new.self)
+    (draft_of c.emit-3.new.self) c.len-split.result c.len-jump.result _ _
     (c.len-split.ensures ∙ c.push.new.self.code.ok.0 ∙ sym (length-map c.push.new.self.code.items insn_of))
     (c.len-jump.ensures ∙ c.emit-2.new.self.code.ok.0 ∙ sym (length-map c.emit-2.new.self.code.items insn_of))
     (c.push-2.ensures.writes p) wrote_a jump wrote_b in
-    let last : length (draft_of c.emit-3.new.self).instrs ≡ c.len-end.result = length-map c.emit-3.new.self.code.items insn_of ∙ sym (c.len-end.ensures ∙ c.emit-3.new.self.code.ok.0) in
-    let done = ap (λ n. patched (draft_of c.emit-3.new.self) c.len-jump.result (Instr.Jmp n)) last ∙ sym c.patch-2.ensures in
+    let last : length (draft_of c.emit-3.new.self).instrs ≡ c.len-end.result = length-map c.emit-3.new.self.code.items insn_of
+    ∙ sym (c.len-end.ensures ∙ c.emit-3.new.self.code.ok.0) in
+    let done = ap (λ n. with_patch (draft_of c.emit-3.new.self) c.len-jump.result (Instr.Jmp n)) last ∙ sym c.patch-2.ensures in
     wrote_then p (one Instr.BeginAtomic) (branch a b) [] (es ++ ds) _ _ _ (c.push.ensures.writes p)
     (subst (λ d. Writes p (branch a b) (es ++ ds) (draft_of c.push.new.self) d) done both)
 
 pub emit-returns-in_default : goal.emit-returns-in_default
 emit-returns-in_default t c = λ p call in_hard u known.
-    let tree = tree_out c.args.info.now ∙ ap (λ x. node_over x (out-Info c.args.info.now).start_group (info_within c.args.info.now) (trees (map info_tree (info_children c.args.info.now)))) (sym c.expr-expr.ensures) in
+    let tree = tree_out c.args.info.now ∙ ap (λ x. node_over x (out-Info c.args.info.now).start_group (info_within c.args.info.now)
+    (trees (map info_tree (info_children c.args.info.now)))) (sym c.expr-expr.ensures) in
     subst (λ e. Writes p (hard_code p call e c.args.at_start in_hard) (e ∷ []) (draft_of c.args.self.now) (draft_of c.emit_leaf.new.self)) (sym tree)
     (c.emit_leaf.ensures p call in_hard _ _ _ u.unicode)
 
 pub emit_in_turn-emit-requires : goal.emit_in_turn-emit-requires
 emit_in_turn-emit-requires t c =
-    let lt : c.loop-info.info-index < length c.args.infos.now = omega arith in
-    (omega (arith, child_count c.args.infos.now c.loop-info.info-index c.info-item.result lt c.info-item.is), whole_at c.args.task.now c.args.infos.now c.loop-info.info-index c.info-item.result c.requires lt c.info-item.is)
+    let lt : c.loop-info.info-index < length c.args.infos.now = omega arith in (
+      omega (arith, child_count c.args.infos.now c.loop-info.info-index c.info-item.result lt c.info-item.is),
+      whole_at c.args.scope.now c.args.infos.now c.loop-info.info-index c.info-item.result c.requires lt c.info-item.is,
+    )
 
 pub emit_in_turn-loop-info-preserved : goal.emit_in_turn-loop-info-preserved
 emit_in_turn-loop-info-preserved t c = λ p call u same each left.
@@ -178,27 +218,33 @@ emit_in_turn-loop-info-preserved t c = λ p call u same each left.
     let lt : c.loop-info.info-index < length c.args.infos.now = omega arith in
     let known = known_child p.analysis x (each_at (IsAnalysed p.analysis) c.args.infos.now c.loop-info.info-index x each lt c.info-item.is) in
     c.loop-info.invariant p call u same each
-    (in_turn_step p call c.args.infos.now c.loop-info.info-index x lt c.info-item.is (draft_of c.loop-info.self) c.loop-info.is_first _ (draft_of c.emit.new.self) u
+    (in_turn_step p call c.args.infos.now c.loop-info.info-index x lt c.info-item.is (draft_of c.loop-info.self) c.loop-info.is_first _
+    (draft_of c.emit.new.self) u
     (c.is_still_first-is_first.ensures ∙ ap (λ (z : Size). c.loop-info.is_first && z.most == 0) (size_known x p.analysis known))
     (c.emit.ensures p call true same known) left)
 
 pub emit_in_turn-returns : goal.emit_in_turn-returns
 emit_in_turn-returns t c = λ p call same each.
-    c.loop-info.invariant p call _ same each (no_more_in_turn p call c.loop-info.is_first c.args.infos.now c.loop-info.info-index (draft_of c.loop-info.self) (omega arith))
+    c.loop-info.invariant p call _ same each (no_more_in_turn p call c.loop-info.is_first c.args.infos.now c.loop-info.info-index (draft_of c.loop-info.self)
+    (omega arith))
 
 pub emit_branches-returns-in-Err : goal.emit_branches-returns-in-Err
 emit_branches-returns-in-Err t c = λ p call in_hard u each. c.fail.ensures p _ _ tt
 
 pub emit_branches-emit_branch-requires : goal.emit_branches-emit_branch-requires
 emit_branches-emit_branch-requires t c =
-    let lt : c.loop-i.i < length c.args.infos.now = omega arith in
-    (omega (arith, child_count c.args.infos.now c.loop-i.i c.index-infos-i.result lt c.index-infos-i.is), whole_at c.args.task.now c.args.infos.now c.loop-i.i c.index-infos-i.result c.requires lt c.index-infos-i.is)
+    let lt : c.loop-i.i < length c.args.infos.now = omega arith in (
+      omega (arith, child_count c.args.infos.now c.loop-i.i c.index-infos-i.result lt c.index-infos-i.is),
+      whole_at c.args.scope.now c.args.infos.now c.loop-i.i c.index-infos-i.result c.requires lt c.index-infos-i.is,
+    )
 
 pub emit_branches-emit_branch-requires-2 : goal.emit_branches-emit_branch-requires-2
 emit_branches-emit_branch-requires-2 t c =
     let last = length c.args.infos.now - 1 in
-    let lt : last < length c.args.infos.now = omega (arith, c.if-count-eq0.false) in
-    (omega (arith, child_count c.args.infos.now last c.index-infos-count.result lt c.index-infos-count.is), whole_at c.args.task.now c.args.infos.now last c.index-infos-count.result c.requires lt c.index-infos-count.is)
+    let lt : last < length c.args.infos.now = omega (arith, c.if-count-eq0.false) in (
+      omega (arith, child_count c.args.infos.now last c.index-infos-count.result lt c.index-infos-count.is),
+      whole_at c.args.scope.now c.args.infos.now last c.index-infos-count.result c.requires lt c.index-infos-count.is,
+    )
 
 pub emit_branches-loop-i-preserved : goal.emit_branches-loop-i-preserved
 emit_branches-loop-i-preserved t c =
@@ -214,7 +260,8 @@ emit_branches-loop-i-preserved t c =
       few = omega (arith, c.loop-i.invariant.few, ap length jumps, length-append c.loop-i.jumps.items (c.len-jump.result ∷ []));
       goes = λ p call in_hard u same each left.
           let known = known_child p.analysis x (each_at (IsAnalysed p.analysis) infos i x each lt c.index-infos-i.is) in
-          let step = branch_step p call infos i x lt c.index-infos-i.is (draft_of c.loop-i.self) c.args.behind in_hard more (draft_of c.push.new.self) (draft_of c.emit_branch.new.self) (draft_of c.push-in-loop-i-2.new.self) u c.len-split.result c.len-jump.result _ _
+          let step = branch_step p call infos i x lt c.index-infos-i.is (draft_of c.loop-i.self) c.args.behind in_hard more (draft_of c.push.new.self)
+          (draft_of c.emit_branch.new.self) (draft_of c.push-in-loop-i-2.new.self) u c.len-split.result c.len-jump.result _ _
           (c.len-split.ensures ∙ c.loop-i.self.code.ok.0 ∙ sym (length-map c.loop-i.self.code.items insn_of))
           (c.len-jump.ensures ∙ c.emit_branch.new.self.code.ok.0 ∙ sym (length-map c.emit_branch.new.self.code.items insn_of))
           (c.push.ensures.writes p)
@@ -235,27 +282,36 @@ emit_branches-returns t c = λ p call in_hard same each.
     let at : x ≡ get_or infos i x = c.index-infos-count.is ∙ ap (λ n. get_or infos n x) end in
     let known = known_child p.analysis x (each_at (IsAnalysed p.analysis) infos i x each lt at) in
     let w = draft_of c.emit_branch-2.new.self in
-    let last = last_step p call infos i x lt at (draft_of c.loop-i.self) c.args.behind in_hard w w (omega arith) (at_branch p call c.args.behind in_hard x known _ _ (c.emit_branch-2.ensures p call in_hard same known)) (no_more_branches p call c.args.behind in_hard infos (i + 1) w (omega arith)) in
+    let last = last_step p call infos i x lt at (draft_of c.loop-i.self) c.args.behind in_hard w w (omega arith)
+    (at_branch p call c.args.behind in_hard x known _ _ (c.emit_branch-2.ensures p call in_hard same known))
+    (no_more_branches p call c.args.behind in_hard infos (i + 1) w (omega arith)) in
     subst (λ d. LeftBranches p call c.args.behind in_hard infos (draft_of c.args.self.now) d)
-    (ap (λ n. all_patched c.loop-i.jumps.items n w) (length-map c.emit_branch-2.new.self.code.items insn_of) ∙ sym c.patch_jumps.ensures)
+    (ap (λ n. with_jumps c.loop-i.jumps.items n w) (length-map c.emit_branch-2.new.self.code.items insn_of) ∙ sym c.patch_jumps.ensures)
     (c.loop-i.invariant.goes p call in_hard w same each last)
 
 pub emit-child-requires-in-Repeat : goal.emit-child-requires-in-Repeat
-emit-child-requires-in-Repeat t c = omega (arith, has_one c.args.task.now c.args.info.now c.args.info.now _ (sym c.expr-expr.ensures ∙ c.in-Repeat.is) c.requires refl)
+emit-child-requires-in-Repeat t c = omega (
+  arith,
+  has_one c.args.scope.now c.args.info.now c.args.info.now _
+      (sym c.expr-expr.ensures ∙ c.in-Repeat.is) c.requires refl,
+)
 
 pub emit-emit_repeat-requires : goal.emit-emit_repeat-requires
 emit-emit_repeat-requires t c =
     let at = sym c.expr-expr.ensures ∙ c.in-Repeat.is in
-    let body = c.child-in-Repeat.result.now in
-    (omega (arith, smaller_child c.args.task.now c.args.info.now body _ at c.requires refl c.child-in-Repeat.ensures), whole_child c.args.task.now c.args.info.now body _ at c.requires refl c.child-in-Repeat.ensures)
+    let body = c.child-in-Repeat.result.now in (
+      omega (arith, smaller_child c.args.scope.now c.args.info.now body _ at c.requires refl c.child-in-Repeat.ensures),
+      whole_child c.args.scope.now c.args.info.now body _ at c.requires refl c.child-in-Repeat.ensures,
+    )
 
 pub emit-returns-in-Repeat : goal.emit-returns-in-Repeat
 emit-returns-in-Repeat t c = λ p call in_hard u known.
     let at = sym c.expr-expr.ensures ∙ c.in-Repeat.is in
     let body = c.child-in-Repeat.result.now in
-    let tree = tree_by c.args.info.now _ (body ∷ []) at (only_child c.args.task.now c.args.info.now body _ at c.requires refl c.child-in-Repeat.ensures) in
+    let tree = tree_by c.args.info.now _ (body ∷ []) at (only_child c.args.scope.now c.args.info.now body _ at c.requires refl c.child-in-Repeat.ensures) in
     subst (λ e. Writes p (hard_code p call e c.args.at_start in_hard) (e ∷ []) (draft_of c.args.self.now) (draft_of c.emit_repeat.new.self)) (sym tree)
-    (c.emit_repeat.ensures p call c.args.at_start in_hard u (known_only c.args.task.now c.args.info.now body _ at c.requires refl c.child-in-Repeat.ensures p.analysis known))
+    (c.emit_repeat.ensures p call c.args.at_start in_hard u
+    (known_only c.args.scope.now c.args.info.now body _ at c.requires refl c.child-in-Repeat.ensures p.analysis known))
 
 pub emit_repeat-returns-in-Some : goal.emit_repeat-returns-in-Some
 emit_repeat-returns-in-Some t c = λ p call at_start in_hard u known.
@@ -274,19 +330,23 @@ emit_repeat-returns-in-None t c = λ p call at_start in_hard u known.
 
 pub emit_around-returns : goal.emit_around-returns
 emit_around-returns t c = λ p call in_hard u known.
-    c.end.ensures p (hard_code p call (info_tree c.args.body.now) c.args.at_start in_hard) (info_tree c.args.body.now ∷ []) _ _ c.start-start.ensures (c.begin.ensures p) (c.emit.ensures p call in_hard u known)
+    c.end.ensures p (hard_code p call (info_tree c.args.body.now) c.args.at_start in_hard) (info_tree c.args.body.now ∷ []) _ _ c.start-start.ensures
+    (c.begin.ensures p) (c.emit.ensures p call in_hard u known)
 
 pub emit_branch-returns-then-behind : goal.emit_branch-returns-then-behind
 emit_branch-returns-then-behind t c = λ p call in_hard u known.
     let e = info_tree c.args.info.now in
     let body = hard_code p call e false in_hard in
-    subst (λ b. Writes p (branch_over b (info_size c.args.info.now).least body) (e ∷ []) (draft_of c.args.self.now) (draft_of c.emit_around.new.self)) (sym c.if-behind.true)
-    (subst (λ n. Writes p (around_code (around.Behind n) body) (e ∷ []) (draft_of c.args.self.now) (draft_of c.emit_around.new.self)) c.min_size.ensures (c.emit_around.ensures p call in_hard u known))
+    subst (λ b. Writes p (branch_over b (info_size c.args.info.now).least body) (e ∷ []) (draft_of c.args.self.now) (draft_of c.emit_around.new.self))
+    (sym c.if-behind.true)
+    (subst (λ n. Writes p (around_code (behind n) body) (e ∷ []) (draft_of c.args.self.now) (draft_of c.emit_around.new.self)) c.min_size.ensures
+    (c.emit_around.ensures p call in_hard u known))
 
 pub emit_branch-returns-else-behind : goal.emit_branch-returns-else-behind
 emit_branch-returns-else-behind t c = λ p call in_hard u known.
     let e = info_tree c.args.info.now in
-    subst (λ b. Writes p (branch_over b (info_size c.args.info.now).least (hard_code p call e false in_hard)) (e ∷ []) (draft_of c.args.self.now) (draft_of c.emit.new.self)) (sym c.if-behind.false)
+    subst (λ b. Writes p (branch_over b (info_size c.args.info.now).least (hard_code p call e false in_hard)) (e ∷ []) (draft_of c.args.self.now)
+    (draft_of c.emit.new.self)) (sym c.if-behind.false)
     (c.emit.ensures p call in_hard u known)
 
 pub emit_look-returns-in-LookAhead : goal.emit_look-returns-in-LookAhead
@@ -296,35 +356,40 @@ emit_look-returns-in-LookAhead t c = λ p call at_start in_hard u known.
     let z = draft_of c.emit_around.new.self in
     subst (λ l. Writes p (hard_code p call (plain.LookAround (look_of l) e) at_start in_hard) (plain.LookAround (look_of l) e ∷ []) s z) (sym c.in-LookAhead.is)
     (subst (λ k. Writes p k (plain.LookAround plain.LookAhead e ∷ []) s z) (sym (ahead_by p call at_start in_hard e))
-    (wrote_node p _ (plain.LookAround plain.LookAhead e) s z (safe_fine p (plain.LookAround plain.LookAhead e) refl refl) (c.emit_around.ensures p call false u known)))
+    (wrote_node p _ (plain.LookAround plain.LookAhead e) s z (safe_fine p (plain.LookAround plain.LookAhead e) refl refl)
+    (c.emit_around.ensures p call false u known)))
 
 pub emit_look-returns-in-LookAheadNeg : goal.emit_look-returns-in-LookAheadNeg
 emit_look-returns-in-LookAheadNeg t c = λ p call at_start in_hard u known.
     let e = info_tree c.args.body.now in
     let s = draft_of c.args.self.now in
     let z = draft_of c.emit_around-in-LookAheadNeg.new.self in
-    subst (λ l. Writes p (hard_code p call (plain.LookAround (look_of l) e) at_start in_hard) (plain.LookAround (look_of l) e ∷ []) s z) (sym c.in-LookAheadNeg.is)
+    subst (λ l. Writes p (hard_code p call (plain.LookAround (look_of l) e) at_start in_hard) (plain.LookAround (look_of l) e ∷ []) s z)
+    (sym c.in-LookAheadNeg.is)
     (subst (λ k. Writes p k (plain.LookAround plain.LookAheadNeg e ∷ []) s z) (sym (negative_by p call at_start in_hard e))
-    (wrote_node p _ (plain.LookAround plain.LookAheadNeg e) s z (safe_fine p (plain.LookAround plain.LookAheadNeg e) refl refl) (c.emit_around-in-LookAheadNeg.ensures p call false u known)))
+    (wrote_node p _ (plain.LookAround plain.LookAheadNeg e) s z (safe_fine p (plain.LookAround plain.LookAheadNeg e) refl refl)
+    (c.emit_around-in-LookAheadNeg.ensures p call false u known)))
 
 pub emit_look-returns-in-LookBehind : goal.emit_look-returns-in-LookBehind
 emit_look-returns-in-LookBehind t c = λ p call at_start in_hard u known.
     let e = info_tree c.args.body.now in
-    subst (λ l. Writes p (hard_code p call (plain.LookAround (look_of l) e) at_start in_hard) (plain.LookAround (look_of l) e ∷ []) (draft_of c.args.self.now) (draft_of c.emit_behind.new.self)) (sym c.in-LookBehind.is)
+    subst (λ l. Writes p (hard_code p call (plain.LookAround (look_of l) e) at_start in_hard) (plain.LookAround (look_of l) e ∷ []) (draft_of c.args.self.now)
+    (draft_of c.emit_behind.new.self)) (sym c.in-LookBehind.is)
     (c.emit_behind.ensures p call at_start in_hard u known)
 
 pub emit_look-returns-in-LookBehindNeg : goal.emit_look-returns-in-LookBehindNeg
 emit_look-returns-in-LookBehindNeg t c = λ p call at_start in_hard u known.
     let e = info_tree c.args.body.now in
-    subst (λ l. Writes p (hard_code p call (plain.LookAround (look_of l) e) at_start in_hard) (plain.LookAround (look_of l) e ∷ []) (draft_of c.args.self.now) (draft_of c.emit_not_behind.new.self)) (sym c.in-LookBehindNeg.is)
+    subst (λ l. Writes p (hard_code p call (plain.LookAround (look_of l) e) at_start in_hard) (plain.LookAround (look_of l) e ∷ []) (draft_of c.args.self.now)
+    (draft_of c.emit_not_behind.new.self)) (sym c.in-LookBehindNeg.is)
     (c.emit_not_behind.ensures p call at_start in_hard u known)
 
 -- ---- lookbehinds
 
 pub emit_behind-emit_branches-requires : goal.emit_behind-emit_branches-requires
 emit_behind-emit_branches-requires t c = (
-  omega (arith, counted c.args.body.now, ap (λ l. total (map node_count l)) c.children.ensures),
-  subst (AreWhole c.args.task.now) (sym c.children.ensures) (whole_below c.args.task.now c.args.body.now c.requires),
+  omega (arith, node_count-below c.args.body.now, ap (λ l. total (map node_count l)) c.children.ensures),
+  subst (AreWhole c.args.scope.now) (sym c.children.ensures) (whole_below c.args.scope.now c.args.body.now c.requires),
 )
 
 pub emit_behind-returns-then-const_size : goal.emit_behind-returns-then-const_size
@@ -349,12 +414,13 @@ pub emit_behind-returns : goal.emit_behind-returns
 emit_behind-returns t c = λ p call at_start in_hard u known.
     let body = c.args.body.now in
     let varies = ap (λ (z : Size). z.is_const) (sym (size_known body p.analysis known)) ∙ sym c.const_size.ensures ∙ c.if-const_size.false in
-    c.refuse_variable_lookbehind.ensures p _ _ (variable_refused p plain.LookBehind (info_tree body) refl varies (varying_branch p.analysis body known (sym c.has_const_branches.ensures ∙ c.if-has_const_branches.false) varies))
+    c.refuse.ensures p _ _ (variable_refused p plain.LookBehind (info_tree body) refl varies
+    (varying_branch p.analysis body known (sym c.has_const_branches.ensures ∙ c.if-has_const_branches.false) varies))
 
 pub emit_not_behind-emit_none_behind-requires : goal.emit_not_behind-emit_none_behind-requires
 emit_not_behind-emit_none_behind-requires t c = (
-  omega (arith, counted c.args.body.now, ap (λ l. total (map node_count l)) c.children.ensures),
-  subst (AreWhole c.args.task.now) (sym c.children.ensures) (whole_below c.args.task.now c.args.body.now c.requires),
+  omega (arith, node_count-below c.args.body.now, ap (λ l. total (map node_count l)) c.children.ensures),
+  subst (AreWhole c.args.scope.now) (sym c.children.ensures) (whole_below c.args.scope.now c.args.body.now c.requires),
 )
 
 pub emit_not_behind-returns-then-const_size : goal.emit_not_behind-returns-then-const_size
@@ -379,12 +445,15 @@ pub emit_not_behind-returns : goal.emit_not_behind-returns
 emit_not_behind-returns t c = λ p call at_start in_hard u known.
     let body = c.args.body.now in
     let varies = ap (λ (z : Size). z.is_const) (sym (size_known body p.analysis known)) ∙ sym c.const_size.ensures ∙ c.if-const_size.false in
-    c.refuse_variable_lookbehind.ensures p _ _ (variable_refused p plain.LookBehindNeg (info_tree body) refl varies (varying_branch p.analysis body known (sym c.has_const_branches.ensures ∙ c.if-has_const_branches.false) varies))
+    c.refuse.ensures p _ _ (variable_refused p plain.LookBehindNeg (info_tree body) refl varies
+    (varying_branch p.analysis body known (sym c.has_const_branches.ensures ∙ c.if-has_const_branches.false) varies))
 
 pub emit_none_behind-emit_around-requires : goal.emit_none_behind-emit_around-requires
 emit_none_behind-emit_around-requires t c =
-    let lt : c.loop-info.info-index < length c.args.infos.now = omega arith in
-    (omega (arith, child_count c.args.infos.now c.loop-info.info-index c.info-item.result lt c.info-item.is), whole_at c.args.task.now c.args.infos.now c.loop-info.info-index c.info-item.result c.requires lt c.info-item.is)
+    let lt : c.loop-info.info-index < length c.args.infos.now = omega arith in (
+      omega (arith, child_count c.args.infos.now c.loop-info.info-index c.info-item.result lt c.info-item.is),
+      whole_at c.args.scope.now c.args.infos.now c.loop-info.info-index c.info-item.result c.requires lt c.info-item.is,
+    )
 
 pub emit_none_behind-loop-info-preserved : goal.emit_none_behind-loop-info-preserved
 emit_none_behind-loop-info-preserved t c = λ p call u same each left.
@@ -394,7 +463,8 @@ emit_none_behind-loop-info-preserved t c = λ p call u same each left.
     let least = c.min_size.ensures ∙ ap (λ (z : Size). z.least) (size_known x p.analysis known) in
     c.loop-info.invariant p call u same each
     (none_step p call c.args.infos.now c.loop-info.info-index x lt c.info-item.is (draft_of c.loop-info.self) (draft_of c.emit_around.new.self) u
-    (subst (λ n. Writes p (around_code (around.NotBehind n) (hard_code p call (info_tree x) false false)) (info_tree x ∷ []) (draft_of c.loop-info.self) (draft_of c.emit_around.new.self)) least (c.emit_around.ensures p call false same known)) left)
+    (subst (λ n. Writes p (around_code (not_behind n) (hard_code p call (info_tree x) false false)) (info_tree x ∷ []) (draft_of c.loop-info.self)
+    (draft_of c.emit_around.new.self)) least (c.emit_around.ensures p call false same known)) left)
 
 pub emit_none_behind-returns : goal.emit_none_behind-returns
 emit_none_behind-returns t c = λ p call same each.
@@ -405,14 +475,16 @@ emit_none_behind-returns t c = λ p call same each.
 pub emit-child-requires-then-is_repeater : goal.emit-child-requires-then-is_repeater
 emit-child-requires-then-is_repeater t c =
     let one = repeater_below c.in-Absent.absent (sym c.is_repeater.ensures ∙ c.if-is_repeater.true) in
-    omega (arith, has_one c.args.task.now c.args.info.now c.args.info.now _ (sym c.expr-expr.ensures ∙ c.in-Absent.is) c.requires one)
+    omega (arith, has_one c.args.scope.now c.args.info.now c.args.info.now _ (sym c.expr-expr.ensures ∙ c.in-Absent.is) c.requires one)
 
 pub emit-emit_absent-requires : goal.emit-emit_absent-requires
 emit-emit_absent-requires t c =
     let at = sym c.expr-expr.ensures ∙ c.in-Absent.is in
     let one = repeater_below c.in-Absent.absent (sym c.is_repeater.ensures ∙ c.if-is_repeater.true) in
-    let body = c.child-then-is_repeater.result.now in
-    (omega (arith, smaller_child c.args.task.now c.args.info.now body _ at c.requires one c.child-then-is_repeater.ensures), whole_child c.args.task.now c.args.info.now body _ at c.requires one c.child-then-is_repeater.ensures)
+    let body = c.child-then-is_repeater.result.now in (
+      omega (arith, smaller_child c.args.scope.now c.args.info.now body _ at c.requires one c.child-then-is_repeater.ensures),
+      whole_child c.args.scope.now c.args.info.now body _ at c.requires one c.child-then-is_repeater.ensures,
+    )
 
 pub emit-returns-then-is_repeater : goal.emit-returns-then-is_repeater
 emit-returns-then-is_repeater t c = λ p call in_hard u known.
@@ -420,16 +492,18 @@ emit-returns-then-is_repeater t c = λ p call in_hard u known.
     let is = sym c.is_repeater.ensures ∙ c.if-is_repeater.true in
     let one = repeater_below c.in-Absent.absent is in
     let body = c.child-then-is_repeater.result.now in
-    let only = only_child c.args.task.now c.args.info.now body _ at c.requires one c.child-then-is_repeater.ensures in
+    let only = only_child c.args.scope.now c.args.info.now body _ at c.requires one c.child-then-is_repeater.ensures in
     let tree = tree_by c.args.info.now _ (body ∷ []) at only ∙ repeater_over c.in-Absent.absent (info_tree body) is in
     let hard = hard_child p.analysis body (subst (Each (IsAnalysed p.analysis)) only known.children).0 in
     subst (λ e. Writes p (hard_code p call e c.args.at_start in_hard) (e ∷ []) (draft_of c.args.self.now) (draft_of c.emit_absent.new.self)) (sym tree)
-    (c.emit_absent.ensures p call c.args.at_start in_hard u (known_only c.args.task.now c.args.info.now body _ at c.requires one c.child-then-is_repeater.ensures p.analysis known) hard)
+    (c.emit_absent.ensures p call c.args.at_start in_hard u
+    (known_only c.args.scope.now c.args.info.now body _ at c.requires one c.child-then-is_repeater.ensures p.analysis known) hard)
 
 pub emit-returns-else-is_repeater : goal.emit-returns-else-is_repeater
 emit-returns-else-is_repeater t c = λ p call in_hard u known.
     let tree = tree_by c.args.info.now _ _ (sym c.expr-expr.ensures ∙ c.in-Absent.is) refl in
-    c.refuse.ensures p _ _ (subst (λ e. HasRejected p (e ∷ []) refusal.FeatureNotYetSupported) (sym tree) (not_repeater p _ _ (sym c.is_repeater.ensures ∙ c.if-is_repeater.false)))
+    c.refuse.ensures p _ _ (subst (λ e. HasRejected p (e ∷ []) refusal.FeatureNotYetSupported) (sym tree)
+    (not_repeater p _ _ (sym c.is_repeater.ensures ∙ c.if-is_repeater.false)))
 
 pub emit_absent-returns-then-is_refused_body : goal.emit_absent-returns-then-is_refused_body
 emit_absent-returns-then-is_refused_body t c = λ p call at_start in_hard u known hard.
@@ -451,29 +525,31 @@ emit_absent-returns t c = λ p call at_start in_hard u known hard.
 pub emit_step_past-returns : goal.emit_step_past-returns
 emit_step_past-returns t c = λ p call in_hard u known.
     let e = info_tree c.args.body.now in
-    let look : Code = around_code around.NotAhead (hard_code p call e false in_hard) in
+    let look : Code = around_code not_ahead (hard_code p call e false in_hard) in
     let end : Code = one Instr.EndAtomic in
     let any : Code = one Instr.Any in
     let a : Code = look >> end >> any in
     let b : Code = end >> nothing in
     let es = e ∷ [] in
-    let wrote_a = wrote_then p look (end >> any) es [] _ _ _ (c.emit_around.ensures p call in_hard u known) (wrote_then p end any [] [] _ _ _ (c.push-3.ensures.writes p) (c.push-4.ensures.writes p)) in
+    let wrote_a = wrote_then p look (end >> any) es [] _ _ _ (c.emit_around.ensures p call in_hard u known)
+    (wrote_then p end any [] [] _ _ _ (c.push-3.ensures.writes p) (c.push-4.ensures.writes p)) in
     let z = draft_of c.push-6.new.self in
     let wrote_b = wrote_then p end nothing [] [] _ z z (c.push-6.ensures.writes p) (wrote_nothing p z) in
     let jump = subst (λ d. Writes p (one (Instr.Jmp 0)) [] d (draft_of c.push-5.new.self)) c.patch.ensures (c.push-5.ensures.writes p) in
-    let both = wrote_both p es [] a b (draft_of c.push.new.self) (draft_of c.push-2.new.self) (draft_of c.push-4.new.self) (draft_of c.push-5.new.self) z c.len-split.result c.len-jump.result _ _
+    let both = wrote_both p es [] a b (draft_of c.push.new.self) (draft_of c.push-2.new.self) (draft_of c.push-4.new.self)
+    (draft_of c.push-5.new.self) z c.len-split.result c.len-jump.result _ _
     (c.len-split.ensures ∙ c.push.new.self.code.ok.0 ∙ sym (length-map c.push.new.self.code.items insn_of))
     (c.len-jump.ensures ∙ c.push-4.new.self.code.ok.0 ∙ sym (length-map c.push-4.new.self.code.items insn_of))
     (c.push-2.ensures.writes p) wrote_a jump wrote_b in
     let last : length z.instrs ≡ c.len-end.result = length-map c.push-6.new.self.code.items insn_of ∙ sym (c.len-end.ensures ∙ c.push-6.new.self.code.ok.0) in
-    let done = ap (λ n. patched z c.len-jump.result (Instr.Jmp n)) last ∙ sym c.patch-2.ensures in
+    let done = ap (λ n. with_patch z c.len-jump.result (Instr.Jmp n)) last ∙ sym c.patch-2.ensures in
     wrote_then p (one Instr.BeginAtomic) (branch a b) [] es _ _ _ (c.push.ensures.writes p)
     (subst (λ d. Writes p (branch a b) es (draft_of c.push.new.self) d) done both)
 
 -- ---- calls
 
 pub emit-emit_call-requires : goal.emit-emit_call-requires
-emit-emit_call-requires t c = (omega (arith, counted c.args.info.now), (c.requires.analysis, c.requires.served))
+emit-emit_call-requires t c = (omega (arith, node_count-below c.args.info.now), (c.requires.analysis, c.requires.of_tree))
 
 pub emit-returns-in-SubroutineCall : goal.emit-returns-in-SubroutineCall
 emit-returns-in-SubroutineCall t c = λ p call in_hard u known.
@@ -483,83 +559,87 @@ emit-returns-in-SubroutineCall t c = λ p call in_hard u known.
 
 pub emit_call-returns-then-not-has_target : goal.emit_call-returns-then-not-has_target
 emit_call-returns-then-not-has_target t c = λ p call at_start in_hard u.
-    let missing = no_target p.analysis c.args.task.now u.served c.args.group (sym c.has_target.ensures ∙ c.if-not-has_target.true) in
-    c.refuse_missing_group.ensures p _ _ (missing_refused p c.args.group missing)
+    let missing = no_target p.analysis c.args.scope.now u.of_tree c.args.group (sym c.has_target.ensures ∙ c.if-not-has_target.true) in
+    c.refuse.ensures p _ _ (missing_refused p c.args.group missing)
 
 pub emit_call-returns-then-depth-ge-CALL_DEPTH : goal.emit_call-returns-then-depth-ge-CALL_DEPTH
 emit_call-returns-then-depth-ge-CALL_DEPTH t c = λ p call at_start in_hard u.
-    let found = some_target p.analysis c.args.task.now u.served c.args.group (sym c.has_target.ensures ∙ c.if-not-has_target.false) in
-    let full : call_depth ≤ p.depths c.args.group = omega (arith, c.open_calls-depth.ensures, ap (λ d. d c.args.group) u.depths, c.if-depth-ge-CALL_DEPTH.true) in
+    let found = some_target p.analysis c.args.scope.now u.of_tree c.args.group (sym c.has_target.ensures ∙ c.if-not-has_target.false) in
+    let full : call_depth ≤ p.depths c.args.group = omega (arith, c.open_calls-depth.ensures, ap (λ d. d c.args.group) u.depths, c.if-depth-ge-CALL_DEPTH.true)
+    in
     wrote_full p c.args.group found.0 found.1 call u.budget at_start in_hard _ _ u.calls full (c.push.ensures.writes p)
 
 pub emit_call-emit-requires : goal.emit_call-emit-requires
 emit_call-emit-requires t c =
     let a = c.requires.0 in
     let s = c.requires.1 in
-    let task = c.args.task.now in
+    let scope = c.args.scope.now in
     let g = c.args.group in
-    let free : depths_of task.calls g < call_depth = omega (arith, c.open_calls-depth.ensures, c.if-depth-ge-CALL_DEPTH.false) in
+    let free : depths_of scope.calls g < call_depth = omega (arith, c.open_calls-depth.ensures, c.if-depth-ge-CALL_DEPTH.false) in
     let deeper = ap (λ n. n + 1) c.open_calls-depth.ensures in
-    let at = zero_target a task s g c.if-group-eq0.true in (
-      omega (arith, lighter task g (c.open_calls-depth.result + 1) deeper a a.tree s at free),
-      record { analysis = a; served = still_served a task _ s; known = s.root; small = omega arith },
+    let at = zero_target a scope s g c.if-group-eq0.true in (
+      omega (arith, lighter scope g (c.open_calls-depth.result + 1) deeper a a.tree s at free),
+      record { analysis = a; of_tree = same_tree a scope _ s; known = s.root; small = omega arith },
     )
 
 pub emit_call-returns-then-group-eq0 : goal.emit_call-returns-then-group-eq0
 emit_call-returns-then-group-eq0 t c = λ p call at_start in_hard u.
-    let task = c.args.task.now in
+    let scope = c.args.scope.now in
     let g = c.args.group in
     let whole = p.analysis.tree in
     let free : p.depths g < call_depth = omega (arith, c.open_calls-depth.ensures, ap (λ d. d g) u.depths, c.if-depth-ge-CALL_DEPTH.false) in
     let deeper = ap (λ n. n + 1) c.open_calls-depth.ensures in
-    let at = zero_target p.analysis task u.served g c.if-group-eq0.true in
-    let inner = inner_code p call task u g whole at free in
+    let at = zero_target p.analysis scope u.of_tree g c.if-group-eq0.true in
+    let inner = inner_code p call scope u g whole at free in
     let s = draft_of c.args.self.now in
     let z = draft_of c.emit.new.self in
-    let wrote = c.emit.ensures (under_call g p) inner in_hard (inner_u p call task u g whole at free (c.open_calls-depth.result + 1) deeper _) (u.served).root in
-    wrote_called p call task u g whole at free at_start in_hard s z
+    let wrote = c.emit.ensures (under_call g p) inner in_hard (inner_u p call scope u g whole at free (c.open_calls-depth.result + 1) deeper _)
+    (u.of_tree).root in
+    wrote_called p call scope u g whole at free at_start in_hard s z
     (subst (λ k. Adds (under_call g p) (k (length s.instrs) s.fresh) (whole ∷ []) s z) (sym (code_of_zero p in_hard inner whole g c.if-group-eq0.true))
-    (subst (λ e. Writes (under_call g p) (hard_code p inner e true in_hard) (e ∷ []) s z) (u.served).tree wrote))
+    (subst (λ e. Writes (under_call g p) (hard_code p inner e true in_hard) (e ∷ []) s z) (u.of_tree).tree wrote))
 
 pub emit_call-body-requires : goal.emit_call-body-requires
 emit_call-body-requires t c =
-    (in_range c.requires.0 c.args.task.now c.requires.1 c.args.group c.if-group-eq0.false (sym c.has_target.ensures ∙ c.if-not-has_target.false)).1
+    (in_range c.requires.0 c.args.scope.now c.requires.1 c.args.group c.if-group-eq0.false (sym c.has_target.ensures ∙ c.if-not-has_target.false)).1
 
 pub emit_call-emit_around-requires : goal.emit_call-emit_around-requires
 emit_call-emit_around-requires t c =
     let a = c.requires.0 in
     let s = c.requires.1 in
-    let task = c.args.task.now in
+    let scope = c.args.scope.now in
     let g = c.args.group in
-    let free : depths_of task.calls g < call_depth = omega (arith, c.open_calls-depth.ensures, c.if-depth-ge-CALL_DEPTH.false) in
+    let free : depths_of scope.calls g < call_depth = omega (arith, c.open_calls-depth.ensures, c.if-depth-ge-CALL_DEPTH.false) in
     let deeper = ap (λ n. n + 1) c.open_calls-depth.ensures in
-    let range = in_range a task s g c.if-group-eq0.false (sym c.has_target.ensures ∙ c.if-not-has_target.false) in
+    let range = in_range a scope s g c.if-group-eq0.false (sym c.has_target.ensures ∙ c.if-not-has_target.false) in
     let b = c.body.result in
-    let at = body_target a task s g b range.0 range.1 c.body.ensures c.if-group-eq0.false in
-    let facts = body_facts a task s g b range.0 range.1 c.body.ensures in (
-      omega (arith, facts.1, lighter task g (c.open_calls-depth.result + 1) deeper a (info_tree b.now) s at free),
-      record { analysis = a; served = still_served a task _ s; known = facts.0; small = facts.1 },
+    let at = body_target a scope s g b range.0 range.1 c.body.ensures c.if-group-eq0.false in
+    let facts = body_facts a scope s g b range.0 range.1 c.body.ensures in (
+      omega (arith, facts.1, lighter scope g (c.open_calls-depth.result + 1) deeper a (info_tree b.now) s at free),
+      record { analysis = a; of_tree = same_tree a scope _ s; known = facts.0; small = facts.1 },
     )
 
 pub emit_call-returns : goal.emit_call-returns
 emit_call-returns t c = λ p call at_start in_hard u.
-    let task = c.args.task.now in
+    let scope = c.args.scope.now in
     let g = c.args.group in
     let free : p.depths g < call_depth = omega (arith, c.open_calls-depth.ensures, ap (λ d. d g) u.depths, c.if-depth-ge-CALL_DEPTH.false) in
     let deeper = ap (λ n. n + 1) c.open_calls-depth.ensures in
-    let range = in_range p.analysis task u.served g c.if-group-eq0.false (sym c.has_target.ensures ∙ c.if-not-has_target.false) in
+    let range = in_range p.analysis scope u.of_tree g c.if-group-eq0.false (sym c.has_target.ensures ∙ c.if-not-has_target.false) in
     let b = c.body.result in
     let body = info_tree b.now in
-    let at = body_target p.analysis task u.served g b range.0 range.1 c.body.ensures c.if-group-eq0.false in
-    let facts = body_facts p.analysis task u.served g b range.0 range.1 c.body.ensures in
-    let starts = c.is_marked-at_start.ensures ∙ ap (λ l. slice_index_or l (g - task.groups.now.first) false) c.deref.ensures.value ∙ body_starts p.analysis task u.served g b range.0 range.1 c.body.ensures in
-    let inner = inner_code p call task u g body at free in
+    let at = body_target p.analysis scope u.of_tree g b range.0 range.1 c.body.ensures c.if-group-eq0.false in
+    let facts = body_facts p.analysis scope u.of_tree g b range.0 range.1 c.body.ensures in
+    let starts = c.is_marked-at_start.ensures ∙ ap (λ l. slice_index_or l (g - scope.groups.now.first) false) c.deref.ensures.value
+    ∙ body_starts p.analysis scope u.of_tree g b range.0 range.1 c.body.ensures in
+    let inner = inner_code p call scope u g body at free in
     let inside = in_hard || is_read p.analysis.tree g in
     let s = draft_of c.args.self.now in
     let z = draft_of c.emit_around.new.self in
-    let wrote = c.emit_around.ensures (under_call g p) inner inside (inner_u p call task u g body at free (c.open_calls-depth.result + 1) deeper _) facts.0 in
-    wrote_called p call task u g body at free at_start in_hard s z
-    (subst (λ k. Adds (under_call g p) (k (length s.instrs) s.fresh) (body ∷ []) s z) (sym (code_of_group p in_hard inner body g c.is_marked-at_start.result c.if-group-eq0.false starts)) wrote)
+    let wrote = c.emit_around.ensures (under_call g p) inner inside (inner_u p call scope u g body at free (c.open_calls-depth.result + 1) deeper _) facts.0 in
+    wrote_called p call scope u g body at free at_start in_hard s z
+    (subst (λ k. Adds (under_call g p) (k (length s.instrs) s.fresh) (body ∷ []) s z)
+    (sym (code_of_group p in_hard inner body g c.is_marked-at_start.result c.if-group-eq0.false starts)) wrote)
 
 pub emit-returns-in-Assertion : goal.emit-returns-in-Assertion
 emit-returns-in-Assertion t c = λ p call in_hard u known.

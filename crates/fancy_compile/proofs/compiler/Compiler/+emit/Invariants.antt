@@ -3,59 +3,60 @@ use Rattle.fancy_meaning.specs.Code.{Code, in_turn, branches}
 use Rattle.fancy_compile.specs.Sites.{Site}
 use Rattle.fancy_analysis.specs.Infos.{info_tree, IsAnalysed}
 use Rattle.fancy_expr.specs.Each.{Each}
-use Rattle.fancy_compile.specs.Drafts.{Draft, Writes, draft_of, all_patched}
-use Rattle.fancy_compile.specs.Nodes.{work, node_count, total, codes_in_turn, codes_of_branches, codes_of_none, IsTaskOf}
+use Rattle.fancy_compile.specs.Drafts.{Draft, Writes, draft_of, with_jumps}
+use Rattle.fancy_compile.specs.Nodes.{work, node_count, total, codes_in_turn, codes_of_branches, codes_of_none, IsScopeAt}
 use Rattle.fancy_compile.proofs.compiler.Compiler.+emit.Given as goal
 
 abbrev pub decreases-emit : goal.decreases-emit
-decreases-emit l = work l.task.now + 8 * node_count l.info.now
+decreases-emit l = work l.scope.now + 8 * node_count l.info.now
 
 abbrev pub decreases-emit_in_turn : goal.decreases-emit_in_turn
-decreases-emit_in_turn l = work l.task.now + 8 * total (map node_count l.infos.now) + 1
+decreases-emit_in_turn l = work l.scope.now + 8 * total (map node_count l.infos.now) + 1
 
 abbrev pub decreases-emit_branches : goal.decreases-emit_branches
-decreases-emit_branches l = work l.task.now + 8 * total (map node_count l.infos.now) + 6
+decreases-emit_branches l = work l.scope.now + 8 * total (map node_count l.infos.now) + 6
 
 abbrev pub decreases-emit_branch : goal.decreases-emit_branch
-decreases-emit_branch l = work l.task.now + 8 * node_count l.info.now + 3
+decreases-emit_branch l = work l.scope.now + 8 * node_count l.info.now + 3
 
 abbrev pub decreases-emit_around : goal.decreases-emit_around
-decreases-emit_around l = work l.task.now + 8 * node_count l.body.now + 1
+decreases-emit_around l = work l.scope.now + 8 * node_count l.body.now + 1
 
 abbrev pub decreases-emit_conditional : goal.decreases-emit_conditional
-decreases-emit_conditional l = work l.task.now + 8 * (node_count l.first.now + node_count l.second.now + node_count l.third.now) + 1
+decreases-emit_conditional l = work l.scope.now + 8 * (node_count l.first.now + node_count l.second.now + node_count l.third.now) + 1
 
 abbrev pub decreases-emit_repeat : goal.decreases-emit_repeat
-decreases-emit_repeat l = work l.task.now + 8 * node_count l.body.now + 2
+decreases-emit_repeat l = work l.scope.now + 8 * node_count l.body.now + 2
 
 abbrev pub decreases-emit_look : goal.decreases-emit_look
-decreases-emit_look l = work l.task.now + 8 * node_count l.body.now + 5
+decreases-emit_look l = work l.scope.now + 8 * node_count l.body.now + 5
 
 abbrev pub decreases-emit_behind : goal.decreases-emit_behind
-decreases-emit_behind l = work l.task.now + 8 * node_count l.body.now + 4
+decreases-emit_behind l = work l.scope.now + 8 * node_count l.body.now + 4
 
 abbrev pub decreases-emit_not_behind : goal.decreases-emit_not_behind
-decreases-emit_not_behind l = work l.task.now + 8 * node_count l.body.now + 4
+decreases-emit_not_behind l = work l.scope.now + 8 * node_count l.body.now + 4
 
 abbrev pub decreases-emit_none_behind : goal.decreases-emit_none_behind
-decreases-emit_none_behind l = work l.task.now + 8 * total (map node_count l.infos.now) + 6
+decreases-emit_none_behind l = work l.scope.now + 8 * total (map node_count l.infos.now) + 6
 
 abbrev pub decreases-emit_absent : goal.decreases-emit_absent
-decreases-emit_absent l = work l.task.now + 8 * node_count l.body.now + 3
+decreases-emit_absent l = work l.scope.now + 8 * node_count l.body.now + 3
 
 abbrev pub decreases-emit_step_past : goal.decreases-emit_step_past
-decreases-emit_step_past l = work l.task.now + 8 * node_count l.body.now + 2
+decreases-emit_step_past l = work l.scope.now + 8 * node_count l.body.now + 2
 
 abbrev pub decreases-emit_call : goal.decreases-emit_call
-decreases-emit_call l = work l.task.now + 7
+decreases-emit_call l = work l.scope.now + 7
 
 -- what is left, written from here, completes the whole
 abbrev pub invariant-emit_in_turn-loop-info : goal.invariant-emit_in_turn-loop-info
 invariant-emit_in_turn-loop-info l =
     (p : Site) (call : ℕ → Bool → Code) (u : Draft)
-    → IsTaskOf p call l.task
+    → IsScopeAt p call l.scope
     → Each (IsAnalysed p.analysis) l.infos
-    → Writes p (in_turn (codes_in_turn p call l.is_first (map info_tree (drop l.info-index l.infos)))) (map info_tree (drop l.info-index l.infos)) (draft_of l.self) u
+    → Writes p (in_turn (codes_in_turn p call l.is_first (map info_tree (drop l.info-index l.infos)))) (map info_tree (drop l.info-index l.infos))
+    (draft_of l.self) u
     → Writes p (in_turn (codes_in_turn p call l.at_start (map info_tree l.infos))) (map info_tree l.infos) (draft_of l.fn.self) u
 
 abbrev pub invariant-emit_branches-loop-i : goal.invariant-emit_branches-loop-i
@@ -63,16 +64,18 @@ invariant-emit_branches-loop-i l = record {
   room : length l.infos ≤ l.jumps.cap;
   few : length l.jumps.items ≤ l.i;
   goes : (p : Site) (call : ℕ → Bool → Code) (in_hard : Bool) (u : Draft)
-      → IsTaskOf p call l.task
+      → IsScopeAt p call l.scope
       → Each (IsAnalysed p.analysis) l.infos
-      → Writes p (branches (codes_of_branches p call l.behind in_hard (map info_tree (drop l.i l.infos)))) (map info_tree (drop l.i l.infos)) (draft_of l.self) u
-      → Writes p (branches (codes_of_branches p call l.behind in_hard (map info_tree l.infos))) (map info_tree l.infos) (draft_of l.fn.self) (all_patched l.jumps.items (length u.instrs) u);
+      → Writes p (branches (codes_of_branches p call l.behind in_hard (map info_tree (drop l.i l.infos)))) (map info_tree (drop l.i l.infos))
+      (draft_of l.self) u
+      → Writes p (branches (codes_of_branches p call l.behind in_hard (map info_tree l.infos))) (map info_tree l.infos) (draft_of l.fn.self)
+      (with_jumps l.jumps.items (length u.instrs) u);
 }
 
 abbrev pub invariant-emit_none_behind-loop-info : goal.invariant-emit_none_behind-loop-info
 invariant-emit_none_behind-loop-info l =
     (p : Site) (call : ℕ → Bool → Code) (u : Draft)
-    → IsTaskOf p call l.task
+    → IsScopeAt p call l.scope
     → Each (IsAnalysed p.analysis) l.infos
     → Writes p (in_turn (codes_of_none p call (map info_tree (drop l.info-index l.infos)))) (map info_tree (drop l.info-index l.infos)) (draft_of l.self) u
     → Writes p (in_turn (codes_of_none p call (map info_tree l.infos))) (map info_tree l.infos) (draft_of l.fn.self) u

@@ -5,4 +5,5 @@ use Rattle.fancy_compile.specs.Drafts.{draft_of, Writes}
 use Rattle.fancy_compile.proofs.compiler.Compiler.emit_assertion.Goals as goal
 
 pub returns : goal.returns
-returns c = λ p. subst (λ a. Writes p (one (Instr.Assert a)) [] (draft_of c.args.self.now) (draft_of c.push.new.self)) c.assertion_inside.ensures (c.push.ensures.writes p)
+returns c = λ p. subst (λ a. Writes p (one (Instr.Assert a)) [] (draft_of c.args.self.now) (draft_of c.push.new.self)) c.assertion_inside.ensures
+    (c.push.ensures.writes p)

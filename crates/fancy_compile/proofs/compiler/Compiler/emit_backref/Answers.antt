@@ -8,8 +8,11 @@ use Rattle.fancy_compile.proofs.Alone.{wrote_backref}
 use Rattle.fancy_compile.proofs.compiler.Compiler.emit_backref.Goals as goal
 
 pub returns-then-is_out_of_range : goal.returns-then-is_out_of_range
-returns-then-is_out_of_range c = λ p call at_start in_hard u. c.refuse.ensures p _ _ (no_slot p (plain.Backref c.args.group c.args.casei) (sym c.is_out_of_range.ensures ∙ c.if-is_out_of_range.true))
+returns-then-is_out_of_range c = λ p call at_start in_hard u. c.refuse.ensures p _ _
+    (no_slot p (plain.Backref c.args.group c.args.casei) (sym c.is_out_of_range.ensures ∙ c.if-is_out_of_range.true))
 
 pub returns : goal.returns
-returns c = λ p call at_start in_hard u. wrote_backref p call at_start in_hard _ _ c.args.group c.args.casei (sym c.is_out_of_range.ensures ∙ c.if-is_out_of_range.false)
-    (subst (λ b. Writes p (one (Instr.Backref (2 * c.args.group) c.args.casei b)) [] (draft_of c.args.self.now) (draft_of c.push.new.self)) (sym u) (c.push.ensures.writes p))
+returns c = λ p call at_start in_hard u. wrote_backref p call at_start in_hard _ _ c.args.group c.args.casei
+    (sym c.is_out_of_range.ensures ∙ c.if-is_out_of_range.false)
+    (subst (λ b. Writes p (one (Instr.Backref (2 * c.args.group) c.args.casei b)) [] (draft_of c.args.self.now) (draft_of c.push.new.self)) (sym u)
+    (c.push.ensures.writes p))

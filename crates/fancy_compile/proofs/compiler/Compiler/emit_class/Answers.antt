@@ -22,4 +22,5 @@ returns-in-Err c = λ p call at_start in_hard u.
     let inner = c.args.inner.now in
     let casei = c.args.casei in
     let k = hard_code p call (plain.Delegate inner casei) at_start in_hard (length s.instrs) s.fresh in
-    c.fail.ensures p k (plain.Delegate inner casei ∷ []) (class_refused p s inner casei c.in-Err.error (subst (λ b. IsClassRefusal b inner casei c.in-Err.error) (sym u) c.in-Err.ensures.refused) k)
+    c.fail.ensures p k (plain.Delegate inner casei ∷ [])
+    (class_refused p s inner casei c.in-Err.error (subst (λ b. IsClassRefusal b inner casei c.in-Err.error) (sym u) c.in-Err.ensures.refused) k)

@@ -6,5 +6,6 @@ use Rattle.fancy_compile.proofs.compiler.Compiler.emit_edge.Goals as goal
 
 pub returns-then-not-explicit_group_0 : goal.returns-then-not-explicit_group_0
 returns-then-not-explicit_group_0 c = λ p same.
-    subst (λ b. Writes p (if b then nothing else one (Instr.Save c.args.slot)) [] (draft_of c.args.self.now) (draft_of c.push.new.self)) (sym (same ∙ c.if-not-explicit_group_0.true))
+    subst (λ b. Writes p (if b then nothing else one (Instr.Save c.args.slot)) [] (draft_of c.args.self.now) (draft_of c.push.new.self))
+    (sym (same ∙ c.if-not-explicit_group_0.true))
     (c.push.ensures.writes p)

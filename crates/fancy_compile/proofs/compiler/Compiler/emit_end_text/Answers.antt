@@ -6,5 +6,6 @@ use Rattle.fancy_compile.proofs.compiler.Compiler.emit_end_text.Goals as goal
 
 pub returns-then-end_text : goal.returns-then-end_text
 returns-then-end_text c = λ p same.
-    subst (λ b. Writes p (if b then one Instr.RejectEmptyMatchAtEOFFollowingNewline else nothing) [] (draft_of c.args.self.now) (draft_of c.push.new.self)) (sym (same ∙ c.if-end_text.true))
+    subst (λ b. Writes p (if b then one Instr.RejectEmptyMatchAtEOFFollowingNewline else nothing) [] (draft_of c.args.self.now) (draft_of c.push.new.self))
+    (sym (same ∙ c.if-end_text.true))
     (c.push.ensures.writes p)

@@ -13,6 +13,7 @@ returns-in-Some c = λ p call at_start in_hard u. c.refuse.ensures p _ _
 
 pub returns-in-None : goal.returns-in-None
 returns-in-None c = λ p call at_start in_hard u.
-    subst (λ l. Writes p (hard_code p call (plain.BackrefExists c.args.group l) at_start in_hard) (plain.BackrefExists c.args.group l ∷ []) (draft_of c.args.self.now) (draft_of c.push.new.self))
+    subst (λ l. Writes p (hard_code p call (plain.BackrefExists c.args.group l) at_start in_hard) (plain.BackrefExists c.args.group l ∷ [])
+    (draft_of c.args.self.now) (draft_of c.push.new.self))
     (sym c.in-None.is)
     (wrote_existence p call at_start in_hard _ _ c.args.group (c.push.ensures.writes p))

@@ -16,12 +16,14 @@ returns-in-Any c = λ p call in_hard start w es u. wrote_leaf p call c.args.at_s
 
 pub returns-in-Literal : goal.returns-in-Literal
 returns-in-Literal c = λ p call in_hard start w es u. wrote_leaf p call c.args.at_start in_hard _ _ start w es c.args.expr.now _ c.in-Literal.is
-    (subst (λ v. Writes p (hard_code p call (plain.Literal (slice_index (chars v) 0) c.in-Literal.casei) c.args.at_start in_hard) (plain.Literal (slice_index (chars v) 0) c.in-Literal.casei ∷ []) (draft_of c.args.self.now) (draft_of c.emit_literal.new.self))
+    (subst (λ v. Writes p (hard_code p call (plain.Literal (slice_index (chars v) 0) c.in-Literal.casei) c.args.at_start in_hard)
+    (plain.Literal (slice_index (chars v) 0) c.in-Literal.casei ∷ []) (draft_of c.args.self.now) (draft_of c.emit_literal.new.self))
     c.deref.ensures (c.emit_literal.ensures p call c.args.at_start in_hard u))
 
 pub returns-in-LiteralBytes : goal.returns-in-LiteralBytes
 returns-in-LiteralBytes c = λ p call in_hard start w es u. wrote_leaf p call c.args.at_start in_hard _ _ start w es c.args.expr.now _ c.in-LiteralBytes.is
-    (subst (λ v. Writes p (hard_code p call (plain.LiteralBytes v) c.args.at_start in_hard) (plain.LiteralBytes v ∷ []) (draft_of c.args.self.now) (draft_of c.emit_bytes.new.self))
+    (subst (λ v. Writes p (hard_code p call (plain.LiteralBytes v) c.args.at_start in_hard) (plain.LiteralBytes v ∷ []) (draft_of c.args.self.now)
+    (draft_of c.emit_bytes.new.self))
     c.deref-in-LiteralBytes.ensures.value (c.emit_bytes.ensures p call c.args.at_start in_hard u))
 
 pub returns-in-Backref : goal.returns-in-Backref
@@ -29,7 +31,8 @@ returns-in-Backref c = λ p call in_hard start w es u. wrote_leaf p call c.args.
     (c.emit_backref.ensures p call c.args.at_start in_hard u)
 
 pub returns-in-BackrefWithRelativeRecursionLevel : goal.returns-in-BackrefWithRelativeRecursionLevel
-returns-in-BackrefWithRelativeRecursionLevel c = λ p call in_hard start w es u. wrote_leaf p call c.args.at_start in_hard _ _ start w es c.args.expr.now _ c.in-BackrefWithRelativeRecursionLevel.is
+returns-in-BackrefWithRelativeRecursionLevel c = λ p call in_hard start w es u. wrote_leaf p call c.args.at_start in_hard _ _ start w es c.args.expr.now _
+    c.in-BackrefWithRelativeRecursionLevel.is
     (wrote_node p _ (plain.BackrefWithLevel _ _ _) _ _ (safe_fine p (plain.BackrefWithLevel _ _ _) refl refl) (wrote_nothing p (draft_of c.args.self.now)))
 
 pub returns-in-KeepOut : goal.returns-in-KeepOut
@@ -37,15 +40,18 @@ returns-in-KeepOut c = λ p call in_hard start w es u. wrote_leaf p call c.args.
     (wrote_keep_out p call c.args.at_start in_hard _ _ (c.push-in-KeepOut.ensures.writes p))
 
 pub returns-in-ContinueFromPreviousMatchEnd : goal.returns-in-ContinueFromPreviousMatchEnd
-returns-in-ContinueFromPreviousMatchEnd c = λ p call in_hard start w es u. wrote_leaf p call c.args.at_start in_hard _ _ start w es c.args.expr.now _ c.in-ContinueFromPreviousMatchEnd.is
+returns-in-ContinueFromPreviousMatchEnd c = λ p call in_hard start w es u. wrote_leaf p call c.args.at_start in_hard _ _ start w es c.args.expr.now _
+    c.in-ContinueFromPreviousMatchEnd.is
     (wrote_continue p call c.args.at_start in_hard _ _ (c.push-in-ContinueFromPreviousMatchEnd.ensures.writes p))
 
 pub returns-in-BackrefExistsCondition : goal.returns-in-BackrefExistsCondition
-returns-in-BackrefExistsCondition c = λ p call in_hard start w es u. wrote_leaf p call c.args.at_start in_hard _ _ start w es c.args.expr.now _ c.in-BackrefExistsCondition.is
+returns-in-BackrefExistsCondition c = λ p call in_hard start w es u. wrote_leaf p call c.args.at_start in_hard _ _ start w es c.args.expr.now _
+    c.in-BackrefExistsCondition.is
     (c.emit_existence.ensures p call c.args.at_start in_hard u)
 
 pub returns-in-BacktrackingControlVerb : goal.returns-in-BacktrackingControlVerb
-returns-in-BacktrackingControlVerb c = λ p call in_hard start w es u. wrote_leaf p call c.args.at_start in_hard _ _ start w es c.args.expr.now _ c.in-BacktrackingControlVerb.is
+returns-in-BacktrackingControlVerb c = λ p call in_hard start w es u. wrote_leaf p call c.args.at_start in_hard _ _ start w es c.args.expr.now _
+    c.in-BacktrackingControlVerb.is
     (c.emit_verb.ensures p call c.args.at_start in_hard u)
 
 pub returns-in-DefineGroup : goal.returns-in-DefineGroup
@@ -62,5 +68,6 @@ returns-in-GeneralNewline c = λ p call in_hard start w es u. wrote_leaf p call 
 
 pub returns-in-Delegate : goal.returns-in-Delegate
 returns-in-Delegate c = λ p call in_hard start w es u. wrote_leaf p call c.args.at_start in_hard _ _ start w es c.args.expr.now _ c.in-Delegate.is
-    (subst (λ v. Writes p (hard_code p call (plain.Delegate v c.in-Delegate.casei) c.args.at_start in_hard) (plain.Delegate v c.in-Delegate.casei ∷ []) (draft_of c.args.self.now) (draft_of c.emit_class.new.self))
+    (subst (λ v. Writes p (hard_code p call (plain.Delegate v c.in-Delegate.casei) c.args.at_start in_hard) (plain.Delegate v c.in-Delegate.casei ∷ [])
+    (draft_of c.args.self.now) (draft_of c.emit_class.new.self))
     c.deref-in-Delegate.ensures (c.emit_class.ensures p call c.args.at_start in_hard u))

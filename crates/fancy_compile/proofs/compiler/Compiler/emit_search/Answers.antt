@@ -8,6 +8,7 @@ use Rattle.fancy_compile.proofs.compiler.Compiler.emit_search.Goals as goal
 pub returns : goal.returns
 returns c = λ p same.
     let rest : Code = one Instr.Any >> one (Instr.Jmp 0) in
-    subst (λ b. Writes p (if b then nothing else (one (Instr.SplitUnanchored 3 1) >> rest)) [] (draft_of c.args.self.now) (draft_of c.push-3.new.self)) (sym (same ∙ c.if-anchored.false))
+    subst (λ b. Writes p (if b then nothing else (one (Instr.SplitUnanchored 3 1) >> rest)) [] (draft_of c.args.self.now) (draft_of c.push-3.new.self))
+    (sym (same ∙ c.if-anchored.false))
     (wrote_then p (one (Instr.SplitUnanchored 3 1)) rest [] [] _ _ _ (c.push.ensures.writes p)
     (wrote_then p (one Instr.Any) (one (Instr.Jmp 0)) [] [] _ _ _ (c.push-2.ensures.writes p) (c.push-3.ensures.writes p)))

@@ -10,7 +10,8 @@ use Rattle.fancy_compile.proofs.compiler.Compiler.emit_verb.Goals as goal
 
 pub returns-in-Fail : goal.returns-in-Fail
 returns-in-Fail c = λ p call at_start in_hard u.
-    subst (λ v. Writes p (hard_code p call (plain.Control (verb_of v)) at_start in_hard) (plain.Control (verb_of v) ∷ []) (draft_of c.args.self.now) (draft_of c.push.new.self))
+    subst (λ v. Writes p (hard_code p call (plain.Control (verb_of v)) at_start in_hard) (plain.Control (verb_of v) ∷ []) (draft_of c.args.self.now)
+    (draft_of c.push.new.self))
     (sym c.in-Fail.is)
     (wrote_fail p call at_start in_hard _ _ (c.push.ensures.writes p))
 

@@ -3,7 +3,7 @@ use Rattle.fancy_meaning.specs.Instr.{Instr}
 use Rattle.fancy_compile.specs.Drafts.{draft_of, Writes}
 use Rattle.fancy_compile.specs.Arounds.{around_code}
 use Rattle.fancy_compile.specs.declared.around.Around.TheVariants as around
-use Rattle.fancy_compile.specs.declared.around.LoopKind.TheVariants as kind
+use Rattle.fancy_compile.specs.declared.loops.LoopKind.TheVariants as kind
 use Rattle.fancy_compile.proofs.Closings.{ended_epsilon, same_patch, laid_length}
 use Rattle.fancy_compile.proofs.compiler.Compiler.end_epsilon.Goals as goal
 
@@ -15,5 +15,6 @@ returns c = λ p body es s t start h b.
     let v = draft_of c.push.new.self in
     let head = λ (n : ℕ). Instr.RepeatEpsilon c.args.greedy c.args.lo n c.args.start.fresh (c.args.start.fresh + 1) in
     subst (λ d. Writes p (around_code (around.Loop (kind.Epsilon c.args.lo) c.args.greedy) body) es s d)
-    (same_patch v (c.args.start.base + 1) c.len-next.result head _ _ (laid_length c.push.new.self _ (c.len-next.ensures ∙ c.push.new.self.code.ok.0)) c.epsilon_insn-insn.ensures c.patch.ensures)
+    (same_patch v (c.args.start.base + 1) c.len-next.result head _ _ (laid_length c.push.new.self _ (c.len-next.ensures ∙ c.push.new.self.code.ok.0))
+    c.epsilon_insn-insn.ensures c.patch.ensures)
     (ended_epsilon p body es s t (draft_of c.args.self.now) c.args.start start c.args.greedy c.args.lo v h b (c.push.ensures.writes p))

@@ -3,7 +3,7 @@ use Rattle.fancy_meaning.specs.Constructs.{split}
 use Rattle.fancy_compile.specs.Drafts.{draft_of, Writes}
 use Rattle.fancy_compile.specs.Arounds.{around_code}
 use Rattle.fancy_compile.specs.declared.around.Around.TheVariants as around
-use Rattle.fancy_compile.specs.declared.around.LoopKind.TheVariants as kind
+use Rattle.fancy_compile.specs.declared.loops.LoopKind.TheVariants as kind
 use Rattle.fancy_compile.proofs.Closings.{ended_star, same_patch, laid_length}
 use Rattle.fancy_compile.proofs.compiler.Compiler.end_star.Goals as goal
 
@@ -14,5 +14,6 @@ pub returns : goal.returns
 returns c = λ p body es s t start h b.
     let v = draft_of c.push.new.self in
     subst (λ d. Writes p (around_code (around.Loop kind.Star c.args.greedy) body) es s d)
-    (same_patch v c.args.start.base c.len-after.result (split c.args.greedy (c.args.start.base + 1)) _ _ (laid_length c.push.new.self _ (c.len-after.ensures ∙ c.push.new.self.code.ok.0)) c.split_insn.ensures c.patch.ensures)
+    (same_patch v c.args.start.base c.len-after.result (split c.args.greedy (c.args.start.base + 1)) _ _
+    (laid_length c.push.new.self _ (c.len-after.ensures ∙ c.push.new.self.code.ok.0)) c.split_insn.ensures c.patch.ensures)
     (ended_star p body es s t (draft_of c.args.self.now) c.args.start start c.args.greedy v h b (c.push.ensures.writes p))

@@ -1,11 +1,11 @@
 use Rattle.std.proofs.Common.{sym, ap, ◌∙◌}
-use Rattle.fancy_compile.specs.Drafts.{draft_of, all_patched}
-use Rattle.fancy_compile.proofs.Patches.{all_patched_last}
+use Rattle.fancy_compile.specs.Drafts.{draft_of, with_jumps}
+use Rattle.fancy_compile.proofs.Patches.{with_jumps_last}
 use Rattle.fancy_compile.proofs.compiler.Compiler.patch_jumps.Goals as goal
 
 pub loop-jump-preserved : goal.loop-jump-preserved
 loop-jump-preserved c =
-    ap (all_patched c.pop.new.self.items c.len-end.result) c.patch.ensures
-    ∙ sym (all_patched_last c.pop.new.self.items c.in-Some.jump c.len-end.result (draft_of c.loop-jump.self))
-    ∙ ap (λ l. all_patched l c.len-end.result (draft_of c.loop-jump.self)) (sym c.in-Some.ensures.items)
+    ap (with_jumps c.pop.new.self.items c.len-end.result) c.patch.ensures
+    ∙ sym (with_jumps_last c.pop.new.self.items c.in-Some.jump c.len-end.result (draft_of c.loop-jump.self))
+    ∙ ap (λ l. with_jumps l c.len-end.result (draft_of c.loop-jump.self)) (sym c.in-Some.ensures.items)
     ∙ c.loop-jump.invariant

@@ -9,6 +9,14 @@ pub returns : goal.returns
 returns c = λ p. adds_to p _ _ [] [] (draft_of c.args.self.now) (draft_of c.push.new.self) _ (omega arith)
     (λ e. record {
       instrs = e.instrs;
-      fresh = omega (arith, c.len-before.ensures, c.len.ensures, c.push.ensures.fresh, extended_length _ _ _ e, length-map c.args.self.now.code.items insn_of, length-map c.push.new.self.code.items insn_of);
+      fresh = omega (
+        arith,
+        c.len-before.ensures,
+        c.len.ensures,
+        c.push.ensures.fresh,
+        extended_length _ _ _ e,
+        length-map c.args.self.now.code.items insn_of,
+        length-map c.push.new.self.code.items insn_of,
+      );
     })
     (λ x. x) (λ x y. y) (c.push.ensures.writes p) refl refl

@@ -1,0 +1,133 @@
+-- Absent repeaters, and which nodes stand below a node.
+use Rattle.std.proofs.Common.{◌≡◌, ℕ, ◌+◌, ◌<◌, ◌≤◌, ◌&&◌, ◌||◌, Bool, true, false, List, [], ◌∷◌, ◌++◌, length, map, drop, get_or, if◌then◌else◌, true≢false, refl, sym, ap, ap₂, ◌∙◌, subst, arith}
+use Rattle.std.specs.List.{list_any}
+use Rattle.std.proofs.lemmas.List.{length-map}
+use Rattle.std.proofs.lemmas.List.{drop_all}
+use Rattle.fancy_meaning.specs.Tree as plain
+use Rattle.fancy_meaning.specs.Tree.{Tree, Trees, none, more, trees, parts, Within, AbsentRepeater}
+use Rattle.fancy_meaning.specs.Nodes.{nodes, nodes_of_each, is_absent}
+use Rattle.fancy_meaning.specs.AnalysisRefusals as refusal
+use Rattle.fancy_meaning.specs.CompileRefusals.{absent_in_hard_repeater, absent_other}
+use Rattle.fancy_meaning.specs.Code.{Code, nothing}
+use Rattle.fancy_meaning.specs.Constructs.{absent_code}
+use Rattle.fancy_meaning.specs.Hard.{is_hard}
+use Rattle.fancy_meaning.specs.Options.{Analysis}
+use Rattle.fancy_compile.specs.Sites.{Site}
+use Rattle.fancy_expr.specs.declared.expr.Absent.{Absent}
+use Rattle.fancy_expr.specs.declared.expr.Absent.TheVariants as code_absent
+use Rattle.fancy_expr.specs.declared.expr.Expr.{Expr}
+use Rattle.fancy_expr.specs.declared.expr.Expr.TheVariants as code
+use Rattle.fancy_analysis.specs.declared.info.Info.{Info}
+use Rattle.fancy_analysis.specs.declared.info.Info.TheViews.{out-Info}
+use Rattle.fancy_expr.specs.Exprs.{below, below_absent}
+use Rattle.fancy_analysis.specs.Infos.{nth, node_over, absent_over, info_tree, info_within, info_children, info_facts, info_hard, IsFound, IsAnalysed}
+use Rattle.fancy_analysis.proofs.GroupSizes.{nodes-parts, over-parts}
+use Rattle.std.proofs.Math.Bool.{or-true}
+use Rattle.std.proofs.lemmas.Bool.{and_parts}
+use Rattle.std.proofs.lemmas.List.Folds.{list_any-append}
+use Rattle.fancy_analysis.proofs.Unfolded.{tree_out, each_here}
+use Rattle.fancy_compile.specs.Faults.{Rejects, refused, out_of_range, HasRejected}
+use Rattle.fancy_compile.specs.Drafts.{Draft, Writes, hard_code}
+use Rattle.fancy_compile.specs.Nodes.{is_repeater, is_absent_expr, IsKnown}
+use Rattle.fancy_compile.proofs.Infos.{rest_at}
+use Rattle.fancy_compile.proofs.Written.{wrote_node, rejected_here, other_absent}
+
+-- ---- the nodes below a node
+
+pub nodes_of_info : (a : Analysis) (i : Info) → IsKnown a i → nodes (info_tree i) ≡ info_tree i ∷ nodes_of_each (trees (map info_tree (info_children i)))
+nodes_of_info a i k =
+    let ts = map info_tree (info_children i) in
+    let e = (out-Info i).expr.now in
+    let below_it = over-parts e (out-Info i).start_group (info_within i) ts (length-map (info_children i) info_tree ∙ (k.node).arity) in
+    nodes-parts (info_tree i) ∙ ap (λ t. info_tree i ∷ nodes_of_each t) (ap parts (tree_out i) ∙ below_it)
+
+-- ---- whether an absent node stands below a node
+
+-- the nodes of these, and below them
+abbrev pub any_below : List Info → Bool
+any_below is = list_any is_absent (nodes_of_each (trees (map info_tree is)))
+
+pub any_more : (l : List Info) (i : ℕ) (x : Info) → i < length l → x ≡ get_or l i x
+    → any_below (drop i l) ≡ (list_any is_absent (nodes (info_tree x)) || any_below (drop (i + 1) l))
+any_more l i x lt at = ap any_below (rest_at l i x lt at) ∙ list_any-append is_absent (nodes (info_tree x))
+    (nodes_of_each (trees (map info_tree (drop (i + 1) l))))
+
+pub any_done : (l : List Info) (i : ℕ) → length l ≤ i → any_below (drop i l) ≡ false
+any_done l i end = ap any_below (drop_all i l end)
+
+module _ (es : Trees) (n : ℕ) (w : Within) where
+  absent_is : (a : Absent) → is_absent (absent_over a es) ≡ true
+  absent_is (code_absent.Repeater' b e) = refl
+  absent_is (code_absent.Expression' b a c e) = refl
+  absent_is (code_absent.Stopper' b e) = refl
+  absent_is code_absent.Clear = refl
+
+  over_absent : (e : Expr) → is_absent (node_over e n w es) ≡ is_absent_expr e
+  over_absent (code.Absent a) = absent_is a
+  over_absent e = refl
+
+pub any_of_info : (a : Analysis) (i : Info) → IsKnown a i → list_any is_absent (nodes (info_tree i)) ≡
+    (is_absent_expr (info_facts i).expr || any_below (info_children i))
+any_of_info a i k =
+    ap (list_any is_absent) (nodes_of_info a i k)
+    ∙ ap (λ b. b || any_below (info_children i))
+    (ap is_absent (tree_out i) ∙ over_absent (trees (map info_tree (info_children i))) (out-Info i).start_group (info_within i) (out-Info i).expr.now)
+
+module _ (a : Analysis) (i : Info) (k : IsKnown a i) (l : List Info) (is : l ≡ info_children i) (n : ℕ) (so_far : any_below l ≡ any_below (drop n l)) where
+  pub found_below : (x : Info) → n < length l → x ≡ get_or l n x → list_any is_absent (nodes (info_tree x)) ≡ true
+      → true ≡ list_any is_absent (nodes (info_tree i))
+  found_below x lt at h =
+      let here : any_below (info_children i) ≡ true = ap any_below (sym is) ∙ so_far ∙ any_more l n x lt at ∙ ap (λ b. b || any_below (drop (n + 1) l)) h in
+      sym (any_of_info a i k ∙ ap (λ b. is_absent_expr (info_facts i).expr || b) here ∙ or-true (is_absent_expr (info_facts i).expr))
+
+  pub none_found : is_absent_expr (info_facts i).expr ≡ false → length l ≤ n → false ≡ list_any is_absent (nodes (info_tree i))
+  none_found plainly end =
+      let here : any_below (info_children i) ≡ false = ap any_below (sym is) ∙ so_far ∙ any_done l n end in
+      sym (any_of_info a i k ∙ ap (λ b. b || any_below (info_children i)) plainly ∙ here)
+
+-- ---- the kinds of absent nodes
+
+pub repeater_over : (a : Absent) (t : Tree) → is_repeater a ≡ true → absent_over a (trees (t ∷ [])) ≡ AbsentRepeater t
+repeater_over (code_absent.Repeater' b e) t h = refl
+repeater_over (code_absent.Expression' b a c e) t h = absurd (true≢false (sym h))
+repeater_over (code_absent.Stopper' b e) t h = absurd (true≢false (sym h))
+repeater_over code_absent.Clear t h = absurd (true≢false (sym h))
+
+pub repeater_below : (a : Absent) → is_repeater a ≡ true → length (below (code.Absent a)) ≡ 1
+repeater_below (code_absent.Repeater' b e) h = refl
+repeater_below (code_absent.Expression' b a c e) h = absurd (true≢false (sym h))
+repeater_below (code_absent.Stopper' b e) h = absurd (true≢false (sym h))
+repeater_below code_absent.Clear h = absurd (true≢false (sym h))
+
+pub not_repeater : (p : Site) (a : Absent) (es : Trees) → is_repeater a ≡ false → HasRejected p (absent_over a es ∷ []) refusal.FeatureNotYetSupported
+not_repeater p (code_absent.Repeater' b e) es h = absurd (true≢false h)
+not_repeater p (code_absent.Expression' b a c e) es h = other_absent p (plain.AbsentExpression (nth es 0) (nth es 1)) refl refl
+not_repeater p (code_absent.Stopper' b e) es h = other_absent p (plain.AbsentStopper (nth es 0)) refl refl
+not_repeater p code_absent.Clear es h = other_absent p plain.AbsentClear refl refl
+
+-- ---- what is written
+
+-- the hardness of an only child
+pub hard_child : (a : Analysis) (i : Info) → IsAnalysed a i → info_hard i ≡ is_hard a (info_tree i)
+hard_child a i h = (each_here (IsFound a) i h).hard ∙ ap (is_hard a) (sym (tree_out i))
+
+module _ (p : Site) (e : Tree) where
+  abbrev is_refused : Bool
+  is_refused = is_hard p.analysis e && list_any is_absent (nodes e)
+
+  pub repeater_refused : is_refused ≡ true → HasRejected p (AbsentRepeater e ∷ []) refusal.FeatureNotYetSupported
+  repeater_refused h =
+      let both = and_parts (is_hard p.analysis e) (list_any is_absent (nodes e)) h in
+      rejected_here p (AbsentRepeater e) refusal.FeatureNotYetSupported (refused (absent_in_hard_repeater both.0 both.1))
+
+  repeater_fine : is_refused ≡ false → (x : refusal.CompileError) → ¬ Rejects p (AbsentRepeater e) x
+  repeater_fine h x (refused (absent_in_hard_repeater i j)) = true≢false (sym (ap₂ (λ a b. a && b) i j) ∙ h)
+  repeater_fine h x (refused (absent_other i n)) = n e refl
+  repeater_fine h x (out_of_range i) = true≢false (sym i)
+
+  pub wrote_absent : (call : ℕ → Bool → Code) (at_start in_hard : Bool) (s t : Draft) → is_refused ≡ false
+      → Writes p (absent_code (hard_code p call e false false)) (e ∷ []) s t
+      → Writes p (hard_code p call (AbsentRepeater e) at_start in_hard) (AbsentRepeater e ∷ []) s t
+  wrote_absent call at_start in_hard s t h w =
+      subst (λ k. Writes p k (AbsentRepeater e ∷ []) s t) (sym (ap (λ b. if b then nothing else absent_code (hard_code p call e false false)) h))
+      (wrote_node p (absent_code (hard_code p call e false false) (length s.instrs) s.fresh) (AbsentRepeater e) s t (repeater_fine h, refl) w)

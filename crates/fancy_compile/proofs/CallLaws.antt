@@ -1,0 +1,211 @@
+-- Calls: what they call is written anew, below one more open call.
+use Rattle.std.proofs.Common.{◌≡◌, ℕ, zero, suc, ◌+◌, ◌-◌, ◌*◌, ◌<◌, ◌≤◌, ◌||◌, inl, inr, Bool, true, [], ◌∷◌, length, Option, Some, None, nat_eq, nat_lt, true≢false, refl, sym, ap, ap₂, ◌∙◌, subst, arith, lt-ltb, le-ltb, add-one, Bor}
+use Rattle.std.specs.List.{list_any}
+use Rattle.std.proofs.lemmas.Bool.{cond-true, cond-false}
+use Rattle.std.proofs.lemmas.Option.{none-some}
+use Rattle.std.proofs.Math.Nat.{mul-le-mul_left, mul-suc}
+use Rattle.std.proofs.Math.Path.{fun_ext}
+use Rattle.fancy_meaning.specs.Tree.{Tree, SubroutineCall}
+use Rattle.fancy_meaning.specs.AnalysisRefusals as refusal
+use Rattle.fancy_meaning.specs.CompileRefusals.{missing_group, absent_other}
+use Rattle.fancy_meaning.specs.Nodes.{target, is_read}
+use Rattle.fancy_meaning.specs.OpenCalls.{opened, call_depth, free_calls}
+use Rattle.fancy_meaning.specs.Code.{Code, Laid, one}
+use Rattle.fancy_meaning.specs.Constructs.{group_code}
+use Rattle.fancy_meaning.specs.Instr.{Instr}
+use Rattle.fancy_meaning.specs.Layout.{called_code, target_code, fail_code}
+use Rattle.fancy_meaning.specs.Marks.{marked_groups}
+use Rattle.fancy_meaning.specs.Options.{Analysis}
+use Rattle.fancy_laws.proofs.Calls.{opening_lowers}
+use Rattle.fancy_expr.specs.declared.error.Error.{Error}
+use Rattle.fancy_expr.specs.declared.error.Error.TheVariants as error
+use Rattle.fancy_analysis.specs.Infos.{info_tree}
+use Rattle.fancy_compile.specs.declared.scope.Scope.{Scope}
+use Rattle.fancy_compile.specs.declared.calls.OpenCall.{OpenCall}
+use Rattle.fancy_compile.specs.declared.calls.OpenCall.TheViews.{roll-OpenCall}
+use Rattle.fancy_compile.specs.OpenDepths.{depths_in, depths_of}
+use Rattle.fancy_compile.specs.Sites.{Site, under_call}
+use Rattle.fancy_compile.specs.Faults.{IsBelow, itself, below, through, Rejects, MayReject, rejected, too_big, refused, out_of_range, IsCompilable, HasRejected}
+use Rattle.fancy_compile.specs.Drafts.{Draft, Breaks, Turns, Adds, Writes, no_node, hard_code}
+use Rattle.fancy_compile.specs.Nodes.{IsScopeOf, IsScopeAt, work, work_by, node_count}
+use Rattle.fancy_compile.proofs.Writing.{adds_to}
+use Rattle.fancy_compile.proofs.Written.{rejected_here}
+use Rattle.fancy_compile.proofs.OpenDepths.{depth_by, depth_rolled}
+
+pub missing_refused : (p : Site) (g : ℕ) → target p.analysis.tree g ≡ None → HasRejected p (SubroutineCall g ∷ []) refusal.SubroutineCallTargetNotFound
+missing_refused p g h = rejected_here p (SubroutineCall g) refusal.SubroutineCallTargetNotFound (refused (missing_group h))
+
+module _ (p : Site) (g : ℕ) (b : Tree) (at : target p.analysis.tree g ≡ Some b) where
+  call_fine : (x : refusal.CompileError) → ¬ Rejects p (SubroutineCall g) x
+  call_fine x (refused (missing_group h)) = none-some b (sym h ∙ at)
+  call_fine x (refused (absent_other i n)) = true≢false (sym i)
+  call_fine x (out_of_range i) = true≢false (sym i)
+
+  same_body : (c : Tree) → target p.analysis.tree g ≡ Some c → b ≡ c
+  same_body c there = ap held (sym at ∙ there)
+    where
+      held : Option Tree → Tree
+      held None = b
+      held (Some x) = x
+
+  -- ---- a call of what is open too often
+
+  full_accepted : call_depth ≤ p.depths g → IsCompilable p (SubroutineCall g)
+  full_accepted full d itself x r = call_fine x r
+  full_accepted full d (below i h) x r = elim i [ ]
+  full_accepted full d (through lt there h) x r = absurd (omega (arith, full, lt))
+
+  full_code : (n : ℕ) (in_hard : Bool) → call_depth ≤ p.depths g → called_code p.plan no_node n p.depths g in_hard ≡ one Instr.Fail
+  full_code zero in_hard full = ap (fail_code p.plan no_node) at
+  full_code (suc n) in_hard full =
+      cond-false (nat_lt (p.depths g) call_depth)
+      (target_code p.plan no_node g (called_code p.plan no_node n (opened g p.depths)) in_hard (target p.analysis.tree g))
+      (fail_code p.plan no_node (target p.analysis.tree g)) (le-ltb (p.depths g) call_depth full)
+      ∙ ap (fail_code p.plan no_node) at
+
+  pub wrote_full : (call : ℕ → Bool → Code) (n : ℕ) (at_start in_hard : Bool) (s t : Draft) → call ≡ called_code p.plan no_node n p.depths
+      → call_depth ≤ p.depths g → Writes p (one Instr.Fail) [] s t → Writes p (hard_code p call (SubroutineCall g) at_start in_hard) (SubroutineCall g ∷ []) s t
+  wrote_full call n at_start in_hard s t is full h =
+      subst (λ k. Adds p (k (length s.instrs) s.fresh) (SubroutineCall g ∷ []) s t) (sym (ap (λ f. f g in_hard) is ∙ full_code n in_hard full))
+      (adds_to p (one Instr.Fail (length s.instrs) s.fresh) (one Instr.Fail (length s.instrs) s.fresh) [] (SubroutineCall g ∷ []) s t t (omega arith) (λ x. x)
+      (λ x. (full_accepted full, tt)) (λ x r. absurd r) h refl refl)
+
+  -- ---- a call that is opened
+
+  module _ (free : p.depths g < call_depth) where
+    abbrev inside : Site
+    inside = under_call g p
+
+    rejects_out : (d : Tree) (x : refusal.CompileError) → Rejects inside d x → Rejects p d x
+    rejects_out d x (refused r) = refused r
+    rejects_out d x (out_of_range i) = out_of_range i
+
+    may_reject_out : (d : Tree) (x : refusal.CompileError) → MayReject inside d x → MayReject p d x
+    may_reject_out d x (rejected r) = rejected (rejects_out d x r)
+    may_reject_out d x too_big = too_big
+
+    rejects_in : (d : Tree) (x : refusal.CompileError) → Rejects p d x → Rejects inside d x
+    rejects_in d x (refused r) = refused r
+    rejects_in d x (out_of_range i) = out_of_range i
+
+    open_accepted : IsCompilable inside b → IsCompilable p (SubroutineCall g)
+    open_accepted ok d itself x r = call_fine x r
+    open_accepted ok d (below i h) x r = elim i [ ]
+    open_accepted ok d (through {body = c} lt there h) x r = ok d (subst (λ e. IsBelow p.analysis.tree (opened g p.depths) e d) (sym (same_body c there)) h) x
+        (rejects_in d x r)
+
+    open_breaks : (a : Laid) (s : Draft) (x : Error) → Breaks inside a (b ∷ []) s x → Breaks p a (SubroutineCall g ∷ []) s x
+    open_breaks a s error.Memory h = h
+    open_breaks a s (error.CompileError x) (inl h) = inl h
+    open_breaks a s (error.CompileError x) (inr (inl r)) = inr
+        (inl (record { node = r.node; is_below = through free at r.is_below; rejects = may_reject_out r.node _ r.rejects }))
+    open_breaks a s (error.CompileError x) (inr (inr r)) = absurd r
+    open_breaks a s (error.RuntimeError x) h = h
+    open_breaks a s (error.TreeFault i) h = h
+
+    open_turns : (a : Laid) (s t : Draft) (fs ft : Option Error) → Turns inside a (b ∷ []) s t fs ft → Turns p a (SubroutineCall g ∷ []) s t fs ft
+    open_turns a s t None None h = (h.0, (open_accepted h.1.0, tt))
+    open_turns a s t None (Some x) h = open_breaks a s x h
+    open_turns a s t (Some x) None h = h
+    open_turns a s t (Some x) (Some y) h = h
+
+    open_adds : (a : Laid) (s t : Draft) → Adds inside a (b ∷ []) s t → Adds p a (SubroutineCall g ∷ []) s t
+    open_adds a s t h = record { limit = h.limit; turns = open_turns a s t s.fault t.fault h.turns }
+
+    -- the calls below, with one fewer to open
+    abbrev pub inner_call : ℕ → ℕ → Bool → Code
+    inner_call n = called_code p.plan no_node n (opened g p.depths)
+
+    called_open : (n : ℕ) (in_hard : Bool) → called_code p.plan no_node (suc n) p.depths g in_hard ≡ target_code p.plan no_node g (inner_call n) in_hard
+        (Some b)
+    called_open n in_hard =
+        cond-true (nat_lt (p.depths g) call_depth) (target_code p.plan no_node g (inner_call n) in_hard (target p.analysis.tree g))
+        (fail_code p.plan no_node (target p.analysis.tree g)) (lt-ltb (p.depths g) call_depth free)
+        ∙ ap (target_code p.plan no_node g (inner_call n) in_hard) at
+
+    pub wrote_open : (call : ℕ → Bool → Code) (n : ℕ) (at_start in_hard : Bool) (s t : Draft) → call ≡ called_code p.plan no_node (suc n) p.depths
+        → Writes inside (target_code p.plan no_node g (inner_call n) in_hard (Some b)) (b ∷ []) s t
+        → Writes p (hard_code p call (SubroutineCall g) at_start in_hard) (SubroutineCall g ∷ []) s t
+    wrote_open call n at_start in_hard s t is h =
+        subst (λ k. Adds p (k (length s.instrs) s.fresh) (SubroutineCall g ∷ []) s t) (sym (ap (λ f. f g in_hard) is ∙ called_open n in_hard))
+        (open_adds (target_code p.plan no_node g (inner_call n) in_hard (Some b) (length s.instrs) s.fresh) s t h)
+
+    pub lower : free_calls p.analysis.tree (opened g p.depths) < free_calls p.analysis.tree p.depths
+    lower = opening_lowers p.analysis.tree g p.depths b at free
+
+-- the code of what is called
+module _ (p : Site) (in_hard : Bool) (inner : ℕ → Bool → Code) (b : Tree) where
+  pub code_of_zero : (g : ℕ) → g ≡ 0 → target_code p.plan no_node g inner in_hard (Some b) ≡ hard_code p inner p.analysis.tree true in_hard
+  code_of_zero g is = ap (λ n. target_code p.plan no_node n inner in_hard (Some b)) is
+
+  pub code_of_group : (g : ℕ) (starts : Bool) → ¬ (g ≡ 0) → starts ≡ list_any (nat_eq g) (marked_groups p.analysis.tree p.analysis.tree)
+      → target_code p.plan no_node g inner in_hard (Some b) ≡ group_code g (hard_code p inner b starts (in_hard || is_read p.analysis.tree g))
+  code_of_group zero starts h is = absurd (h refl)
+  code_of_group (suc g) starts h is = ap (λ m. group_code (suc g) (hard_code p inner b m (in_hard || is_read p.analysis.tree (suc g)))) (sym is)
+
+-- ---- the scope below an open call
+
+times_next : (w n : ℕ) → w * (n + 1) ≡ w * n + w
+times_next w n = ap (λ m. w * m) (add-one n) ∙ mul-suc w n
+
+-- one more call of the group
+abbrev pub one_more : ℕ → ℕ → Option (Bor OpenCall) → OpenCall
+one_more g depth outer = roll-OpenCall (record { group = g; depth = depth; outer = outer })
+
+pub same_tree : (a : Analysis) (scope : Scope) (calls : Option (Bor OpenCall)) → IsScopeOf a scope → IsScopeOf a (record scope { calls = calls })
+same_tree a scope calls s = record { tree = s.tree; root = s.root; bodies = s.bodies; numbers = s.numbers; known = s.known; starts = s.starts }
+
+module _ (g depth : ℕ) (outer : Option (Bor OpenCall)) (deeper : depth ≡ depths_of outer g + 1) where
+  depth_at : (h : ℕ) → opened g (depths_of outer) h ≡ depths_in (one_more g depth outer) h
+  depth_at h =
+      let next : suc (depths_of outer g) ≡ depth = omega (arith, deeper) in
+      ap (λ n. depth_by g n (depths_of outer h) h) next ∙ sym (depth_rolled g depth outer h)
+
+  pub inner_depths : opened g (depths_of outer) ≡ depths_in (one_more g depth outer)
+  inner_depths = fun_ext depth_at
+
+-- what is below an open call is less work
+pub lighter : (scope : Scope) (g depth : ℕ) → depth ≡ depths_of scope.calls g + 1 → (a : Analysis) (b : Tree) → IsScopeOf a scope → target a.tree g ≡ Some b
+    → depths_of scope.calls g < call_depth →
+    work_by scope.root.now (depths_in (one_more g depth scope.calls)) + (8 * node_count scope.root.now + 16) ≤ work scope
+unfolding work_by
+lighter scope g depth deeper a b s at free =
+    let w = 8 * node_count scope.root.now + 16 in
+    let lower = opening_lowers a.tree g (depths_of scope.calls) b at free in
+    let inside = ap₂ free_calls s.tree (sym (inner_depths g depth scope.calls deeper)) in
+    let outside = ap (λ t. free_calls t (depths_of scope.calls)) s.tree in
+    let less : free_calls (info_tree scope.root.now) (depths_in (one_more g depth scope.calls)) + 1 ≤ free_calls (info_tree scope.root.now)
+    (depths_of scope.calls) = omega (arith, lower, inside, outside) in
+    let all = mul-le-mul_left w less in
+    omega (arith, all, times_next w (free_calls (info_tree scope.root.now) (depths_in (one_more g depth scope.calls))))
+
+-- a call that is opened, by what is written below it
+module _ (p : Site) (call : ℕ → Bool → Code) (scope : Scope) (u : IsScopeAt p call scope) (g : ℕ) (b : Tree) (at : target p.analysis.tree g ≡ Some b)
+    (free : p.depths g < call_depth) where
+  abbrev left : ℕ
+  left = u.budget - 1
+
+  below_lower : free_calls p.analysis.tree (opened g p.depths) < free_calls p.analysis.tree p.depths
+  below_lower = lower p g b at free
+
+  budget_is : u.budget ≡ suc left
+  budget_is = omega (arith, below_lower, u.enough)
+
+  abbrev pub inner_code : ℕ → Bool → Code
+  inner_code = called_code p.plan no_node left (opened g p.depths)
+
+  pub inner_u : (depth : ℕ) → depth ≡ depths_of scope.calls g + 1 → (pointer : ℕ × ℕ)
+      → IsScopeAt (under_call g p) inner_code (record scope { calls = Some (record { ref_ptr = pointer; now = one_more g depth scope.calls }) })
+  inner_u depth deeper pointer = record {
+    unicode = u.unicode;
+    of_tree = same_tree p.analysis scope (Some (record { ref_ptr = pointer; now = one_more g depth scope.calls })) u.of_tree;
+    depths = ap (opened g) u.depths ∙ inner_depths g depth scope.calls deeper;
+    budget = left;
+    enough = omega (arith, below_lower, u.enough);
+    calls = refl;
+  }
+
+  pub wrote_called : (at_start in_hard : Bool) (s t : Draft) → Writes (under_call g p) (target_code p.plan no_node g inner_code in_hard (Some b)) (b ∷ []) s t
+      → Writes p (hard_code p call (SubroutineCall g) at_start in_hard) (SubroutineCall g ∷ []) s t
+  wrote_called at_start in_hard s t h =
+      wrote_open p g b at free call left at_start in_hard s t (u.calls ∙ ap (λ n. called_code p.plan no_node n p.depths) budget_is) h

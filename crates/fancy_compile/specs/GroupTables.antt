@@ -1,0 +1,63 @@
+-- The table of what calls may name.
+use Rattle.std.specs.Prelude.{◌≡◌, ℕ, ◌+◌, ◌≤◌, Bool, true, false, ◌&&◌, ◌||◌, nat_eq, nat_lt, List, [], ◌∷◌, ◌++◌, map, length, slice_index_or}
+use Rattle.std.specs.Borrow.{Bor}
+use Rattle.std.specs.List.{list_any}
+use Rattle.fancy_meaning.specs.Tree.{Tree}
+use Rattle.fancy_meaning.specs.Marks.{marked_groups}
+use Rattle.fancy_meaning.specs.Nodes.{groups}
+use Rattle.fancy_meaning.specs.Options.{Analysis}
+use Rattle.fancy_expr.specs.declared.expr.Expr.{Expr}
+use Rattle.fancy_expr.specs.declared.expr.Expr.TheVariants as code
+use Rattle.fancy_analysis.specs.declared.info.Info.{Info}
+use Rattle.fancy_analysis.specs.Infos.{info_tree, info_facts, info_children}
+use Rattle.fancy_expr.specs.Each.{Each}
+use Rattle.fancy_compile.specs.declared.group_table.GroupTable.{GroupTable}
+use Rattle.fancy_compile.specs.Nodes.{node_count, IsKnown, IsBody}
+
+abbrev pub is_group : Expr → Bool
+is_group (code.Group' b e) = true
+is_group e = false
+
+abbrev pub is_concat : Expr → Bool
+is_concat (code.Concat' shape es) = true
+is_concat e = false
+
+-- the trees of these nodes
+abbrev pub trees_of : List (Bor Info) → List Tree
+trees_of = map (λ b. info_tree b.now)
+
+abbrev pub group_trees : Tree → List Tree
+group_trees e = map (λ h. h.1) (groups e)
+
+-- the body, where the node is a group
+abbrev pub own_trees : Bool → List Tree → List Tree
+own_trees true (e ∷ es) = e ∷ []
+own_trees b es = []
+
+pub record GathersOwn (i : Info) (old new : List (Bor Info)) : Type 0 where
+  pub bodies : trees_of new ≡ trees_of old ++ own_trees (is_group (info_facts i).expr) (map info_tree (info_children i))
+  pub known : (a : Analysis) (most : ℕ) → IsKnown a i → node_count i ≤ most → Each (IsBody a most) old
+      → Each (IsBody a most) new
+
+-- the bodies of the node's groups are added
+pub record Gathers (i : Info) (old new : List (Bor Info)) : Type 0 where
+  pub bodies : (a : Analysis) → IsKnown a i → trees_of new ≡ trees_of old ++ group_trees (info_tree i)
+  pub known : (a : Analysis) (most : ℕ) → IsKnown a i → node_count i ≤ most → Each (IsBody a most) old
+      → Each (IsBody a most) new
+
+-- the marks of these numbers are set, where the first mark is that of this number
+pub record MarksAll (first : ℕ) (gs : List ℕ) (old new : List Bool) : Type 0 where
+  pub as_many : length new ≡ length old
+  pub marks : (k : ℕ) → slice_index_or new k false ≡
+      (slice_index_or old k false || (nat_lt k (length old) && list_any (nat_eq (first + k)) gs))
+
+abbrev pub Marks : Info → ℕ → List Bool → List Bool → Type 0
+Marks i first old new = (a : Analysis) → IsKnown a i → MarksAll first (marked_groups a.tree (info_tree i)) old new
+
+-- the table of a tree's groups
+pub record IsTable (i : Info) (first : ℕ) (g : GroupTable) : Type 0 where
+  pub from : g.first ≡ first
+  pub bodies : Gathers i [] g.bodies.items
+  pub starts : (a : Analysis) → IsKnown a i → (k : ℕ)
+      → slice_index_or g.starts.items k false
+      ≡ (nat_lt k (length g.bodies.items) && list_any (nat_eq (first + k)) (marked_groups a.tree (info_tree i)))
