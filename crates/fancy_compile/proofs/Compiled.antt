@@ -65,7 +65,7 @@ module _ (p : Plan) where
   -- ---- what is written
 
   abbrev pub laid : Laid
-  laid = program_code p no_node 0 (first_fresh p no_node)
+  laid = program_code p no_node 0 (first_fresh p)
 
   pub body_is : (undelegated_layout p).body ≡ laid.instrs
   unfolding undelegated_layout
@@ -110,12 +110,12 @@ module _ (p : Plan) where
   abbrev pub start : ℕ → Draft
   start fresh = record { instrs = []; fresh = fresh; limit = p.max_prog_size; fault = None }
 
-  pub broken : AllInRange → (t : Draft) (x : Error) → Writes (top p) (program_code p no_node) (whole ∷ []) (start (first_fresh p no_node)) t → t.fault ≡ Some x → Compiles p (Err x)
-  broken ranged t x h is = refused_breaks ranged (start (first_fresh p no_node)) refl refl x (subst (Turns (top p) laid (whole ∷ []) (start (first_fresh p no_node)) t None) is h.turns)
+  pub broken : AllInRange → (t : Draft) (x : Error) → Writes (top p) (program_code p no_node) (whole ∷ []) (start (first_fresh p)) t → t.fault ≡ Some x → Compiles p (Err x)
+  broken ranged t x h is = refused_breaks ranged (start (first_fresh p)) refl refl x (subst (Turns (top p) laid (whole ∷ []) (start (first_fresh p)) t None) is h.turns)
 
-  pub written : (t : Draft) → Writes (top p) (program_code p no_node) (whole ∷ []) (start (first_fresh p no_node)) t → t.fault ≡ None → Extends laid (start (first_fresh p no_node)) t × IsCompilable (top p) whole
+  pub written : (t : Draft) → Writes (top p) (program_code p no_node) (whole ∷ []) (start (first_fresh p)) t → t.fault ≡ None → Extends laid (start (first_fresh p)) t × IsCompilable (top p) whole
   written t h is =
-      let done = subst (Turns (top p) laid (whole ∷ []) (start (first_fresh p no_node)) t None) is h.turns in
+      let done = subst (Turns (top p) laid (whole ∷ []) (start (first_fresh p)) t None) is h.turns in
       (done.0, done.1.0)
 
   -- ---- the program

@@ -54,7 +54,7 @@ module _ (w : Ground) (r : Ready w) (stop : has_marked_continue (whole w) (whole
 
   -- a call that is not opened
   fail_works : (g : ℕ) → IsWritten (whole w) (SubroutineCall g) → (o : Option Tree) → target (whole w) g ≡ o →
-      Works w (fail_code w.plan never o) fails
+      Works w (fail_code o) fails
   fail_works g wr None e = absurd (r.allowed (SubroutineCall g) SubroutineCallTargetNotFound wr (missing_group e))
   fail_works g wr (Some b) e = works_fails w
 
@@ -81,7 +81,7 @@ module _ (w : Ground) (r : Ready w) (stop : has_marked_continue (whole w) (whole
           (λ u.
           Works w
           (if u then target_code w.plan never g (called_code w.plan never n (opened g depths)) in_hard
-          (target (whole w) g) else fail_code w.plan never (target (whole w) g))
+          (target (whole w) g) else fail_code (target (whole w) g))
           (if u then ways_of_target (setting w) (whole w) g (called (setting w) (whole w) n (opened g depths))
           (target (whole w) g) else fails))
           (sym lt)
@@ -91,7 +91,7 @@ module _ (w : Ground) (r : Ready w) (stop : has_marked_continue (whole w) (whole
           (λ u.
           Works w
           (if u then target_code w.plan never g (called_code w.plan never n (opened g depths)) in_hard
-          (target (whole w) g) else fail_code w.plan never (target (whole w) g))
+          (target (whole w) g) else fail_code (target (whole w) g))
           (if u then ways_of_target (setting w) (whole w) g (called (setting w) (whole w) n (opened g depths))
           (target (whole w) g) else fails))
           (sym lt)

@@ -32,10 +32,10 @@ none_gives_up w c (one_start e) same search anchored = absurd (true≢false (sym
 none_gives_up w c (two_branches le) same search anchored = (omega (arith, same, le), λ one. absurd (omega (arith, one, same, le)))
 
 -- the first slot of the plan is the first of the program
-pub first_slot : (w : Ground) → (w.plan).analysis.explicit_capture_group_0 ≡ false → first w ≡ first_fresh w.plan never
+pub first_slot : (w : Ground) → (w.plan).analysis.explicit_capture_group_0 ≡ false → first w ≡ first_fresh w.plan
 first_slot w implicit =
     let count = group_count (whole w) in
-    let groups : group_numbers w.plan never ≡ count + 1 = ap (λ v. if v then count else count + 1) implicit in
+    let groups : group_numbers w.plan ≡ count + 1 = ap (λ v. if v then count else count + 1) implicit in
     let flagged : bit ((w.task).program).end_text ≡ (if (w.plan).end_text then 1 else 0) =
     ap bit (w.fits).end_text ∙ bit_is (w.plan).end_text in
     omega (arith, flag_is w, groups, flagged)

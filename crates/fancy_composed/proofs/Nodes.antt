@@ -32,7 +32,7 @@ has_one (more e es) ok = tt
 
 module _ (w : Ground) (call : ℕ → Bool → Code) (meant : ℕ → Ways) where
   pub alternation_works : (es : Trees) (in_hard : Bool) → HasOne es → EachWorks w call meant false in_hard es →
-      Works w (alt_code w.plan never (each_part w.plan never call false es) in_hard) (one_of (each_ways (setting w) meant es))
+      Works w (alt_code (each_part w.plan never call false es) in_hard) (one_of (each_ways (setting w) meant es))
   alternation_works none in_hard ok u = absurd ok
   alternation_works (more e es) in_hard ok u = alt_works w call meant e es in_hard u
 
@@ -42,7 +42,7 @@ module _ (w : Ground) (call : ℕ → Bool → Code) (meant : ℕ → Ways) wher
   alternatives e = none
 
   abbrev bodies : Trees → List (Size × Code)
-  bodies es = map (body_code w.plan never) (each_part w.plan never call false es)
+  bodies es = map (body_code w.plan) (each_part w.plan never call false es)
 
   abbrev branch_ways : Tree → List Ways
   branch_ways e = each_ways (setting w) meant (branches_of e)

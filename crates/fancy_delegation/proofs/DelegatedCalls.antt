@@ -38,7 +38,7 @@ module _ (given : Setup) where
 
   -- a call that is not opened
   fail_thinned : (depths : Depths) (g : ℕ) (in_hard : Bool) → IsWritten (whole given depths) (SubroutineCall g) → (o : Option Tree) → target (whole given depths) g ≡ o →
-      Thinned given depths in_hard (fail_code (plan given depths) easy o) fails
+      Thinned given depths in_hard (fail_code o) fails
   fail_thinned depths g in_hard wr None e = absurd ((given.ready).allowed (SubroutineCall g) SubroutineCallTargetNotFound wr (missing_group e))
   fail_thinned depths g in_hard wr (Some b) e = fails_thinned depths in_hard
 
@@ -73,7 +73,7 @@ module _ (given : Setup) where
 
   -- the code of a call, and its ways, by whether it is open so often already
   abbrev code_if : Bool → ℕ → Depths → ℕ → Bool → Depths → Code
-  code_if v n inner g in_hard depths = if v then target_code (plan given depths) easy g (called_code (plan given depths) easy n inner) in_hard (target (whole given depths) g) else fail_code (plan given depths) easy (target (whole given depths) g)
+  code_if v n inner g in_hard depths = if v then target_code (plan given depths) easy g (called_code (plan given depths) easy n inner) in_hard (target (whole given depths) g) else fail_code (target (whole given depths) g)
 
   abbrev ways_if : Bool → ℕ → Depths → ℕ → Depths → Ways
   ways_if v n inner g depths = if v then ways_of_target given.setting (whole given depths) g (called given.setting (whole given depths) n inner) (target (whole given depths) g) else fails

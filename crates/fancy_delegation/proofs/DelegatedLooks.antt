@@ -52,7 +52,7 @@ module _ (given : Setup) (depths : Depths) where
   IsConstant e = (size (whole given depths) e).is_const ≡ true
 
   abbrev pub bodies : List Part → List (Size × Code)
-  bodies ws = map (body_code (plan given depths) (is_easy given.tree)) ws
+  bodies ws = map (body_code (plan given depths)) ws
 
   -- a body is one of its branches, or each of them in turn
   pub body_means : (e : Tree) (s : MatchState) → means_of e s ≡ one_of (branches_mean e) s

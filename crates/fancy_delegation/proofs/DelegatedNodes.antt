@@ -160,18 +160,18 @@ module _ (given : Setup) (depths : Depths) where
       hard_code : Bool → Code
       hard_code v = if v then nothing else absent_code (in_context plan (is_easy given.tree) e code false)
 
-      not_refused : (v : Bool) → is_refused_body plan (is_easy given.tree) e ≡ v → is_easy given.tree e ≡ false → v ≡ false
+      not_refused : (v : Bool) → is_refused_body plan e ≡ v → is_easy given.tree e ≡ false → v ≡ false
       not_refused false q hard = refl
       not_refused true q hard =
           let both = and_parts (is_hard plan.analysis e) (list_any is_absent (nodes e)) q in
           absurd ((given.ready).allowed (AbsentRepeater e) FeatureNotYetSupported wr (absent_in_hard_repeater both.0 both.1))
 
-      at_easy : (v : Bool) → is_easy given.tree e ≡ v → Thinned given depths in_hard (if v then easy_code else hard_code (is_refused_body plan (is_easy given.tree) e)) (absent given.setting (means given depths e))
+      at_easy : (v : Bool) → is_easy given.tree e ≡ v → Thinned given depths in_hard (if v then easy_code else hard_code (is_refused_body plan e)) (absent given.setting (means given depths e))
       at_easy true easy = record {
         handed = absent given.setting (means given depths e);
         works = (given.laws).hands_easy_absent e depths (delegated given depths e (part wr here) easy) wr;
         thins = thins_same plan given.setting in_hard (absent given.setting (means given depths e));
       }
       at_easy false hard =
-          subst (λ v. Thinned given depths in_hard (hard_code v) (absent given.setting (means given depths e))) (sym (not_refused (is_refused_body plan (is_easy given.tree) e) refl hard))
+          subst (λ v. Thinned given depths in_hard (hard_code v) (absent given.setting (means given depths e))) (sym (not_refused (is_refused_body plan e) refl hard))
           (absent_thinned in_hard e (in_context plan (is_easy given.tree) e code false) h)

@@ -74,10 +74,10 @@ module _ (given : Setup) (depths : Depths) where
   sequence_thinned es at_start in_hard h =
       subst (λ fs. Thinned given depths in_hard (code_at (Concat es) at_start in_hard) (in_order fs)) (parts_mean at_start es) (concat_thinned given depths in_hard (parts_at at_start es) h)
 
-  alternation_thinned : (es : Trees) (in_hard : Bool) → es ≢ none → Every (ChildThinned given depths in_hard) (parts_at false es) → Thinned given depths in_hard (alt_code (plan given depths) easy (parts_at false es) in_hard) (one_of (each_ways given.setting meant es))
+  alternation_thinned : (es : Trees) (in_hard : Bool) → es ≢ none → Every (ChildThinned given depths in_hard) (parts_at false es) → Thinned given depths in_hard (alt_code (parts_at false es) in_hard) (one_of (each_ways given.setting meant es))
   alternation_thinned none in_hard some h = absurd (some refl)
   alternation_thinned (more e es) in_hard some h =
-      subst (λ fs. Thinned given depths in_hard (alt_code (plan given depths) easy (parts_at false (more e es)) in_hard) (one_of fs)) (parts_mean false (more e es)) (chosen (children_thinned given depths in_hard h))
+      subst (λ fs. Thinned given depths in_hard (alt_code (parts_at false (more e es)) in_hard) (one_of fs)) (parts_mean false (more e es)) (chosen (children_thinned given depths in_hard h))
     where
       chosen : {c : Code} {f : Ways} {cs : List Code} {fs : List Ways} → EachThinned given depths in_hard (c ∷ cs) (f ∷ fs) → Thinned given depths in_hard (branches (c ∷ cs)) (one_of (f ∷ fs))
       chosen (and_choice k ks) = choice_thinned given depths in_hard k ks

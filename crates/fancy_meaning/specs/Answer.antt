@@ -37,7 +37,8 @@ abbrev pub span_numbers : Option Span → List ℕ
 span_numbers None = usize_max ∷ usize_max ∷ []
 span_numbers (Some (i, j)) = i ∷ j ∷ []
 
--- The spans of n groups from 1 on, after that of group 0: from the kept start, or the end where that is less, to the end.
+-- The spans of n groups from 1 on, after that of group 0: from the kept start, or the end where that is less, to the
+-- end.
 unfoldable pub as_numbers : ℕ → MatchState → List ℕ
 as_numbers n s = min s.kept s.place ∷ s.place ∷ flat_map (λ g. span_numbers (s.captures g)) (range_from 1 n)
 

@@ -31,8 +31,8 @@ unfoldable pub whole_key : Tree → Key
 whole_key whole s = key_with s.place true (targets whole) s
 
 module _ (p : Plan) where
-  -- The end, the spans that are read and, under the end-of-text option, the flag, by which later parts and the end of an
-  -- attempt go; and the kept start. Other spans are answered as well, and are not compared.
+  -- The end, the spans that are read and, under the end-of-text option, the flag, by which later parts and the end of
+  -- an attempt go; and the kept start. Other spans are answered as well, and are not compared.
   unfoldable pub key : Key
   key s = key_with s.place p.end_text (read_groups p.analysis.tree) s
 
