@@ -122,7 +122,8 @@ module _ (w : Ground) where
       Works w (code.one (Instr.Backref (2 * g) casei (w.plan).unicode)) (repeats_group (setting w) g casei)
   works_backref g casei pos le fits =
       works_as w (repeats_group (setting w) g casei)
-      (works_moves w (Instr.Backref (2 * g) casei (w.plan).unicode) (λ s. option_and_then (λ span. past_piece text (w.plan).unicode casei span s.place) (s.captures g))
+      (works_moves w (Instr.Backref (2 * g) casei (w.plan).unicode)
+      (λ s. option_and_then (λ span. past_piece text (w.plan).unicode casei span s.place) (s.captures g))
       (λ s slots a marks bs count ok st.
       ap
       (λ o.

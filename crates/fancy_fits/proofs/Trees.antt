@@ -34,7 +34,7 @@ nodes_of_both xs ys =
 
 -- the code of each call fits
 abbrev pub CallsFit : (len slots : ℕ) → (ℕ → Bool → Code) → Type 0
-CallsFit len slots call = (g : ℕ) (in_hard : Bool) → Fits len slots (λ base fresh. call g in_hard base fresh)
+CallsFit len slots call = (g : ℕ) (in_hard : Bool) → Fits len slots (call g in_hard)
 
 -- the branches of a body that is an alternation
 abbrev alternatives : Tree → Trees

@@ -12,7 +12,7 @@ use Rattle.fancy_meaning.specs.Options.{AnalysisOptions, analysis_of}
 use Rattle.fancy_meaning.specs.Numbers.{usize_max}
 use Rattle.fancy_meaning.specs.Sizes.{size}
 use Rattle.fancy_meaning.specs.Fits.{settable_groups}
-use Rattle.fancy_meaning.specs.Premises.{Analysed, tree_of, IsText, IsSpan, IsSized, IsSound, HasSpans, IsSoundFor}
+use Rattle.fancy_meaning.specs.Premises.{Analysed, tree_of, IsText, IsSpan, IsSized, IsSoundState, HasSpans, IsSoundFor}
 use Rattle.fancy_meaning.specs.Marks.{passes_mark, marked_nodes, first_marked_nodes, has_marked_continue}
 
 -- ---- loops and calls, without a count
@@ -107,8 +107,8 @@ SettableGroupsLaw = (q : Setting) (es : List Tree) (s t : MatchState) (g : ℕ) 
 abbrev pub SizeLaw : Type 0
 SizeLaw = (q : Setting) (a : Analysed) (e : Tree) (depths : Depths) (s t : MatchState) →
     let whole = tree_of a in
-    IsText q.text → Contains (nodes whole) e → IsSound q whole s → Contains (ways q whole e depths s) t →
-    IsSound q whole t × IsSized (size whole e) (chars_between q.text s.place t.place)
+    IsText q.text → Contains (nodes whole) e → IsSoundState q whole s → Contains (ways q whole e depths s) t →
+    IsSoundState q whole t × IsSized (size whole e) (chars_between q.text s.place t.place)
 
 -- From a sound state whose spans all keep the sizes of their groups, read or not, each way leads to such a state.
 abbrev pub SpanSizeLaw : Type 0

@@ -80,5 +80,5 @@ pub record IsSoundFor (q : Setting) (whole : Tree) (sized : ℕ → Bool) (s : M
       IsSized (size_of_group (known_of whole) g) (chars_between q.text span.0 span.1)
 
 -- so it is for the groups that are read
-abbrev pub IsSound : Setting → Tree → MatchState → Type 0
-IsSound q whole = IsSoundFor q whole (is_read whole)
+abbrev pub IsSoundState : Setting → Tree → MatchState → Type 0
+IsSoundState q whole = IsSoundFor q whole (is_read whole)

@@ -19,7 +19,7 @@ use Rattle.fancy_meaning.specs.Fits.{program_fits}
 use Rattle.fancy_meaning.specs.Marks.{has_marked_continue}
 use Rattle.fancy_meaning.specs.Keys.{Key, whole_key, key, easy_key, Coarser, Thins, Respects}
 use Rattle.fancy_meaning.specs.Hands.{IsLimit, Stretch, HasAt, Stands, GoesOn, Hands}
-use Rattle.fancy_meaning.specs.Premises.{Analysed, analysis, tree_of, Input, plan, IsAccepted, IsText, IsFit, IsSound}
+use Rattle.fancy_meaning.specs.Premises.{Analysed, analysis, tree_of, Input, plan, IsAccepted, IsText, IsFit, IsSoundState}
 
 -- ---- a program that the machine takes
 
@@ -122,7 +122,7 @@ abbrev pub Serves : Plan → Code → (Setting → Ways) → (ℕ → Key) → B
 Serves p code w by may_stop = (t : Task) (c : Config) (fresh : ℕ) (s : MatchState) (from : ℕ) →
     let q = (search_of p t.text t.options).setting in
     IsProgramFor p t.program → IsText t.text → HasAt (t.program).body c.pc (code c.pc fresh).instrs →
-    (may_stop ≡ true → GoesOn t c) → first_fresh p ≤ fresh → Stands t c s → IsSound q p.analysis.tree s →
+    (may_stop ≡ true → GoesOn t c) → first_fresh p ≤ fresh → Stands t c s → IsSoundState q p.analysis.tree s →
     from ≤ s.place →
     (hs : List MatchState) × Hands t (stretch_of code c fresh) (Goes c) hs × Thins (by from) hs (w q s)
 
@@ -201,7 +201,7 @@ abbrev pub EasyWaysAgree : Type 0
 EasyWaysAgree = (q : Setting) (a : Analysed) (e : Tree) (depths : Depths) (s t u : MatchState) →
     let whole = tree_of a in
     IsText q.text → Contains (nodes whole) e → IsFalse (is_hard (analysis a) e) →
-    (a.options).find_not_empty ≡ true → IsSound q whole s →
+    (a.options).find_not_empty ≡ true → IsSoundState q whole s →
     Contains (ways q whole e depths s) t → Contains (ways q whole e depths s) u →
     (t.place ≡ s.place) ↔ (u.place ≡ s.place)
 
