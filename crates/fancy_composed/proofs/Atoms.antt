@@ -12,7 +12,6 @@ use Rattle.fancy_meaning.specs.Ways.{moves, repeats_group}
 use Rattle.fancy_meaning.specs.Numbers.{usize_max}
 use Rattle.fancy_meaning.specs.Instr.{Instr, Codepoint, Newline}
 use Rattle.fancy_meaning.specs.Batches.{literal_instr, any_instr, class_code}
-use Rattle.fancy_meaning.specs.Code.{Code, branch}
 use Rattle.fancy_meaning.specs.Code as code
 use Rattle.fancy_meaning.specs.Constructs.{newline_code}
 use Rattle.fancy_meaning.specs.Config.{Slots, Config, span_at}

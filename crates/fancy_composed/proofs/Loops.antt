@@ -6,7 +6,7 @@ use Rattle.std.proofs.lemmas.Bool.Decides.{eqb_tells}
 use Rattle.fancy_meaning.specs.MatchState.{MatchState, Ways, put}
 use Rattle.fancy_meaning.specs.Loops.{required, at_most, if_moved, unbounded}
 use Rattle.fancy_meaning.specs.Numbers.{usize_max}
-use Rattle.fancy_meaning.specs.Instr.{Instr, Jmp, Save0, RepeatEpsilon}
+use Rattle.fancy_meaning.specs.Instr.{Instr, Jmp, RepeatEpsilon}
 use Rattle.fancy_meaning.specs.Instr as instr
 use Rattle.fancy_meaning.specs.Config.{Slots, Branch, Next}
 use Rattle.fancy_meaning.specs.Machine.{choose}

@@ -17,7 +17,7 @@ use Rattle.fancy_delegation.proofs.IsThinned.{thinned_every}
 use Rattle.fancy_delegation.proofs.Thinned.{Thins, same_way, handed_sound}
 use Rattle.fancy_delegation.proofs.ThinnedLooks.{thins_behind}
 use Rattle.fancy_delegation.proofs.HandsWays.{SizedBy, Setup}
-use Rattle.fancy_delegation.proofs.Delegated.{is_easy, means, Thinned, part_of, trees_of, ChildThinned, EachThinned, no_choice, and_choice}
+use Rattle.fancy_delegation.proofs.Delegated.{means, Thinned, part_of, trees_of, ChildThinned, EachThinned, no_choice, and_choice}
 use Rattle.fancy_delegation.proofs.DelegatedNodes.{plan, whole}
 
 -- none of these has a way, one asked after the other

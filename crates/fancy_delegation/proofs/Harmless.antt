@@ -98,7 +98,10 @@ module _ (batches : BatchesWork) (repeaters : EasyRepeatersWork) (i : Input) (ac
       (stop : begins tree ≡ true → MayStop (above t is_text fits c)) → (may_stop ≡ true → MayStop (above t is_text fits c)) →
       Thinned (given t is_text fits c stop) depths in_hard code (f (search_of (plan i) t.text t.options).setting)) →
       Serves (plan i) code f (λ from. if in_hard then key (plan i) else easy_key (plan i) from) may_stop
-  serves depths in_hard may_stop code f by_call thinned t c fresh s from fits is_text has goes_on le st so le' =
+  serves depths in_hard may_stop code f by_call thinned t c fresh s from at le' =
+      let fits = at.program in
+      let is_text = at.text in
+      let goes_on = at.goes_on in
       let g = above t is_text fits c in
       let stop : may_stop ≡ true → MayStop g = λ may. none_gives_up g c (goes_on may) refl in
       let h = thinned t is_text fits c (λ x. stop (by_call x)) stop in
@@ -106,13 +109,13 @@ module _ (batches : BatchesWork) (repeaters : EasyRepeatersWork) (i : Input) (ac
       let laid = code c.pc fresh in
       let part =
       works.part c.pc (c.pc + length laid.instrs) fresh refl
-      (subst (λ n. n ≤ fresh) (sym (first_slot g accepted.implicit_group_0)) le) has in (
+      (subst (λ n. n ≤ fresh) (sym (first_slot g accepted.implicit_group_0)) at.slots_are_fresh) at.code_is_there in (
         works.handed s,
         handed_by g (λ count. to_same) c.pc c.ix c.slots c.marks c.backtracks (c.pc + length laid.instrs) fresh laid.fresh (Goes c)
-            (to_eq (λ n. ap (λ x. exec t n (here g c.pc x c.slots c.marks [] c.backtracks)) st.place))
-            (part.hands s c.slots c.marks [] c.backtracks so (stands_here g (λ count. to_same) s c st)),
+            (to_eq (λ n. ap (λ x. exec t n (here g c.pc x c.slots c.marks [] c.backtracks)) (at.stands).place))
+            (part.hands s c.slots c.marks [] c.backtracks at.sound (stands_here g (λ count. to_same) s c at.stands)),
         serves_by (context_key (plan i) in_hard from) (works.handed s) (h.handed s) (f (setting g) s)
-            (λ p. sym (find_is p (works.handed s)) ∙ (works.alike s so).tests p ∙ find_is p (h.handed s)) ((h.thins).by s from so le'),
+            (λ p. sym (find_is p (works.handed s)) ∙ (works.alike s at.sound).tests p ∙ find_is p (h.handed s)) ((h.thins).by s from at.sound le'),
       )
 
   all_serve : AllServe (plan i) easy (λ in_hard from. if in_hard then key (plan i) else easy_key (plan i) from)

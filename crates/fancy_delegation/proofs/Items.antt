@@ -1,5 +1,5 @@
 -- What is an item of a list.
-use Rattle.std.proofs.Common.{◌≡◌, ℕ, zero, suc, List, [], ◌∷◌, ◌++◌, map, flat_map, Contains, filter_map, Option, Some, None, refl, sym, subst, arith, ◌⊎◌, inl, inr, ⊎_elim}
+use Rattle.std.proofs.Common.{◌≡◌, zero, suc, List, [], ◌∷◌, ◌++◌, map, flat_map, Contains, filter_map, Option, Some, None, refl, sym, subst, arith, ◌⊎◌, inl, inr, ⊎_elim}
 use Rattle.std.specs.List.{cons_option}
 use Rattle.fancy_laws.proofs.Every.{Every, no_item, item, every_weaker}
 

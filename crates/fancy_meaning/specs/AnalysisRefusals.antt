@@ -1,10 +1,10 @@
 -- When a tree is refused by its analysis, and as what.
-use Rattle.std.specs.Prelude.{◌≡◌, ℕ, ◌+◌, ◌-◌, ◌<◌, ◌≤◌, ◌⊎◌, Bool, true, false, ◌&&◌, ◌||◌, List, [], ◌++◌, max, Contains, Option, Some, IsTrue, if◌then◌else◌, nat_lt, ◌==◌, slice_get, codes, decimal}
+use Rattle.std.specs.Prelude.{◌≡◌, ℕ, ◌+◌, ◌-◌, ◌<◌, Bool, true, false, ◌&&◌, ◌||◌, List, [], ◌++◌, Contains, Some, IsTrue, if◌then◌else◌, nat_lt, ◌==◌, slice_get, codes, decimal}
 use Rattle.std.specs.Ordering.{nat_cmp, is_le}
 use Rattle.std.specs.Cmp.Lexicographic.{slice_cmp}
 use Rattle.fancy_meaning.specs.Tree.{Tree, Backref, BackrefWithLevel, SubroutineCall, AstNode, UnresolvedCall, UnresolvedOther}
 use Rattle.fancy_meaning.specs.Nodes.{nodes, groups, group_count}
-use Rattle.fancy_meaning.specs.Options.{ParsedTree, AnalysisOptions, Analysis, analysis_of}
+use Rattle.fancy_meaning.specs.Options.{ParsedTree, AnalysisOptions, analysis_of}
 use Rattle.fancy_meaning.specs.Spots.{Spot, spots}
 use Rattle.fancy_meaning.specs.Recursion.{IsLeastLeftRecursive, CanEnd}
 use Rattle.fancy_meaning.specs.WellFormed.{Has, refers, is_call}

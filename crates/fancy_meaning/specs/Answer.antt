@@ -1,5 +1,5 @@
 -- What a search answers: the first admitted way at the earliest start that has one.
-use Rattle.std.specs.Prelude.{ℕ, Bool, ◌&&◌, ◌||◌, not, List, [], ◌∷◌, length, min, map, filter, filter_map, flat_map, Option, Some, None, if◌then◌else◌, ◌==◌, slice_get, option_map}
+use Rattle.std.specs.Prelude.{ℕ, Bool, ◌&&◌, ◌||◌, not, List, [], ◌∷◌, length, min, filter, filter_map, flat_map, Option, Some, None, if◌then◌else◌, ◌==◌, slice_get, option_map}
 use Rattle.regex_hir.specs.Text.{is_some_and, byte_before}
 use Rattle.fancy_meaning.specs.Numbers.{usize_max}
 use Rattle.fancy_meaning.specs.Tree.{Tree}

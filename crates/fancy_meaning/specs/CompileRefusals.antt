@@ -1,5 +1,5 @@
 -- When a tree that was analysed is not compiled, and as what.
-use Rattle.std.specs.Prelude.{◌≡◌, ◌≢◌, ℕ, ◌<◌, Bool, false, true, List, Option, Some, None, IfSome, IsTrue, IsFalse}
+use Rattle.std.specs.Prelude.{◌≡◌, ◌≢◌, ℕ, ◌<◌, Bool, false, true, List, Some, None, IsTrue, IsFalse}
 use Rattle.std.specs.List.{list_any}
 use Rattle.fancy_meaning.specs.Tree.{Tree, Trees, none, more, parts, Delegate, Alt, LookAround, Repeat, BackrefExists, DefineGroup, AbsentRepeater, AbsentStopper, AbsentExpression, Control, SubroutineCall, Look, LookAhead, LookAheadNeg, LookBehind, LookBehindNeg, Verb, Fail}
 use Rattle.fancy_meaning.specs.Nodes.{nodes, target, is_absent}

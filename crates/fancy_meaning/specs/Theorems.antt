@@ -115,16 +115,27 @@ pub record IsProgramFor (p : Plan) (program : Prog) : Type 0 where
 abbrev pub may_give_up : Tree → Tree → Bool → Bool
 may_give_up whole e at_start = has_marked_continue whole whole || (at_start && has_marked_continue whole e)
 
+abbrev pub setting_of : Plan → Task → Setting
+setting_of p t = (search_of p t.text t.options).setting
+
+-- The code stands where the configuration is, in a program for the plan, and the configuration is a sound state's.
+-- Where a `\G` in the code may give up the search, it stands above branches where none does.
+pub record Enters (p : Plan) (code : Code) (may_stop : Bool) (t : Task) (c : Config) (fresh : ℕ)
+    (s : MatchState) : Type 0 where
+  pub program : IsProgramFor p t.program
+  pub text : IsText t.text
+  pub code_is_there : HasAt (t.program).body c.pc (code c.pc fresh).instrs
+  pub slots_are_fresh : first_fresh p ≤ fresh
+  pub goes_on : may_stop ≡ true → GoesOn t c
+  pub stands : Stands t c s
+  pub sound : IsSoundState (setting_of p t) p.analysis.tree s
+
 -- Wherever the code stands, it hands from each sound state a list that serves by the key for what these ways give.
--- The key may depend on a place at or before the state's. Where a `\G` in the code may give up the search, it stands
--- above branches where none does.
+-- The key may depend on a place at or before the state's.
 abbrev pub Serves : Plan → Code → (Setting → Ways) → (ℕ → Key) → Bool → Type 0
 Serves p code w by may_stop = (t : Task) (c : Config) (fresh : ℕ) (s : MatchState) (from : ℕ) →
-    let q = (search_of p t.text t.options).setting in
-    IsProgramFor p t.program → IsText t.text → HasAt (t.program).body c.pc (code c.pc fresh).instrs →
-    (may_stop ≡ true → GoesOn t c) → first_fresh p ≤ fresh → Stands t c s → IsSoundState q p.analysis.tree s →
-    from ≤ s.place →
-    (hs : List MatchState) × Hands t (stretch_of code c fresh) (Goes c) hs × Thins (by from) hs (w q s)
+    Enters p code may_stop t c fresh s → from ≤ s.place →
+    (hs : List MatchState) × Hands t (stretch_of code c fresh) (Goes c) hs × Thins (by from) hs (w (setting_of p t) s)
 
 -- the code of a call, where these calls are open
 abbrev pub code_of_call : Plan → (Tree → Bool) → Depths → ℕ → Bool → Code

@@ -1,6 +1,6 @@
 -- Which trees may be handed in. Numbers of the machine are 64 bits wide, and its largest one means that there is no
 -- bound.
-use Rattle.std.specs.Prelude.{◌≡◌, ℕ, ◌^◌, ◌<◌, ◌≤◌, Bool, true, false, ◌||◌, List, [], All, Contains, Option, Some, IfSome, IsUtf8, FitsSigned, IsTrue, IsFalse, ◌==◌}
+use Rattle.std.specs.Prelude.{◌≡◌, ℕ, ◌^◌, ◌<◌, ◌≤◌, Bool, true, false, [], All, Contains, IfSome, IsUtf8, FitsSigned, IsTrue, IsFalse, ◌==◌}
 use Rattle.std.specs.Char.{IsScalar}
 use Rattle.std.specs.Int.{w64}
 use Rattle.std.specs.List.{list_any}

@@ -1,5 +1,5 @@
 -- Trees of sequences, alternations, groups, loops, letters and dots: `compile` refuses none of them for a node.
-use Rattle.std.proofs.Common.{◌≡◌, zero, suc, Bool, true, false, ◌&&◌, Some, None, refl}
+use Rattle.std.proofs.Common.{◌≡◌, zero, suc, Bool, true, false, ◌&&◌, Some, None}
 use Rattle.std.proofs.lemmas.Bool.{and_parts}
 use Rattle.fancy_meaning.specs.Tree.{Tree, Trees, none, more, Empty, KeepOut, ContinueFromPreviousMatchEnd, Any, Assert, GeneralNewline, Literal, LiteralBytes, Delegate, Concat, Alt, Group, LookAround, Repeat, Backref, BackrefWithLevel, BackrefExists, AtomicGroup, DefineGroup, Control, Conditional, SubroutineCall, AbsentRepeater, AbsentStopper, AbsentExpression, AbsentClear, AstNode}
 use Rattle.fancy_meaning.specs.Options.{Plan}
