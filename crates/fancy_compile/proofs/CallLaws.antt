@@ -56,12 +56,12 @@ module _ (p : Site) (g : ℕ) (b : Tree) (at : target p.analysis.tree g ≡ Some
   full_accepted full d (through lt there h) x r = absurd (omega (arith, full, lt))
 
   full_code : (n : ℕ) (in_hard : Bool) → call_depth ≤ p.depths g → called_code p.plan no_node n p.depths g in_hard ≡ one Instr.Fail
-  full_code zero in_hard full = ap (fail_code p.plan no_node) at
+  full_code zero in_hard full = ap fail_code at
   full_code (suc n) in_hard full =
       cond-false (nat_lt (p.depths g) call_depth)
       (target_code p.plan no_node g (called_code p.plan no_node n (opened g p.depths)) in_hard (target p.analysis.tree g))
-      (fail_code p.plan no_node (target p.analysis.tree g)) (le-ltb (p.depths g) call_depth full)
-      ∙ ap (fail_code p.plan no_node) at
+      (fail_code (target p.analysis.tree g)) (le-ltb (p.depths g) call_depth full)
+      ∙ ap fail_code at
 
   pub wrote_full : (call : ℕ → Bool → Code) (n : ℕ) (at_start in_hard : Bool) (s t : Draft) → call ≡ called_code p.plan no_node n p.depths
       → call_depth ≤ p.depths g → Writes p (one Instr.Fail) [] s t → Writes p (hard_code p call (SubroutineCall g) at_start in_hard) (SubroutineCall g ∷ []) s t
@@ -120,7 +120,7 @@ module _ (p : Site) (g : ℕ) (b : Tree) (at : target p.analysis.tree g ≡ Some
         (Some b)
     called_open n in_hard =
         cond-true (nat_lt (p.depths g) call_depth) (target_code p.plan no_node g (inner_call n) in_hard (target p.analysis.tree g))
-        (fail_code p.plan no_node (target p.analysis.tree g)) (lt-ltb (p.depths g) call_depth free)
+        (fail_code (target p.analysis.tree g)) (lt-ltb (p.depths g) call_depth free)
         ∙ ap (target_code p.plan no_node g (inner_call n) in_hard) at
 
     pub wrote_open : (call : ℕ → Bool → Code) (n : ℕ) (at_start in_hard : Bool) (s t : Draft) → call ≡ called_code p.plan no_node (suc n) p.depths

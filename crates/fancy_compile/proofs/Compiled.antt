@@ -66,7 +66,7 @@ module _ (p : Plan) where
   -- ---- what is written
 
   abbrev pub whole_code : Laid
-  whole_code = program_code p no_node 0 (first_fresh p no_node)
+  whole_code = program_code p no_node 0 (first_fresh p)
 
   pub body_is : (undelegated_layout p).body ≡ whole_code.instrs
   unfolding undelegated_layout
@@ -115,15 +115,15 @@ module _ (p : Plan) where
   abbrev pub start : ℕ → Draft
   start fresh = record { instrs = []; fresh = fresh; limit = p.max_prog_size; fault = None }
 
-  pub error_may_answer : AllInRange → (t : Draft) (x : Error) → Writes (top p) (program_code p no_node) (whole ∷ []) (start (first_fresh p no_node)) t
+  pub error_may_answer : AllInRange → (t : Draft) (x : Error) → Writes (top p) (program_code p no_node) (whole ∷ []) (start (first_fresh p)) t
       → t.fault ≡ Some x → Compiles p (Err x)
-  error_may_answer ranged t x h is = refused_breaks ranged (start (first_fresh p no_node)) refl refl x
-      (subst (Turns (top p) whole_code (whole ∷ []) (start (first_fresh p no_node)) t None) is h.turns)
+  error_may_answer ranged t x h is = refused_breaks ranged (start (first_fresh p)) refl refl x
+      (subst (Turns (top p) whole_code (whole ∷ []) (start (first_fresh p)) t None) is h.turns)
 
-  pub written : (t : Draft) → Writes (top p) (program_code p no_node) (whole ∷ []) (start (first_fresh p no_node)) t → t.fault ≡ None
-      → Extends whole_code (start (first_fresh p no_node)) t × IsCompilable (top p) whole
+  pub written : (t : Draft) → Writes (top p) (program_code p no_node) (whole ∷ []) (start (first_fresh p)) t → t.fault ≡ None
+      → Extends whole_code (start (first_fresh p)) t × IsCompilable (top p) whole
   written t h is =
-      let done = subst (Turns (top p) whole_code (whole ∷ []) (start (first_fresh p no_node)) t None) is h.turns in
+      let done = subst (Turns (top p) whole_code (whole ∷ []) (start (first_fresh p)) t None) is h.turns in
       (done.0, done.1.0)
 
   -- ---- the program

@@ -86,7 +86,7 @@ module _ (p : Site) (call : ℕ → Bool → Code) where
 
   -- what is written over branches, whose places are not those of the body
   abbrev in_parts : (List Code → Code) → (Code → Code) → Tree → Code
-  in_parts all look (Alt es) = all (map (behind_code look) (map (body_code p.plan no_node) (each_part p.plan no_node call false es)))
+  in_parts all look (Alt es) = all (map (behind_code look) (map (body_code p.plan) (each_part p.plan no_node call false es)))
   in_parts all look e = all []
 
   pub behind_by : (at_start in_hard : Bool) (e : Tree) → const e ≡ true → hard_code p call (LookAround LookBehind e) at_start in_hard ≡ look_code
@@ -106,25 +106,25 @@ module _ (p : Site) (call : ℕ → Bool → Code) where
   AllConst es = list_all const es ≡ true
 
   one_behind : (look : Code → Code) (e : Tree) → const e ≡ true → behind_code look
-      (body_code p.plan no_node (record { tree = e; code = in_context p.plan no_node e (written p.plan no_node call e false) })) ≡ look
+      (body_code p.plan (record { tree = e; code = in_context p.plan no_node e (written p.plan no_node call e false) })) ≡ look
       (one (Instr.GoBack (least e)) >> hard_code p call e false false)
   one_behind look e h = ap (λ b. if b then look (one (Instr.GoBack (least e)) >> hard_code p call e false false) else nothing) h
 
   behind_branches : (es : List Tree) → AllConst es → map (behind_code look_code)
-      (map (body_code p.plan no_node) (each_part p.plan no_node call false (trees es))) ≡ codes_of_branches p call true false es
+      (map (body_code p.plan) (each_part p.plan no_node call false (trees es))) ≡ codes_of_branches p call true false es
   behind_branches [] h = refl
   behind_branches (e ∷ es) h =
       let both = and_true (const e) (list_all const es) h in
-      ap (λ c. c ∷ map (behind_code look_code) (map (body_code p.plan no_node) (each_part p.plan no_node call false (trees es))))
+      ap (λ c. c ∷ map (behind_code look_code) (map (body_code p.plan) (each_part p.plan no_node call false (trees es))))
       (one_behind look_code e both.0)
       ∙ ap (λ l. look_code (one (Instr.GoBack (least e)) >> hard_code p call e false false) ∷ l) (behind_branches es both.1)
 
   none_behind : (es : List Tree) → AllConst es → map (behind_code negative_look_code)
-      (map (body_code p.plan no_node) (each_part p.plan no_node call false (trees es))) ≡ codes_of_none p call es
+      (map (body_code p.plan) (each_part p.plan no_node call false (trees es))) ≡ codes_of_none p call es
   none_behind [] h = refl
   none_behind (e ∷ es) h =
       let both = and_true (const e) (list_all const es) h in
-      ap (λ c. c ∷ map (behind_code negative_look_code) (map (body_code p.plan no_node) (each_part p.plan no_node call false (trees es))))
+      ap (λ c. c ∷ map (behind_code negative_look_code) (map (body_code p.plan) (each_part p.plan no_node call false (trees es))))
       (one_behind negative_look_code e both.0)
       ∙ ap (λ l. negative_look_code (one (Instr.GoBack (least e)) >> hard_code p call e false false) ∷ l) (none_behind es both.1)
 

@@ -57,7 +57,7 @@ module _ (a : Analysed) (i : Info) (o : CompileOptions) (m : MayCompile a i o) w
     abbrev fresh_by : Bool → ℕ → ℕ
     fresh_by zero_too n = 2 * (if zero_too then n else n + 1) + (if o.disallow_empty_match_at_eof_after_newline then 1 else 0)
 
-    fresh_is : fresh_by explicit total ≡ first_fresh p no_node
+    fresh_is : fresh_by explicit total ≡ first_fresh p
     fresh_is = ap (λ b. fresh_by b total) explicit_is ∙ ap (fresh_by ((analysis a).options).explicit_capture_group_0) total_is
 
     abbrev draft : List Instr → ℕ → Draft
@@ -72,7 +72,7 @@ module _ (a : Analysed) (i : Info) (o : CompileOptions) (m : MayCompile a i o) w
 
     -- the parts are those of the layout
     pub finish_compiles : (not_empty : Bool) → not_empty ≡ ((info_facts i).options).find_not_empty → (most slots : ℕ) (t : Draft) → most ≡ (info_size i).most
-        → Extends (whole_code p) (start p (first_fresh p no_node)) t → slots ≡ max 2 t.fresh
+        → Extends (whole_code p) (start p (first_fresh p)) t → slots ≡ max 2 t.fresh
         → made p t.instrs most total slots explicit not_empty ≡ undelegated_layout p
     finish_compiles not_empty not_empty_read most slots t size_is e room =
         same_program p t.instrs most total slots explicit not_empty e.instrs

@@ -71,4 +71,4 @@ module _ (p : Plan) where
   abbrev pub IsWritingOf : Draft → Type 0
   IsWritingOf t =
       Writes (top p) (program_code p no_node) (p.analysis.tree ∷ [])
-      (record { instrs = []; fresh = first_fresh p no_node; limit = p.max_prog_size; fault = None }) t
+      (record { instrs = []; fresh = first_fresh p; limit = p.max_prog_size; fault = None }) t

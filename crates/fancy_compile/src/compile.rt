@@ -68,7 +68,7 @@ impl Compiler {
     fn emit_search(&mut self, anchored: bool)
         ensures { (p : Site)
             → p.anchored ≡ anchored
-            → Writes p (search_code p.plan no_node) [] (draft_of self.old) (draft_of self.new) }
+            → Writes p (search_code p.plan) [] (draft_of self.old) (draft_of self.new) }
     {
         if anchored {
             return;
@@ -82,7 +82,7 @@ impl Compiler {
     fn emit_edge(&mut self, explicit_group_0: bool, slot: usize)
         ensures { (p : Site)
             → (p.analysis.options).explicit_capture_group_0 ≡ explicit_group_0
-            → Writes p (edge_code p.plan no_node slot) [] (draft_of self.old) (draft_of self.new) }
+            → Writes p (edge_code p.plan slot) [] (draft_of self.old) (draft_of self.new) }
     {
         if !explicit_group_0 {
             self.push(Insn::Save(slot));
@@ -92,7 +92,7 @@ impl Compiler {
     fn emit_end_text(&mut self, end_text: bool)
         ensures { (p : Site)
             → p.end_text ≡ end_text
-            → Writes p (end_text_code p.plan no_node) [] (draft_of self.old) (draft_of self.new) }
+            → Writes p (end_text_code p.plan) [] (draft_of self.old) (draft_of self.new) }
     {
         if end_text {
             self.push(Insn::RejectEmptyMatchAtEOFFollowingNewline);

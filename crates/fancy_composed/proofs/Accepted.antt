@@ -10,7 +10,6 @@ use Rattle.fancy_meaning.specs.Hard.{is_hard}
 use Rattle.fancy_meaning.specs.Code.{Code, nothing}
 use Rattle.fancy_meaning.specs.Constructs.{absent_code}
 use Rattle.fancy_meaning.specs.Layout.{absent_repeater_code}
-use Rattle.fancy_meaning.specs.Instr.{Prog}
 use Rattle.fancy_meaning.specs.Config.{Branch}
 use Rattle.fancy_meaning.specs.Machine.{Task, fail_to}
 use Rattle.fancy_meaning.specs.AnalysisRefusals.{before_end, reference_with_level, unresolved_call, unresolved_node, group_out_of_range, is_no_group, has_level, SubroutineCallTargetNotFound, UnresolvedAstNode, FeatureNotYetSupported, InvalidBackref}

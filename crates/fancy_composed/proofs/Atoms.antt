@@ -12,7 +12,6 @@ use Rattle.fancy_meaning.specs.Ways.{moves, repeats_group}
 use Rattle.fancy_meaning.specs.Numbers.{usize_max}
 use Rattle.fancy_meaning.specs.Instr.{Instr, Codepoint, Newline}
 use Rattle.fancy_meaning.specs.Batches.{literal_instr, any_instr, class_code}
-use Rattle.fancy_meaning.specs.Code.{Code, branch}
 use Rattle.fancy_meaning.specs.Code as code
 use Rattle.fancy_meaning.specs.Constructs.{newline_code}
 use Rattle.fancy_meaning.specs.Config.{Slots, Config, span_at}
@@ -122,7 +121,8 @@ module _ (w : Ground) where
       Works w (code.one (Instr.Backref (2 * g) casei (w.plan).unicode)) (repeats_group (setting w) g casei)
   works_backref g casei pos le fits =
       works_as w (repeats_group (setting w) g casei)
-      (works_moves w (Instr.Backref (2 * g) casei (w.plan).unicode) (λ s. option_and_then (λ span. past_piece text (w.plan).unicode casei span s.place) (s.captures g))
+      (works_moves w (Instr.Backref (2 * g) casei (w.plan).unicode)
+      (λ s. option_and_then (λ span. past_piece text (w.plan).unicode casei span s.place) (s.captures g))
       (λ s slots a marks bs count ok st.
       ap
       (λ o.

@@ -99,7 +99,7 @@ module _ (w : Ground) (call : ℕ → Bool → Code) (meant : ℕ → Ways) wher
   -- ---- an alternation
 
   pub alt_works : (e : Tree) (es : Trees) (in_hard : Bool) → EachWorks false in_hard (more e es) → Works w
-      (alt_code w.plan never (each_part w.plan never call false (more e es)) in_hard)
+      (alt_code (each_part w.plan never call false (more e es)) in_hard)
       (one_of (each_ways (setting w) meant (more e es)))
   alt_works e none in_hard u = works_as w (one_of (means e ∷ [])) u.0 (λ s ok. sym (append-nil (means e s)))
   alt_works e (more d ds) in_hard u = works_branch w _ _ _ _ u.0 (alt_works d ds in_hard u.1)
@@ -109,7 +109,7 @@ module _ (w : Ground) (call : ℕ → Bool → Code) (meant : ℕ → Ways) wher
   module _ (fits : length (w.task).text < usize_max) where
     pub behind_each : (e : Tree) (es : Trees) → EachWorks false false (more e es) → EachKnown (more e es) →
         EachConst (more e es) → Works w
-        (branches (map (behind_code look_code) (map (body_code w.plan never) (each_part w.plan never call false (more e es)))))
+        (branches (map (behind_code look_code) (map (body_code w.plan) (each_part w.plan never call false (more e es)))))
         (one_of (map (ends_here (setting w)) (each_ways (setting w) meant (more e es))))
     behind_each e none u k c =
         works_as w (one_of (ends_here (setting w) (means e) ∷ []))
@@ -130,7 +130,7 @@ module _ (w : Ground) (call : ℕ → Bool → Code) (meant : ℕ → Ways) wher
         ∙ sym (ap (λ l. if not (is_some (slice_get (l ++ one_of fs s) 0)) then s ∷ [] else []) e)
 
     pub not_behind_each : (es : Trees) → EachWorks false false es → EachKnown es → EachConst es → Works w
-        (in_turn (map (behind_code negative_look_code) (map (body_code w.plan never) (each_part w.plan never call false es))))
+        (in_turn (map (behind_code negative_look_code) (map (body_code w.plan) (each_part w.plan never call false es))))
         (unless (one_of (map (ends_here (setting w)) (each_ways (setting w) meant es))))
     not_behind_each none u k c = works_as w (unless (one_of [])) (works_nothing w) (λ s ok. refl)
     not_behind_each (more e es) u k c =

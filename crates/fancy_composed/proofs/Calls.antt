@@ -54,7 +54,7 @@ module _ (w : Ground) (r : Ready w) (stop : has_marked_continue (whole w) (whole
 
   -- a call that is not opened
   fail_works : (g : ℕ) → IsWritten (whole w) (SubroutineCall g) → (o : Option Tree) → target (whole w) g ≡ o →
-      Works w (fail_code w.plan never o) fails
+      Works w (fail_code o) fails
   fail_works g wr None e = absurd (r.allowed (SubroutineCall g) SubroutineCallTargetNotFound wr (missing_group e))
   fail_works g wr (Some b) e = works_fails w
 
@@ -73,28 +73,21 @@ module _ (w : Ground) (r : Ready w) (stop : has_marked_continue (whole w) (whole
       (sym e)
       (by_depth (nat_lt (depths g) call_depth) refl (λ q. calls_work n (opened g depths) q))
     where
+      -- by whether the call is opened
+      IsFollowed : Bool → Type 0
+      IsFollowed u =
+          Works w
+          (if u then target_code w.plan never g (called_code w.plan never n (opened g depths)) in_hard
+          (target (whole w) g) else fail_code (target (whole w) g))
+          (if u then ways_of_target (setting w) (whole w) g (called (setting w) (whole w) n (opened g depths))
+          (target (whole w) g) else fails)
+
       by_depth : (v : Bool) → nat_lt (depths g) call_depth ≡ v →
           (free_calls (whole w) (opened g depths) ≡ n → CallsWork w r (opened g depths)) →
           Works w (called_code w.plan never (suc n) depths g in_hard) (called (setting w) (whole w) (suc n) depths g)
-      by_depth false lt ih =
-          subst
-          (λ u.
-          Works w
-          (if u then target_code w.plan never g (called_code w.plan never n (opened g depths)) in_hard
-          (target (whole w) g) else fail_code w.plan never (target (whole w) g))
-          (if u then ways_of_target (setting w) (whole w) g (called (setting w) (whole w) n (opened g depths))
-          (target (whole w) g) else fails))
-          (sym lt)
-          (fail_works g wr (target (whole w) g) refl)
+      by_depth false lt ih = subst IsFollowed (sym lt) (fail_works g wr (target (whole w) g) refl)
       by_depth true lt ih =
-          subst
-          (λ u.
-          Works w
-          (if u then target_code w.plan never g (called_code w.plan never n (opened g depths)) in_hard
-          (target (whole w) g) else fail_code w.plan never (target (whole w) g))
-          (if u then ways_of_target (setting w) (whole w) g (called (setting w) (whole w) n (opened g depths))
-          (target (whole w) g) else fails))
-          (sym lt)
+          subst IsFollowed (sym lt)
           (of_target n (opened g depths) g in_hard
           (λ b t. let more = r.opens g b depths t (ltb-true (depths g) call_depth lt) in omega (arith, more, e)) ih wr
           (target (whole w) g) refl)

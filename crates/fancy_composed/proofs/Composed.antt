@@ -32,10 +32,10 @@ none_gives_up w c (one_start e) same search anchored = absurd (true≢false (sym
 none_gives_up w c (two_branches le) same search anchored = (omega (arith, same, le), λ one. absurd (omega (arith, one, same, le)))
 
 -- the first slot of the plan is the first of the program
-pub first_slot : (w : Ground) → (w.plan).analysis.explicit_capture_group_0 ≡ false → first w ≡ first_fresh w.plan never
+pub first_slot : (w : Ground) → (w.plan).analysis.explicit_capture_group_0 ≡ false → first w ≡ first_fresh w.plan
 first_slot w implicit =
     let count = group_count (whole w) in
-    let groups : group_numbers w.plan never ≡ count + 1 = ap (λ v. if v then count else count + 1) implicit in
+    let groups : group_numbers w.plan ≡ count + 1 = ap (λ v. if v then count else count + 1) implicit in
     let flagged : bit ((w.task).program).end_text ≡ (if (w.plan).end_text then 1 else 0) =
     ap bit (w.fits).end_text ∙ bit_is (w.plan).end_text in
     omega (arith, flag_is w, groups, flagged)
@@ -56,7 +56,10 @@ module _ (i : Input) (accepted : IsAccepted i (length (undelegated_layout (plan 
       (begins tree ≡ true → may_stop ≡ true) → (at_start ≡ true → begins e ≡ true → may_stop ≡ true) →
       Serves (plan i) (code_of_node (plan i) never depths e at_start in_hard) (λ q. ways q tree e depths)
       (λ from. whole_key tree) may_stop
-  serves e depths at_start in_hard may_stop wr by_call by_node t c fresh s from fits is_text has goes_on le st so le' =
+  serves e depths at_start in_hard may_stop wr by_call by_node t c fresh s from at le' =
+      let fits = at.program in
+      let is_text = at.text in
+      let goes_on = at.goes_on in
       let bottom : ℕ → _ = λ count. after t (fail_to t c.branches (config 0 0 (λ k. 0) [] [] c.start count)) in
       let falls : (count : ℕ) → To (after t (fail_to t c.branches (config 0 0 (λ k. 0) [] [] c.start count))) (bottom count) =
       λ count. to_same in
@@ -69,13 +72,13 @@ module _ (i : Input) (accepted : IsAccepted i (length (undelegated_layout (plan 
       let laid = code_of_node (plan i) never depths e at_start in_hard c.pc fresh in
       let part =
       works.part c.pc (c.pc + length laid.instrs) fresh refl
-      (subst (λ n. n ≤ fresh) (sym (first_slot w accepted.implicit_group_0)) le) has in (
+      (subst (λ n. n ≤ fresh) (sym (first_slot w accepted.implicit_group_0)) at.slots_are_fresh) at.code_is_there in (
         works.handed s,
         handed_by w (λ count. to_same) c.pc c.ix c.slots c.marks c.backtracks (c.pc + length laid.instrs) fresh laid.fresh
             (Goes c)
-            (to_eq (λ n. ap (λ x. exec t n (here w c.pc x c.slots c.marks [] c.backtracks)) st.place))
-            (part.hands s c.slots c.marks [] c.backtracks so (stands_here w (λ count. to_same) s c st)),
-        alike_thins (whole_key tree) (works.handed s) _ (works.alike s so),
+            (to_eq (λ n. ap (λ x. exec t n (here w c.pc x c.slots c.marks [] c.backtracks)) (at.stands).place))
+            (part.hands s c.slots c.marks [] c.backtracks at.sound (stands_here w (λ count. to_same) s c at.stands)),
+        alike_thins (whole_key tree) (works.handed s) _ (works.alike s at.sound),
       )
 
   all_serve : AllServe (plan i) never (λ in_hard from. whole_key tree)

@@ -5,7 +5,7 @@ use Rattle.std.proofs.Common.{map-id}
 use Rattle.fancy_meaning.specs.MatchState.{MatchState, Ways, stays}
 use Rattle.fancy_meaning.specs.Loops.{required, prefer, at_most, if_moved, unbounded, repeats}
 use Rattle.fancy_meaning.specs.Numbers.{usize_max}
-use Rattle.fancy_meaning.specs.Instr.{Instr, Jmp, Save0, RepeatEpsilon}
+use Rattle.fancy_meaning.specs.Instr.{Instr, Jmp, RepeatEpsilon}
 use Rattle.fancy_meaning.specs.Instr as instr
 use Rattle.fancy_meaning.specs.Code.{Code, headed}
 use Rattle.fancy_meaning.specs.Constructs.{split, loop_form, repeat_code, loop_code, epsilon_code, counted_code, Plus}

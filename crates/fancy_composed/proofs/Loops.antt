@@ -6,7 +6,7 @@ use Rattle.std.proofs.lemmas.Bool.Decides.{eqb_tells}
 use Rattle.fancy_meaning.specs.MatchState.{MatchState, Ways, put}
 use Rattle.fancy_meaning.specs.Loops.{required, at_most, if_moved, unbounded}
 use Rattle.fancy_meaning.specs.Numbers.{usize_max}
-use Rattle.fancy_meaning.specs.Instr.{Instr, Jmp, Save0, RepeatEpsilon}
+use Rattle.fancy_meaning.specs.Instr.{Instr, Jmp, RepeatEpsilon}
 use Rattle.fancy_meaning.specs.Instr as instr
 use Rattle.fancy_meaning.specs.Config.{Slots, Branch, Next}
 use Rattle.fancy_meaning.specs.Machine.{choose}
@@ -155,7 +155,8 @@ module _ (w : Ground) (a b c n k m : ℕ) (f : Ways) (fresh : first w ≤ n) (lk
           let at_most_length = sound_within w s ok in
           let lt : slots n < usize_max = omega arith in
           from w (enters s slots marks bs count (not_top (slots n) lt) (omega arith) lt)
-          (iterate (required need f (λ t. unbounded (suc (length (w.task).text) - t.place) greedy f t)) s slots (more slots) marks bs count ok (own s slots st) (λ h r ds i so m' ag.
+          (iterate (required need f (λ t. unbounded (suc (length (w.task).text) - t.place) greedy f t)) s slots
+          (more slots) marks bs count ok (own s slots st) (λ h r ds i so m' ag.
           let q = kept slots r h ag in
           let far = moves s h ok m' in
           must_free need h r marks ds i (omega arith) (omega arith) so ag.stands))
@@ -174,7 +175,9 @@ module _ (w : Ground) (a b c n k m : ℕ) (f : Ways) (fresh : first w ≤ n) (lk
         slots n < usize_max → To (go w a s.place slots marks bs count) (go w (a + 1) s.place (more slots) marks bs count)
     goes_on s slots marks bs count l lt =
         to_trans (step_at_pc w (RepeatEpsilon greedy lo c n (n + 1)) a s.place slots marks bs count at)
-        (to_trans (to_false w (nat_lt lo (slots n) && slots (n + 1) == s.place) _ _ (ap (λ v. v && slots (n + 1) == s.place) (le-ltb lo (slots n) (omega arith))))
+        (to_trans
+        (to_false w (nat_lt lo (slots n) && slots (n + 1) == s.place) _ _
+        (ap (λ v. v && slots (n + 1) == s.place) (le-ltb lo (slots n) (omega arith))))
         (to_trans (to_false w (nat_le lo (slots n)) _ _ (lt-leb lo (slots n) l))
         (to_eq (λ j. ap (λ x. go w (a + 1) s.place (put n x slots) marks bs count j) (counted slots lt)))))
 

@@ -32,7 +32,7 @@ has_one (more e es) ok = tt
 
 module _ (w : Ground) (call : ℕ → Bool → Code) (meant : ℕ → Ways) where
   pub alternation_works : (es : Trees) (in_hard : Bool) → HasOne es → EachWorks w call meant false in_hard es →
-      Works w (alt_code w.plan never (each_part w.plan never call false es) in_hard) (one_of (each_ways (setting w) meant es))
+      Works w (alt_code (each_part w.plan never call false es) in_hard) (one_of (each_ways (setting w) meant es))
   alternation_works none in_hard ok u = absurd ok
   alternation_works (more e es) in_hard ok u = alt_works w call meant e es in_hard u
 
@@ -42,7 +42,7 @@ module _ (w : Ground) (call : ℕ → Bool → Code) (meant : ℕ → Ways) wher
   alternatives e = none
 
   abbrev bodies : Trees → List (Size × Code)
-  bodies es = map (body_code w.plan never) (each_part w.plan never call false es)
+  bodies es = map (body_code w.plan) (each_part w.plan never call false es)
 
   abbrev branch_ways : Tree → List Ways
   branch_ways e = each_ways (setting w) meant (branches_of e)
@@ -165,54 +165,36 @@ module _ (w : Ground) (call : ℕ → Bool → Code) (meant : ℕ → Ways) wher
         (λ s so. ap (λ l. if not (is_some (slice_get l 0)) then s ∷ [] else []) (body_ways e s))
     look_around_works LookBehind ok = by_size (size_of w call meant e).is_const refl
       where
-        by_size : (v : Bool) → (size_of w call meant e).is_const ≡ v → Works w
-            (if (size_of w call meant e).is_const then behind_code look_code body else branches
-            (map (behind_code look_code) (bodies (alternatives e))))
-            (one_of (map (ends_here (setting w)) (branch_ways e)))
-        by_size true is =
-            subst
-            (λ v.
+        Looks : Bool → Type 0
+        Looks v =
             Works w (if v then behind_code look_code body else branches (map (behind_code look_code) (bodies (alternatives e))))
-            (one_of (map (ends_here (setting w)) (branch_ways e))))
-            (sym is)
+            (one_of (map (ends_here (setting w)) (branch_ways e)))
+
+        by_size : (v : Bool) → (size_of w call meant e).is_const ≡ v → Looks (size_of w call meant e).is_const
+        by_size true is =
+            subst Looks (sym is)
             (works_as w (one_of (map (ends_here (setting w)) (branch_ways e)))
             (works_behind w (size_of w call meant e) (means w call meant e) is sized keeps fits
             (code_at w call meant e false false) p)
             (λ s so. ends_of e s is fits keeps sized so))
-        by_size false is =
-            subst
-            (λ v.
-            Works w (if v then behind_code look_code body else branches (map (behind_code look_code) (bodies (alternatives e))))
-            (one_of (map (ends_here (setting w)) (branch_ways e))))
-            (sym is)
-            (behind_varies e fits is ok u)
+        by_size false is = subst Looks (sym is) (behind_varies e fits is ok u)
     look_around_works LookBehindNeg ok = by_size (size_of w call meant e).is_const refl
       where
-        by_size : (v : Bool) → (size_of w call meant e).is_const ≡ v → Works w
-            (if (size_of w call meant e).is_const then behind_code negative_look_code body else in_turn
-            (map (behind_code negative_look_code) (bodies (alternatives e))))
-            (unless (one_of (map (ends_here (setting w)) (branch_ways e))))
-        by_size true is =
-            subst
-            (λ v.
+        Looks : Bool → Type 0
+        Looks v =
             Works w
             (if v then behind_code negative_look_code body else in_turn
             (map (behind_code negative_look_code) (bodies (alternatives e))))
-            (unless (one_of (map (ends_here (setting w)) (branch_ways e)))))
-            (sym is)
+            (unless (one_of (map (ends_here (setting w)) (branch_ways e))))
+
+        by_size : (v : Bool) → (size_of w call meant e).is_const ≡ v → Looks (size_of w call meant e).is_const
+        by_size true is =
+            subst Looks (sym is)
             (works_as w (unless (one_of (map (ends_here (setting w)) (branch_ways e))))
             (works_not_behind w (size_of w call meant e) (means w call meant e) is sized keeps fits
             (code_at w call meant e false false) p)
             (λ s so. ap (λ l. if not (is_some (slice_get l 0)) then s ∷ [] else []) (ends_of e s is fits keeps sized so)))
-        by_size false is =
-            subst
-            (λ v.
-            Works w
-            (if v then behind_code negative_look_code body else in_turn
-            (map (behind_code negative_look_code) (bodies (alternatives e))))
-            (unless (one_of (map (ends_here (setting w)) (branch_ways e)))))
-            (sym is)
-            (not_behind_varies e fits is ok u)
+        by_size false is = subst Looks (sym is) (not_behind_varies e fits is ok u)
 
     pub look_works : (look : Look) (at_start in_hard : Bool) →
         ((error : CompileError) → ¬ RefusesNode w.plan (LookAround look e) error) →

@@ -17,7 +17,7 @@ use Rattle.fancy_meaning.specs.Config.{Slots, Branch}
 use Rattle.fancy_meaning.specs.Machine.{flag_slot, goes_from, step}
 use Rattle.fancy_meaning.specs.Keys.{bit}
 use Rattle.fancy_meaning.specs.Hands.{HasAt, start_number, end_number, IsOutsideState}
-use Rattle.fancy_meaning.specs.Premises.{IsSound}
+use Rattle.fancy_meaning.specs.Premises.{IsSoundState}
 use Rattle.fancy_composed.proofs.Courses.{to_same, to_eq, to_trans, after, Ground, here, go, failed, step_at_pc}
 use Rattle.fancy_composed.proofs.Alike.{Among, Alike}
 use Rattle.fancy_composed.proofs.Hands.{Hands, none, from, one, weaken, known, bind}
@@ -66,7 +66,7 @@ module _ (w : Ground) where
   setting = (search_of w.plan (w.task).text (w.task).options).setting
 
   abbrev pub Sound : MatchState → Type 0
-  Sound s = IsSound setting whole s
+  Sound s = IsSoundState setting whole s
 
   abbrev pub flag : ℕ
   flag = flag_slot (w.task).program
@@ -196,6 +196,8 @@ module _ (w : Ground) where
   part_moves a b n m i f at e does = record {
     hands = λ s slots marks bs count ok st.
         subst (λ c. Hands w c (After n m slots) marks bs (at_place s (f s)) (go w a s.place slots marks bs count)) e
-        (from w (to_trans (step_at_pc w i a s.place slots marks bs count at) (to_eq (λ k. ap (λ x. after w.task x k) (does s slots marks bs count ok st))))
+        (from w
+        (to_trans (step_at_pc w i a s.place slots marks bs count at)
+        (to_eq (λ k. ap (λ x. after w.task x k) (does s slots marks bs count ok st))))
         (at_option a n m s slots marks bs count (f s) st));
   }

@@ -30,7 +30,7 @@ module _ (p : Plan) (easy : Tree → Bool) where
   root = root_code p easy (called_code p easy (free_calls p.analysis.tree no_calls) no_calls) false
 
   abbrev pub fresh : ℕ
-  fresh = first_fresh p easy
+  fresh = first_fresh p
 
   abbrev pub body : List Instr
   body = (program p easy).body

@@ -1,17 +1,81 @@
--- Lists that are alike thin one another by every key.
-use Rattle.std.proofs.Common.{◌≡◌, ℕ, zero, suc, ◌+◌, ◌<◌, ◌≤◌, Bool, true, false, ◌||◌, not, if◌then◌else◌, cond, List, [], ◌∷◌, find, Option, Some, None, bytes_eq, ◌&&◌, eq-eqb, refl, sym, ap, ◌∙◌, subst, arith}
+-- The first state of each key, found by the keys that occurred before; so lists that are alike thin one another by every
+-- key.
+use Rattle.std.proofs.Common.{◌≡◌, ℕ, zero, suc, ◌+◌, ◌<◌, ◌≤◌, Bool, true, false, ◌||◌, not, if◌then◌else◌, cond, List, [], ◌∷◌, find, filter, Option, Some, None, bytes_eq, ◌&&◌, eq-eqb, refl, sym, ap, ◌∙◌, subst, arith}
 use Rattle.std.proofs.lemmas.Option.{same_Some}
+use Rattle.std.proofs.lemmas.Slice.Eq.{bytes_eq-Decides}
+use Rattle.std.proofs.lemmas.Bool.{or_right}
 use Rattle.fancy_meaning.specs.MatchState.{MatchState}
-use Rattle.fancy_meaning.specs.Keys.{Key, Seen, with_key, reduced_from, Thins}
+use Rattle.fancy_meaning.specs.Keys.{Key, reduced, Thins}
 use Rattle.fancy_composed.proofs.Alike.{Alike}
 
-or_true : (u : Bool) → (u || true) ≡ true
-or_true true = refl
-or_true false = refl
+-- the keys that occurred before, as a test
+abbrev pub Seen : Type 0
+Seen = List ℕ → Bool
+
+abbrev pub with_key : List ℕ → Seen → Seen
+with_key k seen other = bytes_eq k other || seen other
+
+-- each state whose key did not occur before
+abbrev pub reduced_from : Seen → Key → List MatchState → List MatchState
+reduced_from seen by [] = []
+reduced_from seen by (s ∷ ss) =
+    if seen (by s) then reduced_from seen by ss else s ∷ reduced_from (with_key (by s) seen) by ss
+
+filter_everything : {A : Type 0} (xs : List A) → filter (λ x. true) xs ≡ xs
+filter_everything [] = refl
+filter_everything (x ∷ xs) = ap (λ l. x ∷ l) (filter_everything xs)
 
 module _ (by : Key) where
-  is_new : Seen → MatchState → Bool
+  abbrev is_new : Seen → MatchState → Bool
   is_new seen s = not (seen (by s))
+
+  abbrev differs : List ℕ → MatchState → Bool
+  differs k s = not (bytes_eq k (by s))
+
+  -- what is new after a key is new, and has another one
+  new_and_different : (seen : Seen) (k : List ℕ) (ss : List MatchState) →
+      filter (is_new (with_key k seen)) ss ≡ filter (is_new seen) (filter (differs k) ss)
+  new_and_different seen k [] = refl
+  new_and_different seen k (s ∷ ss) = split (bytes_eq k (by s)) (new_and_different seen k ss)
+    where
+      split : (u : Bool) → filter (is_new (with_key k seen)) ss ≡ filter (is_new seen) (filter (differs k) ss) →
+          cond (not (u || seen (by s))) (s ∷ filter (is_new (with_key k seen)) ss) (filter (is_new (with_key k seen)) ss)
+          ≡ filter (is_new seen) (cond (not u) (s ∷ filter (differs k) ss) (filter (differs k) ss))
+      split true ih = ih
+      split false ih = ap (λ l. cond (not (seen (by s))) (s ∷ l) l) ih
+
+  -- a key that was seen is no new one
+  new_is_different : (seen : Seen) (k : List ℕ) → seen k ≡ true → (ss : List MatchState) →
+      filter (is_new seen) ss ≡ filter (is_new seen) (filter (differs k) ss)
+  new_is_different seen k old [] = refl
+  new_is_different seen k old (s ∷ ss) = split (bytes_eq k (by s)) refl (new_is_different seen k old ss)
+    where
+      split : (u : Bool) → bytes_eq k (by s) ≡ u → filter (is_new seen) ss ≡ filter (is_new seen) (filter (differs k) ss) →
+          cond (not (seen (by s))) (s ∷ filter (is_new seen) ss) (filter (is_new seen) ss)
+          ≡ filter (is_new seen) (cond (not u) (s ∷ filter (differs k) ss) (filter (differs k) ss))
+      split true e ih =
+          let seen_too : seen (by s) ≡ true = ap seen (sym ((bytes_eq-Decides k (by s)).0 e)) ∙ old in
+          ap (λ v. cond (not v) (s ∷ filter (is_new seen) ss) (filter (is_new seen) ss)) seen_too ∙ ih
+      split false e ih = ap (λ l. cond (not (seen (by s))) (s ∷ l) l) ih
+
+  reduced_is_new : (seen : Seen) (ss : List MatchState) → reduced_from seen by ss ≡ filter (is_new seen) (reduced by ss)
+  reduced_is_new seen [] = refl
+  reduced_is_new seen (s ∷ ss) =
+      split (seen (by s)) refl (reduced_is_new seen ss) (reduced_is_new (with_key (by s) seen) ss)
+    where
+      rest : List MatchState
+      rest = filter (differs (by s)) (reduced by ss)
+
+      split : (v : Bool) → seen (by s) ≡ v → reduced_from seen by ss ≡ filter (is_new seen) (reduced by ss) →
+          reduced_from (with_key (by s) seen) by ss ≡ filter (is_new (with_key (by s) seen)) (reduced by ss) →
+          (if v then reduced_from seen by ss else s ∷ reduced_from (with_key (by s) seen) by ss)
+          ≡ cond (not v) (s ∷ filter (is_new seen) rest) (filter (is_new seen) rest)
+      split true e ih ih' = ih ∙ new_is_different seen (by s) e (reduced by ss)
+      split false e ih ih' = ap (λ l. s ∷ l) (ih' ∙ new_and_different seen (by s) (reduced by ss))
+
+  -- the first state of each key is each one whose key did not occur before
+  pub reduced_by_seen : (ss : List MatchState) → reduced by ss ≡ reduced_from (λ k. false) by ss
+  reduced_by_seen ss = sym (reduced_is_new (λ k. false) ss ∙ filter_everything (reduced by ss))
 
   -- the first new state, and then the rest with its key seen
   abbrev from_new : Seen → List MatchState → Option MatchState → List MatchState
@@ -20,7 +84,7 @@ module _ (by : Key) where
 
   -- what was seen is still seen
   still : (seen : Seen) (k : List ℕ) (h : MatchState) → seen (by h) ≡ true → with_key k seen (by h) ≡ true
-  still seen k h e = ap (λ v. bytes_eq k (by h) || v) e ∙ or_true (bytes_eq k (by h))
+  still seen k h e = or_right (bytes_eq k (by h)) (seen (by h)) e
 
   skipped : (seen : Seen) (h : MatchState) (hs : List MatchState) → seen (by h) ≡ true →
       reduced_from seen by (h ∷ hs) ≡ reduced_from seen by hs
@@ -109,4 +173,7 @@ module _ (by : Key) where
       ∙ ap (from_new seen qs) (alike.tests (λ x. not (seen (by x)))) ∙ sym (by_new seen qs)
 
   pub alike_thins : (hs qs : List MatchState) → Alike hs qs → Thins by hs qs
-  alike_thins hs qs alike = alike_reduced (unseen (λ k. false) hs) (λ k. false) hs qs (omega arith) alike
+  alike_thins hs qs alike =
+      reduced_by_seen hs
+      ∙ alike_reduced (unseen (λ k. false) hs) (λ k. false) hs qs (omega arith) alike
+      ∙ sym (reduced_by_seen qs)

@@ -22,7 +22,6 @@ use Rattle.fancy_meaning.specs.Premises.{Input, plan, IsAccepted, IsFit, Analyse
 use Rattle.fancy_meaning.specs.Theorems.{IsProgramFor, outcome_of, Answers, HasEnough}
 use Rattle.fancy_composed.proofs.Courses.{Course, Meets, limit, same, To, to_now, to_same, to_eq, to_trans, after, Ground, config, task_step, step_at_pc}
 use Rattle.fancy_composed.proofs.Runs.{limit_or_answer, enough_steps}
-use Rattle.fancy_meaning.specs.Hands.{IsLimit}
 use Rattle.fancy_meaning.specs.Marks.{has_marked_continue}
 use Rattle.fancy_composed.proofs.Alike.{or_first}
 use Rattle.fancy_composed.proofs.Parts.{Works, place_within, flag, flag_is, put_same, put_other, Stands}

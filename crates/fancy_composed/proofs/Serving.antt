@@ -3,7 +3,7 @@ use Rattle.std.proofs.Common.{◌≡◌, ◌⊎◌, inl, inr, ℕ, List, [], ◌
 use Rattle.fancy_meaning.specs.MatchState.{MatchState}
 use Rattle.fancy_meaning.specs.Config.{Slots, Branch, Config, Outcome, Next, Goes}
 use Rattle.fancy_meaning.specs.Machine.{fail_to}
-use Rattle.fancy_meaning.specs.Hands.{IsBranchLimit, Leads, Stretch, IsLeft, no_more, next_way}
+use Rattle.fancy_meaning.specs.Hands.{IsBranchLimit, Leads, Stretch, no_more, next_way}
 use Rattle.fancy_meaning.specs.Hands as handing
 use Rattle.fancy_composed.proofs.Courses.{Course, Meets, limit, same, To, to_trans, after, Ground, config, here, failed}
 use Rattle.fancy_composed.proofs.Hands.{Hands, none, way}

@@ -9,7 +9,6 @@ use Rattle.fancy_meaning.specs.MatchState.{MatchState, Span, put, stays_if}
 use Rattle.fancy_meaning.specs.Ways.{asserts}
 use Rattle.fancy_meaning.specs.Numbers.{usize_max}
 use Rattle.fancy_meaning.specs.Instr.{Instr}
-use Rattle.fancy_meaning.specs.Code.{Code}
 use Rattle.fancy_meaning.specs.Code as code
 use Rattle.fancy_meaning.specs.Keys.{bit}
 use Rattle.fancy_meaning.specs.Config.{forward, with_slot, Slots, Branch, Config, NoMatch, Goes, Ends}

@@ -44,8 +44,7 @@ module _ (w : Ground) (r : Ready w) (depths : Depths) where
   -- the calls work
   abbrev pub CallsWork : Type 0
   CallsWork =
-      (g : ℕ) (in_hard : Bool) → IsWritten (whole w) (SubroutineCall g) → Works w (λ base fresh. call g in_hard base fresh)
-      (λ s. meant g s)
+      (g : ℕ) (in_hard : Bool) → IsWritten (whole w) (SubroutineCall g) → Works w (call g in_hard) (meant g)
 
   -- a marked `\G` may give up, where the node begins with one
   abbrev pub Marked : Bool → Bool → Type 0

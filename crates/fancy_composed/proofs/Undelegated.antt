@@ -20,8 +20,12 @@ use Rattle.fancy_composed.proofs.Search.{tree, task, q, fits, find_is, RootHands
 roots_hand : (i : Input) (text : List ℕ) (o : RunOptions) (accepted : IsAccepted i (length (program (plan i) never).body))
     (fit : IsFit i text o) → RootHands i text o never accepted fit
 roots_hand i text o accepted fit start base other falls place stop =
-    let w : Ground = ground i (length (program (plan i) never).body) accepted (task i text o never accepted fit) fit.is_text (fits i text o never accepted fit) start base (λ n. other) falls in
-    let r : Ready w = ready i (length (program (plan i) never).body) accepted (task i text o never accepted fit) fit.is_text (fits i text o never accepted fit) start base (λ n. other) falls in
+    let w : Ground =
+    ground i (length (program (plan i) never).body) accepted (task i text o never accepted fit) fit.is_text
+    (fits i text o never accepted fit) start base (λ n. other) falls in
+    let r : Ready w =
+    ready i (length (program (plan i) never).body) accepted (task i text o never accepted fit) fit.is_text
+    (fits i text o never accepted fit) start base (λ n. other) falls in
     let whole = tree i text o never accepted fit in
     let search = q i text o never accepted fit in (
       (λ s. ways search.setting whole whole no_calls s),

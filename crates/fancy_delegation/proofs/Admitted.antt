@@ -7,7 +7,7 @@ use Rattle.fancy_meaning.specs.MatchState.{MatchState}
 use Rattle.fancy_meaning.specs.Answer.{Search, search_of, is_empty_at_end, is_admitted}
 use Rattle.fancy_meaning.specs.Options.{Plan, RunOptions}
 use Rattle.fancy_meaning.specs.Keys.{easy_key}
-use Rattle.fancy_delegation.proofs.Every.{Every, no_item, item, every_weaken}
+use Rattle.fancy_laws.proofs.Every.{Every, no_item, item, every_weaker}
 use Rattle.fancy_delegation.proofs.FindsAlike.{find_first}
 use Rattle.fancy_delegation.proofs.Reduced.{Same}
 use Rattle.fancy_delegation.proofs.KeyParts.{moved_from, easy_key_tells}
@@ -17,7 +17,8 @@ first_that_passes : {A : Type 0} (test : A → Bool) (xs : List A) → slice_get
 first_that_passes test [] = refl
 first_that_passes {A} test (x ∷ xs) = here (test x) (first_that_passes test xs)
   where
-    here : (v : Bool) → slice_get (filter test xs) 0 ≡ find_first test xs → slice_get (if v then x ∷ filter test xs else filter test xs) 0 ≡ (if v then Some x else find_first test xs)
+    here : (v : Bool) → slice_get (filter test xs) 0 ≡ find_first test xs →
+        slice_get (if v then x ∷ filter test xs else filter test xs) 0 ≡ (if v then Some x else find_first test xs)
     here true h = refl
     here false h = h
 
@@ -26,7 +27,9 @@ tests_agree p r no_item = refl
 tests_agree p r (item {x = x} e h) = ap₂ (λ v rest. if v then Some x else rest) e (tests_agree p r h)
 
 -- the same first state, by a test that agrees on the second list with one that respects the key
-pub same_first : {key : MatchState → MatchState → Type 0} {hs qs : List MatchState} (p r : MatchState → Bool) → ((s t : MatchState) → key s t → r s ≡ r t) → Every (λ s. p s ≡ r s) qs → IsThinned key hs qs → slice_get (filter p hs) 0 ≡ slice_get (filter p qs) 0
+pub same_first : {key : MatchState → MatchState → Type 0} {hs qs : List MatchState} (p r : MatchState → Bool) →
+    ((s t : MatchState) → key s t → r s ≡ r t) → Every (λ s. p s ≡ r s) qs → IsThinned key hs qs →
+    slice_get (filter p hs) 0 ≡ slice_get (filter p qs) 0
 same_first {hs = hs} {qs = qs} p r ok agree h =
     first_that_passes p hs ∙ tests_agree p r (thinned_every h agree) ∙ (h.alike).by r ok
     ∙ sym (tests_agree p r agree) ∙ sym (first_that_passes p qs)
@@ -57,8 +60,12 @@ module _ (p : Plan) (text : List ℕ) (o : RunOptions) (start : ℕ) where
       let both = easy_key_tells p start s t e in
       ap₂ (λ v w. not (q.not_empty && not v) && not w) both.0 (flags q.end_text refl (both.1).flag)
     where
-      flags : (v : Bool) → q.end_text ≡ v → (q.end_text && s.text_end) ≡ (q.end_text && t.text_end) → (q.end_text && ends_after_newline && not s.text_end) ≡ (q.end_text && ends_after_newline && not t.text_end)
-      flags true on e = let flag : s.text_end ≡ t.text_end = sym (ap (λ v. v && s.text_end) on) ∙ e ∙ ap (λ v. v && t.text_end) on in ap (λ v. q.end_text && ends_after_newline && not v) flag
+      flags : (v : Bool) → q.end_text ≡ v → (q.end_text && s.text_end) ≡ (q.end_text && t.text_end) →
+          (q.end_text && ends_after_newline && not s.text_end) ≡ (q.end_text && ends_after_newline && not t.text_end)
+      flags true on e =
+          let flag : s.text_end ≡ t.text_end =
+          sym (ap (λ v. v && s.text_end) on) ∙ e ∙ ap (λ v. v && t.text_end) on in
+          ap (λ v. q.end_text && ends_after_newline && not v) flag
       flags false off e = ap (λ v. v && ends_after_newline && not s.text_end) off ∙ sym (ap (λ v. v && ends_after_newline && not t.text_end) off)
 
   module _ (asked : o.not_empty ≡ true → p.analysis.find_not_empty ≡ true) where
@@ -80,14 +87,17 @@ module _ (p : Plan) (text : List ℕ) (o : RunOptions) (start : ℕ) where
         away : s.place ≢ start → (at s.place && s.place == start) ≡ at start
         away n =
             ap (λ v. at s.place && v) (ne_eqb s.place start n) ∙ and_right (at s.place) false refl
-            ∙ sym (ap (λ v. v && is_some_and (byte_before text start) (λ b. b == 10)) (ne_eqb start (length text) (λ e. n (omega (arith, e, within.from_start, within.in_text)))))
+            ∙ sym
+            (ap (λ v. v && is_some_and (byte_before text start) (λ b. b == 10))
+            (ne_eqb start (length text) (λ e. n (omega (arith, e, within.from_start, within.in_text)))))
 
         here : (s.place ≡ start) ⊎ ((s.place < start) ⊎ (start < s.place)) → (at s.place && s.place == start) ≡ at start
         here (inl e) = ap (λ i. at i && i == start) e ∙ ap (λ v. at start && v) (eq-eqb start start refl) ∙ and_true (at start)
         here (inr (inl lt)) = away (λ e. omega (arith, lt, e))
         here (inr (inr lt)) = away (λ e. omega (arith, lt, e))
 
-    pub same_admitted : {hs qs : List MatchState} → Every IsWithin qs → IsThinned (Same (easy_key p start)) hs qs → slice_get (filter (is_admitted q start) hs) 0 ≡ slice_get (filter (is_admitted q start) qs) 0
+    pub same_admitted : {hs qs : List MatchState} → Every IsWithin qs → IsThinned (Same (easy_key p start)) hs qs →
+        slice_get (filter (is_admitted q start) hs) 0 ≡ slice_get (filter (is_admitted q start) qs) 0
     same_admitted within h =
         same_first (is_admitted q start) admits admits_by_key
-        (every_weaken (λ s w. ap₂ (λ v u. not v && not (q.end_text && u && not s.text_end)) (took s o.not_empty refl) (at_end s w)) within) h
+        (every_weaker (λ s w. ap₂ (λ v u. not v && not (q.end_text && u && not s.text_end)) (took s o.not_empty refl) (at_end s w)) within) h

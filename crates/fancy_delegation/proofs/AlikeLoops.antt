@@ -8,7 +8,8 @@ use Rattle.fancy_delegation.proofs.Pairwise.{Pairwise, neither, both, pairs_appe
 abbrev pub WaysAlike : (MatchState → MatchState → Type 0) → Ways → Ways → Type 0
 WaysAlike R w w' = (s t : MatchState) → R s t → Pairwise R (w s) (w' t)
 
-pub prefer_alike : {R : MatchState → MatchState → Type 0} (greedy : Bool) {hs ks hs' ks' : List MatchState} → Pairwise R hs ks → Pairwise R hs' ks' → Pairwise R (prefer greedy hs hs') (prefer greedy ks ks')
+pub prefer_alike : {R : MatchState → MatchState → Type 0} (greedy : Bool) {hs ks hs' ks' : List MatchState} →
+    Pairwise R hs ks → Pairwise R hs' ks' → Pairwise R (prefer greedy hs hs') (prefer greedy ks ks')
 prefer_alike true h k = pairs_append h k
 prefer_alike false h k = pairs_append k h
 
@@ -23,7 +24,8 @@ module _ (R : MatchState → MatchState → Type 0) (place : (s t : MatchState) 
   at_most_alike (suc n) greedy s t r =
       prefer_alike greedy (pairs_flat_map (at_most n greedy w) (at_most n greedy w') (at_most_alike n greedy) (body s t r)) (both r neither)
 
-  pub if_moved_alike : (again again' : Ways) (s t : MatchState) → R s t → WaysAlike R again again' → WaysAlike R (if_moved s again) (if_moved t again')
+  pub if_moved_alike : (again again' : Ways) (s t : MatchState) → R s t → WaysAlike R again again' →
+      WaysAlike R (if_moved s again) (if_moved t again')
   if_moved_alike again again' s t r k h h' r' =
       pairs_if (h.place == s.place) (h'.place == t.place) (ap₂ (λ a b. a == b) (place h h' r') (place s t r)) (both r' neither) (k h h' r')
 
@@ -35,8 +37,13 @@ module _ (R : MatchState → MatchState → Type 0) (place : (s t : MatchState) 
       (if_moved_alike (unbounded n greedy w) (unbounded n greedy w') s t r (unbounded_alike n greedy)) (body s t r))
       (both r neither)
 
-  pub repeats_alike : (text : List ℕ) (lo : ℕ) (hi : Option ℕ) (greedy : Bool) → WaysAlike R (repeats text lo hi greedy w) (repeats text lo hi greedy w')
-  repeats_alike text lo (Some hi) greedy = required_alike lo (at_most (hi - lo) greedy w) (at_most (hi - lo) greedy w') (at_most_alike (hi - lo) greedy)
+  pub repeats_alike : (text : List ℕ) (lo : ℕ) (hi : Option ℕ) (greedy : Bool) →
+      WaysAlike R (repeats text lo hi greedy w) (repeats text lo hi greedy w')
+  repeats_alike text lo (Some hi) greedy =
+      required_alike lo (at_most (hi - lo) greedy w) (at_most (hi - lo) greedy w') (at_most_alike (hi - lo) greedy)
   repeats_alike text lo None greedy =
       required_alike lo (λ s. unbounded (suc (length text) - s.place) greedy w s) (λ s. unbounded (suc (length text) - s.place) greedy w' s)
-      (λ s t r. subst (λ p. Pairwise R (unbounded (suc (length text) - s.place) greedy w s) (unbounded (suc (length text) - p) greedy w' t)) (place s t r) (unbounded_alike (suc (length text) - s.place) greedy s t r))
+      (λ s t r.
+      subst (λ p. Pairwise R (unbounded (suc (length text) - s.place) greedy w s)
+      (unbounded (suc (length text) - p) greedy w' t)) (place s t r)
+      (unbounded_alike (suc (length text) - s.place) greedy s t r))

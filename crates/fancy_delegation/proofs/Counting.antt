@@ -30,7 +30,9 @@ last_char : (text : List ℕ) (i : ℕ) → is_place text (suc i) ≡ true → 0
 unfolding chars_between
 last_char text i e =
     let one : suc i - i ≡ 1 = omega arith in
-    let counted : length (filter (is_place text) (range_from (suc i) (suc i - i))) ≡ 1 = ap (λ n. length (filter (is_place text) (range_from (suc i) n))) one ∙ ap (λ v. length (if v then suc i ∷ [] else [])) e in
+    let counted : length (filter (is_place text) (range_from (suc i) (suc i - i))) ≡ 1 =
+    ap (λ n. length (filter (is_place text) (range_from (suc i) n))) one
+    ∙ ap (λ v. length (if v then suc i ∷ [] else [])) e in
     omega (arith, counted)
 
 pub some_chars : (text : List ℕ) (i j : ℕ) → i < j → is_place text j ≡ true → 0 < chars_between text i j
@@ -44,7 +46,10 @@ few_pass : (text : List ℕ) (n i : ℕ) → length (filter (is_place text) (ran
 few_pass text zero i = omega arith
 few_pass text (suc n) i = here (is_place text i) (few_pass text n (suc i))
   where
-    here : (v : Bool) → length (filter (is_place text) (range_from (suc i) n)) ≤ n → length (if v then i ∷ filter (is_place text) (range_from (suc i) n) else filter (is_place text) (range_from (suc i) n)) ≤ suc n
+    here : (v : Bool) → length (filter (is_place text) (range_from (suc i) n)) ≤ n →
+        length
+        (if v then i ∷ filter (is_place text) (range_from (suc i) n) else filter (is_place text)
+        (range_from (suc i) n)) ≤ suc n
     here true le = omega (arith, le)
     here false le = omega (arith, le)
 
@@ -56,7 +61,8 @@ pub place_within : (text : List ℕ) (i : ℕ) → is_place text i ≡ true → 
 place_within text i e = leb-true i (length text) (and_parts _ _ e).0
 
 -- as many characters on, one place
-pub same_place : (text : List ℕ) (i j k : ℕ) → i ≤ j → i ≤ k → is_place text j ≡ true → is_place text k ≡ true → chars_between text i j ≡ chars_between text i k → j ≡ k
+pub same_place : (text : List ℕ) (i j k : ℕ) → i ≤ j → i ≤ k → is_place text j ≡ true → is_place text k ≡ true →
+    chars_between text i j ≡ chars_between text i k → j ≡ k
 same_place text i j k a b placed placed' e = here (cases_order j k)
   where
     here : (j ≡ k) ⊎ ((j < k) ⊎ (k < j)) → j ≡ k

@@ -14,7 +14,7 @@ use Rattle.fancy_meaning.specs.Batches.{batch}
 use Rattle.fancy_meaning.specs.Layout.{Part, in_context, is_prefix, is_suffix, concat_code}
 use Rattle.fancy_meaning.specs.CompileRefusals.{IsWritten}
 use Rattle.fancy_meaning.specs.Premises.{Analysed, analysis, tree_of}
-use Rattle.fancy_delegation.proofs.Every.{Every, no_item, item, every_weaken, every_map, every_split}
+use Rattle.fancy_laws.proofs.Every.{Every, no_item, item, every_weaker, every_map, every_append_parts}
 use Rattle.fancy_laws.proofs.Splits.{back_while, before_back, cut_in_three}
 use Rattle.fancy_delegation.proofs.Splits.{front_passes, back_passes}
 use Rattle.fancy_delegation.proofs.Thinned.{IsPart, Thins, EachThins, no_part, and_part, part_in_order, thins_as, thins_or_else, thins_in_order, handed_sound}
@@ -43,7 +43,10 @@ module _ (given : Setup) (depths : Depths) where
   delegated e wr easy = record { there = (given.ready).there e wr; easy = not-true (is_hard (analysis given.tree) e) easy }
 
   -- an easy node is a delegate of itself in an easy context, where this test passes too
-  pub batch_thinned : (e : Tree) (test : Bool) → (test ≡ true → is_easy given.tree e ≡ true) → (code : Bool → Code) (in_hard : Bool) → IsWritten (tree_of given.tree) e → Thinned in_hard (code in_hard) (means e) → Thinned in_hard (if test && not in_hard then batch (given.options).unicode (e ∷ []) else code in_hard) (means e)
+  pub batch_thinned : (e : Tree) (test : Bool) → (test ≡ true → is_easy given.tree e ≡ true) →
+      (code : Bool → Code) (in_hard : Bool) → IsWritten (tree_of given.tree) e →
+      Thinned in_hard (code in_hard) (means e) →
+      Thinned in_hard (if test && not in_hard then batch (given.options).unicode (e ∷ []) else code in_hard) (means e)
   batch_thinned e test easy code in_hard wr h = here (test && not in_hard) refl
     where
       alone : (s : MatchState) → in_order (means e ∷ []) s ≡ means e s
@@ -56,14 +59,21 @@ module _ (given : Setup) (depths : Depths) where
           record {
             handed = first_of_batch given.setting given.tree depths (e ∷ []);
             works = (given.laws).hands_batch (e ∷ []) depths d (item wr no_item);
-            thins = thins_as (plan_for given.tree given.options) given.setting false (first_of_batch given.setting given.tree depths (e ∷ [])) (in_order (means e ∷ [])) (means e) (λ s ok. alone s) (thins_batch given.size_law given.tree given.options given.setting given.is_text depths given.same_end_text d);
+            thins =
+                thins_as (plan_for given.tree given.options) given.setting false
+                (first_of_batch given.setting given.tree depths (e ∷ [])) (in_order (means e ∷ [])) (means e)
+                (λ s ok. alone s)
+                (thins_batch given.size_law given.tree given.options given.setting given.is_text depths
+                given.same_end_text d);
           }
 
       here : (v : Bool) → (test && not in_hard) ≡ v → Thinned in_hard (if v then batch (given.options).unicode (e ∷ []) else code in_hard) (means e)
       here true both = at_easy in_hard both
       here false both = h
 
-  pub context_thinned : (e : Tree) (code : Bool → Code) (in_hard : Bool) → IsWritten (tree_of given.tree) e → Thinned in_hard (code in_hard) (means e) → Thinned in_hard (in_context (plan_for given.tree given.options) (is_easy given.tree) e code in_hard) (means e)
+  pub context_thinned : (e : Tree) (code : Bool → Code) (in_hard : Bool) → IsWritten (tree_of given.tree) e →
+      Thinned in_hard (code in_hard) (means e) →
+      Thinned in_hard (in_context (plan_for given.tree given.options) (is_easy given.tree) e code in_hard) (means e)
   context_thinned e code in_hard wr h = batch_thinned e (is_easy given.tree e) (λ y. y) code in_hard wr h
 
   -- ---- several children
@@ -88,16 +98,22 @@ module _ (given : Setup) (depths : Depths) where
       let first = h.1 in
       record {
         handed = first.handed ∷ rest.handed;
-        works = (given.laws).hands_next (w.code true) (in_turn (map (λ u. u.code true) ws)) first.handed (in_order rest.handed) (handed_sound (plan_for given.tree given.options) given.setting true first.handed (means w.tree) (part_of w.tree h.0) first.thins) first.works rest.works;
+        works =
+            (given.laws).hands_next (w.code true) (in_turn (map (λ u. u.code true) ws)) first.handed
+            (in_order rest.handed)
+            (handed_sound (plan_for given.tree given.options) given.setting true first.handed (means w.tree)
+            (part_of w.tree h.0) first.thins) first.works rest.works;
         thins = and_part first.thins rest.thins;
       }
 
   -- each of these in turn
   pub data EachThinned (in_hard : Bool) : List Code → List Ways → Type 0 where
     no_choice : EachThinned in_hard [] []
-    and_choice : {c : Code} {f : Ways} {cs : List Code} {fs : List Ways} → Thinned in_hard c f → EachThinned in_hard cs fs → EachThinned in_hard (c ∷ cs) (f ∷ fs)
+    and_choice : {c : Code} {f : Ways} {cs : List Code} {fs : List Ways} → Thinned in_hard c f →
+        EachThinned in_hard cs fs → EachThinned in_hard (c ∷ cs) (f ∷ fs)
 
-  pub choice_thinned : (in_hard : Bool) {c : Code} {f : Ways} {cs : List Code} {fs : List Ways} → Thinned in_hard c f → EachThinned in_hard cs fs → Thinned in_hard (branches (c ∷ cs)) (one_of (f ∷ fs))
+  pub choice_thinned : (in_hard : Bool) {c : Code} {f : Ways} {cs : List Code} {fs : List Ways} →
+      Thinned in_hard c f → EachThinned in_hard cs fs → Thinned in_hard (branches (c ∷ cs)) (one_of (f ∷ fs))
   choice_thinned in_hard {c} {f} h no_choice = record {
     handed = h.handed;
     works = h.works;
@@ -111,7 +127,8 @@ module _ (given : Setup) (depths : Depths) where
         thins = thins_or_else (plan_for given.tree given.options) given.setting in_hard h.handed f rest.handed (one_of (g ∷ fs)) h.thins rest.thins;
       }
 
-  pub children_thinned : (in_hard : Bool) {ws : List Part} → Every (ChildThinned in_hard) ws → EachThinned in_hard (map (λ w. w.code in_hard) ws) (map means (trees_of ws))
+  pub children_thinned : (in_hard : Bool) {ws : List Part} → Every (ChildThinned in_hard) ws →
+      EachThinned in_hard (map (λ w. w.code in_hard) ws) (map means (trees_of ws))
   children_thinned in_hard no_item = no_choice
   children_thinned in_hard (item h hs) = and_choice h.1 (children_thinned in_hard hs)
 
@@ -121,10 +138,13 @@ module _ (given : Setup) (depths : Depths) where
   const_where_hard true const e hard = e
   const_where_hard false const e hard = cc
 
-  prefix_tells : (w : Part) → is_prefix (plan_for given.tree given.options) (is_easy given.tree) w ≡ true → (is_easy given.tree w.tree ≡ true) × ((size (tree_of given.tree) w.tree).is_const ≡ true)
+  prefix_tells : (w : Part) → is_prefix (plan_for given.tree given.options) (is_easy given.tree) w ≡ true →
+      (is_easy given.tree w.tree ≡ true) × ((size (tree_of given.tree) w.tree).is_const ≡ true)
   prefix_tells w e = and_parts (is_easy given.tree w.tree) (size (tree_of given.tree) w.tree).is_const e
 
-  suffix_tells : (in_hard : Bool) (w : Part) → is_suffix (plan_for given.tree given.options) (is_easy given.tree) in_hard w ≡ true → (is_easy given.tree w.tree ≡ true) × (in_hard ≡ true → (size (tree_of given.tree) w.tree).is_const ≡ true)
+  suffix_tells : (in_hard : Bool) (w : Part) →
+      is_suffix (plan_for given.tree given.options) (is_easy given.tree) in_hard w ≡ true →
+      (is_easy given.tree w.tree ≡ true) × (in_hard ≡ true → (size (tree_of given.tree) w.tree).is_const ≡ true)
   suffix_tells in_hard w e =
       let parts = and_parts (is_easy given.tree w.tree) (not in_hard || (size (tree_of given.tree) w.tree).is_const) e in
       (parts.0, const_where_hard in_hard (size (tree_of given.tree) w.tree).is_const parts.1)
@@ -133,7 +153,8 @@ module _ (given : Setup) (depths : Depths) where
   written_trees no_item = no_item
   written_trees (item h hs) = item h.0 (written_trees hs)
 
-  delegated_trees : {ws : List Part} → Every (ChildThinned true) ws → Every (λ w. is_easy given.tree w.tree ≡ true) ws → Every (IsDelegated given.tree) (trees_of ws)
+  delegated_trees : {ws : List Part} → Every (ChildThinned true) ws →
+      Every (λ w. is_easy given.tree w.tree ≡ true) ws → Every (IsDelegated given.tree) (trees_of ws)
   delegated_trees no_item no_item = no_item
   delegated_trees (item {x = w} h hs) (item e es) = item (delegated w.tree h.0 e) (delegated_trees hs es)
 
@@ -142,8 +163,15 @@ module _ (given : Setup) (depths : Depths) where
   const_trees (item c cs) = item c (const_trees cs)
 
   -- the cut into a front and a back that are delegates, and what stands between
-  cut_thinned : (in_hard : Bool) (front middle back : List Part) → Every (IsWritten (tree_of given.tree)) (trees_of front) → Every (IsDelegated given.tree) (trees_of front) → Every (IsConst given.tree) (trees_of front) → Every (ChildThinned true) middle → Every (IsWritten (tree_of given.tree)) (trees_of back) → Every (IsDelegated given.tree) (trees_of back) → (in_hard ≡ true → Every (IsConst given.tree) (trees_of back)) →
-      Thinned in_hard (batch (given.options).unicode (trees_of front) >> (in_turn (map (λ w. w.code true) middle) >> batch (given.options).unicode (trees_of back))) (in_order (map means (trees_of front ++ (trees_of middle ++ trees_of back))))
+  cut_thinned : (in_hard : Bool) (front middle back : List Part) →
+      Every (IsWritten (tree_of given.tree)) (trees_of front) → Every (IsDelegated given.tree) (trees_of front) →
+      Every (IsConst given.tree) (trees_of front) → Every (ChildThinned true) middle →
+      Every (IsWritten (tree_of given.tree)) (trees_of back) → Every (IsDelegated given.tree) (trees_of back) →
+      (in_hard ≡ true → Every (IsConst given.tree) (trees_of back)) →
+      Thinned in_hard
+      (batch (given.options).unicode (trees_of front)
+      >> (in_turn (map (λ w. w.code true) middle) >> batch (given.options).unicode (trees_of back)))
+      (in_order (map means (trees_of front ++ (trees_of middle ++ trees_of back))))
   cut_thinned in_hard front middle back fw fd fc mh bw bd bc =
       let first = first_of_batch given.setting given.tree depths (trees_of front) in
       let last = first_of_batch given.setting given.tree depths (trees_of back) in
@@ -151,24 +179,33 @@ module _ (given : Setup) (depths : Depths) where
       let mid = children_in_turn mh in
       let parts : Every (IsPart (plan_for given.tree given.options) given.setting) (map means (trees_of middle)) = every_map means part_of mw in
       let mid_thins = thins_in_order (plan_for given.tree given.options) given.setting parts mid.thins in
-      let front_thins = thins_delegate given.size_law given.tree given.options given.setting given.is_text depths given.same_end_text true (trees_of front) fd (λ e. fc) in
-      let front_part : IsPart (plan_for given.tree given.options) given.setting (in_order (map means (trees_of front))) = part_in_order (plan_for given.tree given.options) given.setting (every_map means part_of fw) in
+      let front_thins =
+      thins_delegate given.size_law given.tree given.options given.setting given.is_text depths given.same_end_text
+      true (trees_of front) fd (λ e. fc) in
+      let front_part : IsPart (plan_for given.tree given.options) given.setting (in_order (map means (trees_of front))) =
+      part_in_order (plan_for given.tree given.options) given.setting (every_map means part_of fw) in
       let between = in_turn (map (λ w. w.code true) middle) in
       record {
         handed = and_then first (and_then (in_order mid.handed) last);
         works =
-            (given.laws).hands_next (batch (given.options).unicode (trees_of front)) (between >> batch (given.options).unicode (trees_of back)) first (and_then (in_order mid.handed) last)
+            (given.laws).hands_next (batch (given.options).unicode (trees_of front))
+            (between >> batch (given.options).unicode (trees_of back)) first (and_then (in_order mid.handed) last)
             (handed_sound (plan_for given.tree given.options) given.setting true first (in_order (map means (trees_of front))) front_part front_thins)
             ((given.laws).hands_batch (trees_of front) depths fd fw)
             ((given.laws).hands_next between (batch (given.options).unicode (trees_of back)) (in_order mid.handed) last
-            (handed_sound (plan_for given.tree given.options) given.setting true (in_order mid.handed) (in_order (map means (trees_of middle))) (part_in_order (plan_for given.tree given.options) given.setting parts) mid_thins)
+            (handed_sound (plan_for given.tree given.options) given.setting true (in_order mid.handed)
+            (in_order (map means (trees_of middle)))
+            (part_in_order (plan_for given.tree given.options) given.setting parts) mid_thins)
             mid.works ((given.laws).hands_batch (trees_of back) depths bd bw));
         thins =
-            thins_concat given.size_law given.tree given.options given.setting given.is_text depths given.same_end_text in_hard (trees_of front) (trees_of middle) (trees_of back) mid.handed fd fc
-            (every_weaken (given.ready).there mw) mid.thins bd bc;
+            thins_concat given.size_law given.tree given.options given.setting given.is_text depths
+            given.same_end_text in_hard (trees_of front) (trees_of middle) (trees_of back) mid.handed fd fc
+            (every_weaker (given.ready).there mw) mid.thins bd bc;
       }
 
-  pub concat_thinned : (in_hard : Bool) (ws : List Part) → Every (ChildThinned true) ws → Thinned in_hard (concat_code (plan_for given.tree given.options) (is_easy given.tree) ws in_hard) (in_order (map means (trees_of ws)))
+  pub concat_thinned : (in_hard : Bool) (ws : List Part) → Every (ChildThinned true) ws →
+      Thinned in_hard (concat_code (plan_for given.tree given.options) (is_easy given.tree) ws in_hard)
+      (in_order (map means (trees_of ws)))
   concat_thinned in_hard ws h =
       let in_front = is_prefix (plan_for given.tree given.options) (is_easy given.tree) in
       let in_back = is_suffix (plan_for given.tree given.options) (is_easy given.tree) in_hard in
@@ -177,14 +214,14 @@ module _ (given : Setup) (depths : Depths) where
       let middle = before_back in_back rest in
       let back = back_while in_back rest in
       let cut = cut_in_three in_front in_back ws in
-      let parts = every_split front (subst (Every (ChildThinned true)) (sym cut) h) in
-      let others = every_split middle parts.1 in
+      let parts = every_append_parts front (middle ++ back) (subst (Every (ChildThinned true)) (sym cut) h) in
+      let others = every_append_parts middle back parts.1 in
       subst (λ es. Thinned in_hard (concat_code (plan_for given.tree given.options) (is_easy given.tree) ws in_hard) (in_order (map means es)))
       (sym (map-append (λ w. w.tree) front (middle ++ back) ∙ ap (λ l. trees_of front ++ l) (map-append (λ w. w.tree) middle back)) ∙ ap trees_of cut)
       (cut_thinned in_hard front middle back
       (written_trees parts.0)
-      (delegated_trees parts.0 (every_weaken (λ w e. (prefix_tells w e).0) (front_passes in_front ws)))
-      (const_trees (every_weaken (λ w e. (prefix_tells w e).1) (front_passes in_front ws)))
+      (delegated_trees parts.0 (every_weaker (λ w e. (prefix_tells w e).0) (front_passes in_front ws)))
+      (const_trees (every_weaker (λ w e. (prefix_tells w e).1) (front_passes in_front ws)))
       others.0 (written_trees others.1)
-      (delegated_trees others.1 (every_weaken (λ w e. (suffix_tells in_hard w e).0) (back_passes in_back rest)))
-      (λ hard. const_trees (every_weaken (λ w e. (suffix_tells in_hard w e).1 hard) (back_passes in_back rest))))
+      (delegated_trees others.1 (every_weaker (λ w e. (suffix_tells in_hard w e).0) (back_passes in_back rest)))
+      (λ hard. const_trees (every_weaker (λ w e. (suffix_tells in_hard w e).1 hard) (back_passes in_back rest))))

@@ -1,6 +1,6 @@
 -- The same for nodes of one body.
 use Rattle.std.proofs.Common.{◌≡◌, ℕ, zero, suc, ◌<◌, ◌≤◌, Bool, true, false, not, ◌||◌, if◌then◌else◌, ◌==◌, [], ◌∷◌, Option, Some, None, IfSome, refl, sym, subst, subst₂, arith}
-use Rattle.std.proofs.lemmas.Bool.{eqb-false, and_parts}
+use Rattle.std.proofs.lemmas.Bool.{eqb-false, and_parts, or_right}
 use Rattle.std.specs.List.{list_any}
 use Rattle.fancy_meaning.specs.Tree.{Tree, Group, Repeat, AbsentRepeater}
 use Rattle.fancy_meaning.specs.Nodes.{nodes, is_read, is_absent}
@@ -20,7 +20,7 @@ use Rattle.fancy_meaning.specs.Layout.{is_at_most_once, is_refused_body, absent_
 use Rattle.fancy_meaning.specs.AnalysisRefusals.{FeatureNotYetSupported}
 use Rattle.fancy_meaning.specs.CompileRefusals.{IsWritten, here, part, absent_in_hard_repeater}
 use Rattle.fancy_meaning.specs.Premises.{tree_of}
-use Rattle.fancy_delegation.proofs.Every.{IsIn}
+use Rattle.fancy_delegation.proofs.Items.{IsIn}
 use Rattle.fancy_delegation.proofs.Evenly.{TakesSome, sized_takes}
 use Rattle.fancy_delegation.proofs.Thinned.{IsPart, Thins, thins_group, thins_atomic, thins_conditional, thins_same, handed_sound, handed_takes_some}
 use Rattle.fancy_delegation.proofs.ThinnedLoops.{thins_loop, thins_at_most_once}
@@ -48,10 +48,6 @@ or_false : (v : Bool) → (v || false) ≡ v
 or_false true = refl
 or_false false = refl
 
-or_true : (v : Bool) → (v || true) ≡ true
-or_true true = refl
-or_true false = refl
-
 module _ (given : Setup) (depths : Depths) where
   abbrev pub plan : Plan
   plan = plan_for given.tree given.options
@@ -59,24 +55,31 @@ module _ (given : Setup) (depths : Depths) where
   abbrev pub whole : Tree
   whole = tree_of given.tree
 
-  pub group_thinned : (in_hard : Bool) (g : ℕ) (e : Tree) (c : Code) (f : Ways) → IsIn (Group g e) (nodes whole) → Thinned given depths (in_hard || is_read whole g) c f → Thinned given depths in_hard (group_code g c) (captured g f)
+  pub group_thinned : (in_hard : Bool) (g : ℕ) (e : Tree) (c : Code) (f : Ways) → IsIn (Group g e) (nodes whole) →
+      Thinned given depths (in_hard || is_read whole g) c f →
+      Thinned given depths in_hard (group_code g c) (captured g f)
   group_thinned in_hard g e c f there h = record {
     handed = captured g h.handed;
     works = (given.laws).hands_group g e c h.handed there h.works;
     thins = thins_group plan given.setting in_hard g h.handed f h.thins;
   }
 
-  pub atomic_thinned : (in_hard : Bool) (c : Code) (f : Ways) → Thinned given depths false c f → Thinned given depths in_hard (atomic_code c) (atomic f)
+  pub atomic_thinned : (in_hard : Bool) (c : Code) (f : Ways) → Thinned given depths false c f →
+      Thinned given depths in_hard (atomic_code c) (atomic f)
   atomic_thinned in_hard c f h = record {
     handed = atomic h.handed;
     works = (given.laws).hands_first c h.handed h.works;
     thins = thins_atomic plan given.setting in_hard h.handed f h.thins;
   }
 
-  pub conditional_thinned : (in_hard : Bool) (c d x : Code) (f g e : Ways) → IsPart plan given.setting f → Thinned given depths in_hard c f → Thinned given depths in_hard d g → Thinned given depths in_hard x e → Thinned given depths in_hard (conditional_code c d x) (conditional f g e)
+  pub conditional_thinned : (in_hard : Bool) (c d x : Code) (f g e : Ways) → IsPart plan given.setting f →
+      Thinned given depths in_hard c f → Thinned given depths in_hard d g → Thinned given depths in_hard x e →
+      Thinned given depths in_hard (conditional_code c d x) (conditional f g e)
   conditional_thinned in_hard c d x f g e of_f h i j = record {
     handed = conditional h.handed i.handed j.handed;
-    works = (given.laws).hands_choice c d x h.handed i.handed j.handed (handed_sound plan given.setting in_hard h.handed f of_f h.thins) h.works i.works j.works;
+    works =
+        (given.laws).hands_choice c d x h.handed i.handed j.handed
+        (handed_sound plan given.setting in_hard h.handed f of_f h.thins) h.works i.works j.works;
     thins = thins_conditional plan given.setting in_hard h.handed f i.handed g j.handed e of_f h.thins i.thins j.thins;
   }
 
@@ -87,15 +90,21 @@ module _ (given : Setup) (depths : Depths) where
     may_be_empty = (size whole e).least == 0
 
     takes_some : IsWritten whole e → may_be_empty ≡ false → TakesSome given.setting whole (means given depths e)
-    takes_some wr some = sized_takes given.size_law given.setting given.tree given.is_text e depths ((given.ready).there e wr) (positive (size whole e).least (eqb-false (size whole e).least 0 some))
+    takes_some wr some =
+        sized_takes given.size_law given.setting given.tree given.is_text e depths ((given.ready).there e wr)
+        (positive (size whole e).least (eqb-false (size whole e).least 0 some))
       where
         positive : (n : ℕ) → (n ≡ 0 → ⊥) → 0 < n
         positive zero k = absurd (k refl)
         positive (suc n) k = omega arith
 
     -- a body in some context, from which the loop serves
-    loop_works : (in_hard context : Bool) (hi : Option ℕ) → IsWritten whole e → lo < usize_max → IfSome hi (λ n. (lo ≤ n) × (n < usize_max)) → (h : Thinned given depths context c (means given depths e)) → Thins plan given.setting in_hard (repeats (given.setting).text lo hi greedy h.handed) (repeats (given.setting).text lo hi greedy (means given depths e)) →
-        Thinned given depths in_hard (repeat_code greedy c (loop_form lo hi may_be_empty)) (repeats (given.setting).text lo hi greedy (means given depths e))
+    loop_works : (in_hard context : Bool) (hi : Option ℕ) → IsWritten whole e → lo < usize_max →
+        IfSome hi (λ n. (lo ≤ n) × (n < usize_max)) → (h : Thinned given depths context c (means given depths e)) →
+        Thins plan given.setting in_hard (repeats (given.setting).text lo hi greedy h.handed)
+        (repeats (given.setting).text lo hi greedy (means given depths e)) →
+        Thinned given depths in_hard (repeat_code greedy c (loop_form lo hi may_be_empty))
+        (repeats (given.setting).text lo hi greedy (means given depths e))
     loop_works in_hard context hi wr small fine h serves = record {
       handed = repeats (given.setting).text lo hi greedy h.handed;
       works =
@@ -107,48 +116,66 @@ module _ (given : Setup) (depths : Depths) where
     }
 
     -- a loop whose body stands in the loop's own context where it has at most one iteration, and else in a hard one
-    entered_thinned : (in_hard : Bool) (hi : Option ℕ) → IsWritten whole (Repeat lo hi greedy e) → IsWritten whole e → (v : Bool) → is_at_most_once (loop_form lo hi may_be_empty) ≡ v → Thinned given depths (in_hard || not v) c (means given depths e) →
-        Thinned given depths in_hard (repeat_code greedy c (loop_form lo hi may_be_empty)) (repeats (given.setting).text lo hi greedy (means given depths e))
+    entered_thinned : (in_hard : Bool) (hi : Option ℕ) → IsWritten whole (Repeat lo hi greedy e) → IsWritten whole e →
+        (v : Bool) → is_at_most_once (loop_form lo hi may_be_empty) ≡ v →
+        Thinned given depths (in_hard || not v) c (means given depths e) →
+        Thinned given depths in_hard (repeat_code greedy c (loop_form lo hi may_be_empty))
+        (repeats (given.setting).text lo hi greedy (means given depths e))
     entered_thinned in_hard hi wr we false form h =
         let bounds = (given.ready).bounds lo hi greedy e wr in
-        let hard = subst (λ v. Thinned given depths v c (means given depths e)) (or_true in_hard) h in
-        loop_works in_hard true hi we bounds.0 bounds.1 hard (thins_loop plan given.setting hard.handed (means given depths e) (part_of given depths e we) hard.thins in_hard lo hi greedy)
+        let hard = subst (λ v. Thinned given depths v c (means given depths e)) (or_right in_hard true refl) h in
+        loop_works in_hard true hi we bounds.0 bounds.1 hard
+        (thins_loop plan given.setting hard.handed (means given depths e)
+        (part_of given depths e we) hard.thins in_hard lo hi greedy)
     entered_thinned in_hard hi wr we true form h =
         let bounds = (given.ready).bounds lo hi greedy e wr in
         let own = subst (λ v. Thinned given depths v c (means given depths e)) (or_false in_hard) h in
         let once = once_only lo hi may_be_empty form in
         loop_works in_hard in_hard hi we bounds.0 bounds.1 own
-        (subst₂ (λ l u. Thins plan given.setting in_hard (repeats (given.setting).text l u greedy own.handed) (repeats (given.setting).text l u greedy (means given depths e))) (sym once.0) (sym once.1)
+        (subst₂
+        (λ l u. Thins plan given.setting in_hard (repeats (given.setting).text l u greedy own.handed)
+        (repeats (given.setting).text l u greedy (means given depths e))) (sym once.0) (sym once.1)
         (thins_at_most_once plan given.setting in_hard greedy own.handed (means given depths e) own.thins))
 
-  pub loop_thinned : (lo : ℕ) (hi : Option ℕ) (greedy : Bool) (e : Tree) (code : Bool → Code) (in_hard : Bool) → IsWritten whole (Repeat lo hi greedy e) → ((context : Bool) → IsWritten whole e → Thinned given depths context (code context) (means given depths e)) →
+  pub loop_thinned : (lo : ℕ) (hi : Option ℕ) (greedy : Bool) (e : Tree) (code : Bool → Code) (in_hard : Bool) →
+      IsWritten whole (Repeat lo hi greedy e) →
+      ((context : Bool) → IsWritten whole e → Thinned given depths context (code context) (means given depths e)) →
       let form = loop_form lo hi ((size whole e).least == 0) in
-      Thinned given depths in_hard (repeat_code greedy (code (in_hard || not (is_at_most_once form))) form) (repeats (given.setting).text lo hi greedy (means given depths e))
+      Thinned given depths in_hard (repeat_code greedy (code (in_hard || not (is_at_most_once form))) form)
+      (repeats (given.setting).text lo hi greedy (means given depths e))
   loop_thinned zero (Some zero) greedy e code in_hard wr body = record {
     handed = stays;
     works = (given.laws).hands_here;
     thins = thins_same plan given.setting in_hard stays;
   }
-  loop_thinned (suc lo) (Some zero) greedy e code in_hard wr body = let bounds = (given.ready).bounds (suc lo) (Some 0) greedy e wr in let le = bounds.1.0 in absurd (omega (arith, le))
+  loop_thinned (suc lo) (Some zero) greedy e code in_hard wr body =
+      let bounds = (given.ready).bounds (suc lo) (Some 0) greedy e wr in let le = bounds.1.0 in
+      absurd (omega (arith, le))
   loop_thinned lo (Some (suc hi)) greedy e code in_hard wr body =
       let form = loop_form lo (Some (suc hi)) ((size whole e).least == 0) in
       let we = part wr here in
-      entered_thinned lo greedy e (code (in_hard || not (is_at_most_once form))) in_hard (Some (suc hi)) wr we (is_at_most_once form) refl (body (in_hard || not (is_at_most_once form)) we)
+      entered_thinned lo greedy e (code (in_hard || not (is_at_most_once form))) in_hard (Some (suc hi)) wr we
+      (is_at_most_once form) refl (body (in_hard || not (is_at_most_once form)) we)
   loop_thinned lo None greedy e code in_hard wr body =
       let form = loop_form lo None ((size whole e).least == 0) in
       let we = part wr here in
-      entered_thinned lo greedy e (code (in_hard || not (is_at_most_once form))) in_hard None wr we (is_at_most_once form) refl (body (in_hard || not (is_at_most_once form)) we)
+      entered_thinned lo greedy e (code (in_hard || not (is_at_most_once form))) in_hard None wr we
+      (is_at_most_once form) refl (body (in_hard || not (is_at_most_once form)) we)
 
   -- ---- absent repeaters
 
-  absent_thinned : (in_hard : Bool) (e : Tree) (c : Code) → Thinned given depths false c (means given depths e) → Thinned given depths in_hard (absent_code c) (absent given.setting (means given depths e))
+  absent_thinned : (in_hard : Bool) (e : Tree) (c : Code) → Thinned given depths false c (means given depths e) →
+      Thinned given depths in_hard (absent_code c) (absent given.setting (means given depths e))
   absent_thinned in_hard e c h = record {
     handed = absent given.setting h.handed;
     works = (given.laws).hands_absent c h.handed h.works;
     thins = thins_absent plan given.setting false in_hard h.handed (means given depths e) h.thins;
   }
 
-  pub repeater_thinned : (in_hard : Bool) (e : Tree) (code : Bool → Code) → IsWritten whole (AbsentRepeater e) → Thinned given depths false (in_context plan (is_easy given.tree) e code false) (means given depths e) → Thinned given depths in_hard (absent_repeater_code plan (is_easy given.tree) e code) (absent given.setting (means given depths e))
+  pub repeater_thinned : (in_hard : Bool) (e : Tree) (code : Bool → Code) → IsWritten whole (AbsentRepeater e) →
+      Thinned given depths false (in_context plan (is_easy given.tree) e code false) (means given depths e) →
+      Thinned given depths in_hard (absent_repeater_code plan (is_easy given.tree) e code)
+      (absent given.setting (means given depths e))
   repeater_thinned in_hard e code wr h = at_easy (is_easy given.tree e) refl
     where
       unicode : Bool
@@ -160,18 +187,21 @@ module _ (given : Setup) (depths : Depths) where
       hard_code : Bool → Code
       hard_code v = if v then nothing else absent_code (in_context plan (is_easy given.tree) e code false)
 
-      not_refused : (v : Bool) → is_refused_body plan (is_easy given.tree) e ≡ v → is_easy given.tree e ≡ false → v ≡ false
+      not_refused : (v : Bool) → is_refused_body plan e ≡ v → is_easy given.tree e ≡ false → v ≡ false
       not_refused false q hard = refl
       not_refused true q hard =
           let both = and_parts (is_hard plan.analysis e) (list_any is_absent (nodes e)) q in
           absurd ((given.ready).allowed (AbsentRepeater e) FeatureNotYetSupported wr (absent_in_hard_repeater both.0 both.1))
 
-      at_easy : (v : Bool) → is_easy given.tree e ≡ v → Thinned given depths in_hard (if v then easy_code else hard_code (is_refused_body plan (is_easy given.tree) e)) (absent given.setting (means given depths e))
+      at_easy : (v : Bool) → is_easy given.tree e ≡ v →
+          Thinned given depths in_hard (if v then easy_code else hard_code (is_refused_body plan e))
+          (absent given.setting (means given depths e))
       at_easy true easy = record {
         handed = absent given.setting (means given depths e);
         works = (given.laws).hands_easy_absent e depths (delegated given depths e (part wr here) easy) wr;
         thins = thins_same plan given.setting in_hard (absent given.setting (means given depths e));
       }
       at_easy false hard =
-          subst (λ v. Thinned given depths in_hard (hard_code v) (absent given.setting (means given depths e))) (sym (not_refused (is_refused_body plan (is_easy given.tree) e) refl hard))
+          subst (λ v. Thinned given depths in_hard (hard_code v) (absent given.setting (means given depths e)))
+          (sym (not_refused (is_refused_body plan e) refl hard))
           (absent_thinned in_hard e (in_context plan (is_easy given.tree) e code false) h)

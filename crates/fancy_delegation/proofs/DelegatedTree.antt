@@ -13,7 +13,7 @@ use Rattle.fancy_meaning.specs.Layout.{Part, in_context, alt_code, written, each
 use Rattle.fancy_meaning.specs.CompileRefusals.{IsWritten, IsAmong, here, there, part}
 use Rattle.fancy_meaning.specs.Marks.{takes_nothing, has_marked_continue}
 use Rattle.fancy_laws.proofs.Marks.{first_has_continue, continue_in_first, continue_later}
-use Rattle.fancy_delegation.proofs.Every.{Every, no_item, item}
+use Rattle.fancy_laws.proofs.Every.{Every, no_item, item}
 use Rattle.fancy_delegation.proofs.Related.{look_ways}
 use Rattle.fancy_delegation.proofs.Thinned.{thins_same}
 use Rattle.fancy_delegation.proofs.ThinnedConcat.{each_ways_of}
@@ -54,9 +54,14 @@ module _ (given : Setup) (depths : Depths) where
 
   -- the calls hand lists that serve
   abbrev pub CallsThinned : Type 0
-  CallsThinned = (g : ℕ) (in_hard : Bool) → IsWritten (whole given depths) (SubroutineCall g) → Thinned given depths in_hard (λ base fresh. call g in_hard base fresh) (λ s. meant g s)
+  CallsThinned =
+      (g : ℕ) (in_hard : Bool) → IsWritten (whole given depths) (SubroutineCall g) →
+      Thinned given depths in_hard (call g in_hard) (meant g)
 
-  leaf_thinned : (e : Tree) → IsLeaf e → IsWritten (whole given depths) e → (at_start in_hard : Bool) → Marked at_start (has_marked_continue (whole given depths) e) → Thinned given depths in_hard (written (plan given depths) (λ d. false) call e at_start in_hard) (ways_with given.setting meant e)
+  leaf_thinned : (e : Tree) → IsLeaf e → IsWritten (whole given depths) e → (at_start in_hard : Bool) →
+      Marked at_start (has_marked_continue (whole given depths) e) →
+      Thinned given depths in_hard (written (plan given depths) (λ d. false) call e at_start in_hard)
+      (ways_with given.setting meant e)
   leaf_thinned e leaf wr at_start in_hard k = record {
     handed = ways_with given.setting meant e;
     works = (given.laws).hands_leaf e call meant at_start in_hard leaf wr k;
@@ -67,19 +72,28 @@ module _ (given : Setup) (depths : Depths) where
   parts_of at_start none = refl
   parts_of at_start (more e es) = ap (λ l. e ∷ l) (parts_of (at_start && takes_nothing (whole given depths) e) es)
 
-  parts_mean : (at_start : Bool) (es : Trees) → map (means given depths) (trees_of given depths (parts_at at_start es)) ≡ each_ways given.setting meant es
+  parts_mean : (at_start : Bool) (es : Trees) →
+      map (means given depths) (trees_of given depths (parts_at at_start es)) ≡ each_ways given.setting meant es
   parts_mean at_start es = ap (map (means given depths)) (parts_of at_start es) ∙ sym (each_ways_of given.setting meant es)
 
-  sequence_thinned : (es : Trees) (at_start in_hard : Bool) → Every (ChildThinned given depths true) (parts_at at_start es) → Thinned given depths in_hard (code_at (Concat es) at_start in_hard) (in_order (each_ways given.setting meant es))
+  sequence_thinned : (es : Trees) (at_start in_hard : Bool) →
+      Every (ChildThinned given depths true) (parts_at at_start es) →
+      Thinned given depths in_hard (code_at (Concat es) at_start in_hard) (in_order (each_ways given.setting meant es))
   sequence_thinned es at_start in_hard h =
-      subst (λ fs. Thinned given depths in_hard (code_at (Concat es) at_start in_hard) (in_order fs)) (parts_mean at_start es) (concat_thinned given depths in_hard (parts_at at_start es) h)
+      subst (λ fs. Thinned given depths in_hard (code_at (Concat es) at_start in_hard) (in_order fs))
+      (parts_mean at_start es) (concat_thinned given depths in_hard (parts_at at_start es) h)
 
-  alternation_thinned : (es : Trees) (in_hard : Bool) → es ≢ none → Every (ChildThinned given depths in_hard) (parts_at false es) → Thinned given depths in_hard (alt_code (plan given depths) easy (parts_at false es) in_hard) (one_of (each_ways given.setting meant es))
+  alternation_thinned : (es : Trees) (in_hard : Bool) → es ≢ none →
+      Every (ChildThinned given depths in_hard) (parts_at false es) →
+      Thinned given depths in_hard (alt_code (parts_at false es) in_hard) (one_of (each_ways given.setting meant es))
   alternation_thinned none in_hard some h = absurd (some refl)
   alternation_thinned (more e es) in_hard some h =
-      subst (λ fs. Thinned given depths in_hard (alt_code (plan given depths) easy (parts_at false (more e es)) in_hard) (one_of fs)) (parts_mean false (more e es)) (chosen (children_thinned given depths in_hard h))
+      subst (λ fs. Thinned given depths in_hard (alt_code (parts_at false (more e es)) in_hard) (one_of fs))
+      (parts_mean false (more e es)) (chosen (children_thinned given depths in_hard h))
     where
-      chosen : {c : Code} {f : Ways} {cs : List Code} {fs : List Ways} → EachThinned given depths in_hard (c ∷ cs) (f ∷ fs) → Thinned given depths in_hard (branches (c ∷ cs)) (one_of (f ∷ fs))
+      chosen : {c : Code} {f : Ways} {cs : List Code} {fs : List Ways} →
+          EachThinned given depths in_hard (c ∷ cs) (f ∷ fs) →
+          Thinned given depths in_hard (branches (c ∷ cs)) (one_of (f ∷ fs))
       chosen (and_choice k ks) = choice_thinned given depths in_hard k ks
 
   -- of an alternation, what is known of its branches
@@ -91,21 +105,31 @@ module _ (given : Setup) (depths : Depths) where
   of_branches (Alt es) h ds q = let same : es ≡ ds = cc in (parts_of false es ∙ ap children same, h)
   of_branches e h ds q = cc
 
-  look_code_is : (look : Look) (e : Tree) (at_start in_hard : Bool) → code_at (LookAround look e) at_start in_hard ≡ look_around_code look (size (whole given depths) e, in_context (plan given depths) easy e (code_at e false) false) (bodies given depths (parts_at false (alternatives e)))
+  look_code_is : (look : Look) (e : Tree) (at_start in_hard : Bool) → code_at (LookAround look e) at_start in_hard
+      ≡ look_around_code look
+      (size (whole given depths) e, in_context (plan given depths) easy e (code_at e false) false)
+      (bodies given depths (parts_at false (alternatives e)))
   look_code_is look (Alt es) at_start in_hard = refl
   look_code_is look e at_start in_hard = refl
 
-  around_thinned : (look : Look) (e : Tree) (at_start in_hard : Bool) → IsWritten (whole given depths) (LookAround look e) → Thinned given depths false (in_context (plan given depths) easy e (code_at e false) false) (means given depths e) → OfBranches e → Thinned given depths in_hard (code_at (LookAround look e) at_start in_hard) (ways_with given.setting meant (LookAround look e))
+  around_thinned : (look : Look) (e : Tree) (at_start in_hard : Bool) →
+      IsWritten (whole given depths) (LookAround look e) →
+      Thinned given depths false (in_context (plan given depths) easy e (code_at e false) false)
+      (means given depths e) → OfBranches e →
+      Thinned given depths in_hard (code_at (LookAround look e) at_start in_hard)
+      (ways_with given.setting meant (LookAround look e))
   around_thinned look e at_start in_hard wr h hs =
       subst₂ (Thinned given depths in_hard) (sym (look_code_is look e at_start in_hard)) (sym (look_ways given.setting meant look e))
-      (look_thinned given depths in_hard e (in_context (plan given depths) easy e (code_at e false) false) (parts_at false (alternatives e)) (part wr here) h (of_branches e hs) look wr)
+      (look_thinned given depths in_hard e (in_context (plan given depths) easy e (code_at e false) false)
+      (parts_at false (alternatives e)) (part wr here) h (of_branches e hs) look wr)
 
   abbrev Known : Tree → Bool → Bool → Type 0
   Known e at_start in_hard = Thinned given depths in_hard (code_at e at_start in_hard) (ways_with given.setting meant e) × OfBranches e
 
   module _ (calls : CallsThinned) where
     mutual
-      known : (e : Tree) → IsWritten (whole given depths) e → (at_start in_hard : Bool) → Marked at_start (has_marked_continue (whole given depths) e) → Known e at_start in_hard
+      known : (e : Tree) → IsWritten (whole given depths) e → (at_start in_hard : Bool) →
+          Marked at_start (has_marked_continue (whole given depths) e) → Known e at_start in_hard
       known Empty wr a h k = (leaf_thinned Empty tt wr a h k, tt)
       known KeepOut wr a h k = (leaf_thinned KeepOut tt wr a h k, tt)
       known ContinueFromPreviousMatchEnd wr a h k = (leaf_thinned ContinueFromPreviousMatchEnd tt wr a h k, tt)
@@ -137,26 +161,33 @@ module _ (given : Setup) (depths : Depths) where
           (alternation_thinned es h ((given.ready).choices es wr) (each_known es each false h unmarked), each_known es each false false unmarked)
       known (Group g e) wr a h k =
           let inner = h || is_read (whole given depths) g in (
-            group_thinned given depths h g e (in_context (plan given depths) easy e (code_at e a) inner) (means given depths e) ((given.ready).there (Group g e) wr)
+            group_thinned given depths h g e (in_context (plan given depths) easy e (code_at e a) inner)
+                (means given depths e) ((given.ready).there (Group g e) wr)
                 (context_thinned given depths e (code_at e a) inner (part wr here) (known e (part wr here) a inner k).0),
             tt,
           )
       known (Repeat lo hi greedy e) wr a h k = (
         loop_thinned given depths lo hi greedy e (in_context (plan given depths) easy e (code_at e false)) h wr
-            (λ context we. context_thinned given depths e (code_at e false) context we (known e we false context (not_marked (has_marked_continue (whole given depths) e))).0),
+            (λ context we. context_thinned given depths e (code_at e false) context we
+            (known e we false context (not_marked (has_marked_continue (whole given depths) e))).0),
         tt,
       )
       known (LookAround look e) wr a h k =
           let body = known e (part wr here) false false (not_marked (has_marked_continue (whole given depths) e)) in
           (around_thinned look e a h wr (context_thinned given depths e (code_at e false) false (part wr here) body.0) body.1, tt)
       known (AtomicGroup e) wr a h k =
-          let body = known e (part wr here) false false (not_marked (has_marked_continue (whole given depths) e)) in
-          (atomic_thinned given depths h (in_context (plan given depths) easy e (code_at e false) false) (means given depths e) (context_thinned given depths e (code_at e false) false (part wr here) body.0), tt)
+          let body = known e (part wr here) false false (not_marked (has_marked_continue (whole given depths) e)) in (
+            atomic_thinned given depths h (in_context (plan given depths) easy e (code_at e false) false)
+                (means given depths e) (context_thinned given depths e (code_at e false) false (part wr here) body.0),
+            tt,
+          )
       known (Conditional c t f) wr a h k =
           let of_c = known c (part wr here) false h (not_marked (has_marked_continue (whole given depths) c)) in
           let of_t = known t (part wr (there here)) false h (not_marked (has_marked_continue (whole given depths) t)) in
           let of_f = known f (part wr (there (there here))) false h (not_marked (has_marked_continue (whole given depths) f)) in (
-            conditional_thinned given depths h (in_context (plan given depths) easy c (code_at c false) h) (in_context (plan given depths) easy t (code_at t false) h) (in_context (plan given depths) easy f (code_at f false) h)
+            conditional_thinned given depths h (in_context (plan given depths) easy c (code_at c false) h)
+                (in_context (plan given depths) easy t (code_at t false) h)
+                (in_context (plan given depths) easy f (code_at f false) h)
                 (means given depths c) (means given depths t) (means given depths f) (part_of given depths c (part wr here))
                 (context_thinned given depths c (code_at c false) h (part wr here) of_c.0)
                 (context_thinned given depths t (code_at t false) h (part wr (there here)) of_t.0)
@@ -167,7 +198,9 @@ module _ (given : Setup) (depths : Depths) where
           let body = known e (part wr here) false false (not_marked (has_marked_continue (whole given depths) e)) in
           (repeater_thinned given depths h e (code_at e false) wr (context_thinned given depths e (code_at e false) false (part wr here) body.0), tt)
 
-      each_known : (es : Trees) → ((x : Tree) → IsAmong x es → IsWritten (whole given depths) x) → (at_start in_hard : Bool) → Marked at_start (first_has_continue (whole given depths) es) → Every (ChildThinned given depths in_hard) (parts_at at_start es)
+      each_known : (es : Trees) → ((x : Tree) → IsAmong x es → IsWritten (whole given depths) x) →
+          (at_start in_hard : Bool) → Marked at_start (first_has_continue (whole given depths) es) →
+          Every (ChildThinned given depths in_hard) (parts_at at_start es)
       each_known none wr a h k = no_item
       each_known (more e es) wr a h k =
           let we = wr e here in
@@ -178,9 +211,14 @@ module _ (given : Setup) (depths : Depths) where
           k both.0 (continue_later (whole given depths) e es both.1 y)))
 
     -- a node as it is written out
-    pub tree_thinned : (e : Tree) → IsWritten (whole given depths) e → (at_start in_hard : Bool) → Marked at_start (has_marked_continue (whole given depths) e) → Thinned given depths in_hard (code_at e at_start in_hard) (ways_with given.setting meant e)
+    pub tree_thinned : (e : Tree) → IsWritten (whole given depths) e → (at_start in_hard : Bool) →
+        Marked at_start (has_marked_continue (whole given depths) e) →
+        Thinned given depths in_hard (code_at e at_start in_hard) (ways_with given.setting meant e)
     tree_thinned e wr a h k = (known e wr a h k).0
 
     -- and in its context
-    pub node_thinned : (e : Tree) → IsWritten (whole given depths) e → (at_start in_hard : Bool) → Marked at_start (has_marked_continue (whole given depths) e) → Thinned given depths in_hard (in_context (plan given depths) easy e (code_at e at_start) in_hard) (means given depths e)
+    pub node_thinned : (e : Tree) → IsWritten (whole given depths) e → (at_start in_hard : Bool) →
+        Marked at_start (has_marked_continue (whole given depths) e) →
+        Thinned given depths in_hard (in_context (plan given depths) easy e (code_at e at_start) in_hard)
+        (means given depths e)
     node_thinned e wr a h k = context_thinned given depths e (code_at e a) h wr (tree_thinned e wr a h k)

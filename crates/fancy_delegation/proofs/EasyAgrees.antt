@@ -11,7 +11,7 @@ use Rattle.fancy_meaning.specs.Sizes.{size}
 use Rattle.fancy_meaning.specs.Premises.{Analysed, analysis, tree_of, IsText}
 use Rattle.fancy_meaning.specs.Laws.{SizeLaw}
 use Rattle.fancy_meaning.specs.Theorems.{EasyWaysAgree}
-use Rattle.fancy_delegation.proofs.Every.{IsIn, is_in_contained}
+use Rattle.fancy_delegation.proofs.Items.{IsIn, is_in_contained}
 use Rattle.fancy_delegation.proofs.EasyNodes.{IsEasy}
 use Rattle.fancy_delegation.proofs.Evenly.{Evenly, exactly, at_least_one, evenly_agree, ways_keep_sound, const_takes, sized_takes}
 
@@ -21,7 +21,9 @@ TakesEvenly a e = ((size a.tree e).is_const ≡ true) ⊎ (0 < (size a.tree e).l
 
 not_empty : (a : Analysis) (e : Tree) → a.find_not_empty ≡ true → is_hard_by_size a e ≡ false → TakesEvenly a e
 not_empty a e asked h = ⊎_elim
-    (λ some. ⊎_elim (λ not_asked. cc) (λ least. inr (positive (size a.tree e).least (eqb-false (size a.tree e).least 0 least))) (and_cases a.find_not_empty ((size a.tree e).least == 0) some))
+    (λ some. ⊎_elim (λ not_asked. cc)
+    (λ least. inr (positive (size a.tree e).least (eqb-false (size a.tree e).least 0 least)))
+    (and_cases a.find_not_empty ((size a.tree e).least == 0) some))
     (λ const. inl (not-false (size a.tree e).is_const const))
     (and_cases (a.find_not_empty && (size a.tree e).least == 0) (not (size a.tree e).is_const) h)
   where
@@ -53,8 +55,10 @@ easy_takes_evenly a (LookAround look e) h asked = cc
 easy_takes_evenly a (AtomicGroup e) h asked = cc
 easy_takes_evenly a (AbsentRepeater e) h asked = cc
 easy_takes_evenly a (Conditional c t f) h asked = cc
-easy_takes_evenly a (Group g e) h asked = not_empty a (Group g e) asked (or_parts (is_read a.tree g || is_hard a e) (is_hard_by_size a (Group g e)) h).1
-easy_takes_evenly a (Repeat lo hi greedy e) h asked = not_empty a (Repeat lo hi greedy e) asked (or_parts (is_hard a e) (is_hard_by_size a (Repeat lo hi greedy e)) h).1
+easy_takes_evenly a (Group g e) h asked =
+    not_empty a (Group g e) asked (or_parts (is_read a.tree g || is_hard a e) (is_hard_by_size a (Group g e)) h).1
+easy_takes_evenly a (Repeat lo hi greedy e) h asked =
+    not_empty a (Repeat lo hi greedy e) asked (or_parts (is_hard a e) (is_hard_by_size a (Repeat lo hi greedy e)) h).1
 easy_takes_evenly a (Concat es) h asked = not_empty a (Concat es) asked (or_parts (any_hard a es) (is_hard_by_size a (Concat es)) h).1
 easy_takes_evenly a (Alt es) h asked = not_empty a (Alt es) asked (or_parts (any_hard a es) (is_hard_by_size a (Alt es)) h).1
 

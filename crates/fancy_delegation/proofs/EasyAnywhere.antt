@@ -7,18 +7,20 @@ use Rattle.fancy_meaning.specs.Loops.{repeats}
 use Rattle.fancy_meaning.specs.Ways.{Setting, ways_with, each_ways}
 use Rattle.fancy_meaning.specs.Options.{Analysis}
 use Rattle.fancy_delegation.proofs.Pairwise.{Pairwise, pairs_equal, pairs_same}
-use Rattle.fancy_delegation.proofs.Every.{every_any}
+use Rattle.fancy_laws.proofs.Every.{every_anything}
 use Rattle.fancy_delegation.proofs.Binding.{flat_map_same}
 use Rattle.fancy_delegation.proofs.AlikeLoops.{repeats_alike}
 use Rattle.fancy_delegation.proofs.EasyNodes.{IsEasy, AllEasy, easy_group, easy_repeat, easy_concat, easy_alt, easy_each}
 
 -- a loop of ways that are the same
-repeats_same : (text : List ℕ) (lo : ℕ) (hi : Option ℕ) (greedy : Bool) (f g : Ways) → ((s : MatchState) → f s ≡ g s) → (s : MatchState) → repeats text lo hi greedy f s ≡ repeats text lo hi greedy g s
+repeats_same : (text : List ℕ) (lo : ℕ) (hi : Option ℕ) (greedy : Bool) (f g : Ways) →
+    ((s : MatchState) → f s ≡ g s) → (s : MatchState) → repeats text lo hi greedy f s ≡ repeats text lo hi greedy g s
 repeats_same text lo hi greedy f g e s =
     sym (map-id (repeats text lo hi greedy f s))
     ∙ pairs_equal (λ x. x) (λ x. x) (λ x y r. r)
     (repeats_alike (λ x y. x ≡ y) (λ x y r. ap (λ z. z.place) r) f g
-    (λ x y r. subst (λ l. Pairwise (λ a b. a ≡ b) (f x) l) (e x ∙ ap g r) (pairs_same {P = λ z. Unit {0}} (λ z u. refl) (every_any (f x) (λ z. tt)))) text lo hi greedy s s refl)
+    (λ x y r. subst (λ l. Pairwise (λ a b. a ≡ b) (f x) l) (e x ∙ ap g r)
+    (pairs_same {P = λ z. Unit {0}} (λ z u. refl) (every_anything (f x) (λ z. tt)))) text lo hi greedy s s refl)
     ∙ map-id (repeats text lo hi greedy g s)
 
 module _ (a : Analysis) (text : List ℕ) (unicode : Bool) (pos pos' : ℕ) (continued continued' : Bool) (call call' : ℕ → Ways) where
@@ -63,7 +65,8 @@ module _ (a : Analysis) (text : List ℕ) (unicode : Bool) (pos pos' : ℕ) (con
     sequence_anywhere none h s = refl
     sequence_anywhere (more e es) h s =
         ap (flat_map (in_order (each_ways here call es))) (easy_anywhere e (easy_each a e es h).0 s)
-        ∙ flat_map_same (in_order (each_ways here call es)) (in_order (each_ways there call' es)) (sequence_anywhere es (easy_each a e es h).1) (ways_with there call' e s)
+        ∙ flat_map_same (in_order (each_ways here call es)) (in_order (each_ways there call' es))
+        (sequence_anywhere es (easy_each a e es h).1) (ways_with there call' e s)
 
     choice_anywhere : (es : Trees) → AllEasy a es → (s : MatchState) → one_of (each_ways here call es) s ≡ one_of (each_ways there call' es) s
     choice_anywhere none h s = refl

@@ -10,14 +10,15 @@ use Rattle.fancy_meaning.specs.MatchState.{MatchState, Span, Ways, moved_to, wit
 use Rattle.fancy_meaning.specs.Ways.{Setting, ways_with}
 use Rattle.fancy_meaning.specs.Options.{Analysis, Plan}
 use Rattle.fancy_meaning.specs.Hard.{is_hard_assertion, is_outside}
-use Rattle.fancy_delegation.proofs.Every.{IsIn, first, later}
+use Rattle.fancy_delegation.proofs.Items.{IsIn, first, later}
 use Rattle.fancy_delegation.proofs.Related.{ways_related}
 use Rattle.fancy_delegation.proofs.Kept.{IsKept, EachKept, relates_kept}
 use Rattle.fancy_delegation.proofs.KeyParts.{ReadIn, Agree}
 use Rattle.fancy_delegation.proofs.EasyNodes.{IsEasy, easy_group, easy_everywhere}
 
 -- an easy assertion of the text's end stands only where the end-of-text option is not set
-end_assertion : (a : Analysis) (w : Within) (x : Assertion) → is_hard_assertion a w x ≡ false → is_of_end (assertion_within w x) ≡ true → a.end_text ≡ false
+end_assertion : (a : Analysis) (w : Within) (x : Assertion) → is_hard_assertion a w x ≡ false →
+    is_of_end (assertion_within w x) ≡ true → a.end_text ≡ false
 end_assertion a NoLook StartText h e = cc
 end_assertion a NoLook EndText h e = (or_parts a.end_text (a.find_not_empty && is_outside NoLook) h).0
 end_assertion a NoLook (EndTextIgnoreTrailingNewlines crlf) h e = cc
@@ -107,7 +108,14 @@ module _ (p : Plan) (same : SameEndText p) where
     to_place = λ s i le. agree_moved s s i (agree_same s);
     back = λ s t a. agree_moved s t s.place a;
     before = λ s t i e a. agree_before s t i a;
-    meets_end = λ w x s h e. let off = flag_counts_not w x h e in record { kept = refl; flag = ap (λ v. v && s.text_end) off ∙ sym (ap (λ v. v && true) off); spans = λ g r. refl };
+    meets_end =
+        λ w x s h e. let off = flag_counts_not w x h e in
+        record {
+          kept = refl;
+          flag = ap (λ v. v && s.text_end) off ∙ sym (ap (λ v. v && true) off);
+          spans =
+              λ g r. refl;
+        };
     keeps = λ s h. cc;
     spans = agree_spans;
   }

@@ -2,7 +2,7 @@
 use Rattle.std.proofs.Common.{◌++◌}
 use Rattle.fancy_meaning.specs.Tree.{Tree, Trees, none, more, Empty, KeepOut, ContinueFromPreviousMatchEnd, AbsentClear, Any, Assert, GeneralNewline, Literal, LiteralBytes, Delegate, Concat, Alt, Group, LookAround, Repeat, Backref, BackrefWithLevel, BackrefExists, AtomicGroup, DefineGroup, AbsentRepeater, AbsentStopper, AbsentExpression, Control, Conditional, SubroutineCall, AstNode}
 use Rattle.fancy_meaning.specs.Nodes.{nodes, nodes_of_each}
-use Rattle.fancy_delegation.proofs.Every.{IsIn, later, is_in_append_left, is_in_append_right}
+use Rattle.fancy_delegation.proofs.Items.{IsIn, later, is_in_append_left, is_in_append_right}
 use Rattle.fancy_delegation.proofs.Nodes.{node_itself}
 
 -- of every node below that a match may come to

@@ -38,5 +38,8 @@ past_piece_forward text unicode false (from, to) i j e =
     let p = (cond_some (has_bytes_at text i (slice_range text from to)) (i + length (slice_range text from to)) j e).1 in
     omega (arith, p)
 past_piece_forward text unicode true (from, to) i j e =
-    let p = (cond_some (is_place text (i + (to - from)) && pieces_fold unicode (slice_range text from to) (slice_range text i (i + (to - from)))) (i + (to - from)) j e).1 in
+    let p =
+    (cond_some
+    (is_place text (i + (to - from)) && pieces_fold unicode (slice_range text from to)
+    (slice_range text i (i + (to - from)))) (i + (to - from)) j e).1 in
     omega (arith, p)

@@ -5,7 +5,7 @@ use Rattle.fancy_meaning.specs.Tree.{Tree}
 use Rattle.fancy_meaning.specs.MatchState.{MatchState, Span, Ways, in_order, first_state}
 use Rattle.fancy_meaning.specs.Ways.{Setting, ways_with}
 use Rattle.fancy_meaning.specs.Options.{Analysis}
-use Rattle.fancy_delegation.proofs.Every.{Every, no_item, item}
+use Rattle.fancy_laws.proofs.Every.{Every, no_item, item}
 use Rattle.fancy_delegation.proofs.Pairwise.{Pairwise, neither, both, pairs_flat_map}
 use Rattle.fancy_delegation.proofs.AlikeLoops.{WaysAlike}
 use Rattle.fancy_delegation.proofs.Alike.{GoesAlong, relates_alike, ReadsOnly}
@@ -32,7 +32,9 @@ over_goes_along below = record {
   read = λ g n s t r. absurd n;
 }
   where
-    here : (g from : ℕ) (s t : MatchState) → IsOver below s t → (i : ℕ) (v : Bool) → ◌≡◌ {A = Option Span} (if v then Some (from, s.place) else s.captures i) (laid_over (if v then Some (from, t.place) else t.captures i) (below i))
+    here : (g from : ℕ) (s t : MatchState) → IsOver below s t → (i : ℕ) (v : Bool) →
+        ◌≡◌ {A = Option Span} (if v then Some (from, s.place) else s.captures i)
+        (laid_over (if v then Some (from, t.place) else t.captures i) (below i))
     here g from s t r i true = ap (λ p. Some (from, p)) r.place
     here g from s t r i false = r.spans i
 
@@ -50,7 +52,8 @@ module _ (q : Setting) (a : Analysis) (call call' : ℕ → Ways) where
       ways_related q (ReadsOnly NoGroup NoGroup) (WaysAlike (IsOver below)) (relates_alike q (IsOver below) NoGroup NoGroup (over_goes_along below))
       call call' (λ g n. absurd n) e (easy_reads_nothing a e h)
 
-  pub fragment_over : (below : ℕ → Option Span) {es : List Tree} → Every (IsEasy a) es → WaysAlike (IsOver below) (fragment_ways q call es) (fragment_ways q call' es)
+  pub fragment_over : (below : ℕ → Option Span) {es : List Tree} → Every (IsEasy a) es →
+      WaysAlike (IsOver below) (fragment_ways q call es) (fragment_ways q call' es)
   fragment_over below no_item s t r = both r neither
   fragment_over below (item {x = e} {xs = es} h hs) s t r =
       pairs_flat_map (fragment_ways q call es) (fragment_ways q call' es) (fragment_over below hs) (easy_over below e h s t r)
@@ -60,6 +63,7 @@ pub data FirstOfBoth (R : MatchState → MatchState → Type 0) : Option MatchSt
   no_first : FirstOfBoth R None None
   both_first : {h k : MatchState} → R h k → FirstOfBoth R (Some h) (Some k)
 
-pub first_of_both : {R : MatchState → MatchState → Type 0} {hs ks : List MatchState} → Pairwise R hs ks → FirstOfBoth R (slice_get hs 0) (slice_get ks 0)
+pub first_of_both : {R : MatchState → MatchState → Type 0} {hs ks : List MatchState} → Pairwise R hs ks →
+    FirstOfBoth R (slice_get hs 0) (slice_get ks 0)
 first_of_both neither = no_first
 first_of_both (both r h) = both_first r

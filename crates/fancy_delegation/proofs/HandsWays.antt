@@ -19,9 +19,10 @@ use Rattle.fancy_meaning.specs.AnalysisRefusals.{CompileError}
 use Rattle.fancy_meaning.specs.Spots.{is_never}
 use Rattle.fancy_meaning.specs.CompileRefusals.{IsWritten, RefusesNode}
 use Rattle.fancy_meaning.specs.Laws.{SizeLaw}
-use Rattle.fancy_meaning.specs.Premises.{Analysed, tree_of, IsText, IsSound, IsSized}
+use Rattle.fancy_meaning.specs.Premises.{Analysed, tree_of, IsText, IsSoundState, IsSized}
 use Rattle.fancy_meaning.specs.Marks.{has_marked_continue, is_marked_group}
-use Rattle.fancy_delegation.proofs.Every.{Every, IsIn}
+use Rattle.fancy_laws.proofs.Every.{Every}
+use Rattle.fancy_delegation.proofs.Items.{IsIn}
 use Rattle.fancy_delegation.proofs.EasyKeeps.{SameEndText}
 use Rattle.fancy_delegation.proofs.Evenly.{KeepsSound, TakesSome}
 use Rattle.fancy_delegation.proofs.ThinnedDelegates.{plan_for, IsDelegated, first_of_batch}
@@ -42,42 +43,59 @@ IsLeaf e = Unit {0}
 module _ (a : Analysed) (o : CompileOptions) (q : Setting) where
   -- so many characters each way takes
   abbrev pub SizedBy : Size → Ways → Type 0
-  SizedBy z f = (s : MatchState) → IsSound q (tree_of a) s → Every (λ t. IsSized z (chars_between q.text s.place t.place)) (f s)
+  SizedBy z f = (s : MatchState) → IsSoundState q (tree_of a) s → Every (λ t. IsSized z (chars_between q.text s.place t.place)) (f s)
 
   -- what is known of the nodes of a tree that is accepted
   pub record IsReady : Type 0 where
     pub there : (e : Tree) → IsWritten (tree_of a) e → IsIn e (nodes (tree_of a))
     pub choices : (es : Trees) → IsWritten (tree_of a) (Alt es) → es ≢ none
-    pub bounds : (lo : ℕ) (hi : Option ℕ) (greedy : Bool) (e : Tree) → IsWritten (tree_of a) (Repeat lo hi greedy e) → (lo < usize_max) × IfSome hi (λ n. (lo ≤ n) × (n < usize_max))
-    pub opens : (g : ℕ) (e : Tree) (depths : Depths) → target (tree_of a) g ≡ Some e → depths g < call_depth → free_calls (tree_of a) depths ≡ suc (free_calls (tree_of a) (opened g depths))
-    pub begins : (g : ℕ) (e : Tree) → target (tree_of a) (suc g) ≡ Some e → is_marked_group (tree_of a) (suc g) ≡ true → has_marked_continue (tree_of a) e ≡ true → has_marked_continue (tree_of a) (tree_of a) ≡ true
+    pub bounds : (lo : ℕ) (hi : Option ℕ) (greedy : Bool) (e : Tree) → IsWritten (tree_of a) (Repeat lo hi greedy e) →
+        (lo < usize_max) × IfSome hi (λ n. (lo ≤ n) × (n < usize_max))
+    pub opens : (g : ℕ) (e : Tree) (depths : Depths) → target (tree_of a) g ≡ Some e → depths g < call_depth →
+        free_calls (tree_of a) depths ≡ suc (free_calls (tree_of a) (opened g depths))
+    pub begins : (g : ℕ) (e : Tree) → target (tree_of a) (suc g) ≡ Some e →
+        is_marked_group (tree_of a) (suc g) ≡ true → has_marked_continue (tree_of a) e ≡ true →
+        has_marked_continue (tree_of a) (tree_of a) ≡ true
     pub allowed : (e : Tree) (error : CompileError) → IsWritten (tree_of a) e → ¬ RefusesNode (plan_for a o) e error
 
   -- `Works c f` says that the code hands what f gives, up to repeats.
   pub record HandsWays (Works : Code → Ways → Type 0) (MayStop : Type 0) : Type 0 where
-    pub as_ways : (c : Code) (f g : Ways) → ((s : MatchState) → IsSound q (tree_of a) s → f s ≡ g s) → Works c f → Works c g
+    pub as_ways : (c : Code) (f g : Ways) → ((s : MatchState) → IsSoundState q (tree_of a) s → f s ≡ g s) → Works c f → Works c g
     pub hands_here : Works nothing stays
     pub hands_none : Works (one Instr.Fail) fails
     pub hands_next : (c d : Code) (f g : Ways) → KeepsSound q (tree_of a) f → Works c f → Works d g → Works (c >> d) (and_then f g)
     pub hands_branch : (c d : Code) (f g : Ways) → Works c f → Works d g → Works (branch c d) (λ s. f s ++ g s)
-    pub hands_group : (g : ℕ) (e : Tree) (c : Code) (f : Ways) → IsIn (Group g e) (nodes (tree_of a)) → Works c f → Works (group_code g c) (captured g f)
+    pub hands_group : (g : ℕ) (e : Tree) (c : Code) (f : Ways) → IsIn (Group g e) (nodes (tree_of a)) → Works c f →
+        Works (group_code g c) (captured g f)
     pub hands_first : (c : Code) (f : Ways) → Works c f → Works (atomic_code c) (atomic f)
     pub hands_unless : (c : Code) (f : Ways) → Works c f → Works (negative_look_code c) (unless f)
     pub hands_ahead : (c : Code) (f : Ways) → Works c f → Works (look_code c) (ahead f)
-    pub hands_behind : (z : Size) (c : Code) (f : Ways) → z.is_const ≡ true → SizedBy z f → KeepsSound q (tree_of a) f → Works c f → Works (behind_code look_code (z, c)) (ends_here q f)
-    pub hands_not_behind : (z : Size) (c : Code) (f : Ways) → z.is_const ≡ true → SizedBy z f → KeepsSound q (tree_of a) f → Works c f → Works (behind_code negative_look_code (z, c)) (unless (ends_here q f))
-    pub hands_choice : (c d x : Code) (f g e : Ways) → KeepsSound q (tree_of a) f → Works c f → Works d g → Works x e → Works (conditional_code c d x) (conditional f g e)
-    pub hands_loop : (lo : ℕ) (hi : Option ℕ) (greedy may_be_empty : Bool) (c : Code) (f : Ways) → lo < usize_max → IfSome hi (λ n. (lo ≤ n) × (n < usize_max)) → KeepsSound q (tree_of a) f → (may_be_empty ≡ false → TakesSome q (tree_of a) f) → (is_never hi ≡ false → Works c f) →
+    pub hands_behind : (z : Size) (c : Code) (f : Ways) → z.is_const ≡ true → SizedBy z f →
+        KeepsSound q (tree_of a) f → Works c f → Works (behind_code look_code (z, c)) (ends_here q f)
+    pub hands_not_behind : (z : Size) (c : Code) (f : Ways) → z.is_const ≡ true → SizedBy z f →
+        KeepsSound q (tree_of a) f → Works c f → Works (behind_code negative_look_code (z, c)) (unless (ends_here q f))
+    pub hands_choice : (c d x : Code) (f g e : Ways) → KeepsSound q (tree_of a) f → Works c f → Works d g →
+        Works x e → Works (conditional_code c d x) (conditional f g e)
+    pub hands_loop : (lo : ℕ) (hi : Option ℕ) (greedy may_be_empty : Bool) (c : Code) (f : Ways) → lo < usize_max →
+        IfSome hi (λ n. (lo ≤ n) × (n < usize_max)) → KeepsSound q (tree_of a) f →
+        (may_be_empty ≡ false → TakesSome q (tree_of a) f) → (is_never hi ≡ false → Works c f) →
         Works (repeat_code greedy c (loop_form lo hi may_be_empty)) (repeats q.text lo hi greedy f)
     pub hands_absent : (c : Code) (f : Ways) → Works c f → Works (absent_code c) (absent q f)
     -- a delegate hands the first way of its nodes, one after the other
-    pub hands_batch : (es : List Tree) (depths : Depths) → Every (IsDelegated a) es → Every (IsWritten (tree_of a)) es → Works (batch o.unicode es) (first_of_batch q a depths es)
+    pub hands_batch : (es : List Tree) (depths : Depths) → Every (IsDelegated a) es →
+        Every (IsWritten (tree_of a)) es → Works (batch o.unicode es) (first_of_batch q a depths es)
     pub hands_easy_absent : (e : Tree) (depths : Depths) → IsDelegated a e → IsWritten (tree_of a) (AbsentRepeater e) →
-        Works (one (Instr.AbsentRepeater (pattern_of o.unicode (e ∷ [])) (fragment o.unicode (e ∷ [])) (group_range (e ∷ [])))) (absent q (ways q (tree_of a) e depths))
-    pub hands_leaf : (e : Tree) (call : ℕ → Bool → Code) (meant : ℕ → Ways) (at_start in_hard : Bool) → IsLeaf e → IsWritten (tree_of a) e → (at_start ≡ true → has_marked_continue (tree_of a) e ≡ true → MayStop) →
+        Works
+        (one
+        (Instr.AbsentRepeater (pattern_of o.unicode (e ∷ [])) (fragment o.unicode (e ∷ [])) (group_range (e ∷ []))))
+        (absent q (ways q (tree_of a) e depths))
+    pub hands_leaf : (e : Tree) (call : ℕ → Bool → Code) (meant : ℕ → Ways) (at_start in_hard : Bool) → IsLeaf e →
+        IsWritten (tree_of a) e → (at_start ≡ true → has_marked_continue (tree_of a) e ≡ true → MayStop) →
         Works (written (plan_for a o) (λ d. false) call e at_start in_hard) (ways_with q meant e)
     -- the lookbehind of an alternation of one size is that of its branches
-    pub by_branches : (z : Size) (fs : List Ways) (s : MatchState) → z.is_const ≡ true → SizedBy z (one_of fs) → KeepsSound q (tree_of a) (one_of fs) → IsSound q (tree_of a) s → ends_here q (one_of fs) s ≡ one_of (map (ends_here q) fs) s
+    pub by_branches : (z : Size) (fs : List Ways) (s : MatchState) → z.is_const ≡ true → SizedBy z (one_of fs) →
+        KeepsSound q (tree_of a) (one_of fs) → IsSoundState q (tree_of a) s →
+        ends_here q (one_of fs) s ≡ one_of (map (ends_here q) fs) s
 
 -- a tree that is accepted, a text, and code of which this is known
 pub record Setup : Type 1 where

@@ -24,7 +24,7 @@ use Rattle.std.proofs.lemmas.Bool.{or_left, or_right}
 use Rattle.fancy_composed.proofs.Trees.{both}
 use Rattle.fancy_composed.proofs.Serving.{stands_here, handed_by}
 use Rattle.fancy_composed.proofs.Composed.{first_slot}
-use Rattle.fancy_delegation.proofs.Every.{Every}
+use Rattle.fancy_laws.proofs.Every.{Every}
 use Rattle.fancy_delegation.proofs.FindsAlike.{find_first}
 use Rattle.fancy_delegation.proofs.Thinned.{context_key}
 use Rattle.fancy_delegation.proofs.ThinnedDelegates.{IsDelegated, first_of_batch}
@@ -37,20 +37,24 @@ use Rattle.fancy_delegation.proofs.OnMachine.{analysed_of, w, setup}
 -- what holds on every ground of an accepted tree's program
 abbrev OnEveryGround : ((i : Input) → IsAccepted i (length (layout (plan i)).body) → Ground → Type 0) → Type 0
 OnEveryGround P =
-    (i : Input) (accepted : IsAccepted i (length (layout (plan i)).body)) (task : Task) (is_text : IsText task.text) (fits : IsProgramFor (plan i) task.program) (start : ℕ) (base : List Branch) (bottom : ℕ → Course)
+    (i : Input) (accepted : IsAccepted i (length (layout (plan i)).body)) (task : Task) (is_text : IsText task.text)
+    (fits : IsProgramFor (plan i) task.program) (start : ℕ) (base : List Branch) (bottom : ℕ → Course)
     (falls : (count : ℕ) → To (after task (fail_to task base (config 0 0 (λ s. 0) [] [] start count))) (bottom count)) →
     P i accepted (w i (length (layout (plan i)).body) accepted task is_text fits start base bottom falls)
 
 -- a batch hands the first way of its nodes, one after the other
 abbrev pub BatchesWork : Type 0
 BatchesWork = OnEveryGround (λ i accepted g.
-    (es : List Tree) (depths : Depths) → Every (IsDelegated (analysed_of i (length (layout (plan i)).body) accepted)) es → Every (IsWritten (plan i).analysis.tree) es →
+    (es : List Tree) (depths : Depths) →
+    Every (IsDelegated (analysed_of i (length (layout (plan i)).body) accepted)) es →
+    Every (IsWritten (plan i).analysis.tree) es →
     Works g (batch (i.options).unicode es) (first_of_batch (setting g) (analysed_of i (length (layout (plan i)).body) accepted) depths es))
 
 -- an absent repeater of an easy body hands all of its ways
 abbrev pub EasyRepeatersWork : Type 0
 EasyRepeatersWork = OnEveryGround (λ i accepted g.
-    (e : Tree) (depths : Depths) → IsDelegated (analysed_of i (length (layout (plan i)).body) accepted) e → IsWritten (plan i).analysis.tree (AbsentRepeater e) →
+    (e : Tree) (depths : Depths) → IsDelegated (analysed_of i (length (layout (plan i)).body) accepted) e →
+    IsWritten (plan i).analysis.tree (AbsentRepeater e) →
     Works g (one (Instr.AbsentRepeater (pattern_of (i.options).unicode (e ∷ [])) (fragment (i.options).unicode (e ∷ [])) (group_range (e ∷ []))))
     (absent (setting g) (ways (setting g) (plan i).analysis.tree e depths)))
 
@@ -94,19 +98,24 @@ module _ (batches : BatchesWork) (repeaters : EasyRepeatersWork) (i : Input) (ac
       (stop : begins tree ≡ true → MayStop (above t is_text fits c)) → (may_stop ≡ true → MayStop (above t is_text fits c)) →
       Thinned (given t is_text fits c stop) depths in_hard code (f (search_of (plan i) t.text t.options).setting)) →
       Serves (plan i) code f (λ from. if in_hard then key (plan i) else easy_key (plan i) from) may_stop
-  serves depths in_hard may_stop code f by_call thinned t c fresh s from fits is_text has goes_on le st so le' =
+  serves depths in_hard may_stop code f by_call thinned t c fresh s from at le' =
+      let fits = at.program in
+      let is_text = at.text in
+      let goes_on = at.goes_on in
       let g = above t is_text fits c in
       let stop : may_stop ≡ true → MayStop g = λ may. none_gives_up g c (goes_on may) refl in
       let h = thinned t is_text fits c (λ x. stop (by_call x)) stop in
       let works : Works g code h.handed = h.works in
       let laid = code c.pc fresh in
-      let part = works.part c.pc (c.pc + length laid.instrs) fresh refl (subst (λ n. n ≤ fresh) (sym (first_slot g accepted.implicit_group_0)) le) has in (
+      let part =
+      works.part c.pc (c.pc + length laid.instrs) fresh refl
+      (subst (λ n. n ≤ fresh) (sym (first_slot g accepted.implicit_group_0)) at.slots_are_fresh) at.code_is_there in (
         works.handed s,
         handed_by g (λ count. to_same) c.pc c.ix c.slots c.marks c.backtracks (c.pc + length laid.instrs) fresh laid.fresh (Goes c)
-            (to_eq (λ n. ap (λ x. exec t n (here g c.pc x c.slots c.marks [] c.backtracks)) st.place))
-            (part.hands s c.slots c.marks [] c.backtracks so (stands_here g (λ count. to_same) s c st)),
+            (to_eq (λ n. ap (λ x. exec t n (here g c.pc x c.slots c.marks [] c.backtracks)) (at.stands).place))
+            (part.hands s c.slots c.marks [] c.backtracks at.sound (stands_here g (λ count. to_same) s c at.stands)),
         serves_by (context_key (plan i) in_hard from) (works.handed s) (h.handed s) (f (setting g) s)
-            (λ p. sym (find_is p (works.handed s)) ∙ (works.alike s so).tests p ∙ find_is p (h.handed s)) ((h.thins).by s from so le'),
+            (λ p. sym (find_is p (works.handed s)) ∙ (works.alike s at.sound).tests p ∙ find_is p (h.handed s)) ((h.thins).by s from at.sound le'),
       )
 
   all_serve : AllServe (plan i) easy (λ in_hard from. if in_hard then key (plan i) else easy_key (plan i) from)

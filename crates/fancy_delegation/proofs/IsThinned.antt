@@ -3,7 +3,8 @@ use Rattle.std.proofs.Common.{◌≡◌, Bool, true, false, List, [], ◌∷◌,
 use Rattle.fancy_meaning.specs.MatchState.{MatchState, Ways}
 use Rattle.fancy_meaning.specs.Loops.{prefer}
 use Rattle.fancy_meaning.specs.Ways.{conditional}
-use Rattle.fancy_delegation.proofs.Every.{Every, no_item, item, IsIn, first, Among, every_weaken, every_append, every_flat_map, every_map, every_itself, every_is_in, is_in_append_left, is_in_append_right, is_in_flat_map, is_in_map}
+use Rattle.fancy_laws.proofs.Every.{Every, no_item, item, every_weaker, every_append, every_flat_map, every_map}
+use Rattle.fancy_delegation.proofs.Items.{IsIn, first, Among, every_itself, every_is_in, is_in_append_left, is_in_append_right, is_in_flat_map, is_in_map}
 use Rattle.fancy_delegation.proofs.Pairwise.{Pairwise}
 use Rattle.fancy_delegation.proofs.FindsAlike.{FindsAlike, alike_same, alike_coarser, alike_append, alike_map, alike_flat_map, alike_head, alike_first}
 
@@ -21,22 +22,26 @@ module _ {key : MatchState → MatchState → Type 0} where
 
   -- what holds of every state of the second list holds of every one of the first
   pub thinned_every : {P : MatchState → Type 0} {hs qs : List MatchState} → IsThinned key hs qs → Every P qs → Every P hs
-  thinned_every t known = every_weaken (λ h i. every_is_in known i) t.among
+  thinned_every t known = every_weaker (λ h i. every_is_in known i) t.among
 
-  pub thinned_coarser : {coarse : MatchState → MatchState → Type 0} {hs qs : List MatchState} → ((s t : MatchState) → key s t → coarse s t) → IsThinned key hs qs → IsThinned coarse hs qs
+  pub thinned_coarser : {coarse : MatchState → MatchState → Type 0} {hs qs : List MatchState} →
+      ((s t : MatchState) → key s t → coarse s t) → IsThinned key hs qs → IsThinned coarse hs qs
   thinned_coarser c t = record { alike = alike_coarser c t.alike; among = t.among }
 
   pub thinned_append : (hs qs hs' qs' : List MatchState) → IsThinned key hs qs → IsThinned key hs' qs' → IsThinned key (hs ++ hs') (qs ++ qs')
   thinned_append hs qs hs' qs' t u = record {
     alike = alike_append hs qs hs' qs' t.alike u.alike;
-    among = every_append (every_weaken (λ h i. is_in_append_left qs' i) t.among) (every_weaken (λ h i. is_in_append_right qs i) u.among);
+    among = every_append (every_weaker (λ h i. is_in_append_left qs' i) t.among) (every_weaker (λ h i. is_in_append_right qs i) u.among);
   }
 
-  pub thinned_prefer : (greedy : Bool) (hs qs hs' qs' : List MatchState) → IsThinned key hs qs → IsThinned key hs' qs' → IsThinned key (prefer greedy hs hs') (prefer greedy qs qs')
+  pub thinned_prefer : (greedy : Bool) (hs qs hs' qs' : List MatchState) → IsThinned key hs qs →
+      IsThinned key hs' qs' → IsThinned key (prefer greedy hs hs') (prefer greedy qs qs')
   thinned_prefer true hs qs hs' qs' t u = thinned_append hs qs hs' qs' t u
   thinned_prefer false hs qs hs' qs' t u = thinned_append hs' qs' hs qs u t
 
-  pub thinned_map : {key' : MatchState → MatchState → Type 0} (f : MatchState → MatchState) (hs qs : List MatchState) → ((s t : MatchState) → key s t → key' (f s) (f t)) → IsThinned key hs qs → IsThinned key' (map f hs) (map f qs)
+  pub thinned_map : {key' : MatchState → MatchState → Type 0} (f : MatchState → MatchState)
+      (hs qs : List MatchState) → ((s t : MatchState) → key s t → key' (f s) (f t)) → IsThinned key hs qs →
+      IsThinned key' (map f hs) (map f qs)
   thinned_map f hs qs c t = record {
     alike = alike_map f hs qs c t.alike;
     among = every_map f (λ h i. is_in_map f i) t.among;
@@ -44,10 +49,12 @@ module _ {key : MatchState → MatchState → Type 0} where
 
   -- binding: what is bound to the second list respects the key, and serves where P holds
   pub thinned_flat_map : {P : MatchState → Type 0} {key' : MatchState → MatchState → Type 0} (k f : Ways) (hs qs : List MatchState) →
-      ((s t : MatchState) → key s t → Pairwise key' (f s) (f t)) → ((s : MatchState) → P s → IsThinned key' (k s) (f s)) → Every P qs → IsThinned key hs qs → IsThinned key' (flat_map k hs) (flat_map f qs)
+      ((s t : MatchState) → key s t → Pairwise key' (f s) (f t)) →
+      ((s : MatchState) → P s → IsThinned key' (k s) (f s)) → Every P qs → IsThinned key hs qs →
+      IsThinned key' (flat_map k hs) (flat_map f qs)
   thinned_flat_map {P} k f hs qs respects each known t = record {
     alike = alike_flat_map k f hs qs respects (λ s r. (each s r).alike) (thinned_every t known) t.alike;
-    among = every_flat_map {P = λ h. IsIn h qs} k (λ h i. every_weaken (λ x j. is_in_flat_map f i j) (each h (every_is_in known i)).among) t.among;
+    among = every_flat_map {P = λ h. IsIn h qs} k (λ h i. every_weaker (λ x j. is_in_flat_map f i j) (each h (every_is_in known i)).among) t.among;
   }
 
   pub thinned_head : {hs qs : List MatchState} → IsThinned key hs qs → slice_get hs 0 ≡ slice_get qs 0
@@ -67,13 +74,17 @@ module _ {key : MatchState → MatchState → Type 0} where
   pub first_is_thinned : (qs : List MatchState) → ((s t : MatchState) → IsIn s qs → IsIn t qs → key s t) → IsThinned key (take 1 qs) qs
   first_is_thinned [] k = thinned_same
   first_is_thinned (s ∷ qs) k = record {
-    alike = alike_first s (every_weaken (λ t i. k s t first i) (every_itself (s ∷ qs)));
+    alike = alike_first s (every_weaker (λ t i. k s t first i) (every_itself (s ∷ qs)));
     among = item first no_item;
   }
 
   -- a conditional, of whose condition only the first way counts
-  pub thinned_conditional : {P : MatchState → Type 0} (k f : Ways) (n m : Ways) (s : MatchState) (hs qs : List MatchState) → slice_get hs 0 ≡ slice_get qs 0 → ((t : MatchState) → P t → IsThinned key (k t) (f t)) → IsThinned key (n s) (m s) → Every P qs → IsThinned key (conditional (λ x. hs) k n s) (conditional (λ x. qs) f m s)
+  pub thinned_conditional : {P : MatchState → Type 0} (k f : Ways) (n m : Ways) (s : MatchState)
+      (hs qs : List MatchState) → slice_get hs 0 ≡ slice_get qs 0 →
+      ((t : MatchState) → P t → IsThinned key (k t) (f t)) → IsThinned key (n s) (m s) → Every P qs →
+      IsThinned key (conditional (λ x. hs) k n s) (conditional (λ x. qs) f m s)
   thinned_conditional k f n m s [] [] e each other known = other
-  thinned_conditional k f n m s (h ∷ hs) (q ∷ qs) e each other (item r known) = let same : q ≡ h = cc in subst (λ x. IsThinned key (k x) (f q)) same (each q r)
+  thinned_conditional k f n m s (h ∷ hs) (q ∷ qs) e each other (item r known) =
+      let same : q ≡ h = cc in subst (λ x. IsThinned key (k x) (f q)) same (each q r)
   thinned_conditional k f n m s [] (q ∷ qs) e each other known = cc
   thinned_conditional k f n m s (h ∷ hs) [] e each other known = cc

@@ -9,7 +9,7 @@ use Rattle.fancy_meaning.specs.Moves.{past_piece}
 use Rattle.fancy_meaning.specs.MatchState.{MatchState, Span, Ways, stays_if, moved_to, with_span, has_way}
 use Rattle.fancy_meaning.specs.Loops.{required, prefer, at_most, if_moved, unbounded, repeats}
 use Rattle.fancy_meaning.specs.Ways.{Setting, conditional, moves, asserts, take_through}
-use Rattle.fancy_delegation.proofs.Every.{Every, no_item, item, every_weaken, every_append, every_flat_map, every_map, every_any, every_if, every_filter, every_take, every_reverse}
+use Rattle.fancy_laws.proofs.Every.{Every, no_item, item, every_weaker, every_append, every_flat_map, every_map, every_anything, every_if, every_filter, every_take, every_reverse}
 use Rattle.fancy_delegation.proofs.Related.{RelatesWays}
 use Rattle.fancy_delegation.proofs.Forward.{take_forward, past_piece_forward}
 
@@ -21,7 +21,8 @@ pub record IsKept (Allowed : Tree → Type 0) (R : MatchState → MatchState →
   pub back : (s t : MatchState) → R s t → R s (moved_to s.place t)
   -- a lookbehind begins before
   pub before : (s t : MatchState) (i : ℕ) → t.place ≡ s.place → R (moved_to i s) t → R s t
-  pub meets_end : (w : Within) (a : Assertion) (s : MatchState) → Allowed (Assert w a) → is_of_end (assertion_within w a) ≡ true → R s (record s { text_end = true })
+  pub meets_end : (w : Within) (a : Assertion) (s : MatchState) → Allowed (Assert w a) →
+      is_of_end (assertion_within w a) ≡ true → R s (record s { text_end = true })
   pub keeps : (s : MatchState) → Allowed KeepOut → R s (record s { kept = s.place })
   pub spans : (g : ℕ) (e : Tree) (span : Span) (s t : MatchState) → Allowed (Group g e) → R s t → R s (with_span g span t)
 
@@ -58,7 +59,7 @@ module _ (q : Setting) (Allowed : Tree → Type 0) (R : MatchState → MatchStat
 
   -- from each way on
   bind_kept : (w v : Ways) → EachKept R w → EachKept R v → (s : MatchState) → Every (R s) (flat_map v (w s))
-  bind_kept w v h k s = every_flat_map v (λ t r. every_weaken (λ u r'. law.on s t u r r') (k t)) (h s)
+  bind_kept w v h k s = every_flat_map v (λ t r. every_weaker (λ u r'. law.on s t u r r') (k t)) (h s)
 
   module _ (w : Ways) (body : EachKept R w) where
     required_kept : (n : ℕ) (rest : Ways) → EachKept R rest → EachKept R (required n w rest)
@@ -81,13 +82,15 @@ module _ (q : Setting) (Allowed : Tree → Type 0) (R : MatchState → MatchStat
     repeats_kept lo None greedy =
         required_kept lo (λ s. unbounded (suc (length q.text) - s.place) greedy w s) (λ s. unbounded_kept (suc (length q.text) - s.place) greedy s)
 
-  conditional_kept : (t f : Ways) (s : MatchState) {hs : List MatchState} → EachKept R t → Every (R s) (f s) → Every (R s) hs → Every (R s) (conditional (λ x. hs) t f s)
+  conditional_kept : (t f : Ways) (s : MatchState) {hs : List MatchState} → EachKept R t → Every (R s) (f s) →
+      Every (R s) hs → Every (R s) (conditional (λ x. hs) t f s)
   conditional_kept t f s k other no_item = other
-  conditional_kept t f s k other (item {x = x} r h) = every_weaken (λ u r'. law.on s x u r r') (k x)
+  conditional_kept t f s k other (item {x = x} r h) = every_weaker (λ u r'. law.on s x u r r') (k x)
 
   asserts_kept : (w : Within) (a : Assertion) → Allowed (Assert w a) → EachKept R (asserts q (assertion_within w a))
   asserts_kept w a ok s =
-      every_if (holds q.text s.place q.unicode (assertion_within w a)) (λ e. item (met (is_of_end (assertion_within w a)) refl) no_item) (λ e. no_item)
+      every_if (holds q.text s.place q.unicode (assertion_within w a))
+      (λ e. item (met (is_of_end (assertion_within w a)) refl) no_item) (λ e. no_item)
     where
       met : (v : Bool) → is_of_end (assertion_within w a) ≡ v → R s (if v then record s { text_end = true } else s)
       met true e = law.meets_end w a s ok e
@@ -103,7 +106,8 @@ module _ (q : Setting) (Allowed : Tree → Type 0) (R : MatchState → MatchStat
     keep_out = λ ok s. item (law.keeps s ok) no_item;
     reference = λ g casei ok s.
         move_kept s (option_and_then (λ span. past_piece q.text q.unicode casei span s.place) (s.captures g))
-        (λ i e. option_and_then_some (λ span. past_piece q.text q.unicode casei span s.place) (s.captures g) i e (λ span at f. past_piece_forward q.text q.unicode casei span s.place i f));
+        (λ i e. option_and_then_some (λ span. past_piece q.text q.unicode casei span s.place) (s.captures g) i e
+        (λ span at f. past_piece_forward q.text q.unicode casei span s.place i f));
     existence = λ g ok. stays_if_kept (λ s. is_some (s.captures g));
     next = λ w w' v v' h k. bind_kept w v h k;
     or_else = λ w w' v v' h k s. every_append (h s) (k s);
@@ -114,7 +118,7 @@ module _ (q : Setting) (Allowed : Tree → Type 0) (R : MatchState → MatchStat
     look_behind = λ w w' h s.
         every_flat_map {P = λ i. Unit {0}} (λ i. filter (λ t. t.place == s.place) (w (moved_to i s)))
         (λ i u. every_filter (λ t. t.place == s.place) (λ t r e. law.before s t i (eqb-true t.place s.place e) r) (h (moved_to i s)))
-        (every_any (places_back q.text s.place) (λ i. tt));
+        (every_anything (places_back q.text s.place) (λ i. tt));
     atom = λ w w' h s. every_take 1 (h s);
     choice = λ c c' t t' f f' h k l s. conditional_kept t f s k (l s) (h s);
     absence = λ w w' h s.

@@ -4,7 +4,7 @@ use Rattle.fancy_meaning.specs.Nodes.{read_groups}
 use Rattle.fancy_meaning.specs.MatchState.{MatchState, Span, moved_to, with_span}
 use Rattle.fancy_meaning.specs.Options.{Plan}
 use Rattle.fancy_meaning.specs.Keys.{bit, span_key, spans_key, key_with, key, easy_key}
-use Rattle.fancy_delegation.proofs.Every.{IsIn, first, later}
+use Rattle.fancy_delegation.proofs.Items.{IsIn, first, later}
 use Rattle.fancy_delegation.proofs.Reduced.{Same}
 use Rattle.fancy_delegation.proofs.Alike.{GoesAlong}
 
@@ -36,20 +36,30 @@ span_tells (Some (i, j)) None rest rest' e = cc
 spans_tell : (groups : List ℕ) (s t : MatchState) → spans_key groups s ≡ spans_key groups t → (g : ℕ) → IsIn g groups → s.captures g ≡ t.captures g
 spans_tell [] s t e g i = elim i [ ]
 spans_tell (h ∷ groups) s t e g first = (span_tells (s.captures h) (t.captures h) (spans_key groups s) (spans_key groups t) e).0
-spans_tell (h ∷ groups) s t e g (later i) = spans_tell groups s t (span_tells (s.captures h) (t.captures h) (spans_key groups s) (spans_key groups t) e).1 g i
+spans_tell (h ∷ groups) s t e g (later i) =
+    spans_tell groups s t (span_tells (s.captures h) (t.captures h) (spans_key groups s) (spans_key groups t) e).1 g i
 
 spans_from : (groups : List ℕ) (s t : MatchState) → ((g : ℕ) → IsIn g groups → s.captures g ≡ t.captures g) → spans_key groups s ≡ spans_key groups t
 spans_from [] s t k = refl
 spans_from (h ∷ groups) s t k = ap₂ (λ o rest. span_key o ++ rest) (k h first) (spans_from groups s t (λ g i. k g (later i)))
 
 module _ (p : Plan) where
-  tells : (end end' : ℕ) (s t : MatchState) → key_with end p.end_text (read_groups p.analysis.tree) s ≡ key_with end' p.end_text (read_groups p.analysis.tree) t → (end ≡ end') × Agree p s t
+  tells : (end end' : ℕ) (s t : MatchState) → key_with end p.end_text (read_groups p.analysis.tree) s
+      ≡ key_with end' p.end_text (read_groups p.analysis.tree) t → (end ≡ end') × Agree p s t
   tells end end' s t e =
       let rest : spans_key (read_groups p.analysis.tree) s ≡ spans_key (read_groups p.analysis.tree) t = cc in
-      let flag : bit (p.end_text && s.text_end) ≡ bit (p.end_text && t.text_end) = cc in
-      (cc, record { kept = cc; flag = bit_tells (p.end_text && s.text_end) (p.end_text && t.text_end) flag; spans = spans_tell (read_groups p.analysis.tree) s t rest })
+      let flag : bit (p.end_text && s.text_end) ≡ bit (p.end_text && t.text_end) = cc in (
+        cc,
+        record {
+          kept = cc;
+          flag = bit_tells (p.end_text && s.text_end) (p.end_text && t.text_end) flag;
+          spans =
+              spans_tell (read_groups p.analysis.tree) s t rest;
+        },
+      )
 
-  gives : (end end' : ℕ) (s t : MatchState) → end ≡ end' → Agree p s t → key_with end p.end_text (read_groups p.analysis.tree) s ≡ key_with end' p.end_text (read_groups p.analysis.tree) t
+  gives : (end end' : ℕ) (s t : MatchState) → end ≡ end' → Agree p s t →
+      key_with end p.end_text (read_groups p.analysis.tree) s ≡ key_with end' p.end_text (read_groups p.analysis.tree) t
   gives end end' s t e a =
       ap₂ (λ x rest. x ∷ rest) e
       (ap₂ (λ x rest. x ∷ rest) a.kept
@@ -85,7 +95,8 @@ module _ (p : Plan) where
       easy_key_gives from s t (ap (λ i. p.analysis.find_not_empty && not (i == from)) both.0) both.1
 
   -- a span that is set alike in both
-  pub agree_with_span : (g : ℕ) (span span' : Span) (s t : MatchState) → span ≡ span' → Agree p s t → Agree p (with_span g span s) (with_span g span' t)
+  pub agree_with_span : (g : ℕ) (span span' : Span) (s t : MatchState) → span ≡ span' → Agree p s t →
+      Agree p (with_span g span s) (with_span g span' t)
   agree_with_span g span span' s t e a = record {
     kept = a.kept;
     flag = a.flag;
@@ -95,15 +106,20 @@ module _ (p : Plan) where
   pub key_goes_along : GoesAlong (Same (key p)) (ReadIn p)
   key_goes_along = record {
     place = λ s t e. (key_tells s t e).0;
-    to_place = λ s t i e. let a = (key_tells s t e).1 in key_gives (moved_to i s) (moved_to i t) refl (record { kept = a.kept; flag = a.flag; spans = a.spans });
+    to_place =
+        λ s t i e. let a = (key_tells s t e).1 in
+        key_gives (moved_to i s) (moved_to i t) refl (record { kept = a.kept; flag = a.flag; spans = a.spans });
     spans = λ g from s t e.
         let both = key_tells s t e in
-        key_gives (with_span g (from, s.place) s) (with_span g (from, t.place) t) both.0 (agree_with_span g (from, s.place) (from, t.place) s t (ap (λ i. (from, i)) both.0) both.1);
+        key_gives (with_span g (from, s.place) s) (with_span g (from, t.place) t) both.0
+        (agree_with_span g (from, s.place) (from, t.place) s t (ap (λ i. (from, i)) both.0) both.1);
     keeps = λ s t e.
         let both = key_tells s t e in
-        key_gives (record s { kept = s.place }) (record t { kept = t.place }) both.0 (record { kept = both.0; flag = (both.1).flag; spans = (both.1).spans });
+        key_gives (record s { kept = s.place }) (record t { kept = t.place }) both.0
+        (record { kept = both.0; flag = (both.1).flag; spans = (both.1).spans });
     flags = λ s t e.
         let both = key_tells s t e in
-        key_gives (record s { text_end = true }) (record t { text_end = true }) both.0 (record { kept = (both.1).kept; flag = refl; spans = (both.1).spans });
+        key_gives (record s { text_end = true }) (record t { text_end = true }) both.0
+        (record { kept = (both.1).kept; flag = refl; spans = (both.1).spans });
     read = λ g i s t e. ((key_tells s t e).1).spans g i;
   }

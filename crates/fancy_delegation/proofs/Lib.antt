@@ -1,4 +1,4 @@
-pub mod Every
+pub mod Items
 pub mod Pairwise
 pub mod FindsAlike
 pub mod Reduced

@@ -3,7 +3,7 @@ use Rattle.std.proofs.Common.{◌≡◌, ℕ, suc, Bool, true, false, if◌then�
 use Rattle.std.proofs.lemmas.Bool.{eqb-true}
 use Rattle.fancy_meaning.specs.Tree.{Tree, Trees, none, more, Empty, KeepOut, ContinueFromPreviousMatchEnd, AbsentClear, Any, Assert, GeneralNewline, Literal, LiteralBytes, Delegate, Concat, Alt, Group, LookAround, Repeat, Backref, BackrefWithLevel, BackrefExists, AtomicGroup, DefineGroup, AbsentRepeater, AbsentStopper, AbsentExpression, Control, Conditional, SubroutineCall, AstNode}
 use Rattle.fancy_meaning.specs.Nodes.{nodes, nodes_of_each, as_group, groups, body_in, target}
-use Rattle.fancy_delegation.proofs.Every.{IsIn, first, later, is_in_append_left, is_in_append_right, is_in_append_cases, from_filter_map}
+use Rattle.fancy_delegation.proofs.Items.{IsIn, first, later, is_in_append_left, is_in_append_right, is_in_append_cases, from_filter_map}
 
 -- a node is the first of its own
 pub node_itself : (e : Tree) → IsIn e (nodes e)
@@ -84,7 +84,8 @@ found_body : (hs : List (ℕ × Tree)) (g : ℕ) (b : Tree) → body_in hs g ≡
 found_body [] g b e = cc
 found_body (h ∷ hs) g b e = here (h.0 == g) refl e (found_body hs g b)
   where
-    here : (v : Bool) → (h.0 == g) ≡ v → (if v then Some h.1 else body_in hs g) ≡ Some b → (body_in hs g ≡ Some b → IsIn (g, b) hs) → IsIn (g, b) (h ∷ hs)
+    here : (v : Bool) → (h.0 == g) ≡ v → (if v then Some h.1 else body_in hs g) ≡ Some b →
+        (body_in hs g ≡ Some b → IsIn (g, b) hs) → IsIn (g, b) (h ∷ hs)
     here true q e' ih =
         let number = eqb-true h.0 g q in
         let body : h.1 ≡ b = cc in

@@ -31,7 +31,8 @@ use Rattle.fancy_composed.proofs.Trees.{CallsWork, tree_works}
 use Rattle.fancy_composed.proofs.Calls.{calls_work}
 use Rattle.fancy_composed.proofs.Accepted.{ground, ready}
 use Rattle.fancy_laws.proofs.SizesHold.{sizes_hold}
-use Rattle.fancy_delegation.proofs.Every.{Every, no_item, item, contained_is_in, is_in_contained}
+use Rattle.fancy_laws.proofs.Every.{Every, no_item, item}
+use Rattle.fancy_delegation.proofs.Items.{contained_is_in, is_in_contained}
 use Rattle.fancy_delegation.proofs.Evenly.{KeepsSound}
 use Rattle.fancy_delegation.proofs.ThinnedDelegates.{plan_for, IsDelegated, first_of_batch}
 use Rattle.fancy_delegation.proofs.HandsWays.{IsLeaf, IsReady, SizedBy, HandsWays, Setup}
@@ -45,7 +46,9 @@ every_among (item r h) (further m) = every_among h m
 abbrev pub analysed_of : (i : Input) (instructions : ℕ) → IsAccepted i instructions → Analysed
 analysed_of i instructions accepted = record { parsed = i.parsed; options = i.analysis; well_formed = accepted.well_formed }
 
-module _ (i : Input) (instructions : ℕ) (accepted : IsAccepted i instructions) (task : Task) (is_text : IsText task.text) (fits : IsProgramFor (plan i) task.program) (start : ℕ) (base : List Branch) (bottom : ℕ → Course)
+module _ (i : Input) (instructions : ℕ) (accepted : IsAccepted i instructions) (task : Task)
+    (is_text : IsText task.text) (fits : IsProgramFor (plan i) task.program) (start : ℕ) (base : List Branch)
+    (bottom : ℕ → Course)
     (falls : (count : ℕ) → To (after task (fail_to task base (config 0 0 (λ s. 0) [] [] start count))) (bottom count)) where
   abbrev pub w : Ground
   w = ground i instructions accepted task is_text fits start base bottom falls
@@ -83,7 +86,8 @@ module _ (i : Input) (instructions : ℕ) (accepted : IsAccepted i instructions)
     calls : CallsWork w r no_calls
     calls = calls_work w r stop (free_calls (tree_of a) no_calls) no_calls refl
 
-    leaf_works : (e : Tree) (call : ℕ → Bool → Code) (meant : ℕ → Ways) (at_start in_hard : Bool) → IsLeaf e → IsWritten (tree_of a) e → (at_start ≡ true → has_marked_continue (tree_of a) e ≡ true → MayStop w) →
+    leaf_works : (e : Tree) (call : ℕ → Bool → Code) (meant : ℕ → Ways) (at_start in_hard : Bool) → IsLeaf e →
+        IsWritten (tree_of a) e → (at_start ≡ true → has_marked_continue (tree_of a) e ≡ true → MayStop w) →
         Works w (written (plan_for a i.options) (λ d. false) call e at_start in_hard) (ways_with q meant e)
     leaf_works Empty call meant at h leaf wr k = tree_works w r no_calls calls Empty wr at h k
     leaf_works KeepOut call meant at h leaf wr k = tree_works w r no_calls calls KeepOut wr at h k
@@ -119,9 +123,13 @@ module _ (i : Input) (instructions : ℕ) (accepted : IsAccepted i instructions)
     leaf_works (SubroutineCall g) call meant at h leaf wr k = absurd leaf
 
     -- where delegates hand the first way of their nodes
-    module _ (batches : (es : List Tree) (depths : Depths) → Every (IsDelegated a) es → Every (IsWritten (tree_of a)) es → Works w (batch (i.options).unicode es) (first_of_batch q a depths es))
+    module _ (batches : (es : List Tree) (depths : Depths) → Every (IsDelegated a) es →
+        Every (IsWritten (tree_of a)) es → Works w (batch (i.options).unicode es) (first_of_batch q a depths es))
         (absents : (e : Tree) (depths : Depths) → IsDelegated a e → IsWritten (tree_of a) (AbsentRepeater e) →
-        Works w (one (Instr.AbsentRepeater (pattern_of (i.options).unicode (e ∷ [])) (fragment (i.options).unicode (e ∷ [])) (group_range (e ∷ [])))) (absent q (ways q (tree_of a) e depths))) where
+        Works w
+        (one
+        (Instr.AbsentRepeater (pattern_of (i.options).unicode (e ∷ [])) (fragment (i.options).unicode (e ∷ []))
+        (group_range (e ∷ [])))) (absent q (ways q (tree_of a) e depths))) where
       pub machine_hands : HandsWays a i.options q (Works w) (MayStop w)
       machine_hands = record {
         as_ways = λ c f g e h. works_as w g h e;
@@ -143,7 +151,9 @@ module _ (i : Input) (instructions : ℕ) (accepted : IsAccepted i instructions)
         hands_batch = batches;
         hands_easy_absent = absents;
         hands_leaf = leaf_works;
-        by_branches = λ z fs s const sized k ok. ends_by_branch w (λ g in_hard. nothing) (λ g. fails) z const is_text.fits s fs ok (sized_of z sized) (keeps_of k);
+        by_branches =
+            λ z fs s const sized k ok. ends_by_branch w (λ g in_hard. nothing)
+            (λ g. fails) z const is_text.fits s fs ok (sized_of z sized) (keeps_of k);
       }
 
       -- all that the induction asks

@@ -61,14 +61,16 @@ pub record RelatesWays (q : Setting) (Allowed : Tree → Type 0) (Related : Ways
   pub fail : Related fails fails
   pub take : (move : Move) → IsTake q move → Related (moves q move) (moves q move)
   pub assertion : (w : Within) (a : Assertion) → Allowed (Assert w a) → Related (asserts q (assertion_within w a)) (asserts q (assertion_within w a))
-  pub continue_here : Allowed ContinueFromPreviousMatchEnd → Related (stays_if (λ s. q.continued && s.place == q.pos)) (stays_if (λ s. q.continued && s.place == q.pos))
+  pub continue_here : Allowed ContinueFromPreviousMatchEnd →
+      Related (stays_if (λ s. q.continued && s.place == q.pos)) (stays_if (λ s. q.continued && s.place == q.pos))
   pub keep_out : Allowed KeepOut → Related (λ s. record s { kept = s.place } ∷ []) (λ s. record s { kept = s.place } ∷ [])
   pub reference : (g : ℕ) (casei : Bool) → Allowed (Backref g casei) → Related (repeats_group q g casei) (repeats_group q g casei)
   pub existence : (g : ℕ) → Allowed (BackrefExists g None) → Related (stays_if (λ s. is_some (s.captures g))) (stays_if (λ s. is_some (s.captures g)))
   pub next : (w w' v v' : Ways) → Related w w' → Related v v' → Related (and_then w v) (and_then w' v')
   pub or_else : (w w' v v' : Ways) → Related w w' → Related v v' → Related (λ s. w s ++ v s) (λ s. w' s ++ v' s)
   pub group : (g : ℕ) (e : Tree) (w w' : Ways) → Allowed (Group g e) → Related w w' → Related (captured g w) (captured g w')
-  pub loop : (lo : ℕ) (hi : Option ℕ) (greedy : Bool) (w w' : Ways) → Related w w' → Related (repeats q.text lo hi greedy w) (repeats q.text lo hi greedy w')
+  pub loop : (lo : ℕ) (hi : Option ℕ) (greedy : Bool) (w w' : Ways) → Related w w' →
+      Related (repeats q.text lo hi greedy w) (repeats q.text lo hi greedy w')
   pub look_ahead : (w w' : Ways) → Related w w' → Related (ahead w) (ahead w')
   pub negated : (w w' : Ways) → Related w w' → Related (unless w) (unless w')
   pub look_behind : (w w' : Ways) → Related w w' → Related (ends_here q w) (ends_here q w')
@@ -93,7 +95,8 @@ module _ (q : Setting) (Allowed : Tree → Type 0) (Related : Ways → Ways → 
   look_related LookAhead {ws} {ws'} h = law.look_ahead (one_of ws) (one_of ws') (each_in_turn h)
   look_related LookAheadNeg {ws} {ws'} h = law.negated (one_of ws) (one_of ws') (each_in_turn h)
   look_related LookBehind h = each_in_turn (each_behind h)
-  look_related LookBehindNeg {ws} {ws'} h = law.negated (one_of (map (ends_here q) ws)) (one_of (map (ends_here q) ws')) (each_in_turn (each_behind h))
+  look_related LookBehindNeg {ws} {ws'} h =
+      law.negated (one_of (map (ends_here q) ws)) (one_of (map (ends_here q) ws')) (each_in_turn (each_behind h))
 
   abbrev Pair : (call call' : ℕ → Ways) → Tree → Type 0
   Pair call call' e = Related (ways_with q call e) (ways_with q call' e) × EachRelated Related (branch_ways q call e) (branch_ways q call' e)
@@ -107,9 +110,14 @@ module _ (q : Setting) (Allowed : Tree → Type 0) (Related : Ways → Ways → 
       pairs_of : (e : Tree) → Allowed e → Below Allowed e → Pair call call' e
       pairs_of Empty ok k = alone law.stay
       pairs_of (Any newline crlf) ok k = alone (law.take (past_char q.text (any_takes newline crlf)) (one_char (any_takes newline crlf)))
-      pairs_of (Literal c casei) ok k = alone (law.take (past_char q.text (literal_takes q.unicode c casei)) (one_char (literal_takes q.unicode c casei)))
+      pairs_of (Literal c casei) ok k =
+          alone
+          (law.take (past_char q.text (literal_takes q.unicode c casei)) (one_char (literal_takes q.unicode c casei)))
       pairs_of (LiteralBytes cs) ok k = alone (law.take (past_chars q.text (map nat_eq cs)) (some_chars (map nat_eq cs)))
-      pairs_of (Delegate inner casei) ok k = alone (law.take (past_char q.text (class_takes q.unicode inner casei)) (one_char (class_takes q.unicode inner casei)))
+      pairs_of (Delegate inner casei) ok k =
+          alone
+          (law.take (past_char q.text (class_takes q.unicode inner casei))
+          (one_char (class_takes q.unicode inner casei)))
       pairs_of (GeneralNewline unicode) ok k = alone (law.take (past_newline q.text unicode) (a_newline unicode))
       pairs_of (Assert within a) ok k = alone (law.assertion within a ok)
       pairs_of ContinueFromPreviousMatchEnd ok k = alone (law.continue_here ok)
@@ -125,7 +133,9 @@ module _ (q : Setting) (Allowed : Tree → Type 0) (Related : Ways → Ways → 
           alone (subst₂ Related (sym (look_ways q call look e)) (sym (look_ways q call' look e)) (look_related look (pairs_of e k.0 k.1).1))
       pairs_of (AtomicGroup e) ok k = alone (law.atom (ways_with q call e) (ways_with q call' e) (pairs_of e k.0 k.1).0)
       pairs_of (Conditional c t f) ok k =
-          alone (law.choice (ways_with q call c) (ways_with q call' c) (ways_with q call t) (ways_with q call' t) (ways_with q call f) (ways_with q call' f)
+          alone
+          (law.choice (ways_with q call c) (ways_with q call' c) (ways_with q call t) (ways_with q call' t)
+          (ways_with q call f) (ways_with q call' f)
           (pairs_of c (k.0).0 (k.0).1).0 (pairs_of t (k.1).0 (k.1).1).0 (pairs_of f (k.2).0 (k.2).1).0)
       pairs_of (AbsentRepeater e) ok k = alone (law.absence (ways_with q call e) (ways_with q call' e) (pairs_of e k.0 k.1).0)
       pairs_of (DefineGroup e) ok k = alone law.stay

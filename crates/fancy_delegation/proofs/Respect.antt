@@ -7,7 +7,7 @@ use Rattle.fancy_meaning.specs.Ways.{Setting, ways}
 use Rattle.fancy_meaning.specs.Options.{Plan}
 use Rattle.fancy_meaning.specs.Keys.{key}
 use Rattle.fancy_meaning.specs.Theorems.{WaysRespectTheKey}
-use Rattle.fancy_delegation.proofs.Every.{IsIn, is_in_contained, is_in_filter_map}
+use Rattle.fancy_delegation.proofs.Items.{IsIn, is_in_contained, is_in_filter_map}
 use Rattle.fancy_delegation.proofs.Pairwise.{pairs_equal}
 use Rattle.fancy_delegation.proofs.Reduced.{Same}
 use Rattle.fancy_delegation.proofs.AlikeLoops.{WaysAlike}
@@ -53,7 +53,8 @@ unfolding read_groups
 reads_in_tree whole e i = reads_by (λ g. IsIn g (read_groups whole)) e (λ g r. is_in_filter_map read_by i r)
 
 -- from two states of one key, ways of one key, item by item
-pub ways_alike : (p : Plan) (q : Setting) (e : Tree) (depths : Depths) → IsIn e (nodes p.analysis.tree) → WaysAlike (Same (key p)) (ways q p.analysis.tree e depths) (ways q p.analysis.tree e depths)
+pub ways_alike : (p : Plan) (q : Setting) (e : Tree) (depths : Depths) → IsIn e (nodes p.analysis.tree) →
+    WaysAlike (Same (key p)) (ways q p.analysis.tree e depths) (ways q p.analysis.tree e depths)
 ways_alike p q e depths i =
     all_ways_related q p.analysis.tree (ReadsOnly (ReadIn p) AnyCall) (WaysAlike (Same (key p)))
     (relates_alike q (Same (key p)) (ReadIn p) AnyCall (key_goes_along p))

@@ -6,8 +6,8 @@ use Rattle.fancy_meaning.specs.MatchState.{MatchState, Span, Ways, stays, fails,
 use Rattle.fancy_meaning.specs.Ways.{Setting, captured, ahead, unless, atomic, conditional}
 use Rattle.fancy_meaning.specs.Options.{Plan}
 use Rattle.fancy_meaning.specs.Keys.{Key, key, easy_key}
-use Rattle.fancy_meaning.specs.Premises.{IsSound}
-use Rattle.fancy_delegation.proofs.Every.{Every, no_item, item}
+use Rattle.fancy_meaning.specs.Premises.{IsSoundState}
+use Rattle.fancy_laws.proofs.Every.{Every, no_item, item}
 use Rattle.fancy_delegation.proofs.Pairwise.{neither, both, pairs_flat_map, pairs_weaken}
 use Rattle.fancy_delegation.proofs.Reduced.{Same}
 use Rattle.fancy_delegation.proofs.AlikeLoops.{WaysAlike}
@@ -30,13 +30,16 @@ module _ (p : Plan) where
   context_serves false from s t e = e
 
   -- states of one easy key, moved to one place, have one key
-  pub back_together : (in_hard : Bool) (from before i : ℕ) (s t : MatchState) → Same (easy_key p before) s t → Same (context_key in_hard from) (moved_to i s) (moved_to i t)
+  pub back_together : (in_hard : Bool) (from before i : ℕ) (s t : MatchState) → Same (easy_key p before) s t →
+      Same (context_key in_hard from) (moved_to i s) (moved_to i t)
   back_together in_hard from before i s t e =
       let a = (easy_key_tells p before s t e).1 in
-      hard_serves in_hard from (moved_to i s) (moved_to i t) (key_gives p (moved_to i s) (moved_to i t) refl (record { kept = a.kept; flag = a.flag; spans = a.spans }))
+      hard_serves in_hard from (moved_to i s) (moved_to i t)
+      (key_gives p (moved_to i s) (moved_to i t) refl (record { kept = a.kept; flag = a.flag; spans = a.spans }))
 
   -- a group's span keeps the key of the context, where the body of a group that is read stands in a hard one
-  unread_span : (g : ℕ) (span span' : Span) (s t : MatchState) → is_read p.analysis.tree g ≡ false → Agree p s t → Agree p (with_span g span s) (with_span g span' t)
+  unread_span : (g : ℕ) (span span' : Span) (s t : MatchState) → is_read p.analysis.tree g ≡ false → Agree p s t →
+      Agree p (with_span g span s) (with_span g span' t)
   unread_span g span span' s t unread a = record {
     kept = a.kept;
     flag = a.flag;
@@ -45,12 +48,17 @@ module _ (p : Plan) where
         sym (other_span g i span s other) ∙ a.spans i r ∙ other_span g i span' t other;
   }
 
-  pub span_keeps : (in_hard : Bool) (from g start : ℕ) (s t : MatchState) (read : Bool) → is_read p.analysis.tree g ≡ read → Same (context_key (in_hard || read) from) s t → Same (context_key in_hard from) (with_span g (start, s.place) s) (with_span g (start, t.place) t)
+  pub span_keeps : (in_hard : Bool) (from g start : ℕ) (s t : MatchState) (read : Bool) →
+      is_read p.analysis.tree g ≡ read → Same (context_key (in_hard || read) from) s t →
+      Same (context_key in_hard from) (with_span g (start, s.place) s) (with_span g (start, t.place) t)
   span_keeps true from g start s t read e same = (key_goes_along p).spans g start s t same
-  span_keeps false from g start s t true e same = easy_is_coarser p from (with_span g (start, s.place) s) (with_span g (start, t.place) t) ((key_goes_along p).spans g start s t same)
+  span_keeps false from g start s t true e same =
+      easy_is_coarser p from (with_span g (start, s.place) s) (with_span g (start, t.place) t)
+      ((key_goes_along p).spans g start s t same)
   span_keeps false from g start s t false e same =
       let both = easy_key_tells p from s t same in
-      easy_key_gives p from (with_span g (start, s.place) s) (with_span g (start, t.place) t) both.0 (unread_span g (start, s.place) (start, t.place) s t e both.1)
+      easy_key_gives p from (with_span g (start, s.place) s) (with_span g (start, t.place) t) both.0
+      (unread_span g (start, s.place) (start, t.place) s t e both.1)
 
 module _ (p : Plan) (q : Setting) where
   -- ways that go forward from sound states to sound states, and respect the key
@@ -60,7 +68,7 @@ module _ (p : Plan) (q : Setting) where
 
   -- from each sound state k hands a list that serves for that of f in the context, and has only states of it
   pub record Thins (in_hard : Bool) (k f : Ways) : Type 0 where
-    pub by : (s : MatchState) (from : ℕ) → IsSound q p.analysis.tree s → from ≤ s.place → IsThinned (Same (context_key p in_hard from)) (k s) (f s)
+    pub by : (s : MatchState) (from : ℕ) → IsSoundState q p.analysis.tree s → from ≤ s.place → IsThinned (Same (context_key p in_hard from)) (k s) (f s)
 
   -- ---- parts
 
@@ -82,13 +90,25 @@ module _ (p : Plan) (q : Setting) where
   pub thins_same : (in_hard : Bool) (f : Ways) → Thins in_hard f f
   thins_same in_hard f = record { by = λ s from sound le. thinned_same }
 
-  pub thins_as : (in_hard : Bool) (k f g : Ways) → ((s : MatchState) → IsSound q p.analysis.tree s → f s ≡ g s) → Thins in_hard k f → Thins in_hard k g
-  thins_as in_hard k f g e h = record { by = λ s from sound le. subst (λ l. IsThinned (Same (context_key p in_hard from)) (k s) l) (e s sound) (h.by s from sound le) }
+  pub thins_as : (in_hard : Bool) (k f g : Ways) → ((s : MatchState) → IsSoundState q p.analysis.tree s → f s ≡ g s) →
+      Thins in_hard k f → Thins in_hard k g
+  thins_as in_hard k f g e h =
+      record {
+        by =
+            λ s from sound le. subst (λ l. IsThinned (Same (context_key p in_hard from)) (k s) l) (e s sound)
+            (h.by s from sound le);
+      }
 
-  pub thins_by : (in_hard : Bool) (k l f : Ways) → ((s : MatchState) → IsSound q p.analysis.tree s → k s ≡ l s) → Thins in_hard k f → Thins in_hard l f
-  thins_by in_hard k l f e h = record { by = λ s from sound le. subst (λ x. IsThinned (Same (context_key p in_hard from)) x (f s)) (e s sound) (h.by s from sound le) }
+  pub thins_by : (in_hard : Bool) (k l f : Ways) → ((s : MatchState) → IsSoundState q p.analysis.tree s → k s ≡ l s) →
+      Thins in_hard k f → Thins in_hard l f
+  thins_by in_hard k l f e h =
+      record {
+        by =
+            λ s from sound le. subst (λ x. IsThinned (Same (context_key p in_hard from)) x (f s)) (e s sound)
+            (h.by s from sound le);
+      }
 
-  pub thins_where_equal : (in_hard : Bool) (k f : Ways) → ((s : MatchState) → IsSound q p.analysis.tree s → k s ≡ f s) → Thins in_hard k f
+  pub thins_where_equal : (in_hard : Bool) (k f : Ways) → ((s : MatchState) → IsSoundState q p.analysis.tree s → k s ≡ f s) → Thins in_hard k f
   thins_where_equal in_hard k f e = record { by = λ s from sound le. thinned_equal (e s sound) }
 
   -- what serves in a hard context serves in any
@@ -96,7 +116,8 @@ module _ (p : Plan) (q : Setting) where
   hard_thins in_hard k f h = record { by = λ s from sound le. thinned_coarser (hard_serves p in_hard from) (h.by s from sound le) }
 
   -- a part in a hard context, and then one in this context
-  pub thins_next : (in_hard : Bool) (k f l g : Ways) → IsPart f → IsPart g → Thins true k f → Thins in_hard l g → Thins in_hard (and_then k l) (and_then f g)
+  pub thins_next : (in_hard : Bool) (k f l g : Ways) → IsPart f → IsPart g → Thins true k f → Thins in_hard l g →
+      Thins in_hard (and_then k l) (and_then f g)
   thins_next in_hard k f l g part after h rest = record {
     by = λ s from sound le.
         thinned_flat_map {P = IsOnward q p.analysis.tree s} l g (k s) (f s)
@@ -115,21 +136,28 @@ module _ (p : Plan) (q : Setting) where
       thins_next true k f (in_order ks) (in_order fs) part (part_in_order parts) h (thins_in_order parts hs)
 
   pub thins_or_else : (in_hard : Bool) (k f l g : Ways) → Thins in_hard k f → Thins in_hard l g → Thins in_hard (λ s. k s ++ l s) (λ s. f s ++ g s)
-  thins_or_else in_hard k f l g h i = record { by = λ s from sound le. thinned_append (k s) (f s) (l s) (g s) (h.by s from sound le) (i.by s from sound le) }
+  thins_or_else in_hard k f l g h i =
+      record {
+        by =
+            λ s from sound le. thinned_append (k s) (f s) (l s) (g s) (h.by s from sound le) (i.by s from sound le);
+      }
 
   pub thins_one_of : (in_hard : Bool) {ks fs : List Ways} → EachThins in_hard ks fs → Thins in_hard (one_of ks) (one_of fs)
   thins_one_of in_hard no_part = thins_same in_hard fails
-  thins_one_of in_hard (and_part {k = k} {f = f} {ks = ks} {fs = fs} h hs) = thins_or_else in_hard k f (one_of ks) (one_of fs) h (thins_one_of in_hard hs)
+  thins_one_of in_hard (and_part {k = k} {f = f} {ks = ks} {fs = fs} h hs) =
+      thins_or_else in_hard k f (one_of ks) (one_of fs) h (thins_one_of in_hard hs)
 
   -- the body of a group stands in a hard context where the group is read
-  pub thins_group : (in_hard : Bool) (g : ℕ) (k f : Ways) → Thins (in_hard || is_read p.analysis.tree g) k f → Thins in_hard (captured g k) (captured g f)
+  pub thins_group : (in_hard : Bool) (g : ℕ) (k f : Ways) → Thins (in_hard || is_read p.analysis.tree g) k f →
+      Thins in_hard (captured g k) (captured g f)
   thins_group in_hard g k f h = record {
     by = λ s from sound le.
         thinned_map (λ t. with_span g (s.place, t.place) t) (k s) (f s)
         (λ x y r. span_keeps p in_hard from g s.place x y (is_read p.analysis.tree g) refl r) (h.by s from sound le);
   }
 
-  pub thins_conditional : (in_hard : Bool) (c c' t t' f f' : Ways) → IsPart c' → Thins in_hard c c' → Thins in_hard t t' → Thins in_hard f f' → Thins in_hard (conditional c t f) (conditional c' t' f')
+  pub thins_conditional : (in_hard : Bool) (c c' t t' f f' : Ways) → IsPart c' → Thins in_hard c c' →
+      Thins in_hard t t' → Thins in_hard f f' → Thins in_hard (conditional c t f) (conditional c' t' f')
   thins_conditional in_hard c c' t t' f f' part h i j = record {
     by = λ s from sound le.
         thinned_conditional {P = IsOnward q p.analysis.tree s} t t' f f' s (c s) (c' s) (thinned_head (h.by s from sound le))
@@ -139,7 +167,7 @@ module _ (p : Plan) (q : Setting) where
   -- ---- bodies in an easy context
 
   -- a body has a way where the other has one, whatever its context is
-  pub same_way : (inner : Bool) (k f : Ways) → Thins inner k f → (s : MatchState) → IsSound q p.analysis.tree s → has_way k s ≡ has_way f s
+  pub same_way : (inner : Bool) (k f : Ways) → Thins inner k f → (s : MatchState) → IsSoundState q p.analysis.tree s → has_way k s ≡ has_way f s
   same_way inner k f h s sound = ap is_some (thinned_head (h.by s 0 sound (omega arith)))
 
   pub thins_atomic : (in_hard : Bool) (k f : Ways) → Thins false k f → Thins in_hard (atomic k) (atomic f)

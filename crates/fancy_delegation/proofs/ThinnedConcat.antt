@@ -9,7 +9,8 @@ use Rattle.fancy_meaning.specs.Ways.{Setting, ways_with, each_ways, ways}
 use Rattle.fancy_meaning.specs.Options.{CompileOptions}
 use Rattle.fancy_meaning.specs.Premises.{Analysed, tree_of, IsText}
 use Rattle.fancy_meaning.specs.Laws.{SizeLaw}
-use Rattle.fancy_delegation.proofs.Every.{Every, IsIn, every_map}
+use Rattle.fancy_laws.proofs.Every.{Every, every_map}
+use Rattle.fancy_delegation.proofs.Items.{IsIn}
 use Rattle.fancy_delegation.proofs.Binding.{flat_map_through, flat_map_same}
 use Rattle.fancy_delegation.proofs.EasyKeeps.{SameEndText}
 use Rattle.fancy_delegation.proofs.Thinned.{IsPart, Thins, EachThins, part_in_order, part_next, thins_as, thins_next, thins_in_order}
@@ -27,17 +28,25 @@ pub each_ways_of : (q : Setting) (call : ℕ → Ways) (es : Trees) → each_way
 each_ways_of q call none = refl
 each_ways_of q call (more e es) = ap (λ l. ways_with q call e ∷ l) (each_ways_of q call es)
 
-module _ (size_law : SizeLaw) (a : Analysed) (o : CompileOptions) (q : Setting) (is_text : IsText q.text) (depths : Depths) (same : SameEndText (plan_for a o)) where
+module _ (size_law : SizeLaw) (a : Analysed) (o : CompileOptions) (q : Setting) (is_text : IsText q.text)
+    (depths : Depths) (same : SameEndText (plan_for a o)) where
   abbrev means : Tree → Ways
   means e = ways q (tree_of a) e depths
 
   -- a delegate in its context
-  pub thins_delegate : (in_hard : Bool) (es : List Tree) → Every (IsDelegated a) es → (in_hard ≡ true → Every (IsConst a) es) → Thins (plan_for a o) q in_hard (first_of_batch q a depths es) (in_order (map means es))
+  pub thins_delegate : (in_hard : Bool) (es : List Tree) → Every (IsDelegated a) es →
+      (in_hard ≡ true → Every (IsConst a) es) →
+      Thins (plan_for a o) q in_hard (first_of_batch q a depths es) (in_order (map means es))
   thins_delegate true es h const = thins_const_batch size_law a o q is_text depths same h (const refl)
   thins_delegate false es h const = thins_batch size_law a o q is_text depths same h
 
-  pub thins_concat : (in_hard : Bool) (front middle back : List Tree) (ks : List Ways) → Every (IsDelegated a) front → Every (IsConst a) front → Every (λ e. IsIn e (nodes (tree_of a))) middle → EachThins (plan_for a o) q true ks (map means middle) → Every (IsDelegated a) back → (in_hard ≡ true → Every (IsConst a) back) →
-      Thins (plan_for a o) q in_hard (and_then (first_of_batch q a depths front) (and_then (in_order ks) (first_of_batch q a depths back))) (in_order (map means (front ++ (middle ++ back))))
+  pub thins_concat : (in_hard : Bool) (front middle back : List Tree) (ks : List Ways) → Every (IsDelegated a) front →
+      Every (IsConst a) front → Every (λ e. IsIn e (nodes (tree_of a))) middle →
+      EachThins (plan_for a o) q true ks (map means middle) → Every (IsDelegated a) back →
+      (in_hard ≡ true → Every (IsConst a) back) →
+      Thins (plan_for a o) q in_hard
+      (and_then (first_of_batch q a depths front) (and_then (in_order ks) (first_of_batch q a depths back)))
+      (in_order (map means (front ++ (middle ++ back))))
   thins_concat in_hard front middle back ks fd fc mn mk bd bc =
       let p = plan_for a o in
       let f = in_order (map means front) in
@@ -46,14 +55,24 @@ module _ (size_law : SizeLaw) (a : Analysed) (o : CompileOptions) (q : Setting) 
       let of_front : IsPart p q f = part_in_order p q (every_map means (λ e d. part_of_tree size_law a o q is_text depths e d.there) fd) in
       let of_middle : Every (IsPart p q) (map means middle) = every_map means (λ e there. part_of_tree size_law a o q is_text depths e there) mn in
       let of_back : IsPart p q b = part_in_order p q (every_map means (λ e d. part_of_tree size_law a o q is_text depths e d.there) bd) in
-      thins_as p q in_hard (and_then (first_of_batch q a depths front) (and_then (in_order ks) (first_of_batch q a depths back))) (and_then f (and_then m b)) (in_order (map means (front ++ (middle ++ back))))
+      thins_as p q in_hard
+      (and_then (first_of_batch q a depths front) (and_then (in_order ks) (first_of_batch q a depths back)))
+      (and_then f (and_then m b)) (in_order (map means (front ++ (middle ++ back))))
       (λ s ok. three front middle back s)
-      (thins_next p q in_hard (first_of_batch q a depths front) f (and_then (in_order ks) (first_of_batch q a depths back)) (and_then m b) of_front (part_next p q m b (part_in_order p q of_middle) of_back)
+      (thins_next p q in_hard (first_of_batch q a depths front) f
+      (and_then (in_order ks) (first_of_batch q a depths back)) (and_then m b) of_front
+      (part_next p q m b (part_in_order p q of_middle) of_back)
       (thins_delegate true front fd (λ e. fc))
-      (thins_next p q in_hard (in_order ks) m (first_of_batch q a depths back) b (part_in_order p q of_middle) of_back (thins_in_order p q of_middle mk) (thins_delegate in_hard back bd bc)))
+      (thins_next p q in_hard (in_order ks) m (first_of_batch q a depths back) b (part_in_order p q of_middle) of_back
+      (thins_in_order p q of_middle mk) (thins_delegate in_hard back bd bc)))
     where
-      three : (front middle back : List Tree) (s : MatchState) → and_then (in_order (map means front)) (and_then (in_order (map means middle)) (in_order (map means back))) s ≡ in_order (map means (front ++ (middle ++ back))) s
+      three : (front middle back : List Tree) (s : MatchState) →
+          and_then (in_order (map means front)) (and_then (in_order (map means middle)) (in_order (map means back))) s
+          ≡ in_order (map means (front ++ (middle ++ back))) s
       three front middle back s =
-          flat_map_same (and_then (in_order (map means middle)) (in_order (map means back))) (in_order (map means middle ++ map means back)) (λ t. sym (in_order_append (map means middle) (map means back) t)) (in_order (map means front) s)
+          flat_map_same (and_then (in_order (map means middle)) (in_order (map means back)))
+          (in_order (map means middle ++ map means back))
+          (λ t. sym (in_order_append (map means middle) (map means back) t)) (in_order (map means front) s)
           ∙ sym (in_order_append (map means front) (map means middle ++ map means back) s)
-          ∙ ap (λ l. in_order l s) (ap (λ l. map means front ++ l) (sym (map-append means middle back)) ∙ sym (map-append means front (middle ++ back)))
+          ∙ ap (λ l. in_order l s) (ap (λ l. map means front ++ l) (sym (map-append means middle back))
+          ∙ sym (map-append means front (middle ++ back)))

@@ -9,9 +9,10 @@ use Rattle.fancy_meaning.specs.Ways.{Setting, called, ways}
 use Rattle.fancy_meaning.specs.Options.{CompileOptions, Plan}
 use Rattle.fancy_meaning.specs.Keys.{key, easy_key}
 use Rattle.fancy_meaning.specs.Sizes.{size}
-use Rattle.fancy_meaning.specs.Premises.{Analysed, analysis, tree_of, IsText, IsSound}
+use Rattle.fancy_meaning.specs.Premises.{Analysed, analysis, tree_of, IsText, IsSoundState}
 use Rattle.fancy_meaning.specs.Laws.{SizeLaw}
-use Rattle.fancy_delegation.proofs.Every.{Every, no_item, item, IsIn, every_map, every_weaken, every_flat_map, every_is_in}
+use Rattle.fancy_laws.proofs.Every.{Every, no_item, item, every_map, every_weaker, every_flat_map}
+use Rattle.fancy_delegation.proofs.Items.{IsIn, every_is_in}
 use Rattle.fancy_delegation.proofs.Reduced.{Same}
 use Rattle.fancy_delegation.proofs.Respect.{ways_alike}
 use Rattle.fancy_delegation.proofs.Kept.{EachKept}
@@ -62,12 +63,14 @@ module _ (size_law : SizeLaw) (a : Analysed) (o : CompileOptions) (q : Setting) 
   part_of_batch h = part_in_order (plan_for a o) q (every_map (λ e. ways q (tree_of a) e depths) (λ e d. part_of_tree e d.there) h)
 
   -- one after the other they take as much each time, where each does
-  batch_exactly : {es : List Tree} → Every (IsDelegated a) es → Every (IsConst a) es → (n : ℕ) × TakesExactly q (tree_of a) n (batch_ways q a depths es)
+  batch_exactly : {es : List Tree} → Every (IsDelegated a) es → Every (IsConst a) es →
+      (n : ℕ) × TakesExactly q (tree_of a) n (batch_ways q a depths es)
   batch_exactly no_item c = (0, λ s ok. item (no_chars q.text s.place s.place (omega arith)) no_item)
   batch_exactly (item {x = e} {xs = es} h hs) (item c cs) =
       let rest = batch_exactly hs cs in (
         (size (tree_of a) e).least + rest.0,
-        exactly_next q (tree_of a) (size (tree_of a) e).least rest.0 (ways q (tree_of a) e depths) (batch_ways q a depths es) (part_of_tree e h.there).sound (part_of_batch hs).sound
+        exactly_next q (tree_of a) (size (tree_of a) e).least rest.0 (ways q (tree_of a) e depths)
+            (batch_ways q a depths es) (part_of_tree e h.there).sound (part_of_batch hs).sound
             (const_takes size_law q a is_text e depths h.there c) rest.1,
       )
 
@@ -83,24 +86,40 @@ module _ (size_law : SizeLaw) (a : Analysed) (o : CompileOptions) (q : Setting) 
     batch_agrees no_item s = item (record { kept = refl; flag = refl; spans = λ g r. refl }) no_item
     batch_agrees (item {x = e} {xs = es} h hs) s =
         every_flat_map (batch_ways q a depths es)
-        (λ t r. every_weaken (λ u r'. record { kept = r.kept ∙ r'.kept; flag = r.flag ∙ r'.flag; spans = λ g i. r.spans g i ∙ r'.spans g i }) (batch_agrees hs t))
+        (λ t r.
+        every_weaker
+        (λ u r'. record {
+          kept = r.kept ∙ r'.kept;
+          flag = r.flag ∙ r'.flag;
+          spans =
+              λ g i. r.spans g i ∙ r'.spans g i;
+        }) (batch_agrees hs t))
         (easy_agrees (plan_for a o) same q (called q (tree_of a) (free_calls (tree_of a) depths) depths) e h.easy s)
 
     module _ {es : List Tree} (h : Every (IsDelegated a) es) where
       in_common : (s t u : MatchState) → IsIn t (batch_ways q a depths es s) → IsIn u (batch_ways q a depths es s) → Agree (plan_for a o) t u
       in_common s t u i j = agree_both (plan_for a o) s t u (every_is_in (batch_agrees h s) i) (every_is_in (batch_agrees h s) j)
 
-      one_easy_key : (s : MatchState) (from : ℕ) → IsSound q (tree_of a) s → from ≤ s.place → (t u : MatchState) → IsIn t (batch_ways q a depths es s) → IsIn u (batch_ways q a depths es s) → Same (easy_key (plan_for a o) from) t u
+      one_easy_key : (s : MatchState) (from : ℕ) → IsSoundState q (tree_of a) s → from ≤ s.place → (t u : MatchState) →
+          IsIn t (batch_ways q a depths es s) → IsIn u (batch_ways q a depths es s) →
+          Same (easy_key (plan_for a o) from) t u
       one_easy_key s from ok le t u i j = easy_key_gives (plan_for a o) from t u (here (a.options).find_not_empty refl) (in_common s t u i j)
         where
-          here : (v : Bool) → (a.options).find_not_empty ≡ v → ((a.options).find_not_empty && not (t.place == from)) ≡ ((a.options).find_not_empty && not (u.place == from))
-          here true asked = ap (λ v. (a.options).find_not_empty && not v) (evenly_agree q (tree_of a) (batch_ways q a depths es) (part_of_batch h).sound (batch_evenly asked h) s t u from ok le i j)
+          here : (v : Bool) → (a.options).find_not_empty ≡ v → ((a.options).find_not_empty && not (t.place == from))
+              ≡ ((a.options).find_not_empty && not (u.place == from))
+          here true asked =
+              ap (λ v. (a.options).find_not_empty && not v)
+              (evenly_agree q (tree_of a) (batch_ways q a depths es) (part_of_batch h).sound
+              (batch_evenly asked h) s t u from ok le i j)
           here false off = ap (λ v. v && not (t.place == from)) off ∙ sym (ap (λ v. v && not (u.place == from)) off)
 
-      one_key : Every (IsConst a) es → (s : MatchState) → IsSound q (tree_of a) s → (t u : MatchState) → IsIn t (batch_ways q a depths es s) → IsIn u (batch_ways q a depths es s) → Same (key (plan_for a o)) t u
+      one_key : Every (IsConst a) es → (s : MatchState) → IsSoundState q (tree_of a) s → (t u : MatchState) →
+          IsIn t (batch_ways q a depths es s) → IsIn u (batch_ways q a depths es s) → Same (key (plan_for a o)) t u
       one_key const s ok t u i j =
           let takes = batch_exactly h const in
-          key_gives (plan_for a o) t u (one_end q (tree_of a) takes.0 (batch_ways q a depths es) (part_of_batch h).sound takes.1 s t u ok i j) (in_common s t u i j)
+          key_gives (plan_for a o) t u
+          (one_end q (tree_of a) takes.0 (batch_ways q a depths es) (part_of_batch h).sound takes.1 s t u ok i j)
+          (in_common s t u i j)
 
       -- in an easy context
       pub thins_batch : Thins (plan_for a o) q false (first_of_batch q a depths es) (batch_ways q a depths es)

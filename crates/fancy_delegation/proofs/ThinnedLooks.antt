@@ -6,8 +6,8 @@ use Rattle.fancy_meaning.specs.MatchState.{MatchState, Ways, has_way, moved_to}
 use Rattle.fancy_meaning.specs.Ways.{Setting, take_through, absent, ends_here}
 use Rattle.fancy_meaning.specs.Options.{Plan}
 use Rattle.fancy_meaning.specs.Keys.{easy_key}
-use Rattle.fancy_meaning.specs.Premises.{IsSound}
-use Rattle.fancy_delegation.proofs.Every.{Every, no_item, item, every_any, every_filter, every_weaken, every_both}
+use Rattle.fancy_meaning.specs.Premises.{IsSoundState}
+use Rattle.fancy_laws.proofs.Every.{Every, no_item, item, every_anything, every_filter, every_weaker, every_both}
 use Rattle.fancy_delegation.proofs.Reduced.{Same}
 use Rattle.fancy_delegation.proofs.Counting.{same_place}
 use Rattle.fancy_delegation.proofs.Evenly.{TakesExactly}
@@ -24,7 +24,7 @@ placed_back text i = every_filter (is_place text) (λ j le e. (e, le)) (below i 
 
 placed_on : (text : List ℕ) (i : ℕ) → Every (λ j. is_place text j ≡ true) (places_from text i)
 unfolding places_from
-placed_on text i = every_filter {P = λ j. Unit {0}} (is_place text) (λ j u e. e) (every_any (range_from i _) (λ j. tt))
+placed_on text i = every_filter {P = λ j. Unit {0}} (is_place text) (λ j u e. e) (every_anything (range_from i _) (λ j. tt))
 
 stops_same : (p r : ℕ → Bool) {is : List ℕ} → Every (λ i. p i ≡ r i) is → take_through p is ≡ take_through r is
 stops_same p r no_item = refl
@@ -38,16 +38,20 @@ filter_none : {A : Type 0} (p : A → Bool) {xs : List A} → Every (λ x. p x �
 filter_none p no_item = refl
 filter_none p (item {x = x} {xs = xs} e h) = ap (λ v. if v then x ∷ filter p xs else filter p xs) e ∙ filter_none p h
 
-thinned_each : {key : MatchState → MatchState → Type 0} (f g : ℕ → List MatchState) {is : List ℕ} → Every (λ i. IsThinned key (f i) (g i)) is → IsThinned key (flat_map f is) (flat_map g is)
+thinned_each : {key : MatchState → MatchState → Type 0} (f g : ℕ → List MatchState) {is : List ℕ} →
+    Every (λ i. IsThinned key (f i) (g i)) is → IsThinned key (flat_map f is) (flat_map g is)
 thinned_each f g no_item = thinned_same
 thinned_each f g (item {x = i} {xs = is} h hs) = thinned_append (f i) (g i) (flat_map f is) (flat_map g is) h (thinned_each f g hs)
 
 -- a sound state at another place of the text
-pub sound_at : (q : Setting) (p : Plan) (s : MatchState) (i : ℕ) → is_place q.text i ≡ true → IsSound q p.analysis.tree s → IsSound q p.analysis.tree (moved_to i s)
+pub sound_at : (q : Setting) (p : Plan) (s : MatchState) (i : ℕ) → is_place q.text i ≡ true →
+    IsSoundState q p.analysis.tree s → IsSoundState q p.analysis.tree (moved_to i s)
 sound_at q p s i placed ok = record { place = placed; spans = ok.spans; sizes = ok.sizes }
 
 -- states at one place that an easy key does not tell apart
-thinned_at : (p : Plan) (in_hard : Bool) (from before place : ℕ) {hs qs : List MatchState} → Every (λ s. s.place ≡ place) qs → IsThinned (Same (easy_key p before)) hs qs → IsThinned (Same (context_key p in_hard from)) hs qs
+thinned_at : (p : Plan) (in_hard : Bool) (from before place : ℕ) {hs qs : List MatchState} →
+    Every (λ s. s.place ≡ place) qs → IsThinned (Same (easy_key p before)) hs qs →
+    IsThinned (Same (context_key p in_hard from)) hs qs
 thinned_at p in_hard from before place {hs} {qs} at h =
     subst₂ (IsThinned (Same (context_key p in_hard from))) (all_there (thinned_every h at)) (all_there at)
     (thinned_map (moved_to place) hs qs (back_together p in_hard from before place) h)
@@ -59,14 +63,17 @@ thinned_at p in_hard from before place {hs} {qs} at h =
 module _ (p : Plan) (q : Setting) where
   -- The body of a lookbehind takes as much each time: so from each place before, all of its ways end here, or none does.
   module _ (n : ℕ) (k f : Ways) (part : IsPart p q f) (takes : TakesExactly q p.analysis.tree n f) (h : Thins p q false k f) where
-    from_place : (in_hard : Bool) (from : ℕ) (s : MatchState) → IsSound q p.analysis.tree s → (i : ℕ) → is_place q.text i ≡ true → i ≤ s.place → (v : Bool) → (chars_between q.text i s.place == n) ≡ v → IsThinned (Same (context_key p in_hard from)) (filter (λ t. t.place == s.place) (k (moved_to i s))) (filter (λ t. t.place == s.place) (f (moved_to i s)))
+    from_place : (in_hard : Bool) (from : ℕ) (s : MatchState) → IsSoundState q p.analysis.tree s → (i : ℕ) →
+        is_place q.text i ≡ true → i ≤ s.place → (v : Bool) → (chars_between q.text i s.place == n) ≡ v →
+        IsThinned (Same (context_key p in_hard from)) (filter (λ t. t.place == s.place) (k (moved_to i s)))
+        (filter (λ t. t.place == s.place) (f (moved_to i s)))
     from_place in_hard from s ok i placed le true e =
         let ok' = sound_at q p s i placed ok in
         let body = h.by (moved_to i s) 0 ok' (omega arith) in
         let here : Every (λ t. t.place ≡ s.place) (f (moved_to i s)) = every_both
         (λ t on c. same_place q.text i t.place s.place on.on le (on.sound).place ok.place (c ∙ sym (eqb-true (chars_between q.text i s.place) n e)))
         (part.sound (moved_to i s) ok') (takes (moved_to i s) ok') in
-        let kept = every_weaken (λ t at. eq-eqb t.place s.place at) here in
+        let kept = every_weaker (λ t at. eq-eqb t.place s.place at) here in
         subst₂ (IsThinned (Same (context_key p in_hard from)))
         (sym (filter_all (λ t. t.place == s.place) (thinned_every body kept))) (sym (filter_all (λ t. t.place == s.place) kept))
         (thinned_at p in_hard from 0 s.place here body)
@@ -74,14 +81,17 @@ module _ (p : Plan) (q : Setting) where
         let ok' = sound_at q p s i placed ok in
         let body = h.by (moved_to i s) 0 ok' (omega arith) in
         let dropped : Every (λ t. (t.place == s.place) ≡ false) (f (moved_to i s)) =
-        every_weaken (λ t c. ne_eqb t.place s.place (λ at. eqb-false (chars_between q.text i s.place) n e (ap (chars_between q.text i) (sym at) ∙ c))) (takes (moved_to i s) ok') in
+        every_weaker
+        (λ t c. ne_eqb t.place s.place
+        (λ at. eqb-false (chars_between q.text i s.place) n e (ap (chars_between q.text i) (sym at) ∙ c)))
+        (takes (moved_to i s) ok') in
         thinned_equal (filter_none (λ t. t.place == s.place) (thinned_every body dropped) ∙ sym (filter_none (λ t. t.place == s.place) dropped))
 
     pub thins_behind : (in_hard : Bool) → Thins p q in_hard (ends_here q k) (ends_here q f)
     thins_behind in_hard = record {
       by = λ s from ok le.
           thinned_each (λ i. filter (λ t. t.place == s.place) (k (moved_to i s))) (λ i. filter (λ t. t.place == s.place) (f (moved_to i s)))
-          (every_weaken (λ i at. from_place in_hard from s ok i at.0 at.1 (chars_between q.text i s.place == n) refl) (placed_back q.text s.place));
+          (every_weaker (λ i at. from_place in_hard from s ok i at.0 at.1 (chars_between q.text i s.place == n) refl) (placed_back q.text s.place));
     }
 
   -- of the body of an absent repeater only the places count at which it has a way, whatever its context is
@@ -90,4 +100,4 @@ module _ (p : Plan) (q : Setting) where
       thins_where_equal p q in_hard (absent q k) (absent q f)
       (λ s ok. ap (λ l. map (λ i. moved_to i s) (reverse l))
       (stops_same (λ i. has_way k (moved_to i s)) (λ i. has_way f (moved_to i s))
-      (every_weaken (λ i placed. same_way p q inner k f h (moved_to i s) (sound_at q p s i placed ok)) (placed_on q.text s.place))))
+      (every_weaker (λ i placed. same_way p q inner k f h (moved_to i s) (sound_at q p s i placed ok)) (placed_on q.text s.place))))

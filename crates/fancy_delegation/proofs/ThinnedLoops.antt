@@ -6,8 +6,8 @@ use Rattle.fancy_meaning.specs.Loops.{required, prefer, at_most, if_moved, unbou
 use Rattle.fancy_meaning.specs.Ways.{Setting}
 use Rattle.fancy_meaning.specs.Options.{Plan}
 use Rattle.fancy_meaning.specs.Keys.{key}
-use Rattle.fancy_meaning.specs.Premises.{IsSound}
-use Rattle.fancy_delegation.proofs.Every.{Every, every_append, every_if}
+use Rattle.fancy_meaning.specs.Premises.{IsSoundState}
+use Rattle.fancy_laws.proofs.Every.{Every, every_append, every_if}
 use Rattle.fancy_delegation.proofs.Pairwise.{Pairwise}
 use Rattle.fancy_delegation.proofs.Reduced.{Same}
 use Rattle.fancy_delegation.proofs.AlikeLoops.{WaysAlike, if_moved_alike, at_most_alike, unbounded_alike}
@@ -36,7 +36,9 @@ module _ (p : Plan) (q : Setting) where
     where
       sound : (n : ℕ) → KeepsSound q p.analysis.tree (at_most n greedy f)
       sound zero s ok = sound_stays q p.analysis.tree s ok
-      sound (suc n) s ok = every_prefer greedy (sound_next q p.analysis.tree f (at_most n greedy f) part.sound (sound n) s ok) (sound_stays q p.analysis.tree s ok)
+      sound (suc n) s ok =
+          every_prefer greedy (sound_next q p.analysis.tree f (at_most n greedy f) part.sound (sound n) s ok)
+          (sound_stays q p.analysis.tree s ok)
 
   part_unbounded : (n : ℕ) (greedy : Bool) (f : Ways) → IsPart p q f → IsPart p q (unbounded n greedy f)
   part_unbounded n greedy f part = record {
@@ -48,14 +50,16 @@ module _ (p : Plan) (q : Setting) where
       sound zero s ok = sound_stays q p.analysis.tree s ok
       sound (suc n) s ok =
           every_prefer greedy
-          (sound_next q p.analysis.tree f (if_moved s (unbounded n greedy f)) part.sound (λ t ok'. every_if (t.place == s.place) (λ e. sound_stays q p.analysis.tree t ok') (λ e. sound n t ok')) s ok)
+          (sound_next q p.analysis.tree f (if_moved s (unbounded n greedy f)) part.sound
+          (λ t ok'. every_if (t.place == s.place) (λ e. sound_stays q p.analysis.tree t ok') (λ e. sound n t ok')) s ok)
           (sound_stays q p.analysis.tree s ok)
 
   part_to_end : (greedy : Bool) (f : Ways) → IsPart p q f → IsPart p q (λ s. unbounded (suc (length q.text) - s.place) greedy f s)
   part_to_end greedy f part = record {
     sound = λ s. (part_unbounded (suc (length q.text) - s.place) greedy f part).sound s;
     respects = λ s t r.
-        subst (λ i. Pairwise (Same (key p)) (unbounded (suc (length q.text) - s.place) greedy f s) (unbounded (suc (length q.text) - i) greedy f t)) (same_end s t r)
+        subst (λ i. Pairwise (Same (key p)) (unbounded (suc (length q.text) - s.place) greedy f s)
+        (unbounded (suc (length q.text) - i) greedy f t)) (same_end s t r)
         ((part_unbounded (suc (length q.text) - s.place) greedy f part).respects s t r);
   }
 
@@ -65,31 +69,44 @@ module _ (p : Plan) (q : Setting) where
   part_repeats lo None greedy f part = part_after lo f (λ s. unbounded (suc (length q.text) - s.place) greedy f s) part (part_to_end greedy f part)
 
   module _ (k f : Ways) (part : IsPart p q f) (body : Thins p q true k f) where
-    thins_required : (n : ℕ) (rest rest' : Ways) → IsPart p q rest' → Thins p q true rest rest' → Thins p q true (required n k rest) (required n f rest')
+    thins_required : (n : ℕ) (rest rest' : Ways) → IsPart p q rest' → Thins p q true rest rest' →
+        Thins p q true (required n k rest) (required n f rest')
     thins_required zero rest rest' after h = h
     thins_required (suc n) rest rest' after h =
-        thins_next p q true k f (required n k rest) (required n f rest') part (part_after n f rest' part after) body (thins_required n rest rest' after h)
+        thins_next p q true k f (required n k rest) (required n f rest') part (part_after n f rest' part after) body
+        (thins_required n rest rest' after h)
 
     -- on from each way of the body, or the loop is left
-    thins_choice : (greedy : Bool) (s : MatchState) (again again' : Ways) → IsSound q p.analysis.tree s → WaysAlike (Same (key p)) again' again' → ((t : MatchState) → IsSound q p.analysis.tree t → IsThinned (Same (key p)) (again t) (again' t)) → IsThinned (Same (key p)) (prefer greedy (flat_map again (k s)) (s ∷ [])) (prefer greedy (flat_map again' (f s)) (s ∷ []))
+    thins_choice : (greedy : Bool) (s : MatchState) (again again' : Ways) → IsSoundState q p.analysis.tree s →
+        WaysAlike (Same (key p)) again' again' →
+        ((t : MatchState) → IsSoundState q p.analysis.tree t → IsThinned (Same (key p)) (again t) (again' t)) →
+        IsThinned (Same (key p)) (prefer greedy (flat_map again (k s)) (s ∷ []))
+        (prefer greedy (flat_map again' (f s)) (s ∷ []))
     thins_choice greedy s again again' ok respects next =
         thinned_prefer greedy (flat_map again (k s)) (flat_map again' (f s)) (s ∷ []) (s ∷ [])
-        (thinned_flat_map {P = IsOnward q p.analysis.tree s} again again' (k s) (f s) respects (λ t on. next t on.sound) (part.sound s ok) (body.by s 0 ok (omega arith)))
+        (thinned_flat_map {P = IsOnward q p.analysis.tree s} again again' (k s) (f s) respects
+        (λ t on. next t on.sound) (part.sound s ok) (body.by s 0 ok (omega arith)))
         thinned_same
 
-    thins_at_most : (n : ℕ) (greedy : Bool) (s : MatchState) → IsSound q p.analysis.tree s → IsThinned (Same (key p)) (at_most n greedy k s) (at_most n greedy f s)
+    thins_at_most : (n : ℕ) (greedy : Bool) (s : MatchState) → IsSoundState q p.analysis.tree s →
+        IsThinned (Same (key p)) (at_most n greedy k s) (at_most n greedy f s)
     thins_at_most zero greedy s ok = thinned_same
     thins_at_most (suc n) greedy s ok =
         thins_choice greedy s (at_most n greedy k) (at_most n greedy f) ok (part_at_most n greedy f part).respects (thins_at_most n greedy)
 
-    thins_unbounded : (n : ℕ) (greedy : Bool) (s : MatchState) → IsSound q p.analysis.tree s → IsThinned (Same (key p)) (unbounded n greedy k s) (unbounded n greedy f s)
+    thins_unbounded : (n : ℕ) (greedy : Bool) (s : MatchState) → IsSoundState q p.analysis.tree s →
+        IsThinned (Same (key p)) (unbounded n greedy k s) (unbounded n greedy f s)
     thins_unbounded zero greedy s ok = thinned_same
     thins_unbounded (suc n) greedy s ok =
         thins_choice greedy s (if_moved s (unbounded n greedy k)) (if_moved s (unbounded n greedy f)) ok
-        (if_moved_alike (Same (key p)) same_end f f part.respects (unbounded n greedy f) (unbounded n greedy f) s s refl (part_unbounded n greedy f part).respects)
+        (if_moved_alike (Same (key p)) same_end f f part.respects (unbounded n greedy f)
+        (unbounded n greedy f) s s refl (part_unbounded n greedy f part).respects)
         (λ t ok'. here t (t.place == s.place) (thins_unbounded n greedy t ok'))
       where
-        here : (t : MatchState) (v : Bool) → IsThinned (Same (key p)) (unbounded n greedy k t) (unbounded n greedy f t) → IsThinned (Same (key p)) (if v then t ∷ [] else unbounded n greedy k t) (if v then t ∷ [] else unbounded n greedy f t)
+        here : (t : MatchState) (v : Bool) →
+            IsThinned (Same (key p)) (unbounded n greedy k t) (unbounded n greedy f t) →
+            IsThinned (Same (key p)) (if v then t ∷ [] else unbounded n greedy k t)
+            (if v then t ∷ [] else unbounded n greedy f t)
         here t true h = thinned_same
         here t false h = h
 
@@ -98,18 +115,23 @@ module _ (p : Plan) (q : Setting) where
         thins_required lo (at_most (hi - lo) greedy k) (at_most (hi - lo) greedy f) (part_at_most (hi - lo) greedy f part)
         (record { by = λ s from ok le. thins_at_most (hi - lo) greedy s ok })
     thins_hard_loop lo None greedy =
-        thins_required lo (λ s. unbounded (suc (length q.text) - s.place) greedy k s) (λ s. unbounded (suc (length q.text) - s.place) greedy f s) (part_to_end greedy f part)
+        thins_required lo (λ s. unbounded (suc (length q.text) - s.place) greedy k s)
+        (λ s. unbounded (suc (length q.text) - s.place) greedy f s) (part_to_end greedy f part)
         (record { by = λ s from ok le. thins_unbounded (suc (length q.text) - s.place) greedy s ok })
 
     -- a loop, in whatever form it is written
-    pub thins_loop : (in_hard : Bool) (lo : ℕ) (hi : Option ℕ) (greedy : Bool) → Thins p q in_hard (repeats q.text lo hi greedy k) (repeats q.text lo hi greedy f)
-    thins_loop in_hard lo hi greedy = hard_thins p q in_hard (repeats q.text lo hi greedy k) (repeats q.text lo hi greedy f) (thins_hard_loop lo hi greedy)
+    pub thins_loop : (in_hard : Bool) (lo : ℕ) (hi : Option ℕ) (greedy : Bool) →
+        Thins p q in_hard (repeats q.text lo hi greedy k) (repeats q.text lo hi greedy f)
+    thins_loop in_hard lo hi greedy =
+        hard_thins p q in_hard (repeats q.text lo hi greedy k) (repeats q.text lo hi greedy f)
+        (thins_hard_loop lo hi greedy)
 
   once : (greedy : Bool) (f : Ways) (s : MatchState) → prefer greedy (f s) (s ∷ []) ≡ repeats q.text 0 (Some 1) greedy f s
   once greedy f s = ap (λ l. prefer greedy l (s ∷ [])) (sym (flat_map_single (λ t. t) (f s) ∙ map-id (f s)))
 
   -- a loop of at most one iteration, whose body stands in the loop's own context
-  pub thins_at_most_once : (in_hard greedy : Bool) (k f : Ways) → Thins p q in_hard k f → Thins p q in_hard (repeats q.text 0 (Some 1) greedy k) (repeats q.text 0 (Some 1) greedy f)
+  pub thins_at_most_once : (in_hard greedy : Bool) (k f : Ways) → Thins p q in_hard k f →
+      Thins p q in_hard (repeats q.text 0 (Some 1) greedy k) (repeats q.text 0 (Some 1) greedy f)
   thins_at_most_once in_hard greedy k f h = record {
     by = λ s from ok le.
         subst₂ (IsThinned (Same (context_key p in_hard from))) (once greedy k s) (once greedy f s)

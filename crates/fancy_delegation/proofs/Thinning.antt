@@ -1,7 +1,7 @@
 -- The laws of thinning, in the words of the definitions.
 use Rattle.std.proofs.Common.{flat_map}
 use Rattle.fancy_meaning.specs.Theorems.{BindingKeepsThinning, CoarserKeyThins}
-use Rattle.fancy_delegation.proofs.Every.{every_any}
+use Rattle.fancy_laws.proofs.Every.{every_anything}
 use Rattle.fancy_delegation.proofs.Pairwise.{equal_pairs, pairs_weaken}
 use Rattle.fancy_delegation.proofs.FindsAlike.{alike_coarser, alike_flat_map}
 use Rattle.fancy_delegation.proofs.Reduced.{thins-alike}
@@ -15,5 +15,5 @@ binding_keeps_thinning fine coarse hs qs f k c t respects each =
     (alike_flat_map {P = λ s. Unit {0}} k f hs qs
     (λ x y e. pairs_weaken (λ a b r. c a b r) (equal_pairs fine fine (f x) (f y) (respects x y e)))
     (λ x u. (thins-alike coarse (k x) (f x)).0 (each x))
-    (every_any hs (λ s. tt))
+    (every_anything hs (λ s. tt))
     ((thins-alike fine hs qs).0 t))

@@ -5,7 +5,7 @@ use Rattle.fancy_meaning.specs.Nodes.{nodes}
 use Rattle.fancy_meaning.specs.OpenCalls.{Depths}
 use Rattle.fancy_meaning.specs.MatchState.{MatchState}
 use Rattle.fancy_meaning.specs.Ways.{Setting, ways}
-use Rattle.fancy_delegation.proofs.Every.{IsIn}
+use Rattle.fancy_delegation.proofs.Items.{IsIn}
 use Rattle.fancy_delegation.proofs.Kept.{IsKept, EachKept, relates_kept}
 use Rattle.fancy_delegation.proofs.Calls.{all_ways_related}
 

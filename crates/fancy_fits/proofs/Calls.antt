@@ -42,7 +42,7 @@ module _ (p : Plan) (easy : Tree → Bool) (len count slots : ℕ) (two : 2 ≤ 
       (written p easy call b (is_marked_group p.analysis.tree (suc g))) in_hard of_group
       (λ h. fits_tree p easy len count slots two room call calls b below (is_marked_group p.analysis.tree (suc g)) h)
 
-  fits_fail : (o : Option Tree) → Fits len slots (fail_code p easy o)
+  fits_fail : (o : Option Tree) → Fits len slots (fail_code o)
   fits_fail None = fits_nothing len slots
   fits_fail (Some b) = fits_plain len slots Instr.Fail refl
 
@@ -50,6 +50,6 @@ module _ (p : Plan) (easy : Tree → Bool) (len count slots : ℕ) (two : 2 ≤ 
   fits_calls zero depths g in_hard = fits_fail (target whole g)
   fits_calls (suc n) depths g in_hard =
       fits_if len slots (nat_lt (depths g) call_depth)
-      (target_code p easy g (called_code p easy n (opened g depths)) in_hard (target whole g)) (fail_code p easy (target whole g))
+      (target_code p easy g (called_code p easy n (opened g depths)) in_hard (target whole g)) (fail_code (target whole g))
       (fits_target g (called_code p easy n (opened g depths)) (fits_calls n (opened g depths)) in_hard (target whole g) refl)
       (fits_fail (target whole g))

@@ -81,13 +81,13 @@ module _ (len slots : ℕ) where
 
 module _ (p : Plan) (easy : Tree → Bool) where
   abbrev count : ℕ
-  count = group_numbers p easy
+  count = group_numbers p
 
   abbrev root : Code
   root = root_code p easy (called_code p easy (free_calls p.analysis.tree no_calls) no_calls) false
 
   module _ (len slots : ℕ) (two : 2 ≤ slots) (room : 2 * count ≤ slots) (is_known : Known count slots (nodes p.analysis.tree)) where
-    fits_search : Fits len slots (search_code p easy)
+    fits_search : Fits len slots (search_code p)
     fits_search =
         fits_if len slots p.anchored nothing (one (Instr.SplitUnanchored 3 1) >> one Instr.Any >> one (Instr.Jmp 0))
         (fits_nothing len slots)
@@ -98,34 +98,34 @@ module _ (p : Plan) (easy : Tree → Bool) where
               (item refl (item (good_jump len slots 0 (omega (arith, e))) no_item));
         })
 
-    fits_edge : (slot : ℕ) → slot < 2 → Fits len slots (edge_code p easy slot)
+    fits_edge : (slot : ℕ) → slot < 2 → Fits len slots (edge_code p slot)
     fits_edge slot lt =
         fits_if len slots p.analysis.explicit_capture_group_0 nothing (one (Instr.Save slot)) (fits_nothing len slots)
         (fits_plain len slots (Instr.Save slot) (lt-ltb slot slots (omega (arith, lt, two))))
 
-    fits_end_text : Fits len slots (end_text_code p easy)
+    fits_end_text : Fits len slots (end_text_code p)
     fits_end_text =
         fits_if len slots p.end_text (one Instr.RejectEmptyMatchAtEOFFollowingNewline) nothing
         (fits_plain len slots Instr.RejectEmptyMatchAtEOFFollowingNewline refl) (fits_nothing len slots)
 
     program_ends : Ends len slots (program_code p easy)
     program_ends =
-        let last = end_text_code p easy >> one Instr.End in
-        let behind = edge_code p easy 1 >> last in
+        let last = end_text_code p >> one Instr.End in
+        let behind = edge_code p 1 >> last in
         let tree = root >> behind in
-        next_ends len slots (search_code p easy) (edge_code p easy 0 >> tree) fits_search
-        (next_ends len slots (edge_code p easy 0) tree (fits_edge 0 (omega arith))
+        next_ends len slots (search_code p) (edge_code p 0 >> tree) fits_search
+        (next_ends len slots (edge_code p 0) tree (fits_edge 0 (omega arith))
         (next_ends len slots root behind
         (fits_root p easy len count slots two room is_known (called_code p easy (free_calls p.analysis.tree no_calls) no_calls)
         (fits_calls p easy len count slots two room is_known (free_calls p.analysis.tree no_calls) no_calls) false)
-        (next_ends len slots (edge_code p easy 1) last (fits_edge 1 (omega arith))
-        (next_ends len slots (end_text_code p easy) (one Instr.End) fits_end_text (end_ends len slots)))))
+        (next_ends len slots (edge_code p 1) last (fits_edge 1 (omega arith))
+        (next_ends len slots (end_text_code p) (one Instr.End) fits_end_text (end_ends len slots)))))
 
   -- ---- with the slots of the program itself
 
   module _ (is_known : (slots : ℕ) → 2 ≤ slots → 2 * count ≤ slots → Known count slots (nodes p.analysis.tree)) where
     abbrev laid : Laid
-    laid = program_code p easy 0 (first_fresh p easy)
+    laid = program_code p easy 0 (first_fresh p)
 
     abbrev slots : ℕ
     slots = max 2 laid.fresh
@@ -134,12 +134,12 @@ module _ (p : Plan) (easy : Tree → Bool) where
     len = length laid.instrs
 
     -- the slots are not fewer than the first fresh one
-    grown : first_fresh p easy ≤ laid.fresh
+    grown : first_fresh p ≤ laid.fresh
     grown =
         let enough = 2 + 2 * count in
         let two : 2 ≤ enough = omega arith in
         let room : 2 * count ≤ enough = omega arith in
-        (program_ends 0 enough two room (is_known enough two room)).grows 0 (first_fresh p easy)
+        (program_ends 0 enough two room (is_known enough two room)).grows 0 (first_fresh p)
 
     with_flag : (v : Bool) → 2 * count + (if v then 1 else 0) ≤ slots → (not v || nat_lt (2 * count) slots) ≡ true
     with_flag true le = lt-ltb (2 * count) slots (omega (arith, le))
@@ -157,9 +157,9 @@ module _ (p : Plan) (easy : Tree → Bool) where
         let ends = program_ends len slots two room (is_known slots two room) in
         both
         (both (le-leb 2 slots two) (le-leb (2 * count) slots room))
-        (both (last_is_end laid.instrs (ends.ends 0 (first_fresh p easy)))
+        (both (last_is_end laid.instrs (ends.ends 0 (first_fresh p)))
         (subst (λ flag. list_all (instr_fits len slots flag) laid.instrs ≡ true) (sym (with_flag p.end_text (omega (arith, grown))))
-        (all_pass (instr_fits len slots true) (ends.good 0 (first_fresh p easy) (omega arith) (omega arith)))))
+        (all_pass (instr_fits len slots true) (ends.good 0 (first_fresh p) (omega arith) (omega arith)))))
 
 pub layouts_fit : LayoutsFit
 unfolding layout undelegated_layout

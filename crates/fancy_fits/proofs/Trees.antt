@@ -34,7 +34,7 @@ nodes_of_both xs ys =
 
 -- the code of each call fits
 abbrev pub CallsFit : (len slots : ℕ) → (ℕ → Bool → Code) → Type 0
-CallsFit len slots call = (g : ℕ) (in_hard : Bool) → Fits len slots (λ base fresh. call g in_hard base fresh)
+CallsFit len slots call = (g : ℕ) (in_hard : Bool) → Fits len slots (call g in_hard)
 
 -- the branches of a body that is an alternation
 abbrev alternatives : Tree → Trees
@@ -114,21 +114,21 @@ module _ (p : Plan) (easy : Tree → Bool) (len count slots : ℕ) (two : 2 ≤ 
       fits_cut front middle back (subst (λ xs. KnownHere (all_nodes xs)) (sym cut) k)
       (every_append_parts middle back others).0
 
-  fits_alt : (ws : List Part) (in_hard : Bool) → Every PartFits ws → FitsHere (alt_code p easy ws in_hard)
+  fits_alt : (ws : List Part) (in_hard : Bool) → Every PartFits ws → FitsHere (alt_code ws in_hard)
   fits_alt ws in_hard h =
       fits_branches len slots (map (λ w. w.code in_hard) ws) (every_map (λ w. w.code in_hard) (λ w f. f in_hard) h)
 
-  fits_bodies : (ws : List Part) → Every PartFits ws → Every (BodyFits len slots) (map (body_code p easy) ws)
-  fits_bodies ws h = every_map (body_code p easy) (λ w f. f false) h
+  fits_bodies : (ws : List Part) → Every PartFits ws → Every (BodyFits len slots) (map (body_code p) ws)
+  fits_bodies ws h = every_map (body_code p) (λ w f. f false) h
 
   fits_absent_repeater : (e : Tree) (code : Bool → Code) → KnownHere (nodes e) → ((h : Bool) → FitsHere (code h)) →
       FitsHere (absent_repeater_code p easy e code)
   fits_absent_repeater e code k f =
       let plain = Instr.AbsentRepeater (pattern_of p.unicode (e ∷ [])) (fragment p.unicode (e ∷ [])) (group_range (e ∷ [])) in
       let out = absent_code (in_context p easy e code false) in
-      fits_if len slots (easy e) (one plain) (if is_refused_body p easy e then nothing else out)
+      fits_if len slots (easy e) (one plain) (if is_refused_body p e then nothing else out)
       (fits_plain len slots plain refl)
-      (fits_if len slots (is_refused_body p easy e) nothing out (fits_nothing len slots)
+      (fits_if len slots (is_refused_body p e) nothing out (fits_nothing len slots)
       (fits_absent len slots (in_context p easy e code false) (fits_in_context e code false k (f false))))
 
   -- ---- each node
@@ -149,7 +149,7 @@ module _ (p : Plan) (easy : Tree → Bool) (len count slots : ℕ) (two : 2 ≤ 
         Every PartFits (parts_of false (alternatives e)) → FitsHere (code_at (LookAround look e) at_start in_hard)
     fits_looks look (Alt es) at_start in_hard k f h =
         fits_look_around len slots look (size p.analysis.tree (Alt es), in_context p easy (Alt es) (code_at (Alt es) false) false)
-        (map (body_code p easy) (parts_of false es)) (fits_in_context (Alt es) (code_at (Alt es) false) false k f)
+        (map (body_code p) (parts_of false es)) (fits_in_context (Alt es) (code_at (Alt es) false) false k f)
         (fits_bodies (parts_of false es) h)
     fits_looks look e at_start in_hard k f h =
         fits_look_around len slots look (size p.analysis.tree e, in_context p easy e (code_at e false) false) []

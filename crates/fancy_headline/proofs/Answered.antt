@@ -13,7 +13,7 @@ use Rattle.fancy_meaning.specs.Theorems.{DelegationIsHarmless, Headline, RunsEnd
 use Rattle.fancy_laws.proofs.SizedWays.{first_is_sound}
 use Rattle.fancy_composed.proofs.Parts.{place_within}
 use Rattle.fancy_composed.proofs.Search.{task, q, fits, find_is, RootHands, answers, has_enough}
-use Rattle.fancy_delegation.proofs.Every.{every_weaken}
+use Rattle.fancy_laws.proofs.Every.{every_weaker}
 use Rattle.fancy_delegation.proofs.Admitted.{same_admitted}
 use Rattle.fancy_delegation.proofs.Delegated.{part_of}
 use Rattle.fancy_delegation.proofs.DelegatedCalls.{whole_thins}
@@ -48,7 +48,7 @@ module _ (i : Input) (text : List ℕ) (o : RunOptions) (accepted : IsAccepted i
         h.works,
         sym (find_is (is_admitted search start) (h.handed s))
             ∙ same_admitted (plan i) text o start fit.not_empty
-            (every_weaken (λ u on. record { from_start = on.on; in_text = place_within text u.place (on.sound).place }) onward)
+            (every_weaker (λ u on. record { from_start = on.on; in_text = place_within text u.place (on.sound).place }) onward)
             ((h.thins).by s start so (omega arith)),
       )
 

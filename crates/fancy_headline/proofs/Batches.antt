@@ -13,7 +13,7 @@ use Rattle.fancy_meaning.specs.Batches.{all_joined, literal_chars, each_literal,
 use Rattle.fancy_meaning.specs.Code as code
 use Rattle.fancy_meaning.specs.Code.{Code}
 use Rattle.fancy_meaning.specs.CompileRefusals.{IsWritten, IsAmong, here, there, part}
-use Rattle.fancy_delegation.proofs.Every.{Every, no_item, item, every_append}
+use Rattle.fancy_laws.proofs.Every.{Every, no_item, item, every_append}
 use Rattle.fancy_delegation.proofs.EasyNodes.{IsEasy}
 use Rattle.fancy_composed.proofs.Courses.{Ground}
 use Rattle.fancy_composed.proofs.Parts.{at_place, moves_at, setting, whole, Works}

@@ -115,7 +115,8 @@ module _ (i : Input) (text : List ℕ) (o : RunOptions) (accepted : IsAccepted i
         (subst
         (λ v. IsBounded task count (suc starts) (suc (suc (suc (suc (suc k))))) (if v then Goes d else push 1 c d))
         (sym many)
-        (attempted 3 at.attempt (again start ∷ []) (omega arith) count (suc starts) k failing (config 3 start no_slots [] (again start ∷ []) start count)
+        (attempted 3 at.attempt (again start ∷ []) (omega arith) count (suc starts) k failing
+        (config 3 start no_slots [] (again start ∷ []) start count)
         (record { pc = refl; branches = refl; backtracks = refl })))
 
     -- all starts from one on

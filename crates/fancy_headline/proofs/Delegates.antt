@@ -11,7 +11,8 @@ use Rattle.fancy_meaning.specs.Code as code
 use Rattle.fancy_meaning.specs.Config.{Slots, Branch, with_pairs, number_in}
 use Rattle.fancy_meaning.specs.Machine.{takes_way}
 use Rattle.fancy_meaning.specs.Hands.{start_number, end_number}
-use Rattle.fancy_delegation.proofs.Every.{Every, no_item, item, IsIn, every_flat_map, every_weaken}
+use Rattle.fancy_laws.proofs.Every.{Every, no_item, item, every_flat_map, every_weaker}
+use Rattle.fancy_delegation.proofs.Items.{IsIn}
 use Rattle.fancy_delegation.proofs.Everywhere.{everywhere_from}
 use Rattle.fancy_delegation.proofs.Related.{ways_related}
 use Rattle.fancy_delegation.proofs.Kept.{IsKept, EachKept, relates_kept}
@@ -67,7 +68,7 @@ module _ (count : ℕ) (q : Setting) where
   fragment_unused no_item s = item (λ g u. refl) no_item
   fragment_unused (item {x = e} {xs = es} k ks) s =
       every_flat_map (fragment_ways q (λ g. fails) es)
-      (λ t r. every_weaken (λ u r' g v. r g v ∙ r' g v) (fragment_unused ks t)) (unused_kept e k s)
+      (λ t r. every_weaker (λ u r' g v. r g v ∙ r' g v) (fragment_unused ks t)) (unused_kept e k s)
 
 -- ---- the pairs over the slots
 

@@ -11,7 +11,7 @@ use Rattle.fancy_meaning.specs.Ways.{Setting, ways_with, each_ways}
 use Rattle.fancy_meaning.specs.Batches.{all_joined, literal_chars, each_literal}
 use Rattle.fancy_composed.proofs.Parts.{at_place, moves_at}
 use Rattle.fancy_composed.proofs.Texts.{bytes_append, char_by_bytes, bytes_stand}
-use Rattle.fancy_delegation.proofs.Every.{Every, no_item, item}
+use Rattle.fancy_laws.proofs.Every.{Every, no_item, item}
 use Rattle.fancy_delegation.proofs.Literals.{each_literal_way}
 
 -- characters with whether they are folded

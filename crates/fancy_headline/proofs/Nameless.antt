@@ -2,7 +2,7 @@
 use Rattle.std.proofs.Common.{◌≡◌, ℕ, suc, Bool, true, false, ◌&&◌, ◌==◌, nat_lt, if◌then◌else◌, List, [], ◌∷◌, ◌++◌, length, arith, map, flat_map, Option, Some, None, encode_utf8, codes, decimal, ltb-false, refl, ap, ◌∙◌, append-nil}
 use Rattle.fancy_meaning.specs.Tree.{Tree, Trees, none, more, Empty, KeepOut, ContinueFromPreviousMatchEnd, AbsentClear, Any, Assert, GeneralNewline, Literal, LiteralBytes, Delegate, Concat, Alt, Group, LookAround, Repeat, Backref, BackrefWithLevel, BackrefExists, AtomicGroup, DefineGroup, AbsentRepeater, AbsentStopper, AbsentExpression, Control, Conditional, SubroutineCall, AstNode, Assertion, StartText, EndText, EndTextIgnoreTrailingNewlines, StartLine, StartLineOniguruma, EndLine, LeftWordBoundary, RightWordBoundary, LeftWordHalfBoundary, RightWordHalfBoundary, WordBoundary, NotWordBoundary}
 use Rattle.fancy_meaning.specs.MatchState.{MatchState, Ways, in_order}
-use Rattle.fancy_delegation.proofs.Every.{Every, no_item, item}
+use Rattle.fancy_laws.proofs.Every.{Every, no_item, item}
 use Rattle.fancy_meaning.specs.Ways.{Setting, ways_with, each_ways}
 use Rattle.fancy_meaning.specs.Options.{Analysis}
 use Rattle.fancy_meaning.specs.PatternText.{Text, text_of, each_text, joined, assertion_text, bounds_text, any_text, escaped, wrapped, wrapped_if}

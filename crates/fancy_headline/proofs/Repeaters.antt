@@ -15,7 +15,7 @@ use Rattle.fancy_meaning.specs.Batches.{fragment}
 use Rattle.fancy_meaning.specs.Code as code
 use Rattle.fancy_meaning.specs.Config.{Slots, Branch, Config, Next, Goes, forward}
 use Rattle.fancy_meaning.specs.Machine.{first_way, takes_char}
-use Rattle.fancy_delegation.proofs.Every.{no_item, item}
+use Rattle.fancy_laws.proofs.Every.{no_item, item}
 use Rattle.fancy_delegation.proofs.EasyNodes.{IsEasy}
 use Rattle.fancy_delegation.proofs.Alike.{pairs_head}
 use Rattle.fancy_delegation.proofs.Fragments.{over_first_state, fragment_over}
@@ -134,7 +134,8 @@ module _ (w : Ground) (e : Tree) (easy : IsEasy (w.plan).analysis e) (meant : 鈩
             (sym
             (absent_from w (w.is_text).utf8 x s (places_from text j) false q
             (places_on text (w.is_text).utf8 s.place c.0 ok.place c.1)))
-            (goes_on s slots bs count j (absent (setting w) x (moved_to j s)) st (fragment_found false q false (ne_eqb s.place (length text) (位 p. omega (arith, p, lt))))
+            (goes_on s slots bs count j (absent (setting w) x (moved_to j s)) st
+            (fragment_found false q false (ne_eqb s.place (length text) (位 p. omega (arith, p, lt))))
             (ap (option_and_then (位 d. Some (s.place + len_utf8 d))) c.1)
             (位 cs. ih (moved_to j s) cs (omega (arith, some, le)) so (stands_moved w s j slots st)))
 

@@ -14,7 +14,8 @@ use Rattle.fancy_composed.proofs.Parts.{setting, whole}
 use Rattle.fancy_composed.proofs.Ready.{Ready}
 use Rattle.fancy_composed.proofs.Trees.{class_there}
 use Rattle.fancy_composed.proofs.Accepted.{ready}
-use Rattle.fancy_delegation.proofs.Every.{IsIn, every_weaken, contained_is_in}
+use Rattle.fancy_laws.proofs.Every.{every_weaker}
+use Rattle.fancy_delegation.proofs.Items.{IsIn, contained_is_in}
 use Rattle.fancy_delegation.proofs.ThinnedDelegates.{batch_agrees}
 use Rattle.fancy_delegation.proofs.OnMachine.{analysed_of, w}
 use Rattle.fancy_delegation.proofs.Harmless.{BatchesWork, EasyRepeatersWork}
@@ -39,9 +40,9 @@ batches_work i accepted task is_text fits start base bottom falls es depths h wr
     let a = analysed_of i (length program.body) accepted in
     works_batch g r (called (setting g) (whole g) (free_calls (whole g) depths) depths)
     (λ inner casei wd. class_there g r depths inner casei wd _ refl) es wr
-    (every_weaken (λ e d. d.easy) h) (every_weaken (λ e d. numbered g r e d.there) h)
+    (every_weaker (λ e d. d.easy) h) (every_weaker (λ e d. numbered g r e d.there) h)
     (λ s.
-    every_weaken (λ t k. record { kept = k.kept; flag = k.flag })
+    every_weaker (λ t k. record { kept = k.kept; flag = k.flag })
     (batch_agrees sizes_hold a i.options (setting g) is_text depths accepted.same_end_text h s))
 
 pub easy_repeaters_work : EasyRepeatersWork

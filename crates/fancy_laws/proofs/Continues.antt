@@ -9,7 +9,7 @@ use Rattle.fancy_meaning.specs.MatchState.{MatchState, Ways, with_span, in_order
 use Rattle.fancy_meaning.specs.Ways.{Setting, each_ways, called, ways}
 use Rattle.fancy_meaning.specs.Answer.{Search, ways_from}
 use Rattle.fancy_meaning.specs.Sizes.{size}
-use Rattle.fancy_meaning.specs.Premises.{IsSound, Analysed, tree_of, IsText}
+use Rattle.fancy_meaning.specs.Premises.{IsSoundState, Analysed, tree_of, IsText}
 use Rattle.fancy_meaning.specs.Marks.{is_continue, takes_nothing, has_marked_continue}
 use Rattle.fancy_laws.proofs.Every.{Every, item, every_flat_map, every_map, every_anything, every_weaker}
 use Rattle.fancy_laws.proofs.WaysOf.{every_stays_if}
@@ -26,7 +26,7 @@ nothing_there [] h no_way = refl
 nothing_there (x ∷ xs) (item p h) no_way = absurd (no_way x p)
 
 module _ (q : Setting) (whole : Tree) (depths : Depths)
-    (sizes : (e : Tree) → Contains (nodes whole) e → (s : MatchState) → IsSound q whole s →
+    (sizes : (e : Tree) → Contains (nodes whole) e → (s : MatchState) → IsSoundState q whole s →
     Every (IsSizedWay q whole (is_read whole) (size whole e) s) (ways q whole e depths s)) where
   -- a way that takes no characters ends where it began
   no_move : (e : Tree) (s t : MatchState) → takes_nothing whole e ≡ true → IsSizedWay q whole (is_read whole) (size whole e) s t →
@@ -44,7 +44,7 @@ module _ (q : Setting) (whole : Tree) (depths : Depths)
 
   mutual
     begins : (e : Tree) → Includes (nodes whole) (nodes e) → has_marked_continue whole e ≡ true →
-        (s : MatchState) → IsSound q whole s →
+        (s : MatchState) → IsSoundState q whole s →
         Every (λ t. s.place ≡ q.pos) (ways q whole e depths s)
     begins ContinueFromPreviousMatchEnd part is s sound =
         every_stays_if (λ t. q.continued && t.place == q.pos) s
@@ -57,7 +57,7 @@ module _ (q : Setting) (whole : Tree) (depths : Depths)
     begins e part is s sound = absurd (false≢true is)
 
     each_begins : (es : Trees) → Includes (nodes whole) (nodes_of_each es) →
-        first_has_continue whole es ≡ true → (s : MatchState) → IsSound q whole s →
+        first_has_continue whole es ≡ true → (s : MatchState) → IsSoundState q whole s →
         Every (λ t. s.place ≡ q.pos) (in_order (each_ways q (called q whole (free_calls whole depths) depths) es) s)
     each_begins none part is s sound = absurd (false≢true is)
     each_begins (more e es) part is s sound =

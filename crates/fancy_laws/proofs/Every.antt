@@ -14,9 +14,10 @@ pub every_weaker : {A : Type 0} {P Q : A → Type 0} {xs : List A} → ((x : A) 
 every_weaker k no_item = no_item
 every_weaker k (item {x = x} p h) = item (k x p) (every_weaker k h)
 
-pub every_both : {A : Type 0} {P Q : A → Type 0} {xs : List A} → Every P xs → Every Q xs → Every (λ x. P x × Q x) xs
-every_both no_item h = no_item
-every_both (item p h) (item q k) = item (p, q) (every_both h k)
+pub every_both : {A : Type 0} {P Q R : A → Type 0} {xs : List A} → ((x : A) → P x → Q x → R x) →
+    Every P xs → Every Q xs → Every R xs
+every_both k no_item h = no_item
+every_both k (item {x = x} p h) (item q h') = item (k x p q) (every_both k h h')
 
 pub every_append : {A : Type 0} {P : A → Type 0} {xs ys : List A} → Every P xs → Every P ys → Every P (xs ++ ys)
 every_append no_item k = k

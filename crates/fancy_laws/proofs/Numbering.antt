@@ -105,9 +105,9 @@ each_finds_body n (suc k) (h ∷ hs) e =
     let first : h.0 ≡ n = cc in
     let rest : map (λ x. x.0) hs ≡ range_from (suc n) k = cc in
     item (cond-true (h.0 == h.0) (Some h.1) (body_in hs h.0) (eq-eqb h.0 h.0 refl))
-    (every_weaker
-    (λ x b. cond-false (h.0 == x.0) (Some h.1) (body_in hs x.0) (ne_eqb h.0 x.0 (λ same. omega (arith, same, first, b.0))) ∙ b.1)
-    (every_both (after_first (suc n) k hs rest) (each_finds_body (suc n) k hs rest)))
+    (every_both
+    (λ x le finds. cond-false (h.0 == x.0) (Some h.1) (body_in hs x.0) (ne_eqb h.0 x.0 (λ same. omega (arith, same, first, le))) ∙ finds)
+    (after_first (suc n) k hs rest) (each_finds_body (suc n) k hs rest))
 
 group_among : (es : List Tree) (g : ℕ) (body : Tree) → Contains es (Group g body) → Contains (filter_map as_group es) (g, body)
 group_among es g body c = every_contained (Group g body) (every_node_is_among es) c (g, body) refl

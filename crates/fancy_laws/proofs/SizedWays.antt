@@ -9,7 +9,7 @@ use Rattle.fancy_meaning.specs.Places.{is_place, chars_between}
 use Rattle.fancy_meaning.specs.MatchState.{MatchState, Span, Ways, moved_to, with_span, first_state, one_of}
 use Rattle.fancy_meaning.specs.Ways.{Setting, ways_with, each_ways}
 use Rattle.fancy_meaning.specs.Sizes.{Size, exactly, plus, either, any_of, size_of_group, each_size, known_of, size}
-use Rattle.fancy_meaning.specs.Premises.{IsSoundFor, IsSound, IsSized}
+use Rattle.fancy_meaning.specs.Premises.{IsSoundFor, IsSoundState, IsSized}
 use Rattle.fancy_laws.proofs.Every.{Every, no_item, item, every_append, every_weaker, every_contained}
 use Rattle.fancy_laws.proofs.Looks.{IsLooking}
 use Rattle.fancy_laws.proofs.Loops.{IsIterable}
@@ -50,7 +50,7 @@ unfolding read_groups
 reference_reads whole g casei c = every_contained (Backref g casei) (read_found (nodes whole)) c g refl
 
 -- an attempt begins with a sound state
-pub first_is_sound : (q : Setting) (whole : Tree) (start : ℕ) → is_place q.text start ≡ true → IsSound q whole (first_state start)
+pub first_is_sound : (q : Setting) (whole : Tree) (start : ℕ) → is_place q.text start ≡ true → IsSoundState q whole (first_state start)
 first_is_sound q whole start at =
     record { place = at; spans = λ g span e. absurd (none-some span e); sizes = λ g span read e. absurd (none-some span e) }
 

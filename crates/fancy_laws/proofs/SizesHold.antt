@@ -13,7 +13,7 @@ use Rattle.fancy_meaning.specs.Moves.{past_char, past_chars, past_newline, past_
 use Rattle.fancy_meaning.specs.MatchState.{MatchState, Ways, with_span, one_of, in_order}
 use Rattle.fancy_meaning.specs.Ways.{Setting, moves, ways_with, each_ways, called, ways_of_target, captured_by_call, ways}
 use Rattle.fancy_meaning.specs.Sizes.{Size, exactly, between, plus, either, sum_of, any_of, size_of_target, size_of_group, each_size, known_of, size}
-use Rattle.fancy_meaning.specs.Premises.{IsSoundFor, IsSound, IsSized, Analysed, tree_of, IsText}
+use Rattle.fancy_meaning.specs.Premises.{IsSoundFor, IsSoundState, IsSized, Analysed, tree_of, IsText}
 use Rattle.fancy_laws.proofs.Every.{Every, no_item, every_one, every_flat_map, every_map, every_take, every_weaker, every_contained}
 use Rattle.fancy_laws.proofs.WaysOf.{every_stays_if, every_moves, every_asserts, every_conditional, every_absent}
 use Rattle.fancy_laws.proofs.Looks.{every_look}
@@ -199,13 +199,13 @@ module _ (q : Setting) (whole : Tree) (utf8 : IsUtf8 q.text) (orderly : IsOrderl
       (nodes_below whole e c)
 
 pub ways_have_sizes : (q : Setting) (whole : Tree) → IsUtf8 q.text → IsOrderly whole → (e : Tree) (depths : Depths) →
-    Contains (nodes whole) e → (s : MatchState) → IsSound q whole s →
+    Contains (nodes whole) e → (s : MatchState) → IsSoundState q whole s →
     Every (IsSizedWay q whole (is_read whole) (size whole e) s) (ways q whole e depths s)
 ways_have_sizes q whole utf8 orderly = ways_keep_sizes q whole utf8 orderly (is_read whole) (λ g read. read)
 
 pub sizes_hold : (q : Setting) (a : Analysed) (e : Tree) (depths : Depths) (s t : MatchState) →
-    IsText q.text → Contains (nodes (tree_of a)) e → IsSound q (tree_of a) s → Contains (ways q (tree_of a) e depths s) t →
-    IsSound q (tree_of a) t × IsSized (size (tree_of a) e) (chars_between q.text s.place t.place)
+    IsText q.text → Contains (nodes (tree_of a)) e → IsSoundState q (tree_of a) s → Contains (ways q (tree_of a) e depths s) t →
+    IsSoundState q (tree_of a) t × IsSized (size (tree_of a) e) (chars_between q.text s.place t.place)
 sizes_hold q a e depths s t text c is w =
     let way = every_contained t (ways_have_sizes q (tree_of a) text.utf8 (analysed_is_orderly a) e depths c s is) w in
     (way.sound, way.sized)

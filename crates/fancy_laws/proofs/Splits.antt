@@ -28,10 +28,12 @@ module _ {A : Type 0} where
   before_and_back test xs =
       let tail = take_while test (reverse xs) in
       let rest = drop (length tail) (reverse xs) in
-      let whole : reverse rest ++ reverse tail ≡ xs = sym (reverse-append tail rest) ∙ ap reverse (front_and_rest test (reverse xs)) ∙ reverse-reverse xs in
+      let whole : reverse rest ++ reverse tail ≡ xs =
+      sym (reverse-append tail rest) ∙ ap reverse (front_and_rest test (reverse xs)) ∙ reverse-reverse xs in
       let sum = ap length (sym whole) ∙ length-append (reverse rest) (reverse tail) in
       let count : length xs - length (reverse tail) ≡ length (reverse rest) = omega (arith, sum) in
-      let front : take (length xs - length (reverse tail)) xs ≡ reverse rest = ap₂ take count (sym whole) ∙ take-append_seam (reverse rest) (reverse tail) in
+      let front : take (length xs - length (reverse tail)) xs ≡ reverse rest =
+      ap₂ take count (sym whole) ∙ take-append_seam (reverse rest) (reverse tail) in
       ap (λ l. l ++ reverse tail) front ∙ whole
 
   -- the three together

@@ -1,16 +1,17 @@
 -- When a tree is refused by its analysis, and as what.
-use Rattle.std.specs.Prelude.{◌≡◌, ℕ, ◌+◌, ◌-◌, ◌<◌, ◌≤◌, ◌⊎◌, Bool, true, false, ◌&&◌, ◌||◌, List, [], ◌++◌, max, Contains, Option, Some, IsTrue, if◌then◌else◌, nat_lt, ◌==◌, slice_get, codes, decimal}
+use Rattle.std.specs.Prelude.{◌≡◌, ℕ, ◌+◌, ◌-◌, ◌<◌, Bool, true, false, ◌&&◌, ◌||◌, List, [], ◌++◌, Contains, Some, IsTrue, if◌then◌else◌, nat_lt, ◌==◌, slice_get, codes, decimal}
 use Rattle.std.specs.Ordering.{nat_cmp, is_le}
 use Rattle.std.specs.Cmp.Lexicographic.{slice_cmp}
 use Rattle.fancy_meaning.specs.Tree.{Tree, Backref, BackrefWithLevel, SubroutineCall, AstNode, UnresolvedCall, UnresolvedOther}
 use Rattle.fancy_meaning.specs.Nodes.{nodes, groups, group_count}
-use Rattle.fancy_meaning.specs.Options.{ParsedTree, AnalysisOptions, Analysis, analysis_of}
+use Rattle.fancy_meaning.specs.Options.{ParsedTree, AnalysisOptions, analysis_of}
 use Rattle.fancy_meaning.specs.Spots.{Spot, spots}
 use Rattle.fancy_meaning.specs.Recursion.{IsLeastLeftRecursive, CanEnd}
 use Rattle.fancy_meaning.specs.WellFormed.{Has, refers, is_call}
 
 pub data CompileError : Type 0 where
-  NamedBackrefOnly FeatureNotYetSupported SubroutineCallTargetNotFound UnresolvedAstNode NeverEndingRecursion : CompileError
+  NamedBackrefOnly FeatureNotYetSupported SubroutineCallTargetNotFound UnresolvedAstNode : CompileError
+  NeverEndingRecursion : CompileError
   VariableLookBehindRequiresFeature PatternTooComplex : CompileError
   InvalidBackref : (group : ℕ) → CompileError
   -- the text describes the group
@@ -60,7 +61,8 @@ pub record IsLeastName (names : List (List ℕ × List ℕ)) (g : ℕ) (name : L
 -- how a target is described
 pub data Describes (names : List (List ℕ × List ℕ)) (g : ℕ) : List ℕ → Type 0 where
   by_number : ((name : List ℕ) → ¬ IsNamed names g name) → Describes names g (codes "group " ++ decimal g)
-  by_name : {name : List ℕ} → IsLeastName names g name → Describes names g (codes "group '" ++ name ++ codes "' (" ++ decimal g ++ codes ")")
+  by_name : {name : List ℕ} → IsLeastName names g name →
+      Describes names g (codes "group '" ++ name ++ codes "' (" ++ decimal g ++ codes ")")
 
 module _ (p : ParsedTree) (options : AnalysisOptions) where
   abbrev tree : Tree
@@ -88,4 +90,5 @@ module _ (p : ParsedTree) (options : AnalysisOptions) where
   -- the error with which `analyze` may refuse, and does refuse with one of them
   pub data AnalysisRefuses : CompileError → Type 0 where
     before_end : {error : CompileError} → RefusesBeforeEnd error → AnalysisRefuses error
-    never_ends : Has tree is_call → ¬ CanEnd tree tree → ((error : CompileError) → ¬ RefusesBeforeEnd error) → AnalysisRefuses NeverEndingRecursion
+    never_ends : Has tree is_call → ¬ CanEnd tree tree → ((error : CompileError) → ¬ RefusesBeforeEnd error) →
+        AnalysisRefuses NeverEndingRecursion

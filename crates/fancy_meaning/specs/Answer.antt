@@ -1,5 +1,5 @@
 -- What a search answers: the first admitted way at the earliest start that has one.
-use Rattle.std.specs.Prelude.{ℕ, Bool, ◌&&◌, ◌||◌, not, List, [], ◌∷◌, length, min, map, filter, filter_map, flat_map, Option, Some, None, if◌then◌else◌, ◌==◌, slice_get, option_map}
+use Rattle.std.specs.Prelude.{ℕ, Bool, ◌&&◌, ◌||◌, not, List, [], ◌∷◌, length, min, filter, filter_map, flat_map, Option, Some, None, if◌then◌else◌, ◌==◌, slice_get, option_map}
 use Rattle.regex_hir.specs.Text.{is_some_and, byte_before}
 use Rattle.fancy_meaning.specs.Numbers.{usize_max}
 use Rattle.fancy_meaning.specs.Tree.{Tree}
@@ -37,7 +37,8 @@ abbrev pub span_numbers : Option Span → List ℕ
 span_numbers None = usize_max ∷ usize_max ∷ []
 span_numbers (Some (i, j)) = i ∷ j ∷ []
 
--- The spans of n groups from 1 on, after that of group 0: from the kept start, or the end where that is less, to the end.
+-- The spans of n groups from 1 on, after that of group 0: from the kept start, or the end where that is less, to the
+-- end.
 unfoldable pub as_numbers : ℕ → MatchState → List ℕ
 as_numbers n s = min s.kept s.place ∷ s.place ∷ flat_map (λ g. span_numbers (s.captures g)) (range_from 1 n)
 

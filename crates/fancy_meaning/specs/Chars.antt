@@ -34,7 +34,8 @@ abbrev pub is_newline : Bool → ℕ → Bool
 is_newline unicode c =
     (nat_le 10 c && nat_le c 13) || (unicode && (c == 0x85 || (nat_le 0x2028 c && nat_le c 0x2029)))
 
--- Alphabetic, Mark, Decimal_Number, Connector_Punctuation or Join_Control; without `unicode` ASCII letters, digits and `_`
+-- Alphabetic, Mark, Decimal_Number, Connector_Punctuation or Join_Control; without `unicode` ASCII letters, digits
+-- and `_`
 unfoldable pub is_word : Bool → ℕ → Bool
 is_word unicode c = if unicode then is_word_char c else is_word_byte c
 
@@ -54,7 +55,9 @@ class_pattern unicode inner casei = codes "\\A" ++ class_opening unicode casei +
 -- what `regex` reads in a pattern's text: it is one, and is not nested too deep
 abbrev pub pattern_in : List ℕ → Option Re
 pattern_in text =
-    option_and_then (λ r. if nat_le r.0.depth default_config.nest_limit then Some r.0.value else None) (read default_config (chars text))
+    option_and_then
+    (λ r. if nat_le r.0.depth default_config.nest_limit then Some r.0.value else None)
+    (read default_config (chars text))
 
 -- the class text has a pattern
 unfoldable pub is_class : Bool → List ℕ → Bool → Bool

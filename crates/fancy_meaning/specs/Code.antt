@@ -53,7 +53,9 @@ branch a b base fresh =
     let other = base + 1 + length first.instrs + 1 in
     let second = b other first.fresh in
     record {
-      instrs = Instr.Split (base + 1) other ∷ (first.instrs ++ (Instr.Jmp (other + length second.instrs) ∷ second.instrs));
+      instrs =
+          Instr.Split (base + 1) other
+          ∷ (first.instrs ++ (Instr.Jmp (other + length second.instrs) ∷ second.instrs));
       fresh = second.fresh;
     }
 

@@ -1,5 +1,5 @@
 -- When a tree that was analysed is not compiled, and as what.
-use Rattle.std.specs.Prelude.{◌≡◌, ◌≢◌, ℕ, ◌<◌, Bool, false, true, List, Option, Some, None, IfSome, IsTrue, IsFalse}
+use Rattle.std.specs.Prelude.{◌≡◌, ◌≢◌, ℕ, ◌<◌, Bool, false, true, List, Some, None, IsTrue, IsFalse}
 use Rattle.std.specs.List.{list_any}
 use Rattle.fancy_meaning.specs.Tree.{Tree, Trees, none, more, parts, Delegate, Alt, LookAround, Repeat, BackrefExists, DefineGroup, AbsentRepeater, AbsentStopper, AbsentExpression, Control, SubroutineCall, Look, LookAhead, LookAheadNeg, LookBehind, LookBehindNeg, Verb, Fail}
 use Rattle.fancy_meaning.specs.Nodes.{nodes, target, is_absent}
@@ -67,15 +67,21 @@ module _ (p : Plan) where
     control_verb : {verb : Verb} → verb ≢ Fail → RefusesNode (Control verb) FeatureNotYetSupported
     absent_in_hard_repeater : {e : Tree} → IsTrue (is_hard p.analysis e) → IsTrue (list_any is_absent (nodes e)) →
         RefusesNode (AbsentRepeater e) FeatureNotYetSupported
-    absent_other : {e : Tree} → IsTrue (is_absent e) → ((d : Tree) → e ≢ AbsentRepeater d) → RefusesNode e FeatureNotYetSupported
-    variable_lookbehind : {look : Look} {e : Tree} → IsVariableLookbehind look e → RefusesNode (LookAround look e) VariableLookBehindRequiresFeature
-    missing_group : {g : ℕ} → target p.analysis.tree g ≡ None → RefusesNode (SubroutineCall g) SubroutineCallTargetNotFound
-    no_class : {inner : List ℕ} {casei : Bool} → IsFalse (is_class p.unicode inner casei) → RefusesNode (Delegate inner casei) (InnerError inner)
+    absent_other : {e : Tree} → IsTrue (is_absent e) → ((d : Tree) → e ≢ AbsentRepeater d) →
+        RefusesNode e FeatureNotYetSupported
+    variable_lookbehind : {look : Look} {e : Tree} → IsVariableLookbehind look e →
+        RefusesNode (LookAround look e) VariableLookBehindRequiresFeature
+    missing_group : {g : ℕ} → target p.analysis.tree g ≡ None →
+        RefusesNode (SubroutineCall g) SubroutineCallTargetNotFound
+    no_class : {inner : List ℕ} {casei : Bool} → IsFalse (is_class p.unicode inner casei) →
+        RefusesNode (Delegate inner casei) (InnerError inner)
 
   -- The error with which `compile` refuses, where the program would have so many instructions.
   pub data CompileRefuses (instructions : ℕ) : CompileError → Type 0 where
-    refused_node : {e : Tree} {error : CompileError} → IsWritten p.analysis.tree e → RefusesNode e error → CompileRefuses instructions error
-    too_long : {most : ℕ} → p.max_prog_size ≡ Some most → most < instructions → CompileRefuses instructions PatternTooComplex
+    refused_node : {e : Tree} {error : CompileError} → IsWritten p.analysis.tree e → RefusesNode e error →
+        CompileRefuses instructions error
+    too_long : {most : ℕ} → p.max_prog_size ≡ Some most → most < instructions →
+        CompileRefuses instructions PatternTooComplex
     bytes_mode : p.bytes_mode ≢ Unicode → CompileRefuses instructions FeatureNotYetSupported
 
   -- a class text with which `compile` may refuse besides, where `regex` finds it too big

@@ -41,7 +41,8 @@ look_around_code LookAheadNeg body bodies = negative_look_code body.1
 look_around_code LookBehind body bodies =
     if body.0.is_const then behind_code look_code body else branches (map (behind_code look_code) bodies)
 look_around_code LookBehindNeg body bodies =
-    if body.0.is_const then behind_code negative_look_code body else in_turn (map (behind_code negative_look_code) bodies)
+    if body.0.is_const then behind_code negative_look_code body
+    else in_turn (map (behind_code negative_look_code) bodies)
 
 -- ---- loops
 
@@ -78,7 +79,8 @@ epsilon_code greedy lo body =
 
 abbrev pub counted_code : Bool → ℕ → Option ℕ → Code → Code
 counted_code greedy lo hi body =
-    over_fresh_slot (λ repeat. one (Instr.Save0 repeat) >> loop_code (λ here after. Instr.Repeat greedy lo hi after repeat) body)
+    over_fresh_slot (λ repeat.
+    one (Instr.Save0 repeat) >> loop_code (λ here after. Instr.Repeat greedy lo hi after repeat) body)
 
 abbrev pub repeat_code : Bool → Code → LoopForm → Code
 repeat_code greedy body Never = nothing

@@ -50,8 +50,8 @@ module _ (t : Task) where
   abbrev pub outcome_after : ℕ → Next → Outcome
   outcome_after n next = then_on t (exec t n) next
 
-  -- After these instructions, however many are left then, the machine goes on as from the other with what is left, or it
-  -- passes a limit on backtracks or on branches.
+  -- After these instructions, however many are left then, the machine goes on as from the other with what is left, or
+  -- it passes a limit on backtracks or on branches.
   pub record Leads (from to : Next) : Type 0 where
     pub instructions : ℕ
     pub by : (n : ℕ) →
@@ -76,8 +76,8 @@ module _ (t : Task) where
   abbrev pub IsOutsideState : ℕ → Type 0
   IsOutsideState k = (k ≡ 1) ⊎ (flag_slot t.program + bit (t.program).end_text ≤ k)
 
-  -- At c the part is left with state s, over branches of its own. Slots outside the state that it did not take are as at
-  -- its entry.
+  -- At c the part is left with state s, over branches of its own. Slots outside the state that it did not take are as
+  -- at its entry.
   pub record IsLeft (part : Stretch) (s : MatchState) (c : Config) (own : List _) : Type 0 where
     pub at_exit : c.pc ≡ part.exit
     pub branches : c.branches ≡ own ++ (part.entry).branches
@@ -89,7 +89,10 @@ module _ (t : Task) where
 
   -- the part is left with these states in turn, and after the last it fails into the branches below
   pub data Hands (part : Stretch) : Next → List MatchState → Type 0 where
-    no_more : {from : Next} (d : Config) → d.start ≡ (part.entry).start → Leads from (fail_to t (part.entry).branches d) → Hands part from []
-    next_way : {from : Next} {s : MatchState} {ss : List MatchState} (c : Config) (own : List _) → Leads from (Goes c) →
-        IsLeft part s c own → ((d : Config) → d.start ≡ c.start → Hands part (fail_to t c.branches d) ss) →
+    no_more : {from : Next} (d : Config) → d.start ≡ (part.entry).start →
+        Leads from (fail_to t (part.entry).branches d) →
+        Hands part from []
+    next_way : {from : Next} {s : MatchState} {ss : List MatchState} (c : Config) (own : List _) →
+        Leads from (Goes c) → IsLeft part s c own →
+        ((d : Config) → d.start ≡ c.start → Hands part (fail_to t c.branches d) ss) →
         Hands part from (s ∷ ss)

@@ -1,5 +1,5 @@
 -- When one list of states serves for another.
-use Rattle.std.specs.Prelude.{◌≡◌, ℕ, Bool, true, false, ◌&&◌, ◌||◌, not, List, [], ◌∷◌, map, flat_map, Option, Some, None, if◌then◌else◌, ◌==◌, bytes_eq}
+use Rattle.std.specs.Prelude.{◌≡◌, ℕ, Bool, true, false, ◌&&◌, not, List, [], ◌∷◌, map, filter, flat_map, Option, Some, None, ◌==◌, bytes_eq}
 use Rattle.fancy_meaning.specs.Tree.{Tree}
 use Rattle.fancy_meaning.specs.Nodes.{read_groups}
 use Rattle.fancy_meaning.specs.OpenCalls.{targets}
@@ -31,8 +31,8 @@ unfoldable pub whole_key : Tree → Key
 whole_key whole s = key_with s.place true (targets whole) s
 
 module _ (p : Plan) where
-  -- The end, the spans that are read and, under the end-of-text option, the flag, by which later parts and the end of an
-  -- attempt go; and the kept start. Other spans are answered as well, and are not compared.
+  -- The end, the spans that are read and, under the end-of-text option, the flag, by which later parts and the end of
+  -- an attempt go; and the kept start. Other spans are answered as well, and are not compared.
   unfoldable pub key : Key
   key s = key_with s.place p.end_text (read_groups p.analysis.tree) s
 
@@ -41,21 +41,10 @@ module _ (p : Plan) where
   easy_key from s =
       key_with (bit (p.analysis.find_not_empty && not (s.place == from))) p.end_text (read_groups p.analysis.tree) s
 
--- the keys that occurred before, as a test
-abbrev pub Seen : Type 0
-Seen = List ℕ → Bool
-
-abbrev pub with_key : List ℕ → Seen → Seen
-with_key k seen other = bytes_eq k other || seen other
-
--- each state whose key did not occur before
-abbrev pub reduced_from : Seen → Key → List MatchState → List MatchState
-reduced_from seen by [] = []
-reduced_from seen by (s ∷ ss) =
-    if seen (by s) then reduced_from seen by ss else s ∷ reduced_from (with_key (by s) seen) by ss
-
+-- the first state of each key
 abbrev pub reduced : Key → List MatchState → List MatchState
-reduced by ss = reduced_from (λ k. false) by ss
+reduced by [] = []
+reduced by (s ∷ ss) = s ∷ filter (λ t. not (bytes_eq (by s) (by t))) (reduced by ss)
 
 -- hs has the states of qs in their order, up to those whose key occurred before
 abbrev pub Thins : Key → List MatchState → List MatchState → Type 0

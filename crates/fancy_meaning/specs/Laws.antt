@@ -12,7 +12,7 @@ use Rattle.fancy_meaning.specs.Options.{AnalysisOptions, analysis_of}
 use Rattle.fancy_meaning.specs.Numbers.{usize_max}
 use Rattle.fancy_meaning.specs.Sizes.{size}
 use Rattle.fancy_meaning.specs.Fits.{settable_groups}
-use Rattle.fancy_meaning.specs.Premises.{Analysed, tree_of, IsText, IsSpan, IsSized, IsSound, HasSpans, IsSoundFor}
+use Rattle.fancy_meaning.specs.Premises.{Analysed, tree_of, IsText, IsSpan, IsSized, IsSoundState, HasSpans, IsSoundFor}
 use Rattle.fancy_meaning.specs.Marks.{passes_mark, marked_nodes, first_marked_nodes, has_marked_continue}
 
 -- ---- loops and calls, without a count
@@ -20,7 +20,8 @@ use Rattle.fancy_meaning.specs.Marks.{passes_mark, marked_nodes, first_marked_no
 -- With none required, an unbounded loop goes on by a way of its body, and by one that moves nothing it is left; or it
 -- stops. Greedy it goes on first, lazy it stops first.
 abbrev pub LoopLaw : Type 0
-LoopLaw = (q : Setting) (whole body : Tree) (depths : Depths) (greedy : Bool) (s : MatchState) → s.place ≤ length q.text →
+LoopLaw = (q : Setting) (whole body : Tree) (depths : Depths) (greedy : Bool) (s : MatchState) →
+    s.place ≤ length q.text →
     let loop = ways q whole (Repeat 0 None greedy body) depths in
     loop s ≡ prefer greedy (flat_map (if_moved s loop) (ways q whole body depths s)) (s ∷ [])
 
@@ -32,12 +33,14 @@ RequiredLaw = (q : Setting) (whole body : Tree) (depths : Depths) (lo : ℕ) (gr
 
 -- A call has the ways of its target with one call more open, where it is not open so often already.
 abbrev pub CallLaw : Type 0
-CallLaw = (q : Setting) (whole body : Tree) (depths : Depths) (g : ℕ) (s : MatchState) → target whole g ≡ Some body → depths g < call_depth →
+CallLaw = (q : Setting) (whole body : Tree) (depths : Depths) (g : ℕ) (s : MatchState) →
+    target whole g ≡ Some body → depths g < call_depth →
     ways q whole (SubroutineCall g) depths s ≡ captured_by_call q whole g (ways q whole body (opened g depths)) s
 
 -- a call has no way where its target is open so often, or is not there
 abbrev pub RefusedCallLaw : Type 0
-RefusedCallLaw = (q : Setting) (whole : Tree) (depths : Depths) (g : ℕ) (s : MatchState) → (target whole g ≡ None) ⊎ (call_depth ≤ depths g) →
+RefusedCallLaw = (q : Setting) (whole : Tree) (depths : Depths) (g : ℕ) (s : MatchState) →
+    (target whole g ≡ None) ⊎ (call_depth ≤ depths g) →
     ways q whole (SubroutineCall g) depths s ≡ []
 
 -- ---- what users rely on
@@ -49,7 +52,8 @@ AtomicHasOneWay = (q : Setting) (whole e : Tree) (depths : Depths) (s : MatchSta
 -- the unchanged state, or none
 abbrev pub NegativeLookChangesNothing : Type 0
 NegativeLookChangesNothing = (q : Setting) (whole e : Tree) (depths : Depths) (s t : MatchState) →
-    Contains (ways q whole (LookAround LookAheadNeg e) depths s) t ⊎ Contains (ways q whole (LookAround LookBehindNeg e) depths s) t →
+    Contains (ways q whole (LookAround LookAheadNeg e) depths s) t
+    ⊎ Contains (ways q whole (LookAround LookBehindNeg e) depths s) t →
     t ≡ s
 
 -- a way for each way of the body, with the place restored
@@ -65,7 +69,8 @@ BehindHasWaysOfBody = (q : Setting) (whole e : Tree) (depths : Depths) (s : Matc
 -- and of an alternation the same for each branch in turn
 abbrev pub BehindGoesByBranches : Type 0
 BehindGoesByBranches = (q : Setting) (whole : Tree) (es : Trees) (depths : Depths) (s : MatchState) →
-    ways q whole (LookAround LookBehind (Alt es)) depths s ≡ flat_map (λ e. ends_here q (ways q whole e depths) s) (children es)
+    ways q whole (LookAround LookBehind (Alt es)) depths s
+    ≡ flat_map (λ e. ends_here q (ways q whole e depths) s) (children es)
 
 -- each pair is unset in both, or two places of the text in order
 abbrev pub ArePairs : List ℕ → List ℕ → Type 0
@@ -102,8 +107,8 @@ SettableGroupsLaw = (q : Setting) (es : List Tree) (s t : MatchState) (g : ℕ) 
 abbrev pub SizeLaw : Type 0
 SizeLaw = (q : Setting) (a : Analysed) (e : Tree) (depths : Depths) (s t : MatchState) →
     let whole = tree_of a in
-    IsText q.text → Contains (nodes whole) e → IsSound q whole s → Contains (ways q whole e depths s) t →
-    IsSound q whole t × IsSized (size whole e) (chars_between q.text s.place t.place)
+    IsText q.text → Contains (nodes whole) e → IsSoundState q whole s → Contains (ways q whole e depths s) t →
+    IsSoundState q whole t × IsSized (size whole e) (chars_between q.text s.place t.place)
 
 -- From a sound state whose spans all keep the sizes of their groups, read or not, each way leads to such a state.
 abbrev pub SpanSizeLaw : Type 0
@@ -140,9 +145,11 @@ AnchorLaw = (q : Setting) (parsed : Tree) (options : AnalysisOptions) (depths : 
 
 -- The marked nodes of a part are the part, and where it passes its mark on those of its children.
 abbrev pub MarkLaw : Type 0
-MarkLaw = (whole e : Tree) → marked_nodes whole e ≡ e ∷ (if passes_mark e then first_marked_nodes whole (parts e) else [])
+MarkLaw = (whole e : Tree) →
+    marked_nodes whole e ≡ e ∷ (if passes_mark e then first_marked_nodes whole (parts e) else [])
 
 -- Where a `\G` is marked, no other start has a way.
 abbrev pub ContinueLaw : Type 0
-ContinueLaw = (q : Search) (a : Analysed) (start : ℕ) → q.tree ≡ tree_of a → IsText q.text → IsTrue (is_place q.text start) →
-    has_marked_continue q.tree q.tree ≡ true → start ≢ q.pos → ways_from q start ≡ []
+ContinueLaw = (q : Search) (a : Analysed) (start : ℕ) → q.tree ≡ tree_of a → IsText q.text →
+    IsTrue (is_place q.text start) → has_marked_continue q.tree q.tree ≡ true → start ≢ q.pos →
+    ways_from q start ≡ []

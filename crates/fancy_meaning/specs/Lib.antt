@@ -1,3 +1,4 @@
+-- The promise: from a tree to its answer, what is refused, and what a search may reply.
 pub mod Numbers
 pub mod Tree
 pub mod Nodes
@@ -7,32 +8,34 @@ pub mod Chars
 pub mod Assertions
 pub mod Moves
 pub mod MatchState
-pub mod OpenCalls
 pub mod Loops
+pub mod OpenCalls
 pub mod Ways
 pub mod Options
 pub mod Answer
 pub mod Sizes
 pub mod Hard
 pub mod Spots
-pub mod Marks
 pub mod Recursion
 pub mod WellFormed
 pub mod AnalysisRefusals
-pub mod PatternText
+pub mod CompileRefusals
+pub mod Premises
+pub mod Promise
+-- Programs: instructions, the program of a tree, and the machine that runs it.
 pub mod Instr
 pub mod Code
+pub mod PatternText
 pub mod Batches
 pub mod Constructs
+pub mod Marks
 pub mod Layout
 pub mod Config
 pub mod Machine
 pub mod Fits
 pub mod FragmentPoints
-pub mod CompileRefusals
+-- The argument: when one list of states serves for another, how a part of a program works, and the statements.
 pub mod Keys
 pub mod Hands
-pub mod Premises
-pub mod Promise
 pub mod Laws
 pub mod Theorems

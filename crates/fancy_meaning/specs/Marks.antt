@@ -1,4 +1,5 @@
--- What is marked: a match begins there. The mark goes from the root through groups, and sequences past what takes nothing.
+-- What is marked: a match begins there. The mark goes from the root through groups, and in sequences past what takes
+-- nothing.
 use Rattle.std.specs.Prelude.{ℕ, Bool, true, false, List, [], ◌∷◌, ◌++◌, filter_map, Option, Some, None, if◌then◌else◌, ◌==◌, nat_eq}
 use Rattle.std.specs.List.{list_any}
 use Rattle.fancy_meaning.specs.Tree.{Tree, Trees, none, more, ContinueFromPreviousMatchEnd, Concat, Group}

@@ -1,5 +1,5 @@
 -- The states of an attempt, and ways from state to state.
-use Rattle.std.specs.Prelude.{is_some, ℕ, Bool, true, false, List, [], ◌∷◌, ◌++◌, Option, Some, None, if◌then◌else◌, ◌==◌, slice_get, flat_map}
+use Rattle.std.specs.Prelude.{is_some, ℕ, Bool, false, List, [], ◌∷◌, ◌++◌, Option, Some, None, if◌then◌else◌, ◌==◌, slice_get, flat_map}
 
 -- where a group was captured: a first place and an end
 abbrev pub Span : Type 0

@@ -34,7 +34,8 @@ pub record Input : Type 0 where
 abbrev pub plan : Input → Plan
 plan i = plan_of (i.parsed).tree i.analysis i.options
 
--- The tree is well-formed, no case to refuse it holds where its program has so many instructions, and its program can be run.
+-- The tree is well-formed, no case to refuse it holds where its program has so many instructions, and its program can
+-- be run.
 pub record IsAccepted (i : Input) (instructions : ℕ) : Type 0 where
   pub well_formed : IsWellFormed i.parsed
   -- the option of `compile` is set only on a tree analysed with it
@@ -79,5 +80,5 @@ pub record IsSoundFor (q : Setting) (whole : Tree) (sized : ℕ → Bool) (s : M
       IsSized (size_of_group (known_of whole) g) (chars_between q.text span.0 span.1)
 
 -- so it is for the groups that are read
-abbrev pub IsSound : Setting → Tree → MatchState → Type 0
-IsSound q whole = IsSoundFor q whole (is_read whole)
+abbrev pub IsSoundState : Setting → Tree → MatchState → Type 0
+IsSoundState q whole = IsSoundFor q whole (is_read whole)

@@ -1,5 +1,5 @@
 -- Where calls lead: what is reached, what calls itself before it takes anything, and what can end.
-use Rattle.std.specs.Prelude.{◌≡◌, ◌≢◌, ℕ, ◌<◌, ◌⊎◌, false, Contains, Option, Some, None}
+use Rattle.std.specs.Prelude.{◌≡◌, ◌≢◌, ℕ, ◌<◌, ◌⊎◌, false, Contains, Some, None}
 use Rattle.fancy_meaning.specs.Tree.{Tree, Trees, none, more, parts, Alt, Group, Repeat, Conditional, SubroutineCall}
 use Rattle.fancy_meaning.specs.Nodes.{target}
 use Rattle.fancy_meaning.specs.Spots.{Spot, all_spots}

@@ -1,5 +1,5 @@
 -- Where each node stands: in which group, behind how much, and whether it can be entered.
-use Rattle.std.specs.Prelude.{ℕ, zero, suc, ◌+◌, Bool, false, ◌||◌, List, [], ◌∷◌, ◌++◌, Option, Some}
+use Rattle.std.specs.Prelude.{ℕ, zero, ◌+◌, Bool, false, ◌||◌, List, [], ◌∷◌, ◌++◌, Option, Some}
 use Rattle.fancy_meaning.specs.Tree.{Tree, Trees, none, more, Concat, Alt, Group, LookAround, Repeat, AtomicGroup, DefineGroup, AbsentRepeater, AbsentStopper, AbsentExpression, Conditional}
 use Rattle.fancy_meaning.specs.Sizes.{size, saturated}
 

@@ -19,7 +19,7 @@ use Rattle.fancy_meaning.specs.Fits.{program_fits}
 use Rattle.fancy_meaning.specs.Marks.{has_marked_continue}
 use Rattle.fancy_meaning.specs.Keys.{Key, whole_key, key, easy_key, Coarser, Thins, Respects}
 use Rattle.fancy_meaning.specs.Hands.{IsLimit, Stretch, HasAt, Stands, GoesOn, Hands}
-use Rattle.fancy_meaning.specs.Premises.{Analysed, analysis, tree_of, Input, plan, IsAccepted, IsText, IsFit, IsSound}
+use Rattle.fancy_meaning.specs.Premises.{Analysed, analysis, tree_of, Input, plan, IsAccepted, IsText, IsFit, IsSoundState}
 
 -- ---- a program that the machine takes
 
@@ -27,6 +27,13 @@ use Rattle.fancy_meaning.specs.Premises.{Analysed, analysis, tree_of, Input, pla
 abbrev pub LayoutsFit : Type 0
 LayoutsFit = (i : Input) → ((error : CompileError) → ¬ AnalysisRefuses i.parsed i.analysis error) →
     IsTrue (program_fits (undelegated_layout (plan i))) × IsTrue (program_fits (layout (plan i)))
+
+-- the tree is accepted with its program, and without delegates
+abbrev pub HasProgram : Input → Type 0
+HasProgram i = IsAccepted i (length (layout (plan i)).body)
+
+abbrev pub HasUndelegatedProgram : Input → Type 0
+HasUndelegatedProgram i = IsAccepted i (length (undelegated_layout (plan i)).body)
 
 -- ---- a run answers what the tree means
 
@@ -42,12 +49,13 @@ Answers p program text o =
 
 -- the headline: each run of an accepted tree's program does
 abbrev pub Headline : Type 0
-Headline = (i : Input) (text : List ℕ) (o : RunOptions) → IsAccepted i (length (layout (plan i)).body) → IsFit i text o →
+Headline = (i : Input) (text : List ℕ) (o : RunOptions) → HasProgram i → IsFit i text o →
     Answers (plan i) (layout (plan i)) text o
 
 -- the same without delegates
 abbrev pub UndelegatedHeadline : Type 0
-UndelegatedHeadline = (i : Input) (text : List ℕ) (o : RunOptions) → IsAccepted i (length (undelegated_layout (plan i)).body) → IsFit i text o →
+UndelegatedHeadline = (i : Input) (text : List ℕ) (o : RunOptions) →
+    HasUndelegatedProgram i → IsFit i text o →
     Answers (plan i) (undelegated_layout (plan i)) text o
 
 -- For this text and start some number of instructions is enough: no step limit from there on is passed.
@@ -58,14 +66,13 @@ HasEnough program text o =
 
 -- each run of an accepted tree's program ends
 abbrev pub RunsEnd : Type 0
-RunsEnd = (i : Input) (text : List ℕ) (o : RunOptions) → IsAccepted i (length (layout (plan i)).body) → IsFit i text o →
+RunsEnd = (i : Input) (text : List ℕ) (o : RunOptions) → HasProgram i → IsFit i text o →
     HasEnough (layout (plan i)) text o
 
 -- the same without delegates
 abbrev pub UndelegatedRunsEnd : Type 0
 UndelegatedRunsEnd = (i : Input) (text : List ℕ) (o : RunOptions) →
-    IsAccepted i (length (undelegated_layout (plan i)).body) → IsFit i text o →
-    HasEnough (undelegated_layout (plan i)) text o
+    HasUndelegatedProgram i → IsFit i text o → HasEnough (undelegated_layout (plan i)) text o
 
 -- ---- the answer that a `\G` gives early
 
@@ -85,9 +92,8 @@ GivesUpRightly p program text o =
 -- So it is in each run of an accepted tree's program, with delegates and without.
 abbrev pub EarlyNone : Type 0
 EarlyNone = (i : Input) (text : List ℕ) (o : RunOptions) → IsFit i text o →
-    (IsAccepted i (length (layout (plan i)).body) → GivesUpRightly (plan i) (layout (plan i)) text o)
-    × (IsAccepted i (length (undelegated_layout (plan i)).body) →
-    GivesUpRightly (plan i) (undelegated_layout (plan i)) text o)
+    (HasProgram i → GivesUpRightly (plan i) (layout (plan i)) text o)
+    × (HasUndelegatedProgram i → GivesUpRightly (plan i) (undelegated_layout (plan i)) text o)
 
 -- ---- a node hands its ways
 
@@ -104,20 +110,32 @@ pub record IsProgramFor (p : Plan) (program : Prog) : Type 0 where
   pub end_text : program.end_text ≡ p.end_text
   pub unicode : program.unicode ≡ p.unicode
 
--- A `\G` in the code of the node may give up the search: the tree begins with one, or the node does where a match begins.
+-- A `\G` in the code of the node may give up the search: the tree begins with one, or the node does where a match
+-- begins.
 abbrev pub may_give_up : Tree → Tree → Bool → Bool
 may_give_up whole e at_start = has_marked_continue whole whole || (at_start && has_marked_continue whole e)
 
+abbrev pub setting_of : Plan → Task → Setting
+setting_of p t = (search_of p t.text t.options).setting
+
+-- The code stands where the configuration is, in a program for the plan, and the configuration is a sound state's.
+-- Where a `\G` in the code may give up the search, it stands above branches where none does.
+pub record Enters (p : Plan) (code : Code) (may_stop : Bool) (t : Task) (c : Config) (fresh : ℕ)
+    (s : MatchState) : Type 0 where
+  pub program : IsProgramFor p t.program
+  pub text : IsText t.text
+  pub code_is_there : HasAt (t.program).body c.pc (code c.pc fresh).instrs
+  pub slots_are_fresh : first_fresh p ≤ fresh
+  pub goes_on : may_stop ≡ true → GoesOn t c
+  pub stands : Stands t c s
+  pub sound : IsSoundState (setting_of p t) p.analysis.tree s
+
 -- Wherever the code stands, it hands from each sound state a list that serves by the key for what these ways give.
--- The key may depend on a place at or before the state's. Where a `\G` in the code may give up the search, it stands above
--- branches where none does.
+-- The key may depend on a place at or before the state's.
 abbrev pub Serves : Plan → Code → (Setting → Ways) → (ℕ → Key) → Bool → Type 0
 Serves p code w by may_stop = (t : Task) (c : Config) (fresh : ℕ) (s : MatchState) (from : ℕ) →
-    let q = (search_of p t.text t.options).setting in
-    IsProgramFor p t.program → IsText t.text → HasAt (t.program).body c.pc (code c.pc fresh).instrs →
-    (may_stop ≡ true → GoesOn t c) → first_fresh p (λ e. false) ≤ fresh → Stands t c s → IsSound q p.analysis.tree s →
-    from ≤ s.place →
-    (hs : List MatchState) × Hands t (stretch_of code c fresh) (Goes c) hs × Thins (by from) hs (w q s)
+    Enters p code may_stop t c fresh s → from ≤ s.place →
+    (hs : List MatchState) × Hands t (stretch_of code c fresh) (Goes c) hs × Thins (by from) hs (w (setting_of p t) s)
 
 -- the code of a call, where these calls are open
 abbrev pub code_of_call : Plan → (Tree → Bool) → Depths → ℕ → Bool → Code
@@ -150,7 +168,7 @@ pub record AllServe (p : Plan) (easy : Tree → Bool) (by : (in_hard : Bool) →
 abbrev pub ComposedTheorem : Type 0
 ComposedTheorem = (i : Input) →
     let p = plan i in
-    IsAccepted i (length (undelegated_layout p).body) →
+    HasUndelegatedProgram i →
     AllServe p (λ e. false) (λ in_hard from. whole_key p.analysis.tree)
 
 -- Delegation is harmless: in a hard context the code of the root and of each node that is written out hands a list that
@@ -158,7 +176,7 @@ ComposedTheorem = (i : Input) →
 abbrev pub DelegationIsHarmless : Type 0
 DelegationIsHarmless = (i : Input) →
     let p = plan i in
-    IsAccepted i (length (layout p).body) →
+    HasProgram i →
     AllServe p (λ e. not (is_hard p.analysis e)) (λ in_hard from. if in_hard then key p else easy_key p from)
 
 -- ---- what carries it
@@ -176,7 +194,8 @@ BindingKeepsThinning = (fine coarse : Key) (hs qs : List MatchState) (f k : Ways
 
 -- what thins by a key thins by a coarser one
 abbrev pub CoarserKeyThins : Type 0
-CoarserKeyThins = (fine coarse : Key) (hs qs : List MatchState) → Coarser fine coarse → Thins fine hs qs → Thins coarse hs qs
+CoarserKeyThins = (fine coarse : Key) (hs qs : List MatchState) → Coarser fine coarse →
+    Thins fine hs qs → Thins coarse hs qs
 
 -- a part of e outside of definitions
 pub data IsPartOf (e : Tree) : Tree → Type 0 where
@@ -192,14 +211,15 @@ EasyHasNoReadGroup = (p : Plan) (e body : Tree) (g : ℕ) → IsFalse (is_hard p
 abbrev pub EasyWaysAgree : Type 0
 EasyWaysAgree = (q : Setting) (a : Analysed) (e : Tree) (depths : Depths) (s t u : MatchState) →
     let whole = tree_of a in
-    IsText q.text → Contains (nodes whole) e → IsFalse (is_hard (analysis a) e) → (a.options).find_not_empty ≡ true → IsSound q whole s →
-    Contains (ways q whole e depths s) t → Contains (ways q whole e depths s) u → (t.place ≡ s.place) ↔ (u.place ≡ s.place)
+    IsText q.text → Contains (nodes whole) e → IsFalse (is_hard (analysis a) e) →
+    (a.options).find_not_empty ≡ true → IsSoundState q whole s →
+    Contains (ways q whole e depths s) t → Contains (ways q whole e depths s) u →
+    (t.place ≡ s.place) ↔ (u.place ≡ s.place)
 
 -- ---- bounds, where the whole tree is easy
 
 abbrev pub EasyRun : Input → List ℕ → RunOptions → Type 0
-EasyRun i text o =
-    IsAccepted i (length (layout (plan i)).body) × IsFit i text o × IsFalse (is_root_hard (plan i).analysis)
+EasyRun i text o = HasProgram i × IsFit i text o × IsFalse (is_root_hard (plan i).analysis)
 
 -- how many starts a run may try
 abbrev pub tried : Input → List ℕ → RunOptions → ℕ

@@ -1,4 +1,5 @@
--- What a tree means: the ways of each node.
+-- What a tree means: the ways of each node. Beside a construct stands an example: a tree as docs/MEANING.md writes it,
+-- a text, and the places of the tree's ways from 0, in order. `WaysOfNodes` of `fancy_rows` computes them.
 use Rattle.std.specs.Prelude.{ℕ, zero, suc, Bool, true, ◌&&◌, not, List, [], ◌∷◌, map, take, reverse, filter, flat_map, Option, Some, None, is_some, if◌then◌else◌, ◌==◌, nat_eq, nat_lt, option_and_then}
 use Rattle.fancy_meaning.specs.Tree.{Tree, Trees, none, more, Empty, KeepOut, ContinueFromPreviousMatchEnd, AbsentClear, Any, Assert, GeneralNewline, Literal, LiteralBytes, Delegate, Concat, Alt, Group, LookAround, Repeat, Backref, BackrefWithLevel, BackrefExists, AtomicGroup, DefineGroup, AbsentRepeater, AbsentStopper, AbsentExpression, Control, Conditional, SubroutineCall, AstNode, Look, LookAhead, LookAheadNeg, LookBehind, LookBehindNeg, Assertion}
 use Rattle.fancy_meaning.specs.Nodes.{target}
@@ -21,22 +22,27 @@ pub record Setting : Type 0 where
 -- ---- a node of each kind, from the ways of its parts
 
 -- the group's span is set at its close
+-- `(grp "a")` on ab: 1, where group 1 has the span 0 to 1
 abbrev pub captured : ℕ → Ways → Ways
 captured g body s = map (λ t. with_span g (s.place, t.place) t) (body s)
 
 -- one way for each way of the body, the place restored
+-- `(ahead (alt "a" "ab"))` on ab: 0, 0
 abbrev pub ahead : Ways → Ways
 ahead body s = map (moved_to s.place) (body s)
 
 -- the unchanged state, where there is no way
+-- `(nahead "a")` on b: 0; on a: none
 abbrev pub unless : Ways → Ways
 unless body = stays_if (λ s. not (has_way body s))
 
 -- the first way alone
+-- `(atom (alt "a" "ab"))` on ab: 1
 abbrev pub atomic : Ways → Ways
 atomic body s = take 1 (body s)
 
 -- the true branch from the condition's first way, or else the false branch
+-- `(if "a" "b" "c")` on ab: 2; on c: 1
 abbrev pub conditional : Ways → Ways → Ways → Ways
 conditional c t f s = go (preferred c s)
   where
@@ -51,6 +57,7 @@ take_through test (i ∷ is) = i ∷ (if test i then [] else take_through test i
 
 module _ (q : Setting) where
   -- the state after the move, if there is one
+  -- `"a"` on ab: 1
   abbrev pub moves : Move → Ways
   moves move s = go (move s.place)
     where
@@ -59,22 +66,26 @@ module _ (q : Setting) where
       go (Some i) = moved_to i s ∷ []
 
   -- an assertion of the text's end leaves its mark
+  -- `(cat "a" end)` on a: 1, with the mark
   abbrev pub asserts : Assertion → Ways
   asserts a s =
       let met = if is_of_end a then record s { text_end = true } else s in
       if holds q.text s.place q.unicode a then met ∷ [] else []
 
   -- what the group captured, once more
+  -- `(cat (grp (alt "a" "ab")) (ref 1))` on abab: 4
   abbrev pub repeats_group : ℕ → Bool → Ways
   repeats_group g casei s =
       moves (λ i. option_and_then (λ span. past_piece q.text q.unicode casei span i) (s.captures g)) s
 
   -- the ways that end here, from the nearest place back
+  -- `(cat "aa" (behind (rep 1 * "a")))` on aa: 2, 2
   abbrev pub ends_here : Ways → Ways
   ends_here body s =
       flat_map (λ i. filter (λ t. t.place == s.place) (body (moved_to i s))) (places_back q.text s.place)
 
   -- a look-around, of a body with these branches
+  -- `(cat "a" (nbehind "b"))` on a: 1
   abbrev pub looks : Look → List Ways → Ways
   looks LookAhead branches = ahead (one_of branches)
   looks LookAheadNeg branches = unless (one_of branches)
@@ -82,6 +93,7 @@ module _ (q : Setting) where
   looks LookBehindNeg branches = unless (one_of (map ends_here branches))
 
   -- each place from the first where X has a way, or the end, back to here
+  -- `(absent "b")` on aab: 2, 1, 0
   abbrev pub absent : Ways → Ways
   absent x s =
       map (λ i. moved_to i s) (reverse (take_through (λ i. has_way x (moved_to i s)) (places_from q.text s.place)))
@@ -95,22 +107,31 @@ module _ (q : Setting) where
       ways_with (Literal c casei) = moves (past_char q.text (literal_takes q.unicode c casei))
       ways_with (LiteralBytes cs) = moves (past_chars q.text (map nat_eq cs))
       ways_with (Delegate inner casei) = moves (past_char q.text (class_takes q.unicode inner casei))
+      -- `nl` on CR LF: 2
       ways_with (GeneralNewline unicode) = moves (past_newline q.text unicode)
       ways_with (Assert within a) = asserts (assertion_within within a)
+      -- `cont` on a, where the match before ended at 0: 0
       ways_with ContinueFromPreviousMatchEnd = stays_if (λ s. q.continued && s.place == q.pos)
+      -- `(cat "a" keep)` on a: 1, kept from 1
       ways_with KeepOut = λ s. record s { kept = s.place } ∷ []
       ways_with (Backref g casei) = repeats_group g casei
+      -- `(cat (rep 0 1 (grp "a")) (has 1))` on a: 1
       ways_with (BackrefExists g None) = stays_if (λ s. is_some (s.captures g))
+      -- `(cat (alt "a" "ab") (alt "b" "bc"))` on abc: 2, 3
       ways_with (Concat es) = in_order (each_ways es)
+      -- `(alt "a" "ab")` on ab: 1, 2
       ways_with (Alt es) = one_of (each_ways es)
       ways_with (Group g e) = captured g (ways_with e)
-      ways_with (SubroutineCall g) = λ s. call g s
+      -- `(cat (grp "a") (call 1))` on aa: 2, where group 1 has the span 1 to 2
+      ways_with (SubroutineCall g) = call g
+      -- `(rep 0 * "a")` on aa: 2, 1, 0; `(lazy 0 * "a")`: 0, 1, 2
       ways_with (Repeat lo hi greedy e) = repeats q.text lo hi greedy (ways_with e)
       ways_with (LookAround look (Alt es)) = looks look (each_ways es)
       ways_with (LookAround look e) = looks look (ways_with e ∷ [])
       ways_with (AtomicGroup e) = atomic (ways_with e)
       ways_with (Conditional c t f) = conditional (ways_with c) (ways_with t) (ways_with f)
       ways_with (AbsentRepeater e) = absent (ways_with e)
+      -- `(define "a")` on a: 0
       ways_with (DefineGroup e) = stays
       -- `Fail`, and what is refused
       ways_with (Control verb) = fails

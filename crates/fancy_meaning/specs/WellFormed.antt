@@ -1,5 +1,6 @@
--- Which trees may be handed in. Numbers of the machine are 64 bits wide, and its largest one means that there is no bound.
-use Rattle.std.specs.Prelude.{◌≡◌, ℕ, ◌^◌, ◌<◌, ◌≤◌, Bool, true, false, ◌||◌, List, [], All, Contains, Option, Some, IfSome, IsUtf8, FitsSigned, IsTrue, IsFalse, ◌==◌}
+-- Which trees may be handed in. Numbers of the machine are 64 bits wide, and its largest one means that there is no
+-- bound.
+use Rattle.std.specs.Prelude.{◌≡◌, ℕ, ◌^◌, ◌<◌, ◌≤◌, Bool, true, false, [], All, Contains, IfSome, IsUtf8, FitsSigned, IsTrue, IsFalse, ◌==◌}
 use Rattle.std.specs.Char.{IsScalar}
 use Rattle.std.specs.Int.{w64}
 use Rattle.std.specs.List.{list_any}
@@ -62,6 +63,7 @@ pub record IsWellFormed (p : ParsedTree) : Type 0 where
   pub not_too_many : p.total_groups ≤ most_groups
   pub calls : Has p.tree is_call → p.contains_subroutines ≡ true
   pub no_calls : IsFalse (list_any is_any_call (nodes p.tree)) → p.contains_subroutines ≡ false
-  pub backrefs : (g : ℕ) (casei : Bool) → Contains (nodes p.tree) (Backref g casei) → g ≤ p.total_groups → Contains p.backrefs g
+  pub backrefs : (g : ℕ) (casei : Bool) → Contains (nodes p.tree) (Backref g casei) → g ≤ p.total_groups →
+      Contains p.backrefs g
   pub only_references : (g : ℕ) → Contains p.backrefs g → Has p.tree (refers g)
   pub out_of_range : IfSome p.out_of_range_backref (λ g. Has p.tree (refers g) × (p.total_groups < g))

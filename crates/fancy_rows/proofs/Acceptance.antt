@@ -2,7 +2,7 @@
 use Rattle.std.proofs.Common.{◌≡◌, ◌<◌, ℕ, zero, suc, Bool, true, false, ◌&&◌, ◌||◌, List, [], ◌∷◌, Some, refl, arith}
 use Rattle.std.specs.Prelude.{◌==◌, nat_le, slice_get}
 use Rattle.std.specs.List.{list_any}
-use Rattle.std.proofs.lemmas.Bool.{leb-false, eq-eqb}
+use Rattle.std.proofs.lemmas.Bool.{leb-false, eq-eqb, or_right}
 use Rattle.fancy_meaning.specs.Tree.{Tree, Backref, SubroutineCall, AstNode}
 use Rattle.fancy_meaning.specs.Nodes.{nodes, groups}
 use Rattle.fancy_meaning.specs.Numbering.{numbered}
@@ -26,7 +26,8 @@ does_not_fall e g = false
 abbrev pub at_once : (Tree → ℕ → Bool) → Spot → Bool
 at_once test s = test s.node s.owner && (s.position == 0)
 
-found : (whole : Tree) (test : Tree → ℕ → Bool) (g h : ℕ) → Calls whole g 0 h → test (SubroutineCall h) g ≡ true → list_any (at_once test) (all_spots whole) ≡ true
+found : (whole : Tree) (test : Tree → ℕ → Bool) (g h : ℕ) → Calls whole g 0 h → test (SubroutineCall h) g ≡ true →
+    list_any (at_once test) (all_spots whole) ≡ true
 found whole test g h c t = passed (at_once test) (all_spots whole) c.spot c.is_there (passes c.spot c.is_call c.owner c.position)
   where
     passes : (s : Spot) → s.node ≡ SubroutineCall h → s.owner ≡ g → s.position ≡ 0 → at_once test s ≡ true
@@ -74,15 +75,16 @@ some_is y x e = cc (e)
 got : {X : Type 0} (test : X → Bool) (xs : List X) (k : ℕ) (x : X) → slice_get xs k ≡ Some x → test x ≡ true → list_any test xs ≡ true
 got test [] k x e t = cc (e)
 got test (y ∷ ys) zero x e t = rw (some_is y x e) (rw t refl)
-got test (y ∷ ys) (suc k) x e t = rw (got test ys k x e t) (or_true (test y))
-  where
-    or_true : (b : Bool) → (b || true) ≡ true
-    or_true true = refl
-    or_true false = refl
+got test (y ∷ ys) (suc k) x e t = rw (got test ys k x e t) (or_right (test y) true refl)
 
 pub reads_nothing : (whole : Tree) → list_any (reads_in whole) (groups whole) ≡ false → (g : ℕ) → ¬ ReadsAfterCall whole g
 reads_nothing whole none g r =
-    cc (passed (reads_in whole) (groups whole) (g, r.body) r.is_group (got (λ s. is_reference s.node) (spots_in_group whole g r.body) r.at_read r.read r.is_read (rw (r.is_reference) refl)), none)
+    cc (
+      passed (reads_in whole) (groups whole) (g, r.body) r.is_group
+          (got (λ s. is_reference s.node) (spots_in_group whole g r.body) r.at_read r.read r.is_read
+          (rw (r.is_reference) refl)),
+      none,
+    )
 
 -- ---- back references behind calls of their groups
 
@@ -105,23 +107,22 @@ abbrev pub reads_behind : ℕ → List Spot → Bool
 reads_behind g [] = false
 reads_behind g (s ∷ ss) = (is_own_call g s && list_any (is_own_read g) ss) || reads_behind g ss
 
-or_true : (b : Bool) → (b || true) ≡ true
-or_true true = refl
-or_true false = refl
-
 same : (g : ℕ) → (g == g) ≡ true
 same g = eq-eqb g g refl
 
-behind : (g : ℕ) (ss : List Spot) (i j : ℕ) (c r : Spot) → i < j → slice_get ss i ≡ Some c → slice_get ss j ≡ Some r → is_own_call g c ≡ true → is_own_read g r ≡ true → reads_behind g ss ≡ true
+behind : (g : ℕ) (ss : List Spot) (i j : ℕ) (c r : Spot) → i < j → slice_get ss i ≡ Some c → slice_get ss j ≡ Some r →
+    is_own_call g c ≡ true → is_own_read g r ≡ true → reads_behind g ss ≡ true
 behind g [] i j c r l at_i at_j call read = cc (at_i)
 behind g (s ∷ ss) zero zero c r l at_i at_j call read = absurd (omega (arith, l))
 behind g (s ∷ ss) zero (suc j) c r l at_i at_j call read =
     rw (some_is s c at_i) (rw call (rw (got (is_own_read g) ss j r at_j read) refl))
 behind g (s ∷ ss) (suc i) zero c r l at_i at_j call read = absurd (omega (arith, l))
 behind g (s ∷ ss) (suc i) (suc j) c r l at_i at_j call read =
-    rw (behind g ss i j c r (omega (arith, l)) at_i at_j call read) (or_true (is_own_call g s && list_any (is_own_read g) ss))
+    rw (behind g ss i j c r (omega (arith, l)) at_i at_j call read) (or_right (is_own_call g s && list_any (is_own_read g) ss) true refl)
 
-pub reads_before_calls : (whole : Tree) → list_any (λ h. reads_behind h.0 (spots_in_group whole h.0 h.1)) (groups whole) ≡ false → (g : ℕ) → ¬ ReadsAfterCall whole g
+pub reads_before_calls : (whole : Tree) →
+    list_any (λ h. reads_behind h.0 (spots_in_group whole h.0 h.1)) (groups whole) ≡ false → (g : ℕ) →
+    ¬ ReadsAfterCall whole g
 reads_before_calls whole none g r =
     cc (
       passed (λ h. reads_behind h.0 (spots_in_group whole h.0 h.1)) (groups whole) (g, r.body) r.is_group
@@ -133,7 +134,9 @@ reads_before_calls whole none g r =
 pub not_refused_before_end : (e : Tree) →
     let whole = numbered 1 e in
     list_any (is_back_to 0) (nodes whole) ≡ false → list_any is_unresolved (nodes whole) ≡ false → list_any has_level (nodes whole) ≡ false →
-    ((g : ℕ) → ¬ ReadsAfterCall whole g) → ((g : ℕ) → Has whole (refers g) → is_no_group (parsed e) no_options g ≡ false) → ((n : ℕ) → ¬ IsLeftRecursive whole n) →
+    ((g : ℕ) → ¬ ReadsAfterCall whole g) →
+    ((g : ℕ) → Has whole (refers g) → is_no_group (parsed e) no_options g ≡ false) →
+    ((n : ℕ) → ¬ IsLeftRecursive whole n) →
     (error : CompileError) → ¬ RefusesBeforeEnd (parsed e) no_options error
 not_refused_before_end e back unresolved levels reads references cycles error (named_groups_with_numbers t n) = cc (t)
 not_refused_before_end e back unresolved levels reads references cycles error (reference_to_0 t) = cc (t, back)

@@ -3,7 +3,6 @@ use Rattle.std.proofs.Common.{zero, suc, [], ◌∷◌, refl, subst, arith, leng
 use Rattle.std.specs.Prelude.{Contains, codes}
 use Rattle.fancy_meaning.specs.Tree.{Tree, Backref}
 use Rattle.fancy_meaning.specs.WellFormed.{IsWellFormed, IsFine}
-use Rattle.fancy_meaning.specs.Instr.{Prog}
 use Rattle.fancy_meaning.specs.Layout.{layout, undelegated_layout}
 use Rattle.fancy_meaning.specs.Nodes.{nodes}
 use Rattle.fancy_meaning.specs.AnalysisRefusals.{CompileError, AnalysisRefuses, before_end, never_ends}

@@ -50,7 +50,9 @@ begins_in_groups : (let e = numbered 1 (grp (cat (grp ContinueFromPreviousMatchE
 unfolding row
 begins_in_groups = refl
 
-begins_past_nothing : (let e = numbered 1 (cat (ahead (lit "ab") ∷ assert (StartLine false) ∷ KeepOut ∷ ContinueFromPreviousMatchEnd ∷ [])) in has_marked_continue e e) ≡ true
+begins_past_nothing : (let e =
+    numbered 1 (cat (ahead (lit "ab") ∷ assert (StartLine false) ∷ KeepOut ∷ ContinueFromPreviousMatchEnd ∷ [])) in
+    has_marked_continue e e) ≡ true
 unfolding row
 begins_past_nothing = refl
 
@@ -62,7 +64,9 @@ does_not_begin_past_an_option : (let e = numbered 1 (cat (rep 0 1 (lit "a") ∷ 
 unfolding row
 does_not_begin_past_an_option = refl
 
-does_not_begin_in_a_branch : (let e = numbered 1 (alt (ContinueFromPreviousMatchEnd ∷ ContinueFromPreviousMatchEnd ∷ [])) in has_marked_continue e e) ≡ false
+does_not_begin_in_a_branch : (let e =
+    numbered 1 (alt (ContinueFromPreviousMatchEnd ∷ ContinueFromPreviousMatchEnd ∷ [])) in has_marked_continue e e)
+    ≡ false
 unfolding row
 does_not_begin_in_a_branch = refl
 

@@ -5,11 +5,13 @@ use Rattle.fancy_meaning.specs.Answer.{answer, search_of}
 use Rattle.fancy_meaning.specs.Numbers.{usize_max}
 use Rattle.fancy_rows.proofs.Notation.{Answered, plain, anchored, from, utf8, lit, cat, alt, grp, rep, star, lazy_star, dot, assert, ref, has, call, ahead, nahead, behind, nbehind, row}
 
-first_path_found : Answered (plain (cat (lit "a" ∷ grp (alt (lit "b" ∷ lit "bc" ∷ [])) ∷ lit "d" ∷ []))) (codes "abcd") (from 0) (Some (0 ∷ 4 ∷ 1 ∷ 3 ∷ []))
+first_path_found : Answered (plain (cat (lit "a" ∷ grp (alt (lit "b" ∷ lit "bc" ∷ [])) ∷ lit "d" ∷ [])))
+    (codes "abcd") (from 0) (Some (0 ∷ 4 ∷ 1 ∷ 3 ∷ []))
 unfolding row
 first_path_found = (refl, refl, refl)
 
-first_branch_found : Answered (plain (cat (lit "a" ∷ grp (alt (lit "b" ∷ lit "bc" ∷ [])) ∷ lit "d" ∷ []))) (codes "abd") (from 0) (Some (0 ∷ 3 ∷ 1 ∷ 2 ∷ []))
+first_branch_found : Answered (plain (cat (lit "a" ∷ grp (alt (lit "b" ∷ lit "bc" ∷ [])) ∷ lit "d" ∷ [])))
+    (codes "abd") (from 0) (Some (0 ∷ 3 ∷ 1 ∷ 2 ∷ []))
 unfolding row
 first_branch_found = (refl, refl, refl)
 
@@ -29,23 +31,33 @@ found_from_a_place : Answered (plain (lit "é")) (utf8 "éé") (from 2) (Some (2
 unfolding row
 found_from_a_place = (refl, refl, refl)
 
-look_ahead_is_not_atomic : Answered (plain (cat (ahead (cat (grp (alt (lit "a" ∷ lit "ab" ∷ [])) ∷ nahead (lit "x") ∷ [])) ∷ ref 1 ∷ lit "c" ∷ []))) (codes "abc") (from 0) (Some (0 ∷ 3 ∷ 0 ∷ 2 ∷ []))
+look_ahead_is_not_atomic : Answered
+    (plain (cat (ahead (cat (grp (alt (lit "a" ∷ lit "ab" ∷ [])) ∷ nahead (lit "x") ∷ [])) ∷ ref 1 ∷ lit "c" ∷ [])))
+    (codes "abc") (from 0) (Some (0 ∷ 3 ∷ 0 ∷ 2 ∷ []))
 unfolding row
 look_ahead_is_not_atomic = (refl, refl, refl)
 
-read_group_keeps_its_ways : Answered (plain (cat (ahead (grp (alt (lit "a" ∷ lit "ab" ∷ []))) ∷ ref 1 ∷ lit "c" ∷ []))) (codes "abc") (from 0) (Some (0 ∷ 3 ∷ 0 ∷ 2 ∷ []))
+read_group_keeps_its_ways : Answered
+    (plain (cat (ahead (grp (alt (lit "a" ∷ lit "ab" ∷ []))) ∷ ref 1 ∷ lit "c" ∷ []))) (codes "abc") (from 0)
+    (Some (0 ∷ 3 ∷ 0 ∷ 2 ∷ []))
 unfolding row
 read_group_keeps_its_ways = (refl, refl, refl)
 
-reference_in_its_own_group : Answered (plain (star 1 (cat (grp (alt (lit "a" ∷ cat (lit "b" ∷ ref 1 ∷ []) ∷ [])) ∷ lit "x" ∷ [])))) (codes "axbax") (from 0) (Some (0 ∷ 5 ∷ 2 ∷ 4 ∷ []))
+reference_in_its_own_group : Answered
+    (plain (star 1 (cat (grp (alt (lit "a" ∷ cat (lit "b" ∷ ref 1 ∷ []) ∷ [])) ∷ lit "x" ∷ [])))) (codes "axbax")
+    (from 0) (Some (0 ∷ 5 ∷ 2 ∷ 4 ∷ []))
 unfolding row
 reference_in_its_own_group = (refl, refl, refl)
 
-behind_what_continues : Answered (plain (cat (behind (cat (ContinueFromPreviousMatchEnd ∷ lit "a" ∷ [])) ∷ lit "b" ∷ []))) (codes "xxxab") (from 3) (Some (4 ∷ 5 ∷ []))
+behind_what_continues : Answered
+    (plain (cat (behind (cat (ContinueFromPreviousMatchEnd ∷ lit "a" ∷ [])) ∷ lit "b" ∷ []))) (codes "xxxab") (from 3)
+    (Some (4 ∷ 5 ∷ []))
 unfolding row
 behind_what_continues = (refl, refl, refl)
 
-continues_through_a_call : Answered (anchored (cat (grp (cat (ContinueFromPreviousMatchEnd ∷ lit "a" ∷ [])) ∷ alt (call 1 ∷ lit "b" ∷ []) ∷ []))) (codes "ab") (from 0) (Some (0 ∷ 2 ∷ 0 ∷ 1 ∷ []))
+continues_through_a_call : Answered
+    (anchored (cat (grp (cat (ContinueFromPreviousMatchEnd ∷ lit "a" ∷ [])) ∷ alt (call 1 ∷ lit "b" ∷ []) ∷ [])))
+    (codes "ab") (from 0) (Some (0 ∷ 2 ∷ 0 ∷ 1 ∷ []))
 unfolding row
 continues_through_a_call = (refl, refl, refl)
 
@@ -65,19 +77,28 @@ behind_two_bytes : Answered (plain (cat (behind (lit "é") ∷ lit "x" ∷ [])))
 unfolding row
 behind_two_bytes = (refl, refl, refl)
 
-calls_of_two_groups : Answered (plain (cat (call 1 ∷ call 2 ∷ grp (alt (cat (lit "x" ∷ call 2 ∷ []) ∷ lit "a" ∷ [])) ∷ grp (cat (lit "y" ∷ call 1 ∷ [])) ∷ []))) (codes "ayaaya") (from 0) (Some (0 ∷ 6 ∷ 5 ∷ 6 ∷ 4 ∷ 6 ∷ []))
+calls_of_two_groups : Answered
+    (plain
+    (cat (call 1 ∷ call 2 ∷ grp (alt (cat (lit "x" ∷ call 2 ∷ []) ∷ lit "a" ∷ [])) ∷ grp (cat (lit "y" ∷ call 1 ∷ []))
+    ∷ []))) (codes "ayaaya") (from 0) (Some (0 ∷ 6 ∷ 5 ∷ 6 ∷ 4 ∷ 6 ∷ []))
 unfolding row
 calls_of_two_groups = (refl, refl, refl)
 
-atomic_keeps_its_first_way : Answered (plain (cat (AtomicGroup (cat (alt (lit "x" ∷ lit "xy" ∷ []) ∷ Conditional (lit "ab") (lit "c") Empty ∷ [])) ∷ lit "z" ∷ []))) (codes "xyz") (from 0) None
+atomic_keeps_its_first_way : Answered
+    (plain
+    (cat (AtomicGroup (cat (alt (lit "x" ∷ lit "xy" ∷ []) ∷ Conditional (lit "ab") (lit "c") Empty ∷ [])) ∷ lit "z"
+    ∷ []))) (codes "xyz") (from 0) None
 unfolding row
 atomic_keeps_its_first_way = (refl, refl, refl)
 
-open_group_does_not_exist : Answered (plain (grp (cat (lit "a" ∷ Conditional (has 1) (lit "b") (lit "c") ∷ [])))) (codes "ac") (from 0) (Some (0 ∷ 2 ∷ 0 ∷ 2 ∷ []))
+open_group_does_not_exist : Answered (plain (grp (cat (lit "a" ∷ Conditional (has 1) (lit "b") (lit "c") ∷ []))))
+    (codes "ac") (from 0) (Some (0 ∷ 2 ∷ 0 ∷ 2 ∷ []))
 unfolding row
 open_group_does_not_exist = (refl, refl, refl)
 
-unset_group_does_not_exist : Answered (plain (cat (alt (grp (lit "a") ∷ grp dot ∷ []) ∷ Conditional (has 1) (lit "b") (lit "c") ∷ []))) (codes "ac") (from 0) (Some (0 ∷ 2 ∷ usize_max ∷ usize_max ∷ 0 ∷ 1 ∷ []))
+unset_group_does_not_exist : Answered
+    (plain (cat (alt (grp (lit "a") ∷ grp dot ∷ []) ∷ Conditional (has 1) (lit "b") (lit "c") ∷ []))) (codes "ac")
+    (from 0) (Some (0 ∷ 2 ∷ usize_max ∷ usize_max ∷ 0 ∷ 1 ∷ []))
 unfolding row
 unset_group_does_not_exist = (refl, refl, refl)
 
@@ -97,11 +118,13 @@ newline_is_one_way : Answered (plain (cat (GeneralNewline true ∷ lit "\n" ∷ 
 unfolding row
 newline_is_one_way = (refl, refl, refl)
 
-twenty_deep : Answered (plain (grp (alt (cat (lit "a" ∷ call 1 ∷ []) ∷ lit "b" ∷ [])))) (codes "aaaaaaaaaaaaaaaaaaab") (from 0) (Some (0 ∷ 20 ∷ 0 ∷ 20 ∷ []))
+twenty_deep : Answered (plain (grp (alt (cat (lit "a" ∷ call 1 ∷ []) ∷ lit "b" ∷ [])))) (codes "aaaaaaaaaaaaaaaaaaab")
+    (from 0) (Some (0 ∷ 20 ∷ 0 ∷ 20 ∷ []))
 unfolding row
 twenty_deep = (refl, refl, refl)
 
-too_deep_by_one : Answered (plain (grp (alt (cat (lit "a" ∷ call 1 ∷ []) ∷ lit "b" ∷ [])))) (codes "aaaaaaaaaaaaaaaaaaaab") (from 0) (Some (1 ∷ 21 ∷ 1 ∷ 21 ∷ []))
+too_deep_by_one : Answered (plain (grp (alt (cat (lit "a" ∷ call 1 ∷ []) ∷ lit "b" ∷ []))))
+    (codes "aaaaaaaaaaaaaaaaaaaab") (from 0) (Some (1 ∷ 21 ∷ 1 ∷ 21 ∷ []))
 unfolding row
 too_deep_by_one = (refl, refl, refl)
 
@@ -129,7 +152,8 @@ counted_loop_has_no_test : Answered (plain (rep 0 3 (grp (rep 0 1 (lit "a"))))) 
 unfolding row
 counted_loop_has_no_test = (refl, refl, refl)
 
-loop_keeps_captures : Answered (plain (star 0 (cat (grp (rep 0 1 (lit "a")) ∷ nahead (lit "x") ∷ [])))) (codes "a") (from 0) (Some (0 ∷ 1 ∷ 1 ∷ 1 ∷ []))
+loop_keeps_captures : Answered (plain (star 0 (cat (grp (rep 0 1 (lit "a")) ∷ nahead (lit "x") ∷ [])))) (codes "a")
+    (from 0) (Some (0 ∷ 1 ∷ 1 ∷ 1 ∷ []))
 unfolding row
 loop_keeps_captures = (refl, refl, refl)
 
@@ -166,6 +190,8 @@ unfolding row
 fail_goes_back = (refl, refl, refl)
 
 -- its program is left out, since it takes too long to compute
-calls_itself_twice : answer (search_of (plain (grp (alt (lit "a" ∷ cat (lit "b" ∷ call 1 ∷ call 1 ∷ []) ∷ [])))) (codes "babaa") (from 0)) ≡ Some (0 ∷ 5 ∷ 0 ∷ 5 ∷ [])
+calls_itself_twice : answer
+    (search_of (plain (grp (alt (lit "a" ∷ cat (lit "b" ∷ call 1 ∷ call 1 ∷ []) ∷ [])))) (codes "babaa") (from 0))
+    ≡ Some (0 ∷ 5 ∷ 0 ∷ 5 ∷ [])
 unfolding row
 calls_itself_twice = refl

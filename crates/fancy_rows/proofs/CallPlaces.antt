@@ -19,7 +19,8 @@ as_call s = go s.node
 abbrev calls : Tree → List Place
 calls e = filter_map as_call (all_spots e)
 
-behind_what_is_taken : calls (numbered 1 (cat (lit "a" ∷ lit "b" ∷ call 1 ∷ grp (lit "c") ∷ call 0 ∷ []))) ≡ ((0, 2), (false, 1)) ∷ ((0, 4), (false, 0)) ∷ []
+behind_what_is_taken : calls (numbered 1 (cat (lit "a" ∷ lit "b" ∷ call 1 ∷ grp (lit "c") ∷ call 0 ∷ [])))
+    ≡ ((0, 2), (false, 1)) ∷ ((0, 4), (false, 0)) ∷ []
 unfolding row
 behind_what_is_taken = refl
 
@@ -27,7 +28,9 @@ in_its_group : calls (numbered 1 (cat (lit "a" ∷ grp (cat (lit "b" ∷ call 1 
 unfolding row
 in_its_group = refl
 
-branches_begin_together : calls (numbered 1 (cat (lit "a" ∷ alt (call 0 ∷ cat (lit "b" ∷ lit "c" ∷ call 0 ∷ []) ∷ []) ∷ []))) ≡ ((0, 1), (false, 0)) ∷ ((0, 3), (false, 0)) ∷ []
+branches_begin_together : calls
+    (numbered 1 (cat (lit "a" ∷ alt (call 0 ∷ cat (lit "b" ∷ lit "c" ∷ call 0 ∷ []) ∷ []) ∷ [])))
+    ≡ ((0, 1), (false, 0)) ∷ ((0, 3), (false, 0)) ∷ []
 unfolding row
 branches_begin_together = refl
 
@@ -51,6 +54,9 @@ least_counts_in_loops : calls (numbered 1 (cat (star 2 (lit "ab") ∷ call 1 ∷
 unfolding row
 least_counts_in_loops = refl
 
-absent_begins_where_it_stands : calls (numbered 1 (cat (lit "a" ∷ AbsentRepeater (cat (lit "b" ∷ call 1 ∷ [])) ∷ grp (AbsentExpression (call 1) (call 1)) ∷ []))) ≡ ((0, 2), (false, 1)) ∷ ((1, 0), (false, 1)) ∷ ((1, 0), (false, 1)) ∷ []
+absent_begins_where_it_stands : calls
+    (numbered 1
+    (cat (lit "a" ∷ AbsentRepeater (cat (lit "b" ∷ call 1 ∷ [])) ∷ grp (AbsentExpression (call 1) (call 1)) ∷ [])))
+    ≡ ((0, 2), (false, 1)) ∷ ((1, 0), (false, 1)) ∷ ((1, 0), (false, 1)) ∷ []
 unfolding row
 absent_begins_where_it_stands = refl

@@ -202,7 +202,8 @@ text_ends : map (λ i. holds (codes "a\n") i true EndText) (0 ∷ 1 ∷ 2 ∷ []
 unfolding row
 text_ends = refl
 
-newlines_are_left : map (λ i. holds (codes "a\n\n") i true (EndTextIgnoreTrailingNewlines false)) (0 ∷ 1 ∷ 2 ∷ 3 ∷ []) ≡ false ∷ true ∷ true ∷ true ∷ []
+newlines_are_left : map (λ i. holds (codes "a\n\n") i true (EndTextIgnoreTrailingNewlines false)) (0 ∷ 1 ∷ 2 ∷ 3 ∷ [])
+    ≡ false ∷ true ∷ true ∷ true ∷ []
 unfolding row
 newlines_are_left = refl
 
@@ -210,7 +211,8 @@ returns_are_left : map (λ i. holds (codes "a\r\n") i true (EndTextIgnoreTrailin
 unfolding row
 returns_are_left = refl
 
-no_returns_are_left : map (λ i. holds (codes "a\r\n") i true (EndTextIgnoreTrailingNewlines false)) (0 ∷ 1 ∷ 2 ∷ 3 ∷ []) ≡ false ∷ false ∷ true ∷ true ∷ []
+no_returns_are_left : map (λ i. holds (codes "a\r\n") i true (EndTextIgnoreTrailingNewlines false))
+    (0 ∷ 1 ∷ 2 ∷ 3 ∷ []) ≡ false ∷ false ∷ true ∷ true ∷ []
 unfolding row
 no_returns_are_left = refl
 

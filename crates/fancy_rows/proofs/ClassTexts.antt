@@ -34,7 +34,8 @@ out_of_order_is_refused : CompileRefuses (plain (set "[z-a]")) (length (layout (
 unfolding row regex_on_literals
 out_of_order_is_refused = refused_node root (no_class refl)
 
-folded_is_refused : CompileRefuses (plain (cat (KeepOut ∷ iset "[a" ∷ []))) (length (layout (plain (cat (KeepOut ∷ iset "[a" ∷ [])))).body) (InnerError (codes "[a"))
+folded_is_refused : CompileRefuses (plain (cat (KeepOut ∷ iset "[a" ∷ [])))
+    (length (layout (plain (cat (KeepOut ∷ iset "[a" ∷ [])))).body) (InnerError (codes "[a"))
 unfolding row regex_on_literals
 folded_is_refused = refused_node (part root (there here)) (no_class refl)
 

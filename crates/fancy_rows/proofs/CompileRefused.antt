@@ -36,7 +36,9 @@ absent_in_absent : Refused (plain (AbsentRepeater (AbsentRepeater (lit "abc"))))
 unfolding row
 absent_in_absent = refused_node root (absent_in_hard_repeater refl refl)
 
-leveled_existence : Refused (plain (cat (grp (lit "a") ∷ Conditional (BackrefExists 1 (Some (pos 0))) (lit "b") (lit "c") ∷ []))) FeatureNotYetSupported
+leveled_existence : Refused
+    (plain (cat (grp (lit "a") ∷ Conditional (BackrefExists 1 (Some (pos 0))) (lit "b") (lit "c") ∷ [])))
+    FeatureNotYetSupported
 unfolding row
 leveled_existence = refused_node (part (part root (there here)) here) existence_with_level
 

@@ -6,57 +6,80 @@ use Rattle.fancy_rows.proofs.Notation.{Answered, plain, from, utf8, lit, cat, al
 
 -- ---- what a hard context is for
 
-read_body_keeps_its_ways : Answered (plain (cat (ahead (grp (alt (lit "a" ∷ lit "ab" ∷ []))) ∷ ref 1 ∷ lit "c" ∷ []))) (codes "abc") (from 0) (Some (0 ∷ 3 ∷ 0 ∷ 2 ∷ []))
+read_body_keeps_its_ways : Answered (plain (cat (ahead (grp (alt (lit "a" ∷ lit "ab" ∷ []))) ∷ ref 1 ∷ lit "c" ∷ [])))
+    (codes "abc") (from 0) (Some (0 ∷ 3 ∷ 0 ∷ 2 ∷ []))
 unfolding row
 read_body_keeps_its_ways = (refl, refl, refl)
 
-prefix_has_a_constant_size : Answered (plain (cat (alt (lit "a" ∷ lit "ab" ∷ []) ∷ nahead (lit "x") ∷ lit "c" ∷ []))) (codes "abc") (from 0) (Some (0 ∷ 3 ∷ []))
+prefix_has_a_constant_size : Answered (plain (cat (alt (lit "a" ∷ lit "ab" ∷ []) ∷ nahead (lit "x") ∷ lit "c" ∷ [])))
+    (codes "abc") (from 0) (Some (0 ∷ 3 ∷ []))
 unfolding row
 prefix_has_a_constant_size = (refl, refl, refl)
 
-middle_has_a_hard_context : Answered (plain (cat (nahead (lit "x") ∷ cat (alt (lit "a" ∷ lit "ab" ∷ []) ∷ cat (nahead (lit "x") ∷ lit "c" ∷ []) ∷ []) ∷ []))) (codes "abc") (from 0) (Some (0 ∷ 3 ∷ []))
+middle_has_a_hard_context : Answered
+    (plain
+    (cat (nahead (lit "x") ∷ cat (alt (lit "a" ∷ lit "ab" ∷ []) ∷ cat (nahead (lit "x") ∷ lit "c" ∷ []) ∷ []) ∷ [])))
+    (codes "abc") (from 0) (Some (0 ∷ 3 ∷ []))
 unfolding row
 middle_has_a_hard_context = (refl, refl, refl)
 
-body_of_a_loop_has_a_hard_context : Answered (plain (rep 2 2 (cat (nahead (lit "x") ∷ alt (lit "a" ∷ lit "ab" ∷ lit "c" ∷ []) ∷ [])))) (codes "abc") (from 0) (Some (0 ∷ 3 ∷ []))
+body_of_a_loop_has_a_hard_context : Answered
+    (plain (rep 2 2 (cat (nahead (lit "x") ∷ alt (lit "a" ∷ lit "ab" ∷ lit "c" ∷ []) ∷ [])))) (codes "abc") (from 0)
+    (Some (0 ∷ 3 ∷ []))
 unfolding row
 body_of_a_loop_has_a_hard_context = (refl, refl, refl)
 
-suffix_in_a_hard_context_is_constant : Answered (plain (cat (cat (nahead (lit "x") ∷ alt (lit "a" ∷ lit "ab" ∷ []) ∷ []) ∷ cat (nahead (lit "x") ∷ lit "c" ∷ []) ∷ []))) (codes "abc") (from 0) (Some (0 ∷ 3 ∷ []))
+suffix_in_a_hard_context_is_constant : Answered
+    (plain
+    (cat (cat (nahead (lit "x") ∷ alt (lit "a" ∷ lit "ab" ∷ []) ∷ []) ∷ cat (nahead (lit "x") ∷ lit "c" ∷ []) ∷ [])))
+    (codes "abc") (from 0) (Some (0 ∷ 3 ∷ []))
 unfolding row
 suffix_in_a_hard_context_is_constant = (refl, refl, refl)
 
-call_of_a_read_group_keeps_its_ways : Answered (plain (cat (ahead (call 1) ∷ ref 1 ∷ lit "c" ∷ DefineGroup (grp (alt (lit "a" ∷ lit "ab" ∷ []))) ∷ []))) (codes "abc") (from 0) (Some (0 ∷ 3 ∷ 0 ∷ 2 ∷ []))
+call_of_a_read_group_keeps_its_ways : Answered
+    (plain (cat (ahead (call 1) ∷ ref 1 ∷ lit "c" ∷ DefineGroup (grp (alt (lit "a" ∷ lit "ab" ∷ []))) ∷ [])))
+    (codes "abc") (from 0) (Some (0 ∷ 3 ∷ 0 ∷ 2 ∷ []))
 unfolding row
 call_of_a_read_group_keeps_its_ways = (refl, refl, refl)
 
-hard_alternation_in_a_loop : Answered (plain (cat (star 1 (cat (alt (lit "a" ∷ lit "ab" ∷ []) ∷ nahead (lit "x") ∷ [])) ∷ lit "c" ∷ []))) (codes "aababc") (from 0) (Some (0 ∷ 6 ∷ []))
+hard_alternation_in_a_loop : Answered
+    (plain (cat (star 1 (cat (alt (lit "a" ∷ lit "ab" ∷ []) ∷ nahead (lit "x") ∷ [])) ∷ lit "c" ∷ [])))
+    (codes "aababc") (from 0) (Some (0 ∷ 6 ∷ []))
 unfolding row
 hard_alternation_in_a_loop = (refl, refl, refl)
 
-conditional_before_a_letter : Answered (plain (cat (Conditional (ahead (lit "a")) (alt (lit "a" ∷ lit "ab" ∷ [])) (lit "x") ∷ lit "c" ∷ []))) (codes "abc") (from 0) (Some (0 ∷ 3 ∷ []))
+conditional_before_a_letter : Answered
+    (plain (cat (Conditional (ahead (lit "a")) (alt (lit "a" ∷ lit "ab" ∷ [])) (lit "x") ∷ lit "c" ∷ [])))
+    (codes "abc") (from 0) (Some (0 ∷ 3 ∷ []))
 unfolding row
 conditional_before_a_letter = (refl, refl, refl)
 
-option_before_a_letter : Answered (plain (cat (rep 0 1 (cat (alt (lit "a" ∷ lit "ab" ∷ []) ∷ nahead (lit "x") ∷ [])) ∷ lit "c" ∷ []))) (codes "abc") (from 0) (Some (0 ∷ 3 ∷ []))
+option_before_a_letter : Answered
+    (plain (cat (rep 0 1 (cat (alt (lit "a" ∷ lit "ab" ∷ []) ∷ nahead (lit "x") ∷ [])) ∷ lit "c" ∷ []))) (codes "abc")
+    (from 0) (Some (0 ∷ 3 ∷ []))
 unfolding row
 option_before_a_letter = (refl, refl, refl)
 
 -- ---- captures
 
-look_ahead_goes_back_into_its_group : Answered (plain (cat (ahead (grp (star 1 (lit "a"))) ∷ star 0 (lit "a") ∷ lit "b" ∷ ref 1 ∷ []))) (codes "baaabac") (from 0) (Some (1 ∷ 6 ∷ 1 ∷ 2 ∷ []))
+look_ahead_goes_back_into_its_group : Answered
+    (plain (cat (ahead (grp (star 1 (lit "a"))) ∷ star 0 (lit "a") ∷ lit "b" ∷ ref 1 ∷ []))) (codes "baaabac")
+    (from 0) (Some (1 ∷ 6 ∷ 1 ∷ 2 ∷ []))
 unfolding row
 look_ahead_goes_back_into_its_group = (refl, refl, refl)
 
-call_leaves_its_capture : Answered (plain (cat (grp (alt (lit "a" ∷ lit "b" ∷ [])) ∷ call 1 ∷ ref 1 ∷ []))) (codes "abb") (from 0) (Some (0 ∷ 3 ∷ 1 ∷ 2 ∷ []))
+call_leaves_its_capture : Answered (plain (cat (grp (alt (lit "a" ∷ lit "b" ∷ [])) ∷ call 1 ∷ ref 1 ∷ [])))
+    (codes "abb") (from 0) (Some (0 ∷ 3 ∷ 1 ∷ 2 ∷ []))
 unfolding row
 call_leaves_its_capture = (refl, refl, refl)
 
-call_in_a_look_ahead_leaves_its_capture : Answered (plain (cat (grp any ∷ ahead (call 1) ∷ any ∷ []))) (codes "ab") (from 0) (Some (0 ∷ 2 ∷ 1 ∷ 2 ∷ []))
+call_in_a_look_ahead_leaves_its_capture : Answered (plain (cat (grp any ∷ ahead (call 1) ∷ any ∷ []))) (codes "ab")
+    (from 0) (Some (0 ∷ 2 ∷ 1 ∷ 2 ∷ []))
 unfolding row
 call_in_a_look_ahead_leaves_its_capture = (refl, refl, refl)
 
-negative_look_leaves_no_capture : Answered (plain (cat (nahead (cat (grp (lit "a") ∷ lit "x" ∷ [])) ∷ lit "a" ∷ []))) (codes "ab") (from 0) (Some (0 ∷ 1 ∷ usize_max ∷ usize_max ∷ []))
+negative_look_leaves_no_capture : Answered (plain (cat (nahead (cat (grp (lit "a") ∷ lit "x" ∷ [])) ∷ lit "a" ∷ [])))
+    (codes "ab") (from 0) (Some (0 ∷ 1 ∷ usize_max ∷ usize_max ∷ []))
 unfolding row
 negative_look_leaves_no_capture = (refl, refl, refl)
 
@@ -64,11 +87,15 @@ condition_leaves_its_capture : Answered (plain (Conditional (grp (lit "a")) (ref
 unfolding row
 condition_leaves_its_capture = (refl, refl, refl)
 
-failed_condition_leaves_no_capture : Answered (plain (Conditional (cat (grp (lit "a") ∷ lit "x" ∷ [])) (lit "c") (lit "ab"))) (codes "ab") (from 0) (Some (0 ∷ 2 ∷ usize_max ∷ usize_max ∷ []))
+failed_condition_leaves_no_capture : Answered
+    (plain (Conditional (cat (grp (lit "a") ∷ lit "x" ∷ [])) (lit "c") (lit "ab"))) (codes "ab") (from 0)
+    (Some (0 ∷ 2 ∷ usize_max ∷ usize_max ∷ []))
 unfolding row
 failed_condition_leaves_no_capture = (refl, refl, refl)
 
-failed_branch_leaves_no_capture : Answered (plain (alt (cat (grp (lit "a") ∷ lit "x" ∷ []) ∷ cat (lit "a" ∷ grp (lit "b") ∷ []) ∷ []))) (codes "ab") (from 0) (Some (0 ∷ 2 ∷ usize_max ∷ usize_max ∷ 1 ∷ 2 ∷ []))
+failed_branch_leaves_no_capture : Answered
+    (plain (alt (cat (grp (lit "a") ∷ lit "x" ∷ []) ∷ cat (lit "a" ∷ grp (lit "b") ∷ []) ∷ []))) (codes "ab") (from 0)
+    (Some (0 ∷ 2 ∷ usize_max ∷ usize_max ∷ 1 ∷ 2 ∷ []))
 unfolding row
 failed_branch_leaves_no_capture = (refl, refl, refl)
 
@@ -76,7 +103,8 @@ last_iteration_is_captured : Answered (plain (star 0 (grp (alt (lit "a" ∷ lit 
 unfolding row
 last_iteration_is_captured = (refl, refl, refl)
 
-capture_of_an_earlier_iteration_stays : Answered (plain (star 0 (alt (grp (lit "a") ∷ grp (lit "b") ∷ [])))) (codes "ab") (from 0) (Some (0 ∷ 2 ∷ 0 ∷ 1 ∷ 1 ∷ 2 ∷ []))
+capture_of_an_earlier_iteration_stays : Answered (plain (star 0 (alt (grp (lit "a") ∷ grp (lit "b") ∷ []))))
+    (codes "ab") (from 0) (Some (0 ∷ 2 ∷ 0 ∷ 1 ∷ 1 ∷ 2 ∷ []))
 unfolding row
 capture_of_an_earlier_iteration_stays = (refl, refl, refl)
 
@@ -88,11 +116,13 @@ absent_captures_nothing : Answered (plain (AbsentRepeater (grp (lit "b")))) (cod
 unfolding row
 absent_captures_nothing = (refl, refl, refl)
 
-definitions_capture_when_called : Answered (plain (cat (DefineGroup (grp any) ∷ lit "a" ∷ call 1 ∷ []))) (codes "ab") (from 0) (Some (0 ∷ 2 ∷ 1 ∷ 2 ∷ []))
+definitions_capture_when_called : Answered (plain (cat (DefineGroup (grp any) ∷ lit "a" ∷ call 1 ∷ []))) (codes "ab")
+    (from 0) (Some (0 ∷ 2 ∷ 1 ∷ 2 ∷ []))
 unfolding row
 definitions_capture_when_called = (refl, refl, refl)
 
-reference_to_an_unset_group : Answered (plain (alt (cat (ref 1 ∷ lit "a" ∷ []) ∷ grp (lit "b") ∷ []))) (codes "ab") (from 0) (Some (1 ∷ 2 ∷ 1 ∷ 2 ∷ []))
+reference_to_an_unset_group : Answered (plain (alt (cat (ref 1 ∷ lit "a" ∷ []) ∷ grp (lit "b") ∷ []))) (codes "ab")
+    (from 0) (Some (1 ∷ 2 ∷ 1 ∷ 2 ∷ []))
 unfolding row
 reference_to_an_unset_group = (refl, refl, refl)
 
@@ -102,7 +132,9 @@ reference_to_nothing_captured = (refl, refl, refl)
 
 -- ---- calls and absent repeaters
 
-absent_of_a_called_absent : Answered (plain (cat (AbsentRepeater (call 1) ∷ DefineGroup (grp (cat (lit "b" ∷ AbsentRepeater (lit "a") ∷ []))) ∷ []))) (codes "abb") (from 0) (Some (0 ∷ 1 ∷ usize_max ∷ usize_max ∷ []))
+absent_of_a_called_absent : Answered
+    (plain (cat (AbsentRepeater (call 1) ∷ DefineGroup (grp (cat (lit "b" ∷ AbsentRepeater (lit "a") ∷ []))) ∷ [])))
+    (codes "abb") (from 0) (Some (0 ∷ 1 ∷ usize_max ∷ usize_max ∷ []))
 unfolding row
 absent_of_a_called_absent = (refl, refl, refl)
 
@@ -122,7 +154,8 @@ absent_past_a_character_of_two_bytes : Answered (plain (cat (AbsentRepeater (lit
 unfolding row
 absent_past_a_character_of_two_bytes = (refl, refl, refl)
 
-definitions_keep_their_numbers : Answered (plain (cat (DefineGroup (grp (lit "a")) ∷ grp (lit "b") ∷ []))) (codes "b") (from 0) (Some (0 ∷ 1 ∷ usize_max ∷ usize_max ∷ 0 ∷ 1 ∷ []))
+definitions_keep_their_numbers : Answered (plain (cat (DefineGroup (grp (lit "a")) ∷ grp (lit "b") ∷ []))) (codes "b")
+    (from 0) (Some (0 ∷ 1 ∷ usize_max ∷ usize_max ∷ 0 ∷ 1 ∷ []))
 unfolding row
 definitions_keep_their_numbers = (refl, refl, refl)
 
@@ -156,7 +189,9 @@ two_behind_of_four : Answered (plain (behind (cat (any ∷ any ∷ [])))) (utf8 
 unfolding row
 two_behind_of_four = (refl, refl, refl)
 
-never_entered_is_not_refused : Answered (plain (cat (rep 0 0 (cat (behind (cat (lit "a" ∷ star 1 (lit "b") ∷ [])) ∷ lit "x" ∷ [])) ∷ lit "y" ∷ []))) (codes "y") (from 0) (Some (0 ∷ 1 ∷ []))
+never_entered_is_not_refused : Answered
+    (plain (cat (rep 0 0 (cat (behind (cat (lit "a" ∷ star 1 (lit "b") ∷ [])) ∷ lit "x" ∷ [])) ∷ lit "y" ∷ [])))
+    (codes "y") (from 0) (Some (0 ∷ 1 ∷ []))
 unfolding row
 never_entered_is_not_refused = (refl, refl, refl)
 
@@ -174,6 +209,7 @@ lazy_option_stops_first : Answered (plain (cat (lazy 0 1 (lit "a") ∷ lit "b" �
 unfolding row
 lazy_option_stops_first = (refl, refl, refl)
 
-lazy_empty_iteration : Answered (plain (cat (lazy_star 0 (grp (alt (Empty ∷ lit "a" ∷ []))) ∷ lit "b" ∷ []))) (codes "ab") (from 0) (Some (0 ∷ 2 ∷ 0 ∷ 1 ∷ []))
+lazy_empty_iteration : Answered (plain (cat (lazy_star 0 (grp (alt (Empty ∷ lit "a" ∷ []))) ∷ lit "b" ∷ [])))
+    (codes "ab") (from 0) (Some (0 ∷ 2 ∷ 0 ∷ 1 ∷ []))
 unfolding row
 lazy_empty_iteration = (refl, refl, refl)

@@ -101,7 +101,9 @@ first_way_takes_nothing : first_on (star 0 (alt (Empty ∷ lit "a" ∷ [])) ∷ 
 unfolding row
 first_way_takes_nothing = refl
 
-first_way_of_a_sequence_in_a_loop : first_on (star 0 (cat (alt (lit "a" ∷ Group 1 Empty ∷ []) ∷ rep 0 1 (lit "b") ∷ [])) ∷ []) (codes "a") 0 ≡ Some (1, Some (1, 1), None)
+first_way_of_a_sequence_in_a_loop : first_on
+    (star 0 (cat (alt (lit "a" ∷ Group 1 Empty ∷ []) ∷ rep 0 1 (lit "b") ∷ [])) ∷ []) (codes "a") 0
+    ≡ Some (1, Some (1, 1), None)
 unfolding row
 first_way_of_a_sequence_in_a_loop = refl
 

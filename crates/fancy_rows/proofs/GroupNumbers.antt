@@ -5,7 +5,9 @@ use Rattle.fancy_meaning.specs.Numbering.{numbered}
 use Rattle.fancy_meaning.specs.Nodes.{read_groups, target}
 use Rattle.fancy_rows.proofs.Notation.{lit, cat, alt, grp, rep, star, assert, ref, iref, has, call, ahead, nahead, behind, nbehind, row}
 
-groups_in_order : numbered 1 (cat (grp (grp (lit "a")) ∷ alt (lit "b" ∷ grp (lit "c") ∷ []) ∷ star 0 (grp (lit "d")) ∷ [])) ≡ cat (Group 1 (Group 2 (lit "a")) ∷ alt (lit "b" ∷ Group 3 (lit "c") ∷ []) ∷ star 0 (Group 4 (lit "d")) ∷ [])
+groups_in_order : numbered 1
+    (cat (grp (grp (lit "a")) ∷ alt (lit "b" ∷ grp (lit "c") ∷ []) ∷ star 0 (grp (lit "d")) ∷ []))
+    ≡ cat (Group 1 (Group 2 (lit "a")) ∷ alt (lit "b" ∷ Group 3 (lit "c") ∷ []) ∷ star 0 (Group 4 (lit "d")) ∷ [])
 unfolding row
 groups_in_order = refl
 
@@ -13,19 +15,34 @@ groups_from_0 : numbered 0 (cat (grp Empty ∷ grp Empty ∷ [])) ≡ cat (Group
 unfolding row
 groups_from_0 = refl
 
-condition_then_branches : numbered 1 (Conditional (grp (lit "a")) (cat (grp (lit "b") ∷ grp Empty ∷ [])) (grp (lit "c"))) ≡ Conditional (Group 1 (lit "a")) (cat (Group 2 (lit "b") ∷ Group 3 Empty ∷ [])) (Group 4 (lit "c"))
+condition_then_branches : numbered 1
+    (Conditional (grp (lit "a")) (cat (grp (lit "b") ∷ grp Empty ∷ [])) (grp (lit "c")))
+    ≡ Conditional (Group 1 (lit "a")) (cat (Group 2 (lit "b") ∷ Group 3 Empty ∷ [])) (Group 4 (lit "c"))
 unfolding row
 condition_then_branches = refl
 
-absent_then_expression : numbered 1 (cat (AbsentExpression (grp (lit "a")) (grp (lit "b")) ∷ grp Empty ∷ [])) ≡ cat (AbsentExpression (Group 1 (lit "a")) (Group 2 (lit "b")) ∷ Group 3 Empty ∷ [])
+absent_then_expression : numbered 1 (cat (AbsentExpression (grp (lit "a")) (grp (lit "b")) ∷ grp Empty ∷ []))
+    ≡ cat (AbsentExpression (Group 1 (lit "a")) (Group 2 (lit "b")) ∷ Group 3 Empty ∷ [])
 unfolding row
 absent_then_expression = refl
 
-definitions_and_looks_count : numbered 1 (cat (DefineGroup (grp Empty) ∷ nahead (grp Empty) ∷ rep 0 0 (grp Empty) ∷ grp Empty ∷ [])) ≡ cat (DefineGroup (Group 1 Empty) ∷ nahead (Group 2 Empty) ∷ rep 0 0 (Group 3 Empty) ∷ Group 4 Empty ∷ [])
+definitions_and_looks_count : numbered 1
+    (cat (DefineGroup (grp Empty) ∷ nahead (grp Empty) ∷ rep 0 0 (grp Empty) ∷ grp Empty ∷ []))
+    ≡ cat (DefineGroup (Group 1 Empty) ∷ nahead (Group 2 Empty) ∷ rep 0 0 (Group 3 Empty) ∷ Group 4 Empty ∷ [])
 unfolding row
 definitions_and_looks_count = refl
 
-innermost_look : numbered 1 (cat (assert WordBoundary ∷ ahead (cat (assert WordBoundary ∷ behind (grp (assert WordBoundary)) ∷ assert EndText ∷ [])) ∷ nbehind (nahead (assert EndText)) ∷ [])) ≡ cat (Assert NoLook WordBoundary ∷ ahead (cat (Assert InLookAhead WordBoundary ∷ behind (Group 1 (Assert InLookBehind WordBoundary)) ∷ Assert InLookAhead EndText ∷ [])) ∷ nbehind (nahead (Assert InLookAhead EndText)) ∷ [])
+innermost_look : numbered 1
+    (cat
+    (assert WordBoundary
+    ∷ ahead (cat (assert WordBoundary ∷ behind (grp (assert WordBoundary)) ∷ assert EndText ∷ []))
+    ∷ nbehind (nahead (assert EndText)) ∷ []))
+    ≡ cat
+    (Assert NoLook WordBoundary
+    ∷ ahead
+    (cat
+    (Assert InLookAhead WordBoundary ∷ behind (Group 1 (Assert InLookBehind WordBoundary))
+    ∷ Assert InLookAhead EndText ∷ [])) ∷ nbehind (nahead (Assert InLookAhead EndText)) ∷ [])
 unfolding row
 innermost_look = refl
 

@@ -43,7 +43,9 @@ line_edges_are_easy : hard no_options (cat (assert StartText ∷ assert (StartLi
 unfolding row
 line_edges_are_easy = refl
 
-word_edges_are_easy : hard no_options (cat (assert WordBoundary ∷ assert NotWordBoundary ∷ assert LeftWordBoundary ∷ assert RightWordBoundary ∷ assert LeftWordHalfBoundary ∷ assert RightWordHalfBoundary ∷ [])) ≡ false
+word_edges_are_easy : hard no_options
+    (cat (assert WordBoundary ∷ assert NotWordBoundary ∷ assert LeftWordBoundary ∷ assert RightWordBoundary
+    ∷ assert LeftWordHalfBoundary ∷ assert RightWordHalfBoundary ∷ [])) ≡ false
 unfolding row
 word_edges_are_easy = refl
 

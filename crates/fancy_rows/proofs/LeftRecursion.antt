@@ -74,7 +74,13 @@ called_by_name : AnalysisRefuses (record (parsed direct) { named_groups = expr }
 unfolding row
 called_by_name =
     subst (λ t. AnalysisRefuses (record (parsed direct) { named_groups = expr }) no_options (LeftRecursiveSubroutineCall t)) is_expr
-    (before_end (left_recursion 1 _ (record { is_one = group_1_leads; least = nothing_below_1 }) (by_name (record { is_one = record { numbers = 1 ∷ []; is_there = (0, omega arith, refl); has = (0, omega arith, refl) }; least = least_name }))))
+    (before_end
+    (left_recursion 1 _ (record { is_one = group_1_leads; least = nothing_below_1 })
+    (by_name
+    (record {
+      is_one = record { numbers = 1 ∷ []; is_there = (0, omega arith, refl); has = (0, omega arith, refl) };
+      least = least_name;
+    }))))
 
 -- ---- the whole tree
 
@@ -139,4 +145,16 @@ leads_into_a_cycle : AnalysisRefuses (parsed into_a_cycle) no_options (LeftRecur
 unfolding row
 leads_into_a_cycle =
     subst (λ t. AnalysisRefuses (parsed into_a_cycle) no_options (LeftRecursiveSubroutineCall t)) is_group_0
-    (before_end (left_recursion 0 _ (record { is_one = record { is_reachable = the_whole; on_cycle = 1; leads = inr (once calls_the_group); cycle = once group_calls_itself }; least = nothing_below_0 }) (by_number (λ name n. omega (arith, n.is_there.1)))))
+    (before_end
+    (left_recursion 0 _
+    (record {
+      is_one =
+          record {
+            is_reachable = the_whole;
+            on_cycle = 1;
+            leads = inr (once calls_the_group);
+            cycle =
+                once group_calls_itself;
+          };
+      least = nothing_below_0;
+    }) (by_number (λ name n. omega (arith, n.is_there.1)))))

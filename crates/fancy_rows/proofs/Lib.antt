@@ -1,4 +1,5 @@
 pub mod Notation
+mod WaysOfNodes
 mod Answers
 mod OptionAnswers
 mod Layouts

@@ -21,19 +21,26 @@ empty_at_start_is_not : Answered (with_end_text Empty) (codes "a\n") (from 0) (S
 unfolding row
 empty_at_start_is_not = (refl, refl, refl)
 
-flag_does_not_survive_its_branch : Answered (with_end_text (alt (cat (assert EndText ∷ lit "x" ∷ []) ∷ assert (EndLine false) ∷ []))) (codes "a\n") (from 2) None
+flag_does_not_survive_its_branch : Answered
+    (with_end_text (alt (cat (assert EndText ∷ lit "x" ∷ []) ∷ assert (EndLine false) ∷ []))) (codes "a\n")
+    (from 2) None
 unfolding row
 flag_does_not_survive_its_branch = (refl, refl, refl)
 
-flag_of_a_look_ahead_stays : Answered (with_end_text (cat (ahead (assert EndText) ∷ assert (EndLine false) ∷ []))) (codes "a\n") (from 2) (Some (2 ∷ 2 ∷ []))
+flag_of_a_look_ahead_stays : Answered (with_end_text (cat (ahead (assert EndText) ∷ assert (EndLine false) ∷ [])))
+    (codes "a\n") (from 2) (Some (2 ∷ 2 ∷ []))
 unfolding row
 flag_of_a_look_ahead_stays = (refl, refl, refl)
 
-flag_of_a_negative_look_does_not : Answered (with_end_text (cat (nahead (cat (assert EndText ∷ lit "x" ∷ [])) ∷ assert (EndLine false) ∷ []))) (codes "a\n") (from 2) None
+flag_of_a_negative_look_does_not : Answered
+    (with_end_text (cat (nahead (cat (assert EndText ∷ lit "x" ∷ [])) ∷ assert (EndLine false) ∷ []))) (codes "a\n")
+    (from 2) None
 unfolding row
 flag_of_a_negative_look_does_not = (refl, refl, refl)
 
-newlines_at_end_are_asked_for : Answered (with_end_text (cat (assert (EndTextIgnoreTrailingNewlines false) ∷ Empty ∷ []))) (codes "a\n") (from 0) (Some (1 ∷ 1 ∷ []))
+newlines_at_end_are_asked_for : Answered
+    (with_end_text (cat (assert (EndTextIgnoreTrailingNewlines false) ∷ Empty ∷ []))) (codes "a\n") (from 0)
+    (Some (1 ∷ 1 ∷ []))
 unfolding row
 newlines_at_end_are_asked_for = (refl, refl, refl)
 
@@ -105,11 +112,13 @@ start_of_a_failed_branch : Answered (plain (alt (cat (lit "a" ∷ KeepOut ∷ li
 unfolding row
 start_of_a_failed_branch = (refl, refl, refl)
 
-start_of_a_negative_look : Answered (plain (cat (nahead (cat (lit "a" ∷ KeepOut ∷ lit "x" ∷ [])) ∷ lit "a" ∷ []))) (codes "ab") (from 0) (Some (0 ∷ 1 ∷ []))
+start_of_a_negative_look : Answered (plain (cat (nahead (cat (lit "a" ∷ KeepOut ∷ lit "x" ∷ [])) ∷ lit "a" ∷ [])))
+    (codes "ab") (from 0) (Some (0 ∷ 1 ∷ []))
 unfolding row
 start_of_a_negative_look = (refl, refl, refl)
 
-start_before_the_place_of_the_search : Answered (plain (cat (behind (cat (KeepOut ∷ lit "a" ∷ [])) ∷ lit "b" ∷ []))) (codes "ab") (from 1) (Some (0 ∷ 2 ∷ []))
+start_before_the_place_of_the_search : Answered (plain (cat (behind (cat (KeepOut ∷ lit "a" ∷ [])) ∷ lit "b" ∷ [])))
+    (codes "ab") (from 1) (Some (0 ∷ 2 ∷ []))
 unfolding row
 start_before_the_place_of_the_search = (refl, refl, refl)
 
@@ -127,7 +136,9 @@ is_not_continued : Answered (plain (cat (ContinueFromPreviousMatchEnd ∷ lit "a
 unfolding row
 is_not_continued = (refl, refl, refl)
 
-continues_in_a_later_branch : Answered (plain (alt (cat (ContinueFromPreviousMatchEnd ∷ lit "x" ∷ []) ∷ lit "b" ∷ []))) (codes "ab") (from 0) (Some (1 ∷ 2 ∷ []))
+continues_in_a_later_branch : Answered
+    (plain (alt (cat (ContinueFromPreviousMatchEnd ∷ lit "x" ∷ []) ∷ lit "b" ∷ []))) (codes "ab") (from 0)
+    (Some (1 ∷ 2 ∷ []))
 unfolding row
 continues_in_a_later_branch = (refl, refl, refl)
 

@@ -100,15 +100,22 @@ of_a_folded_class : text_of (iset "[a-c]") 3 ≡ codes "(?i:[a-c])"
 unfolding row
 of_a_folded_class = refl
 
-of_text_edges : text_of (cat (assert StartText ∷ assert EndText ∷ assert (EndTextIgnoreTrailingNewlines false) ∷ assert (EndTextIgnoreTrailingNewlines true) ∷ [])) 1 ≡ codes "^$\\Z\\Z"
+of_text_edges : text_of
+    (cat
+    (assert StartText ∷ assert EndText ∷ assert (EndTextIgnoreTrailingNewlines false)
+    ∷ assert (EndTextIgnoreTrailingNewlines true) ∷ [])) 1 ≡ codes "^$\\Z\\Z"
 unfolding row
 of_text_edges = refl
 
-of_line_edges : text_of (cat (assert (StartLine false) ∷ assert (StartLineOniguruma false) ∷ assert (EndLine false) ∷ [])) 1 ≡ codes "(?m:^)(?m:^)(?m:$)"
+of_line_edges : text_of
+    (cat (assert (StartLine false) ∷ assert (StartLineOniguruma false) ∷ assert (EndLine false) ∷ [])) 1
+    ≡ codes "(?m:^)(?m:^)(?m:$)"
 unfolding row
 of_line_edges = refl
 
-of_line_edges_with_crlf : text_of (cat (assert (StartLine true) ∷ assert (StartLineOniguruma true) ∷ assert (EndLine true) ∷ [])) 1 ≡ codes "(?Rm:^)(?Rm:^)(?Rm:$)"
+of_line_edges_with_crlf : text_of
+    (cat (assert (StartLine true) ∷ assert (StartLineOniguruma true) ∷ assert (EndLine true) ∷ [])) 1
+    ≡ codes "(?Rm:^)(?Rm:^)(?Rm:$)"
 unfolding row
 of_line_edges_with_crlf = refl
 
@@ -124,7 +131,10 @@ of_word_ends : text_of (cat (assert RightWordBoundary ∷ assert RightWordHalfBo
 unfolding row
 of_word_ends = refl
 
-of_hard_nodes : text_of (cat (KeepOut ∷ ContinueFromPreviousMatchEnd ∷ ahead (lit "a") ∷ ref 1 ∷ call 1 ∷ GeneralNewline true ∷ Control Fail ∷ Conditional (lit "a") (lit "b") (lit "c") ∷ AbsentRepeater (lit "a") ∷ [])) 1 ≡ []
+of_hard_nodes : text_of
+    (cat
+    (KeepOut ∷ ContinueFromPreviousMatchEnd ∷ ahead (lit "a") ∷ ref 1 ∷ call 1 ∷ GeneralNewline true ∷ Control Fail
+    ∷ Conditional (lit "a") (lit "b") (lit "c") ∷ AbsentRepeater (lit "a") ∷ [])) 1 ≡ []
 unfolding row
 of_hard_nodes = refl
 

@@ -1,5 +1,6 @@
 -- Trees of sequences, alternations, groups, loops, letters and dots: `compile` refuses none of them for a node.
-use Rattle.std.proofs.Common.{◌≡◌, zero, suc, Bool, true, false, ◌&&◌, Some, None, refl}
+use Rattle.std.proofs.Common.{◌≡◌, zero, suc, Bool, true, false, ◌&&◌, Some, None}
+use Rattle.std.proofs.lemmas.Bool.{and_parts}
 use Rattle.fancy_meaning.specs.Tree.{Tree, Trees, none, more, Empty, KeepOut, ContinueFromPreviousMatchEnd, Any, Assert, GeneralNewline, Literal, LiteralBytes, Delegate, Concat, Alt, Group, LookAround, Repeat, Backref, BackrefWithLevel, BackrefExists, AtomicGroup, DefineGroup, Control, Conditional, SubroutineCall, AbsentRepeater, AbsentStopper, AbsentExpression, AbsentClear, AstNode}
 use Rattle.fancy_meaning.specs.Options.{Plan}
 use Rattle.fancy_meaning.specs.Nodes.{is_absent}
@@ -21,16 +22,12 @@ abbrev mutual
   are_plain none = true
   are_plain (more e es) = is_plain e && are_plain es
 
-both : (a b : Bool) → (a && b) ≡ true → (a ≡ true) × (b ≡ true)
-both true b t = (refl, t)
-both false b t = cc (t)
-
 pub none_among : {e : Tree} → IsAmong e none → ⊥
 none_among a = elim a [ ]
 
 among : {e : Tree} {es : Trees} → IsAmong e es → are_plain es ≡ true → is_plain e ≡ true
-among (here {es}) t = (both _ (are_plain es) t).0
-among (there {d} {es} a) t = among a (both (is_plain d) (are_plain es) t).1
+among (here {es}) t = (and_parts _ (are_plain es) t).0
+among (there {d} {es} a) t = among a (and_parts (is_plain d) (are_plain es) t).1
 
 only : {e d : Tree} → IsAmong e (more d none) → is_plain d ≡ true → is_plain e ≡ true
 only here t = t

@@ -27,7 +27,8 @@ of_group_0_without_group : facts (layout (explicit (lit "ab"))) ≡ ((2, 0, 2), 
 unfolding row
 of_group_0_without_group = refl
 
-of_fresh_slots : facts (layout (plain (cat (grp (ahead (lit "a")) ∷ star 0 (star 0 KeepOut) ∷ [])))) ≡ ((usize_max, 1, 10), (false, false, false, true))
+of_fresh_slots : facts (layout (plain (cat (grp (ahead (lit "a")) ∷ star 0 (star 0 KeepOut) ∷ []))))
+    ≡ ((usize_max, 1, 10), (false, false, false, true))
 unfolding row
 of_fresh_slots = refl
 

@@ -15,7 +15,7 @@ use Rattle.fancy_meaning.specs.Machine.{Task, Reaches, then_on, exec}
 use Rattle.fancy_meaning.specs.Keys.{whole_key, reduced}
 use Rattle.fancy_meaning.specs.Hands.{Hands, IsBranchLimit, no_more, outcome_after}
 use Rattle.fancy_meaning.specs.Marks.{has_marked_continue}
-use Rattle.fancy_meaning.specs.Theorems.{Serves, stretch_of, code_of_root, code_of_node, GivesUp}
+use Rattle.fancy_meaning.specs.Theorems.{Enters, Serves, stretch_of, code_of_root, code_of_node, GivesUp}
 use Rattle.fancy_rows.proofs.Notation.{plain, with_end_text, from, lit, cat, star, row, code, delegate}
 use Rattle.std.specs.Prelude.{not, codes, None}
 
@@ -108,7 +108,10 @@ abbrev marked : Code
 marked = code_of_node later_continue (λ e. false) no_calls ContinueFromPreviousMatchEnd true true
 
 other : (m start count : ℕ) (v : Bool) →
-    NoMatch ≡ then_on t (exec t m) (if v then Goes (record { now = b; branches = []; start = start; backtracks = count }) else Ends BacktrackLimitExceeded) → ⊥
+    NoMatch
+    ≡ then_on t (exec t m)
+    (if v then Goes (record { now = b; branches = []; start = start; backtracks = count })
+    else Ends BacktrackLimitExceeded) → ⊥
 other zero start count true e = cc
 other (suc m) start count true e = cc
 other m start count false e = cc
@@ -123,11 +126,24 @@ not_handed [] (no_more d st l) e =
     (λ x. other 1 d.start (d.backtracks + 1) (nat_lt d.backtracks t.backtrack_limit) (sym gone ∙ x)) (l.by 1)
 not_handed (h ∷ hs) k e = cc
 
-marked_node_does_not_serve : Serves later_continue marked (λ q. ways q whole ContinueFromPreviousMatchEnd no_calls) (λ from. whole_key whole) (has_marked_continue whole whole) → ⊥
+marked_node_does_not_serve : Serves later_continue marked (λ q. ways q whole ContinueFromPreviousMatchEnd no_calls)
+    (λ from. whole_key whole) (has_marked_continue whole whole) → ⊥
 unfolding row
 marked_node_does_not_serve serves =
-    let r = serves t c 2 s 0 (record { total_groups = refl; implicit_group_0 = refl; end_text = refl; unicode = refl })
-    (record { utf8 = ([], (refl, refl)); fits = omega arith }) (refl, tt) (λ x. cc) (omega arith)
-    (record { place = refl; kept = refl; starts = λ g lo hi. absurd (omega (arith, lo, hi)); ends = λ g lo hi. absurd (omega (arith, lo, hi)); flag = λ x. cc })
-    (record { place = refl; spans = λ g span e. cc; sizes = λ g span r e. cc }) (omega arith) in
+    let enters : Enters later_continue marked (has_marked_continue whole whole) t c 2 s = record {
+      program = record { total_groups = refl; implicit_group_0 = refl; end_text = refl; unicode = refl };
+      text = record { utf8 = ([], (refl, refl)); fits = omega arith };
+      code_is_there = (refl, tt);
+      slots_are_fresh = omega arith;
+      goes_on = λ x. cc;
+      stands = record {
+        place = refl;
+        kept = refl;
+        starts = λ g lo hi. absurd (omega (arith, lo, hi));
+        ends = λ g lo hi. absurd (omega (arith, lo, hi));
+        flag = λ x. cc;
+      };
+      sound = record { place = refl; spans = λ g span e. cc; sizes = λ g span r e. cc };
+    } in
+    let r = serves t c 2 s 0 enters (omega arith) in
     not_handed r.0 r.1 r.2

@@ -33,12 +33,17 @@ reference_by_name = before_end (unresolved_node (0, omega arith, refl))
 abbrev named : List (List ℕ × List ℕ) → Tree → ParsedTree
 named names e = record (parsed e) { named_groups = names }
 
-name_beside_a_number : AnalysisRefuses (record (named ((codes "expr", 1 ∷ []) ∷ []) (cat (grp (lit "a") ∷ ref 1 ∷ []))) { numbered_groups_ignored = true }) no_options NamedBackrefOnly
+name_beside_a_number : AnalysisRefuses
+    (record (named ((codes "expr", 1 ∷ []) ∷ []) (cat (grp (lit "a") ∷ ref 1 ∷ []))) {
+      numbered_groups_ignored =
+          true;
+    }) no_options NamedBackrefOnly
 unfolding row
 name_beside_a_number = before_end (named_groups_with_numbers refl (λ e. cc))
 
 -- in its own group, behind a call of it
-reference_behind_its_call : AnalysisRefuses (parsed (grp (alt (lit "b" ∷ cat (lit "a" ∷ call 1 ∷ ref 1 ∷ []) ∷ [])))) no_options FeatureNotYetSupported
+reference_behind_its_call : AnalysisRefuses (parsed (grp (alt (lit "b" ∷ cat (lit "a" ∷ call 1 ∷ ref 1 ∷ []) ∷ []))))
+    no_options FeatureNotYetSupported
 unfolding row
 reference_behind_its_call = before_end (reference_after_call 1 record {
   body = alt (lit "b" ∷ cat (lit "a" ∷ call 1 ∷ ref 1 ∷ []) ∷ []);

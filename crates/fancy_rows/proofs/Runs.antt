@@ -7,27 +7,33 @@ use Rattle.fancy_rows.proofs.Notation.{Comes, plain, anchored, taking, from, wit
 
 -- ---- steps and backtracks, to the last one
 
-fourteen_steps : found_undelegated (anchored (cat (lit "a" ∷ grp (alt (lit "b" ∷ lit "bc" ∷ [])) ∷ lit "d" ∷ []))) (codes "abcd") (with_steps 14) ≡ Match (0 ∷ 4 ∷ 1 ∷ 3 ∷ [])
+fourteen_steps : found_undelegated (anchored (cat (lit "a" ∷ grp (alt (lit "b" ∷ lit "bc" ∷ [])) ∷ lit "d" ∷ [])))
+    (codes "abcd") (with_steps 14) ≡ Match (0 ∷ 4 ∷ 1 ∷ 3 ∷ [])
 unfolding row
 fourteen_steps = refl
 
-thirteen_steps : found_undelegated (anchored (cat (lit "a" ∷ grp (alt (lit "b" ∷ lit "bc" ∷ [])) ∷ lit "d" ∷ []))) (codes "abcd") (with_steps 13) ≡ StepLimitExceeded
+thirteen_steps : found_undelegated (anchored (cat (lit "a" ∷ grp (alt (lit "b" ∷ lit "bc" ∷ [])) ∷ lit "d" ∷ [])))
+    (codes "abcd") (with_steps 13) ≡ StepLimitExceeded
 unfolding row
 thirteen_steps = refl
 
-four_steps_with_a_delegate : found (anchored (cat (lit "a" ∷ grp (alt (lit "b" ∷ lit "bc" ∷ [])) ∷ lit "d" ∷ []))) (codes "abcd") (with_limits 0 4) ≡ Match (0 ∷ 4 ∷ 1 ∷ 3 ∷ [])
+four_steps_with_a_delegate : found (anchored (cat (lit "a" ∷ grp (alt (lit "b" ∷ lit "bc" ∷ [])) ∷ lit "d" ∷ [])))
+    (codes "abcd") (with_limits 0 4) ≡ Match (0 ∷ 4 ∷ 1 ∷ 3 ∷ [])
 unfolding row
 four_steps_with_a_delegate = refl
 
-three_steps_with_a_delegate : found (anchored (cat (lit "a" ∷ grp (alt (lit "b" ∷ lit "bc" ∷ [])) ∷ lit "d" ∷ []))) (codes "abcd") (with_limits 0 3) ≡ StepLimitExceeded
+three_steps_with_a_delegate : found (anchored (cat (lit "a" ∷ grp (alt (lit "b" ∷ lit "bc" ∷ [])) ∷ lit "d" ∷ [])))
+    (codes "abcd") (with_limits 0 3) ≡ StepLimitExceeded
 unfolding row
 three_steps_with_a_delegate = refl
 
-one_backtrack : found_undelegated (anchored (cat (lit "a" ∷ grp (alt (lit "b" ∷ lit "bc" ∷ [])) ∷ lit "d" ∷ []))) (codes "abcd") (with_backtracks 1) ≡ Match (0 ∷ 4 ∷ 1 ∷ 3 ∷ [])
+one_backtrack : found_undelegated (anchored (cat (lit "a" ∷ grp (alt (lit "b" ∷ lit "bc" ∷ [])) ∷ lit "d" ∷ [])))
+    (codes "abcd") (with_backtracks 1) ≡ Match (0 ∷ 4 ∷ 1 ∷ 3 ∷ [])
 unfolding row
 one_backtrack = refl
 
-no_backtrack : found_undelegated (anchored (cat (lit "a" ∷ grp (alt (lit "b" ∷ lit "bc" ∷ [])) ∷ lit "d" ∷ []))) (codes "abcd") (with_backtracks 0) ≡ BacktrackLimitExceeded
+no_backtrack : found_undelegated (anchored (cat (lit "a" ∷ grp (alt (lit "b" ∷ lit "bc" ∷ [])) ∷ lit "d" ∷ [])))
+    (codes "abcd") (with_backtracks 0) ≡ BacktrackLimitExceeded
 unfolding row
 no_backtrack = refl
 
@@ -131,7 +137,8 @@ gives_up_too_few : Comes (plain (cat (ContinueFromPreviousMatchEnd ∷ lit "a" �
 unfolding row
 gives_up_too_few = (refl, refl)
 
-anchored_needs_none : Comes (plain (cat (ContinueFromPreviousMatchEnd ∷ lit "a" ∷ []))) (codes "bba") (record (with_backtracks 0) { anchored = true }) NoMatch
+anchored_needs_none : Comes (plain (cat (ContinueFromPreviousMatchEnd ∷ lit "a" ∷ []))) (codes "bba")
+    (record (with_backtracks 0) { anchored = true }) NoMatch
 unfolding row
 anchored_needs_none = (refl, refl)
 
@@ -144,16 +151,20 @@ gives_up_without_continuing : Comes (plain ContinueFromPreviousMatchEnd) (codes 
 unfolding row
 gives_up_without_continuing = (refl, refl)
 
-does_not_give_up_past_an_option : Comes (plain (cat (rep 0 1 (lit "a") ∷ ContinueFromPreviousMatchEnd ∷ []))) (codes "baa") (record (with_backtracks 4) { continued = false }) BacktrackLimitExceeded
+does_not_give_up_past_an_option : Comes (plain (cat (rep 0 1 (lit "a") ∷ ContinueFromPreviousMatchEnd ∷ [])))
+    (codes "baa") (record (with_backtracks 4) { continued = false }) BacktrackLimitExceeded
 unfolding row
 does_not_give_up_past_an_option = (refl, refl)
 
 -- ---- many ways
 
-exponential_passes_a_limit : Comes (anchored (cat (star 0 (cat (alt (lit "a" ∷ lit "aa" ∷ []) ∷ nahead (lit "x") ∷ [])) ∷ lit "b" ∷ []))) (codes "aaaaaaaaaaaaaaaaaaaaaaaaaaaaaaaaaaaaaaaa") (with_steps 1000) StepLimitExceeded
+exponential_passes_a_limit : Comes
+    (anchored (cat (star 0 (cat (alt (lit "a" ∷ lit "aa" ∷ []) ∷ nahead (lit "x") ∷ [])) ∷ lit "b" ∷ [])))
+    (codes "aaaaaaaaaaaaaaaaaaaaaaaaaaaaaaaaaaaaaaaa") (with_steps 1000) StepLimitExceeded
 unfolding row
 exponential_passes_a_limit = (refl, refl)
 
-exponential_in_one_delegate : found (anchored (cat (star 0 (alt (lit "a" ∷ lit "aa" ∷ [])) ∷ lit "b" ∷ []))) (codes "aaaaaaaa") (with_limits 0 8) ≡ NoMatch
+exponential_in_one_delegate : found (anchored (cat (star 0 (alt (lit "a" ∷ lit "aa" ∷ [])) ∷ lit "b" ∷ [])))
+    (codes "aaaaaaaa") (with_limits 0 8) ≡ NoMatch
 unfolding row
 exponential_in_one_delegate = refl

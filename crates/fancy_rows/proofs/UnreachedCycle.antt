@@ -59,7 +59,10 @@ never_recurs n r = go r.leads r.cycle
 
 ends : CanEnd whole whole
 unfolding row
-ends = ends_with_parts tt (and_more (ends_with_parts tt (and_more (one_ends (a_later (this_one (ends_with_parts tt none_left)))) none_left)) none_left)
+ends =
+    ends_with_parts tt
+    (and_more (ends_with_parts tt (and_more (one_ends (a_later (this_one (ends_with_parts tt none_left)))) none_left))
+    none_left)
 
 cycle_is_accepted : (error : CompileError) → ¬ AnalysisRefuses (parsed cycle) no_options error
 unfolding row

@@ -12,15 +12,23 @@ use Rattle.fancy_rows.proofs.Notation.{Answered, Undelegated, plain, explicit, f
 
 -- ---- absent nodes below a repeater
 
-absent_in_definitions_below_hard : CompileRefuses (plain (AbsentRepeater (cat (KeepOut ∷ DefineGroup (AbsentRepeater (lit "a")) ∷ [])))) (length (layout (plain (AbsentRepeater (cat (KeepOut ∷ DefineGroup (AbsentRepeater (lit "a")) ∷ []))))).body) FeatureNotYetSupported
+absent_in_definitions_below_hard : CompileRefuses
+    (plain (AbsentRepeater (cat (KeepOut ∷ DefineGroup (AbsentRepeater (lit "a")) ∷ []))))
+    (length (layout (plain (AbsentRepeater (cat (KeepOut ∷ DefineGroup (AbsentRepeater (lit "a")) ∷ []))))).body)
+    FeatureNotYetSupported
 unfolding row
 absent_in_definitions_below_hard = refused_node root (absent_in_hard_repeater refl refl)
 
-absent_never_entered_below_hard : CompileRefuses (plain (AbsentRepeater (cat (KeepOut ∷ rep 0 0 (AbsentRepeater (lit "a")) ∷ [])))) (length (layout (plain (AbsentRepeater (cat (KeepOut ∷ rep 0 0 (AbsentRepeater (lit "a")) ∷ []))))).body) FeatureNotYetSupported
+absent_never_entered_below_hard : CompileRefuses
+    (plain (AbsentRepeater (cat (KeepOut ∷ rep 0 0 (AbsentRepeater (lit "a")) ∷ []))))
+    (length (layout (plain (AbsentRepeater (cat (KeepOut ∷ rep 0 0 (AbsentRepeater (lit "a")) ∷ []))))).body)
+    FeatureNotYetSupported
 unfolding row
 absent_never_entered_below_hard = refused_node root (absent_in_hard_repeater refl refl)
 
-absent_in_definitions_below_easy : Answered (plain (AbsentRepeater (cat (lit "a" ∷ DefineGroup (AbsentRepeater (lit "b")) ∷ [])))) (codes "ba") (from 0) (Some (0 ∷ 1 ∷ []))
+absent_in_definitions_below_easy : Answered
+    (plain (AbsentRepeater (cat (lit "a" ∷ DefineGroup (AbsentRepeater (lit "b")) ∷ [])))) (codes "ba") (from 0)
+    (Some (0 ∷ 1 ∷ []))
 unfolding row
 absent_in_definitions_below_easy = (refl, refl, refl)
 
@@ -30,7 +38,8 @@ variable_lookbehind_is_not_written : Undelegated (explicit (cat (behind (star 0 
 unfolding row
 variable_lookbehind_is_not_written = refl
 
-variable_branch_is_not_written : Undelegated (explicit (behind (alt (lit "a" ∷ star 0 (lit "b") ∷ [])))) (Instr.Split 1 6 ∷ Instr.Save 0 ∷ Instr.GoBack 1 ∷ code "a" ∷ Instr.Restore 0 ∷ Instr.Jmp 6 ∷ End ∷ [])
+variable_branch_is_not_written : Undelegated (explicit (behind (alt (lit "a" ∷ star 0 (lit "b") ∷ []))))
+    (Instr.Split 1 6 ∷ Instr.Save 0 ∷ Instr.GoBack 1 ∷ code "a" ∷ Instr.Restore 0 ∷ Instr.Jmp 6 ∷ End ∷ [])
 unfolding row
 variable_branch_is_not_written = refl
 

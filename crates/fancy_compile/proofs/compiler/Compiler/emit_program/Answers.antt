@@ -21,8 +21,8 @@ returns c = λ p unicode anchored end_text of_tree.
     let call = called_code p no_node (free_calls whole no_calls) no_calls in
     let root : Code = hard_code q call whole true false in
     let last : Code = one Instr.End in
-    let from_end : Code = end_text_code p no_node >> last in
-    let from_edge : Code = edge_code p no_node 1 >> from_end in
+    let from_end : Code = end_text_code p >> last in
+    let from_edge : Code = edge_code p 1 >> from_end in
     let from_root : Code = root >> from_edge in
     let explicit = ap (λ (o : AnalysisOptions). o.explicit_capture_group_0) (sym ((of_tree.root).node).options)
     ∙ sym c.explicit_capture_group_0-explicit.ensures in
@@ -36,8 +36,8 @@ returns c = λ p unicode anchored end_text of_tree.
     } in
     let wrote = subst (λ e. Writes q (hard_code q call e true false) (e ∷ []) (draft_of c.emit_edge.new.self) (draft_of c.emit.new.self)) of_tree.tree
     (c.emit.ensures q call false u of_tree.root) in
-    wrote_then q (search_code p no_node) (edge_code p no_node 0 >> from_root) [] (whole ∷ []) _ _ _ (c.emit_search.ensures q anchored)
-    (wrote_then q (edge_code p no_node 0) from_root [] (whole ∷ []) _ _ _ (c.emit_edge.ensures q explicit)
+    wrote_then q (search_code p) (edge_code p 0 >> from_root) [] (whole ∷ []) _ _ _ (c.emit_search.ensures q anchored)
+    (wrote_then q (edge_code p 0) from_root [] (whole ∷ []) _ _ _ (c.emit_edge.ensures q explicit)
     (wrote_then q root from_edge (whole ∷ []) [] _ _ _ wrote
-    (wrote_then q (edge_code p no_node 1) from_end [] [] _ _ _ (c.emit_edge-2.ensures q explicit)
-    (wrote_then q (end_text_code p no_node) last [] [] _ _ _ (c.emit_end_text.ensures q end_text) (c.push.ensures.writes q)))))
+    (wrote_then q (edge_code p 1) from_end [] [] _ _ _ (c.emit_edge-2.ensures q explicit)
+    (wrote_then q (end_text_code p) last [] [] _ _ _ (c.emit_end_text.ensures q end_text) (c.push.ensures.writes q)))))
