@@ -15,12 +15,12 @@ use crate::lists::{only, same, same_if};
 use crate::moves::{past_chars, past_class, past_literal, past_newline};
 use crate::nodes::Node;
 use crate::states::State;
-use fancy_characters::places::past_any;
 use fancy_characters::classes::past_piece;
+use fancy_characters::look::holds;
+use fancy_characters::places::past_any;
 use fancy_expr::error::Error;
 use fancy_expr::expr::{Assertion, Expr};
 use fancy_expr::walk::Within;
-use fancy_characters::look::holds;
 use std::alloc::{AllocError, Global};
 
 /// What is searched, and how.

@@ -10,8 +10,8 @@ ghost use Rattle.fancy_characters.specs.Literals.{literal_tests};
 ghost use Rattle.fancy_expr.specs.declared.error.Error.TheVariants.{Memory};
 ghost use Rattle.fancy_reference.specs.Refusals.{IsRefusal, is_inner, is_no_class};
 
-use fancy_characters::places::{is_place, stand_at};
 use fancy_characters::classes::{CaseiLiteral, CharClassMatcher};
+use fancy_characters::places::{is_place, stand_at};
 use fancy_expr::error::{CompileError, Error};
 use std::alloc::{AllocError, Global};
 
