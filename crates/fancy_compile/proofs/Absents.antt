@@ -21,7 +21,7 @@ use Rattle.fancy_analysis.specs.declared.info.Info.{Info}
 use Rattle.fancy_analysis.specs.declared.info.Info.TheViews.{out-Info}
 use Rattle.fancy_expr.specs.Exprs.{below, below_absent}
 use Rattle.fancy_analysis.specs.Infos.{nth, node_over, absent_over, info_tree, info_within, info_children, info_facts, info_hard, IsFound, IsAnalysed}
-use Rattle.fancy_analysis.proofs.GroupSizes.{nodes-parts}
+use Rattle.fancy_expr.proofs.NodeParts.{nodes-parts}
 use Rattle.fancy_analysis.proofs.Unfolded.{tree_out, each_here}
 use Rattle.fancy_compile.specs.Faults.{Rejects, refused, out_of_range, HasRejected}
 use Rattle.fancy_compile.specs.Drafts.{Draft, Writes, hard_code}
