@@ -1,8 +1,8 @@
 -- Children that are visited one by one.
-use Rattle.std.proofs.Common.{◌≡◌, ℕ, suc, ◌+◌, ◌<◌, ◌≤◌, ◌^◌, List, [], ◌∷◌, ◌++◌, length, map, take, get_or, refl, sym, ap, ◌∙◌, subst, arith}
+use Rattle.std.proofs.Common.{◌≡◌, ℕ, suc, ◌+◌, ◌<◌, ◌≤◌, List, [], ◌∷◌, ◌++◌, length, map, take, get_or, refl, sym, ap, ◌∙◌, subst, arith}
 use Rattle.std.proofs.lemmas.List.{map-append, take_all, length-map}
 use Rattle.fancy_meaning.specs.Tree as plain
-use Rattle.fancy_meaning.specs.Tree.{Tree, Trees, none, more, trees, parts}
+use Rattle.fancy_meaning.specs.Tree.{Tree, more, trees, parts}
 use Rattle.fancy_meaning.specs.Nodes.{group_count}
 use Rattle.fancy_meaning.specs.Numbering.{numbered_within, each_numbered}
 use Rattle.fancy_meaning.specs.Options.{Analysis}
@@ -20,7 +20,7 @@ use Rattle.fancy_expr.specs.Each.{Each}
 use Rattle.fancy_expr.specs.Walk.{start_inside, within_inside}
 use Rattle.fancy_analysis.specs.Made.{tables_known, IsSized, IsMadeNode, Suits}
 use Rattle.fancy_analysis.specs.Visited.{IsVisited}
-use Rattle.fancy_expr.proofs.Groups.{group_total, own_group, total-append, count-total, total-taken, total-all, total-most, count-below}
+use Rattle.fancy_expr.proofs.Groups.{group_total, total-append, count-total, total-taken, total-all}
 use Rattle.fancy_expr.proofs.Walks.{taken}
 use Rattle.fancy_expr.proofs.Exprs.{parts-below}
 use Rattle.fancy_expr.proofs.Starts.{start-own}
