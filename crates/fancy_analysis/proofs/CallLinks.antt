@@ -23,7 +23,8 @@ module _ {X Y : Type 0} (f : X → Option Y) where
   picked_later : (x : X) (xs : List X) (y : Y) → IsPicked xs y → IsPicked (x ∷ xs) y
   picked_later x xs y p = record { from = p.from; is_there = contains_later x p.from xs p.is_there; gives = p.gives }
 
-  picked_first : (x : X) (xs : List X) (o : Option Y) → f x ≡ o → (y : Y) → Contains (cons_option o (filter_map f xs)) y → (Contains (filter_map f xs) y → IsPicked xs y) → IsPicked (x ∷ xs) y
+  picked_first : (x : X) (xs : List X) (o : Option Y) → f x ≡ o → (y : Y) → Contains (cons_option o (filter_map f xs)) y →
+      (Contains (filter_map f xs) y → IsPicked xs y) → IsPicked (x ∷ xs) y
   picked_first x xs None e y c rest = picked_later x xs y (rest c)
   picked_first x xs (Some z) e y c rest = elim (contains_cases z y (filter_map f xs) c) [
     | inl s ↦ record { from = x; is_there = contains_first x xs; gives = e ∙ ap Some s }
@@ -113,7 +114,8 @@ group_link g = record { from = 0; to = g; at_once = false }
 group_gives : (s : Spot) (g : ℕ) (body : Tree) → s.node ≡ plain.Group g body → s.owner ≡ 0 → s.is_skipped ≡ false → link_of s ≡ Some (group_link g)
 group_gives s g body e owner entered =
     ap (λ n. link_from n (around_of s)) e
-    ∙ ap (λ b. if b then Some (group_link g) else None) (and_from (s.owner == 0) (not s.is_skipped) (eq-eqb s.owner 0 owner) (not_from_false s.is_skipped entered))
+    ∙ ap (λ b. if b then Some (group_link g) else None)
+    (and_from (s.owner == 0) (not s.is_skipped) (eq-eqb s.owner 0 owner) (not_from_false s.is_skipped entered))
 
 -- ---- links, calls and outer groups
 
@@ -144,7 +146,8 @@ module _ (whole : Tree) where
       let p = to_calls l c in
       elim (read p.from.node (around_of p.from) l p.gives) [
         | inl i ↦ meaning.by_call r (call_read p.from l p.is_there i)
-        | inr o ↦ meaning.outer (record { spot = p.from; is_there = p.is_there; body = o.body; is_group = o.is_group; owner = o.owner; is_entered = o.is_entered })
+        | inr o ↦ meaning.outer
+            (record { spot = p.from; is_there = p.is_there; body = o.body; is_group = o.is_group; owner = o.owner; is_entered = o.is_entered })
       ]
 
   pub reachable : (n : ℕ) → IsReached links n → IsReachable whole n

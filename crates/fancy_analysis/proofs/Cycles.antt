@@ -62,7 +62,8 @@ module _ (links : List Link) where
         | inr w ↦ by_more (seen v h (sym w.1 ∙ at)) (by_one link)
       ]
 
-      walk : (k : ℕ) (unseen : List Bool) (n : ℕ) → set_count unseen < k → length unseen ≡ length flags → flag flags n ≡ true → Seen unseen n → LeadsIntoCycle links n
+      walk : (k : ℕ) (unseen : List Bool) (n : ℕ) → set_count unseen < k → length unseen ≡ length flags → flag flags n ≡ true → Seen unseen n →
+          LeadsIntoCycle links n
       walk zero unseen n few same at seen = absurd (omega arith)
       walk (suc k) unseen n few same at seen =
           let within : n < length flags = flag_inside flags n at in
@@ -72,7 +73,8 @@ module _ (links : List Link) where
                 let next = closed n at in
                 let less = one_less (λ b. b) unseen n false false within' fresh refl in
                 cycle_before n next.to next.link
-                (walk k (set unseen n false) next.to (omega arith) (length-set unseen n false ∙ same) next.is_set (seen_more unseen n next.to within' next.link seen))
+                (walk k (set unseen n false) next.to (omega arith) (length-set unseen n false ∙ same) next.is_set
+                (seen_more unseen n next.to within' next.link seen))
                 )
             | inr again ↦ record { on_cycle = n; leads = inl refl; cycle = seen n within again }
           ]
@@ -92,7 +94,8 @@ FirstInBoth a b r = MatchOption
     ((n : ℕ) → flag a n ≡ true → flag b n ≡ true → ⊥)
     (λ n. (flag a n ≡ true) × (flag b n ≡ true) × ((m : ℕ) → m < n → flag a m ≡ true → flag b m ≡ true → ⊥))
 
-pub least_one : (links : List Link) (a b : List Bool) → AreReached links a → LeadIntoCycles links b → (r : Option ℕ) → FirstInBoth a b r → MatchOption r ((n : ℕ) → IsReached links n → ¬ LeadsIntoCycle links n) (λ n. IsLeastIntoCycle links n)
+pub least_one : (links : List Link) (a b : List Bool) → AreReached links a → LeadIntoCycles links b → (r : Option ℕ) → FirstInBoth a b r →
+    MatchOption r ((n : ℕ) → IsReached links n → ¬ LeadsIntoCycle links n) (λ n. IsLeastIntoCycle links n)
 least_one links a b reached into None h = λ n r l. h n (reached.all n r (cycle_inside links a reached.room n l)) ((into n).1 l)
 least_one links a b reached into (Some n) h = record {
   reached = reached.only n h.0;

@@ -70,48 +70,49 @@ module _ (flags : List Bool) where
   abbrev of_trees : List Tree → PartEnds
   of_trees ts = parts_from no_parts (map (ends_by flags) ts)
 
-  no_part : (ts : List Tree) → length ts ≡ 0 → all_parts (of_trees ts) ≡ true
-  no_part [] h = refl
-  no_part (t ∷ ts) h = absurd (omega arith)
+  no_part_ends : (ts : List Tree) → length ts ≡ 0 → all_parts (of_trees ts) ≡ true
+  no_part_ends [] h = refl
+  no_part_ends (t ∷ ts) h = absurd (omega arith)
 
-  one_part : (ts : List Tree) → length ts ≡ 1 → all_parts (of_trees ts) ≡ ends_by flags (nth (trees ts) 0)
-  one_part [] h = absurd (omega arith)
-  one_part (t ∷ []) h = refl
-  one_part (t ∷ u ∷ ts) h = absurd (omega arith)
+  one_part_ends : (ts : List Tree) → length ts ≡ 1 → all_parts (of_trees ts) ≡ ends_by flags (nth (trees ts) 0)
+  one_part_ends [] h = absurd (omega arith)
+  one_part_ends (t ∷ []) h = refl
+  one_part_ends (t ∷ u ∷ ts) h = absurd (omega arith)
 
-  two_parts : (ts : List Tree) → length ts ≡ 2 → all_parts (of_trees ts) ≡ (ends_by flags (nth (trees ts) 0) && ends_by flags (nth (trees ts) 1))
-  two_parts [] h = absurd (omega arith)
-  two_parts (t ∷ []) h = absurd (omega arith)
-  two_parts (t ∷ u ∷ []) h = refl
-  two_parts (t ∷ u ∷ v ∷ ts) h = absurd (omega arith)
+  two_parts_end : (ts : List Tree) → length ts ≡ 2 → all_parts (of_trees ts) ≡ (ends_by flags (nth (trees ts) 0) && ends_by flags (nth (trees ts) 1))
+  two_parts_end [] h = absurd (omega arith)
+  two_parts_end (t ∷ []) h = absurd (omega arith)
+  two_parts_end (t ∷ u ∷ []) h = refl
+  two_parts_end (t ∷ u ∷ v ∷ ts) h = absurd (omega arith)
 
-  three_parts : (ts : List Tree) → length ts ≡ 3 →
-      ((of_trees ts).earlier || (of_trees ts).last) ≡ ((ends_by flags (nth (trees ts) 0) && ends_by flags (nth (trees ts) 1)) || ends_by flags (nth (trees ts) 2))
-  three_parts [] h = absurd (omega arith)
-  three_parts (t ∷ []) h = absurd (omega arith)
-  three_parts (t ∷ u ∷ []) h = absurd (omega arith)
-  three_parts (t ∷ u ∷ v ∷ []) h = refl
-  three_parts (t ∷ u ∷ v ∷ x ∷ ts) h = absurd (omega arith)
+  three_parts_end : (ts : List Tree) → length ts ≡ 3 →
+      ((of_trees ts).earlier || (of_trees ts).last)
+      ≡ ((ends_by flags (nth (trees ts) 0) && ends_by flags (nth (trees ts) 1)) || ends_by flags (nth (trees ts) 2))
+  three_parts_end [] h = absurd (omega arith)
+  three_parts_end (t ∷ []) h = absurd (omega arith)
+  three_parts_end (t ∷ u ∷ []) h = absurd (omega arith)
+  three_parts_end (t ∷ u ∷ v ∷ []) h = refl
+  three_parts_end (t ∷ u ∷ v ∷ x ∷ ts) h = absurd (omega arith)
 
   absent_ends : (a : Absent) (ts : List Tree) → length ts ≡ length (below_absent a) → all_parts (of_trees ts) ≡ ends_by flags (absent_over a (trees ts))
-  absent_ends (code_absent.Repeater' b e) ts h = one_part ts h
-  absent_ends (code_absent.Expression' b a c e) ts h = two_parts ts h
-  absent_ends (code_absent.Stopper' b e) ts h = one_part ts h
-  absent_ends code_absent.Clear ts h = no_part ts h
+  absent_ends (code_absent.Repeater' b e) ts h = one_part_ends ts h
+  absent_ends (code_absent.Expression' b a c e) ts h = two_parts_end ts h
+  absent_ends (code_absent.Stopper' b e) ts h = one_part_ends ts h
+  absent_ends code_absent.Clear ts h = no_part_ends ts h
 
   over_ends : (e : Expr) (n : ℕ) (w : plain.Within) (ts : List Tree) → length ts ≡ length (below e) →
       node_ends flags e (of_trees ts) ≡ ends_by flags (node_over e n w (trees ts))
   over_ends (code.Concat' shape row) n w ts h = all-from no_parts ts
   over_ends (code.Alt' shape row) n w ts h = some-from no_parts ts
-  over_ends (code.Group' b e) n w ts h = one_part ts h
-  over_ends (code.LookAround' b e look) n w ts h = one_part ts h
-  over_ends (code.Repeat' b e lo hi greedy) n w ts h = ap (λ x. (lo == 0) || x) (one_part ts h)
-  over_ends (code.AtomicGroup' b e) n w ts h = one_part ts h
-  over_ends (code.Conditional' b c d t x f) n w ts h = three_parts ts h
+  over_ends (code.Group' b e) n w ts h = one_part_ends ts h
+  over_ends (code.LookAround' b e look) n w ts h = one_part_ends ts h
+  over_ends (code.Repeat' b e lo hi greedy) n w ts h = ap (λ x. (lo == 0) || x) (one_part_ends ts h)
+  over_ends (code.AtomicGroup' b e) n w ts h = one_part_ends ts h
+  over_ends (code.Conditional' b c d t x f) n w ts h = three_parts_end ts h
   over_ends (code.Absent a) n w ts h = absent_ends a ts h
-  over_ends (code.DefineGroup' b e) n w ts h = one_part ts h
+  over_ends (code.DefineGroup' b e) n w ts h = one_part_ends ts h
   over_ends (code.SubroutineCall g) n w ts h = refl
-  over_ends e n w ts h = no_part ts h
+  over_ends e n w ts h = no_part_ends ts h
 
   map-map : (is : List Info) → map ended is ≡ map (ends_by flags) (map info_tree is)
   map-map [] = refl
@@ -179,7 +180,8 @@ module _ (flags : List Bool) where
   flag_all a g i n old now next lt ends found h is before here =
       let test = is_ended_group flags g in
       here
-      ∙ ap (λ b. b || (lt && is_own_end (info_facts i).expr (info_facts i).start_group ends g)) (before ∙ ap (λ l. old || (lt && any_in_each test l)) (take_all n (info_children i) h))
+      ∙ ap (λ b. b || (lt && is_own_end (info_facts i).expr (info_facts i).start_group ends g)) (before
+      ∙ ap (λ l. old || (lt && any_in_each test l)) (take_all n (info_children i) h))
       ∙ ap (λ e. (old || (lt && any_in_each test (info_children i))) || (lt && is_own_end (info_facts i).expr (info_facts i).start_group e g)) is
       ∙ ap (λ b. (old || (lt && any_in_each test (info_children i))) || (lt && b)) (sym (own_end g i))
       ∙ or_and old lt (any_in_each test (info_children i)) (test (info_tree i))

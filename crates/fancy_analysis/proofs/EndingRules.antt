@@ -83,14 +83,16 @@ module _ (f : Tree → Bool) (g : ℕ) where
             (λ later. let rest : suc m ≤ g = number_of hs (suc m) tail later in let is : k.0 ≡ g = same.1 in absurd (omega (arith, head, is, rest)))
             (one_true (passes k) (list_any passes hs) h),
       ))
-      (λ other. let rest = body_of hs (suc m) tail (sym (here_false k hs other.0) ∙ h) in (rest.0, cond-false (k.0 == g) (Some k.1) (body_in hs g) other.0 ∙ rest.1, rest.2))
+      (λ other. let rest = body_of hs (suc m) tail (sym (here_false k hs other.0) ∙ h) in
+      (rest.0, cond-false (k.0 == g) (Some k.1) (body_in hs g) other.0 ∙ rest.1, rest.2))
       (eqb_tells k.0 g)
 
   pub any_of_body : (hs : List (ℕ × Tree)) (e : Tree) → body_in hs g ≡ Some e → f e ≡ true → list_any passes hs ≡ true
   any_of_body [] e is h = absurd (none-some e is)
   any_of_body (k ∷ hs) e is h =
       ⊎_elim
-      (λ same. or_left (passes k) (list_any passes hs) (both (k.0 == g) (f k.1) same.0 (ap f (some_same k.1 e (sym (cond-true (k.0 == g) (Some k.1) (body_in hs g) same.0) ∙ is)) ∙ h)))
+      (λ same. or_left (passes k) (list_any passes hs)
+      (both (k.0 == g) (f k.1) same.0 (ap f (some_same k.1 e (sym (cond-true (k.0 == g) (Some k.1) (body_in hs g) same.0) ∙ is)) ∙ h)))
       (λ other. here_false k hs other.0 ∙ any_of_body hs e (sym (cond-false (k.0 == g) (Some k.1) (body_in hs g) other.0) ∙ is) h)
       (eqb_tells k.0 g)
 
@@ -254,12 +256,14 @@ module _ (whole : Tree) (n : ℕ) (flags : List Bool) (has : HasFlags whole n fl
       ends_sound (AbsentRepeater e) h = ends_with_parts tt (and_more (ends_sound e h) none_left)
       ends_sound (AbsentStopper e) h = ends_with_parts tt (and_more (ends_sound e h) none_left)
       ends_sound (AbsentExpression a e) h =
-          ends_with_parts tt (and_more (ends_sound a (first_true (ends_by flags a) (ends_by flags e) h)) (and_more (ends_sound e (second_true (ends_by flags a) (ends_by flags e) h)) none_left))
+          ends_with_parts tt (and_more (ends_sound a (first_true (ends_by flags a) (ends_by flags e) h))
+          (and_more (ends_sound e (second_true (ends_by flags a) (ends_by flags e) h)) none_left))
       ends_sound e h = ends_with_parts tt none_left
 
       all_sound : (es : Trees) → all_end_by flags es ≡ true → AllEnd whole es
       all_sound none h = none_left
-      all_sound (more e es) h = and_more (ends_sound e (first_true (ends_by flags e) (all_end_by flags es) h)) (all_sound es (second_true (ends_by flags e) (all_end_by flags es) h))
+      all_sound (more e es) h =
+          and_more (ends_sound e (first_true (ends_by flags e) (all_end_by flags es) h)) (all_sound es (second_true (ends_by flags e) (all_end_by flags es) h))
 
       some_sound : (es : Trees) → some_end_by flags es ≡ true → SomeEnds whole es
       some_sound none h = absurd (false_true h)
@@ -313,7 +317,8 @@ module _ (whole : Tree) (n : ℕ) (flags : List Bool) (has : HasFlags whole n fl
     parts_complete (AbsentRepeater e) t h = alone e h
     parts_complete (AbsentStopper e) t h = alone e h
     parts_complete (AbsentExpression a e) t h =
-        both (ends_by flags a) (ends_by flags e) (first_true (ends_by flags a) (ends_by flags e && true) h) (alone e (second_true (ends_by flags a) (ends_by flags e && true) h))
+        both (ends_by flags a) (ends_by flags e) (first_true (ends_by flags a) (ends_by flags e && true) h)
+        (alone e (second_true (ends_by flags a) (ends_by flags e && true) h))
     parts_complete e t h = refl
 
     mutual
@@ -346,7 +351,8 @@ NextFlags whole flags next =
 pub next_of : (flags next : List Bool) (whole : Tree) (ends : Bool) → 0 < length flags → length next ≡ length flags → ends ≡ ends_by flags whole →
     ((g : ℕ) → slice_index_or next g false ≡ (slice_index_or flags g false || (nat_lt g (length flags) && group_ends flags whole g))) →
     (g : ℕ) →
-    slice_index_or (slice_set next 0 (slice_index_or flags 0 false || ends)) g false ≡ (slice_index_or flags g false || (nat_lt g (length flags) && flag.target_ends flags whole g))
+    slice_index_or (slice_set next 0 (slice_index_or flags 0 false || ends)) g false
+    ≡ (slice_index_or flags g false || (nat_lt g (length flags) && flag.target_ends flags whole g))
 next_of [] next whole ends some same is groups g = absurd (omega (arith, some))
 next_of (b ∷ flags) [] whole ends some same is groups g = absurd (omega (arith, same))
 next_of (b ∷ flags) (x ∷ next) whole ends some same is groups zero =
@@ -388,5 +394,6 @@ module _ (whole : Tree) (n : ℕ) (flags next : List Bool) (has : HasFlags whole
       λ g lt h.
       ap (λ l. slice_index_or l g false) (sym same)
       ∙ is g
-      ∙ or_right (slice_index_or flags g false) (nat_lt g (length flags) && flag.target_ends flags whole g) (both (nat_lt g (length flags)) (flag.target_ends flags whole g) (lt-ltb g (length flags) lt) h) in
+      ∙ or_right (slice_index_or flags g false) (nat_lt g (length flags) && flag.target_ends flags whole g)
+      (both (nat_lt g (length flags)) (flag.target_ends flags whole g) (lt-ltb g (length flags) lt) h) in
       closed 0 (omega (arith, has.count)) (ends_complete whole n flags has closed ends)

@@ -28,9 +28,11 @@ range-append n (suc a) b =
     ap (range_from n) out ∙ ap (λ l. n ∷ l) (range-append (suc n) a b ∙ ap (λ k. range_from (suc n) a ++ range_from k b) shift)
 
 -- neighbours: the second's numbers begin where the first's end
-then_more : (n : ℕ) (a b c d : List Tree) → count_of c ≡ count_of a → numbers_of c ≡ range_from n (count_of a) → numbers_of d ≡ range_from (n + count_of a) (count_of b) → numbers_of (c ++ d) ≡ range_from n (count_of (a ++ b))
+then_more : (n : ℕ) (a b c d : List Tree) → count_of c ≡ count_of a → numbers_of c ≡ range_from n (count_of a) →
+    numbers_of d ≡ range_from (n + count_of a) (count_of b) → numbers_of (c ++ d) ≡ range_from n (count_of (a ++ b))
 then_more n a b c d same p q =
-    of-append c d ∙ ap (λ l. l ++ numbers_of d) p ∙ ap (λ l. range_from n (count_of a) ++ l) q ∙ sym (range-append n (count_of a) (count_of b)) ∙ ap (range_from n) (sym (count-append a b))
+    of-append c d ∙ ap (λ l. l ++ numbers_of d) p ∙ ap (λ l. range_from n (count_of a) ++ l) q ∙ sym (range-append n (count_of a) (count_of b))
+    ∙ ap (range_from n) (sym (count-append a b))
 
 same_count : (w : Within) (n : ℕ) (e : Tree) → count_of (nodes (numbered_within w n e)) ≡ count_of (nodes e)
 unfolding group_count groups
@@ -50,7 +52,8 @@ mutual
   numbered-nodes w n (Conditional c t f) =
       let at_true = n + count_of (nodes c) in
       then_more n (nodes c) (nodes t ++ nodes f) (nodes (numbered_within w n c)) _ (same_count w n c) (numbered-nodes w n c)
-      (then_more at_true (nodes t) (nodes f) (nodes (numbered_within w at_true t)) _ (same_count w at_true t) (numbered-nodes w at_true t) (numbered-nodes w (at_true + count_of (nodes t)) f))
+      (then_more at_true (nodes t) (nodes f) (nodes (numbered_within w at_true t)) _ (same_count w at_true t) (numbered-nodes w at_true t)
+      (numbered-nodes w (at_true + count_of (nodes t)) f))
   numbered-nodes w n (AbsentRepeater e) = numbered-nodes w n e
   numbered-nodes w n (AbsentStopper e) = numbered-nodes w n e
   numbered-nodes w n (AbsentExpression a e) =
@@ -60,7 +63,8 @@ mutual
   numbered-each : (w : Within) (n : ℕ) (es : Trees) → numbers_of (nodes_of_each (each_numbered w n es)) ≡ range_from n (count_of (nodes_of_each es))
   numbered-each w n none = refl
   numbered-each w n (more e es) =
-      then_more n (nodes e) (nodes_of_each es) (nodes (numbered_within w n e)) _ (same_count w n e) (numbered-nodes w n e) (numbered-each w (n + count_of (nodes e)) es)
+      then_more n (nodes e) (nodes_of_each es) (nodes (numbered_within w n e)) _ (same_count w n e) (numbered-nodes w n e)
+      (numbered-each w (n + count_of (nodes e)) es)
 
 pub numbers : (w : Within) (n : ℕ) (e : Tree) → map (λ h. h.0) (groups (numbered_within w n e)) ≡ range_from n (length (groups (numbered_within w n e)))
 unfolding groups

@@ -3,7 +3,7 @@ use Rattle.std.proofs.Common.{◌≡◌, ℕ, zero, suc, ◌+◌, ◌<◌, ◌�
 use Rattle.std.proofs.lemmas.List.{map-append, take_all, length-map}
 use Rattle.std.proofs.lemmas.List.Elements.{filter_map-append}
 use Rattle.fancy_meaning.specs.Tree as plain
-use Rattle.fancy_meaning.specs.Tree.{Tree, Trees, none, more, trees, parts, Concat, Alt, Group, LookAround, Repeat, AtomicGroup, DefineGroup, Conditional, AbsentRepeater, AbsentStopper, AbsentExpression}
+use Rattle.fancy_meaning.specs.Tree.{Tree, Trees, none, more, trees, parts}
 use Rattle.fancy_meaning.specs.Nodes.{nodes, nodes_of_each, as_group, groups}
 use Rattle.fancy_meaning.specs.Sizes.{Size, Known, size_by}
 use Rattle.fancy_analysis.specs.declared.info.Info.{Info}
@@ -16,24 +16,8 @@ use Rattle.fancy_analysis.specs.Infos.{nth, absent_over, node_over, info_tree, i
 use Rattle.fancy_expr.specs.Each.{Each}
 use Rattle.fancy_analysis.specs.Made.{IsSizedNode, IsSized, own_size}
 use Rattle.fancy_analysis.proofs.Unfolded.{tree_out, each_here, each_below}
+use Rattle.fancy_expr.proofs.NodeParts.{nodes-parts}
 use Rattle.fancy_expr.proofs.Walks.{taken}
-
--- ---- a tree's nodes, child by child
-
-alone : (e : Tree) → nodes e ≡ nodes_of_each (more e none)
-alone e = sym (append-nil (nodes e))
-
-pub nodes-parts : (t : Tree) → nodes t ≡ t ∷ nodes_of_each (parts t)
-nodes-parts (Group g e) = ap (λ l. Group g e ∷ l) (alone e)
-nodes-parts (LookAround look e) = ap (λ l. LookAround look e ∷ l) (alone e)
-nodes-parts (Repeat lo hi greedy e) = ap (λ l. Repeat lo hi greedy e ∷ l) (alone e)
-nodes-parts (AtomicGroup e) = ap (λ l. AtomicGroup e ∷ l) (alone e)
-nodes-parts (DefineGroup e) = ap (λ l. DefineGroup e ∷ l) (alone e)
-nodes-parts (Conditional c t f) = ap (λ l. Conditional c t f ∷ (nodes c ++ (nodes t ++ l))) (alone f)
-nodes-parts (AbsentRepeater e) = ap (λ l. AbsentRepeater e ∷ l) (alone e)
-nodes-parts (AbsentStopper e) = ap (λ l. AbsentStopper e ∷ l) (alone e)
-nodes-parts (AbsentExpression a e) = ap (λ l. AbsentExpression a e ∷ (nodes a ++ l)) (alone e)
-nodes-parts t = refl
 
 -- ---- the children of a node over its children
 
@@ -126,32 +110,41 @@ module _ (known : Known) where
       ∙ ap sizes_among (nodes-parts t)
       ∙ among-append (t ∷ []) (nodes_of_each (parts t))
       ∙ ap (λ l. l ++ sizes_among (nodes_of_each (parts t))) (over-alone f.expr f.start_group f.within (trees ts) ∙ ap (own_size f.expr) (sym here.size))
-      ∙ ap (λ x. own_size f.expr (info_size i) ++ sizes_among (nodes_of_each x)) (over-parts f.expr f.start_group f.within ts (length-map (info_children i) info_tree ∙ here.arity))
+      ∙ ap (λ x. own_size f.expr (info_size i) ++ sizes_among (nodes_of_each x))
+      (over-parts f.expr f.start_group f.within ts (length-map (info_children i) info_tree ∙ here.arity))
       ∙ ap (λ l. own_size f.expr (info_size i) ++ l) (each-among (info_children i))
 
-  each-append : (xs : List Info) (x : Info) → sizes_in_each (xs ++ x ∷ []) ≡ sizes_in_each xs ++ sizes_in (info_tree x)
-  each-append [] x = append-nil (sizes_in (info_tree x))
-  each-append (y ∷ xs) x = ap (λ l. sizes_in (info_tree y) ++ l) (each-append xs x) ∙ sym (append_assoc (sizes_in (info_tree y)) (sizes_in_each xs) (sizes_in (info_tree x)))
+  sizes_in_each-append : (xs : List Info) (x : Info) → sizes_in_each (xs ++ x ∷ []) ≡ sizes_in_each xs ++ sizes_in (info_tree x)
+  sizes_in_each-append [] x = append-nil (sizes_in (info_tree x))
+  sizes_in_each-append (y ∷ xs) x =
+      ap (λ l. sizes_in (info_tree y) ++ l) (sizes_in_each-append xs x)
+      ∙ sym (append_assoc (sizes_in (info_tree y)) (sizes_in_each xs) (sizes_in (info_tree x)))
 
-  pub each-taken : (is : List Info) (n : ℕ) (i : Info) → n < length is → i ≡ get_or is n i → sizes_in_each (take (n + 1) is) ≡ sizes_in_each (take n is) ++ sizes_in (info_tree i)
-  each-taken is n i h at = ap sizes_in_each (taken is n i h at) ∙ each-append (take n is) i
+  pub each-taken : (is : List Info) (n : ℕ) (i : Info) → n < length is → i ≡ get_or is n i →
+      sizes_in_each (take (n + 1) is) ≡ sizes_in_each (take n is) ++ sizes_in (info_tree i)
+  each-taken is n i h at = ap sizes_in_each (taken is n i h at) ∙ sizes_in_each-append (take n is) i
 
 pub each_at : {X : Type 0} (P : X → Type 0) (xs : List X) (i : ℕ) (x : X) → i < length xs → x ≡ get_or xs i x → Each P xs → P x
 each_at P [] i x h at all = absurd (omega arith)
 each_at P (y ∷ xs) zero x h at all = subst P (sym at) all.0
 each_at P (y ∷ xs) (suc i) x h at all = each_at P xs i x (omega arith) at all.1
 
-pub sized_more : (known : Known) (info : Info) (n : ℕ) (child : Info) (before old after : List Size) → n < length (info_children info) → child ≡ get_or (info_children info) n child → before ≡ old ++ sizes_in_each known (take n (info_children info)) → after ≡ before ++ sizes_in known (info_tree child) → after ≡ old ++ sizes_in_each known (take (n + 1) (info_children info))
+pub sized_more : (known : Known) (info : Info) (n : ℕ) (child : Info) (before old after : List Size) → n < length (info_children info) →
+    child ≡ get_or (info_children info) n child → before ≡ old ++ sizes_in_each known (take n (info_children info)) →
+    after ≡ before ++ sizes_in known (info_tree child) → after ≡ old ++ sizes_in_each known (take (n + 1) (info_children info))
 sized_more known info n child before old after h at so_far pushed =
     pushed
     ∙ ap (λ l. l ++ sizes_in known (info_tree child)) so_far
     ∙ append_assoc old (sizes_in_each known (take n (info_children info))) (sizes_in known (info_tree child))
     ∙ ap (λ l. old ++ l) (sym (each-taken known (info_children info) n child h at))
 
-pub child_sized : (known : Known) (info : Info) (n : ℕ) (child : Info) → n < length (info_children info) → child ≡ get_or (info_children info) n child → IsSized known info → IsSized known child
+pub child_sized : (known : Known) (info : Info) (n : ℕ) (child : Info) → n < length (info_children info) → child ≡ get_or (info_children info) n child →
+    IsSized known info → IsSized known child
 child_sized known info n child h at sized = each_at (IsSized known) (info_children info) n child h at (each_below (IsSizedNode known) info sized)
 
-pub sized_all : (known : Known) (info : Info) (n : ℕ) (old after : List Size) → length (info_children info) ≤ n → IsSized known info → after ≡ old ++ own_size (info_facts info).expr (info_size info) ++ sizes_in_each known (take n (info_children info)) → after ≡ old ++ sizes_in known (info_tree info)
+pub sized_all : (known : Known) (info : Info) (n : ℕ) (old after : List Size) → length (info_children info) ≤ n → IsSized known info →
+    after ≡ old ++ own_size (info_facts info).expr (info_size info) ++ sizes_in_each known (take n (info_children info)) →
+    after ≡ old ++ sizes_in known (info_tree info)
 sized_all known info n old after h sized so_far =
     so_far
     ∙ append_assoc old (own_size (info_facts info).expr (info_size info)) (sizes_in_each known (take n (info_children info)))

@@ -1,5 +1,6 @@
 -- The nodes of an `Info`'s tree, child by child.
 use Rattle.std.proofs.Common.{◌≡◌, ℕ, zero, suc, ◌+◌, ◌<◌, Bool, true, false, ◌||◌, List, [], ◌∷◌, length, map, take, get_or, sym, ap, ◌∙◌, refl, arith}
+use Rattle.std.proofs.Math.Bool.{or-true}
 use Rattle.std.specs.List.{list_any}
 use Rattle.std.proofs.lemmas.List.{length-map}
 use Rattle.std.proofs.lemmas.List.Folds.{list_any-append}
@@ -11,7 +12,8 @@ use Rattle.fancy_expr.specs.Exprs.{below}
 use Rattle.fancy_analysis.specs.Infos.{info_tree, info_children, info_facts, IsAnalysed, IsFound}
 use Rattle.fancy_analysis.proofs.Unfolded.{tree_out, each_here, each_below}
 use Rattle.fancy_expr.proofs.Walks.{taken}
-use Rattle.fancy_analysis.proofs.GroupSizes.{nodes-parts, over-parts, each_at}
+use Rattle.fancy_analysis.proofs.GroupSizes.{over-parts, each_at}
+use Rattle.fancy_expr.proofs.NodeParts.{nodes-parts}
 
 -- how many children a node has
 abbrev pub HasParts : Info → Type 0
@@ -60,11 +62,7 @@ module _ (test : Tree → Bool) where
       ∙ list_any-append any_in (take n is) (i ∷ [])
       ∙ ap (λ b. any_in_each (take n is) || b) (or_false (any_in i))
 
-  or_true : (b : Bool) → (b || Bool.true) ≡ Bool.true
-  or_true Bool.true = refl
-  or_true Bool.false = refl
-
   pub any-at : (is : List Info) (n : ℕ) (i : Info) → n < length is → i ≡ get_or is n i → list_any test (nodes (info_tree i)) ≡ true → any_in_each is ≡ true
   any-at [] n i h at passes = absurd (omega arith)
   any-at (j ∷ is) zero i h at passes = ap (λ b. b || any_in_each is) (ap any_in (sym at) ∙ passes)
-  any-at (j ∷ is) (suc n) i h at passes = ap (λ b. any_in j || b) (any-at is n i (omega (arith, h)) at passes) ∙ or_true (any_in j)
+  any-at (j ∷ is) (suc n) i h at passes = ap (λ b. any_in j || b) (any-at is n i (omega (arith, h)) at passes) ∙ or-true (any_in j)

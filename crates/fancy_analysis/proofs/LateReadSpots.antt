@@ -104,7 +104,8 @@ module _ (g : ℕ) where
   read_found m [] j s casei called at is = absurd (none-some s at)
   read_found m (x ∷ xs) zero s casei called at is =
       keeps_all (meet g (x.owner == g) x.node m) xs (reads (x.owner == g) x.node casei m called (ap (λ y. y.node) (some_is x s at) ∙ is))
-  read_found m (x ∷ xs) (suc j) s casei called at is = read_found (meet g (x.owner == g) x.node m) xs j s casei (keeps_call (x.owner == g) x.node m called) at is
+  read_found m (x ∷ xs) (suc j) s casei called at is =
+      read_found (meet g (x.owner == g) x.node m) xs j s casei (keeps_call (x.owner == g) x.node m called) at is
 
   pub late_found : (m : Met) (xs : List Spot) (i j : ℕ) (c s : Spot) (casei : Bool) → i < j → slice_get xs i ≡ Some c → c.node ≡ SubroutineCall g →
       c.owner ≡ g →
@@ -241,6 +242,7 @@ read_late whole h =
 pub no_read_late : (whole : Tree) → list_any is_read_late (nodes whole) ≡ false → (g : ℕ) → ¬ ReadsAfterCall whole g
 unfolding groups
 no_read_late whole h g r =
-    let late = late_found g met_nothing (spots_in_group whole g r.body) r.at_call r.at_read r.call r.read r.casei r.in_order r.is_there r.is_call r.is_own r.is_read r.is_reference in
+    let late = late_found g met_nothing
+    (spots_in_group whole g r.body) r.at_call r.at_read r.call r.read r.casei r.in_order r.is_there r.is_call r.is_own r.is_read r.is_reference in
     let passes : is_late (g, r.body) ≡ true = sym (ap (λ m. m.read_after) (in_spots whole g r.body)) ∙ late in
     true_false (sym (any_passes is_late (filter_map as_group (nodes whole)) (g, r.body) r.is_group passes) ∙ sym (any-late (nodes whole)) ∙ h)

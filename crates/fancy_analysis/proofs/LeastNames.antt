@@ -26,7 +26,8 @@ pub record IsLeft (g : ℕ) (all rest : List Named) : Type 0 where
 pub all_left : (g : ℕ) (all : List Named) → IsStrictlySortedBy string_cmp (keys_of all) → IsLeft g all all
 all_left g all sorted = record { only = λ name n. n; still = λ name n. n; sorted = sorted }
 
-first_or_later : (g : ℕ) (x : Named) (rest : List Named) (name : List ℕ) → IsNamed (names_of (x ∷ rest)) g name → ((string_bytes x.0 ≡ name) × Contains x.1.items g) ⊎ IsNamed (names_of rest) g name
+first_or_later : (g : ℕ) (x : Named) (rest : List Named) (name : List ℕ) → IsNamed (names_of (x ∷ rest)) g name →
+    ((string_bytes x.0 ≡ name) × Contains x.1.items g) ⊎ IsNamed (names_of rest) g name
 first_or_later g x rest name n = elim (contains_cases _ _ _ n.is_there) [
   | inl e ↦ inl (ap (λ p. p.0) e, subst (λ ns. Contains ns g) (sym (ap (λ p. p.1) e)) n.has)
   | inr c ↦ inr (record { numbers = n.numbers; is_there = c; has = n.has })
@@ -45,14 +46,16 @@ left_more g all x rest out left = record {
 pub none_left : (g : ℕ) (all : List Named) → IsLeft g all [] → (name : List ℕ) → ¬ IsNamed (names_of all) g name
 none_left g all left name n = let c = (left.only name n).is_there in let lt = c.1 in absurd (omega arith)
 
-below_all : (x : String Global) (rest : List Named) (other numbers : List ℕ) → All (λ q. string_cmp x q ≡ Less) (keys_of rest) → Contains (names_of rest) (other, numbers) → slice_cmp nat_cmp (string_bytes x) other ≡ Less
+below_all : (x : String Global) (rest : List Named) (other numbers : List ℕ) → All (λ q. string_cmp x q ≡ Less) (keys_of rest) →
+    Contains (names_of rest) (other, numbers) → slice_cmp nat_cmp (string_bytes x) other ≡ Less
 below_all x [] other numbers all c = let lt = c.1 in absurd (omega arith)
 below_all x (y ∷ rest) other numbers all c = elim (contains_cases _ _ _ c) [
   | inl e ↦ subst (λ o. slice_cmp nat_cmp (string_bytes x) o ≡ Less) (ap (λ p. p.0) e) (All-head (λ q. string_cmp x q ≡ Less) y.0 (keys_of rest) all)
   | inr d ↦ below_all x rest other numbers (All-tail (λ q. string_cmp x q ≡ Less) y.0 (keys_of rest) all) d
 ]
 
-pub found_least : (g : ℕ) (all : List Named) (x : Named) (rest : List Named) → Contains x.1.items g → IsLeft g all (x ∷ rest) → IsLeastName (names_of all) g (string_bytes x.0)
+pub found_least : (g : ℕ) (all : List Named) (x : Named) (rest : List Named) → Contains x.1.items g → IsLeft g all (x ∷ rest) →
+    IsLeastName (names_of all) g (string_bytes x.0)
 found_least g all x rest has left = record {
   is_one = left.still (string_bytes x.0) (record { numbers = x.1.items; is_there = contains_first _ _; has = has });
   least = λ other n. elim (first_or_later g x rest other (left.only other n)) [

@@ -46,7 +46,9 @@ module _ (whole : Tree) where
   two_below a (t ∷ u ∷ []) h = ap (λ l. spots whole a t ++ l) (sym (append-nil (spots whole a u)))
   two_below a (t ∷ u ∷ v ∷ ts) h = absurd (omega arith)
 
-  three_below : (a : Around) (ts : List Tree) → length ts ≡ 3 → spots whole a (nth (trees ts) 0) ++ (spots whole (past whole (nth (trees ts) 0) a) (nth (trees ts) 1) ++ spots whole a (nth (trees ts) 2)) ≡ chain (λ i. i == 0) a a 0 ts
+  three_below : (a : Around) (ts : List Tree) → length ts ≡ 3 →
+      spots whole a (nth (trees ts) 0) ++ (spots whole (past whole (nth (trees ts) 0) a) (nth (trees ts) 1) ++ spots whole a (nth (trees ts) 2))
+      ≡ chain (λ i. i == 0) a a 0 ts
   three_below a [] h = absurd (omega arith)
   three_below a (t ∷ []) h = absurd (omega arith)
   three_below a (t ∷ u ∷ []) h = absurd (omega arith)
@@ -60,14 +62,16 @@ module _ (whole : Tree) where
   heads : (a : Around) (t : Tree) (l m : List Spot) → l ≡ m → spot a t ∷ l ≡ spot a t ∷ m
   heads a t l m e = ap (λ x. spot a t ∷ x) e
 
-  absent_spots : (e : Absent) (a : Around) (ts : List Tree) → length ts ≡ length (below_absent e) → spots whole a (absent_over e (trees ts)) ≡ spot a (absent_over e (trees ts)) ∷ chain (λ _. false) a a 0 ts
+  absent_spots : (e : Absent) (a : Around) (ts : List Tree) → length ts ≡ length (below_absent e) →
+      spots whole a (absent_over e (trees ts)) ≡ spot a (absent_over e (trees ts)) ∷ chain (λ _. false) a a 0 ts
   absent_spots (code_absent.Repeater' b e) a ts h = heads a _ _ _ (one_below a ts h)
   absent_spots (code_absent.Expression' b x c e) a ts h = heads a _ _ _ (two_below a ts h)
   absent_spots (code_absent.Stopper' b e) a ts h = heads a _ _ _ (one_below a ts h)
   absent_spots code_absent.Clear a ts h = heads a _ _ _ (none_below (λ _. false) a ts h)
 
   -- the spots of a node over its children
-  over_spots : (e : Expr) (n : ℕ) (w : plain.Within) (a : Around) (ts : List Tree) → length ts ≡ length (below e) → spots whole a (node_over e n w (trees ts)) ≡ spot a (node_over e n w (trees ts)) ∷ chain (follows e) (around_inside e n a) (around_inside e n a) 0 ts
+  over_spots : (e : Expr) (n : ℕ) (w : plain.Within) (a : Around) (ts : List Tree) → length ts ≡ length (below e) →
+      spots whole a (node_over e n w (trees ts)) ≡ spot a (node_over e n w (trees ts)) ∷ chain (follows e) (around_inside e n a) (around_inside e n a) 0 ts
   over_spots (code.Concat' shape row) n w a ts h = heads a _ _ _ (in_turn a a 0 ts)
   over_spots (code.Alt' shape row) n w a ts h = heads a _ _ _ (of_each a 0 ts)
   over_spots (code.Group' b e) n w a ts h = heads a _ _ _ (one_below _ ts h)
@@ -82,9 +86,11 @@ module _ (whole : Tree) where
   -- the links of a node's children, from this one on
   abbrev pub links_from : (ℕ → Bool) → Around → Around → ℕ → List Info → List Link
   links_from follow first next i [] = []
-  links_from follow first next i (c ∷ cs) = links_at whole next (info_tree c) ++ links_from follow first (if follow i then past whole (info_tree c) next else first) (i + 1) cs
+  links_from follow first next i (c ∷ cs) =
+      links_at whole next (info_tree c) ++ links_from follow first (if follow i then past whole (info_tree c) next else first) (i + 1) cs
 
-  chain_links : (follow : ℕ → Bool) (first next : Around) (i : ℕ) (cs : List Info) → filter_map link_of (chain follow first next i (map info_tree cs)) ≡ links_from follow first next i cs
+  chain_links : (follow : ℕ → Bool) (first next : Around) (i : ℕ) (cs : List Info) →
+      filter_map link_of (chain follow first next i (map info_tree cs)) ≡ links_from follow first next i cs
   unfolding links_at
   chain_links follow first next i [] = refl
   chain_links follow first next i (c ∷ cs) =
@@ -97,7 +103,10 @@ first_link s None l e = ap (λ o. cons_option o (filter_map link_of l)) e
 first_link s (Some x) l e = ap (λ o. cons_option o (filter_map link_of l)) e
 
 -- the links of a node: its own, and those of its children
-pub links-below : (whole : Tree) (a : Around) (i : Info) → IsSized (known_of whole) i → links_at whole a (info_tree i) ≡ option_to_list (link_from (info_tree i) a) ++ links_from whole (follows (info_facts i).expr) (around_inside (info_facts i).expr (info_facts i).start_group a) (around_inside (info_facts i).expr (info_facts i).start_group a) 0 (info_children i)
+pub links-below : (whole : Tree) (a : Around) (i : Info) → IsSized (known_of whole) i →
+    links_at whole a (info_tree i)
+    ≡ option_to_list (link_from (info_tree i) a) ++ links_from whole (follows (info_facts i).expr)
+    (around_inside (info_facts i).expr (info_facts i).start_group a) (around_inside (info_facts i).expr (info_facts i).start_group a) 0 (info_children i)
 unfolding links_at
 links-below whole a i sized =
     let f = info_facts i in
@@ -125,9 +134,12 @@ drop-more xs n x h at =
 pub record IsOnWay (whole : Tree) (i : Info) (a : Around) (before now : List Link) (next : code_around.Around) (n : ℕ) : Type 0 where
   pub around : Around
   pub stands : IsAt next around
-  pub completes : now ++ links_from whole (follows (info_facts i).expr) (around_inside (info_facts i).expr (info_facts i).start_group a) around n (drop n (info_children i)) ≡ before ++ links_at whole a (info_tree i)
+  pub completes : now ++ links_from whole (follows (info_facts i).expr) (around_inside (info_facts i).expr (info_facts i).start_group a) around n
+      (drop n (info_children i)) ≡ before ++ links_at whole a (info_tree i)
 
-pub on_way_first : (whole : Tree) (i : Info) (a : Around) (before now : List Link) (next : code_around.Around) → IsSized (known_of whole) i → IsAt next (around_inside (info_facts i).expr (info_facts i).start_group a) → now ≡ before ++ option_to_list (link_from (info_tree i) a) → IsOnWay whole i a before now next 0
+pub on_way_first : (whole : Tree) (i : Info) (a : Around) (before now : List Link) (next : code_around.Around) → IsSized (known_of whole) i →
+    IsAt next (around_inside (info_facts i).expr (info_facts i).start_group a) → now ≡ before ++ option_to_list (link_from (info_tree i) a) →
+    IsOnWay whole i a before now next 0
 on_way_first whole i a before now next sized at own =
     let e = (info_facts i).expr in
     let inside = around_inside e (info_facts i).start_group a in
@@ -135,10 +147,12 @@ on_way_first whole i a before now next sized at own =
     record {
       around = inside;
       stands = at;
-      completes = ap (λ l. l ++ rest) own ∙ append_assoc before (option_to_list (link_from (info_tree i) a)) rest ∙ ap (λ l. before ++ l) (sym (links-below whole a i sized));
+      completes = ap (λ l. l ++ rest) own ∙ append_assoc before (option_to_list (link_from (info_tree i) a)) rest
+          ∙ ap (λ l. before ++ l) (sym (links-below whole a i sized));
     }
 
-pub on_way_all : (whole : Tree) (i : Info) (a : Around) (before now : List Link) (next : code_around.Around) (n : ℕ) → length (info_children i) ≤ n → IsOnWay whole i a before now next n → now ≡ before ++ links_at whole a (info_tree i)
+pub on_way_all : (whole : Tree) (i : Info) (a : Around) (before now : List Link) (next : code_around.Around) (n : ℕ) → length (info_children i) ≤ n →
+    IsOnWay whole i a before now next n → now ≡ before ++ links_at whole a (info_tree i)
 on_way_all whole i a before now next n h w =
     let e = (info_facts i).expr in
     let inside = around_inside e (info_facts i).start_group a in
@@ -147,7 +161,11 @@ on_way_all whole i a before now next n h w =
     ∙ w.completes
 
 -- past a child, which added its links
-pub on_way_more : (whole : Tree) (i : Info) (a : Around) (before now after : List Link) (next later : code_around.Around) (n : ℕ) (child : Info) → n < length (info_children i) → child ≡ get_or (info_children i) n child → (w : IsOnWay whole i a before now next n) → after ≡ now ++ links_at whole w.around (info_tree child) → IsAt later (if follows (info_facts i).expr n then past whole (info_tree child) w.around else around_inside (info_facts i).expr (info_facts i).start_group a) → IsOnWay whole i a before after later (n + 1)
+pub on_way_more : (whole : Tree) (i : Info) (a : Around) (before now after : List Link) (next later : code_around.Around) (n : ℕ) (child : Info) →
+    n < length (info_children i) → child ≡ get_or (info_children i) n child → (w : IsOnWay whole i a before now next n) →
+    after ≡ now ++ links_at whole w.around (info_tree child) →
+    IsAt later (if follows (info_facts i).expr n then past whole (info_tree child) w.around else around_inside (info_facts i).expr
+    (info_facts i).start_group a) → IsOnWay whole i a before after later (n + 1)
 on_way_more whole i a before now after next later n child h at w added stands =
     let cs = info_children i in
     let e = (info_facts i).expr in
@@ -168,5 +186,7 @@ pub links-whole : (whole t : Tree) → t ≡ whole → links_at whole (record { 
 unfolding links_at links_of all_spots
 links-whole whole t e = ap (λ x. filter_map link_of (spots whole (record { owner = 0; position = 0; is_skipped = false }) x)) e
 
-pub own_added : (i : Info) (a : Around) (before after : List Link) (o : Option Link) → o ≡ link_from (node_over (info_facts i).expr (info_facts i).start_group (info_facts i).within (trees (map info_tree (info_children i)))) a → after ≡ before ++ option_to_list o → after ≡ before ++ option_to_list (link_from (info_tree i) a)
+pub own_added : (i : Info) (a : Around) (before after : List Link) (o : Option Link) →
+    o ≡ link_from (node_over (info_facts i).expr (info_facts i).start_group (info_facts i).within (trees (map info_tree (info_children i)))) a →
+    after ≡ before ++ option_to_list o → after ≡ before ++ option_to_list (link_from (info_tree i) a)
 own_added i a before after o is added = added ∙ ap (λ x. before ++ option_to_list x) (is ∙ ap (λ t. link_from t a) (sym (tree_out i)))

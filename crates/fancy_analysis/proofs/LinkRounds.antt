@@ -2,7 +2,7 @@
 use Rattle.std.proofs.Common.{◌≡◌, ℕ, ◌+◌, ◌<◌, ◌≤◌, Bool, true, false, not, ◌&&◌, List, ◌++◌, length, take, get_or, All, Contains, IsFalse, ◌↔◌, refl, sym, ap, ◌∙◌, subst, arith, inl, inr}
 use Rattle.std.proofs.Math.ListN.{set}
 use Rattle.std.proofs.Math.Seq.{take-append_seam}
-use Rattle.std.proofs.lemmas.Bool.{both_ways, cases_lt, and_right, and_left}
+use Rattle.std.proofs.lemmas.Bool.{both_ways, cases_lt, and_parts, and_right, and_left}
 use Rattle.std.proofs.lemmas.List.{length-set, take_all, get_or_past, get_or-set_same}
 use Rattle.std.proofs.lemmas.List.Elements.{All-more, All-contains, Contains-get_or}
 use Rattle.fancy_analysis.specs.declared.links.Link.{Link}
@@ -36,7 +36,8 @@ reaching_none links before = record {
   done = λ _ k d h. absurd (omega arith);
 }
 
-pub reaching_same : (links : List Link) (before now : List Bool) (grown : Bool) (i : ℕ) (d link : Link) → i < length links → link ≡ get_or links i d → StaysWithin now link → IsReaching links before now grown i → IsReaching links before now grown (i + 1)
+pub reaching_same : (links : List Link) (before now : List Bool) (grown : Bool) (i : ℕ) (d link : Link) → i < length links → link ≡ get_or links i d →
+    StaysWithin now link → IsReaching links before now grown i → IsReaching links before now grown (i + 1)
 reaching_same links before now grown i d link h at stays r = record {
   kept = r.kept;
   only = r.only;
@@ -45,7 +46,8 @@ reaching_same links before now grown i d link h at stays r = record {
   done = λ is. All-more (StaysWithin now) links i d h (r.done is) (subst (StaysWithin now) at stays);
 }
 
-pub reaching_more : (links : List Link) (before now : List Bool) (grown : Bool) (i : ℕ) (d link : Link) → i < length links → link ≡ get_or links i d → LeadsOut now link → IsReaching links before now grown i → IsReaching links before (set now link.to true) true (i + 1)
+pub reaching_more : (links : List Link) (before now : List Bool) (grown : Bool) (i : ℕ) (d link : Link) → i < length links → link ≡ get_or links i d →
+    LeadsOut now link → IsReaching links before now grown i → IsReaching links before (set now link.to true) true (i + 1)
 reaching_more links before now grown i d link h at out r =
     let less = one_less not now link.to false true out.within (ap not out.is_unset) refl in
     let fewer : unset_count (set now link.to true) < unset_count before = omega (arith, r.fewer) in
@@ -55,7 +57,8 @@ reaching_more links before now grown i d link h at out r =
         | inr w ↦ w.1 ∙ r.kept n is
       ];
       only = λ all n is. elim (flag_written now link.to n true out.within) [
-        | inl w ↦ further (r.only all link.from out.is_set) (record { link = link; is_there = there links i d link h at; leads_from = refl; leads_to = sym w.0 })
+        | inl w ↦ further (r.only all link.from out.is_set)
+            (record { link = link; is_there = there links i d link h at; leads_from = refl; leads_to = sym w.0 })
         | inr w ↦ r.only all n (sym w.1 ∙ is)
       ];
       fewer = omega arith;
@@ -73,37 +76,42 @@ pub record IsMarking (links : List Link) (flags leads : List Bool) (i : ℕ) : T
   pub only : (n : ℕ) → flag leads n ≡ true → LeadsToSet links flags n
   pub all : All (IsMarked flags leads) (take i links)
 
-pub marking_same : (links : List Link) (flags leads : List Bool) (i : ℕ) (d link : Link) → i < length links → link ≡ get_or links i d → (link.at_once && flag flags link.to) ≡ false → IsMarking links flags leads i → IsMarking links flags leads (i + 1)
+pub marking_same : (links : List Link) (flags leads : List Bool) (i : ℕ) (d link : Link) → i < length links → link ≡ get_or links i d →
+    (link.at_once && flag flags link.to) ≡ false → IsMarking links flags leads i → IsMarking links flags leads (i + 1)
 marking_same links flags leads i d link h at off m = record {
   room = m.room;
   only = m.only;
-  all = All-more (IsMarked flags leads) links i d h m.all (subst (IsMarked flags leads) at (λ once to. absurd (both_ways (link.at_once && flag flags link.to) off (ap (λ b. b && flag flags link.to) once ∙ to))));
+  all = All-more (IsMarked flags leads) links i d h m.all
+      (subst (IsMarked flags leads) at (λ once to. absurd (both_ways (link.at_once && flag flags link.to) off (ap (λ b. b && flag flags link.to) once ∙ to))));
 }
 
-pub from_inside : (links : List Link) (leads : List Bool) (i : ℕ) (d link : Link) → i < length links → link ≡ get_or links i d → HasRoom links leads → link.from < length leads
+pub from_inside : (links : List Link) (leads : List Bool) (i : ℕ) (d link : Link) → i < length links → link ≡ get_or links i d → HasRoom links leads →
+    link.from < length leads
 from_inside links leads i d link h at room = All-contains (λ l. l.from < length leads) links link room.each (there links i d link h at)
-
-both_true : (a b : Bool) → (a && b) ≡ true → (a ≡ true) × (b ≡ true)
-both_true true b h = (refl, h)
-both_true false b h = cc
 
 still_set : (leads : List Bool) (k n : ℕ) → k < length leads → flag leads n ≡ true → flag (set leads k true) n ≡ true
 still_set leads k n h is = elim (flag_written leads k n true h) [ inl w ↦ w.1 | inr w ↦ w.1 ∙ is ]
 
-pub marking_more : (links : List Link) (flags leads : List Bool) (i : ℕ) (d link : Link) → i < length links → link ≡ get_or links i d → (link.at_once && flag flags link.to) ≡ true → IsMarking links flags leads i → IsMarking links flags (set leads link.from true) (i + 1)
+pub marking_more : (links : List Link) (flags leads : List Bool) (i : ℕ) (d link : Link) → i < length links → link ≡ get_or links i d →
+    (link.at_once && flag flags link.to) ≡ true → IsMarking links flags leads i → IsMarking links flags (set leads link.from true) (i + 1)
 marking_more links flags leads i d link h at is m =
     let inside = from_inside links leads i d link h at m.room in
-    let both = both_true link.at_once (flag flags link.to) is in
+    let both = and_parts link.at_once (flag flags link.to) is in
     let after = set leads link.from true in
     let long : length after ≡ length leads = length-set leads link.from true in
     let same : IsMarked flags after link = λ _ _. elim (flag_written leads link.from link.from true inside) [ inl w ↦ w.1 | inr w ↦ absurd (w.0 refl) ] in
     record {
       room = record { whole = let w = m.room.whole in omega arith; each = λ k d lt. let w = m.room.each k d lt in omega arith };
       only = λ n set_now. elim (flag_written leads link.from n true inside) [
-        | inl w ↦ record { to = link.to; link = record { link = link; is_there = there links i d link h at; leads_from = sym w.0; leads_to = refl; at_once = both.0 }; is_set = both.1 }
+        | inl w ↦ record {
+          to = link.to;
+          link = record { link = link; is_there = there links i d link h at; leads_from = sym w.0; leads_to = refl; at_once = both.0 };
+          is_set = both.1;
+        }
         | inr w ↦ m.only n (sym w.1 ∙ set_now)
       ];
-      all = All-more (IsMarked flags after) links i d h (λ k d lt once to. still_set leads link.from _ inside (m.all k d lt once to)) (subst (IsMarked flags after) at same);
+      all = All-more (IsMarked flags after) links i d h (λ k d lt once to. still_set leads link.from _ inside (m.all k d lt once to))
+          (subst (IsMarked flags after) at same);
     }
 
 pub marked_all : (links : List Link) (flags leads : List Bool) → (n : ℕ) → All (IsMarked flags leads) links → LeadsToSet links flags n → flag leads n ≡ true
@@ -134,7 +142,8 @@ same_here false b h = refl
 same_here true true h = refl
 same_here true false h = cc
 
-pub clearing_same : (kept before now : List Bool) (shrunk : Bool) (i : ℕ) → (flag now i && not (flag kept i)) ≡ false → IsClearing kept before now shrunk i → IsClearing kept before now shrunk (i + 1)
+pub clearing_same : (kept before now : List Bool) (shrunk : Bool) (i : ℕ) → (flag now i && not (flag kept i)) ≡ false → IsClearing kept before now shrunk i →
+    IsClearing kept before now shrunk (i + 1)
 clearing_same kept before now shrunk i off c = record {
   past = λ n h. elim (cases_lt n i) [
     | inl lt ↦ c.past n lt
@@ -155,7 +164,8 @@ cleared_here true false h = (refl, refl)
 cleared_here true true h = cc
 cleared_here false b h = cc
 
-pub clearing_more : (kept before now : List Bool) (shrunk : Bool) (i : ℕ) → i < length now → (flag now i && not (flag kept i)) ≡ true → IsClearing kept before now shrunk i → IsClearing kept before (set now i false) true (i + 1)
+pub clearing_more : (kept before now : List Bool) (shrunk : Bool) (i : ℕ) → i < length now → (flag now i && not (flag kept i)) ≡ true →
+    IsClearing kept before now shrunk i → IsClearing kept before (set now i false) true (i + 1)
 clearing_more kept before now shrunk i inside is c =
     let both = cleared_here (flag now i) (flag kept i) is in
     let less = one_less (λ b. b) now i false false inside both.0 refl in
@@ -174,14 +184,17 @@ clearing_more kept before now shrunk i inside is c =
       done = λ no. absurd (both_ways true no refl);
     }
 
-pub reaching_done : (links : List Link) (before now : List Bool) (grown : Bool) (i : ℕ) → length links ≤ i → IsReaching links before now grown i → IsFalse grown → All (StaysWithin now) links
+pub reaching_done : (links : List Link) (before now : List Bool) (grown : Bool) (i : ℕ) → length links ≤ i → IsReaching links before now grown i →
+    IsFalse grown → All (StaysWithin now) links
 reaching_done links before now grown i h r is = subst (All (StaysWithin now)) (take_all i links h) (r.done is)
 
-pub marking_done : (links : List Link) (flags leads : List Bool) (i : ℕ) → length links ≤ i → IsMarking links flags leads i → (n : ℕ) → (flag leads n ≡ true) ↔ LeadsToSet links flags n
+pub marking_done : (links : List Link) (flags leads : List Bool) (i : ℕ) → length links ≤ i → IsMarking links flags leads i → (n : ℕ) →
+    (flag leads n ≡ true) ↔ LeadsToSet links flags n
 marking_done links flags leads i h m n =
     (m.only n, marked_all links flags leads n (subst (All (IsMarked flags leads)) (take_all i links h) m.all))
 
-pub clearing_each : (kept before now : List Bool) (shrunk : Bool) (i : ℕ) → length now ≤ i → IsClearing kept before now shrunk i → (n : ℕ) → flag now n ≡ (flag before n && flag kept n)
+pub clearing_each : (kept before now : List Bool) (shrunk : Bool) (i : ℕ) → length now ≤ i → IsClearing kept before now shrunk i → (n : ℕ) →
+    flag now n ≡ (flag before n && flag kept n)
 clearing_each kept before now shrunk i h c n = elim (cases_lt n i) [
   | inl lt ↦ c.past n lt
   | inr ge ↦ (
@@ -207,7 +220,13 @@ pub written_back : (n : ℕ) (xs ys : List Bool) → n ≡ length ys → take n 
 written_back n xs ys h = ap (λ k. take k (ys ++ xs)) h ∙ take-append_seam ys xs
 
 -- at first the whole tree alone is set
-pub only_whole : (links : List Link) (flags : List Bool) → HasRoom links flags → All (λ b. b ≡ false) flags → record { room : HasRoom links (set flags 0 true); whole : flag (set flags 0 true) 0 ≡ true; only : (n : ℕ) → flag (set flags 0 true) n ≡ true → IsReached links n }
+pub only_whole : (links : List Link) (flags : List Bool) → HasRoom links flags → All (λ b. b ≡ false) flags →
+    record {
+      room : HasRoom links (set flags 0 true);
+      whole : flag (set flags 0 true) 0 ≡ true;
+      only : (n : ℕ) → flag (set flags 0 true) n ≡ true →
+          IsReached links n;
+    }
 only_whole links flags room usize_max =
     let long : length (set flags 0 true) ≡ length flags = length-set flags 0 true in
     record {
@@ -220,7 +239,8 @@ only_whole links flags room usize_max =
     }
 
 -- what is reached is set, where no link leads out
-pub reached_all : (links : List Link) (flags : List Bool) → HasRoom links flags → flag flags 0 ≡ true → All (StaysWithin flags) links → (n : ℕ) → IsReached links n → n < length flags → flag flags n ≡ true
+pub reached_all : (links : List Link) (flags : List Bool) → HasRoom links flags → flag flags 0 ≡ true → All (StaysWithin flags) links → (n : ℕ) →
+    IsReached links n → n < length flags → flag flags n ≡ true
 reached_all links flags room whole stays n the_whole h = whole
 reached_all links flags room whole stays n (further {g} r l) h =
     let inside = All-contains (λ x. x.from < length flags) links l.link room.each l.is_there in

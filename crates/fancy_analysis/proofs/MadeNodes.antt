@@ -6,7 +6,7 @@ use Rattle.fancy_meaning.specs.Nodes.{group_count, is_read}
 use Rattle.fancy_meaning.specs.Options.{Analysis}
 use Rattle.fancy_meaning.specs.Sizes.{Size, Known, plus, either, times, size, size_by, each_size}
 use Rattle.fancy_meaning.specs.Hard.{is_hard, any_hard, is_hard_assertion}
-use Rattle.fancy_analysis.specs.declared.make.Task.{Task}
+use Rattle.fancy_analysis.specs.declared.make.VisitTables.{VisitTables}
 use Rattle.fancy_analysis.specs.declared.info.Info.{Info}
 use Rattle.fancy_analysis.specs.declared.info.Info.TheOpen.{Info-F}
 use Rattle.fancy_analysis.specs.declared.info.Info.TheViews.{roll-Info, out-roll-Info}
@@ -18,10 +18,10 @@ use Rattle.fancy_expr.specs.declared.expr.Assertion.{Assertion}
 use Rattle.fancy_expr.specs.declared.expr.Assertion.TheVariants as code_assertion
 use Rattle.fancy_expr.specs.Views.{assertion_of, bound_of}
 use Rattle.fancy_analysis.specs.Sized.{size_of}
-use Rattle.fancy_analysis.specs.Infos.{options_of, nth, absent_over, node_over, info_tree, info_size, info_hard, is_read_group, facts, tree_over, IsFound, IsAnalysed}
+use Rattle.fancy_analysis.specs.Infos.{analysis_options_of, nth, absent_over, node_over, info_tree, info_size, info_hard, is_read_group, facts, tree_over, IsFound, IsAnalysed}
 use Rattle.fancy_expr.specs.Each.{Each}
 use Rattle.fancy_expr.specs.Walk.{within_of}
-use Rattle.fancy_analysis.specs.Made.{nth_size, absent_size, size_over, some_true, first_true, is_varying_empty, hard_over, read_flag, task_known, IsSizedNode, IsSized, IsMade}
+use Rattle.fancy_analysis.specs.Made.{nth_size, absent_size, size_over, some_true, first_true, is_varying_empty, hard_over, read_flag, tables_known, IsSizedNode, IsSized, IsMadeNode}
 use Rattle.fancy_analysis.proofs.Unfolded.{tree_roll, tree_out, each_made, each_here}
 
 -- ---- sizes
@@ -77,7 +77,8 @@ module _ (a : Analysis) where
       ap (λ b. b ∷ map info_hard is) ((each_here (IsFound a) i h.0).hard ∙ ap (is_hard a) (sym (tree_out i)))
       ∙ ap (λ l. is_hard a (info_tree i) ∷ l) (hards-children is h.1)
 
-  assertion-hard : (w : plain.Within) (x : Assertion) → is_hard_assertion (record { tree = plain.Empty; options = a.options }) w (assertion_of x) ≡ is_hard_assertion a w (assertion_of x)
+  assertion-hard : (w : plain.Within) (x : Assertion) →
+      is_hard_assertion (record { tree = plain.Empty; options = a.options }) w (assertion_of x) ≡ is_hard_assertion a w (assertion_of x)
   assertion-hard w code_assertion.StartText = refl
   assertion-hard w x = refl
 
@@ -87,24 +88,29 @@ module _ (a : Analysis) where
   absent-hard (code_absent.Stopper' b e) es = refl
   absent-hard code_absent.Clear es = refl
 
-  list-hard : (es : Trees) (t : Tree) (s : Size) (hards : List Bool) → s ≡ size a.tree t → hards ≡ map (is_hard a) (plain.children es) → (some_true hards || is_varying_empty a.options s) ≡ (any_hard a es || is_varying_empty a.options (size a.tree t))
+  list-hard : (es : Trees) (t : Tree) (s : Size) (hards : List Bool) → s ≡ size a.tree t → hards ≡ map (is_hard a) (plain.children es) →
+      (some_true hards || is_varying_empty a.options s) ≡ (any_hard a es || is_varying_empty a.options (size a.tree t))
   list-hard es t s hards sized below =
       ap (λ l. some_true l || is_varying_empty a.options s) below
       ∙ ap (λ b. b || is_varying_empty a.options s) (sym (some-hard es))
       ∙ ap (λ x. any_hard a es || is_varying_empty a.options x) sized
 
-  child-hard : (es : Trees) (t : Tree) (s : Size) (hards : List Bool) → s ≡ size a.tree t → hards ≡ map (is_hard a) (plain.children es) → (first_true hards || is_varying_empty a.options s) ≡ (is_hard a (nth es 0) || is_varying_empty a.options (size a.tree t))
+  child-hard : (es : Trees) (t : Tree) (s : Size) (hards : List Bool) → s ≡ size a.tree t → hards ≡ map (is_hard a) (plain.children es) →
+      (first_true hards || is_varying_empty a.options s) ≡ (is_hard a (nth es 0) || is_varying_empty a.options (size a.tree t))
   child-hard es t s hards sized below =
       ap (λ b. b || is_varying_empty a.options s) (sym (first-hard es hards below))
       ∙ ap (λ x. is_hard a (nth es 0) || is_varying_empty a.options x) sized
 
-  group-hard : (es : Trees) (n : ℕ) (s : Size) (read : Bool) (hards : List Bool) → s ≡ size a.tree (plain.Group n (nth es 0)) → read ≡ is_read a.tree n → hards ≡ map (is_hard a) (plain.children es) → (read || first_true hards || is_varying_empty a.options s) ≡ is_hard a (plain.Group n (nth es 0))
+  group-hard : (es : Trees) (n : ℕ) (s : Size) (read : Bool) (hards : List Bool) → s ≡ size a.tree (plain.Group n (nth es 0)) → read ≡ is_read a.tree n →
+      hards ≡ map (is_hard a) (plain.children es) → (read || first_true hards || is_varying_empty a.options s) ≡ is_hard a (plain.Group n (nth es 0))
   group-hard es n s read hards sized flagged below =
       ap (λ b. b || first_true hards || is_varying_empty a.options s) flagged
       ∙ ap (λ b. is_read a.tree n || b || is_varying_empty a.options s) (sym (first-hard es hards below))
       ∙ ap (λ x. is_read a.tree n || is_hard a (nth es 0) || is_varying_empty a.options x) sized
 
-  node-hard : (e : Expr) (n : ℕ) (w : plain.Within) (es : Trees) (s : Size) (read : Bool) (hards : List Bool) → s ≡ size a.tree (node_over e n w es) → read ≡ is_read_group a.tree (node_over e n w es) → hards ≡ map (is_hard a) (plain.children es) → hard_over a.options e w s read hards ≡ is_hard a (node_over e n w es)
+  node-hard : (e : Expr) (n : ℕ) (w : plain.Within) (es : Trees) (s : Size) (read : Bool) (hards : List Bool) → s ≡ size a.tree (node_over e n w es) →
+      read ≡ is_read_group a.tree (node_over e n w es) → hards ≡ map (is_hard a) (plain.children es) →
+      hard_over a.options e w s read hards ≡ is_hard a (node_over e n w es)
   node-hard (code.Assertion x) n w es s read hards sized flagged below = assertion-hard w x
   node-hard (code.Concat' shape row) n w es s read hards sized flagged below = list-hard es (plain.Concat es) s hards sized below
   node-hard (code.Alt' shape row) n w es s read hards sized flagged below = list-hard es (plain.Alt es) s hards sized below
@@ -120,31 +126,38 @@ module _ (a : Analysis) where
   absent-read (code_absent.Stopper' b e) es = refl
   absent-read code_absent.Clear es = refl
 
-  node-read : (reads : List Bool) → ((g : ℕ) → slice_index_or reads g false ≡ is_read a.tree g) → (e : Expr) (n : ℕ) (w : plain.Within) (es : Trees) → read_flag reads e n ≡ is_read_group a.tree (node_over e n w es)
+  node-read : (reads : List Bool) → ((g : ℕ) → slice_index_or reads g false ≡ is_read a.tree g) → (e : Expr) (n : ℕ) (w : plain.Within) (es : Trees) →
+      read_flag reads e n ≡ is_read_group a.tree (node_over e n w es)
   node-read reads h (code.Group' b e) n w es = h n
   node-read reads h (code.Absent x) n w es = absent-read x es
   node-read reads h e n w es = refl
 
 -- ---- the node
 
-module _ (t : Task) (f : Info-F Info) where
-  size-over : size_of f.size ≡ size_over (task_known t) f.expr.now (map info_size f.children.items) → Each (IsSized (task_known t)) f.children.items → size_of f.size ≡ size_by (task_known t) (tree_over (facts f) f.children.items)
+module _ (t : VisitTables) (f : Info-F Info) where
+  size-over : size_of f.size ≡ size_over (tables_known t) f.expr.now (map info_size f.children.items) → Each (IsSized (tables_known t)) f.children.items →
+      size_of f.size ≡ size_by (tables_known t) (tree_over (facts f) f.children.items)
   size-over sized below =
       sized
-      ∙ ap (size_over (task_known t) f.expr.now) (sizes-children (task_known t) f.children.items below)
-      ∙ sym (node-size (task_known t) f.expr.now f.start_group (within_of f.within) (trees (map info_tree f.children.items)))
+      ∙ ap (size_over (tables_known t) f.expr.now) (sizes-children (tables_known t) f.children.items below)
+      ∙ sym (node-size (tables_known t) f.expr.now f.start_group (within_of f.within) (trees (map info_tree f.children.items)))
 
-  pub made : size_of f.size ≡ size_over (task_known t) f.expr.now (map info_size f.children.items) → f.is_read ≡ read_flag t.reads.now f.expr.now f.start_group → f.hard ≡ hard_over (options_of t.context) f.expr.now (within_of f.within) (size_of f.size) f.is_read (map info_hard f.children.items) → f.context ≡ t.context → IsMade t f.expr.now f.start_group f.end_group (within_of f.within) f.children.items (roll-Info f)
+  pub made : size_of f.size ≡ size_over (tables_known t) f.expr.now (map info_size f.children.items) →
+      f.is_read ≡ read_flag t.reads.now f.expr.now f.start_group →
+      f.hard ≡ hard_over (analysis_options_of t.context) f.expr.now (within_of f.within) (size_of f.size) f.is_read (map info_hard f.children.items) →
+      f.context ≡ t.context → IsMadeNode t f.expr.now f.start_group f.end_group (within_of f.within) f.children.items (roll-Info f)
   made sized flagged hard context = record {
     expr = ap (λ x. x.expr.now) (out-roll-Info f);
     tree = tree_roll f;
     start_group = ap (λ x. x.start_group) (out-roll-Info f);
     end_group = ap (λ x. x.end_group) (out-roll-Info f);
     within = ap (λ x. within_of x.within) (out-roll-Info f);
-    size = λ arity below. each_made (IsSizedNode (task_known t)) f (record { size = size-over sized below; arity = arity }) below;
+    size = λ arity below. each_made (IsSizedNode (tables_known t)) f (record { size = size-over sized below; arity = arity }) below;
     found = λ a suits arity exprs below analysed in_turn ends.
-        let here : size_of f.size ≡ size a.tree (tree_over (facts f) f.children.items) = size-over sized below ∙ ap (λ k. size_by k (tree_over (facts f) f.children.items)) suits.known in
-        let flag : f.is_read ≡ is_read_group a.tree (tree_over (facts f) f.children.items) = flagged ∙ node-read a t.reads.now suits.reads f.expr.now f.start_group (within_of f.within) (trees (map info_tree f.children.items)) in
+        let here : size_of f.size ≡ size a.tree (tree_over (facts f) f.children.items) =
+        size-over sized below ∙ ap (λ k. size_by k (tree_over (facts f) f.children.items)) suits.known in
+        let flag : f.is_read ≡ is_read_group a.tree (tree_over (facts f) f.children.items) =
+        flagged ∙ node-read a t.reads.now suits.reads f.expr.now f.start_group (within_of f.within) (trees (map info_tree f.children.items)) in
         each_made (IsFound a) f
         (record {
           node = record {
@@ -154,11 +167,12 @@ module _ (t : Task) (f : Info-F Info) where
             exprs = exprs;
             end_group = ends ∙ ap (λ x. f.start_group + group_count x) (tree_roll f);
             in_turn = in_turn;
-            options = ap options_of context ∙ suits.options;
+            options = ap analysis_options_of context ∙ suits.options;
           };
           hard = hard
               ∙ ap (λ o. hard_over o f.expr.now (within_of f.within) (size_of f.size) f.is_read (map info_hard f.children.items)) suits.options
-              ∙ node-hard a f.expr.now f.start_group (within_of f.within) (trees (map info_tree f.children.items)) (size_of f.size) f.is_read (map info_hard f.children.items) here flag (hards-children a f.children.items analysed);
+              ∙ node-hard a f.expr.now f.start_group (within_of f.within) (trees (map info_tree f.children.items)) (size_of f.size) f.is_read
+              (map info_hard f.children.items) here flag (hards-children a f.children.items analysed);
         })
         analysed;
   }

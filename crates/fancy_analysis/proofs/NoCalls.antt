@@ -102,9 +102,11 @@ map_contains [] k x lt at = absurd (omega arith)
 map_contains (y ∷ xs) zero x lt at = (0, omega arith, ap (λ s. s.node) at)
 map_contains (y ∷ xs) (suc k) x lt at = Contains-append_right (y.node ∷ []) (map (λ s. s.node) xs) x.node (map_contains xs k x (omega arith) at)
 
-spot_fails : (whole : Tree) (a : Around) (e : Tree) (s : Spot) (g : ℕ) → list_any is_call (nodes e) ≡ false → Contains (spots whole a e) s → s.node ≡ SubroutineCall g → ⊥
+spot_fails : (whole : Tree) (a : Around) (e : Tree) (s : Spot) (g : ℕ) → list_any is_call (nodes e) ≡ false → Contains (spots whole a e) s →
+    s.node ≡ SubroutineCall g → ⊥
 spot_fails whole a e s g h there is =
-    let inside : Contains (nodes e) s.node = subst (λ l. Contains l s.node) (spots-nodes whole a e) (map_contains (spots whole a e) there.0 s there.1 there.2) in
+    let inside : Contains (nodes e) s.node =
+    subst (λ l. Contains l s.node) (spots-nodes whole a e) (map_contains (spots whole a e) there.0 s there.1 there.2) in
     cc (any_fails_at is_call (nodes e) s.node h inside, ap is_call is)
 
 no_calls : (whole : Tree) (from at to : ℕ) → list_any is_call (nodes whole) ≡ false → ¬ Calls whole from at to

@@ -28,7 +28,8 @@ any-map : {X Y : Type 0} (f : Y → Bool) (h : X → Y) (xs : List X) → list_a
 any-map f h [] = refl
 any-map f h (x ∷ xs) = ap (λ b. f (h x) || b) (any-map f h xs)
 
-put_first : (o : Option ℕ) (g : ℕ) (xs : List Tree) (x : Tree) → read_by x ≡ o → list_any (nat_eq g) (filter_map read_by (x ∷ xs)) ≡ (is_named o g || list_any (nat_eq g) (filter_map read_by xs))
+put_first : (o : Option ℕ) (g : ℕ) (xs : List Tree) (x : Tree) → read_by x ≡ o →
+    list_any (nat_eq g) (filter_map read_by (x ∷ xs)) ≡ (is_named o g || list_any (nat_eq g) (filter_map read_by xs))
 put_first None g xs x is = ap (λ o. list_any (nat_eq g) (cons_option o (filter_map read_by xs))) is
 put_first (Some h) g xs x is = ap (λ o. list_any (nat_eq g) (cons_option o (filter_map read_by xs))) is
 
@@ -46,7 +47,8 @@ read-exprs e g =
     ∙ ap (list_any (λ x. is_named (read_by x) g)) (sym (nodes-exprs e))
     ∙ sym (any-map (λ x. is_named (read_by x) g) tree_of (exprs e))
 
-pub read-taken : (es : List Expr) (i : ℕ) (e : Expr) (g : ℕ) → i < length es → e ≡ get_or es i e → read_among_each (take (i + 1) es) g ≡ (read_among_each (take i es) g || is_read (tree_of e) g)
+pub read-taken : (es : List Expr) (i : ℕ) (e : Expr) (g : ℕ) → i < length es → e ≡ get_or es i e →
+    read_among_each (take (i + 1) es) g ≡ (read_among_each (take i es) g || is_read (tree_of e) g)
 read-taken es i e g h at =
     ap (λ l. read_among l g) (each-taken es i e h at)
     ∙ list_any-append (λ x. read_here x g) (exprs_of_each (take i es)) (exprs e)
@@ -83,10 +85,13 @@ or_assoc : (a b c : Bool) → ((a || b) || c) ≡ (a || (b || c))
 or_assoc true b c = refl
 or_assoc false b c = refl
 
-pub marked_more : (e child : Expr) (i g n m : ℕ) (old now next : Bool) → i < length (below e) → child ≡ get_or (below e) i child → now ≡ (old || (nat_lt g n && (read_here e g || read_among_each (take i (below e)) g))) → m ≡ n → next ≡ (now || (nat_lt g m && is_read (tree_of child) g)) → next ≡ (old || (nat_lt g n && (read_here e g || read_among_each (take (i + 1) (below e)) g)))
+pub marked_more : (e child : Expr) (i g n m : ℕ) (old now next : Bool) → i < length (below e) → child ≡ get_or (below e) i child →
+    now ≡ (old || (nat_lt g n && (read_here e g || read_among_each (take i (below e)) g))) → m ≡ n →
+    next ≡ (now || (nat_lt g m && is_read (tree_of child) g)) → next ≡ (old || (nat_lt g n && (read_here e g || read_among_each (take (i + 1) (below e)) g)))
 marked_more e child i g n m old now next h at so_far same here =
     here
     ∙ ap (λ k. now || (nat_lt g k && is_read (tree_of child) g)) same
     ∙ ap (λ b. b || (nat_lt g n && is_read (tree_of child) g)) so_far
     ∙ regroup old (nat_lt g n) (read_here e g || read_among_each (take i (below e)) g) (is_read (tree_of child) g)
-    ∙ ap (λ b. old || (nat_lt g n && b)) (or_assoc (read_here e g) (read_among_each (take i (below e)) g) (is_read (tree_of child) g) ∙ ap (λ b. read_here e g || b) (sym (read-taken (below e) i child g h at)))
+    ∙ ap (λ b. old || (nat_lt g n && b)) (or_assoc (read_here e g) (read_among_each (take i (below e)) g) (is_read (tree_of child) g)
+    ∙ ap (λ b. read_here e g || b) (sym (read-taken (below e) i child g h at)))

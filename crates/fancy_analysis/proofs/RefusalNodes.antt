@@ -170,7 +170,8 @@ module _ (p : ParsedTree) (options : AnalysisOptions) where
   named_refused g out (BackrefWithLevel k level casei) h = refl
   named_refused g out x h = absurd (false_true h)
 
-  module _ (counted : p.total_groups ≡ group_count p.tree) (quiet : HasNoRefusedNode p options) (no_late : (g : ℕ) → ¬ ReadsAfterCall whole g) (no_left : (g : ℕ) → ¬ IsLeftRecursive whole g) where
+  module _ (counted : p.total_groups ≡ group_count p.tree) (quiet : HasNoRefusedNode p options) (no_late : (g : ℕ) → ¬ ReadsAfterCall whole g)
+      (no_left : (g : ℕ) → ¬ IsLeftRecursive whole g) where
     none_whole : list_any (is_refused first last) (nodes whole) ≡ false
     none_whole = any-numbered (is_refused first last) (blind-refused first last) NoLook first p.tree ∙ quiet.nodes
 
@@ -187,7 +188,8 @@ module _ (p : ParsedTree) (options : AnalysisOptions) where
     not_before_end _ (reference_with_level h) = implied has_level (is_refused first last) level_refused (nodes whole) none_whole h
     not_before_end _ (group_out_of_range g h out) =
         let same : p.total_groups ≡ group_count whole = counted ∙ sym (count-numbered NoLook first p.tree) in
-        implied (refers g) (is_refused first last) (named_refused g (ap (λ n. nat_lt g first || nat_lt (first + n - 1) g) same ∙ out)) (nodes whole) none_whole h
+        implied (refers g) (is_refused first last) (named_refused g (ap (λ n. nat_lt g first || nat_lt (first + n - 1) g) same ∙ out))
+        (nodes whole) none_whole h
     not_before_end _ (left_recursion g text least described) = no_left g least.is_one
 
     pub accepted : (list_any is_call (nodes whole) ≡ true → ¬ CanEnd whole whole → ⊥) → IsAnalysable p options
@@ -231,7 +233,8 @@ module _ (p : ParsedTree) (options : AnalysisOptions) where
   unfolding numbered
   read_in_range counted taken g read past =
       let some = some_there (λ x. is_named (read_by x) g) (nodes p.tree) (sym (read-nodes p.tree g) ∙ read) in
-      let out : (nat_lt g first || nat_lt last g) ≡ true = or_right (nat_lt g first) (nat_lt last g) (lt-ltb last g (past_last g options.explicit_capture_group_0 refl past)) in
+      let out : (nat_lt g first || nat_lt last g) ≡ true =
+      or_right (nat_lt g first) (nat_lt last g) (lt-ltb last g (past_last g options.explicit_capture_group_0 refl past)) in
       true_false (sym (named_refused g out some.0 (names_it g some.0 some.2)) ∙ any_fails_at (is_refused first last) (nodes p.tree) some.0 taken.nodes some.1)
 
   flag : (n g : ℕ) (b : Bool) → (b ≡ true → g < n) → (nat_lt g n && b) ≡ b

@@ -17,7 +17,9 @@ use Rattle.fancy_analysis.proofs.Unfolded.{tree_roll, tree_out, each_here, each_
 abbrev hardened : Info → Bool → Info-F Info
 hardened i hard = record (out-Info i) { hard = hard }
 
-pub root_made : (a : Analysis) (i : Info) (hard : Bool) → info_within i ≡ plain.NoLook → (info_facts i).start_group ≡ first_number a.options → info_tree i ≡ a.tree → IsAnalysed a i → hard ≡ (info_hard i || (a.end_text && (info_size i).least == 0)) → IsRoot a (roll-Info (hardened i hard)) × (info_expr (roll-Info (hardened i hard)) ≡ info_expr i)
+pub root_made : (a : Analysis) (i : Info) (hard : Bool) → info_within i ≡ plain.NoLook → (info_facts i).start_group ≡ first_number a.options →
+    info_tree i ≡ a.tree → IsAnalysed a i → hard ≡ (info_hard i || (a.end_text && (info_size i).least == 0)) →
+    IsRoot a (roll-Info (hardened i hard)) × (info_expr (roll-Info (hardened i hard)) ≡ info_expr i)
 root_made a i hard within start tree analysed is =
     let f = hardened i hard in
     let here = each_here (IsFound a) i analysed in
@@ -27,7 +29,15 @@ root_made a i hard within start tree analysed is =
         within = ap (λ x. within_of x.within) (out-roll-Info f) ∙ within;
         start_group = ap (λ x. x.start_group) (out-roll-Info f) ∙ start;
         node = subst (λ x. IsNode a (facts x) x.children.items) (sym (out-roll-Info f))
-            (record { size = here.node.size; read = here.node.read; arity = here.node.arity; exprs = here.node.exprs; end_group = here.node.end_group; in_turn = here.node.in_turn; options = here.node.options });
+            (record {
+              size = here.node.size;
+              read = here.node.read;
+              arity = here.node.arity;
+              exprs = here.node.exprs;
+              end_group = here.node.end_group;
+              in_turn = here.node.in_turn;
+              options = here.node.options;
+            });
         hard = ap (λ x. x.hard) (out-roll-Info f)
             ∙ is
             ∙ ap (λ h. h || (a.end_text && (info_size i).least == 0)) (here.hard ∙ ap (is_hard a) at)

@@ -1,6 +1,6 @@
 -- One round after the other.
-use Rattle.std.proofs.Common.{◌≡◌, ◌≢◌, ℕ, zero, suc, ◌+◌, ◌-◌, ◌≤◌, Bool, true, false, ◌==◌, if◌then◌else◌, List, [], ◌∷◌, ◌++◌, length, map, Some, refl, sym, ap, ◌∙◌, arith}
-use Rattle.std.proofs.lemmas.Bool.{eq-eqb, eqb-true}
+use Rattle.std.proofs.Common.{◌≡◌, ◌≢◌, ℕ, zero, suc, ◌+◌, ◌-◌, ◌≤◌, if◌then◌else◌, List, [], ◌∷◌, ◌++◌, length, map, Some, refl, sym, ap, ◌∙◌, arith}
+use Rattle.std.proofs.lemmas.Bool.{eq-eqb, ne_eqb}
 use Rattle.fancy_meaning.specs.Tree.{Tree, Within}
 use Rattle.fancy_meaning.specs.Nodes.{groups, group_count, body_in, target}
 use Rattle.fancy_meaning.specs.Numbering.{numbered_within}
@@ -14,7 +14,8 @@ use Rattle.fancy_analysis.proofs.GroupNumbers.{numbers}
 -- what is the same from this number on
 range_same : {X : Type 0} (f g : ℕ → X) (n k : ℕ) → ((i : ℕ) → k ≤ i → f i ≡ g i) → map f (range_from k n) ≡ map g (range_from k n)
 range_same f g zero k h = refl
-range_same f g (suc n) k h = ap (λ x. x ∷ map f (range_from (suc k) n)) (h k (omega arith)) ∙ ap (λ l. g k ∷ l) (range_same f g n (suc k) (λ i le. h i (omega arith)))
+range_same f g (suc n) k h =
+    ap (λ x. x ∷ map f (range_from (suc k) n)) (h k (omega arith)) ∙ ap (λ l. g k ∷ l) (range_same f g n (suc k) (λ i le. h i (omega arith)))
 
 pub range_more : {X : Type 0} (f : ℕ → X) (k n : ℕ) → map f (range_from k (n + 1)) ≡ map f (range_from k n) ++ f (k + n) ∷ []
 range_more f k zero =
@@ -27,13 +28,6 @@ range_more f k (suc n) =
 
 -- ---- groups by their numbers
 
-test_no : (a b : ℕ) → a ≢ b → (a == b) ≡ false
-test_no a b h = by_test (a == b) refl
-  where
-    by_test : (t : Bool) → (a == b) ≡ t → t ≡ false
-    by_test true is = absurd (h (eqb-true a b is))
-    by_test false is = refl
-
 module _ (known : Known) where
   abbrev in_round : List (ℕ × Tree) → ℕ → Size
   in_round gs g = size_in_round known (body_in gs g)
@@ -42,10 +36,11 @@ module _ (known : Known) where
   first_group j b gs g is = ap (λ t. size_in_round known (if t then Some b else body_in gs g)) (eq-eqb j g is)
 
   later_group : (j : ℕ) (b : Tree) (gs : List (ℕ × Tree)) (g : ℕ) → j ≢ g → in_round ((j, b) ∷ gs) g ≡ in_round gs g
-  later_group j b gs g h = ap (λ t. size_in_round known (if t then Some b else body_in gs g)) (test_no j g h)
+  later_group j b gs g h = ap (λ t. size_in_round known (if t then Some b else body_in gs g)) (ne_eqb j g h)
 
   -- with the numbers in order, from k on, each group is found by its number
-  by_number : (k : ℕ) (gs : List (ℕ × Tree)) → map (λ h. h.0) gs ≡ range_from k (length gs) → map (in_round gs) (range_from k (length gs)) ≡ map (λ h. size_by known h.1) gs
+  by_number : (k : ℕ) (gs : List (ℕ × Tree)) → map (λ h. h.0) gs ≡ range_from k (length gs) →
+      map (in_round gs) (range_from k (length gs)) ≡ map (λ h. size_by known h.1) gs
   by_number k [] at = refl
   by_number k (h ∷ gs) at =
       let here : h.0 ≡ k = cc at in
@@ -76,7 +71,8 @@ module _ (known : Known) where
       let whole = numbered_within w 1 e in
       ap (λ l. size_by known whole ∷ l) (sym (by_number 1 (groups whole) (numbers w 1 e)) ∙ sym (targets whole (length (groups whole))))
 
-  from_0_list : (whole : Tree) (gs : List (ℕ × Tree)) → map (λ h. h.0) gs ≡ range_from 0 (length gs) → past_first (map (λ h. size_by known h.1) gs) ≡ map (in_round gs) (range_from 1 (length gs))
+  from_0_list : (whole : Tree) (gs : List (ℕ × Tree)) → map (λ h. h.0) gs ≡ range_from 0 (length gs) →
+      past_first (map (λ h. size_by known h.1) gs) ≡ map (in_round gs) (range_from 1 (length gs))
   from_0_list whole [] at = refl
   from_0_list whole (h ∷ gs) at =
       let here : h.0 ≡ 0 = cc at in
@@ -102,7 +98,8 @@ steady whole i (suc m) h =
     let next : suc m + i ≡ suc (m + i) = omega arith in
     ap (after_rounds whole) next ∙ ap (next_round whole) (steady whole i m h) ∙ h
 
-pub settled : (whole : Tree) (i : ℕ) → i ≤ group_count whole → next_round whole (after_rounds whole i) ≡ after_rounds whole i → after_rounds whole i ≡ known_of whole
+pub settled : (whole : Tree) (i : ℕ) → i ≤ group_count whole → next_round whole (after_rounds whole i) ≡ after_rounds whole i →
+    after_rounds whole i ≡ known_of whole
 unfolding known_of
 settled whole i le h =
     let total : group_count whole - i + i ≡ group_count whole = omega arith in

@@ -20,12 +20,14 @@ all_through v k (x ∷ l) = ap (λ t. k (v x) × t) (all_through v k l)
 pub tree_roll : (i : Info-F Info) → info_tree (roll-Info i) ≡ node_over i.expr.now i.start_group (within_of i.within) (trees (map info_tree i.children.items))
 tree_roll i = fold-roll-Info Tree tree_step i
 
-pub tree_out : (i : Info) → info_tree i ≡ node_over (out-Info i).expr.now (out-Info i).start_group (within_of (out-Info i).within) (trees (map info_tree (info_children i)))
+pub tree_out : (i : Info) →
+    info_tree i ≡ node_over (out-Info i).expr.now (out-Info i).start_group (within_of (out-Info i).within) (trees (map info_tree (info_children i)))
 tree_out i = fold_out-Info Tree tree_step i
 
 module _ (P : Facts → List Info → Type 0) where
   -- what is said of a layer's children does not hang on how they are held
-  step_through : {X : Type 0} (v : X → Info) (k : Info → Type 0) (x : Info-F X) → each_step P X v (λ p. k (v p)) x ≡ each_step P Info (λ y. y) k (map-Info X Info v x)
+  step_through : {X : Type 0} (v : X → Info) (k : Info → Type 0) (x : Info-F X) →
+      each_step P X v (λ p. k (v p)) x ≡ each_step P Info (λ y. y) k (map-Info X Info v x)
   step_through v k x =
       ap (λ l. P (facts x) l × Each (λ p. k (v p)) x.children.items) (sym (map_same (map v x.children.items)))
       ∙ ap (λ t. P (facts x) (map (λ y. y) (map v x.children.items)) × t) (all_through v k x.children.items)

@@ -1,12 +1,12 @@
 -- Children that are visited one by one.
-use Rattle.std.proofs.Common.{◌≡◌, ℕ, suc, ◌+◌, ◌<◌, ◌≤◌, ◌^◌, List, [], ◌∷◌, ◌++◌, length, map, take, get_or, refl, sym, ap, ◌∙◌, subst, arith}
+use Rattle.std.proofs.Common.{◌≡◌, ℕ, suc, ◌+◌, ◌<◌, ◌≤◌, List, [], ◌∷◌, ◌++◌, length, map, take, get_or, refl, sym, ap, ◌∙◌, subst, arith}
 use Rattle.std.proofs.lemmas.List.{map-append, take_all, length-map}
 use Rattle.fancy_meaning.specs.Tree as plain
-use Rattle.fancy_meaning.specs.Tree.{Tree, Trees, none, more, trees, parts}
+use Rattle.fancy_meaning.specs.Tree.{Tree, more, trees, parts}
 use Rattle.fancy_meaning.specs.Nodes.{group_count}
 use Rattle.fancy_meaning.specs.Numbering.{numbered_within, each_numbered}
 use Rattle.fancy_meaning.specs.Options.{Analysis}
-use Rattle.fancy_analysis.specs.declared.make.Task.{Task}
+use Rattle.fancy_analysis.specs.declared.make.VisitTables.{VisitTables}
 use Rattle.fancy_analysis.specs.declared.info.Info.{Info}
 use Rattle.fancy_analysis.specs.declared.info.Info.TheViews.{out-Info}
 use Rattle.fancy_expr.specs.declared.expr.Absent.{Absent}
@@ -18,9 +18,9 @@ use Rattle.fancy_expr.specs.Exprs.{below, exprs, exprs_of_each}
 use Rattle.fancy_analysis.specs.Infos.{absent_over, node_over, info_tree, info_expr, info_within, AreInTurn, IsAnalysed}
 use Rattle.fancy_expr.specs.Each.{Each}
 use Rattle.fancy_expr.specs.Walk.{start_inside, within_inside}
-use Rattle.fancy_analysis.specs.Made.{task_known, IsSized, IsMade, Suits}
+use Rattle.fancy_analysis.specs.Made.{tables_known, IsSized, IsMadeNode, Suits}
 use Rattle.fancy_analysis.specs.Visited.{IsVisited}
-use Rattle.fancy_expr.proofs.Groups.{group_total, own_group, total-append, count-total, total-taken, total-all, total-most, count-below}
+use Rattle.fancy_expr.proofs.Groups.{group_total, total-append, count-total, total-taken, total-all}
 use Rattle.fancy_expr.proofs.Walks.{taken}
 use Rattle.fancy_expr.proofs.Exprs.{parts-below}
 use Rattle.fancy_expr.proofs.Starts.{start-own}
@@ -35,13 +35,13 @@ abbrev pub end_of : ℕ → List Info → ℕ
 end_of n [] = n
 end_of n (i ∷ is) = end_of (out-Info i).end_group is
 
-pub record AreVisited (t : Task) (es : List Expr) (start : ℕ) (w : plain.Within) (next : ℕ) (infos : List Info) : Type 0 where
+pub record AreVisited (t : VisitTables) (es : List Expr) (start : ℕ) (w : plain.Within) (next : ℕ) (infos : List Info) : Type 0 where
   pub counted : next ≡ start + group_total (exprs_of_each es)
   pub exprs : map info_expr infos ≡ es
   pub trees : map info_tree infos ≡ each_from w start es
   pub in_turn : AreInTurn w start infos
   pub ends : end_of start infos ≡ next
-  pub sizes : Each (IsSized (task_known t)) infos
+  pub sizes : Each (IsSized (tables_known t)) infos
   pub found : (a : Analysis) → Suits a t → Each (IsAnalysed a) infos
 
 -- ---- one more
@@ -50,7 +50,8 @@ each-more : {X : Type 0} (P : X → Type 0) (xs : List X) (x : X) → Each P xs 
 each-more P [] x h p = (p, tt)
 each-more P (y ∷ xs) x h p = (h.0, each-more P xs x h.1 p)
 
-turn-more : (w : plain.Within) (n : ℕ) (is : List Info) (i : Info) → AreInTurn w n is → info_within i ≡ w → (out-Info i).start_group ≡ end_of n is → AreInTurn w n (is ++ i ∷ [])
+turn-more : (w : plain.Within) (n : ℕ) (is : List Info) (i : Info) → AreInTurn w n is → info_within i ≡ w → (out-Info i).start_group ≡ end_of n is →
+    AreInTurn w n (is ++ i ∷ [])
 turn-more w n [] i h at starts = (at, starts, tt)
 turn-more w n (j ∷ is) i h at starts = (h.0, h.1, turn-more w (out-Info j).end_group is i h.2 at starts)
 
@@ -58,17 +59,19 @@ end-more : (n : ℕ) (is : List Info) (i : Info) → end_of n (is ++ i ∷ []) �
 end-more n [] i = refl
 end-more n (j ∷ is) i = end-more (out-Info j).end_group is i
 
-from-more : (w : plain.Within) (n m : ℕ) (es : List Expr) (e : Expr) → m ≡ n + group_total (exprs_of_each es) → each_from w n (es ++ e ∷ []) ≡ each_from w n es ++ numbered_within w m (tree_of e) ∷ []
+from-more : (w : plain.Within) (n m : ℕ) (es : List Expr) (e : Expr) → m ≡ n + group_total (exprs_of_each es) →
+    each_from w n (es ++ e ∷ []) ≡ each_from w n es ++ numbered_within w m (tree_of e) ∷ []
 from-more w n m [] e at = ap (λ k. numbered_within w k (tree_of e) ∷ []) (omega arith)
 from-more w n m (x ∷ es) e at =
     let rest : m ≡ n + group_count (tree_of x) + group_total (exprs_of_each es) = omega (arith, at, total-append (exprs x) (exprs_of_each es), count-total x) in
     ap (λ l. numbered_within w n (tree_of x) ∷ l) (from-more w (n + group_count (tree_of x)) m es e rest)
 
-pub visited_none : (t : Task) (w : plain.Within) (n : ℕ) → AreVisited t [] n w n []
+pub visited_none : (t : VisitTables) (w : plain.Within) (n : ℕ) → AreVisited t [] n w n []
 visited_none t w n = record { counted = omega arith; exprs = refl; trees = refl; in_turn = tt; ends = refl; sizes = tt; found = λ a suits. tt }
 
-module _ (t : Task) (es : List Expr) (i : ℕ) (e : Expr) (start : ℕ) (w : plain.Within) (next : ℕ) (infos after : List Info) (info : Info) where
-  pub visited_more : i < length es → e ≡ get_or es i e → AreVisited t (take i es) start w next infos → IsVisited t e next w info → after ≡ infos ++ info ∷ [] → AreVisited t (take (i + 1) es) start w (out-Info info).end_group after
+module _ (t : VisitTables) (es : List Expr) (i : ℕ) (e : Expr) (start : ℕ) (w : plain.Within) (next : ℕ) (infos after : List Info) (info : Info) where
+  pub visited_more : i < length es → e ≡ get_or es i e → AreVisited t (take i es) start w next infos → IsVisited t e next w info → after ≡ infos ++ info ∷ [] →
+      AreVisited t (take (i + 1) es) start w (out-Info info).end_group after
   visited_more h at before here pushed =
       subst (λ l. AreVisited t (take (i + 1) es) start w (out-Info info).end_group l) (sym pushed) (record {
         counted = omega (arith, here.end_group, before.counted, total-taken es i e h at);
@@ -83,7 +86,7 @@ module _ (t : Task) (es : List Expr) (i : ℕ) (e : Expr) (start : ℕ) (w : pla
             ∙ ap (each_from w start) (sym (taken es i e h at));
         in_turn = turn-more w start infos info before.in_turn here.within (here.start_group ∙ sym before.ends);
         ends = end-more start infos info;
-        sizes = each-more (IsSized (task_known t)) infos info before.sizes here.size;
+        sizes = each-more (IsSized (tables_known t)) infos info before.sizes here.size;
         found = λ a suits. each-more (IsAnalysed a) infos info (before.found a suits) (here.found a suits);
       })
 
@@ -103,12 +106,14 @@ absent-rebuilt (code_absent.Expression' b a c e) n w = refl
 absent-rebuilt (code_absent.Stopper' b e) n w = refl
 absent-rebuilt code_absent.Clear n w = refl
 
-rebuilt : (e : Expr) (n : ℕ) (w : plain.Within) → node_over e n w (each_numbered (within_inside e w) (start_inside e n) (parts (tree_of e))) ≡ numbered_within w n (tree_of e)
+rebuilt : (e : Expr) (n : ℕ) (w : plain.Within) →
+    node_over e n w (each_numbered (within_inside e w) (start_inside e n) (parts (tree_of e))) ≡ numbered_within w n (tree_of e)
 rebuilt (code.Assertion x) n w = refl
 rebuilt (code.Absent a) n w = absent-rebuilt a n w
 rebuilt e n w = refl
 
-pub visited_node : (t : Task) (e : Expr) (i start : ℕ) (w : plain.Within) (next : ℕ) (infos : List Info) (info : Info) → length (below e) ≤ i → AreVisited t (take i (below e)) (start_inside e start) (within_inside e w) next infos → IsMade t e start next w infos info → IsVisited t e start w info
+pub visited_node : (t : VisitTables) (e : Expr) (i start : ℕ) (w : plain.Within) (next : ℕ) (infos : List Info) (info : Info) → length (below e) ≤ i →
+    AreVisited t (take i (below e)) (start_inside e start) (within_inside e w) next infos → IsMadeNode t e start next w infos info → IsVisited t e start w info
 visited_node t e i start w next infos info h before made =
     let inner = within_inside e w in
     let first = start_inside e start in

@@ -4,7 +4,7 @@ use Rattle.fancy_meaning.specs.Nodes.{group_count}
 use Rattle.fancy_meaning.specs.Numbering.{numbered, numbered_within}
 use Rattle.fancy_meaning.specs.Options.{AnalysisOptions, analysis_of}
 use Rattle.fancy_meaning.specs.Tree.{NoLook}
-use Rattle.fancy_analysis.specs.declared.make.Task.{Task}
+use Rattle.fancy_analysis.specs.declared.make.VisitTables.{VisitTables}
 use Rattle.fancy_analysis.specs.declared.info.Info.{Info}
 use Rattle.fancy_expr.specs.declared.expr.Expr.{Expr}
 use Rattle.fancy_expr.specs.Views.{tree_of}
@@ -18,11 +18,12 @@ low : (b : Bool) → (if b then 0 else 1) ≤ 1
 low true = omega arith
 low false = omega arith
 
-pub whole_visited : (options : AnalysisOptions) (task : Task) (e : Expr) (first : ℕ) (info : Info) → first ≡ first_number options →
-    IsVisited task e first NoLook info → Suits (analysis_of (tree_of e) options) task → IsWhole (analysis_of (tree_of e) options) info
+pub whole_visited : (options : AnalysisOptions) (tables : VisitTables) (e : Expr) (first : ℕ) (info : Info) → first ≡ first_number options →
+    IsVisited tables e first NoLook info → Suits (analysis_of (tree_of e) options) tables → IsWhole (analysis_of (tree_of e) options) info
 unfolding numbered
-whole_visited options task e first info is visited suits =
-    let count : group_count (numbered_within NoLook (first_number options) (tree_of e)) ≡ group_count (tree_of e) = count-numbered NoLook (first_number options) (tree_of e) in
+whole_visited options tables e first info is visited suits =
+    let count : group_count (numbered_within NoLook (first_number options) (tree_of e)) ≡ group_count (tree_of e) =
+    count-numbered NoLook (first_number options) (tree_of e) in
     record {
       tree = visited.tree ∙ ap (λ n. numbered_within NoLook n (tree_of e)) is;
       analysed = visited.found (analysis_of (tree_of e) options) suits;

@@ -8,7 +8,8 @@ use Rattle.fancy_expr.specs.declared.expr.ExprTree.{ExprTree}
 use Rattle.fancy_expr.specs.Views.{parsed_of, tree_of}
 use Rattle.fancy_analysis.specs.declared.info.Info.{Info}
 use Rattle.fancy_analysis.specs.Infos.{info_expr, IsRoot}
-use Rattle.fancy_analysis.specs.Refusals.{error_of, IsAnalysable}
+use Rattle.fancy_analysis.specs.Refusals.{IsAnalysable}
+use Rattle.fancy_expr.specs.Errors.{error_of}
 
 -- no case of a refusal holds, and each node is one of the tree's, as the definitions say
 pub record IsAnalysisOf (tree : ExprTree) (options : AnalysisOptions) (info : Info) : Type 0 where

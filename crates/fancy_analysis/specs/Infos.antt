@@ -23,8 +23,8 @@ use Rattle.fancy_expr.specs.Walk.{start_inside, within_inside, within_of}
 use Rattle.fancy_analysis.specs.Refusals.{first_number}
 use Rattle.fancy_analysis.specs.Sized.{size_of}
 
-abbrev pub options_of : AnalyzeContext → AnalysisOptions
-options_of c = record {
+abbrev pub analysis_options_of : AnalyzeContext → AnalysisOptions
+analysis_options_of c = record {
   explicit_capture_group_0 = c.explicit_capture_group_0;
   find_not_empty = c.find_not_empty;
   end_text = c.disallow_empty_match_at_eof_after_newline;
@@ -114,7 +114,7 @@ facts i = record {
   hard = i.hard;
   is_read = i.is_read;
   within = within_of i.within;
-  options = options_of i.context;
+  options = analysis_options_of i.context;
 }
 
 abbrev pub info_facts : Info → Facts

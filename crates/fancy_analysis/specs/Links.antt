@@ -18,7 +18,8 @@ pub record IsAt (code : Around) (a : plain_spots.Around) : Type 0 where
 
 abbrev pub link_from : Tree → plain_spots.Around → Option Link
 link_from (plain.SubroutineCall g) a =
-    if not (a.owner == 0) || not a.is_skipped then Some (record { from = a.owner; to = g; at_once = a.position == 0 }) else None
+    if not (a.owner == 0) || not a.is_skipped then Some
+    (record { from = a.owner; to = g; at_once = a.position == 0 }) else None
 link_from (plain.Group g e) a =
     if a.owner == 0 && not a.is_skipped then Some (record { from = 0; to = g; at_once = false }) else None
 link_from e a = None
@@ -41,7 +42,8 @@ links_of whole = filter_map link_of (all_spots whole)
 abbrev pub around_inside : Expr → ℕ → plain_spots.Around → plain_spots.Around
 around_inside (code.Group' b e) n a = record a { owner = n; position = 0 }
 around_inside (code.DefineGroup' b e) n a = record a { position = 0 }
-around_inside (code.Repeat' b e lo hi greedy) n a = record a { is_skipped = a.is_skipped || plain_spots.is_never (bound_of hi) }
+around_inside (code.Repeat' b e lo hi greedy) n a =
+    record a { is_skipped = a.is_skipped || plain_spots.is_never (bound_of hi) }
 around_inside e n a = a
 
 -- the child after this one stands behind it

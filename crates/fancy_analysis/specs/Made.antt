@@ -7,7 +7,7 @@ use Rattle.fancy_meaning.specs.Options.{Analysis, AnalysisOptions}
 use Rattle.fancy_meaning.specs.Sizes.{Size, Known, exactly, between, plus, either, times, sum_of, any_of, size_by, size_of_group, size_of_target, known_of, unknown}
 use Rattle.fancy_meaning.specs.Numbers.{usize_max}
 use Rattle.fancy_meaning.specs.Hard.{is_hard_assertion}
-use Rattle.fancy_analysis.specs.declared.make.Task.{Task}
+use Rattle.fancy_analysis.specs.declared.make.VisitTables.{VisitTables}
 use Rattle.fancy_analysis.specs.declared.info.Info.{Info}
 use Rattle.fancy_analysis.specs.declared.info.Info.TheViews.{out-Info}
 use Rattle.fancy_expr.specs.declared.expr.Absent.{Absent}
@@ -17,7 +17,7 @@ use Rattle.fancy_expr.specs.declared.expr.Expr.TheVariants as code
 use Rattle.fancy_expr.specs.Views.{assertion_of, bound_of}
 use Rattle.fancy_expr.specs.Exprs.{below}
 use Rattle.fancy_analysis.specs.Sized.{size_of}
-use Rattle.fancy_analysis.specs.Infos.{options_of, node_over, info_tree, info_expr, info_within, EachNode, Facts, tree_over, AreInTurn, IsAnalysed}
+use Rattle.fancy_analysis.specs.Infos.{analysis_options_of, node_over, info_tree, info_expr, info_within, EachNode, Facts, tree_over, AreInTurn, IsAnalysed}
 use Rattle.fancy_expr.specs.Each.{Each}
 use Rattle.fancy_expr.specs.Walk.{start_inside, within_inside}
 
@@ -44,7 +44,8 @@ size_over known (code.Alt' shape es) sizes = any_of sizes
 size_over known (code.Repeat' b e lo hi greedy) sizes = times lo (bound_of hi) (nth_size sizes 0)
 size_over known (code.Group' b e) sizes = nth_size sizes 0
 size_over known (code.AtomicGroup' b e) sizes = nth_size sizes 0
-size_over known (code.Conditional' b c d t x f) sizes = either (plus (nth_size sizes 0) (nth_size sizes 1)) (nth_size sizes 2)
+size_over known (code.Conditional' b c d t x f) sizes =
+    either (plus (nth_size sizes 0) (nth_size sizes 1)) (nth_size sizes 2)
 size_over known (code.Absent a) sizes = absent_size a sizes
 size_over known (code.Backref g casei) sizes = size_of_group known g
 size_over known (code.BackrefWithRelativeRecursionLevel g level casei) sizes = size_of_group known g
@@ -69,7 +70,8 @@ hard_over options (code.Any newline crlf) w s read hards = false
 hard_over options (code.Literal val casei) w s read hards = false
 hard_over options (code.Delegate inner casei) w s read hards = false
 hard_over options (code.DefineGroup' b e) w s read hards = false
-hard_over options (code.Assertion x) w s read hards = is_hard_assertion (record { tree = plain.Empty; options = options }) w (assertion_of x)
+hard_over options (code.Assertion x) w s read hards =
+    is_hard_assertion (record { tree = plain.Empty; options = options }) w (assertion_of x)
 hard_over options (code.Concat' shape es) w s read hards = some_true hards || is_varying_empty options s
 hard_over options (code.Alt' shape es) w s read hards = some_true hards || is_varying_empty options s
 hard_over options (code.Group' b e) w s read hards = read || first_true hards || is_varying_empty options s
@@ -98,8 +100,8 @@ past_first (s ∷ ss) = ss ++ unknown ∷ []
 abbrev pub from_0 : Known → Tree → List Size
 from_0 known t = size_by known t ∷ past_first (map (λ g. size_by known g.1) (groups t))
 
-abbrev pub task_known : Task → Known
-task_known t = map size_of t.known.now
+abbrev pub tables_known : VisitTables → Known
+tables_known t = map size_of t.known.now
 
 -- the size of a node over its children is right
 pub record IsSizedNode (known : Known) (f : Facts) (children : List Info) : Type 0 where
@@ -111,19 +113,22 @@ abbrev pub IsSized : Known → Info → Type 0
 IsSized known = EachNode (IsSizedNode known)
 
 -- what the walk goes by is that of the analysis
-pub record Suits (a : Analysis) (t : Task) : Type 0 where
-  pub options : options_of t.context ≡ a.options
+pub record Suits (a : Analysis) (t : VisitTables) : Type 0 where
+  pub options : analysis_options_of t.context ≡ a.options
   pub reads : (g : ℕ) → slice_index_or t.reads.now g false ≡ is_read a.tree g
-  pub known : task_known t ≡ known_of a.tree
+  pub known : tables_known t ≡ known_of a.tree
 
 -- a node that was made over its children
-pub record IsMade (t : Task) (e : Expr) (start end : ℕ) (w : plain.Within) (children : List Info) (info : Info) : Type 0 where
+pub record IsMadeNode (t : VisitTables) (e : Expr) (start end : ℕ) (w : plain.Within) (children : List Info)
+    (info : Info) : Type 0 where
   pub expr : info_expr info ≡ e
   pub tree : info_tree info ≡ node_over e start w (trees (map info_tree children))
   pub start_group : (out-Info info).start_group ≡ start
   pub end_group : (out-Info info).end_group ≡ end
   pub within : info_within info ≡ w
-  pub size : length children ≡ length (below e) → Each (IsSized (task_known t)) children → IsSized (task_known t) info
+  pub size : length children ≡ length (below e) → Each (IsSized (tables_known t)) children →
+      IsSized (tables_known t) info
   pub found : (a : Analysis) → Suits a t → length children ≡ length (below e) → map info_expr children ≡ below e →
-      Each (IsSized (task_known t)) children → Each (IsAnalysed a) children → AreInTurn (within_inside e w) (start_inside e start) children →
+      Each (IsSized (tables_known t)) children → Each (IsAnalysed a) children →
+      AreInTurn (within_inside e w) (start_inside e start) children →
       end ≡ start + group_count (info_tree info) → IsAnalysed a info

@@ -1,5 +1,5 @@
 -- When a tree is refused by the code.
-use Rattle.std.specs.Prelude.{◌≡◌, ℕ, ◌+◌, ◌-◌, Bool, false, [], IsTrue, ◌&&◌, not, if◌then◌else◌, string_bytes, ◌==◌, length}
+use Rattle.std.specs.Prelude.{◌≡◌, ℕ, ◌+◌, ◌-◌, Bool, false, [], IsTrue, ◌&&◌, not, if◌then◌else◌, ◌==◌, length}
 use Rattle.std.specs.List.{list_any}
 use Rattle.fancy_meaning.specs.Tree as plain
 use Rattle.fancy_meaning.specs.Tree.{Tree}
@@ -9,22 +9,7 @@ use Rattle.fancy_expr.specs.Questions.{is_refused}
 use Rattle.fancy_meaning.specs.AnalysisRefusals as plain_errors
 use Rattle.fancy_meaning.specs.AnalysisRefusals.{AnalysisRefuses}
 use Rattle.fancy_analysis.specs.declared.context.AnalyzeContext.{AnalyzeContext}
-use Rattle.fancy_expr.specs.declared.error.CompileError.{CompileError}
-use Rattle.fancy_expr.specs.declared.error.CompileError.TheVariants as code_error
 use Rattle.fancy_expr.specs.declared.expr.ExprTree.{ExprTree}
-
-abbrev pub error_of : CompileError → plain_errors.CompileError
-error_of code_error.NamedBackrefOnly = plain_errors.NamedBackrefOnly
-error_of code_error.FeatureNotYetSupported = plain_errors.FeatureNotYetSupported
-error_of code_error.SubroutineCallTargetNotFound = plain_errors.SubroutineCallTargetNotFound
-error_of code_error.UnresolvedAstNode = plain_errors.UnresolvedAstNode
-error_of (code_error.InvalidBackref g) = plain_errors.InvalidBackref g
-error_of (code_error.LeftRecursiveSubroutineCall text) = plain_errors.LeftRecursiveSubroutineCall (string_bytes text)
-error_of code_error.NeverEndingRecursion = plain_errors.NeverEndingRecursion
-error_of code_error.VariableLookBehindRequiresFeature = plain_errors.VariableLookBehindRequiresFeature
-error_of (code_error.InnerError text) = plain_errors.InnerError (string_bytes text)
-error_of (code_error.ClassTooBig text) = plain_errors.ClassTooBig (string_bytes text)
-error_of code_error.PatternTooComplex = plain_errors.PatternTooComplex
 
 -- the error of a node that is refused
 abbrev pub refusal_of : Tree → plain_errors.CompileError
@@ -50,7 +35,8 @@ abbrev pub last_of : ExprTree → AnalyzeContext → ℕ
 last_of t c = first_of c + t.total_groups - 1
 
 abbrev pub has_named_and_numbered : ExprTree → Bool
-has_named_and_numbered t = t.numbered_groups_ignored && t.numeric_capture_group_references && not (length t.named_groups.entries == 0)
+has_named_and_numbered t =
+    t.numbered_groups_ignored && t.numeric_capture_group_references && not (length t.named_groups.entries == 0)
 
 -- no case of a refusal holds
 abbrev pub IsAnalysable : ParsedTree → AnalysisOptions → Type 0

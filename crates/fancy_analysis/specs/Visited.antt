@@ -4,19 +4,19 @@ use Rattle.fancy_meaning.specs.Tree as plain
 use Rattle.fancy_meaning.specs.Nodes.{group_count}
 use Rattle.fancy_meaning.specs.Numbering.{numbered_within}
 use Rattle.fancy_meaning.specs.Options.{Analysis}
-use Rattle.fancy_analysis.specs.declared.make.Task.{Task}
+use Rattle.fancy_analysis.specs.declared.make.VisitTables.{VisitTables}
 use Rattle.fancy_analysis.specs.declared.info.Info.{Info}
 use Rattle.fancy_analysis.specs.declared.info.Info.TheViews.{out-Info}
 use Rattle.fancy_expr.specs.declared.expr.Expr.{Expr}
 use Rattle.fancy_expr.specs.Views.{tree_of}
 use Rattle.fancy_analysis.specs.Infos.{info_tree, info_expr, info_within, IsAnalysed}
-use Rattle.fancy_analysis.specs.Made.{task_known, IsSized, Suits}
+use Rattle.fancy_analysis.specs.Made.{tables_known, IsSized, Suits}
 
-pub record IsVisited (t : Task) (e : Expr) (start : ℕ) (w : plain.Within) (info : Info) : Type 0 where
+pub record IsVisited (t : VisitTables) (e : Expr) (start : ℕ) (w : plain.Within) (info : Info) : Type 0 where
   pub expr : info_expr info ≡ e
   pub tree : info_tree info ≡ numbered_within w start (tree_of e)
   pub start_group : (out-Info info).start_group ≡ start
   pub end_group : (out-Info info).end_group ≡ start + group_count (tree_of e)
   pub within : info_within info ≡ w
-  pub size : IsSized (task_known t) info
+  pub size : IsSized (tables_known t) info
   pub found : (a : Analysis) → Suits a t → IsAnalysed a info

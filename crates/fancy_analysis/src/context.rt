@@ -16,7 +16,11 @@ pub struct AnalyzeContext {
 impl Default for AnalyzeContext {
     /// No option is set.
     fn default() -> AnalyzeContext
-        ensures { result ≡ record { explicit_capture_group_0 = false; find_not_empty = false; disallow_empty_match_at_eof_after_newline = false } }
+        ensures { result ≡ record {
+          explicit_capture_group_0 = false;
+          find_not_empty = false;
+          disallow_empty_match_at_eof_after_newline = false;
+        } }
     {
         AnalyzeContext {
             explicit_capture_group_0: false,

@@ -92,7 +92,8 @@ fn set_flag(expr: &Expr, group: usize, ends: bool, flags: &mut [bool])
     ensures length { length flags.new ≡ length flags.old }
     ensures flags { (g : ℕ)
         → slice_index_or flags.new g false
-        ≡ (slice_index_or flags.old g false || (nat_lt g (length flags.old) && is_own_end expr.now group ends g)) }
+        ≡ (slice_index_or flags.old g false ||
+        (nat_lt g (length flags.old) && is_own_end expr.now group ends g)) }
 {
     match expr {
         Expr::Group(_) => {
@@ -107,12 +108,14 @@ fn set_flag(expr: &Expr, group: usize, ends: bool, flags: &mut [bool])
 /// Whether a node ends by the flags, and the flags of its groups that do.
 fn find_ends(flags: &[bool], info: &Info, next: &mut [bool]) -> bool
     ensures length { length next.new ≡ length next.old }
-    ensures ends { (a : Analysis) → IsAnalysed a info.now → result ≡ ends_by flags.now (info_tree info.now) }
+    ensures ends { (a : Analysis) → IsAnalysed a info.now →
+        result ≡ ends_by flags.now (info_tree info.now) }
     ensures next { (a : Analysis)
         → IsAnalysed a info.now
         → (g : ℕ)
         → slice_index_or next.new g false
-        ≡ (slice_index_or next.old g false || (nat_lt g (length next.old) && group_ends flags.now (info_tree info.now) g)) }
+        ≡ (slice_index_or next.old g false ||
+        (nat_lt g (length next.old) && group_ends flags.now (info_tree info.now) g)) }
 {
     let mut parts = PartEnds::none();
     for child in &info.children {
@@ -145,7 +148,8 @@ fn set_ends(root: &Info, flags: &[bool], next: &mut [bool])
         → IsAnalysed a root.now
         → (g : ℕ)
         → slice_index_or next.new g false
-        ≡ (slice_index_or flags.now g false || (nat_lt g (length flags.now) && target_ends flags.now (info_tree root.now) g)) }
+        ≡ (slice_index_or flags.now g false ||
+        (nat_lt g (length flags.now) && target_ends flags.now (info_tree root.now) g)) }
 {
     let ends = find_ends(flags, root, next);
     let whole = flags[0] || ends;
@@ -161,7 +165,8 @@ fn next_flags(alloc: Global, root: &Info, flags: &[bool]) -> Result<Vec<bool>, A
         result
         (λ v. (g : ℕ)
         → slice_index_or v.items g false
-        ≡ (slice_index_or flags.now g false || (nat_lt g (length flags.now) && target_ends flags.now (info_tree root.now) g))) }
+        ≡ (slice_index_or flags.now g false ||
+        (nat_lt g (length flags.now) && target_ends flags.now (info_tree root.now) g))) }
 {
     let mut next = Vec::new(alloc);
     next.extend_from_slice(flags)?;
@@ -171,7 +176,8 @@ fn next_flags(alloc: Global, root: &Info, flags: &[bool]) -> Result<Vec<bool>, A
 
 /// Whether the whole tree can end, given its root.
 pub fn can_end(alloc: Global, root: &Info) -> Result<bool, AllocError>
-    ensures { (a : Analysis) → IsWhole a root.now → IfOk result (λ ends. IsTrue ends ↔ CanEnd a.tree a.tree) }
+    ensures { (a : Analysis) → IsWhole a root.now →
+        IfOk result (λ ends. IsTrue ends ↔ CanEnd a.tree a.tree) }
 {
     let mut flags = no_flags(alloc, root.end_group.max(1))?;
     let mut count: usize = 0;

@@ -9,7 +9,7 @@ use fancy_expr::expr::Expr;
 use fancy_expr::walk::Within;
 
 /// A node with what the analysis found.
-#[derive(Drop)]
+#[derive(Debug, Drop)]
 pub struct Info<'a> {
     pub(crate) expr: &'a Expr,
     pub(crate) children: Vec<Info<'a>>,
@@ -22,7 +22,8 @@ pub struct Info<'a> {
     pub(crate) context: AnalyzeContext,
 }
 
-/// What `analyze` says of a node, by the rules of "docs/MEANING.md". Sizes are numbers of characters. No reader takes memory.
+/// What `analyze` says of a node, by the rules of "docs/MEANING.md". Sizes are numbers of characters. No reader takes
+/// memory.
 impl<'a> Info<'a> {
     /// The least number of characters that the node takes.
     pub fn min_size(&self) -> usize
@@ -59,8 +60,8 @@ impl<'a> Info<'a> {
         self.expr
     }
 
-    /// The node's children, in order: condition, true and false branch of a conditional, what is absent and the expression of an absent
-    /// expression.
+    /// The node's children, in order: condition, true and false branch of a conditional, what is absent and the
+    /// expression of an absent expression.
     pub fn children(&self) -> &[Info<'a>]
         ensures { result.now ≡ info_children self.now }
     {

@@ -41,7 +41,8 @@ fn meet(expr: &Expr, group: usize, own: bool, met: Met) -> Met
 
 /// Whether the children of a node are the group's own.
 fn own_inside(info: &Info, group: usize, own: bool) -> bool
-    ensures { result ≡ own_inside (info_facts info.now).expr (info_facts info.now).start_group group own }
+    ensures { result ≡ own_inside (info_facts info.now).expr
+        (info_facts info.now).start_group group own }
 {
     match info.expr {
         Expr::Group(_) => info.start_group == group,
@@ -81,7 +82,8 @@ fn is_read_late(info: &Info) -> bool
 }
 
 fn has_late_read(info: &Info) -> bool
-    ensures { (a : Analysis) → IsAnalysed a info.now → result ≡ list_any is_read_late (nodes (info_tree info.now)) }
+    ensures { (a : Analysis) → IsAnalysed a info.now →
+        result ≡ list_any is_read_late (nodes (info_tree info.now)) }
 {
     if is_read_late(info) {
         return true;

@@ -48,7 +48,8 @@ impl Around {
 
     /// Around the first child of a node, which is a group with this number if it is one.
     fn inside(self, expr: &Expr, number: usize) -> Around
-        ensures { (a : plain_spots.Around) → IsAt self a → IsAt result (around_inside expr.now number a) }
+        ensures { (a : plain_spots.Around) → IsAt self a →
+            IsAt result (around_inside expr.now number a) }
     {
         match expr {
             Expr::Group(_) => Around {
@@ -70,7 +71,8 @@ impl Around {
 
     /// The link of a call.
     fn call(self, target: usize) -> Option<Link>
-        ensures { (a : plain_spots.Around) → IsAt self a → result ≡ link_from (plain.SubroutineCall target) a }
+        ensures { (a : plain_spots.Around) → IsAt self a →
+            result ≡ link_from (plain.SubroutineCall target) a }
     {
         if self.owner != 0 || !self.is_skipped {
             Some(Link {
@@ -85,7 +87,8 @@ impl Around {
 
     /// The link of a group.
     fn group(self, number: usize) -> Option<Link>
-        ensures { (a : plain_spots.Around) (body : plain.Tree) → IsAt self a → result ≡ link_from (plain.Group number body) a }
+        ensures { (a : plain_spots.Around) (body : plain.Tree) → IsAt self a →
+            result ≡ link_from (plain.Group number body) a }
     {
         if self.owner == 0 && !self.is_skipped {
             Some(Link {
@@ -138,7 +141,8 @@ fn add_links(info: &Info, around: Around, links: &mut Vec<Link>) -> Result<(), A
     ensures { (whole : plain.Tree) (a : plain_spots.Around)
         → IsAt around a
         → IsSized (known_of whole) info.now
-        → IfOk result (λ _. links.new.items ≡ links.old.items ++ links_at whole a (info_tree info.now)) }
+        → IfOk result (λ _. links.new.items
+        ≡ links.old.items ++ links_at whole a (info_tree info.now)) }
 {
     add_link(own_link(info.expr, info.start_group, around), links)?;
     let first = around.inside(info.expr, info.start_group);

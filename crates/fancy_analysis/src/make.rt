@@ -4,10 +4,10 @@ ghost use Rattle.std.specs.Prelude.{◌≡◌, map, slice_index_or, false};
 ghost use Rattle.fancy_meaning.specs.Hard.{is_hard_assertion, is_in_behind, is_outside};
 ghost use Rattle.fancy_meaning.specs.Sizes.{any_of, either, plus, size_of_group, size_of_target, sum_of};
 ghost use Rattle.fancy_meaning.specs.Tree as plain;
-ghost use Rattle.fancy_analysis.specs.Infos.{info_hard, info_size, options_of};
+ghost use Rattle.fancy_analysis.specs.Infos.{info_hard, info_size, analysis_options_of};
 ghost use Rattle.fancy_expr.specs.Walk.{within_of};
 ghost use Rattle.fancy_analysis.specs.Made.{
-  IsMade,
+  IsMadeNode,
   absent_size,
   first_true,
   hard_over,
@@ -16,20 +16,20 @@ ghost use Rattle.fancy_analysis.specs.Made.{
   read_flag,
   size_over,
   some_true,
-  task_known,
+  tables_known,
 };
 ghost use Rattle.fancy_analysis.specs.Sized.{size_of};
 ghost use Rattle.fancy_expr.specs.Views.{assertion_of};
 
 use crate::context::AnalyzeContext;
 use crate::info::Info;
-use fancy_expr::walk::Within;
 use crate::size::Size;
 use fancy_expr::expr::{Absent, Assertion, Expr};
+use fancy_expr::walk::Within;
 
-/// What a walk over the tree goes by.
+/// The tables that a visit of the tree goes by, and its options.
 #[derive(Clone, Copy)]
-pub struct Task<'t> {
+pub struct VisitTables<'t> {
     pub context: AnalyzeContext,
     /// The sizes of the groups by number, that of the whole tree at 0, as far as they are known.
     pub known: &'t [Size],
@@ -115,7 +115,8 @@ fn conditional_size(children: &[Info]) -> Size
 }
 
 fn node_size(expr: &Expr, children: &[Info], known: &[Size]) -> Size
-    ensures { size_of result ≡ size_over (map size_of known.now) expr.now (map info_size children.now) }
+    ensures { size_of result
+        ≡ size_over (map size_of known.now) expr.now (map info_size children.now) }
 {
     match expr {
         Expr::Literal { .. } => Size::exactly(1),
@@ -187,7 +188,8 @@ fn is_in_behind(within: Within) -> bool
 
 fn is_hard_assertion(assertion: Assertion, within: Within, context: AnalyzeContext) -> bool
     ensures { result
-        ≡ is_hard_assertion (record { tree = plain.Empty; options = options_of context }) (within_of within) (assertion_of assertion) }
+        ≡ is_hard_assertion (record { tree = plain.Empty; options = analysis_options_of context })
+        (within_of within) (assertion_of assertion) }
 {
     match assertion {
         Assertion::StartText => false,
@@ -204,7 +206,7 @@ fn is_hard_assertion(assertion: Assertion, within: Within, context: AnalyzeConte
 }
 
 fn is_varying_empty(size: Size, context: AnalyzeContext) -> bool
-    ensures { result ≡ is_varying_empty (options_of context) (size_of size) }
+    ensures { result ≡ is_varying_empty (analysis_options_of context) (size_of size) }
 {
     context.find_not_empty && size.least == 0 && !size.is_const
 }
@@ -218,7 +220,8 @@ fn node_is_hard(
     context: AnalyzeContext,
 ) -> bool
     ensures { result
-        ≡ hard_over (options_of context) expr.now (within_of within) (size_of size) is_read (map info_hard children.now) }
+        ≡ hard_over (analysis_options_of context) expr.now (within_of within)
+        (size_of size) is_read (map info_hard children.now) }
 {
     match expr {
         Expr::Empty => false,
@@ -249,18 +252,19 @@ fn is_read_group(expr: &Expr, number: usize, reads: &[bool]) -> bool
 
 /// A node over its children, where the next group has the second number.
 pub fn make_info<'a>(
-    task: &Task,
+    tables: &VisitTables,
     expr: &'a Expr,
     children: Vec<Info<'a>>,
     start_group: usize,
     end_group: usize,
     within: Within,
 ) -> Info<'a>
-    ensures { IsMade task.now expr.now start_group end_group (within_of within) children.entry.items result }
+    ensures { IsMadeNode tables.now expr.now start_group end_group
+        (within_of within) children.entry.items result }
 {
-    let size = node_size(expr, &children, task.known);
-    let is_read = is_read_group(expr, start_group, task.reads);
-    let hard = node_is_hard(expr, &children, within, size, is_read, task.context);
+    let size = node_size(expr, &children, tables.known);
+    let is_read = is_read_group(expr, start_group, tables.reads);
+    let hard = node_is_hard(expr, &children, within, size, is_read, tables.context);
     Info {
         expr,
         children,
@@ -270,6 +274,6 @@ pub fn make_info<'a>(
         hard,
         is_read,
         within,
-        context: task.context,
+        context: tables.context,
     }
 }

@@ -63,7 +63,8 @@ fn leads_out(flags: &[bool], link: Link) -> bool
 /// Sets the flags of all to which links lead from what is set, and says whether one was set.
 fn reach_on(flags: &mut [bool], links: &[Link]) -> bool
     ensures kept { (n : ℕ) → flag flags.old n ≡ true → flag flags.new n ≡ true }
-    ensures only { ((n : ℕ) → flag flags.old n ≡ true → IsReached links.now n) → (n : ℕ) → flag flags.new n ≡ true → IsReached links.now n }
+    ensures only { ((n : ℕ) → flag flags.old n ≡ true → IsReached links.now n) → (n : ℕ) →
+        flag flags.new n ≡ true → IsReached links.now n }
     ensures grown { IsTrue result → unset_count flags.new < unset_count flags.old }
     ensures done { IsFalse result → All (StaysWithin flags.new) links.now }
 {
@@ -95,7 +96,8 @@ fn leads_to_set(flags: &[bool], link: Link) -> bool
 
 /// Those from which a link at once leads to one that is set.
 fn lead_to_set(alloc: Global, flags: &[bool], links: &[Link]) -> Result<Vec<bool>, AllocError>
-    ensures { IfOk result (λ v. (n : ℕ) → (flag v.items n ≡ true) ↔ LeadsToSet links.now flags.now n) }
+    ensures { IfOk result (λ v. (n : ℕ) →
+        (flag v.items n ≡ true) ↔ LeadsToSet links.now flags.now n) }
 {
     let mut leads = flags_for(alloc, links, false)?;
     for link in links {
@@ -124,9 +126,11 @@ fn clear_others(flags: &mut [bool], kept: &[bool]) -> bool
 
 /// Clears the flags of all from which no link at once leads to one that is set, and says whether one was cleared.
 fn thin_out(alloc: Global, flags: &mut [bool], links: &[Link]) -> Result<bool, AllocError>
-    ensures kept { (n : ℕ) → flag flags.old n ≡ true → LeadsToSet links.now flags.old n → flag flags.new n ≡ true }
+    ensures kept { (n : ℕ) → flag flags.old n ≡ true → LeadsToSet links.now flags.old n →
+        flag flags.new n ≡ true }
     ensures shrunk { IfOk result (λ b. IsTrue b → set_count flags.new < set_count flags.old) }
-    ensures done { IfOk result (λ b. IsFalse b → (n : ℕ) → flag flags.new n ≡ true → LeadsToSet links.now flags.new n) }
+    ensures done { IfOk result (λ b. IsFalse b → (n : ℕ) → flag flags.new n ≡ true →
+        LeadsToSet links.now flags.new n) }
 {
     let leads = lead_to_set(alloc, flags, links)?;
     Ok(clear_others(flags, &leads))
@@ -145,7 +149,8 @@ fn first_in_both(a: &[bool], b: &[bool]) -> Option<usize>
     ensures { MatchOption
         result
         ((n : ℕ) → flag a.now n ≡ true → flag b.now n ≡ true → ⊥)
-        (λ n. (flag a.now n ≡ true) × (flag b.now n ≡ true) × ((m : ℕ) → m < n → flag a.now m ≡ true → flag b.now m ≡ true → ⊥)) }
+        (λ n. (flag a.now n ≡ true) × (flag b.now n ≡ true)
+        × ((m : ℕ) → m < n → flag a.now m ≡ true → flag b.now m ≡ true → ⊥)) }
 {
     for i in 0..a.len() {
         if a[i] && is_set(b, i) {
@@ -159,7 +164,8 @@ fn first_in_both(a: &[bool], b: &[bool]) -> Option<usize>
 pub fn least_into_cycle(alloc: Global, links: &[Link]) -> Result<Option<usize>, AllocError>
     ensures { IfOk
         result
-        (λ r. MatchOption r ((n : ℕ) → IsReached links.now n → ¬ LeadsIntoCycle links.now n) (λ n. IsLeastIntoCycle links.now n)) }
+        (λ r. MatchOption r ((n : ℕ) → IsReached links.now n → ¬ LeadsIntoCycle links.now n)
+        (λ n. IsLeastIntoCycle links.now n)) }
 {
     let reached = reached(alloc, links)?;
     let into_cycles = into_cycles(alloc, links)?;

@@ -24,7 +24,8 @@ fn read_by(expr: &Expr) -> Option<usize>
 fn mark(expr: &Expr, reads: &mut [bool])
     ensures { (g : ℕ)
         → slice_index_or reads.new g false
-        ≡ (slice_index_or reads.old g false || (nat_lt g (length reads.old) && is_named (read_by (tree_of expr.now)) g)) }
+        ≡ (slice_index_or reads.old g false ||
+        (nat_lt g (length reads.old) && is_named (read_by (tree_of expr.now)) g)) }
 {
     if let Some(group) = read_by(expr) {
         if group < reads.len() {
@@ -37,7 +38,8 @@ fn mark(expr: &Expr, reads: &mut [bool])
 fn mark_all(expr: &Expr, reads: &mut [bool])
     ensures { (g : ℕ)
         → slice_index_or reads.new g false
-        ≡ (slice_index_or reads.old g false || (nat_lt g (length reads.old) && is_read (tree_of expr.now) g)) }
+        ≡ (slice_index_or reads.old g false ||
+        (nat_lt g (length reads.old) && is_read (tree_of expr.now) g)) }
 {
     mark(expr, reads);
     for i in 0..part_count(expr) {
@@ -58,7 +60,8 @@ pub fn no_flags(alloc: Global, count: usize) -> Result<Vec<bool>, AllocError>
 
 /// A flag for each of so many numbers, whether the group is read.
 pub fn read_flags(alloc: Global, expr: &Expr, count: usize) -> Result<Vec<bool>, AllocError>
-    ensures { IfOk result (λ v. (g : ℕ) → slice_index_or v.items g false ≡ (nat_lt g count && is_read (tree_of expr.now) g)) }
+    ensures { IfOk result (λ v. (g : ℕ) →
+        slice_index_or v.items g false ≡ (nat_lt g count && is_read (tree_of expr.now) g)) }
 {
     let mut reads = no_flags(alloc, count)?;
     mark_all(expr, &mut reads);

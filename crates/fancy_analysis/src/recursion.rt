@@ -39,7 +39,8 @@ fn least_name(names: &BTreeMap<String, Vec<usize>>, group: usize) -> Option<&Str
 }
 
 fn description_by_number(alloc: Global, group: usize) -> Result<String, AllocError>
-    ensures { IfOk result (λ text. string_bytes text ≡ codes "group " ++ decimal group) }
+    ensures { IfOk result (λ text. string_bytes text
+        ≡ codes "group " ++ decimal group) }
 {
     format!(in alloc; "group {group}")
 }
@@ -56,7 +57,8 @@ fn describe(
     names: &BTreeMap<String, Vec<usize>>,
     group: usize,
 ) -> Result<String, AllocError>
-    ensures { IfOk result (λ text. Describes (names_of names.now.entries) group (string_bytes text)) }
+    ensures { IfOk result
+        (λ text. Describes (names_of names.now.entries) group (string_bytes text)) }
 {
     match least_name(names, group) {
         Some(name) => description_by_name(alloc, name, group),
@@ -64,7 +66,8 @@ fn describe(
     }
 }
 
-/// The description of the least target that is reached and from which calls before which nothing is taken lead into a cycle.
+/// The description of the least target that is reached and from which calls before which nothing is taken lead into a
+/// cycle.
 ///
 /// `root` is the root of an analysed tree. Want of memory is `Error::Memory`.
 pub(crate) fn left_recursion(

@@ -4,9 +4,10 @@ ghost use Rattle.std.specs.Prelude.{◌≡◌, ◌≤◌, ◌+◌, ◌-◌, ℕ,
 ghost use Rattle.fancy_meaning.specs.AnalysisRefusals.{AnalysisRefuses};
 ghost use Rattle.fancy_meaning.specs.Options.{AnalysisOptions, analysis_of};
 ghost use Rattle.fancy_meaning.specs.WellFormed.{most_groups};
-ghost use Rattle.fancy_analysis.specs.Infos.{options_of};
+ghost use Rattle.fancy_analysis.specs.Infos.{analysis_options_of};
 ghost use Rattle.fancy_expr.specs.Questions.{is_refused};
-ghost use Rattle.fancy_analysis.specs.Refusals.{HasNoRefusedNode, IsAnalysable, error_of, first_of, has_named_and_numbered, last_of, refusal_of};
+ghost use Rattle.fancy_analysis.specs.Refusals.{HasNoRefusedNode, IsAnalysable, first_of, has_named_and_numbered, last_of, refusal_of};
+ghost use Rattle.fancy_expr.specs.Errors.{error_of};
 ghost use Rattle.fancy_expr.specs.Sound.{IsWellFormedTree};
 ghost use Rattle.fancy_analysis.specs.Endings.{IsWhole};
 ghost use Rattle.fancy_expr.specs.declared.error.Error.TheVariants.{Memory};
@@ -76,8 +77,9 @@ pub fn refusal(tree: &ExprTree, context: AnalyzeContext) -> Option<CompileError>
     requires { IsWellFormedTree tree.now }
     ensures { MatchOption
         result
-        (HasNoRefusedNode (parsed_of tree.now) (options_of context))
-        (λ error. AnalysisRefuses (parsed_of tree.now) (options_of context) (error_of error)) }
+        (HasNoRefusedNode (parsed_of tree.now) (analysis_options_of context))
+        (λ error. AnalysisRefuses (parsed_of tree.now) (analysis_options_of context)
+        (error_of error)) }
 {
     if has_named_and_numbered(tree) {
         return Some(CompileError::NamedBackrefOnly);
@@ -90,7 +92,8 @@ pub fn refusal(tree: &ExprTree, context: AnalyzeContext) -> Option<CompileError>
     }
 }
 
-/// Why a tree with no refused node is refused for its calls, if it is. That they never end is said where nothing else is wrong.
+/// Why a tree with no refused node is refused for its calls, if it is. That they never end is said where nothing else
+/// is wrong.
 pub fn call_refusal(
     alloc: Global,
     tree: &ExprTree,

@@ -7,22 +7,24 @@ ghost use Rattle.fancy_meaning.specs.Sizes.{Known, known_of, next_round, size_by
 ghost use Rattle.fancy_meaning.specs.Tree as plain;
 ghost use Rattle.fancy_meaning.specs.WellFormed.{most_groups};
 ghost use Rattle.fancy_analysis.specs.Infos.{info_tree};
-ghost use Rattle.fancy_analysis.specs.Made.{IsSized, from_0, from_1, own_size, task_known};
+ghost use Rattle.fancy_analysis.specs.Made.{IsSized, from_0, from_1, own_size, tables_known};
 ghost use Rattle.fancy_expr.specs.Views.{tree_of};
 ghost use Rattle.fancy_analysis.specs.declared.info.Info.TheViews.{out-Info};
 ghost use Rattle.fancy_analysis.specs.Sized.{size_of};
 
 use crate::context::AnalyzeContext;
 use crate::info::Info;
-use fancy_expr::walk::Within;
-use crate::make::Task;
+use crate::make::VisitTables;
 use crate::size::Size;
 use crate::visit::visit;
 use fancy_expr::expr::{Expr, ExprTree};
+use fancy_expr::walk::Within;
 use std::alloc::{AllocError, Global};
 
 fn add_own_size(info: &Info, table: &mut Vec<Size>) -> Result<(), AllocError>
-    ensures { IfOk result (λ _. table.new.items ≡ table.old.items ++ own_size (out-Info info.now).expr.now (out-Info info.now).size) }
+    ensures { IfOk result
+        (λ _. table.new.items
+        ≡ table.old.items ++ own_size (out-Info info.now).expr.now (out-Info info.now).size) }
 {
     match info.expr {
         Expr::Group(_) => table.push(info.size)?,
@@ -37,7 +39,9 @@ fn add_sizes(info: &Info, table: &mut Vec<Size>) -> Result<(), AllocError>
         → IsSized known info.now
         → IfOk
         result
-        (λ _. map size_of table.new.items ≡ map size_of table.old.items ++ map (λ g. size_by known g.1) (groups (info_tree info.now))) }
+        (λ _. map size_of table.new.items
+        ≡ map size_of table.old.items ++ map (λ g. size_by known g.1)
+        (groups (info_tree info.now))) }
 {
     add_own_size(info, table)?;
     for child in &info.children {
@@ -78,7 +82,8 @@ fn unknown_sizes(alloc: Global, count: usize) -> Result<Vec<Size>, AllocError>
 
 /// The sizes by number where the first group has number 1.
 fn sizes_from_1(alloc: Global, info: &Info) -> Result<Vec<Size>, AllocError>
-    ensures { (known : Known) → IsSized known info.now → IfOk result (λ v. map size_of v.items ≡ from_1 known (info_tree info.now)) }
+    ensures { (known : Known) → IsSized known info.now →
+        IfOk result (λ v. map size_of v.items ≡ from_1 known (info_tree info.now)) }
 {
     let mut table = Vec::new(alloc);
     table.push(info.size)?;
@@ -88,7 +93,8 @@ fn sizes_from_1(alloc: Global, info: &Info) -> Result<Vec<Size>, AllocError>
 
 /// The sizes by number where the first group has number 0, which as a target is the whole tree.
 fn sizes_from_0(alloc: Global, info: &Info) -> Result<Vec<Size>, AllocError>
-    ensures { (known : Known) → IsSized known info.now → IfOk result (λ v. map size_of v.items ≡ from_0 known (info_tree info.now)) }
+    ensures { (known : Known) → IsSized known info.now →
+        IfOk result (λ v. map size_of v.items ≡ from_0 known (info_tree info.now)) }
 {
     let mut table = Vec::new(alloc);
     add_sizes(info, &mut table)?;
@@ -99,7 +105,7 @@ fn sizes_from_0(alloc: Global, info: &Info) -> Result<Vec<Size>, AllocError>
 
 fn next_sizes(
     alloc: Global,
-    task: &Task,
+    tables: &VisitTables,
     tree: &ExprTree,
     first: usize,
 ) -> Result<Vec<Size>, AllocError>
@@ -107,9 +113,11 @@ fn next_sizes(
     requires first { first ≤ 1 }
     ensures { IfOk
         result
-        (λ v. map size_of v.items ≡ next_round (numbered_within plain.NoLook first (tree_of tree.now.expr)) (task_known task.now)) }
+        (λ v. map size_of v.items
+        ≡ next_round (numbered_within plain.NoLook first (tree_of tree.now.expr))
+        (tables_known tables.now)) }
 {
-    let info = visit(alloc, task, &tree.expr, first, Within::NoLook)?;
+    let info = visit(alloc, tables, &tree.expr, first, Within::NoLook)?;
     if first == 0 {
         sizes_from_0(alloc, &info)
     } else {
@@ -128,16 +136,18 @@ pub fn known_sizes(
     requires groups { tree.now.total_groups ≡ group_count (tree_of tree.now.expr) }
     requires few { tree.now.total_groups ≤ most_groups }
     requires first { first ≤ 1 }
-    ensures { IfOk result (λ v. map size_of v.items ≡ known_of (numbered_within plain.NoLook first (tree_of tree.now.expr))) }
+    ensures { IfOk result
+        (λ v. map size_of v.items
+        ≡ known_of (numbered_within plain.NoLook first (tree_of tree.now.expr))) }
 {
     let mut known = unknown_sizes(alloc, tree.total_groups + 1)?;
     for round in 0..tree.total_groups {
-        let task = Task {
+        let tables = VisitTables {
             context,
             known: &known,
             reads,
         };
-        let next = next_sizes(alloc, &task, tree, first)?;
+        let next = next_sizes(alloc, &tables, tree, first)?;
         if are_same(&next, &known) {
             return Ok(known);
         }

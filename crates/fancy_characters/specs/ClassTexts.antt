@@ -17,7 +17,8 @@ abbrev pub text_in : Bool → Bool → List ℕ → List ℕ
 text_in unicode casei pattern = slice_range pattern (2 + length (class_opening unicode casei)) (length pattern - 3)
 
 abbrev pub compiled_text : Regex → Bool → Bool → ClassText
-compiled_text regex casei unicode = record { inner = text_in unicode casei (regex_source regex); casei = casei; unicode = unicode }
+compiled_text regex casei unicode =
+    record { inner = text_in unicode casei (regex_source regex); casei = casei; unicode = unicode }
 
 -- the regex was read from the pattern of the class
 pub record IsRegexOf (t : ClassText) (regex : Regex) : Type 0 where

@@ -42,7 +42,8 @@ impl CompiledClass {
         casei: bool,
         unicode: bool,
     ) -> Result<CompiledClass, Error>
-        ensures class { IfOk result (λ c. c ≡ record { inner = name.now; casei = casei; unicode = unicode }) }
+        ensures class { IfOk result
+            (λ c. c ≡ record { inner = name.now; casei = casei; unicode = unicode }) }
         ensures is_class { IfOk result (λ _. IsTrue (meant.is_class unicode name.now casei)) }
         ensures refused { IfErr result (IsClassRefusal unicode name.now casei) }
     {
@@ -74,7 +75,8 @@ impl CompiledClass {
 
     /// Whether the class holds the character.
     pub(crate) fn takes(&self, alloc: Global, c: char) -> Result<bool, AllocError>
-        ensures { IfOk result (λ yes. yes ≡ meant.class_takes self.now.unicode self.now.inner self.now.casei c) }
+        ensures { IfOk result
+            (λ yes. yes ≡ meant.class_takes self.now.unicode self.now.inner self.now.casei c) }
     {
         if c.is_ascii() {
             return Ok(self.ascii[c as usize]);
@@ -115,7 +117,8 @@ fn opening(casei: bool, unicode: bool) -> &'static str
 /// What the regex answers for each ASCII character.
 fn ascii_answers(alloc: Global, regex: &Regex) -> Result<[bool; 128], AllocError>
     ensures { IfOk result (λ answers. (c : ℕ) → c < 128 →
-        slice_index_or answers c false ≡ is_some (find_str (regex_pattern regex.now) (encode_utf8 c) 0)) }
+        slice_index_or answers c false
+        ≡ is_some (find_str (regex_pattern regex.now) (encode_utf8 c) 0)) }
 {
     let mut matcher = regex.matcher(alloc)?;
     let mut answers = [false; 128];

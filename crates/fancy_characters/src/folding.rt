@@ -93,14 +93,16 @@ impl CaseiLiteral {
 
     /// How many bytes its characters take from `ix` on, if they take what stands there.
     pub fn match_len(&self, text: &str, ix: usize) -> Option<usize>
-        ensures taken { option_map (λ n. ix + n) result ≡ past_chars text.now (literal_tests self.now) ix }
+        ensures taken { option_map (λ n. ix + n) result
+            ≡ past_chars text.now (literal_tests self.now) ix }
         ensures within { IfSome result (λ n. ix + n ≤ max ix (length text.now)) }
     {
         self.taken(text.as_bytes(), ix)
     }
 
     fn taken(&self, text: &[u8], ix: usize) -> Option<usize>
-        ensures taken { option_map (λ n. ix + n) result ≡ past_chars text.now (literal_tests self.now) ix }
+        ensures taken { option_map (λ n. ix + n) result
+            ≡ past_chars text.now (literal_tests self.now) ix }
         ensures within { IfSome result (λ n. ix + n ≤ max ix (length text.now)) }
     {
         let mut at = ix;

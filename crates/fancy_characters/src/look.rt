@@ -17,6 +17,17 @@ pub fn holds(assertion: Assertion, unicode: bool, text: &str, ix: usize) -> bool
     holds_in(assertion, unicode, text.as_bytes(), ix)
 }
 
+/// Whether the assertion speaks of the text's end.
+pub fn is_of_end(assertion: Assertion) -> bool
+    ensures { result ≡ meant.is_of_end (assertion_of assertion) }
+{
+    match assertion {
+        Assertion::EndText => true,
+        Assertion::EndTextIgnoreTrailingNewlines { .. } => true,
+        _ => false,
+    }
+}
+
 fn holds_in(assertion: Assertion, unicode: bool, text: &[u8], ix: usize) -> bool
     ensures { result ≡ meant.holds text.now ix unicode (assertion_of assertion) }
 {

@@ -15,7 +15,9 @@ use std::alloc::{AllocError, Global};
 
 /// The characters beyond ASCII that the pattern matches, if it is one set between the ends of the text.
 pub(crate) fn members(alloc: Global, pattern: &str) -> Result<Option<Class>, AllocError>
-    ensures { IfOk result (λ found. IfSome found (λ class. AreMembersIn (pattern_in pattern.now) class.ranges.items)) }
+    ensures { IfOk result
+        (λ found. IfSome found
+        (λ class. AreMembersIn (pattern_in pattern.now) class.ranges.items)) }
 {
     match parse(alloc, pattern, &Config::default()) {
         Ok(parsed) => between_ends(alloc, &parsed.hir),
@@ -28,7 +30,8 @@ pub(crate) fn members(alloc: Global, pattern: &str) -> Result<Option<Class>, All
 
 /// The members of the set that stands between the start and the end of the text.
 fn between_ends(alloc: Global, hir: &Hir) -> Result<Option<Class>, AllocError>
-    ensures { IfOk result (λ found. IfSome found (λ class. AreMembersOf (meaning hir.now) class.ranges.items)) }
+    ensures { IfOk result
+        (λ found. IfSome found (λ class. AreMembersOf (meaning hir.now) class.ranges.items)) }
 {
     let Hir::Concat(parts) = hir else {
         return Ok(None);
@@ -40,7 +43,9 @@ fn between_ends(alloc: Global, hir: &Hir) -> Result<Option<Class>, AllocError>
 }
 
 fn set_members(alloc: Global, set: &Hir) -> Result<Option<Class>, AllocError>
-    ensures { IfOk result (λ found. IfSome found (λ class. AreMembersOf (whole (meaning set.now)) class.ranges.items)) }
+    ensures { IfOk result
+        (λ found. IfSome found
+        (λ class. AreMembersOf (whole (meaning set.now)) class.ranges.items)) }
 {
     match set {
         Hir::Chars(class) => Ok(Some(Class::from_ranges(alloc, &class.ranges)?)),
@@ -53,7 +58,8 @@ fn set_members(alloc: Global, set: &Hir) -> Result<Option<Class>, AllocError>
 
 /// The character that the bytes spell, if they spell one and no more.
 fn spelled_member(alloc: Global, bytes: &[u8]) -> Result<Class, AllocError>
-    ensures { IfOk result (λ class. AreMembersOf (whole (matched.literal bytes.now)) class.ranges.items) }
+    ensures { IfOk result
+        (λ class. AreMembersOf (whole (matched.literal bytes.now)) class.ranges.items) }
 {
     match char_at(bytes, 0) {
         Some(c) if len_utf8(c) == bytes.len() => Class::from_ranges(alloc, &[(c, c)]),

@@ -21,7 +21,8 @@ pub fn len_utf8(c: u32) -> usize
 
 /// The number that the bytes from `at` on spell first, and where its bytes end.
 pub(crate) fn spelled_at(bytes: &[u8], at: usize) -> Option<(u32, usize)>
-    ensures some { IfSome result (λ r. chars (drop at bytes.now) ≡ r.0 ∷ chars (drop r.1 bytes.now)) }
+    ensures some { IfSome result
+        (λ r. chars (drop at bytes.now) ≡ r.0 ∷ chars (drop r.1 bytes.now)) }
     ensures forward { IfSome result (λ r. at < r.1) }
     ensures within { IfSome result (λ r. r.1 ≤ length bytes.now) }
     ensures none { IfNone result (chars (drop at bytes.now) ≡ []) }

@@ -21,7 +21,8 @@ use Rattle.fancy_analysis.specs.declared.info.Info.{Info}
 use Rattle.fancy_analysis.specs.declared.info.Info.TheViews.{out-Info}
 use Rattle.fancy_expr.specs.Exprs.{below, below_absent}
 use Rattle.fancy_analysis.specs.Infos.{nth, node_over, absent_over, info_tree, info_within, info_children, info_facts, info_hard, IsFound, IsAnalysed}
-use Rattle.fancy_analysis.proofs.GroupSizes.{nodes-parts, over-parts}
+use Rattle.fancy_analysis.proofs.GroupSizes.{over-parts}
+use Rattle.fancy_expr.proofs.NodeParts.{nodes-parts}
 use Rattle.std.proofs.Math.Bool.{or-true}
 use Rattle.std.proofs.lemmas.Bool.{and_parts}
 use Rattle.std.proofs.lemmas.List.Folds.{list_any-append}

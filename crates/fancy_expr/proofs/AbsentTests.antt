@@ -8,7 +8,8 @@ use Rattle.fancy_expr.specs.declared.expr.Absent.{Absent}
 use Rattle.fancy_expr.specs.declared.expr.Absent.TheVariants as code_absent
 use Rattle.fancy_expr.specs.Views.{tree_of, absent_of}
 
-module _ (f : Tree → Bool) (repeater : (x : Tree) → f (plain.AbsentRepeater x) ≡ false) (expression : (x y : Tree) → f (plain.AbsentExpression x y) ≡ false) (stopper : (x : Tree) → f (plain.AbsentStopper x) ≡ false) (clear : f plain.AbsentClear ≡ false) where
+module _ (f : Tree → Bool) (repeater : (x : Tree) → f (plain.AbsentRepeater x) ≡ false) (expression : (x y : Tree) → f (plain.AbsentExpression x y) ≡ false)
+    (stopper : (x : Tree) → f (plain.AbsentStopper x) ≡ false) (clear : f plain.AbsentClear ≡ false) where
   fails : (a : Absent) → f (absent_of a) ≡ false
   fails (code_absent.Repeater' b y) = repeater _
   fails (code_absent.Expression' b y d z) = expression _ _

@@ -29,7 +29,8 @@ count-total e = ap (λ l. length (filter_map as_group l)) (sym (nodes-exprs e))
 pub count-below : (e : Expr) → group_count (tree_of e) ≡ own_group e + group_total (exprs_of_each (below e))
 count-below e = count-total e ∙ ap group_total (exprs-below e) ∙ total-append (e ∷ []) (exprs_of_each (below e))
 
-pub total-taken : (es : List Expr) (i : ℕ) (e : Expr) → i < length es → e ≡ get_or es i e → group_total (exprs_of_each (take (i + 1) es)) ≡ group_total (exprs_of_each (take i es)) + group_count (tree_of e)
+pub total-taken : (es : List Expr) (i : ℕ) (e : Expr) → i < length es → e ≡ get_or es i e →
+    group_total (exprs_of_each (take (i + 1) es)) ≡ group_total (exprs_of_each (take i es)) + group_count (tree_of e)
 total-taken es i e h at =
     ap group_total (each-taken es i e h at)
     ∙ total-append (exprs_of_each (take i es)) (exprs e)
@@ -40,4 +41,8 @@ total-all e n h = ap (λ l. own_group e + group_total (exprs_of_each l)) (take_a
 
 pub total-most : (es : List Expr) (n : ℕ) → group_total (exprs_of_each (take n es)) ≤ group_total (exprs_of_each es)
 total-most es n =
-    omega (arith, total-append (exprs_of_each (take n es)) (exprs_of_each (drop n es)), ap group_total (sym (each-append (take n es) (drop n es)) ∙ ap exprs_of_each (take-append-drop n es)))
+    omega (
+      arith,
+      total-append (exprs_of_each (take n es)) (exprs_of_each (drop n es)),
+      ap group_total (sym (each-append (take n es) (drop n es)) ∙ ap exprs_of_each (take-append-drop n es)),
+    )

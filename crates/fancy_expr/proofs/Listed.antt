@@ -1,7 +1,7 @@
 -- What is asked of all nodes, and what that says of what comes with a tree.
 use Rattle.std.proofs.Common.{◌≡◌, ℕ, zero, suc, ◌<◌, ◌≤◌, Bool, true, false, not, ◌&&◌, ◌||◌, List, [], ◌∷◌, length, map, nat_eq, nat_le, slice_index_or, Contains, IsTrue, IsFalse, refl, sym, ap, ◌∙◌, arith}
 use Rattle.std.specs.List.{list_any, list_all}
-use Rattle.std.proofs.lemmas.Bool.{eqb-true, eq-eqb, leb-true, le-leb}
+use Rattle.std.proofs.lemmas.Bool.{and_from, eqb-true, eq-eqb, leb-true, le-leb}
 use Rattle.std.proofs.lemmas.Map.Views.{Contains-from_any}
 use Rattle.std.proofs.lemmas.List.Folds.{list_any_none, list_any_at}
 use Rattle.std.proofs.lemmas.List.Elements.{Contains-append_right, All-contains, All-contains_itself}
@@ -46,9 +46,6 @@ right_true : (a b : Bool) → (a && b) ≡ true → b ≡ true
 right_true true b h = h
 right_true false b h = absurd (false_true h)
 
-both_true : {a b : Bool} → a ≡ true → b ≡ true → (a && b) ≡ true
-both_true {a} {b} p q = ap (λ x. x && b) p ∙ q
-
 pub left_false : (a b : Bool) → (a || b) ≡ false → a ≡ false
 left_false false b h = refl
 left_false true b h = cc
@@ -82,15 +79,18 @@ all_pass_at p xs x h there = All-contains (λ y. p y ≡ true) xs x (all_at p xs
 pub each_passes : {X : Type 0} (p : X → Bool) (xs : List X) → ((x : X) → Contains xs x → p x ≡ true) → list_all p xs ≡ true
 each_passes p [] h = refl
 each_passes p (x ∷ xs) h =
-    both_true (h x (0, omega arith, refl)) (each_passes p xs (λ y there. h y (Contains-append_right (x ∷ []) xs y there)))
+    and_from _ _ (h x (0, omega arith, refl)) (each_passes p xs (λ y there. h y (Contains-append_right (x ∷ []) xs y there)))
 
 -- ---- the tests of what comes with a tree
 
-pub calls_yes : (contains any : Bool) (Call : Type 0) → contains ≡ true → (IsTrue any → (Call → contains ≡ true) × (IsFalse any → contains ≡ false)) × ((Call → contains ≡ true) × (IsFalse any → contains ≡ false) → IsTrue any)
+pub calls_yes : (contains any : Bool) (Call : Type 0) → contains ≡ true →
+    (IsTrue any → (Call → contains ≡ true) × (IsFalse any → contains ≡ false)) × ((Call → contains ≡ true) × (IsFalse any → contains ≡ false) → IsTrue any)
 calls_yes contains true Call given = (λ _. (λ _. given, λ h. absurd (true_false h)), λ _. refl)
 calls_yes contains false Call given = (λ h. absurd (false_true h), λ p. absurd (true_false (sym given ∙ p.1 refl)))
 
-pub calls_no : (contains call : Bool) (Any : Type 0) → contains ≡ false → (IsTrue (not call) → (IsTrue call → contains ≡ true) × (Any → contains ≡ false)) × ((IsTrue call → contains ≡ true) × (Any → contains ≡ false) → IsTrue (not call))
+pub calls_no : (contains call : Bool) (Any : Type 0) → contains ≡ false →
+    (IsTrue (not call) → (IsTrue call → contains ≡ true) × (Any → contains ≡ false))
+    × ((IsTrue call → contains ≡ true) × (Any → contains ≡ false) → IsTrue (not call))
 calls_no contains true Any given = (λ h. absurd (false_true h), λ p. absurd (false_true (sym given ∙ p.0 refl)))
 calls_no contains false Any given = (λ _. (λ h. absurd (false_true h), λ _. given), λ _. refl)
 
@@ -106,6 +106,7 @@ listed_there listed groups g h le =
     let found : list_any (nat_eq g) listed ≡ true = denied (ap (λ b. b && not (list_any (nat_eq g) listed)) (sym (le-leb g groups le)) ∙ h) in
     Contains-from_any (λ x y. eqb-true x y) g listed found
 
-pub is_unlisted_not : (listed : List ℕ) (groups : ℕ) (e : Tree) → ((g : ℕ) (casei : Bool) → e ≡ plain.Backref g casei → g ≤ groups → Contains listed g) → is_unlisted listed groups e ≡ false
+pub is_unlisted_not : (listed : List ℕ) (groups : ℕ) (e : Tree) → ((g : ℕ) (casei : Bool) → e ≡ plain.Backref g casei → g ≤ groups → Contains listed g) →
+    is_unlisted listed groups e ≡ false
 is_unlisted_not listed groups (plain.Backref g casei) h = backref_not listed groups g (h g casei refl)
 is_unlisted_not listed groups e h = refl

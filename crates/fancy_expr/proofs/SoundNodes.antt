@@ -19,7 +19,7 @@ use Rattle.fancy_expr.specs.declared.expr.Absent.{Absent}
 use Rattle.fancy_expr.specs.declared.expr.Absent.TheVariants as code_absent
 use Rattle.fancy_expr.specs.Views.{tree_of, trees_of, absent_of}
 use Rattle.fancy_expr.specs.Exprs.{in_row, below, exprs}
-use Rattle.fancy_expr.specs.Sound.{IsOneChar, IsSound, AllSound}
+use Rattle.fancy_expr.specs.Sound.{IsOneChar, IsSoundNode, AllSound}
 
 left_of : (a b : Bool) → (a && b) ≡ true → a ≡ true
 left_of true b h = refl
@@ -29,17 +29,23 @@ first_scalar : (cs : List ℕ) → scalars cs ≡ true → length cs ≡ 1 → I
 first_scalar [] s n = absurd (omega arith)
 first_scalar (c ∷ cs) s n = left_of (scalar c) (scalars cs) s
 
-pub sound_literal : (e : Expr) (val : String Global) (casei : Bool) (n : ℕ) → e ≡ code.Literal val casei → n ≡ length (chars (string_bytes val)) → (IsTrue (n == 1) → IsSound e) × (IsSound e → IsTrue (n == 1))
+pub sound_literal : (e : Expr) (val : String Global) (casei : Bool) (n : ℕ) → e ≡ code.Literal val casei → n ≡ length (chars (string_bytes val)) →
+    (IsTrue (n == 1) → IsSoundNode e) × (IsSoundNode e → IsTrue (n == 1))
 sound_literal e val casei n is counted =
-    let one : IsTrue (n == 1) → IsSound e = λ h.
+    let one : IsTrue (n == 1) → IsSoundNode e = λ h.
     let l : length (chars (string_bytes val)) ≡ 1 = sym counted ∙ eqb-true n 1 h in
-    subst IsSound (sym is) (record { fine = first_scalar _ (scalars-chars (string_bytes val) (IsUtf8-string_bytes val)) l; one_char = l }) in
-    (one, λ h. eq-eqb n 1 (counted ∙ (subst IsSound is h).one_char))
+    subst IsSoundNode (sym is) (record { fine = first_scalar _ (scalars-chars (string_bytes val) (IsUtf8-string_bytes val)) l; one_char = l }) in
+    (one, λ h. eq-eqb n 1 (counted ∙ (subst IsSoundNode is h).one_char))
 
-pub sound_absent : (e : Expr) (a : Absent) → e ≡ code.Absent a → IsSound e
+pub sound_absent : (e : Expr) (a : Absent) → e ≡ code.Absent a → IsSoundNode e
 sound_absent e a is =
-    subst IsSound (sym is) (record {
-      fine = elim a as (λ x. IsFine (absent_of x)) [ code_absent.Repeater' b y ↦ tt | code_absent.Expression' b y d z ↦ tt | code_absent.Stopper' b y ↦ tt | code_absent.Clear ↦ tt ];
+    subst IsSoundNode (sym is) (record {
+      fine = elim a as (λ x. IsFine (absent_of x)) [
+        | code_absent.Repeater' b y ↦ tt
+        | code_absent.Expression' b y d z ↦ tt
+        | code_absent.Stopper' b y ↦ tt
+        | code_absent.Clear ↦ tt
+      ];
       one_char = tt;
     })
 
@@ -58,11 +64,13 @@ fine_row : (m : Count) (k : Row_of-Expr m) → IsFine (plain.Alt (trees_of k)) �
 fine_row _ end_of-Expr h z = h
 fine_row _ (more_of-Expr e k) h z = omega arith
 
-pub sound_alt : (e : Expr) (v : Vec Expr Global) (n : ℕ) → e ≡ view.Alt v → n ≡ length (below e) → (IsTrue (not (n == 0)) → IsSound e) × (IsSound e → IsTrue (not (n == 0)))
+pub sound_alt : (e : Expr) (v : Vec Expr Global) (n : ℕ) → e ≡ view.Alt v → n ≡ length (below e) →
+    (IsTrue (not (n == 0)) → IsSoundNode e) × (IsSoundNode e → IsTrue (not (n == 0)))
 sound_alt e v n is counted =
     let children : n ≡ length (below (view.Alt v)) = counted ∙ ap (λ x. length (below x)) is in
-    let there : IsTrue (not (n == 0)) → IsSound e = λ h. subst IsSound (sym is) (record { fine = row_fine _ (hidden-the_row-Expr-0 v) (λ z. not_zero n h (children ∙ z)); one_char = tt }) in
-    (there, λ h. is_not_zero n (λ z. fine_row _ (hidden-the_row-Expr-0 v) (subst IsSound is h).fine (sym children ∙ z)))
+    let there : IsTrue (not (n == 0)) → IsSoundNode e =
+    λ h. subst IsSoundNode (sym is) (record { fine = row_fine _ (hidden-the_row-Expr-0 v) (λ z. not_zero n h (children ∙ z)); one_char = tt }) in
+    (there, λ h. is_not_zero n (λ z. fine_row _ (hidden-the_row-Expr-0 v) (subst IsSoundNode is h).fine (sym children ∙ z)))
 
 text_fine : (bytes : List ℕ) (casei : Bool) → IsUtf8 bytes → (length bytes ≡ 0 → ⊥) → IsFine (plain.Delegate bytes casei)
 text_fine [] casei u h = h refl
@@ -72,14 +80,17 @@ fine_text : (bytes : List ℕ) (casei : Bool) → IsFine (plain.Delegate bytes c
 fine_text [] casei h z = h
 fine_text (b ∷ bs) casei h z = omega arith
 
-pub sound_class : (e : Expr) (inner : String Global) (casei : Bool) (n : ℕ) → e ≡ code.Delegate inner casei → n ≡ length (string_bytes inner) → (IsTrue (not (n == 0)) → IsSound e) × (IsSound e → IsTrue (not (n == 0)))
+pub sound_class : (e : Expr) (inner : String Global) (casei : Bool) (n : ℕ) → e ≡ code.Delegate inner casei → n ≡ length (string_bytes inner) →
+    (IsTrue (not (n == 0)) → IsSoundNode e) × (IsSoundNode e → IsTrue (not (n == 0)))
 sound_class e inner casei n is counted =
-    let there : IsTrue (not (n == 0)) → IsSound e = λ h. subst IsSound (sym is) (record { fine = text_fine _ casei (IsUtf8-string_bytes inner) (λ z. not_zero n h (counted ∙ z)); one_char = tt }) in
-    (there, λ h. is_not_zero n (λ z. fine_text _ casei (subst IsSound is h).fine (sym counted ∙ z)))
+    let there : IsTrue (not (n == 0)) → IsSoundNode e =
+    λ h. subst IsSoundNode (sym is) (record { fine = text_fine _ casei (IsUtf8-string_bytes inner) (λ z. not_zero n h (counted ∙ z)); one_char = tt }) in
+    (there, λ h. is_not_zero n (λ z. fine_text _ casei (subst IsSoundNode is h).fine (sym counted ∙ z)))
 
 -- ---- all nodes
 
-all_mapped : (P : Tree → Type 0) (xs : List Expr) → All (λ x. P (tree_of x)) xs → (k : ℕ) (d : Tree) → k < length (map tree_of xs) → P (slice_index_or (map tree_of xs) k d)
+all_mapped : (P : Tree → Type 0) (xs : List Expr) → All (λ x. P (tree_of x)) xs → (k : ℕ) (d : Tree) → k < length (map tree_of xs) →
+    P (slice_index_or (map tree_of xs) k d)
 all_mapped P [] h k d lt = absurd (omega arith)
 all_mapped P (x ∷ xs) h zero d lt = h 0 x (omega arith)
 all_mapped P (x ∷ xs) h (suc k) d lt = all_mapped P xs (λ i y less. h (suc i) y (omega arith)) k d (omega arith)
@@ -95,7 +106,8 @@ node_there e x there = subst (λ l. Contains l (tree_of x)) (nodes-exprs e) (map
 
 pub nodes_fine : (e : Expr) → AllSound e → (x : Tree) → Contains (nodes (tree_of e)) x → IsFine x
 nodes_fine e h x there =
-    All-contains IsFine (map tree_of (exprs e)) x (all_mapped IsFine (exprs e) (λ k d lt. (h k d lt).fine)) (subst (λ l. Contains l x) (sym (nodes-exprs e)) there)
+    All-contains IsFine (map tree_of (exprs e)) x (all_mapped IsFine (exprs e) (λ k d lt. (h k d lt).fine))
+    (subst (λ l. Contains l x) (sym (nodes-exprs e)) there)
 
 pub all_one_char : (e : Expr) → AllSound e → All IsOneChar (exprs e)
 all_one_char e h = λ k d lt. (h k d lt).one_char
@@ -104,6 +116,7 @@ pub sound_if_fine : (e : Expr) → ((x : Tree) → Contains (nodes (tree_of e)) 
 sound_if_fine e fine chars = λ k d lt.
     let there : Contains (exprs e) (slice_index_or (exprs e) k d) = All-contains_itself (exprs e) k d lt in
     record {
-      fine = fine _ (subst (λ l. Contains l (tree_of (slice_index_or (exprs e) k d))) (nodes-exprs e) (mapped_contains (exprs e) (slice_index_or (exprs e) k d) there.0 there.1 there.2));
+      fine = fine _ (subst (λ l. Contains l (tree_of (slice_index_or (exprs e) k d))) (nodes-exprs e)
+          (mapped_contains (exprs e) (slice_index_or (exprs e) k d) there.0 there.1 there.2));
       one_char = chars k d lt;
     }

@@ -22,6 +22,8 @@ start-own (code.Absent a) n = omega (arith, absent-own a)
 start-own e n = omega arith
 
 -- room for the next child
-pub room : (e child : Expr) (i start next : ℕ) → i < length (below e) → child ≡ get_or (below e) i child → next ≡ start_inside e start + group_total (exprs_of_each (take i (below e))) → start + group_count (tree_of e) < 2 ^ 64 → next + group_count (tree_of child) < 2 ^ 64
+pub room : (e child : Expr) (i start next : ℕ) → i < length (below e) → child ≡ get_or (below e) i child →
+    next ≡ start_inside e start + group_total (exprs_of_each (take i (below e))) → start + group_count (tree_of e) < 2 ^ 64 →
+    next + group_count (tree_of child) < 2 ^ 64
 room e child i start next h at counted fits =
     omega (arith, counted, start-own e start, total-taken (below e) i child h at, total-most (below e) (i + 1), count-below e)

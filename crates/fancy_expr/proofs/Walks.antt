@@ -16,7 +16,8 @@ pub each-append : (xs ys : List Expr) → exprs_of_each (xs ++ ys) ≡ exprs_of_
 each-append [] ys = refl
 each-append (x ∷ xs) ys = ap (λ l. exprs x ++ l) (each-append xs ys) ∙ sym (append_assoc (exprs x) (exprs_of_each xs) (exprs_of_each ys))
 
-pub each-taken : (es : List Expr) (i : ℕ) (e : Expr) → i < length es → e ≡ get_or es i e → exprs_of_each (take (i + 1) es) ≡ exprs_of_each (take i es) ++ exprs e
+pub each-taken : (es : List Expr) (i : ℕ) (e : Expr) → i < length es → e ≡ get_or es i e →
+    exprs_of_each (take (i + 1) es) ≡ exprs_of_each (take i es) ++ exprs e
 each-taken es i e h at =
     ap exprs_of_each (taken es i e h at)
     ∙ each-append (take i es) (e ∷ [])
@@ -28,13 +29,15 @@ none_of : (a b : Bool) → a ≡ false → b ≡ false → (a || b) ≡ false
 none_of a b p q = ap (λ x. x || b) p ∙ q
 
 module _ (test : Expr → Bool) where
-  pub none_more : (es : List Expr) (i : ℕ) (e : Expr) → i < length es → e ≡ get_or es i e → list_any test (exprs_of_each (take i es)) ≡ false → list_any test (exprs e) ≡ false → list_any test (exprs_of_each (take (i + 1) es)) ≡ false
+  pub none_more : (es : List Expr) (i : ℕ) (e : Expr) → i < length es → e ≡ get_or es i e → list_any test (exprs_of_each (take i es)) ≡ false →
+      list_any test (exprs e) ≡ false → list_any test (exprs_of_each (take (i + 1) es)) ≡ false
   none_more es i e h at before here =
       ap (list_any test) (each-taken es i e h at)
       ∙ list_any-append test (exprs_of_each (take i es)) (exprs e)
       ∙ none_of _ _ before here
 
-  pub none_at_all : (e : Expr) (n : ℕ) → length (below e) ≤ n → test e ≡ false → list_any test (exprs_of_each (take n (below e))) ≡ false → list_any test (exprs e) ≡ false
+  pub none_at_all : (e : Expr) (n : ℕ) → length (below e) ≤ n → test e ≡ false → list_any test (exprs_of_each (take n (below e))) ≡ false →
+      list_any test (exprs e) ≡ false
   none_at_all e n h here under =
       ap (list_any test) (exprs-below e)
       ∙ none_of _ _ here (subst (λ l. list_any test (exprs_of_each l) ≡ false) (take_all n (below e) h) under)
@@ -52,7 +55,8 @@ contained_in_each (y ∷ es) (suc i) e x h at there =
 
 pub contained_below : (e child x : Expr) (i : ℕ) → i < length (below e) → child ≡ get_or (below e) i child → Contains (exprs child) x → Contains (exprs e) x
 contained_below e child x i h at there =
-    subst (λ l. Contains l x) (sym (exprs-below e)) (Contains-append_right (e ∷ []) (exprs_of_each (below e)) x (contained_in_each (below e) i child x h at there))
+    subst (λ l. Contains l x) (sym (exprs-below e))
+    (Contains-append_right (e ∷ []) (exprs_of_each (below e)) x (contained_in_each (below e) i child x h at there))
 
 -- ---- what holds of all nodes
 
@@ -64,7 +68,8 @@ module _ (P : Expr → Type 0) where
   all_below e child i h at all = λ k d lt.
       All-contains P (exprs e) _ all (contained_below e child _ i h at (All-contains_itself (exprs child) k d lt))
 
-  pub all_more : (es : List Expr) (i : ℕ) (e : Expr) → i < length es → e ≡ get_or es i e → All P (exprs_of_each (take i es)) → All P (exprs e) → All P (exprs_of_each (take (i + 1) es))
+  pub all_more : (es : List Expr) (i : ℕ) (e : Expr) → i < length es → e ≡ get_or es i e → All P (exprs_of_each (take i es)) → All P (exprs e) →
+      All P (exprs_of_each (take (i + 1) es))
   all_more es i e h at before here =
       subst (All P) (sym (each-taken es i e h at)) (All-append P (exprs_of_each (take i es)) (exprs e) before here)
 

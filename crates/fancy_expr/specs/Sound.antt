@@ -12,12 +12,12 @@ abbrev pub IsOneChar : Expr → Type 0
 IsOneChar (code.Literal val casei) = length (chars (string_bytes val)) ≡ 1
 IsOneChar e = Unit {0}
 
-pub record IsSound (e : Expr) : Type 0 where
+pub record IsSoundNode (e : Expr) : Type 0 where
   pub fine : IsFine (tree_of e)
   pub one_char : IsOneChar e
 
 abbrev pub AllSound : Expr → Type 0
-AllSound e = All IsSound (exprs e)
+AllSound e = All IsSoundNode (exprs e)
 
 -- the tree may be handed in
 abbrev pub IsWellFormedTree : ExprTree → Type 0

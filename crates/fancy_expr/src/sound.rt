@@ -3,7 +3,7 @@
 ghost use Rattle.std.specs.Prelude.{◌≡◌, ◌<◌, ◌^◌, ◌↔◌, All, IfSome, FitsSigned, IsTrue, true, length, chars};
 ghost use Rattle.std.specs.Int.{w64};
 ghost use Rattle.fancy_meaning.specs.WellFormed.{IsUsize};
-ghost use Rattle.fancy_expr.specs.Sound.{IsSound, AllSound};
+ghost use Rattle.fancy_expr.specs.Sound.{IsSoundNode, AllSound};
 
 use crate::expr::Expr;
 use crate::parts::{part, part_count};
@@ -16,7 +16,7 @@ fn char_count(text: &str) -> usize
 
 /// Whether a tree that may be handed in can have this node.
 fn is_sound(expr: &Expr) -> bool
-    ensures { IsTrue result ↔ IsSound expr.now }
+    ensures { IsTrue result ↔ IsSoundNode expr.now }
 {
     match expr {
         Expr::Literal { val, .. } => char_count(val) == 1,

@@ -32,7 +32,9 @@ pub fn count_groups(expr: &Expr) -> usize
 }
 
 fn groups_fit(tree: &ExprTree) -> bool
-    ensures { IsTrue result ↔ ((tree.now.total_groups ≡ group_count (tree_of tree.now.expr)) × (tree.now.total_groups ≤ most_groups)) }
+    ensures { IsTrue result
+        ↔ ((tree.now.total_groups ≡ group_count (tree_of tree.now.expr))
+        × (tree.now.total_groups ≤ most_groups)) }
 {
     tree.total_groups <= MOST_GROUPS && count_groups(&tree.expr) == tree.total_groups
 }
@@ -40,7 +42,8 @@ fn groups_fit(tree: &ExprTree) -> bool
 fn calls_fit(tree: &ExprTree) -> bool
     ensures { IsTrue result
         ↔ ((Has (tree_of tree.now.expr) is_call → tree.now.contains_subroutines ≡ true)
-        × (IsFalse (list_any is_any_call (nodes (tree_of tree.now.expr))) → tree.now.contains_subroutines ≡ false)) }
+        × (IsFalse (list_any is_any_call (nodes (tree_of tree.now.expr))) →
+        tree.now.contains_subroutines ≡ false)) }
 {
     if tree.contains_subroutines {
         has_node(&tree.expr, Question::IsAnyCall)
@@ -72,14 +75,16 @@ fn is_referred_to(tree: &ExprTree, group: usize) -> bool
 }
 
 fn listed_refer(tree: &ExprTree) -> bool
-    ensures { result ≡ list_all (λ g. list_any (refers g) (nodes (tree_of tree.now.expr))) tree.now.backrefs.keys }
+    ensures { result ≡ list_all
+        (λ g. list_any (refers g) (nodes (tree_of tree.now.expr))) tree.now.backrefs.keys }
 {
     tree.backrefs.iter().all(|g| is_referred_to(tree, *g))
 }
 
 fn out_of_range_refers(tree: &ExprTree) -> bool
     ensures { IsTrue result
-        ↔ IfSome tree.now.out_of_range_backref (λ g. Has (tree_of tree.now.expr) (refers g) × (tree.now.total_groups < g)) }
+        ↔ IfSome tree.now.out_of_range_backref
+        (λ g. Has (tree_of tree.now.expr) (refers g) × (tree.now.total_groups < g)) }
 {
     match tree.out_of_range_backref {
         Some(g) => tree.total_groups < g && is_referred_to(tree, g),
@@ -87,8 +92,9 @@ fn out_of_range_refers(tree: &ExprTree) -> bool
     }
 }
 
-/// Whether a tree may be handed in: no alternation is without branches, each literal is one character, no class is without a text, the bounds of each
-/// loop are in order, and what comes with the tree says of it what is so ("docs/MEANING.md").
+/// Whether a tree may be handed in: no alternation is without branches, each literal is one character, no class is
+/// without a text, the bounds of each loop are in order, and what comes with the tree says of it what is so
+/// ("docs/MEANING.md").
 pub fn is_well_formed(tree: &ExprTree) -> bool
     ensures { IsTrue result ↔ IsWellFormedTree tree.now }
 {

@@ -1,7 +1,7 @@
 -- Whatever is wanted next can come.
 use Rattle.std.proofs.Common.{◌≡◌, ℕ, false, List, [], ◌∷◌, ◌++◌, map, None, codes, refl, ◌∙◌}
 use Rattle.fancy_notation.specs.Tokens.{Token, Placed, Closed, Quoted, Word}
-use Rattle.fancy_notation.specs.Words.{form_of, number_of, level_of, count_of, bound_of}
+use Rattle.fancy_notation.specs.Words.{form_of, number_of, level_of, count_of, bound_at_least}
 use Rattle.fancy_notation.specs.Misfit.{Want, Node, Head, Shut, Parts, Count, Bound, Number, Level, Bytes, Class, VerbName, misfit}
 
 -- tokens that meet a want
@@ -22,7 +22,7 @@ anywhere : Token → Placed
 anywhere t = record { at = 0; token = t }
 
 meets : (w : Want) (end g : ℕ) (ps : List Placed) (k : List Want) → misfit end (map anywhere (meeting w) ++ ps) g (w ∷ k) ≡ misfit end ps g k
-unfolding meeting anywhere form_of number_of level_of count_of bound_of
+unfolding meeting anywhere form_of number_of level_of count_of bound_at_least
 meets Node end g ps k = refl
 meets Head end g ps k = refl
 meets Shut end g ps k = refl

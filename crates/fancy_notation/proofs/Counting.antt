@@ -90,7 +90,8 @@ same_form h f g n e none =
     let p : ◌≡◌ {A = Form × ℕ} (h, g) (f, n) = cc in
     omega (arith, ap (λ q. q.1) p, none, ap (λ q. opened q.0) p)
 
-group_form : (b : Bool) (f : Form) (g n : ℕ) → ◌≡◌ {A = Option (Form × ℕ)} (cond b (Some (form.Enclosing enclosing.Group, suc g)) None) (Some (f, n)) → n ≡ g + opened f
+group_form : (b : Bool) (f : Form) (g n : ℕ) → ◌≡◌ {A = Option (Form × ℕ)} (cond b (Some (form.Enclosing enclosing.Group, suc g)) None) (Some (f, n)) →
+    n ≡ g + opened f
 unfolding opened
 group_form true f g n e =
     let p : ◌≡◌ {A = Form × ℕ} (form.Enclosing enclosing.Group, suc g) (f, n) = cc in

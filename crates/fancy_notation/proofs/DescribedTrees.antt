@@ -53,7 +53,8 @@ noted-numeric s [] = sym (no_more s.numeric)
     no_more true = refl
     no_more false = refl
 noted-numeric s (Backref g casei ∷ es) = noted-numeric (noted s (Backref g casei)) es ∙ numeric_from s.numeric (list_any names_number es)
-noted-numeric s (BackrefWithLevel g level casei ∷ es) = noted-numeric (noted s (BackrefWithLevel g level casei)) es ∙ numeric_from s.numeric (list_any names_number es)
+noted-numeric s (BackrefWithLevel g level casei ∷ es) =
+    noted-numeric (noted s (BackrefWithLevel g level casei)) es ∙ numeric_from s.numeric (list_any names_number es)
 noted-numeric s (BackrefExists g level ∷ es) = noted-numeric (noted s (BackrefExists g level)) es ∙ numeric_from s.numeric (list_any names_number es)
 noted-numeric s (SubroutineCall g ∷ es) = noted-numeric (noted s (SubroutineCall g)) es ∙ numeric_from s.numeric (list_any names_number es)
 noted-numeric s (e ∷ es) = noted-numeric (noted s e) es
@@ -127,17 +128,22 @@ unfolding mem
 reached groups keys [] h there le = absurd (true≢false (sym there))
 reached groups keys (g ∷ gs) h there le = by_same (nat_eq h g) refl (λ t. reached groups (cond (leb g groups) (insert_key nat_cmp keys g) keys) gs h t le) there
   where
-    by_same : (b : Bool) → nat_eq h g ≡ b → (list_any (nat_eq h) gs ≡ true → mem h (up_to groups keys (g ∷ gs)) ≡ true) → (b || list_any (nat_eq h) gs) ≡ true → mem h (up_to groups keys (g ∷ gs)) ≡ true
+    by_same : (b : Bool) → nat_eq h g ≡ b → (list_any (nat_eq h) gs ≡ true → mem h (up_to groups keys (g ∷ gs)) ≡ true) →
+        (b || list_any (nat_eq h) gs) ≡ true → mem h (up_to groups keys (g ∷ gs)) ≡ true
     by_same true is below t =
         let same : h ≡ g = eqb-true h g is in
         let small : leb g groups ≡ true = le-leb g groups (subst (λ n. n ≤ groups) same le) in
-        kept_up groups (cond (leb g groups) (insert_key nat_cmp keys g) keys) gs h (subst (λ b. mem h (cond b (insert_key nat_cmp keys g) keys) ≡ true) (sym small) (subst (λ n. mem n (insert_key nat_cmp keys g) ≡ true) (sym same) (itself_inserted keys g)))
+        kept_up groups (cond (leb g groups) (insert_key nat_cmp keys g) keys) gs h
+        (subst (λ b. mem h (cond b (insert_key nat_cmp keys g) keys) ≡ true) (sym small)
+        (subst (λ n. mem n (insert_key nat_cmp keys g) ≡ true) (sym same) (itself_inserted keys g)))
     by_same false is below t = below t
 
-reference_there : (es : List Tree) (g : ℕ) (casei : Bool) (k : ℕ) (d : Tree) → k < length es → slice_index_or es k d ≡ Backref g casei → mem g (filter_map referred_to es) ≡ true
+reference_there : (es : List Tree) (g : ℕ) (casei : Bool) (k : ℕ) (d : Tree) → k < length es → slice_index_or es k d ≡ Backref g casei →
+    mem g (filter_map referred_to es) ≡ true
 unfolding mem
 reference_there [] g casei k d lt at = absurd (omega arith)
-reference_there (e ∷ es) g casei zero d lt at = subst (λ x. mem g (filter_map referred_to (x ∷ es)) ≡ true) (sym at) (found_itself g (filter_map referred_to es))
+reference_there (e ∷ es) g casei zero d lt at =
+    subst (λ x. mem g (filter_map referred_to (x ∷ es)) ≡ true) (sym at) (found_itself g (filter_map referred_to es))
 reference_there (e ∷ es) g casei (suc k) d lt at =
     ap (mem g) (filter_map-append referred_to (e ∷ []) es)
     ∙ list_any-append (nat_eq g) (filter_map referred_to (e ∷ [])) (filter_map referred_to es)
@@ -153,8 +159,10 @@ pub references_refer : (es : List Tree) → Each (λ g. list_any (refers g) es �
 references_refer [] = tt
 references_refer (Backref g casei ∷ es) =
     (or_left _ _ (eq-eqb g g refl), each_map _ _ (filter_map referred_to es) (λ h q. or_right (refers h (Backref g casei)) _ q) (references_refer es))
-references_refer (BackrefWithLevel g level casei ∷ es) =
-    (or_left _ _ (eq-eqb g g refl), each_map _ _ (filter_map referred_to es) (λ h q. or_right (refers h (BackrefWithLevel g level casei)) _ q) (references_refer es))
+references_refer (BackrefWithLevel g level casei ∷ es) = (
+  or_left _ _ (eq-eqb g g refl),
+  each_map _ _ (filter_map referred_to es) (λ h q. or_right (refers h (BackrefWithLevel g level casei)) _ q) (references_refer es),
+)
 references_refer (e ∷ es) = each_map _ _ (filter_map referred_to es) (λ h q. or_right (refers h e) _ q) (references_refer es)
 
 listed : (P : ℕ → Type 0) (groups : ℕ) (keys gs : List ℕ) → All P keys → Each P gs → All P (up_to groups keys gs)
@@ -169,11 +177,13 @@ past : (P : ℕ → Type 0) (groups : ℕ) (gs : List ℕ) → Each P gs → IfS
 past P groups [] h = tt
 past P groups (g ∷ gs) h = by_size (ltb groups g) refl (past P groups gs h.1)
   where
-    by_size : (b : Bool) → ltb groups g ≡ b → IfSome (first_past groups gs) (λ g. P g × (groups < g)) → IfSome (cond b (Some g) (first_past groups gs)) (λ g. P g × (groups < g))
+    by_size : (b : Bool) → ltb groups g ≡ b → IfSome (first_past groups gs) (λ g. P g × (groups < g)) →
+        IfSome (cond b (Some g) (first_past groups gs)) (λ g. P g × (groups < g))
     by_size true is below = (h.0, ltb-true groups g is)
     by_size false is below = below
 
-pub well_formed : (t : ExprTree) → AllSound t.expr → t.total_groups ≡ group_count (tree_of t.expr) → group_count (tree_of t.expr) ≤ most_groups → IsDescribed t → IsWellFormedTree t
+pub well_formed : (t : ExprTree) → AllSound t.expr → t.total_groups ≡ group_count (tree_of t.expr) → group_count (tree_of t.expr) ≤ most_groups →
+    IsDescribed t → IsWellFormedTree t
 unfolding mem
 well_formed t sound count few d =
     let whole = nodes (tree_of t.expr) in
@@ -201,7 +211,8 @@ well_formed t sound count few d =
 -- what was gathered describes the tree
 pub described_by : (t : ExprTree) (s : Surveyed) → s ≡ noted_all none_noted (nodes (tree_of t.expr)) →
     t.backrefs.keys ≡ up_to t.total_groups [] s.references → t.out_of_range_backref ≡ first_past t.total_groups s.references →
-    t.numeric_capture_group_references ≡ s.numeric → t.contains_subroutines ≡ s.calls → t.numbered_groups_ignored ≡ false → t.named_groups.entries ≡ [] → IsDescribed t
+    t.numeric_capture_group_references ≡ s.numeric → t.contains_subroutines ≡ s.calls → t.numbered_groups_ignored ≡ false → t.named_groups.entries ≡ [] →
+    IsDescribed t
 described_by t s is backrefs past numeric calls ignored named =
     let whole = nodes (tree_of t.expr) in
     let refs : s.references ≡ references (tree_of t.expr) = ap (λ r. r.references) is ∙ noted-references none_noted whole in

@@ -21,7 +21,8 @@ use Rattle.fancy_notation.proofs.Failing.{memory, fails_here, fails_on}
 use Rattle.fancy_notation.proofs.Loops.{skips_giving}
 use Rattle.fancy_notation.proofs.OneChars.{leaf_chars}
 
-no_node : (g : ℕ) (ts : List Placed) → is_at_text ts ≡ false → first_gives opening ts ≡ None → first_gives (in_word leaf_of) ts ≡ None → first_gives (λ t. next_step g Node t) ts ≡ None
+no_node : (g : ℕ) (ts : List Placed) → is_at_text ts ≡ false → first_gives opening ts ≡ None → first_gives (in_word leaf_of) ts ≡ None →
+    first_gives (λ t. next_step g Node t) ts ≡ None
 no_node g [] a b e = refl
 no_node g (p ∷ ps) a b e = of_token p.token a b e
   where
@@ -37,7 +38,8 @@ pub leaf_reads : (old new : Reader) (r : Result Expr Error) → is_at_text (poin
 leaf_reads old new (Ok v) a b h = (leaf h.0, h.1, leaf_chars v h.0)
 leaf_reads old new (Err e) a b h = fails_here Node [] old e h.0 (no_node old.groups _ a b h.1)
 
-pub begins_by : (old mid new : Reader) (f : Form) → first_gives opening (point_of old).tokens ≡ Some tt → Skips old mid → ReadsHead mid new (Ok f) → Begins (point_of old) f (point_of new)
+pub begins_by : (old mid new : Reader) (f : Form) → first_gives opening (point_of old).tokens ≡ Some tt → Skips old mid → ReadsHead mid new (Ok f) →
+    Begins (point_of old) f (point_of new)
 begins_by old mid new f is s h = record { y = point_of mid; opened = skips_giving opening tt old mid is s; after = h.0; head = h.1; tokens = h.2 }
 
 pub form_reads : (old mid new : Reader) (f : Form) (r : Result Expr Error) → Begins (point_of old) f (point_of mid) → mid.end ≡ old.end →
@@ -45,7 +47,8 @@ pub form_reads : (old mid new : Reader) (f : Form) (r : Result Expr Error) → B
 form_reads old mid new f (Ok v) b same h = (formed b h.0, h.1 ∙ same, h.2)
 form_reads old mid new f (Err e) b same h = fails_on old mid (Node ∷ []) (wants f) e same (λ k. begun b old.end k) h
 
-pub enclosed_reads : (old mid new : Reader) (f : Enclosing) (body : Expr) (r : Result Expr Error) → Spells (point_of old) (point_of mid) (tree_of body) × (mid.end ≡ old.end) × OneCharEach body →
+pub enclosed_reads : (old mid new : Reader) (f : Enclosing) (body : Expr) (r : Result Expr Error) →
+    Spells (point_of old) (point_of mid) (tree_of body) × (mid.end ≡ old.end) × OneCharEach body →
     Takes closing (point_of mid) tt (point_of new) × (new.end ≡ mid.end) → (OneCharEach body → Makes (enclosed f (tree_of body)) r) →
     ReadsTree (Node ∷ Shut ∷ []) (λ e x y. SpellsForm (form.Enclosing f) x y e) old new r
 enclosed_reads old mid new f body (Ok made) s t h =
@@ -53,17 +56,15 @@ enclosed_reads old mid new f body (Ok made) s t h =
     (subst (SpellsForm (form.Enclosing f) (point_of old) (point_of new)) (sym m.0) (around s.0 t.0), t.1 ∙ s.1, m.1)
 enclosed_reads old mid new f body (Err e) s t h = memory (Node ∷ Shut ∷ []) old e (h s.2)
 
-pub cat_spelled : (given : List Expr) (v : Vec Expr Global) (x y : Point) → given ≡ [] → SpellsPartsAfter true given v.items x y → SpellsForm form.Cat x y (tree_of (view.Concat v))
+pub cat_spelled : (given : List Expr) (v : Vec Expr Global) (x y : Point) → given ≡ [] → SpellsPartsAfter true given v.items x y →
+    SpellsForm form.Cat x y (tree_of (view.Concat v))
 cat_spelled given v x y none h =
     subst (SpellsForm form.Cat x y) (sym (tree-concat v ∙ ap (λ l. Concat (trees l)) (h.2 ∙ ap (λ g. map tree_of g ++ h.0) none))) (cat h.1)
 
-pub alt_spelled : (first : Expr) (given : List Expr) (v : Vec Expr Global) (x y z : Point) → given ≡ first ∷ [] → Spells x y (tree_of first) → SpellsPartsAfter false given v.items y z → SpellsForm form.Alt x z (tree_of (view.Alt v))
+pub alt_spelled : (first : Expr) (given : List Expr) (v : Vec Expr Global) (x y z : Point) → given ≡ first ∷ [] → Spells x y (tree_of first) →
+    SpellsPartsAfter false given v.items y z → SpellsForm form.Alt x z (tree_of (view.Alt v))
 alt_spelled first given v x y z one s h =
     subst (SpellsForm form.Alt x z) (sym (tree-alt v ∙ ap (λ l. Alt (trees l)) (h.2 ∙ ap (λ g. map tree_of g ++ h.0) one))) (alt s h.1)
-
-pub both_true : (a b : Bool) → (a && b) ≡ true → a ≡ true
-both_true true b e = refl
-both_true false b e = e
 
 pub not_both : (a b : Bool) → (a && b) ≡ false → a ≡ true → b ≡ false
 not_both true b e is = e

@@ -25,7 +25,8 @@ data Halts (end : ℕ) (ts : List Placed) (g : ℕ) (ws : List Want) (at : ℕ) 
       Halts end ts g ws at
   at_end : (h : ℕ) (vs : List Want) → at ≡ end → ((end : ℕ) (more : List Placed) → misfit end (ts ++ more) g ws ≡ misfit end more h vs) → Halts end ts g ws at
 
-one_more : (end : ℕ) (p : Placed) (ps : List Placed) (g : ℕ) (w : Want) (ws : List Want) (at : ℕ) (n : Next) → next_step g w p.token ≡ Some n → Halts end ps n.groups (n.wants ++ ws) at → Halts end (p ∷ ps) g (w ∷ ws) at
+one_more : (end : ℕ) (p : Placed) (ps : List Placed) (g : ℕ) (w : Want) (ws : List Want) (at : ℕ) (n : Next) → next_step g w p.token ≡ Some n →
+    Halts end ps n.groups (n.wants ++ ws) at → Halts end (p ∷ ps) g (w ∷ ws) at
 one_more end p ps g w ws at n e (at_token before after q h vs is there leads stops) =
     at_token (p ∷ before) after q h vs (ap (λ l. p ∷ l) is) there (λ end more. stepped end p (before ++ more) g w ws n e ∙ leads end more) stops
 one_more end p ps g w ws at n e (at_end h vs there leads) =
@@ -40,14 +41,16 @@ halts end [] g (w ∷ ws) at e = at_end g (w ∷ ws) (some e) (λ end more. refl
 halts end (p ∷ ps) g [] at e = at_token [] ps p g [] refl (some e) (λ end more. refl) (λ end more. refl)
 halts end (p ∷ ps) g (w ∷ ws) at e = by_step (next_step g w p.token) refl (halts end ps)
   where
-    by_step : (o : Option Next) → next_step g w p.token ≡ o → ((g : ℕ) (ws : List Want) (at : ℕ) → misfit end ps g ws ≡ Some at → Halts end ps g ws at) → Halts end (p ∷ ps) g (w ∷ ws) at
+    by_step : (o : Option Next) → next_step g w p.token ≡ o → ((g : ℕ) (ws : List Want) (at : ℕ) → misfit end ps g ws ≡ Some at → Halts end ps g ws at) →
+        Halts end (p ∷ ps) g (w ∷ ws) at
     by_step None is below =
         at_token [] ps p g (w ∷ ws) refl (some (sym (stuck end p ps g w ws is) ∙ e)) (λ end more. refl) (λ end more. stuck end p more g w ws is)
     by_step (Some n) is below =
         one_more end p ps g w ws at n is (below n.groups (n.wants ++ ws) at (sym (stepped end p ps g w ws n is) ∙ e))
 
 -- what leads to a stack can be continued
-begins : (before : List Placed) (h : ℕ) (vs : List Want) → ((end : ℕ) (more : List Placed) → misfit end (before ++ more) 0 (Node ∷ []) ≡ misfit end more h vs) → CanBegin before
+begins : (before : List Placed) (h : ℕ) (vs : List Want) →
+    ((end : ℕ) (more : List Placed) → misfit end (before ++ more) 0 (Node ∷ []) ≡ misfit end more h vs) → CanBegin before
 begins before h vs leads = let r = continued vs in
     let s = stands_spelled 0 (before ++ r.0) (leads 0 r.0 ∙ r.1 0 h) in
     (r.0, s.0, s.1)

@@ -17,7 +17,7 @@ use Rattle.fancy_expr.specs.declared.expr.Absent.TheVariants as code_absent
 use Rattle.fancy_expr.specs.Views.{tree_of, absent_of}
 use Rattle.fancy_expr.specs.Exprs.{exprs}
 use Rattle.fancy_expr.specs.Each.{Each}
-use Rattle.fancy_expr.specs.Sound.{IsOneChar, IsSound, AllSound}
+use Rattle.fancy_expr.specs.Sound.{IsOneChar, IsSoundNode, AllSound}
 use Rattle.fancy_expr.proofs.Exprs.{nodes-exprs}
 use Rattle.fancy_expr.proofs.SoundNodes.{sound_literal}
 use Rattle.fancy_notation.specs.declared.forms.Enclosing.{Enclosing}
@@ -28,7 +28,7 @@ use Rattle.fancy_notation.specs.declared.forms.Leveled.{Leveled}
 use Rattle.fancy_notation.specs.declared.forms.Leveled.TheVariants as leveled
 use Rattle.fancy_notation.specs.declared.forms.Form.{Form}
 use Rattle.fancy_notation.specs.Tokens.{Token, Opened, Closed, Quoted, Word, Broken}
-use Rattle.fancy_notation.specs.Words.{found, assertions, plain_leaves, leaf_of, when, kept, is_numeral, number_of, level_of, count_of, bound_of, byte_of}
+use Rattle.fancy_notation.specs.Words.{found, assertions, plain_leaves, leaf_of, when, kept, is_numeral, number_of, level_of, count_of, bound_at_least, byte_of}
 use Rattle.fancy_notation.specs.Grammar.{Point, in_word, class, literals, joined, parts_of_text, enclosed, named, named_at, Takes, SpellsBytes, no_byte, byte, Spells, text, leaf, formed, SpellsForm, cat, alt, around, repeat, set, bytes, names, names_at, verb, conditional, absent_expression, SpellsParts, no_part, spliced, part}
 use Rattle.fancy_notation.specs.Reading.{OneCharEach}
 
@@ -68,18 +68,20 @@ pub byte_fits : (w : List ℕ) (n : ℕ) → byte_of w ≡ Some n → n < 2 ^ 8
 unfolding byte_of
 byte_fits w n e = let h = leb-true _ _ (kept_some (λ n. leb n 255) (number_of w) n e).0 in omega (arith, h)
 
-pub bound_fits : (lo : ℕ) (w : List ℕ) (hi : Option ℕ) → bound_of lo w ≡ Some hi → IfSome hi (λ n. (lo ≤ n) × IsCount n)
-unfolding bound_of
+pub bound_fits : (lo : ℕ) (w : List ℕ) (hi : Option ℕ) → bound_at_least lo w ≡ Some hi → IfSome hi (λ n. (lo ≤ n) × IsCount n)
+unfolding bound_at_least
 bound_fits lo w hi e = at_star (bytes_eq w (codes "*")) e
   where
-    some_bound : (o : Option ℕ) → kept (λ n. leb lo n) (count_of w) ≡ o → elim o [ Some n ↦ Some (Some n) | None ↦ None ] ≡ Some hi → IfSome hi (λ n. (lo ≤ n) × IsCount n)
+    some_bound : (o : Option ℕ) → kept (λ n. leb lo n) (count_of w) ≡ o → elim o [ Some n ↦ Some (Some n) | None ↦ None ] ≡ Some hi →
+        IfSome hi (λ n. (lo ≤ n) × IsCount n)
     some_bound None q e = absurd (cc)
     some_bound (Some n) q e =
         let k = kept_some (λ n. leb lo n) (count_of w) n q in
         let same : Some n ≡ hi = cc in
         subst (λ o. IfSome o (λ n. (lo ≤ n) × IsCount n)) same (leb-true _ _ k.0, count_fits w n k.1)
 
-    at_star : (b : Bool) → cond b (Some None) (elim (kept (λ n. leb lo n) (count_of w)) [ Some n ↦ Some (Some n) | None ↦ None ]) ≡ Some hi → IfSome hi (λ n. (lo ≤ n) × IsCount n)
+    at_star : (b : Bool) → cond b (Some None) (elim (kept (λ n. leb lo n) (count_of w)) [ Some n ↦ Some (Some n) | None ↦ None ]) ≡ Some hi →
+        IfSome hi (λ n. (lo ≤ n) × IsCount n)
     at_star true e = let same : None ≡ hi = cc in subst (λ o. IfSome o (λ n. (lo ≤ n) × IsCount n)) same tt
     at_star false e = some_bound (kept (λ n. leb lo n) (count_of w)) refl e
 
@@ -94,7 +96,9 @@ unfolding level_of
 level_fits [] l e = absurd (cc)
 level_fits (c ∷ w) l e = at_minus (c == 45) e
   where
-    at_minus : (b : Bool) → cond b (when (is_numeral w && leb (digits_value 10 w) (2 ^ 63)) (neg_ℤ (pos (digits_value 10 w)))) (when (is_numeral (c ∷ w) && ltb (digits_value 10 (c ∷ w)) (2 ^ 63)) (pos (digits_value 10 (c ∷ w)))) ≡ Some l → FitsSigned w64 l
+    at_minus : (b : Bool) →
+        cond b (when (is_numeral w && leb (digits_value 10 w) (2 ^ 63)) (neg_ℤ (pos (digits_value 10 w))))
+        (when (is_numeral (c ∷ w) && ltb (digits_value 10 (c ∷ w)) (2 ^ 63)) (pos (digits_value 10 (c ∷ w)))) ≡ Some l → FitsSigned w64 l
     at_minus true e =
         let h = when_some (is_numeral w && leb (digits_value 10 w) (2 ^ 63)) (neg_ℤ (pos (digits_value 10 w))) l e in
         subst (FitsSigned w64) h.1 (fits_above (digits_value 10 w) (leb-true _ _ (and_parts _ _ h.0).1))
@@ -103,14 +107,16 @@ level_fits (c ∷ w) l e = at_minus (c == 45) e
         subst (FitsSigned w64) h.1 (fits_below (digits_value 10 (c ∷ w)) (ltb-true _ _ (and_parts _ _ h.0).1))
 
 -- what holds of a word, of a token
-in_word_has : {V : Type 0} (f : List ℕ → Option V) (P : V → Type 0) → ((w : List ℕ) (v : V) → f w ≡ Some v → P v) → (t : Token) (v : V) → in_word f t ≡ Some v → P v
+in_word_has : {V : Type 0} (f : List ℕ → Option V) (P : V → Type 0) → ((w : List ℕ) (v : V) → f w ≡ Some v → P v) → (t : Token) (v : V) →
+    in_word f t ≡ Some v → P v
 in_word_has f P h Opened v e = absurd (cc)
 in_word_has f P h Closed v e = absurd (cc)
 in_word_has f P h (Quoted b s) v e = absurd (cc)
 in_word_has f P h (Word w) v e = h w v e
 in_word_has f P h Broken v e = absurd (cc)
 
-pub taken_has : {V : Type 0} {f : List ℕ → Option V} {x y : Point} {v : V} (P : V → Type 0) → ((w : List ℕ) (v : V) → f w ≡ Some v → P v) → Takes (in_word f) x v y → P v
+pub taken_has : {V : Type 0} {f : List ℕ → Option V} {x y : Point} {v : V} (P : V → Type 0) → ((w : List ℕ) (v : V) → f w ≡ Some v → P v) →
+    Takes (in_word f) x v y → P v
 taken_has {f = f} {v = v} P h t = in_word_has f P h t.first.token v t.is
 
 -- ---- nodes that are fine but for their texts
@@ -159,7 +165,8 @@ found_has P (r ∷ rows) w v h e = at_test (bytes_eq w r.0) (λ q. found_has P r
     at_test false below e = below e
 
 -- what holds of assertions and of the other leaves
-pub leaf_has : (P : Tree → Type 0) → ((a : plain.Assertion) → P (plain.Assert plain.NoLook a)) → EachRow P plain_leaves → (w : List ℕ) (e : Tree) → leaf_of w ≡ Some e → P e
+pub leaf_has : (P : Tree → Type 0) → ((a : plain.Assertion) → P (plain.Assert plain.NoLook a)) → EachRow P plain_leaves → (w : List ℕ) (e : Tree) →
+    leaf_of w ≡ Some e → P e
 unfolding leaf_of
 leaf_has P asserted rows w e is = by_assertion (found assertions w) is
   where
@@ -169,7 +176,8 @@ leaf_has P asserted rows w e is = by_assertion (found assertions w) is
 
 leaf_fine : (w : List ℕ) (e : Tree) → leaf_of w ≡ Some e → AllFine e
 unfolding AllFine
-leaf_fine w e is = leaf_has AllFine (λ a. (tt, tt)) ((tt, tt), ((tt, tt), ((tt, tt), ((tt, tt), ((tt, tt), ((tt, tt), ((tt, tt), ((tt, tt), ((tt, tt), tt))))))))) w e is
+leaf_fine w e is = leaf_has AllFine (λ a. (tt, tt))
+    ((tt, tt), ((tt, tt), ((tt, tt), ((tt, tt), ((tt, tt), ((tt, tt), ((tt, tt), ((tt, tt), ((tt, tt), tt))))))))) w e is
 
 enclosed_fine : (f : Enclosing) (e : Tree) → AllFine e → AllFine (enclosed f e)
 unfolding AllFine
@@ -218,7 +226,8 @@ mutual
   form_fine (cat ps) = (tt, parts_fine ps)
   form_fine (alt {e = e} {es = es} s ps) = (tt, each_append FineBut (nodes e) (nodes_of_each (trees es)) (node_fine s) (parts_fine ps))
   form_fine (around {f = f} {e = e} s c) = enclosed_fine f e (node_fine s)
-  form_fine (repeat {lo = lo} lo_is hi_is s c) = ((taken_has IsCount count_fits lo_is, taken_has (λ hi. IfSome hi (λ n. (lo ≤ n) × IsCount n)) (bound_fits lo) hi_is), node_fine s)
+  form_fine (repeat {lo = lo} lo_is hi_is s c) =
+      ((taken_has IsCount count_fits lo_is, taken_has (λ hi. IfSome hi (λ n. (lo ≤ n) × IsCount n)) (bound_fits lo) hi_is), node_fine s)
   form_fine (set {casei = casei} {inner = s} t c) = class_fine casei s t.first.token t.is
   form_fine (bytes {bs = bs} t) = (each_all (λ c. c < 2 ^ 8) bs (bytes_fit t), tt)
   form_fine (names {f = f} {g = g} n c) = named_fine f g (taken_has IsUsize number_fits n)
@@ -251,10 +260,10 @@ fine_expr (code.Delegate inner casei) h one = fine_class (string_bytes inner) ca
 fine_expr (code.Absent a) h one = fine_absent a
 fine_expr x h one = h
 
-sound_each : (xs : List Expr) → Each FineBut (map tree_of xs) → Each IsOneChar xs → Each IsSound xs
+sound_each : (xs : List Expr) → Each FineBut (map tree_of xs) → Each IsOneChar xs → Each IsSoundNode xs
 sound_each [] h k = tt
 sound_each (x ∷ xs) h k = (record { fine = fine_expr x h.0 k.0; one_char = k.0 }, sound_each xs h.1 k.1)
 
 pub sound_if_spelled : {x y : Point} (e : Expr) → Spells x y (tree_of e) → OneCharEach e → AllSound e
 sound_if_spelled e s k =
-    each_all IsSound (exprs e) (sound_each (exprs e) (subst (Each FineBut) (sym (nodes-exprs e)) (node_fine s)) k)
+    each_all IsSoundNode (exprs e) (sound_each (exprs e) (subst (Each FineBut) (sym (nodes-exprs e)) (node_fine s)) k)

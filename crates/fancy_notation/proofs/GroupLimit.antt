@@ -17,7 +17,8 @@ Few g = g ≤ most_groups
 same : (h f : Form) (g n : ℕ) → Few g → ◌≡◌ {A = Option (Form × ℕ)} (Some (h, g)) (Some (f, n)) → Few n
 same h f g n few e = let p : ◌≡◌ {A = Form × ℕ} (h, g) (f, n) = cc in subst Few (ap (λ q. q.1) p) few
 
-one_more : (b : Bool) (f : Form) (g n : ℕ) → ltb g most_groups ≡ b → ◌≡◌ {A = Option (Form × ℕ)} (cond b (Some (form.Enclosing enclosing.Group, suc g)) None) (Some (f, n)) → Few n
+one_more : (b : Bool) (f : Form) (g n : ℕ) → ltb g most_groups ≡ b →
+    ◌≡◌ {A = Option (Form × ℕ)} (cond b (Some (form.Enclosing enclosing.Group, suc g)) None) (Some (f, n)) → Few n
 unfolding Few
 one_more true f g n less e =
     let p : ◌≡◌ {A = Form × ℕ} (form.Enclosing enclosing.Group, suc g) (f, n) = cc in

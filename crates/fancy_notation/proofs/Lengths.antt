@@ -42,7 +42,8 @@ mutual
   parts (spliced t more) = let h = takes t in let k = parts more in omega (arith, h, k)
   parts (part plain e more) = let h = node e in let k = parts more in omega (arith, h, k)
 
-pub taken_shorter : {V : Type 0} {gives : Token → Option V} {v : V} (old new : Reader) → Takes gives (point_of old) v (point_of new) → length new.rest.now < length old.rest.now
+pub taken_shorter : {V : Type 0} {gives : Token → Option V} {v : V} (old new : Reader) → Takes gives (point_of old) v (point_of new) →
+    length new.rest.now < length old.rest.now
 taken_shorter old new t = omega (arith, length-map old.rest.now placed_of, length-map new.rest.now placed_of, takes t)
 
 pub node_shorter : {e : Tree} (old new : Reader) → Spells (point_of old) (point_of new) e → length new.rest.now < length old.rest.now

@@ -10,27 +10,26 @@ use Rattle.fancy_expr.specs.declared.expr.Expr.TheVariants as code
 use Rattle.fancy_expr.specs.Views.{tree_of, absent_of}
 use Rattle.fancy_expr.specs.Exprs.{below, exprs, exprs_of_each}
 use Rattle.fancy_expr.proofs.Exprs.{exprs-below, nodes-exprs}
+use Rattle.fancy_expr.proofs.Walks.{each-taken}
 use Rattle.fancy_notation.specs.Surveys.{Surveyed, noted, noted_all}
 
 pub noted_absent : (s : Surveyed) (e : Expr) (a : Absent) → e ≡ code.Absent a → s ≡ noted s (tree_of e)
-noted_absent s e a is = sym (ap (λ x. noted s (tree_of x)) is ∙ elim a as (λ x. noted s (absent_of x) ≡ s) [ code_absent.Repeater' b y ↦ refl | code_absent.Expression' b y d z ↦ refl | code_absent.Stopper' b y ↦ refl | code_absent.Clear ↦ refl ])
+noted_absent s e a is =
+    sym (ap (λ x. noted s (tree_of x)) is
+    ∙ elim a as (λ x. noted s (absent_of x) ≡ s) [
+      | code_absent.Repeater' b y ↦ refl
+      | code_absent.Expression' b y d z ↦ refl
+      | code_absent.Stopper' b y ↦ refl
+      | code_absent.Clear ↦ refl
+    ])
 
 noted_all-append : (s : Surveyed) (a b : List Tree) → noted_all s (a ++ b) ≡ noted_all (noted_all s a) b
 noted_all-append s [] b = refl
 noted_all-append s (e ∷ a) b = noted_all-append (noted s e) a b
 
-each-append : (xs ys : List Expr) → exprs_of_each (xs ++ ys) ≡ exprs_of_each xs ++ exprs_of_each ys
-each-append [] ys = refl
-each-append (x ∷ xs) ys = ap (λ l. exprs x ++ l) (each-append xs ys) ∙ sym (append_assoc (exprs x) (exprs_of_each xs) (exprs_of_each ys))
-
-each-taken : (es : List Expr) (i : ℕ) (e : Expr) → i < length es → e ≡ get_or es i e → exprs_of_each (take (i + 1) es) ≡ exprs_of_each (take i es) ++ exprs e
-each-taken es i e h at =
-    ap exprs_of_each (take_more es i e h ∙ ap (λ x. take i es ++ x ∷ []) (sym at))
-    ∙ each-append (take i es) (e ∷ [])
-    ∙ ap (λ l. exprs_of_each (take i es) ++ l) (append-nil (exprs e))
-
 pub noted_more : (s before after : Surveyed) (es : List Expr) (i : ℕ) (e : Expr) → i < length es → e ≡ get_or es i e →
-    before ≡ noted_all s (map tree_of (exprs_of_each (take i es))) → after ≡ noted_all before (nodes (tree_of e)) → after ≡ noted_all s (map tree_of (exprs_of_each (take (i + 1) es)))
+    before ≡ noted_all s (map tree_of (exprs_of_each (take i es))) → after ≡ noted_all before (nodes (tree_of e)) →
+    after ≡ noted_all s (map tree_of (exprs_of_each (take (i + 1) es)))
 noted_more s before after es i e h at was is =
     is
     ∙ ap (λ l. noted_all before l) (sym (nodes-exprs e))
@@ -39,7 +38,8 @@ noted_more s before after es i e h at was is =
     ∙ ap (noted_all s) (sym (map-append tree_of (exprs_of_each (take i es)) (exprs e)))
     ∙ ap (λ l. noted_all s (map tree_of l)) (sym (each-taken es i e h at))
 
-pub noted_done : (s after : Surveyed) (e : Expr) (n : ℕ) → length (below e) ≤ n → after ≡ noted_all (noted s (tree_of e)) (map tree_of (exprs_of_each (take n (below e)))) → after ≡ noted_all s (nodes (tree_of e))
+pub noted_done : (s after : Surveyed) (e : Expr) (n : ℕ) → length (below e) ≤ n →
+    after ≡ noted_all (noted s (tree_of e)) (map tree_of (exprs_of_each (take n (below e)))) → after ≡ noted_all s (nodes (tree_of e))
 noted_done s after e n h is =
     is
     ∙ ap (λ l. noted_all (noted s (tree_of e)) (map tree_of (exprs_of_each l))) (take_all n (below e) h)

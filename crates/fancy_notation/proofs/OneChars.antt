@@ -43,7 +43,8 @@ no_literals e h = each_one_char (exprs e) (subst (Each NoLiteral) (sym (nodes-ex
 
 leaf_none : (w : List ℕ) (e : Tree) → leaf_of w ≡ Some e → NoLiterals e
 unfolding NoLiterals
-leaf_none w e is = leaf_has NoLiterals (λ a. (tt, tt)) ((tt, tt), ((tt, tt), ((tt, tt), ((tt, tt), ((tt, tt), ((tt, tt), ((tt, tt), ((tt, tt), ((tt, tt), tt))))))))) w e is
+leaf_none w e is = leaf_has NoLiterals (λ a. (tt, tt))
+    ((tt, tt), ((tt, tt), ((tt, tt), ((tt, tt), ((tt, tt), ((tt, tt), ((tt, tt), ((tt, tt), ((tt, tt), tt))))))))) w e is
 
 pub leaf_chars : {x y : Point} (e : Expr) → Takes (in_word leaf_of) x (tree_of e) y → OneCharEach e
 leaf_chars e t = no_literals e (taken_has NoLiterals leaf_none t)

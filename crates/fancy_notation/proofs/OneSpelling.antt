@@ -4,7 +4,7 @@ use Rattle.fancy_meaning.specs.Tree as plain
 use Rattle.fancy_meaning.specs.Tree.{Tree, trees}
 use Rattle.fancy_notation.specs.declared.forms.Form.{Form}
 use Rattle.fancy_notation.specs.Tokens.{Token, Placed, Opened, Closed, Quoted, Word, Broken}
-use Rattle.fancy_notation.specs.Words.{bound_of}
+use Rattle.fancy_notation.specs.Words.{bound_at_least}
 use Rattle.fancy_notation.specs.Grammar.{Point, in_word, opening, closing, quoted, head_word, is_at_text, literals, joined, parts_of_text, enclosed, named, named_at, Takes, Begins, SpellsBytes, no_byte, byte, Spells, text, leaf, formed, SpellsForm, cat, alt, around, repeat, set, bytes, names, names_at, verb, conditional, absent_expression, SpellsParts, no_part, spliced, part, IsSpelled}
 use Rattle.fancy_notation.specs.Reading.{first_gives}
 use Rattle.fancy_notation.proofs.Stack.{first_is, not_closing, text_not_closing}
@@ -65,9 +65,12 @@ not_closed q s t =
     let h : None ≡ Some tt = sym (not_closing s) ∙ ap (λ x. first_gives closing x.tokens) q ∙ first_is t closing ∙ t.is in
     absurd (cc)
 
-not_shut : {G W : Type 0} {others : Token → Option W} {x x' : Point} {w : W} {y z : Point} {u : Placed} → closing u.token ≡ None → x ≡ x' → Takes closing x tt y → (t : Takes others x' w z) → t.first ≡ u → G
+not_shut : {G W : Type 0} {others : Token → Option W} {x x' : Point} {w : W} {y z : Point} {u : Placed} → closing u.token ≡ None → x ≡ x' →
+    Takes closing x tt y → (t : Takes others x' w z) → t.first ≡ u → G
 not_shut never q s t same =
-    let h : None ≡ Some tt = sym never ∙ ap (λ p. closing p.token) (sym same) ∙ sym (first_is t closing) ∙ ap (λ x. first_gives closing x.tokens) (sym q) ∙ first_is s closing ∙ s.is in
+    let h : None ≡ Some tt =
+    sym never ∙ ap (λ p. closing p.token) (sym same) ∙ sym (first_is t closing) ∙ ap (λ x. first_gives closing x.tokens) (sym q) ∙ first_is s closing
+    ∙ s.is in
     absurd (cc)
 
 not_text : {G : Type 0} {x x' z : Point} {b : Bool × List ℕ} → x ≡ x' → is_at_text x.tokens ≡ false → Takes quoted x' b z → G
@@ -83,8 +86,8 @@ not_text q h t = by_kind t.first.token t.is (sym (ap (λ l. is_at_text l) (ap (�
 of_form : {f g : Form} {x y : Point} {e : Tree} → f ≡ g → SpellsForm g x y e → SpellsForm f x y e
 of_form {x = x} {y = y} {e = e} q s = subst (λ k. SpellsForm k x y e) (sym q) s
 
-from_bound : {l k : ℕ} {x y : Point} {hi : Option ℕ} → l ≡ k → Takes (in_word (bound_of k)) x hi y → Takes (in_word (bound_of l)) x hi y
-from_bound {x = x} {y = y} {hi = hi} q t = subst (λ n. Takes (in_word (bound_of n)) x hi y) (sym q) t
+from_bound : {l k : ℕ} {x y : Point} {hi : Option ℕ} → l ≡ k → Takes (in_word (bound_at_least k)) x hi y → Takes (in_word (bound_at_least l)) x hi y
+from_bound {x = x} {y = y} {hi = hi} q t = subst (λ n. Takes (in_word (bound_at_least n)) x hi y) (sym q) t
 
 one_head : {x x' : Point} {f g : Form} {y z : Point} → x ≡ x' → Begins x f y → Begins x' g z → Same f y g z
 one_head q a b =

@@ -10,11 +10,13 @@ use Rattle.fancy_notation.specs.Reading.{first_gives}
 
 -- ---- one token
 
-pub stepped : (end : ℕ) (p : Placed) (ps : List Placed) (g : ℕ) (w : Want) (k : List Want) (n : Next) → next_step g w p.token ≡ Some n → misfit end (p ∷ ps) g (w ∷ k) ≡ misfit end ps n.groups (n.wants ++ k)
+pub stepped : (end : ℕ) (p : Placed) (ps : List Placed) (g : ℕ) (w : Want) (k : List Want) (n : Next) → next_step g w p.token ≡ Some n →
+    misfit end (p ∷ ps) g (w ∷ k) ≡ misfit end ps n.groups (n.wants ++ k)
 stepped end p ps g w k n e =
     subst (λ o. elim o [ None ↦ Some p.at | Some m ↦ misfit end ps m.groups (m.wants ++ k) ] ≡ misfit end ps n.groups (n.wants ++ k)) (sym e) refl
 
-pub stuck : (end : ℕ) (p : Placed) (ps : List Placed) (g : ℕ) (w : Want) (k : List Want) → next_step g w p.token ≡ None → misfit end (p ∷ ps) g (w ∷ k) ≡ Some p.at
+pub stuck : (end : ℕ) (p : Placed) (ps : List Placed) (g : ℕ) (w : Want) (k : List Want) → next_step g w p.token ≡ None →
+    misfit end (p ∷ ps) g (w ∷ k) ≡ Some p.at
 stuck end p ps g w k e =
     subst (λ o. elim o [ None ↦ Some p.at | Some m ↦ misfit end ps m.groups (m.wants ++ k) ] ≡ Some p.at) (sym e) refl
 
@@ -115,7 +117,8 @@ none_goes_on w g (Word v) e = refl
 none_goes_on w g Broken e = refl
 
 -- before anything but a closing parenthesis a row of parts wants a node
-pub wants_node : (end : ℕ) (ts : List Placed) (g : ℕ) (k : List Want) → first_gives closing ts ≡ None → misfit end ts g (Parts ∷ k) ≡ misfit end ts g (Node ∷ Parts ∷ k)
+pub wants_node : (end : ℕ) (ts : List Placed) (g : ℕ) (k : List Want) → first_gives closing ts ≡ None →
+    misfit end ts g (Parts ∷ k) ≡ misfit end ts g (Node ∷ Parts ∷ k)
 wants_node end [] g k e = refl
 wants_node end (p ∷ ps) g k e = by_step (node_step g p.token) refl
   where
@@ -137,35 +140,43 @@ byte_step g t = given (in_word byte_of t) (λ b. with_groups g [])
 pub bytes_end : {x y : Point} → Takes closing x tt y → (end : ℕ) (k : List Want) → misfit end x.tokens x.groups (Bytes ∷ k) ≡ misfit end y.tokens y.groups k
 bytes_end {x = x} t end k = keeps t Bytes [] (λ token e. many_ends Bytes x.groups token (given (in_word byte_of token) (λ b. with_groups x.groups [])) e) end k
 
-pub byte_goes_on : {x y : Point} {b : ℕ} → Takes (in_word byte_of) x b y → (end : ℕ) (k : List Want) → misfit end x.tokens x.groups (Bytes ∷ k) ≡ misfit end y.tokens y.groups (Bytes ∷ k)
+pub byte_goes_on : {x y : Point} {b : ℕ} → Takes (in_word byte_of) x b y → (end : ℕ) (k : List Want) →
+    misfit end x.tokens x.groups (Bytes ∷ k) ≡ misfit end y.tokens y.groups (Bytes ∷ k)
 byte_goes_on {x = x} {b = b} t end k =
     keeps t Bytes (Bytes ∷ [])
-    (λ token e. ap (λ o. many_step Bytes x.groups token (given o (λ u. with_groups x.groups []))) e ∙ some_goes_on Bytes x.groups token (with_groups x.groups []) (word_not_closing byte_of b token e))
+    (λ token e. ap (λ o. many_step Bytes x.groups token (given o (λ u. with_groups x.groups []))) e
+    ∙ some_goes_on Bytes x.groups token (with_groups x.groups []) (word_not_closing byte_of b token e))
     end k
 
 -- ---- forms
 
-pub begun : {x : Point} {f : Form} {z : Point} → Begins x f z → (end : ℕ) (k : List Want) → misfit end x.tokens x.groups (Node ∷ k) ≡ misfit end z.tokens z.groups (wants f ++ k)
+pub begun : {x : Point} {f : Form} {z : Point} → Begins x f z → (end : ℕ) (k : List Want) →
+    misfit end x.tokens x.groups (Node ∷ k) ≡ misfit end z.tokens z.groups (wants f ++ k)
 begun {x = x} {f = f} {z = z} b end k =
     keeps b.opened Node (Head ∷ []) (open_may x.groups) end k
     ∙ ap (λ ts. misfit end ts b.y.groups (Head ∷ k)) b.head.tokens
-    ∙ stepped end b.head.first b.after.tokens b.y.groups Head k (with_groups z.groups (wants f)) (ap (λ o. given o (λ h. with_groups h.1 (wants h.0))) b.head.is)
+    ∙ stepped end b.head.first b.after.tokens b.y.groups Head k (with_groups z.groups (wants f))
+    (ap (λ o. given o (λ h. with_groups h.1 (wants h.0))) b.head.is)
     ∙ ap (λ ts. misfit end ts z.groups (wants f ++ k)) (sym b.tokens)
 
-pub bytes_stand : {x y : Point} {bs : List ℕ} → SpellsBytes x y bs → (end : ℕ) (k : List Want) → misfit end x.tokens x.groups (Bytes ∷ k) ≡ misfit end y.tokens y.groups k
+pub bytes_stand : {x y : Point} {bs : List ℕ} → SpellsBytes x y bs → (end : ℕ) (k : List Want) →
+    misfit end x.tokens x.groups (Bytes ∷ k) ≡ misfit end y.tokens y.groups k
 bytes_stand (no_byte t) end k = bytes_end t end k
 bytes_stand (byte t more) end k = byte_goes_on t end k ∙ bytes_stand more end k
 
-pub text_stands : {x y : Point} {q : Bool × List ℕ} → Takes quoted x q y → (end : ℕ) (k : List Want) → misfit end x.tokens x.groups (Node ∷ k) ≡ misfit end y.tokens y.groups k
+pub text_stands : {x y : Point} {q : Bool × List ℕ} → Takes quoted x q y → (end : ℕ) (k : List Want) →
+    misfit end x.tokens x.groups (Node ∷ k) ≡ misfit end y.tokens y.groups k
 text_stands {x = x} {q = q} t end k = keeps t Node [] (text_may x.groups q) end k
 
 mutual
-  pub node_stands : {x y : Point} {e : Tree} → Spells x y e → (end : ℕ) (k : List Want) → misfit end x.tokens x.groups (Node ∷ k) ≡ misfit end y.tokens y.groups k
+  pub node_stands : {x y : Point} {e : Tree} → Spells x y e → (end : ℕ) (k : List Want) →
+      misfit end x.tokens x.groups (Node ∷ k) ≡ misfit end y.tokens y.groups k
   node_stands (text t) end k = text_stands t end k
   node_stands {x} (leaf t) end k = keeps t Node [] (leaf_may x.groups _) end k
   node_stands (formed b f) end k = begun b end k ∙ form_stands f end k
 
-  pub form_stands : {f : Form} {x y : Point} {e : Tree} → SpellsForm f x y e → (end : ℕ) (k : List Want) → misfit end x.tokens x.groups (wants f ++ k) ≡ misfit end y.tokens y.groups k
+  pub form_stands : {f : Form} {x y : Point} {e : Tree} → SpellsForm f x y e → (end : ℕ) (k : List Want) →
+      misfit end x.tokens x.groups (wants f ++ k) ≡ misfit end y.tokens y.groups k
   form_stands (cat ps) end k = parts_stand ps end k
   form_stands (alt e ps) end k = node_stands e end (Parts ∷ k) ∙ parts_stand ps end k
   form_stands (around e c) end k = node_stands e end (Shut ∷ k) ∙ shut c end k
@@ -186,7 +197,8 @@ mutual
       node_stands c end (Node ∷ Node ∷ Shut ∷ k) ∙ node_stands t end (Node ∷ Shut ∷ k) ∙ node_stands f end (Shut ∷ k) ∙ shut s end k
   form_stands (absent_expression a e s) end k = node_stands a end (Node ∷ Shut ∷ k) ∙ node_stands e end (Shut ∷ k) ∙ shut s end k
 
-  pub parts_stand : {splices : Bool} {x y : Point} {es : List Tree} → SpellsParts splices x y es → (end : ℕ) (k : List Want) → misfit end x.tokens x.groups (Parts ∷ k) ≡ misfit end y.tokens y.groups k
+  pub parts_stand : {splices : Bool} {x y : Point} {es : List Tree} → SpellsParts splices x y es → (end : ℕ) (k : List Want) →
+      misfit end x.tokens x.groups (Parts ∷ k) ≡ misfit end y.tokens y.groups k
   parts_stand (no_part t) end k = parts_end t end k
   parts_stand {x = x} (spliced t more) end k =
       wants_node end x.tokens x.groups k (first_is t closing ∙ text_not_closing _ _ t.is)

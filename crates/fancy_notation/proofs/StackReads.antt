@@ -5,7 +5,7 @@ use Rattle.fancy_meaning.specs.Tree.{Tree, trees}
 use Rattle.fancy_notation.specs.declared.forms.Form.{Form}
 use Rattle.fancy_notation.specs.declared.forms.Form.TheVariants as form
 use Rattle.fancy_notation.specs.Tokens.{Token, Placed, Opened, Closed, Quoted, Word, Broken}
-use Rattle.fancy_notation.specs.Words.{leaf_of, verb_of, number_of, level_of, count_of, bound_of, byte_of}
+use Rattle.fancy_notation.specs.Words.{leaf_of, verb_of, number_of, level_of, count_of, bound_at_least, byte_of}
 use Rattle.fancy_notation.specs.Grammar.{Point, in_word, closing, class, head_word, is_at_text, literals, joined, parts_of_text, enclosed, named, named_at, Takes, Begins, SpellsBytes, no_byte, byte, Spells, text, leaf, formed, SpellsForm, cat, alt, around, repeat, set, bytes, names, names_at, verb, conditional, absent_expression, SpellsParts, no_part, spliced, part, IsSpelled}
 use Rattle.fancy_notation.specs.Misfit.{Want, Node, Head, Shut, Parts, Count, Bound, Number, Level, Bytes, Class, VerbName, wants, with_groups, given, next_step, misfit}
 use Rattle.fancy_notation.specs.Reading.{first_gives}
@@ -29,7 +29,8 @@ record Took {V : Type 0} (gives : Token → Option V) (f : V → List Want) (end
   is : Takes gives x v y
   left : misfit end y.tokens y.groups (f v ++ k) ≡ None
 
-took : {V : Type 0} (gives : Token → Option V) (w : Want) (f : V → List Want) → ((g : ℕ) (token : Token) → next_step g w token ≡ given (gives token) (λ u. with_groups g (f u))) →
+took : {V : Type 0} (gives : Token → Option V) (w : Want) (f : V → List Want) →
+    ((g : ℕ) (token : Token) → next_step g w token ≡ given (gives token) (λ u. with_groups g (f u))) →
     (end g : ℕ) (ts : List Placed) (k : List Want) → misfit end ts g (w ∷ k) ≡ None → Took gives f end (point g ts) k
 took gives w f is end g [] k e = absurd (cc)
 took {V} gives w f is end g (p ∷ ps) k e = by_gift (gives p.token) refl
@@ -50,7 +51,8 @@ shut end g ts k e = took closing Shut (λ u. []) (λ g t. refl) end g ts k e
 
 -- ---- bytes
 
-byte_word : (end g at : ℕ) (w : List ℕ) (ps : List Placed) (k : List Want) (o : Option ℕ) → byte_of w ≡ o → misfit end (record { at = at; token = Word w } ∷ ps) g (Bytes ∷ k) ≡ None →
+byte_word : (end g at : ℕ) (w : List ℕ) (ps : List Placed) (k : List Want) (o : Option ℕ) → byte_of w ≡ o →
+    misfit end (record { at = at; token = Word w } ∷ ps) g (Bytes ∷ k) ≡ None →
     (b : ℕ) × Takes (in_word byte_of) (point g (record { at = at; token = Word w } ∷ ps)) b (point g ps) × (misfit end ps g (Bytes ∷ k) ≡ None)
 byte_word end g at w ps k None q e =
     let h : Some at ≡ None = sym (stuck end (record { at = at; token = Word w }) ps g Bytes k (rw q)) ∙ e in
@@ -61,11 +63,17 @@ byte_word end g at w ps k (Some b) q e = (
   sym (stepped end (record { at = at; token = Word w }) ps g Bytes k (with_groups g (Bytes ∷ [])) (rw q)) ∙ e,
 )
 
-bytes_token : (end g at : ℕ) (t : Token) (ps : List Placed) (k : List Want) → (misfit end ps g (Bytes ∷ k) ≡ None → Goes (λ bs y. SpellsBytes (point g ps) y bs) end k) →
+bytes_token : (end g at : ℕ) (t : Token) (ps : List Placed) (k : List Want) →
+    (misfit end ps g (Bytes ∷ k) ≡ None → Goes (λ bs y. SpellsBytes (point g ps) y bs) end k) →
     misfit end (record { at = at; token = t } ∷ ps) g (Bytes ∷ k) ≡ None → Goes (λ bs y. SpellsBytes (point g (record { at = at; token = t } ∷ ps)) y bs) end k
 bytes_token end g at Opened ps k rest e = absurd (cc)
 bytes_token end g at Closed ps k rest e =
-    record { found = []; y = point g ps; is = no_byte (record { first = record { at = at; token = Closed }; tokens = refl; groups = refl; is = refl }); left = e }
+    record {
+      found = [];
+      y = point g ps;
+      is = no_byte (record { first = record { at = at; token = Closed }; tokens = refl; groups = refl; is = refl });
+      left = e;
+    }
 bytes_token end g at (Quoted b s) ps k rest e = absurd (cc)
 bytes_token end g at (Word w) ps k rest e =
     let h = byte_word end g at w ps k (byte_of w) refl e in
@@ -79,7 +87,8 @@ bytes_read end g (p ∷ ps) k e = bytes_token end g p.at p.token ps k (bytes_rea
 
 -- ---- nodes
 
-leaf_word : (end g at : ℕ) (w : List ℕ) (ps : List Placed) (k : List Want) (o : Option Tree) → leaf_of w ≡ o → misfit end (record { at = at; token = Word w } ∷ ps) g (Node ∷ k) ≡ None →
+leaf_word : (end g at : ℕ) (w : List ℕ) (ps : List Placed) (k : List Want) (o : Option Tree) → leaf_of w ≡ o →
+    misfit end (record { at = at; token = Word w } ∷ ps) g (Node ∷ k) ≡ None →
     Goes (λ e y. Spells (point g (record { at = at; token = Word w } ∷ ps)) y e) end k
 leaf_word end g at w ps k None q e =
     let h : Some at ≡ None = sym (stuck end (record { at = at; token = Word w }) ps g Node k (rw q)) ∙ e in
@@ -125,10 +134,13 @@ heads_shorter h = omega (arith, takes h.begins.head, ap length h.begins.tokens, 
 -- what is read of so many tokens
 record AllRead (n : ℕ) : Type 0 where
   node : (end g : ℕ) (ts : List Placed) (k : List Want) → 3 * length ts < n → misfit end ts g (Node ∷ k) ≡ None → Goes (λ e y. Spells (point g ts) y e) end k
-  form : (f : Form) (end g : ℕ) (ts : List Placed) (k : List Want) → 3 * length ts + 2 < n → misfit end ts g (wants f ++ k) ≡ None → Goes (λ e y. SpellsForm f (point g ts) y e) end k
-  parts : (splices : Bool) (end g : ℕ) (ts : List Placed) (k : List Want) → 3 * length ts + 1 < n → misfit end ts g (Parts ∷ k) ≡ None → Goes (λ es y. SpellsParts splices (point g ts) y es) end k
+  form : (f : Form) (end g : ℕ) (ts : List Placed) (k : List Want) → 3 * length ts + 2 < n → misfit end ts g (wants f ++ k) ≡ None →
+      Goes (λ e y. SpellsForm f (point g ts) y e) end k
+  parts : (splices : Bool) (end g : ℕ) (ts : List Placed) (k : List Want) → 3 * length ts + 1 < n → misfit end ts g (Parts ∷ k) ≡ None →
+      Goes (λ es y. SpellsParts splices (point g ts) y es) end k
 
-node_token : (n : ℕ) → AllRead n → (end g at : ℕ) (t : Token) (ps : List Placed) (k : List Want) → 3 * length ps < n → misfit end (record { at = at; token = t } ∷ ps) g (Node ∷ k) ≡ None →
+node_token : (n : ℕ) → AllRead n → (end g at : ℕ) (t : Token) (ps : List Placed) (k : List Want) → 3 * length ps < n →
+    misfit end (record { at = at; token = t } ∷ ps) g (Node ∷ k) ≡ None →
     Goes (λ e y. Spells (point g (record { at = at; token = t } ∷ ps)) y e) end k
 node_token n b end g at Opened ps k h e =
     let s = heads end g at ps k e in
@@ -144,11 +156,13 @@ node_token n b end g at (Quoted folded s) ps k h e = record {
 node_token n b end g at (Word w) ps k h e = leaf_word end g at w ps k (leaf_of w) refl e
 node_token n b end g at Broken ps k h e = absurd (cc)
 
-node_read : (n : ℕ) → AllRead n → (end g : ℕ) (ts : List Placed) (k : List Want) → 3 * length ts < suc n → misfit end ts g (Node ∷ k) ≡ None → Goes (λ e y. Spells (point g ts) y e) end k
+node_read : (n : ℕ) → AllRead n → (end g : ℕ) (ts : List Placed) (k : List Want) → 3 * length ts < suc n → misfit end ts g (Node ∷ k) ≡ None →
+    Goes (λ e y. Spells (point g ts) y e) end k
 node_read n b end g [] k h e = absurd (cc)
 node_read n b end g (p ∷ ps) k h e = node_token n b end g p.at p.token ps k (omega (arith, h)) e
 
-form_read : (n : ℕ) → AllRead n → (f : Form) (end g : ℕ) (ts : List Placed) (k : List Want) → 3 * length ts + 2 < suc n → misfit end ts g (wants f ++ k) ≡ None →
+form_read : (n : ℕ) → AllRead n → (f : Form) (end g : ℕ) (ts : List Placed) (k : List Want) → 3 * length ts + 2 < suc n →
+    misfit end ts g (wants f ++ k) ≡ None →
     Goes (λ e y. SpellsForm f (point g ts) y e) end k
 form_read n below form.Cat end g ts k h e =
     let r = below.parts true end g ts k (omega (arith, h)) e in
@@ -163,10 +177,15 @@ form_read n below (form.Enclosing f) end g ts k h e =
     record { found = enclosed f a.found; y = r.y; is = around {y = a.y} {z = r.y} {e = a.found} a.is r.is; left = r.left }
 form_read n below (form.Repeat greedy) end g ts k h e =
     let lo = took (in_word count_of) Count (λ n. Bound n ∷ []) (λ g t. refl) end g ts (Node ∷ Shut ∷ k) e in
-    let hi = took (in_word (bound_of lo.v)) (Bound lo.v) (λ n. []) (λ g t. refl) end lo.y.groups lo.y.tokens (Node ∷ Shut ∷ k) lo.left in
+    let hi = took (in_word (bound_at_least lo.v)) (Bound lo.v) (λ n. []) (λ g t. refl) end lo.y.groups lo.y.tokens (Node ∷ Shut ∷ k) lo.left in
     let a = below.node end hi.y.groups hi.y.tokens (Shut ∷ k) (omega (arith, h, takes lo.is, takes hi.is)) hi.left in
     let r = shut end a.y.groups a.y.tokens k a.left in
-    record { found = plain.Repeat lo.v hi.v greedy a.found; y = r.y; is = repeat {y = lo.y} {z = hi.y} {u = a.y} {v = r.y} {e = a.found} lo.is hi.is a.is r.is; left = r.left }
+    record {
+      found = plain.Repeat lo.v hi.v greedy a.found;
+      y = r.y;
+      is = repeat {y = lo.y} {z = hi.y} {u = a.y} {v = r.y} {e = a.found} lo.is hi.is a.is r.is;
+      left = r.left;
+    }
 form_read n below (form.Set casei) end g ts k h e =
     let s = took class Class (λ u. []) (λ g t. refl) end g ts (Shut ∷ k) e in
     let r = shut end s.y.groups s.y.tokens k s.left in
@@ -192,12 +211,22 @@ form_read n below form.Conditional end g ts k h e =
     let t = below.node end c.y.groups c.y.tokens (Node ∷ Shut ∷ k) (omega (arith, h, node {y = c.y} {e = c.found} c.is)) c.left in
     let f = below.node end t.y.groups t.y.tokens (Shut ∷ k) (omega (arith, h, node {y = c.y} {e = c.found} c.is, node {y = t.y} {e = t.found} t.is)) t.left in
     let r = shut end f.y.groups f.y.tokens k f.left in
-    record { found = plain.Conditional c.found t.found f.found; y = r.y; is = conditional {y = c.y} {z = t.y} {u = f.y} {v = r.y} {c = c.found} {t = t.found} {f = f.found} c.is t.is f.is r.is; left = r.left }
+    record {
+      found = plain.Conditional c.found t.found f.found;
+      y = r.y;
+      is = conditional {y = c.y} {z = t.y} {u = f.y} {v = r.y} {c = c.found} {t = t.found} {f = f.found} c.is t.is f.is r.is;
+      left = r.left;
+    }
 form_read n below form.AbsentExpression end g ts k h e =
     let a = below.node end g ts (Node ∷ Shut ∷ k) (omega (arith, h)) e in
     let b = below.node end a.y.groups a.y.tokens (Shut ∷ k) (omega (arith, h, node a.is)) a.left in
     let r = shut end b.y.groups b.y.tokens k b.left in
-    record { found = plain.AbsentExpression a.found b.found; y = r.y; is = absent_expression {y = a.y} {z = b.y} {u = r.y} {a = a.found} {e = b.found} a.is b.is r.is; left = r.left }
+    record {
+      found = plain.AbsentExpression a.found b.found;
+      y = r.y;
+      is = absent_expression {y = a.y} {z = b.y} {u = r.y} {a = a.found} {e = b.found} a.is b.is r.is;
+      left = r.left;
+    }
 
 -- a part that is no quoted text
 parts_part : (n : ℕ) → AllRead n → (splices : Bool) (end g : ℕ) (p : Placed) (ps : List Placed) (k : List Want) → 3 * length ps + 3 < n →
@@ -212,10 +241,20 @@ parts_token : (n : ℕ) → AllRead n → (splices : Bool) (end g at : ℕ) (t :
     misfit end (record { at = at; token = t } ∷ ps) g (Parts ∷ k) ≡ None →
     Goes (λ es y. SpellsParts splices (point g (record { at = at; token = t } ∷ ps)) y es) end k
 parts_token n below splices end g at Closed ps k h e =
-    record { found = []; y = point g ps; is = no_part (record { first = record { at = at; token = Closed }; tokens = refl; groups = refl; is = refl }); left = e }
+    record {
+      found = [];
+      y = point g ps;
+      is = no_part (record { first = record { at = at; token = Closed }; tokens = refl; groups = refl; is = refl });
+      left = e;
+    }
 parts_token n below true end g at (Quoted folded s) ps k h e =
     let r = below.parts true end g ps k (omega (arith, h)) e in
-    record { found = parts_of_text folded s ++ r.found; y = r.y; is = spliced {z = r.y} {es = r.found} (record { first = record { at = at; token = Quoted folded s }; tokens = refl; groups = refl; is = refl }) r.is; left = r.left }
+    record {
+      found = parts_of_text folded s ++ r.found;
+      y = r.y;
+      is = spliced {z = r.y} {es = r.found} (record { first = record { at = at; token = Quoted folded s }; tokens = refl; groups = refl; is = refl }) r.is;
+      left = r.left;
+    }
 parts_token n below false end g at (Quoted folded s) ps k h e =
     let r = below.parts false end g ps k (omega (arith, h)) e in
     record {
@@ -228,7 +267,8 @@ parts_token n below splices end g at Opened ps k h e = parts_part n below splice
 parts_token n below splices end g at (Word w) ps k h e = parts_part n below splices end g (record { at = at; token = Word w }) ps k h (λ q. refl) refl e
 parts_token n below splices end g at Broken ps k h e = absurd (cc)
 
-parts_read : (n : ℕ) → AllRead n → (splices : Bool) (end g : ℕ) (ts : List Placed) (k : List Want) → 3 * length ts + 1 < suc n → misfit end ts g (Parts ∷ k) ≡ None →
+parts_read : (n : ℕ) → AllRead n → (splices : Bool) (end g : ℕ) (ts : List Placed) (k : List Want) → 3 * length ts + 1 < suc n →
+    misfit end ts g (Parts ∷ k) ≡ None →
     Goes (λ es y. SpellsParts splices (point g ts) y es) end k
 parts_read n below splices end g [] k h e = absurd (cc)
 parts_read n below splices end g (p ∷ ps) k h e = parts_token n below splices end g p.at p.token ps k (omega (arith, h)) e

@@ -34,8 +34,10 @@ pub record Begins (start : Reader) (end : ℕ) (ts : List Placed) : Type 0 where
 whole_start : (start : Reader) (at : ℕ) (ts : List Placed) → Begins start at ts → point_of start ≡ record { groups = 0; tokens = ts }
 whole_start start at ts b = ap (λ g. record { groups = g; tokens = (point_of start).tokens }) b.groups ∙ ap (λ l. record { groups = 0; tokens = l }) b.tokens
 
-whole_spelled : (start last : Reader) (at : ℕ) (ts : List Placed) (e : Tree) → Begins start at ts → Spells (point_of start) (point_of last) e → (point_of last).tokens ≡ [] → IsSpelled ts e
-whole_spelled start last at ts e b s none = record { last = point_of last; spells = subst (λ x. Spells x (point_of last) e) (whole_start start at ts b) s; none_left = none }
+whole_spelled : (start last : Reader) (at : ℕ) (ts : List Placed) (e : Tree) → Begins start at ts → Spells (point_of start) (point_of last) e →
+    (point_of last).tokens ≡ [] → IsSpelled ts e
+whole_spelled start last at ts e b s none =
+    record { last = point_of last; spells = subst (λ x. Spells x (point_of last) e) (whole_start start at ts b) s; none_left = none }
 
 pub memory_fault : (at : ℕ) (ts : List Placed) (e : Error) → e ≡ Memory → IsFault at ts e
 memory_fault at ts e is = subst (IsFault at ts) (sym is) tt
@@ -45,7 +47,8 @@ whole_fails start at ts (CompileError x) b h = h
 whole_fails start at ts (RuntimeError x) b h = h
 whole_fails start at ts (TreeFault p) b h =
     fault_there at ts p
-    (sym (ap (λ n. misfit n (point_of start).tokens start.groups (Node ∷ [])) b.ends ∙ ap (λ x. misfit at x.tokens x.groups (Node ∷ [])) (whole_start start at ts b)) ∙ h [])
+    (sym (ap (λ n. misfit n (point_of start).tokens start.groups (Node ∷ [])) b.ends
+    ∙ ap (λ x. misfit at x.tokens x.groups (Node ∷ [])) (whole_start start at ts b)) ∙ h [])
 whole_fails start at ts Memory b h = tt
 
 -- more tokens come where all was read
@@ -53,7 +56,8 @@ left_over : (at g : ℕ) (ts : List Placed) → (ts ≡ [] → ⊥) → misfit a
 left_over at g [] some = absurd (some refl)
 left_over at g (p ∷ ps) some = refl
 
-pub whole_left : {C : Type 0} (start last : Reader) (t : Tree) (at : ℕ) (ts : List Placed) (e : Error) → Begins start at ts → Spells (point_of start) (point_of last) t × (last.end ≡ start.end) × C →
+pub whole_left : {C : Type 0} (start last : Reader) (t : Tree) (at : ℕ) (ts : List Placed) (e : Error) → Begins start at ts →
+    Spells (point_of start) (point_of last) t × (last.end ≡ start.end) × C →
     IsFaultHere last e × ((point_of last).tokens ≡ [] → ⊥) → IsFault at ts e
 whole_left start last t at ts e b s f =
     subst (IsFault at ts) (sym f.0)

@@ -6,11 +6,11 @@ use Rattle.std.specs.Str.Parse.{digits_value, ParsesUnsigned, ParsesSigned}
 use Rattle.std.specs.Result.{result_ok}
 use Rattle.std.proofs.lemmas.Bool.{and_parts, and_from}
 use Rattle.std.proofs.lemmas.Str.Parse.{IsNumeralModel, numerals_by_value, tells_all_ascii_digits, parse_plain, parse_signed_plain, parse_signed_minus}
-use Rattle.fancy_expr.specs.Views.{bound_of as bound_view}
+use Rattle.fancy_expr.specs.Views.{bound_of}
 use Rattle.fancy_meaning.specs.Tree.{Assertion, Assert, NoLook}
 use Rattle.fancy_notation.specs.declared.forms.Enclosing.{Enclosing}
 use Rattle.fancy_notation.specs.declared.forms.Form.TheVariants as form
-use Rattle.fancy_notation.specs.Words.{found, assertions, plain_leaves, leaf_of, enclosings, other_forms, form_of, when, kept, is_numeral, number_of, level_of, count_of, bound_of}
+use Rattle.fancy_notation.specs.Words.{found, assertions, plain_leaves, leaf_of, enclosings, other_forms, form_of, when, kept, is_numeral, number_of, level_of, count_of, bound_at_least}
 
 digits : IsNumeralModel (λ ds. all_ascii_digits ds ≡ true) (digits_value 10)
 digits = numerals_by_value _ tells_all_ascii_digits
@@ -37,10 +37,12 @@ is_digits : (w : List ℕ) → is_numeral w ≡ true → (all_ascii_digits w ≡
 is_digits [] e = absurd (cc)
 is_digits (c ∷ cs) e = (e, omega arith)
 
-to_test : (w : List ℕ) (small : Bool) (Small : Type 0) → (Small → small ≡ true) → (all_ascii_digits w ≡ true) × (0 < length w) × Small → (is_numeral w && small) ≡ true
+to_test : (w : List ℕ) (small : Bool) (Small : Type 0) → (Small → small ≡ true) → (all_ascii_digits w ≡ true) × (0 < length w) × Small →
+    (is_numeral w && small) ≡ true
 to_test w small Small to h = and_from _ _ (numeral w h.0 h.1) (to h.2)
 
-from_test : (w : List ℕ) (small : Bool) (Small : Type 0) → (small ≡ true → Small) → (is_numeral w && small) ≡ true → (all_ascii_digits w ≡ true) × (0 < length w) × Small
+from_test : (w : List ℕ) (small : Bool) (Small : Type 0) → (small ≡ true → Small) → (is_numeral w && small) ≡ true →
+    (all_ascii_digits w ≡ true) × (0 < length w) × Small
 from_test w small Small from h =
     let p = and_parts _ _ h in
     let d = is_digits w p.0 in
@@ -64,7 +66,8 @@ unfolding level_of
 level-plus [] e = refl
 level-plus (c ∷ cs) e = subst (λ x. None ≡ level_of (x ∷ cs)) (sym e) refl
 
-by_test : {G : Type 0} (b : Bool) → (b ≡ true → G) → (b ≡ false → G) → G
+-- by what a test says
+pub by_test : {G : Type 0} (b : Bool) → (b ≡ true → G) → (b ≡ false → G) → G
 by_test true at_true at_false = at_true refl
 by_test false at_true at_false = at_false refl
 
@@ -74,12 +77,16 @@ level-parsed [] r h never =
     answered false _ _ r (λ p. absurd (omega (arith, p.1))) (λ t. absurd (cc)) (parse_signed_plain digits w64 [] r h never (λ e. absurd (omega (arith, e))))
 level-parsed (c ∷ cs) r h never =
     by_test (eqb c 45)
-    (λ e. subst (λ b. result_ok r ≡ cond b (when (is_numeral cs && leb (digits_value 10 cs) (2 ^ 63)) (neg_ℤ (pos (digits_value 10 cs)))) (when (is_numeral (c ∷ cs) && ltb (digits_value 10 (c ∷ cs)) (2 ^ 63)) (pos (digits_value 10 (c ∷ cs))))) (sym e)
+    (λ e. subst (λ b. result_ok r
+    ≡ cond b (when (is_numeral cs && leb (digits_value 10 cs) (2 ^ 63)) (neg_ℤ (pos (digits_value 10 cs))))
+    (when (is_numeral (c ∷ cs) && ltb (digits_value 10 (c ∷ cs)) (2 ^ 63)) (pos (digits_value 10 (c ∷ cs))))) (sym e)
     (answered _ _ _ r
     (to_test cs (leb (digits_value 10 cs) (2 ^ 63)) (digits_value 10 cs ≤ 2 ^ 63) (le-leb _ _))
     (from_test cs (leb (digits_value 10 cs) (2 ^ 63)) (digits_value 10 cs ≤ 2 ^ 63) (leb-true _ _))
     (parse_signed_minus digits w64 (c ∷ cs) r h (eqb-true _ _ e))))
-    (λ e. subst (λ b. result_ok r ≡ cond b (when (is_numeral cs && leb (digits_value 10 cs) (2 ^ 63)) (neg_ℤ (pos (digits_value 10 cs)))) (when (is_numeral (c ∷ cs) && ltb (digits_value 10 (c ∷ cs)) (2 ^ 63)) (pos (digits_value 10 (c ∷ cs))))) (sym e)
+    (λ e. subst (λ b. result_ok r
+    ≡ cond b (when (is_numeral cs && leb (digits_value 10 cs) (2 ^ 63)) (neg_ℤ (pos (digits_value 10 cs))))
+    (when (is_numeral (c ∷ cs) && ltb (digits_value 10 (c ∷ cs)) (2 ^ 63)) (pos (digits_value 10 (c ∷ cs))))) (sym e)
     (answered _ _ _ r
     (to_test (c ∷ cs) (ltb (digits_value 10 (c ∷ cs)) (2 ^ 63)) (digits_value 10 (c ∷ cs) < 2 ^ 63) (lt-ltb _ _))
     (from_test (c ∷ cs) (ltb (digits_value 10 (c ∷ cs)) (2 ^ 63)) (digits_value 10 (c ∷ cs) < 2 ^ 63) (ltb-true _ _))
@@ -107,30 +114,33 @@ kept-some test None v e = absurd (cc)
 kept-some test (Some w) v e = let p = when-some (test w) w v e in subst (λ x. test x ≡ true) p.1 p.0
 
 -- a count is below the number that means that there is no bound
-pub count-view : (w : List ℕ) (n : ℕ) → count_of w ≡ Some n → bound_view n ≡ Some n
+pub count-view : (w : List ℕ) (n : ℕ) → count_of w ≡ Some n → bound_of n ≡ Some n
 unfolding count_of
 count-view w n e =
     let small : n < 2 ^ 64 - 1 = ltb-true _ _ (kept-some (λ m. ltb m (2 ^ 64 - 1)) (number_of w) n e) in
     subst (λ b. cond b None (Some n) ≡ Some n) (sym (ne_eqb n (2 ^ 64 - 1) (λ i. absurd (omega (arith, small, i))))) refl
 
-bound-from : (lo : ℕ) (w : List ℕ) (k : Option ℕ) (b : Option (Option ℕ)) → bytes_eq w (codes "*") ≡ false → kept (λ n. leb lo n) (count_of w) ≡ k → b ≡ elim k [ Some n ↦ Some (Some n) | None ↦ None ] → b ≡ bound_of lo w
-unfolding bound_of
+bound-from : (lo : ℕ) (w : List ℕ) (k : Option ℕ) (b : Option (Option ℕ)) → bytes_eq w (codes "*") ≡ false →
+    kept (λ n. leb lo n) (count_of w) ≡ k → b ≡ elim k [ Some n ↦ Some (Some n) | None ↦ None ] → b ≡ bound_at_least lo w
+unfolding bound_at_least
 bound-from lo w k b star is e =
     subst (λ s. b ≡ cond s (Some None) (elim (kept (λ n. leb lo n) (count_of w)) [ Some n ↦ Some (Some n) | None ↦ None ])) (sym star)
     (subst (λ x. b ≡ elim x [ Some n ↦ Some (Some n) | None ↦ None ]) (sym is) e)
 
-pub bound-star : (lo : ℕ) (w : List ℕ) → bytes_eq w (codes "*") ≡ true → ◌≡◌ {A = Option (Option ℕ)} (Some None) (bound_of lo w)
-unfolding bound_of
-bound-star lo w star = subst (λ s. ◌≡◌ {A = Option (Option ℕ)} (Some None) (cond s (Some None) (elim (kept (λ n. leb lo n) (count_of w)) [ Some n ↦ Some (Some n) | None ↦ None ]))) (sym star) refl
+pub bound-star : (lo : ℕ) (w : List ℕ) → bytes_eq w (codes "*") ≡ true → ◌≡◌ {A = Option (Option ℕ)} (Some None) (bound_at_least lo w)
+unfolding bound_at_least
+bound-star lo w star =
+    subst (λ s. ◌≡◌ {A = Option (Option ℕ)} (Some None)
+    (cond s (Some None) (elim (kept (λ n. leb lo n) (count_of w)) [ Some n ↦ Some (Some n) | None ↦ None ]))) (sym star) refl
 
-pub bound-some : (lo : ℕ) (w : List ℕ) (n : ℕ) → bytes_eq w (codes "*") ≡ false → count_of w ≡ Some n → lo ≤ n → Some (bound_view n) ≡ bound_of lo w
+pub bound-some : (lo : ℕ) (w : List ℕ) (n : ℕ) → bytes_eq w (codes "*") ≡ false → count_of w ≡ Some n → lo ≤ n → Some (bound_of n) ≡ bound_at_least lo w
 bound-some lo w n star is h =
     bound-from lo w (Some n) _ star (sym (kept-true (λ m. leb lo m) _ n is (le-leb _ _ h))) (ap Some (count-view w n is))
 
-pub bound-low : (lo : ℕ) (w : List ℕ) (n : ℕ) → bytes_eq w (codes "*") ≡ false → count_of w ≡ Some n → n < lo → None ≡ bound_of lo w
+pub bound-low : (lo : ℕ) (w : List ℕ) (n : ℕ) → bytes_eq w (codes "*") ≡ false → count_of w ≡ Some n → n < lo → None ≡ bound_at_least lo w
 bound-low lo w n star is h = bound-from lo w None _ star (sym (kept-false (λ m. leb lo m) _ n is (leb-low lo n h))) refl
 
-pub bound-none : (lo : ℕ) (w : List ℕ) → bytes_eq w (codes "*") ≡ false → count_of w ≡ None → None ≡ bound_of lo w
+pub bound-none : (lo : ℕ) (w : List ℕ) → bytes_eq w (codes "*") ≡ false → count_of w ≡ None → None ≡ bound_at_least lo w
 bound-none lo w star is = bound-from lo w None _ star (sym (kept-none (λ m. leb lo m) _ is)) refl
 
 pub form-some : (w : List ℕ) (e : Enclosing) → found enclosings w ≡ Some e → Some (form.Enclosing e) ≡ form_of w

@@ -13,7 +13,7 @@ use Rattle.fancy_notation.specs.declared.forms.Leveled.TheVariants as leveled
 use Rattle.fancy_notation.specs.declared.forms.Form.{Form}
 use Rattle.fancy_notation.specs.declared.forms.Form.TheVariants as form
 use Rattle.fancy_notation.specs.Tokens.{Token, Placed, Opened, Closed, Quoted, Word}
-use Rattle.fancy_notation.specs.Words.{leaf_of, form_of, verb_of, number_of, level_of, count_of, bound_of, byte_of}
+use Rattle.fancy_notation.specs.Words.{leaf_of, form_of, verb_of, number_of, level_of, count_of, bound_at_least, byte_of}
 
 -- a point between two tokens: the tokens after it, and how many groups were opened before it
 pub record Point : Type 0 where
@@ -106,36 +106,42 @@ is_at_text (p ∷ ps) = elim (quoted p.token) [ Some q ↦ true | None ↦ false
 -- numbers of characters, and the closing parenthesis after them
 pub data SpellsBytes : Point → Point → List ℕ → Type 0 where
   no_byte : {x y : Point} → Takes closing x tt y → SpellsBytes x y []
-  byte : {x y z : Point} {b : ℕ} {bs : List ℕ} → Takes (in_word byte_of) x b y → SpellsBytes y z bs → SpellsBytes x z (b ∷ bs)
+  byte : {x y z : Point} {b : ℕ} {bs : List ℕ} → Takes (in_word byte_of) x b y → SpellsBytes y z bs →
+      SpellsBytes x z (b ∷ bs)
 
 mutual
   -- the tokens between two points spell a tree
   pub data Spells : Point → Point → Tree → Type 0 where
-    text : {x y : Point} {folded : Bool} {bytes : List ℕ} → Takes quoted x (folded, bytes) y → Spells x y (joined (literals folded bytes))
+    text : {x y : Point} {folded : Bool} {bytes : List ℕ} → Takes quoted x (folded, bytes) y →
+        Spells x y (joined (literals folded bytes))
     leaf : {x y : Point} {e : Tree} → Takes (in_word leaf_of) x e y → Spells x y e
     formed : {x y z : Point} {f : Form} {e : Tree} → Begins x f y → SpellsForm f y z e → Spells x z e
 
   -- they are what follows the word of a form, up to its closing parenthesis
   pub data SpellsForm : Form → Point → Point → Tree → Type 0 where
     cat : {x y : Point} {es : List Tree} → SpellsParts true x y es → SpellsForm form.Cat x y (plain.Concat (trees es))
-    alt : {x y z : Point} {e : Tree} {es : List Tree} → Spells x y e → SpellsParts false y z es → SpellsForm form.Alt x z (plain.Alt (trees (e ∷ es)))
-    around : {x y z : Point} {f : Enclosing} {e : Tree} → Spells x y e → Takes closing y tt z → SpellsForm (form.Enclosing f) x z (enclosed f e)
+    alt : {x y z : Point} {e : Tree} {es : List Tree} → Spells x y e → SpellsParts false y z es →
+        SpellsForm form.Alt x z (plain.Alt (trees (e ∷ es)))
+    around : {x y z : Point} {f : Enclosing} {e : Tree} → Spells x y e → Takes closing y tt z →
+        SpellsForm (form.Enclosing f) x z (enclosed f e)
     repeat : {x y z u v : Point} {greedy : Bool} {lo : ℕ} {hi : Option ℕ} {e : Tree} →
         Takes (in_word count_of) x lo y →
-        Takes (in_word (bound_of lo)) y hi z →
+        Takes (in_word (bound_at_least lo)) y hi z →
         Spells z u e →
         Takes closing u tt v →
         SpellsForm (form.Repeat greedy) x v (plain.Repeat lo hi greedy e)
     set : {x y z : Point} {casei : Bool} {inner : List ℕ} → Takes class x inner y → Takes closing y tt z →
         SpellsForm (form.Set casei) x z (plain.Delegate inner casei)
     bytes : {x y : Point} {bs : List ℕ} → SpellsBytes x y bs → SpellsForm form.Bytes x y (plain.LiteralBytes bs)
-    names : {x y z : Point} {f : Naming} {g : ℕ} → Takes (in_word number_of) x g y → Takes closing y tt z → SpellsForm (form.Naming f) x z (named f g)
+    names : {x y z : Point} {f : Naming} {g : ℕ} → Takes (in_word number_of) x g y → Takes closing y tt z →
+        SpellsForm (form.Naming f) x z (named f g)
     names_at : {x y z u : Point} {f : Leveled} {g : ℕ} {l : ℤ} →
         Takes (in_word number_of) x g y →
         Takes (in_word level_of) y l z →
         Takes closing z tt u →
         SpellsForm (form.Leveled f) x u (named_at f g l)
-    verb : {x y z : Point} {w : plain.Verb} → Takes (in_word verb_of) x w y → Takes closing y tt z → SpellsForm form.Verb x z (plain.Control w)
+    verb : {x y z : Point} {w : plain.Verb} → Takes (in_word verb_of) x w y → Takes closing y tt z →
+        SpellsForm form.Verb x z (plain.Control w)
     conditional : {x y z u v : Point} {c t f : Tree} →
         Spells x y c →
         Spells y z t →

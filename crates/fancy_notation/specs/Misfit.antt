@@ -3,7 +3,7 @@ use Rattle.std.specs.Prelude.{ℕ, List, [], ◌∷◌, ◌++◌, Option, Some, 
 use Rattle.fancy_notation.specs.declared.forms.Form.{Form}
 use Rattle.fancy_notation.specs.declared.forms.Form.TheVariants as form
 use Rattle.fancy_notation.specs.Tokens.{Token, Placed, Opened, Closed, Quoted, Word, Broken}
-use Rattle.fancy_notation.specs.Words.{leaf_of, verb_of, number_of, level_of, count_of, bound_of, byte_of}
+use Rattle.fancy_notation.specs.Words.{leaf_of, verb_of, number_of, level_of, count_of, bound_at_least, byte_of}
 use Rattle.fancy_notation.specs.Grammar.{in_word, closing, class, head_word}
 
 -- what may come next
@@ -55,7 +55,7 @@ next_step g Head t = given (in_word (head_word g) t) (λ f. with_groups f.1 (wan
 next_step g Shut t = given (closing t) (λ u. with_groups g [])
 next_step g Parts t = many_step Parts g t (node_step g t)
 next_step g Count t = given (in_word count_of t) (λ n. with_groups g (Bound n ∷ []))
-next_step g (Bound lo) t = given (in_word (bound_of lo) t) (λ n. with_groups g [])
+next_step g (Bound lo) t = given (in_word (bound_at_least lo) t) (λ n. with_groups g [])
 next_step g Number t = given (in_word number_of t) (λ n. with_groups g [])
 next_step g Level t = given (in_word level_of t) (λ n. with_groups g [])
 next_step g Bytes t = many_step Bytes g t (given (in_word byte_of t) (λ b. with_groups g []))
@@ -67,4 +67,5 @@ abbrev pub misfit : ℕ → List Placed → ℕ → List Want → Option ℕ
 misfit end [] g [] = None
 misfit end [] g (w ∷ ws) = Some end
 misfit end (p ∷ ps) g [] = Some p.at
-misfit end (p ∷ ps) g (w ∷ ws) = elim (next_step g w p.token) [ None ↦ Some p.at | Some n ↦ misfit end ps n.groups (n.wants ++ ws) ]
+misfit end (p ∷ ps) g (w ∷ ws) =
+    elim (next_step g w p.token) [ None ↦ Some p.at | Some n ↦ misfit end ps n.groups (n.wants ++ ws) ]

@@ -60,11 +60,13 @@ abbrev pub ReadsHead : Reader → Reader → Result Form Error → Type 0
 ReadsHead old new (Ok f) =
     (after : Point) × Takes (in_word (head_word old.groups)) (point_of old) (f, new.groups) after
     × ((point_of new).tokens ≡ after.tokens) × (new.end ≡ old.end)
-ReadsHead old new (Err e) = IsFaultHere old e × (first_gives (in_word (head_word old.groups)) (point_of old).tokens ≡ None)
+ReadsHead old new (Err e) =
+    IsFaultHere old e × (first_gives (in_word (head_word old.groups)) (point_of old).tokens ≡ None)
 
 -- what is wanted is not there, in the first token that cannot stand
 abbrev pub Fails : List Want → Reader → Error → Type 0
-Fails ws old (TreeFault at) = (more : List Want) → misfit old.end (point_of old).tokens old.groups (ws ++ more) ≡ Some at
+Fails ws old (TreeFault at) =
+    (more : List Want) → misfit old.end (point_of old).tokens old.groups (ws ++ more) ≡ Some at
 Fails ws old Memory = Unit {0}
 Fails ws old e = ⊥
 
@@ -79,17 +81,20 @@ OneCharEach e = Each IsOneChar (exprs e)
 
 -- the same for a tree
 abbrev pub ReadsTree : List Want → (Tree → Point → Point → Type 0) → Reader → Reader → Result Expr Error → Type 0
-ReadsTree ws spells old new (Ok e) = spells (tree_of e) (point_of old) (point_of new) × (new.end ≡ old.end) × OneCharEach e
+ReadsTree ws spells old new (Ok e) =
+    spells (tree_of e) (point_of old) (point_of new) × (new.end ≡ old.end) × OneCharEach e
 ReadsTree ws spells old new (Err e) = Fails ws old e
 
 -- these parts follow the given ones
 abbrev pub SpellsPartsAfter : Bool → List Expr → List Expr → Point → Point → Type 0
 SpellsPartsAfter splices given parts x y =
-    (es : List Tree) × SpellsParts splices x y es × (map tree_of parts ≡ map tree_of given ++ es) × (Each OneCharEach given → Each OneCharEach parts)
+    (es : List Tree) × SpellsParts splices x y es × (map tree_of parts ≡ map tree_of given ++ es)
+    × (Each OneCharEach given → Each OneCharEach parts)
 
 -- these trees follow the given ones, or memory ran out
 abbrev pub Appends : List Expr → List Tree → List Expr → Result (Unit {0}) Error → Type 0
-Appends given es parts (Ok u) = (map tree_of parts ≡ map tree_of given ++ es) × (Each OneCharEach given → Each OneCharEach parts)
+Appends given es parts (Ok u) =
+    (map tree_of parts ≡ map tree_of given ++ es) × (Each OneCharEach given → Each OneCharEach parts)
 Appends given es parts (Err e) = e ≡ Memory
 
 -- the tree is made, or memory ran out
@@ -109,7 +114,8 @@ SplicesText old new given parts (Err e) = e ≡ Memory
 
 -- the step was made: its tokens were added; or memory ran out
 abbrev pub Lexes : Step → Lexer → Lexer → Result (Unit {0}) Error → Type 0
-Lexes step old new (Ok u) = (lexing_of new ≡ step.next) × (all_placed new.tokens.items ≡ all_placed old.tokens.items ++ step.tokens)
+Lexes step old new (Ok u) =
+    (lexing_of new ≡ step.next) × (all_placed new.tokens.items ≡ all_placed old.tokens.items ++ step.tokens)
 Lexes step old new (Err e) = e ≡ Memory
 
 -- the fault of a text with these tokens, or want of memory

@@ -135,8 +135,8 @@ unfoldable pub count_of : List ℕ → Option ℕ
 count_of w = kept (λ n. nat_lt n (2 ^ 64 - 1)) (number_of w)
 
 -- the greatest number of iterations, at least `lo`: `*` means that there is none
-unfoldable pub bound_of : ℕ → List ℕ → Option (Option ℕ)
-bound_of lo w =
+unfoldable pub bound_at_least : ℕ → List ℕ → Option (Option ℕ)
+bound_at_least lo w =
     if bytes_eq w (codes "*")
     then Some None
     else elim (kept (λ n. nat_le lo n) (count_of w)) [ Some n ↦ Some (Some n) | None ↦ None ]

@@ -92,7 +92,8 @@ impl Lexer {
     }
 
     fn take_parenthesis(&mut self, alloc: Global, at: usize, token: Token) -> Result<(), Error>
-        ensures { Lexes (with_token (word_ended (lexing_of self.old)) (placed at (token_of token))) self.old self.new result }
+        ensures { Lexes (with_token (word_ended (lexing_of self.old))
+            (placed at (token_of token))) self.old self.new result }
     {
         self.end_word(alloc)?;
         self.push(at, token)
@@ -225,7 +226,8 @@ impl Lexer {
     }
 
     fn push(&mut self, at: usize, token: Token) -> Result<(), Error>
-        ensures { Lexes (pushed (lexing_of self.old) (placed at (token_of token))) self.old self.new result }
+        ensures { Lexes (pushed (lexing_of self.old)
+            (placed at (token_of token))) self.old self.new result }
     {
         self.tokens.push(Placed { at, token })?;
         Ok(())
@@ -245,7 +247,8 @@ impl Lexer {
 
 /// The tokens of a text.
 pub fn tokens(alloc: Global, text: &str) -> Result<Vec<Placed>, Error>
-    ensures { MatchResult result (λ found. all_placed found.items ≡ tokens_of text.now) (λ e. e ≡ Memory) }
+    ensures { MatchResult result (λ found. all_placed found.items ≡ tokens_of text.now)
+        (λ e. e ≡ Memory) }
 {
     let mut lexer = Lexer::new(alloc);
     let mut at = 0;

@@ -4,6 +4,7 @@
 mod forms;
 mod lexer;
 pub mod notation;
+pub mod numbers;
 mod reader;
 mod survey;
 mod tokens;

@@ -20,12 +20,14 @@ use std::collections::{BTreeMap, BTreeSet};
 
 /// The tree that a text in the notation spells, and what comes with it ("docs/MEANING.md" has the notation).
 ///
-/// The tree passes `is_well_formed`. Where the text spells no tree, `Error::TreeFault` has the byte at which the first token begins that cannot
-/// stand where it stands, or the text's length where more is needed. Want of memory is `Error::Memory`.
+/// The tree passes `is_well_formed`. Where the text spells no tree, `Error::TreeFault` has the byte at which the first
+/// token begins that cannot stand where it stands, or the text's length where more is needed. Want of memory is
+/// `Error::Memory`.
 pub fn read_tree(alloc: Global, text: &str) -> Result<ExprTree, Error>
     ensures answer { MatchResult
         result
-        (λ tree. IsSpelled (tokens_of text.now) (tree_of tree.expr) × IsDescribed tree × IsWellFormedTree tree)
+        (λ tree. IsSpelled (tokens_of text.now) (tree_of tree.expr) × IsDescribed tree
+        × IsWellFormedTree tree)
         (λ error. IsFault (length text.now) (tokens_of text.now) error) }
     ensures reads { (e : Tree)
         → IsSpelled (tokens_of text.now) e
@@ -45,7 +47,9 @@ pub fn read_tree(alloc: Global, text: &str) -> Result<ExprTree, Error>
 
 /// The tree with what its nodes name.
 fn described(alloc: Global, expr: Expr, total_groups: usize) -> Result<ExprTree, Error>
-    ensures { MatchResult result (λ tree. (tree.expr ≡ expr) × (tree.total_groups ≡ total_groups) × IsDescribed tree) (λ e. e ≡ Memory) }
+    ensures { MatchResult result
+        (λ tree. (tree.expr ≡ expr) × (tree.total_groups ≡ total_groups) × IsDescribed tree)
+        (λ e. e ≡ Memory) }
 {
     let mut survey = Survey {
         references: Vec::new(alloc),
@@ -67,7 +71,8 @@ fn described(alloc: Global, expr: Expr, total_groups: usize) -> Result<ExprTree,
 
 /// The references up to the number of groups.
 fn within(alloc: Global, references: &[usize], groups: usize) -> Result<BTreeSet<usize>, Error>
-    ensures { MatchResult result (λ set. set.keys ≡ up_to groups [] references.now) (λ e. e ≡ Memory) }
+    ensures { MatchResult result (λ set. set.keys ≡ up_to groups [] references.now)
+        (λ e. e ≡ Memory) }
 {
     let mut backrefs = BTreeSet::new(alloc);
     for group in references {

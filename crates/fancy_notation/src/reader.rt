@@ -5,8 +5,8 @@ ghost use Rattle.std.specs.Option.{option_map};
 ghost use Rattle.fancy_meaning.specs.Tree as plain;
 ghost use Rattle.fancy_meaning.specs.Tree.{trees};
 ghost use Rattle.fancy_expr.specs.Each.{Each};
-ghost use Rattle.fancy_expr.specs.Views.{tree_of, verb_of as verb_view, bound_of as bound_view};
-ghost use Rattle.fancy_notation.specs.Words.{leaf_of, verb_of, number_of, level_of, count_of, bound_of, byte_of};
+ghost use Rattle.fancy_expr.specs.Views.{tree_of, verb_of as verb_view, bound_of};
+ghost use Rattle.fancy_notation.specs.Words.{leaf_of, verb_of, number_of, level_of, count_of, bound_at_least, byte_of};
 ghost use Rattle.fancy_notation.specs.Tokens as tokens;
 ghost use Rattle.fancy_notation.specs.Grammar.{in_word, opening, closing, class, is_at_text, counted, head_word, Spells, SpellsForm, literals, parts_of_text, joined, enclosed, named, named_at};
 ghost use Rattle.fancy_notation.specs.Misfit.{wants, Node, Shut, Parts, Count, Number, Level, Bytes, Class, VerbName, Bound};
@@ -15,11 +15,12 @@ ghost use Rattle.fancy_notation.specs.declared.forms.Form.TheVariants as form;
 ghost use Rattle.fancy_notation.specs.Reading.{next_token, next_word, first_gives, IsFaultHere, PassesFound, Skips, SplicesText, ReadsToken, Reads, ReadsTree, OneCharEach, ReadsHead, SpellsPartsAfter, Appends, Makes};
 
 use crate::forms::{Enclosing, Form, Leveled, Naming};
+use crate::numbers::number;
 use crate::tokens::{Placed, Token};
-use crate::words::{bound, byte, count, form, leaf, level, number, verb};
-use fancy_expr::well_formed::MOST_GROUPS;
+use crate::words::{bound, byte, count, form, leaf, level, verb};
 use fancy_expr::error::Error;
 use fancy_expr::expr::{Absent, BacktrackingControlVerb, Expr};
+use fancy_expr::well_formed::MOST_GROUPS;
 use std::alloc::Global;
 
 /// What is left to read.
@@ -107,7 +108,7 @@ impl<'a> Reader<'a> {
     }
 
     fn read_bound(&mut self, lo: usize) -> Result<usize, Error>
-        ensures { ReadsToken (in_word (bound_of lo)) bound_view self.old self.new result }
+        ensures { ReadsToken (in_word (bound_at_least lo)) bound_of self.old self.new result }
     {
         let found = match self.next_word() {
             Some(word) => bound(word, lo),
@@ -171,7 +172,8 @@ impl<'a> Reader<'a> {
 
     /// No token is left.
     pub fn read_end(&self) -> Result<(), Error>
-        ensures { MatchResult result (λ u. (point_of self.now).tokens ≡ []) (λ e. IsFaultHere self.now e × ¬ ((point_of self.now).tokens ≡ [])) }
+        ensures { MatchResult result (λ u. (point_of self.now).tokens ≡ [])
+            (λ e. IsFaultHere self.now e × ¬ ((point_of self.now).tokens ≡ [])) }
     {
         if self.rest.is_empty() {
             Ok(())
@@ -181,7 +183,8 @@ impl<'a> Reader<'a> {
     }
 
     fn is_at_close(&self) -> bool
-        ensures { first_gives closing (point_of self.now).tokens ≡ (if result then Some tt else None) }
+        ensures { first_gives closing (point_of self.now).tokens
+            ≡ (if result then Some tt else None) }
     {
         match self.next() {
             Some(Token::Closed) => true,
@@ -190,7 +193,8 @@ impl<'a> Reader<'a> {
     }
 
     fn is_at_open(&self) -> bool
-        ensures { first_gives opening (point_of self.now).tokens ≡ (if result then Some tt else None) }
+        ensures { first_gives opening (point_of self.now).tokens
+            ≡ (if result then Some tt else None) }
     {
         match self.next() {
             Some(Token::Opened) => true,
@@ -231,7 +235,8 @@ impl<'a> Reader<'a> {
     }
 
     fn found_head(&self) -> Option<(Form, usize)>
-        ensures { result ≡ first_gives (in_word (head_word self.now.groups)) (point_of self.now).tokens }
+        ensures { result ≡ first_gives (in_word (head_word self.now.groups))
+            (point_of self.now).tokens }
     {
         let found = form(self.next_word()?)?;
         counted(self.groups, found)
@@ -320,7 +325,9 @@ impl<'a> Reader<'a> {
     /// The nodes up to the closing parenthesis, after those given. In a sequence a quoted text gives its literals.
     #[cycle(reading)]
     fn read_parts(&mut self, given: Vec<Expr>, splices: bool) -> Result<Vec<Expr>, Error>
-        ensures { Reads (Parts ∷ []) (λ parts x y. SpellsPartsAfter splices given.items parts.items x y) self.old self.new result }
+        ensures { Reads (Parts ∷ [])
+            (λ parts x y. SpellsPartsAfter splices given.items parts.items x y) self.old
+            self.new result }
     {
         let mut parts = given;
         while !self.is_at_close() {
@@ -336,7 +343,8 @@ impl<'a> Reader<'a> {
 
     #[cycle(reading)]
     fn read_alt(&mut self) -> Result<Expr, Error>
-        ensures { ReadsTree (wants (form.Alt)) (λ e x y. SpellsForm (form.Alt) x y e) self.old self.new result }
+        ensures { ReadsTree (wants (form.Alt))
+            (λ e x y. SpellsForm (form.Alt) x y e) self.old self.new result }
     {
         let first = self.read_node()?;
         let mut branches = self.new_parts();
@@ -347,7 +355,8 @@ impl<'a> Reader<'a> {
 
     #[cycle(reading)]
     fn read_enclosed(&mut self, enclosing: Enclosing) -> Result<Expr, Error>
-        ensures { ReadsTree (wants (form.Enclosing enclosing)) (λ e x y. SpellsForm (form.Enclosing enclosing) x y e) self.old self.new result }
+        ensures { ReadsTree (wants (form.Enclosing enclosing))
+            (λ e x y. SpellsForm (form.Enclosing enclosing) x y e) self.old self.new result }
     {
         let body = self.read_node()?;
         self.read_close()?;
@@ -356,7 +365,8 @@ impl<'a> Reader<'a> {
 
     #[cycle(reading)]
     fn read_repeat(&mut self, greedy: bool) -> Result<Expr, Error>
-        ensures { ReadsTree (wants (form.Repeat greedy)) (λ e x y. SpellsForm (form.Repeat greedy) x y e) self.old self.new result }
+        ensures { ReadsTree (wants (form.Repeat greedy))
+            (λ e x y. SpellsForm (form.Repeat greedy) x y e) self.old self.new result }
     {
         let lo = self.read_count()?;
         let hi = self.read_bound(lo)?;
@@ -372,7 +382,8 @@ impl<'a> Reader<'a> {
 
     #[cycle(reading)]
     fn read_conditional(&mut self) -> Result<Expr, Error>
-        ensures { ReadsTree (wants (form.Conditional)) (λ e x y. SpellsForm (form.Conditional) x y e) self.old self.new result }
+        ensures { ReadsTree (wants (form.Conditional))
+            (λ e x y. SpellsForm (form.Conditional) x y e) self.old self.new result }
     {
         let condition = self.read_node()?;
         let true_branch = self.read_node()?;
@@ -387,7 +398,8 @@ impl<'a> Reader<'a> {
 
     #[cycle(reading)]
     fn read_absent_expression(&mut self) -> Result<Expr, Error>
-        ensures { ReadsTree (wants (form.AbsentExpression)) (λ e x y. SpellsForm (form.AbsentExpression) x y e) self.old self.new result }
+        ensures { ReadsTree (wants (form.AbsentExpression))
+            (λ e x y. SpellsForm (form.AbsentExpression) x y e) self.old self.new result }
     {
         let absent = self.read_node()?;
         let exp = self.read_node()?;
@@ -399,7 +411,8 @@ impl<'a> Reader<'a> {
     }
 
     fn read_set(&mut self, casei: bool) -> Result<Expr, Error>
-        ensures { ReadsTree (wants (form.Set casei)) (λ e x y. SpellsForm (form.Set casei) x y e) self.old self.new result }
+        ensures { ReadsTree (wants (form.Set casei))
+            (λ e x y. SpellsForm (form.Set casei) x y e) self.old self.new result }
     {
         let inner = self.read_class()?;
         self.read_close()?;
@@ -410,7 +423,8 @@ impl<'a> Reader<'a> {
     }
 
     fn read_bytes(&mut self) -> Result<Expr, Error>
-        ensures { ReadsTree (wants (form.Bytes)) (λ e x y. SpellsForm (form.Bytes) x y e) self.old self.new result }
+        ensures { ReadsTree (wants (form.Bytes))
+            (λ e x y. SpellsForm (form.Bytes) x y e) self.old self.new result }
     {
         let mut bytes = Vec::new(self.alloc);
         while !self.is_at_close() {
@@ -421,7 +435,8 @@ impl<'a> Reader<'a> {
     }
 
     fn read_naming(&mut self, naming: Naming) -> Result<Expr, Error>
-        ensures { ReadsTree (wants (form.Naming naming)) (λ e x y. SpellsForm (form.Naming naming) x y e) self.old self.new result }
+        ensures { ReadsTree (wants (form.Naming naming))
+            (λ e x y. SpellsForm (form.Naming naming) x y e) self.old self.new result }
     {
         let group = self.read_number()?;
         self.read_close()?;
@@ -429,7 +444,8 @@ impl<'a> Reader<'a> {
     }
 
     fn read_leveled(&mut self, leveled: Leveled) -> Result<Expr, Error>
-        ensures { ReadsTree (wants (form.Leveled leveled)) (λ e x y. SpellsForm (form.Leveled leveled) x y e) self.old self.new result }
+        ensures { ReadsTree (wants (form.Leveled leveled))
+            (λ e x y. SpellsForm (form.Leveled leveled) x y e) self.old self.new result }
     {
         let group = self.read_number()?;
         let level = self.read_level()?;
@@ -438,7 +454,8 @@ impl<'a> Reader<'a> {
     }
 
     fn read_verb_node(&mut self) -> Result<Expr, Error>
-        ensures { ReadsTree (wants (form.Verb)) (λ e x y. SpellsForm (form.Verb) x y e) self.old self.new result }
+        ensures { ReadsTree (wants (form.Verb))
+            (λ e x y. SpellsForm (form.Verb) x y e) self.old self.new result }
     {
         let found = self.read_verb()?;
         self.read_close()?;
@@ -501,7 +518,8 @@ fn push_text(alloc: Global, parts: &mut Vec<Expr>, casei: bool, text: &str) -> R
 
 /// None of them is nothing, one is itself, more are a sequence.
 fn joined(literals: Vec<Expr>) -> Expr
-    ensures { (tree_of result ≡ joined (map tree_of literals.items)) × (Each OneCharEach literals.items → OneCharEach result) }
+    ensures { (tree_of result ≡ joined (map tree_of literals.items))
+        × (Each OneCharEach literals.items → OneCharEach result) }
 {
     let mut literals = literals;
     if literals.len() > 1 {

@@ -24,7 +24,9 @@ pub struct Survey {
 
 impl Survey {
     fn note(&mut self, expr: &Expr) -> Result<(), Error>
-        ensures { MatchResult result (λ u. surveyed_of self.new ≡ noted (surveyed_of self.old) (tree_of expr.now)) (λ e. e ≡ Memory) }
+        ensures { MatchResult result
+            (λ u. surveyed_of self.new ≡ noted (surveyed_of self.old) (tree_of expr.now))
+            (λ e. e ≡ Memory) }
     {
         match expr {
             Expr::Backref { group, .. } => self.note_reference(*group),
@@ -37,14 +39,18 @@ impl Survey {
     }
 
     fn note_reference(&mut self, group: usize) -> Result<(), Error>
-        ensures { MatchResult result (λ u. surveyed_of self.new ≡ with_reference (surveyed_of self.old) group) (λ e. e ≡ Memory) }
+        ensures { MatchResult result
+            (λ u. surveyed_of self.new ≡ with_reference (surveyed_of self.old) group)
+            (λ e. e ≡ Memory) }
     {
         self.references.push(group)?;
         self.note_number(false)
     }
 
     fn note_number(&mut self, called: bool) -> Result<(), Error>
-        ensures { MatchResult result (λ u. surveyed_of self.new ≡ with_number (surveyed_of self.old) called) (λ e. e ≡ Memory) }
+        ensures { MatchResult result
+            (λ u. surveyed_of self.new ≡ with_number (surveyed_of self.old) called)
+            (λ e. e ≡ Memory) }
     {
         self.numeric = true;
         self.calls = self.calls || called;
@@ -53,7 +59,9 @@ impl Survey {
 
     /// Sees a node and those below it.
     pub fn note_all(&mut self, expr: &Expr) -> Result<(), Error>
-        ensures { MatchResult result (λ u. surveyed_of self.new ≡ noted_all (surveyed_of self.old) (nodes (tree_of expr.now))) (λ e. e ≡ Memory) }
+        ensures { MatchResult result
+            (λ u. surveyed_of self.new
+            ≡ noted_all (surveyed_of self.old) (nodes (tree_of expr.now))) (λ e. e ≡ Memory) }
     {
         self.note(expr)?;
         for i in 0..part_count(expr) {

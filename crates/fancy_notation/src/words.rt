@@ -2,10 +2,11 @@
 
 ghost use Rattle.std.specs.Prelude.{◌≡◌, ◌-◌, ◌^◌, if◌then◌else◌, ◌==◌, None, Some};
 ghost use Rattle.std.specs.Option.{option_map};
-ghost use Rattle.fancy_expr.specs.Views.{tree_of, assertion_of, verb_of as verb_view, bound_of as bound_view};
-ghost use Rattle.fancy_notation.specs.Words.{found, assertions, plain_leaves, leaf_of, enclosings, other_forms, form_of, verb_of, number_of, level_of, count_of, bound_of, byte_of};
+ghost use Rattle.fancy_expr.specs.Views.{tree_of, assertion_of, verb_of as verb_view, bound_of};
+ghost use Rattle.fancy_notation.specs.Words.{found, assertions, plain_leaves, leaf_of, enclosings, other_forms, form_of, verb_of, level_of, count_of, bound_at_least, byte_of};
 
 use crate::forms::{Enclosing, Form, Leveled, Naming};
+use crate::numbers::number;
 use fancy_expr::expr::{Absent, Assertion, BacktrackingControlVerb, Expr, LookAround};
 
 /// The expression that a word alone stands for.
@@ -133,16 +134,6 @@ pub fn verb(word: &str) -> Option<BacktrackingControlVerb>
     }
 }
 
-/// The number that one or more decimal digits write, where it fits.
-pub fn number(word: &str) -> Option<usize>
-    ensures { result ≡ number_of word.now }
-{
-    if word.starts_with('+') {
-        return None;
-    }
-    word.parse::<usize>().ok()
-}
-
 /// The level that digits write, with an optional `-` before them.
 pub fn level(word: &str) -> Option<isize>
     ensures { result ≡ level_of word.now }
@@ -165,7 +156,7 @@ pub fn count(word: &str) -> Option<usize>
 
 /// The greatest number of iterations, at least `lo`, where `*` means that there is none.
 pub fn bound(word: &str, lo: usize) -> Option<usize>
-    ensures { option_map bound_view result ≡ bound_of lo word.now }
+    ensures { option_map bound_of result ≡ bound_at_least lo word.now }
 {
     if word == "*" {
         return Some(usize::MAX);

@@ -1,14 +1,12 @@
 -- Groups by number.
 use Rattle.std.proofs.Common.{◌≡◌, ℕ, zero, suc, ◌<◌, Bool, true, false, List, [], ◌∷◌, ◌++◌, flat_map, filter_map, Option, Some, None, if◌then◌else◌, ◌==◌, refl, sym, ap, ◌∙◌, arith, append-nil}
 use Rattle.std.proofs.lemmas.Grind.{flat_map-append}
-use Rattle.fancy_meaning.specs.Tree.{Tree, Trees, none, more, Alt, LookAround, parts, children, Concat, Group, Repeat, AtomicGroup, DefineGroup, Conditional, AbsentRepeater, AbsentStopper, AbsentExpression}
+use Rattle.fancy_meaning.specs.Tree.{Tree, Trees, none, more, parts, children}
 use Rattle.fancy_meaning.specs.Nodes.{nodes, nodes_of_each, as_group, groups, body_in, target}
 use Rattle.std.specs.List.{cons_option}
 use Rattle.std.proofs.lemmas.List.Elements.{filter_map-append}
 use Rattle.std.proofs.lemmas.Option.{none-some}
-
-one_node : (e : Tree) → nodes e ≡ flat_map nodes (e ∷ [])
-one_node e = sym (append-nil (nodes e))
+use Rattle.fancy_expr.proofs.NodeParts.{nodes-parts}
 
 each_nodes : (es : Trees) → nodes_of_each es ≡ flat_map nodes (children es)
 each_nodes none = refl
@@ -16,18 +14,7 @@ each_nodes (more e es) = ap (λ l. nodes e ++ l) (each_nodes es)
 
 -- a node, and those below it
 pub nodes-below : (e : Tree) → nodes e ≡ e ∷ flat_map nodes (children (parts e))
-nodes-below (Concat es) = ap (λ l. Concat es ∷ l) (each_nodes es)
-nodes-below (Alt es) = ap (λ l. Alt es ∷ l) (each_nodes es)
-nodes-below (Group g e) = ap (λ l. Group g e ∷ l) (one_node e)
-nodes-below (LookAround look e) = ap (λ l. LookAround look e ∷ l) (one_node e)
-nodes-below (Repeat lo hi greedy e) = ap (λ l. Repeat lo hi greedy e ∷ l) (one_node e)
-nodes-below (AtomicGroup e) = ap (λ l. AtomicGroup e ∷ l) (one_node e)
-nodes-below (DefineGroup e) = ap (λ l. DefineGroup e ∷ l) (one_node e)
-nodes-below (Conditional c t f) = ap (λ l. Conditional c t f ∷ (nodes c ++ (nodes t ++ l))) (one_node f)
-nodes-below (AbsentRepeater e) = ap (λ l. AbsentRepeater e ∷ l) (one_node e)
-nodes-below (AbsentStopper e) = ap (λ l. AbsentStopper e ∷ l) (one_node e)
-nodes-below (AbsentExpression a e) = ap (λ l. AbsentExpression a e ∷ (nodes a ++ l)) (one_node e)
-nodes-below e = refl
+nodes-below e = nodes-parts e ∙ ap (λ l. e ∷ l) (each_nodes (parts e))
 
 -- where the first groups have none, the rest decides
 pub body_joined : (hs ks : List (ℕ × Tree)) (g : ℕ) → body_in hs g ≡ None → body_in (hs ++ ks) g ≡ body_in ks g

@@ -9,7 +9,8 @@ use Rattle.fancy_expr.specs.declared.error.CompileError.TheVariants as refused
 -- Memory ran out, or `regex` has no room for a class.
 abbrev pub IsRefusal : Bool → Error → Type 0
 IsRefusal unicode error.Memory = ⊤
-IsRefusal unicode (error.CompileError (refused.ClassTooBig text)) = (casei : Bool) × IsTrue (is_class unicode (string_bytes text) casei)
+IsRefusal unicode (error.CompileError (refused.ClassTooBig text)) =
+    (casei : Bool) × IsTrue (is_class unicode (string_bytes text) casei)
 IsRefusal unicode e = ⊥
 
 abbrev pub is_inner : CompileError → Bool

@@ -34,7 +34,8 @@ impl Calls {
     /// One call more is open.
     pub(crate) fn opened(&self, alloc: Global, target: usize) -> Result<Calls, AllocError>
         requires { 0 < self.now.left }
-        ensures depths { IfOk result (λ calls. depths_of calls.open.items ≡ opened target (depths_of self.now.open.items)) }
+        ensures depths { IfOk result
+            (λ calls. depths_of calls.open.items ≡ opened target (depths_of self.now.open.items)) }
         ensures left { IfOk result (λ calls. calls.left + 1 ≡ self.now.left) }
     {
         let mut open = Vec::from_slice(alloc, &self.open)?;

@@ -1,7 +1,7 @@
 //! The ways of nodes without children: characters, assertions, references, `\K` and `\G`.
 
 ghost use Rattle.std.specs.Prelude.{◌≡◌, ◌∷◌, [], ℕ, true, IfOk, IfErr, Option, is_some, string_bytes, chars, slice_index};
-ghost use Rattle.fancy_meaning.specs.Assertions.{assertion_within, is_of_end};
+ghost use Rattle.fancy_meaning.specs.Assertions.{assertion_within};
 ghost use Rattle.fancy_meaning.specs.MatchState.{Ways, stays_if};
 ghost use Rattle.fancy_meaning.specs.Numbering.{numbered_within};
 ghost use Rattle.fancy_meaning.specs.Ways.{asserts, moves, repeats_group, ways_with};
@@ -15,12 +15,12 @@ use crate::lists::{only, same, same_if};
 use crate::moves::{past_chars, past_class, past_literal, past_newline};
 use crate::nodes::Node;
 use crate::states::State;
-use fancy_characters::places::past_any;
 use fancy_characters::classes::past_piece;
+use fancy_characters::look::{holds, is_of_end};
+use fancy_characters::places::past_any;
 use fancy_expr::error::Error;
 use fancy_expr::expr::{Assertion, Expr};
 use fancy_expr::walk::Within;
-use fancy_characters::look::holds;
 use std::alloc::{AllocError, Global};
 
 /// What is searched, and how.
@@ -51,17 +51,6 @@ fn assertion_within(within: Within, assertion: Assertion) -> Assertion
     }
 }
 
-/// The assertion speaks of the text's end.
-fn is_of_end(assertion: Assertion) -> bool
-    ensures { result ≡ is_of_end (assertion_of assertion) }
-{
-    match assertion {
-        Assertion::EndText => true,
-        Assertion::EndTextIgnoreTrailingNewlines { .. } => true,
-        _ => false,
-    }
-}
-
 /// The first character of a text; of the empty one the character with number 0.
 fn first_char(text: &str) -> char
     ensures { result ≡ slice_index (chars text.now) 0 }
@@ -77,7 +66,9 @@ impl<'a> Search<'a> {
 
     /// The state after a move, if there is one.
     fn moved(&self, state: &State, to: Option<usize>) -> Result<Vec<State>, AllocError>
-        ensures { IfOk result (λ ways. states_of ways.items ≡ moves (setting_of self.now) (λ i. to) (state_of state.now)) }
+        ensures { IfOk result
+            (λ ways. states_of ways.items
+            ≡ moves (setting_of self.now) (λ i. to) (state_of state.now)) }
     {
         match to {
             Some(place) => only(self.alloc, state.moved_to(self.alloc, place)?),
@@ -87,7 +78,9 @@ impl<'a> Search<'a> {
 
     /// An assertion of the text's end leaves its mark.
     fn asserted(&self, assertion: Assertion, state: &State) -> Result<Vec<State>, AllocError>
-        ensures { IfOk result (λ ways. states_of ways.items ≡ asserts (setting_of self.now) (assertion_of assertion) (state_of state.now)) }
+        ensures { IfOk result
+            (λ ways. states_of ways.items
+            ≡ asserts (setting_of self.now) (assertion_of assertion) (state_of state.now)) }
     {
         let mut met = state.copy(self.alloc)?;
         if is_of_end(assertion) {
@@ -102,7 +95,9 @@ impl<'a> Search<'a> {
 
     /// What the group captured, once more.
     fn repeated(&self, group: usize, casei: bool, state: &State) -> Result<Vec<State>, AllocError>
-        ensures { IfOk result (λ ways. states_of ways.items ≡ repeats_group (setting_of self.now) group casei (state_of state.now)) }
+        ensures { IfOk result
+            (λ ways. states_of ways.items
+            ≡ repeats_group (setting_of self.now) group casei (state_of state.now)) }
     {
         match state.span(group) {
             Some((start, end)) => {
@@ -120,7 +115,8 @@ impl<'a> Search<'a> {
         level: Option<isize>,
         state: &State,
     ) -> Result<Vec<State>, AllocError>
-        ensures { IfOk result (λ ways. states_of ways.items ≡ existence group level (state_of state.now)) }
+        ensures { IfOk result
+            (λ ways. states_of ways.items ≡ existence group level (state_of state.now)) }
     {
         match level {
             Some(_) => Ok(Vec::new(self.alloc)),
@@ -146,7 +142,9 @@ impl<'a> Search<'a> {
     ) -> Result<Vec<State>, Error>
         requires { is_leaf expr.now ≡ true }
         ensures found { IfOk result (λ ways. (call : ℕ → Ways) (n : ℕ)
-            → states_of ways.items ≡ ways_with (setting_of self.now) call (numbered_within (within_of within) n (tree_of expr.now)) (state_of state.now)) }
+            → states_of ways.items
+            ≡ ways_with (setting_of self.now) call
+            (numbered_within (within_of within) n (tree_of expr.now)) (state_of state.now)) }
         ensures refused { IfErr result (IsRefusal self.now.unicode) }
     {
         let alloc = self.alloc;

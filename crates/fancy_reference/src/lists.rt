@@ -26,7 +26,8 @@ pub(crate) fn same(alloc: Global, state: &State) -> Result<Vec<State>, AllocErro
 
 /// The state, unchanged, if the test was passed.
 pub(crate) fn same_if(alloc: Global, test: bool, state: &State) -> Result<Vec<State>, AllocError>
-    ensures { IfOk result (λ states. states_of states.items ≡ (if test then state_of state.now ∷ [] else [])) }
+    ensures { IfOk result
+        (λ states. states_of states.items ≡ (if test then state_of state.now ∷ [] else [])) }
 {
     if test {
         same(alloc, state)
@@ -41,7 +42,8 @@ pub(crate) fn all_moved_to(
     states: &[State],
     place: usize,
 ) -> Result<Vec<State>, AllocError>
-    ensures { IfOk result (λ moved. states_of moved.items ≡ map (moved_to place) (states_of states.now)) }
+    ensures { IfOk result
+        (λ moved. states_of moved.items ≡ map (moved_to place) (states_of states.now)) }
 {
     let mut moved = Vec::new(alloc);
     for state in states {
@@ -56,7 +58,8 @@ pub(crate) fn moved_to_each(
     state: &State,
     places: &[usize],
 ) -> Result<Vec<State>, AllocError>
-    ensures { IfOk result (λ moved. states_of moved.items ≡ map (λ i. moved_to i (state_of state.now)) places.now) }
+    ensures { IfOk result
+        (λ moved. states_of moved.items ≡ map (λ i. moved_to i (state_of state.now)) places.now) }
 {
     let mut moved = Vec::new(alloc);
     for place in places {
@@ -71,7 +74,8 @@ pub(crate) fn all_at(
     states: &[State],
     place: usize,
 ) -> Result<Vec<State>, AllocError>
-    ensures { IfOk result (λ kept. states_of kept.items ≡ filter (λ s. s.place == place) (states_of states.now)) }
+    ensures { IfOk result
+        (λ kept. states_of kept.items ≡ filter (λ s. s.place == place) (states_of states.now)) }
 {
     let mut kept = Vec::new(alloc);
     for state in states {
@@ -108,7 +112,9 @@ pub(crate) fn prefer(
     on: Vec<State>,
     stop: &State,
 ) -> Result<Vec<State>, AllocError>
-    ensures { IfOk result (λ states. states_of states.items ≡ prefer greedy (states_of on.items) (state_of stop.now ∷ [])) }
+    ensures { IfOk result
+        (λ states. states_of states.items
+        ≡ prefer greedy (states_of on.items) (state_of stop.now ∷ [])) }
 {
     let mut stopped = same(alloc, stop)?;
     let mut on = on;

@@ -10,8 +10,8 @@ ghost use Rattle.fancy_characters.specs.Literals.{literal_tests};
 ghost use Rattle.fancy_expr.specs.declared.error.Error.TheVariants.{Memory};
 ghost use Rattle.fancy_reference.specs.Refusals.{IsRefusal, is_inner, is_no_class};
 
-use fancy_characters::places::{is_place, stand_at};
 use fancy_characters::classes::{CaseiLiteral, CharClassMatcher};
+use fancy_characters::places::{is_place, stand_at};
 use fancy_expr::error::{CompileError, Error};
 use std::alloc::{AllocError, Global};
 
@@ -67,7 +67,8 @@ pub(crate) fn past_class(
     casei: bool,
     ix: usize,
 ) -> Result<Option<usize>, Error>
-    ensures found { IfOk result (λ to. to ≡ moves.past_char text.now (class_takes unicode inner.now casei) ix) }
+    ensures found { IfOk result
+        (λ to. to ≡ moves.past_char text.now (class_takes unicode inner.now casei) ix) }
     ensures refused { IfErr result (IsRefusal unicode) }
 {
     match CharClassMatcher::codepoint(alloc, inner, casei, unicode) {
@@ -107,7 +108,8 @@ fn past_one(
     text: &str,
     ix: usize,
 ) -> Result<Option<usize>, Error>
-    ensures found { IfOk result (λ to. to ≡ moves.past_char text.now (class_test (class_of class.now)) ix) }
+    ensures found { IfOk result
+        (λ to. to ≡ moves.past_char text.now (class_test (class_of class.now)) ix) }
     ensures refused { IfErr result (λ e. e ≡ Memory) }
 {
     match class.match_len(alloc, text, ix)? {

@@ -84,8 +84,10 @@ impl<'a> Node<'a> {
         alloc: Global,
         group: usize,
     ) -> Result<Option<Node<'a>>, AllocError>
-        ensures body { IfOk result (λ found. option_map node_tree found ≡ body_in (groups (node_tree self.entry)) group) }
-        ensures smaller { IfOk result (λ found. IfSome found (λ body. node_size body ≤ node_size self.entry)) }
+        ensures body { IfOk result
+            (λ found. option_map node_tree found ≡ body_in (groups (node_tree self.entry)) group) }
+        ensures smaller { IfOk result
+            (λ found. IfSome found (λ body. node_size body ≤ node_size self.entry)) }
     {
         let parts = self.parts(alloc)?;
         if self.is_group(group) {

@@ -27,7 +27,8 @@ use std::alloc::{AllocError, Global};
 
 /// An attempt from the start may end with this state.
 fn is_admitted(options: &SearchOptions, text: &str, start: usize, state: &State) -> bool
-    ensures { result ≡ is_admitted (asked plain.Empty options.now text.now) start (state_of state.now) }
+    ensures { result ≡ is_admitted (asked plain.Empty options.now text.now) start
+        (state_of state.now) }
 {
     let is_empty = state.place == start;
     let is_at_end = state.place == text.len() && is_after(text.as_bytes(), state.place, b'\n');
@@ -43,7 +44,8 @@ fn first_admitted<'s>(
     states: &'s [State],
 ) -> Option<&'s State>
     ensures { option_map (λ s. state_of s.now) result
-        ≡ slice_get (filter (is_admitted (asked plain.Empty options.now text.now) start) (states_of states.now)) 0 }
+        ≡ slice_get (filter (is_admitted (asked plain.Empty options.now text.now) start)
+        (states_of states.now)) 0 }
 {
     for state in states {
         if is_admitted(options, text, start, state) {
@@ -81,7 +83,8 @@ fn as_numbers(alloc: Global, groups: usize, state: &State) -> Result<Vec<usize>,
 
 /// The starts that are tried, in order.
 fn starts(alloc: Global, options: &SearchOptions, text: &str) -> Result<Vec<usize>, AllocError>
-    ensures { IfOk result (λ found. found.items ≡ meant.starts (asked plain.Empty options.now text.now)) }
+    ensures { IfOk result
+        (λ found. found.items ≡ meant.starts (asked plain.Empty options.now text.now)) }
 {
     if options.anchored {
         let mut starts = Vec::new(alloc);
@@ -102,7 +105,8 @@ fn first_number(explicit_capture_group_0: bool) -> usize
 /// The root, its first group with the number 0 where that is explicit, and else 1.
 fn root(tree: &ExprTree, explicit_capture_group_0: bool) -> Node<'_>
     requires { IsWellFormedTree tree.now }
-    ensures { node_tree result ≡ numbered (if explicit_capture_group_0 then 0 else 1) (tree_of tree.now.expr) }
+    ensures { node_tree result
+        ≡ numbered (if explicit_capture_group_0 then 0 else 1) (tree_of tree.now.expr) }
 {
     Node {
         expr: &tree.expr,
@@ -111,11 +115,12 @@ fn root(tree: &ExprTree, explicit_capture_group_0: bool) -> Node<'_>
     }
 }
 
-/// What a search for a tree answers, by the definitions of "docs/MEANING.md": start and end of each group from 0 up, in bytes of the text,
-/// `usize::MAX` for one that is not set; or none. It takes time and memory for each way there is, and is meant for small trees and texts.
+/// What a search for a tree answers, by the definitions of "docs/MEANING.md": start and end of each group from 0 up,
+/// in bytes of the text, `usize::MAX` for one that is not set; or none. It takes time and memory for each way there
+/// is, and is meant for small trees and texts.
 ///
-/// `tree` has passed `is_well_formed`. The errors are `Error::Memory`, and `CompileError::ClassTooBig` with the text of a class for which
-/// `regex` has no room.
+/// `tree` has passed `is_well_formed`. The errors are `Error::Memory`, and `CompileError::ClassTooBig` with the text
+/// of a class for which `regex` has no room.
 pub fn answer(
     alloc: Global,
     tree: &ExprTree,
@@ -123,9 +128,11 @@ pub fn answer(
     text: &str,
 ) -> Result<Option<Vec<usize>>, Error>
     requires { IsWellFormedTree tree.now }
-    ensures found { IfOk result (λ found. (a : AnalysisOptions) (c : CompileOptions) (r : RunOptions)
+    ensures found { IfOk result
+        (λ found. (a : AnalysisOptions) (c : CompileOptions) (r : RunOptions)
         → IsAsked options.now a c r
-        → option_map (λ numbers. numbers.items) found ≡ answer (meant.search_of (plan_of (tree_of tree.now.expr) a c) text.now r)) }
+        → option_map (λ numbers. numbers.items) found
+        ≡ answer (meant.search_of (plan_of (tree_of tree.now.expr) a c) text.now r)) }
     ensures refused { IfErr result (IsRefusal options.now.unicode) }
 {
     let search = Search {

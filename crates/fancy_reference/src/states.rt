@@ -61,7 +61,8 @@ impl State {
         start: usize,
         end: usize,
     ) -> Result<(), AllocError>
-        ensures { OnOk result (state_of self.new ≡ with_span group (start, end) (state_of self.old)) }
+        ensures { OnOk result
+            (state_of self.new ≡ with_span group (start, end) (state_of self.old)) }
     {
         self.captures.push(Capture { group, start, end })?;
         Ok(())

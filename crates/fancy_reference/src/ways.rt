@@ -27,8 +27,10 @@ impl<'a> Search<'a> {
 
     /// What a call of a group calls, and with 0 the whole tree.
     fn target(&self, group: usize) -> Result<Option<Node<'a>>, AllocError>
-        ensures body { IfOk result (λ found. option_map node_tree found ≡ target (node_tree self.now.root) group) }
-        ensures smaller { IfOk result (λ found. IfSome found (λ body. node_size body ≤ node_size self.now.root)) }
+        ensures body { IfOk result
+            (λ found. option_map node_tree found ≡ target (node_tree self.now.root) group) }
+        ensures smaller { IfOk result
+            (λ found. IfSome found (λ body. node_size body ≤ node_size self.now.root)) }
     {
         if group == 0 {
             Ok(Some(self.root))
@@ -45,7 +47,9 @@ impl<'a> Search<'a> {
         node: Node<'a>,
         state: &State,
     ) -> Result<Vec<State>, Error>
-        ensures found { IfOk result (λ ways. states_of ways.items ≡ ways_of self.now calls.now node.entry (state_of state.now)) }
+        ensures found { IfOk result
+            (λ ways. states_of ways.items
+            ≡ ways_of self.now calls.now node.entry (state_of state.now)) }
         ensures refused { IfErr result (IsRefusal self.now.unicode) }
     {
         let parts = node.parts(self.alloc)?;
@@ -90,7 +94,9 @@ impl<'a> Search<'a> {
     /// The ways of the nodes, each in turn.
     #[cycle(ways)]
     fn one_of(&self, calls: &Calls, nodes: &[Node<'a>], state: &State) -> Result<Vec<State>, Error>
-        ensures found { IfOk result (λ ways. states_of ways.items ≡ ways_of_one self.now calls.now nodes.now (state_of state.now)) }
+        ensures found { IfOk result
+            (λ ways. states_of ways.items
+            ≡ ways_of_one self.now calls.now nodes.now (state_of state.now)) }
         ensures refused { IfErr result (IsRefusal self.now.unicode) }
     {
         let mut ways = Vec::new(self.alloc);
@@ -109,7 +115,9 @@ impl<'a> Search<'a> {
         nodes: &[Node<'a>],
         states: &[State],
     ) -> Result<Vec<State>, Error>
-        ensures found { IfOk result (λ ways. states_of ways.items ≡ flat_map (ways_of_one self.now calls.now nodes.now) (states_of states.now)) }
+        ensures found { IfOk result
+            (λ ways. states_of ways.items
+            ≡ flat_map (ways_of_one self.now calls.now nodes.now) (states_of states.now)) }
         ensures refused { IfErr result (IsRefusal self.now.unicode) }
     {
         let mut ways = Vec::new(self.alloc);
@@ -128,7 +136,9 @@ impl<'a> Search<'a> {
         nodes: &[Node<'a>],
         state: &State,
     ) -> Result<Vec<State>, Error>
-        ensures found { IfOk result (λ ways. states_of ways.items ≡ in_order (ways_of_each self.now calls.now nodes.now) (state_of state.now)) }
+        ensures found { IfOk result
+            (λ ways. states_of ways.items
+            ≡ in_order (ways_of_each self.now calls.now nodes.now) (state_of state.now)) }
         ensures refused { IfErr result (IsRefusal self.now.unicode) }
     {
         let mut states = same(self.alloc, state)?;
@@ -149,7 +159,8 @@ impl<'a> Search<'a> {
         state: &State,
     ) -> Result<Vec<State>, Error>
         ensures found { IfOk result (λ ways. states_of ways.items
-            ≡ repeats self.now.text.now bounds.lo (bound_of bounds.hi) bounds.greedy (ways_of_one self.now calls.now nodes.now) (state_of state.now)) }
+            ≡ repeats self.now.text.now bounds.lo (bound_of bounds.hi) bounds.greedy
+            (ways_of_one self.now calls.now nodes.now) (state_of state.now)) }
         ensures refused { IfErr result (IsRefusal self.now.unicode) }
     {
         let mut states = same(self.alloc, state)?;
@@ -209,7 +220,8 @@ impl<'a> Search<'a> {
         state: &State,
     ) -> Result<Vec<State>, Error>
         ensures found { IfOk result (λ ways. states_of ways.items
-            ≡ looks (setting_of self.now) (look_of look) (ways_of_each self.now calls.now branches.now) (state_of state.now)) }
+            ≡ looks (setting_of self.now) (look_of look)
+            (ways_of_each self.now calls.now branches.now) (state_of state.now)) }
         ensures refused { IfErr result (IsRefusal self.now.unicode) }
     {
         match look {
@@ -238,7 +250,8 @@ impl<'a> Search<'a> {
         state: &State,
     ) -> Result<Vec<State>, Error>
         ensures found { IfOk result (λ ways. states_of ways.items
-            ≡ one_of (map (ends_here (setting_of self.now)) (ways_of_each self.now calls.now branches.now)) (state_of state.now)) }
+            ≡ one_of (map (ends_here (setting_of self.now))
+            (ways_of_each self.now calls.now branches.now)) (state_of state.now)) }
         ensures refused { IfErr result (IsRefusal self.now.unicode) }
     {
         let places = places_back(self.alloc, self.text, state.place)?;
@@ -261,7 +274,9 @@ impl<'a> Search<'a> {
         state: &State,
     ) -> Result<Vec<State>, Error>
         requires { length parts.now ≡ 3 }
-        ensures found { IfOk result (λ ways. states_of ways.items ≡ conditional_of (ways_of_each self.now calls.now parts.now) (state_of state.now)) }
+        ensures found { IfOk result
+            (λ ways. states_of ways.items
+            ≡ conditional_of (ways_of_each self.now calls.now parts.now) (state_of state.now)) }
         ensures refused { IfErr result (IsRefusal self.now.unicode) }
     {
         let first = self.ways(calls, parts[0], state)?;
@@ -275,7 +290,8 @@ impl<'a> Search<'a> {
     #[cycle(ways)]
     fn absent(&self, calls: &Calls, nodes: &[Node<'a>], state: &State) -> Result<Vec<State>, Error>
         ensures found { IfOk result (λ ways. states_of ways.items
-            ≡ absent (setting_of self.now) (ways_of_one self.now calls.now nodes.now) (state_of state.now)) }
+            ≡ absent (setting_of self.now) (ways_of_one self.now calls.now nodes.now)
+            (state_of state.now)) }
         ensures refused { IfErr result (IsRefusal self.now.unicode) }
     {
         let mut ways = Vec::new(self.alloc);
@@ -296,7 +312,8 @@ impl<'a> Search<'a> {
     /// The ways of what is called, which sets a span where it is a group.
     #[cycle(ways)]
     fn call(&self, calls: &Calls, group: usize, state: &State) -> Result<Vec<State>, Error>
-        ensures found { IfOk result (λ ways. states_of ways.items ≡ call_of self.now calls.now group (state_of state.now)) }
+        ensures found { IfOk result
+            (λ ways. states_of ways.items ≡ call_of self.now calls.now group (state_of state.now)) }
         ensures refused { IfErr result (IsRefusal self.now.unicode) }
     {
         if calls.left == 0 || calls.depth(group) >= CALL_DEPTH {

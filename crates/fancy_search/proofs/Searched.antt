@@ -24,7 +24,7 @@ use Rattle.fancy_expr.specs.Views.{parsed_of}
 use Rattle.fancy_analysis.specs.declared.context.AnalyzeContext.{AnalyzeContext}
 use Rattle.fancy_analysis.specs.declared.info.Info.{Info}
 use Rattle.fancy_analysis.specs.Analyses.{IsAnalysisOf, IsRefusedAs}
-use Rattle.fancy_analysis.specs.Infos.{options_of}
+use Rattle.fancy_analysis.specs.Infos.{analysis_options_of}
 use Rattle.fancy_vm.proofs.FitsLaws.{run_implicit}
 use Rattle.fancy_vm.specs.declared.insn.Prog.{Prog}
 use Rattle.fancy_vm.specs.declared.runs.RunOptions.{RunOptions}
@@ -52,7 +52,7 @@ none_of false e = refl
 
 module _ (t : ExprTree) (context : AnalyzeContext) (o : CompileOptions) (ok : IsWellFormedTree t) (fits : options_fit context o ≡ true) where
   abbrev pub analysed : Analysed
-  analysed = record { parsed = parsed_of t; options = options_of context; well_formed = ok.0 }
+  analysed = record { parsed = parsed_of t; options = analysis_options_of context; well_formed = ok.0 }
 
   abbrev input : Input
   input = input_of t context o
@@ -60,11 +60,11 @@ module _ (t : ExprTree) (context : AnalyzeContext) (o : CompileOptions) (ok : Is
   same_end_text : o.disallow_empty_match_at_eof_after_newline ≡ true → context.disallow_empty_match_at_eof_after_newline ≡ true
   same_end_text = implied _ _ fits
 
-  pub may_compile : (i : Info) → IsAnalysisOf t (options_of context) i → MayCompile analysed i o
+  pub may_compile : (i : Info) → IsAnalysisOf t (analysis_options_of context) i → MayCompile analysed i o
   may_compile i h = record { root = h.root; accepted = h.accepted; end_text = same_end_text }
 
   -- the refusal of the analysis
-  pub analysis_refused : (e : Error) → IsRefusedAs (parsed_of t) (options_of context) e → searches.IsRefusedAs input e
+  pub analysis_refused : (e : Error) → IsRefusedAs (parsed_of t) (analysis_options_of context) e → searches.IsRefusedAs input e
   analysis_refused (error.CompileError e) h = by_analysis h
   analysis_refused (error.RuntimeError e) h = h
   analysis_refused error.Memory h = h
@@ -81,7 +81,7 @@ module _ (t : ExprTree) (context : AnalyzeContext) (o : CompileOptions) (ok : Is
   compiler_refused error.Memory h = h
   compiler_refused (error.TreeFault at) h = h
 
-  pub compiled_from : (i : Info) (prog : Prog) → IsAnalysisOf t (options_of context) i →
+  pub compiled_from : (i : Info) (prog : Prog) → IsAnalysisOf t (analysis_options_of context) i →
       Compiles (plan_with analysed o) (Ok prog) → IsCompiledFrom input (record { prog = prog })
   compiled_from i prog h compiled = record {
     accepted = λ implicit. record {

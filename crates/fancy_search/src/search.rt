@@ -4,7 +4,7 @@ ghost use Rattle.std.specs.Prelude.{◌≡◌, ℕ, List, None, IsTrue, IsUtf8, 
 ghost use Rattle.fancy_meaning.specs.Fits.{run_fits};
 ghost use Rattle.fancy_meaning.specs.Options as plain;
 ghost use Rattle.fancy_meaning.specs.Premises.{Input};
-ghost use Rattle.fancy_analysis.specs.Infos.{options_of as analysis_options_of};
+ghost use Rattle.fancy_analysis.specs.Infos.{analysis_options_of};
 ghost use Rattle.fancy_compile.specs.Compiled.{compile_options_of};
 ghost use Rattle.fancy_expr.specs.Sound.{IsWellFormedTree};
 ghost use Rattle.fancy_vm.specs.Programs.{default_at, options_of as run_options_of, task_of};
@@ -30,8 +30,8 @@ pub struct SearchOptions {
     pub run: RunOptions,
 }
 
-/// A tree may be analysed and compiled with these options: the end-of-text option of the compiler is set only with that of the
-/// analysis.
+/// A tree may be analysed and compiled with these options: the end-of-text option of the compiler is set only with
+/// that of the analysis.
 pub fn options_fit(context: AnalyzeContext, options: CompileOptions) -> bool
     ensures { result ≡ searches.options_fit context options }
 {
@@ -40,8 +40,8 @@ pub fn options_fit(context: AnalyzeContext, options: CompileOptions) -> bool
 }
 
 impl SearchOptions {
-    /// A search of the text with these options may be made: `options_fit`, group 0 is implicit, `run.pos` is a character boundary of the
-    /// text, and `run.not_empty` is set only with `analysis.find_not_empty`.
+    /// A search of the text with these options may be made: `options_fit`, group 0 is implicit, `run.pos` is a
+    /// character boundary of the text, and `run.not_empty` is set only with `analysis.find_not_empty`.
     pub fn fits(&self, text: &str) -> bool
         ensures { result ≡ search_fits self.now text.now }
     {
@@ -57,7 +57,8 @@ impl Default for SearchOptions {
     fn default() -> SearchOptions
         ensures fits { (text : List ℕ) → IsUtf8 text → IsTrue (search_fits result text) }
         ensures analysis { analysis_options_of result.analysis
-            ≡ record { explicit_capture_group_0 = false; find_not_empty = false; end_text = false } }
+            ≡ record { explicit_capture_group_0 = false; find_not_empty = false;
+                end_text = false } }
         ensures compilation { compile_options_of result.compilation
             ≡ record {
               anchored = false;
@@ -85,7 +86,8 @@ pub struct Compiled {
 impl Compiled {
     /// Analyses and compiles the tree.
     ///
-    /// A tree is refused as `Error::CompileError` where a case of `analyze` or `compile` holds. Want of memory is `Error::Memory`.
+    /// A tree is refused as `Error::CompileError` where a case of `analyze` or `compile` holds. Want of memory is
+    /// `Error::Memory`.
     pub fn new(
         alloc: Global,
         tree: &ExprTree,
@@ -118,19 +120,19 @@ impl Compiled {
         self.prog
     }
 
-    /// A search of the text with these options may be made: `pos` is a character boundary of the text, and `not_empty` is set only
-    /// where the analysis had `find_not_empty`.
+    /// A search of the text with these options may be made: `pos` is a character boundary of the text, and
+    /// `not_empty` is set only where the analysis had `find_not_empty`.
     pub fn fits(&self, text: &str, options: &RunOptions) -> bool
         ensures { result ≡ run_fits (task_of (program self.now) text.now options.now) }
     {
         options.fits(&self.prog, text)
     }
 
-    /// Searches the text from `options.pos` on, a byte of it, for the tree that was compiled: start and end of each group from 0 up, in
-    /// bytes of the text, with `usize::MAX` for a group that is not set, or none.
+    /// Searches the text from `options.pos` on, a byte of it, for the tree that was compiled: start and end of each
+    /// group from 0 up, in bytes of the text, with `usize::MAX` for a group that is not set, or none.
     ///
-    /// A `RuntimeError` tells which limit was passed, and `Memory` that a request for memory was refused. The scratch may be used again
-    /// after either.
+    /// A `RuntimeError` tells which limit was passed, and `Memory` that a request for memory was refused. The scratch
+    /// may be used again after either.
     pub fn search(
         &self,
         alloc: Global,
@@ -147,12 +149,13 @@ impl Compiled {
     }
 }
 
-/// Searches the text for the tree, by `analyze`, `compile` and `run`: start and end of each group from 0 up, in bytes of the text, with
-/// `usize::MAX` for a group that is not set, or none. It is the first admitted way at the earliest start that has one.
+/// Searches the text for the tree, by `analyze`, `compile` and `run`: start and end of each group from 0 up, in bytes
+/// of the text, with `usize::MAX` for a group that is not set, or none. It is the first admitted way at the earliest
+/// start that has one.
 ///
-/// `tree` has passed `is_well_formed`, and the options `SearchOptions::fits`. A tree is refused as `Error::CompileError` where a case of
-/// `analyze` or `compile` holds; a `RuntimeError` tells which limit was passed, and `Memory` that a request for memory was refused. The
-/// scratch may be used again after any of them.
+/// `tree` has passed `is_well_formed`, and the options `SearchOptions::fits`. A tree is refused as
+/// `Error::CompileError` where a case of `analyze` or `compile` holds; a `RuntimeError` tells which limit was passed,
+/// and `Memory` that a request for memory was refused. The scratch may be used again after any of them.
 pub fn search(
     alloc: Global,
     tree: &ExprTree,

@@ -5,14 +5,15 @@ use Rattle.fancy_meaning.specs.Options.{AnalysisOptions, analysis_of}
 use Rattle.fancy_meaning.specs.Sizes.{known_of}
 use Rattle.fancy_meaning.specs.Tree.{NoLook}
 use Rattle.fancy_analysis.specs.Endings.{IsWhole}
-use Rattle.fancy_analysis.specs.Infos.{options_of}
+use Rattle.fancy_analysis.specs.Infos.{analysis_options_of}
 use Rattle.fancy_analysis.specs.Analyses.{IsAnalysisOf, IsRefusedAs}
 use Rattle.fancy_analysis.specs.declared.info.Info.{Info}
 use Rattle.fancy_expr.specs.declared.expr.ExprTree.{ExprTree}
 use Rattle.fancy_expr.specs.declared.error.Error.{Error}
 use Rattle.fancy_expr.specs.declared.error.Error.TheVariants.{Memory}
 use Rattle.fancy_meaning.specs.AnalysisRefusals.{AnalysisRefuses}
-use Rattle.fancy_analysis.specs.Refusals.{HasNoRefusedNode, IsAnalysable, error_of}
+use Rattle.fancy_analysis.specs.Refusals.{HasNoRefusedNode, IsAnalysable}
+use Rattle.fancy_expr.specs.Errors.{error_of}
 use Rattle.fancy_expr.proofs.Listed.{false_true}
 use Rattle.fancy_analysis.proofs.WholeNodes.{whole_visited}
 use Rattle.fancy_analysis.specs.Sized.{size_of}
@@ -24,17 +25,21 @@ pub returns : goal.returns
 unfolding numbered
 returns c =
     let p = parsed_of c.args.tree.now in
-    let o = options_of c.args.context in
+    let o = analysis_options_of c.args.context in
     let a = analysis_of p.tree o in
     let quiet : HasNoRefusedNode p o = c.in_default.ensures in
-    let whole : IsWhole a c.in_ok-info.info = whole_visited o _ c.args.tree.now.expr c.first_group-first.result c.in_ok-info.info c.first_group-first.ensures c.in_ok-info.ensures (record {
+    let whole : IsWhole a c.in_ok-info.info =
+    whole_visited o _ c.args.tree.now.expr c.first_group-first.result c.in_ok-info.info c.first_group-first.ensures c.in_ok-info.ensures (record {
       options = refl;
       reads = λ g. ap (λ l. slice_index_or l g false) c.deref-3.ensures.value ∙ c.in_ok-reads.ensures g ∙ flag_is_read p o c.requires.0.groups quiet g;
-      known = ap (map size_of) c.deref-2.ensures.value ∙ c.in_ok-known.ensures ∙ ap (λ n. known_of (numbered_within NoLook n p.tree)) c.first_group-first.ensures;
+      known = ap (map size_of) c.deref-2.ensures.value ∙ c.in_ok-known.ensures
+          ∙ ap (λ n. known_of (numbered_within NoLook n p.tree)) c.first_group-first.ensures;
     }) in
-    let root = c.as_root.ensures a refl c.in_ok-info.ensures.within (c.in_ok-info.ensures.start_group ∙ c.first_group-first.ensures) whole.tree whole.analysed in
+    let root = c.as_root.ensures a refl c.in_ok-info.ensures.within (c.in_ok-info.ensures.start_group
+    ∙ c.first_group-first.ensures) whole.tree whole.analysed in
     record {
-      accepted = subst (λ r. MatchOption r (IsAnalysable p o) (λ error. AnalysisRefuses p o (error_of error))) c.in_default-2.is (c.in_ok-refused.ensures o quiet whole);
+      accepted = subst (λ r. MatchOption r (IsAnalysable p o) (λ error. AnalysisRefuses p o (error_of error))) c.in_default-2.is
+          (c.in_ok-refused.ensures o quiet whole);
       expr = root.1 ∙ c.in_ok-info.ensures.expr;
       root = root.0;
     }
@@ -43,12 +48,14 @@ pub returns-in-Some-2 : goal.returns-in-Some-2
 unfolding numbered
 returns-in-Some-2 c =
     let p = parsed_of c.args.tree.now in
-    let o = options_of c.args.context in
+    let o = analysis_options_of c.args.context in
     let quiet : HasNoRefusedNode p o = c.in_default.ensures in
-    let whole : IsWhole (analysis_of p.tree o) c.in_ok-info.info = whole_visited o _ c.args.tree.now.expr c.first_group-first.result c.in_ok-info.info c.first_group-first.ensures c.in_ok-info.ensures (record {
+    let whole : IsWhole (analysis_of p.tree o) c.in_ok-info.info =
+    whole_visited o _ c.args.tree.now.expr c.first_group-first.result c.in_ok-info.info c.first_group-first.ensures c.in_ok-info.ensures (record {
       options = refl;
       reads = λ g. ap (λ l. slice_index_or l g false) c.deref-3.ensures.value ∙ c.in_ok-reads.ensures g ∙ flag_is_read p o c.requires.0.groups quiet g;
-      known = ap (map size_of) c.deref-2.ensures.value ∙ c.in_ok-known.ensures ∙ ap (λ n. known_of (numbered_within NoLook n p.tree)) c.first_group-first.ensures;
+      known = ap (map size_of) c.deref-2.ensures.value ∙ c.in_ok-known.ensures
+          ∙ ap (λ n. known_of (numbered_within NoLook n p.tree)) c.first_group-first.ensures;
     }) in
     subst (λ r. MatchOption r (IsAnalysable p o) (λ error. AnalysisRefuses p o (error_of error))) c.in-Some-2.is (c.in_ok-refused.ensures o quiet whole)
 
@@ -61,12 +68,14 @@ pub returns-in_err-refused : goal.returns-in_err-refused
 unfolding numbered
 returns-in_err-refused c =
     let p = parsed_of c.args.tree.now in
-    let o = options_of c.args.context in
+    let o = analysis_options_of c.args.context in
     let quiet : HasNoRefusedNode p o = c.in_default.ensures in
-    let whole : IsWhole (analysis_of p.tree o) c.in_ok-info.info = whole_visited o _ c.args.tree.now.expr c.first_group-first.result c.in_ok-info.info c.first_group-first.ensures c.in_ok-info.ensures (record {
+    let whole : IsWhole (analysis_of p.tree o) c.in_ok-info.info =
+    whole_visited o _ c.args.tree.now.expr c.first_group-first.result c.in_ok-info.info c.first_group-first.ensures c.in_ok-info.ensures (record {
       options = refl;
       reads = λ g. ap (λ l. slice_index_or l g false) c.deref-3.ensures.value ∙ c.in_ok-reads.ensures g ∙ flag_is_read p o c.requires.0.groups quiet g;
-      known = ap (map size_of) c.deref-2.ensures.value ∙ c.in_ok-known.ensures ∙ ap (λ n. known_of (numbered_within NoLook n p.tree)) c.first_group-first.ensures;
+      known = ap (map size_of) c.deref-2.ensures.value ∙ c.in_ok-known.ensures
+          ∙ ap (λ n. known_of (numbered_within NoLook n p.tree)) c.first_group-first.ensures;
     }) in
     let from = c.from_residual-in_err-refused in
     memory_only c.args.tree.now o from.result c.in_err-refused.field-0.0 from.ensures.0 from.ensures.1 (c.in_err-refused.ensures o quiet whole)

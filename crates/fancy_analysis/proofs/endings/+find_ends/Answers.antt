@@ -42,4 +42,5 @@ returns-clause-next t c = λ a found g.
     (slice_index_or c.set_flag.new.flags g false) (nat_lt g (length c.args.next.now)) ends found
     (omega (arith, ap length c.deref-child-items.ensures.value)) (returns-clause-ends t c a found) (c.loop-child.invariant.2 a found g)
     (c.set_flag.ensures.flags g
-    ∙ ap (λ k. slice_index_or c.loop-child.next g false || (nat_lt g k && is_own_end (info_facts info).expr (info_facts info).start_group ends g)) c.loop-child.invariant.0)
+    ∙ ap (λ k. slice_index_or c.loop-child.next g false ||
+    (nat_lt g k && is_own_end (info_facts info).expr (info_facts info).start_group ends g)) c.loop-child.invariant.0)

@@ -8,8 +8,10 @@ loop-i-preserved c =
     let flags = c.args.flags.now in
     let i = c.loop-i.i in
     elim c.if-flags-i.branch [
-      | then-flags-i w ↦ let more = count-taken flags i true c.loop-i-test.true w.if-flags-i.true in (omega (arith, w.count-is, more, c.loop-i.invariant.0), omega (arith, w.count-is, c.loop-i.invariant.1))
-      | else-flags-i w ↦ let more = count-taken flags i false c.loop-i-test.true w.if-flags-i.false in (omega (arith, w.count-is, more, c.loop-i.invariant.0), omega (arith, w.count-is, c.loop-i.invariant.1))
+      | then-flags-i w ↦ let more = count-taken flags i true c.loop-i-test.true w.if-flags-i.true in
+          (omega (arith, w.count-is, more, c.loop-i.invariant.0), omega (arith, w.count-is, c.loop-i.invariant.1))
+      | else-flags-i w ↦ let more = count-taken flags i false c.loop-i-test.true w.if-flags-i.false in
+          (omega (arith, w.count-is, more, c.loop-i.invariant.0), omega (arith, w.count-is, c.loop-i.invariant.1))
     ]
 
 pub returns : goal.returns

@@ -34,7 +34,9 @@ returns-then-has_late_read t c = λ a found.
 pub returns : goal.returns
 returns t c = λ a found.
     let info = c.args.info.now in
-    let none = ap (any_in_each is_read_late) (sym (take_all c.loop-child.child-index (info_children info) (omega (arith, ap length c.deref-child-items.ensures.value)))) ∙ c.loop-child.invariant a found in
+    let none = ap (any_in_each is_read_late)
+    (sym (take_all c.loop-child.child-index (info_children info) (omega (arith, ap length c.deref-child-items.ensures.value))))
+    ∙ c.loop-child.invariant a found in
     sym (any-below is_read_late info (has_parts a info found)
     ∙ ap (λ b. b || any_in_each is_read_late (info_children info)) (sym (c.is_read_late.ensures a found) ∙ c.if-is_read_late.false)
     ∙ none)

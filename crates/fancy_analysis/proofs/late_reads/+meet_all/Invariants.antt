@@ -11,4 +11,5 @@ invariant-loop-child l =
     → IsAnalysed a l.info
     → (owner : ℕ)
     → (owner == l.group) ≡ l.own
-    → l.met ≡ met_in_each l.group (owner_inside owner (info_tree l.info)) (meet l.group (owner == l.group) (info_tree l.info) l.fn.met) (take l.child-index (info_children l.info))
+    → l.met ≡ met_in_each l.group (owner_inside owner (info_tree l.info)) (meet l.group (owner == l.group) (info_tree l.info) l.fn.met)
+    (take l.child-index (info_children l.info))

@@ -11,7 +11,8 @@ returns-in-Group c = λ a found.
     let info = c.args.info.now in
     let f = info_facts info in
     ap (λ m. m.read_after) (c.meet_all.ensures a found f.start_group (eq-eqb f.start_group f.start_group refl))
-    ∙ late_group (info_tree info) f.start_group _ (tree_out info ∙ ap (λ e. node_over e f.start_group f.within (trees (map info_tree (info_children info)))) c.in-Group.is)
+    ∙ late_group (info_tree info) f.start_group _ (tree_out info
+    ∙ ap (λ e. node_over e f.start_group f.within (trees (map info_tree (info_children info)))) c.in-Group.is)
 
 pub returns-in_default : goal.returns-in_default
 returns-in_default c = λ a found. sym (no_group_late c.args.info.now c.in_default.not-Group)

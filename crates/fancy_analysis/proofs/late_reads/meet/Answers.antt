@@ -9,4 +9,10 @@ returns-in-Absent c =
     let g = c.args.group in
     let own = c.args.own in
     let met = c.args.met in
-    sym (ap (λ x. meet g own (tree_of x) met) c.in-Absent.is ∙ elim c.in-Absent.field-0 as (λ x. meet g own (absent_of x) met ≡ met) [ code_absent.Repeater' b y ↦ refl | code_absent.Expression' b y d z ↦ refl | code_absent.Stopper' b y ↦ refl | code_absent.Clear ↦ refl ])
+    sym (ap (λ x. meet g own (tree_of x) met) c.in-Absent.is
+    ∙ elim c.in-Absent.field-0 as (λ x. meet g own (absent_of x) met ≡ met) [
+      | code_absent.Repeater' b y ↦ refl
+      | code_absent.Expression' b y d z ↦ refl
+      | code_absent.Stopper' b y ↦ refl
+      | code_absent.Clear ↦ refl
+    ])

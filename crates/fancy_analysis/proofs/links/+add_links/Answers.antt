@@ -27,12 +27,15 @@ loop-i-preserved t c = λ whole a at sized.
     let inside = around_inside e (info_facts info).start_group a in
     let stands : IsAt c.if-follows.next (if follows e n then behind else inside) = elim c.if-follows.branch [
       | then-follows b ↦ subst (λ x. IsAt x (if follows e n then behind else inside)) (sym b.next-is)
-          (subst (λ f. IsAt b.past-next.result (if f then behind else inside)) b.if-follows.ensures (b.past-next.ensures whole w.around w.stands (child_size whole child sized_child)))
+          (subst (λ f. IsAt b.past-next.result (if f then behind else inside)) b.if-follows.ensures
+          (b.past-next.ensures whole w.around w.stands (child_size whole child sized_child)))
       | else-follows b ↦ subst (λ x. IsAt x (if follows e n then behind else inside)) (sym b.next-is)
           (subst (λ f. IsAt c.inside-first.result (if f then behind else inside)) b.if-follows.ensures (c.inside-first.ensures a at))
     ] in
-    on_way_more whole info a c.args.links.now.items c.loop-i.links.items c.add_links.new.links.items c.loop-i.next c.if-follows.next n child lt here w (c.in_ok-add_links.ensures whole w.around w.stands sized_child) stands
+    on_way_more whole info a c.args.links.now.items c.loop-i.links.items c.add_links.new.links.items c.loop-i.next c.if-follows.next n child lt here w
+    (c.in_ok-add_links.ensures whole w.around w.stands sized_child) stands
 
 pub returns : goal.returns
 returns t c = λ whole a at sized.
-    on_way_all whole c.args.info.now a c.args.links.now.items c.loop-i.links.items c.loop-i.next c.loop-i.i (omega (arith, ap length c.deref-child-items.ensures.value)) (c.loop-i.invariant whole a at sized)
+    on_way_all whole c.args.info.now a c.args.links.now.items c.loop-i.links.items c.loop-i.next c.loop-i.i
+    (omega (arith, ap length c.deref-child-items.ensures.value)) (c.loop-i.invariant whole a at sized)

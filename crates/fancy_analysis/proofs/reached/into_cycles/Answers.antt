@@ -16,7 +16,8 @@ loop-flags-preserved c =
     let entry : lent ≡ before = c.deref_mut.ensures.value in
     let all : (n : ℕ) → LeadsIntoCycle links n → flag lent n ≡ true = λ n into. ap (λ f. flag f n) entry ∙ c.loop-flags.invariant n into in
     let same : take c.loop-flags.flags.len (after ++ drop (length after) before) ≡ after = written_back _ _ after (omega (arith, ap length entry)) in
-    subst (λ f. (n : ℕ) → LeadsIntoCycle links n → flag f n ≡ true) (sym same) (λ n into. c.thin_out.ensures.kept n (all n into) (cycle_leads_on links lent all n into))
+    subst (λ f. (n : ℕ) → LeadsIntoCycle links n → flag f n ≡ true) (sym same)
+    (λ n into. c.thin_out.ensures.kept n (all n into) (cycle_leads_on links lent all n into))
 
 pub returns : goal.returns
 returns c =

@@ -13,12 +13,14 @@ loop-link-preserved c =
     let link = get_or links i none in
     elim c.if-leads_out.branch [
       | then-leads_out w ↦ (
-          let more = reaching_more links c.args.flags.now c.loop-link.flags c.loop-link.has_grown i none link (omega arith) refl (w.if-leads_out.ensures) c.loop-link.invariant in
+          let more = reaching_more links c.args.flags.now c.loop-link.flags c.loop-link.has_grown i none link (omega arith) refl
+          (w.if-leads_out.ensures) c.loop-link.invariant in
           subst (λ f. IsReaching links c.args.flags.now f c.if-leads_out.has_grown (i + 1)) (sym w.flags-is)
           (subst (λ g. IsReaching links c.args.flags.now (set c.loop-link.flags link.to true) g (i + 1)) (sym w.has_grown-is) more)
           )
       | else-leads_out w ↦ (
-          let same = reaching_same links c.args.flags.now c.loop-link.flags c.loop-link.has_grown i none link (omega arith) refl (w.if-leads_out.ensures) c.loop-link.invariant in
+          let same = reaching_same links c.args.flags.now c.loop-link.flags c.loop-link.has_grown i none link (omega arith) refl
+          (w.if-leads_out.ensures) c.loop-link.invariant in
           subst (λ f. IsReaching links c.args.flags.now f c.if-leads_out.has_grown (i + 1)) (sym w.flags-is)
           (subst (λ g. IsReaching links c.args.flags.now c.loop-link.flags g (i + 1)) (sym w.has_grown-is) same)
           )

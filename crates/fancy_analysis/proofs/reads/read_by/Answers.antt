@@ -6,4 +6,10 @@ use Rattle.fancy_analysis.proofs.reads.read_by.Goals as goal
 
 pub returns-in-Absent : goal.returns-in-Absent
 returns-in-Absent c =
-    sym (ap (λ x. read_by (tree_of x)) c.in-Absent.is ∙ elim c.in-Absent.field-0 as (λ x. read_by (absent_of x) ≡ None) [ code_absent.Repeater' b y ↦ refl | code_absent.Expression' b y d z ↦ refl | code_absent.Stopper' b y ↦ refl | code_absent.Clear ↦ refl ])
+    sym (ap (λ x. read_by (tree_of x)) c.in-Absent.is
+    ∙ elim c.in-Absent.field-0 as (λ x. read_by (absent_of x) ≡ None) [
+      | code_absent.Repeater' b y ↦ refl
+      | code_absent.Expression' b y d z ↦ refl
+      | code_absent.Stopper' b y ↦ refl
+      | code_absent.Clear ↦ refl
+    ])

@@ -7,4 +7,10 @@ use Rattle.fancy_analysis.proofs.refusals.node_refusal.Goals as goal
 
 pub returns-in-Absent : goal.returns-in-Absent
 returns-in-Absent c =
-    sym (ap (λ x. refusal_of (tree_of x)) c.in-Absent.is ∙ elim c.in-Absent.field-0 as (λ x. refusal_of (absent_of x) ≡ FeatureNotYetSupported) [ code_absent.Repeater' b y ↦ refl | code_absent.Expression' b y d z ↦ refl | code_absent.Stopper' b y ↦ refl | code_absent.Clear ↦ refl ])
+    sym (ap (λ x. refusal_of (tree_of x)) c.in-Absent.is
+    ∙ elim c.in-Absent.field-0 as (λ x. refusal_of (absent_of x) ≡ FeatureNotYetSupported) [
+      | code_absent.Repeater' b y ↦ refl
+      | code_absent.Expression' b y d z ↦ refl
+      | code_absent.Stopper' b y ↦ refl
+      | code_absent.Clear ↦ refl
+    ])

@@ -10,4 +10,6 @@ abbrev pub invariant-loop-child : goal.invariant-loop-child
 invariant-loop-child l =
     (known : Known)
     → IsSized known l.info
-    → map size_of l.table.items ≡ map size_of l.fn.table.items ++ own_size (info_facts l.info).expr (info_size l.info) ++ sizes_in_each known (take l.child-index (info_children l.info))
+    → map size_of l.table.items
+    ≡ map size_of l.fn.table.items ++ own_size (info_facts l.info).expr (info_size l.info) ++ sizes_in_each known
+    (take l.child-index (info_children l.info))

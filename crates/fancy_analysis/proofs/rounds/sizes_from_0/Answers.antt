@@ -19,5 +19,6 @@ returns c = λ known sized.
     let info = c.args.info.now in
     ap (λ l. map size_of (slice_set l 0 (out-Info info).size)) c.in_ok-push.ensures.items
     ∙ set_first _ c.unknown.result (out-Info info).size c.unknown.ensures
-    ∙ ap (λ l. info_size info ∷ past_first l) (c.in_ok-add_sizes.ensures known sized ∙ ap (λ l. map size_of l ++ sizes_in known (info_tree info)) c.new-table.ensures.items)
+    ∙ ap (λ l. info_size info ∷ past_first l) (c.in_ok-add_sizes.ensures known sized
+    ∙ ap (λ l. map size_of l ++ sizes_in known (info_tree info)) c.new-table.ensures.items)
     ∙ ap (λ s. s ∷ past_first (sizes_in known (info_tree info))) (sized_here known info sized)

@@ -10,5 +10,6 @@ pub returns : goal.returns
 returns c = λ known sized.
     let info = c.args.info.now in
     c.in_ok-add_sizes.ensures known sized
-    ∙ ap (λ l. map size_of l ++ sizes_in known (info_tree info)) (c.in_ok-push.ensures.items ∙ ap (λ l. l ++ (out-Info info).size ∷ []) c.new-table.ensures.items)
+    ∙ ap (λ l. map size_of l ++ sizes_in known (info_tree info)) (c.in_ok-push.ensures.items
+    ∙ ap (λ l. l ++ (out-Info info).size ∷ []) c.new-table.ensures.items)
     ∙ ap (λ s. s ∷ sizes_in known (info_tree info)) (sized_here known info sized)

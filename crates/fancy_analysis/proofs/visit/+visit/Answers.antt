@@ -15,11 +15,12 @@ visit-requires t c = (
 
 pub loop-i-preserved : goal.loop-i-preserved
 loop-i-preserved t c =
-    let task = c.args.task.now in
+    let tables = c.args.tables.now in
     let child = c.part.result.now in
-    let here : IsVisited task child c.loop-i.next_group (within_inside c.args.expr.now (within_of c.args.within)) c.in_ok-child.child =
-    subst (λ w. IsVisited task child c.loop-i.next_group w c.in_ok-child.child) c.within_inside-inside.ensures c.in_ok-child.ensures in
-    visited_more task (below c.args.expr.now) c.loop-i.i child _ _ c.loop-i.next_group c.loop-i.children.items _ c.in_ok-child.child (omega arith) c.part.ensures c.loop-i.invariant here c.in_ok-push.ensures.items
+    let here : IsVisited tables child c.loop-i.next_group (within_inside c.args.expr.now (within_of c.args.within)) c.in_ok-child.child =
+    subst (λ w. IsVisited tables child c.loop-i.next_group w c.in_ok-child.child) c.within_inside-inside.ensures c.in_ok-child.ensures in
+    visited_more tables (below c.args.expr.now) c.loop-i.i child _ _ c.loop-i.next_group c.loop-i.children.items _ c.in_ok-child.child
+    (omega arith) c.part.ensures c.loop-i.invariant here c.in_ok-push.ensures.items
 
 pub returns : goal.returns
 returns t c = visited_node _ c.args.expr.now c.loop-i.i _ _ _ _ _ (omega arith) c.loop-i.invariant c.make_info.ensures

@@ -8,4 +8,5 @@ abbrev pub decreases-visit : goal.decreases-visit
 decreases-visit l = length (exprs l.expr.now)
 
 abbrev pub invariant-loop-i : goal.invariant-loop-i
-invariant-loop-i l = AreVisited l.task (take l.i (below l.expr)) (start_inside l.expr l.start_group) (within_inside l.expr (within_of l.within)) l.next_group l.children.items
+invariant-loop-i l =
+    AreVisited l.tables (take l.i (below l.expr)) (start_inside l.expr l.start_group) (within_inside l.expr (within_of l.within)) l.next_group l.children.items

@@ -48,4 +48,5 @@ returns-in-WordBoundary c = rw (c.in-WordBoundary.is, c.differ.ensures, c.word_b
 
 pub returns-in-NotWordBoundary : goal.returns-in-NotWordBoundary
 unfolding holds
-returns-in-NotWordBoundary c = rw (c.in-NotWordBoundary.is, c.differ-in-NotWordBoundary.ensures, c.word_before-in-NotWordBoundary.ensures, c.word_after-in-NotWordBoundary.ensures) refl
+returns-in-NotWordBoundary c =
+    rw (c.in-NotWordBoundary.is, c.differ-in-NotWordBoundary.ensures, c.word_before-in-NotWordBoundary.ensures, c.word_after-in-NotWordBoundary.ensures) refl

@@ -7,7 +7,8 @@ use Rattle.fancy_characters.proofs.members.spelled_member.Goals as goal
 
 pub returns-in-Some : goal.returns-in-Some
 returns-in-Some c =
-    spelled_is_member c.args.bytes.now c.in-Some.c (sym c.char_at.ensures ∙ c.in-Some.is) (sym c.len_utf8.ensures ∙ c.if-len_utf8-bytes.true) c.from_ranges.result
+    spelled_is_member c.args.bytes.now c.in-Some.c (sym c.char_at.ensures ∙ c.in-Some.is) (sym c.len_utf8.ensures
+    ∙ c.if-len_utf8-bytes.true) c.from_ranges.result
     c.from_ranges.ensures
 
 pub returns-in_default : goal.returns-in_default

@@ -12,6 +12,8 @@ returns c =
     let t = c.args.tree.now in
     let test = is_unlisted t.backrefs.keys t.total_groups in
     let same : c.has_node.result ≡ list_any test (nodes (tree_of t.expr)) = c.has_node.ensures ∙ any-nodes test t.expr in (
-      λ h g casei there le. listed_there t.backrefs.keys t.total_groups g (any_fails_at test (nodes (tree_of t.expr)) (plain.Backref g casei) (sym same ∙ not_true h) there) le,
-      λ h. ap not (same ∙ none_passes test (nodes (tree_of t.expr)) (λ x there. is_unlisted_not t.backrefs.keys t.total_groups x (λ g casei is le. h g casei (subst (Contains (nodes (tree_of t.expr))) is there) le))),
+      λ h g casei there le. listed_there t.backrefs.keys t.total_groups g
+          (any_fails_at test (nodes (tree_of t.expr)) (plain.Backref g casei) (sym same ∙ not_true h) there) le,
+      λ h. ap not (same ∙ none_passes test (nodes (tree_of t.expr))
+          (λ x there. is_unlisted_not t.backrefs.keys t.total_groups x (λ g casei is le. h g casei (subst (Contains (nodes (tree_of t.expr))) is there) le))),
     )

@@ -17,5 +17,6 @@ pub returns-else-tree : goal.returns-else-tree
 returns-else-tree c =
     let e = c.args.tree.now.expr in
     let same : c.has_node-else-tree.result ≡ list_any is_call (nodes (tree_of e)) = c.has_node-else-tree.ensures ∙ any-nodes is_call e in
-    let ans = calls_no c.args.tree.now.contains_subroutines (list_any is_call (nodes (tree_of e))) (IsFalse (list_any is_any_call (nodes (tree_of e)))) c.if-tree.false in
+    let ans = calls_no c.args.tree.now.contains_subroutines (list_any is_call (nodes (tree_of e)))
+    (IsFalse (list_any is_any_call (nodes (tree_of e)))) c.if-tree.false in
     (λ h. ans.0 (ap not (sym same) ∙ h), λ h. ap not same ∙ ans.1 h)

@@ -9,4 +9,5 @@ returns-then-starts_with c =
 
 pub returns : goal.returns
 returns c =
-    c.ok.ensures.value ∙ level-parsed _ _ c.parse.ensures.value.0 (eqb-false _ _ (sym (c.starts_with.ensures.byte (omega arith) (omega arith) (λ w o h. h)) ∙ c.if-starts_with.false))
+    c.ok.ensures.value ∙ level-parsed _ _ c.parse.ensures.value.0
+    (eqb-false _ _ (sym (c.starts_with.ensures.byte (omega arith) (omega arith) (λ w o h. h)) ∙ c.if-starts_with.false))

@@ -7,13 +7,15 @@ use Rattle.fancy_characters.proofs.folding.CaseiLiteral.taken.Goals as goal
 pub returns-in_err-d-clause-taken : goal.returns-in_err-d-clause-taken
 returns-in_err-d-clause-taken c =
     let unicode = c.args.self.now.unicode in
-    let nothing = none_there c.args.text.now (λ d. literal_takes unicode d.0 d.1) c.args.self.now.chars.items c.index.result.now c.take.i c.take.at (omega arith) (sym c.in_err-d.ensures) in
+    let nothing = none_there c.args.text.now (λ d. literal_takes unicode d.0 d.1) c.args.self.now.chars.items c.index.result.now c.take.i c.take.at
+    (omega arith) (sym c.in_err-d.ensures) in
     rw c.from_residual.ensures (sym nothing ∙ c.take.invariant.0)
 
 pub returns-then-not-takes-clause-taken : goal.returns-then-not-takes-clause-taken
 returns-then-not-takes-clause-taken c =
     let unicode = c.args.self.now.unicode in
-    let other = other_there c.args.text.now (λ d. literal_takes unicode d.0 d.1) c.args.self.now.chars.items c.index.result.now c.take.i c.take.at (omega arith) c.in_ok-d.d
+    let other = other_there c.args.text.now (λ d. literal_takes unicode d.0 d.1) c.args.self.now.chars.items c.index.result.now c.take.i c.take.at
+    (omega arith) c.in_ok-d.d
     (sym c.in_ok-d.ensures) (ap (λ d. literal_takes unicode d.0 d.1 c.in_ok-d.d) (sym c.index.ensures) ∙ sym c.if-not-takes.ensures) in
     sym other ∙ c.take.invariant.0
 
@@ -23,7 +25,8 @@ overflow_add-at c = omega (arith, c.len_utf8-at.ensures, char_at_fits c.args.tex
 pub take-preserved : goal.take-preserved
 take-preserved c =
     let unicode = c.args.self.now.unicode in
-    let more = taken_there c.args.text.now (λ d. literal_takes unicode d.0 d.1) c.args.self.now.chars.items c.index.result.now c.take.i c.take.at (omega arith) c.in_ok-d.d
+    let more = taken_there c.args.text.now (λ d. literal_takes unicode d.0 d.1) c.args.self.now.chars.items c.index.result.now c.take.i c.take.at
+    (omega arith) c.in_ok-d.d
     (sym c.in_ok-d.ensures) (ap (λ d. literal_takes unicode d.0 d.1 c.in_ok-d.d) (sym c.index.ensures) ∙ sym c.if-not-takes.ensures) in (
       rw c.len_utf8-at.ensures (sym more ∙ c.take.invariant.0),
       omega (arith, c.take.invariant.1),

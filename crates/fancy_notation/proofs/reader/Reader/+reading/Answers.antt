@@ -1,8 +1,9 @@
 use Rattle.std.proofs.Common.{◌≡◌, false, [], ◌∷◌, ◌++◌, sym, ap, ◌∙◌, subst, refl, arith}
+use Rattle.std.proofs.lemmas.Bool.{and_parts}
 use Rattle.std.proofs.lemmas.Result.{err_from_is_err_and}
 use Rattle.fancy_meaning.specs.Tree.{AbsentExpression, Conditional, Repeat}
 use Rattle.fancy_expr.specs.declared.expr.Absent.TheViews as view
-use Rattle.fancy_expr.specs.Views.{tree_of, bound_of as bound_view}
+use Rattle.fancy_expr.specs.Views.{tree_of, bound_of}
 use Rattle.fancy_notation.specs.declared.forms.Form.TheVariants as form
 use Rattle.fancy_notation.specs.Grammar.{closing, SpellsForm, repeat, conditional, absent_expression}
 use Rattle.fancy_notation.specs.Misfit.{Node, Shut, Parts, Count, Bound}
@@ -11,7 +12,7 @@ use Rattle.fancy_notation.proofs.Failing.{fails_token, fails_first, after_token,
 use Rattle.fancy_notation.proofs.Lengths.{node_shorter, taken_shorter}
 use Rattle.fancy_notation.proofs.Loops.{parts_next, parts_splice, parts_done, parts_fail, no_close}
 use Rattle.fancy_notation.proofs.OneChars.{concat_chars, alt_chars, no_parts, one_part, boxed, two, three}
-use Rattle.fancy_notation.proofs.Ends.{leaf_reads, begins_by, form_reads, enclosed_reads, cat_spelled, alt_spelled, both_true, not_both}
+use Rattle.fancy_notation.proofs.Ends.{leaf_reads, begins_by, form_reads, enclosed_reads, cat_spelled, alt_spelled, not_both}
 use Rattle.fancy_notation.proofs.reader.Reader.+reading.Goals as goal
 
 -- ---- absent expressions
@@ -34,11 +35,17 @@ read_absent_expression-returns-in_err-read_close t c =
 
 pub read_absent_expression-returns : goal.read_absent_expression-returns
 read_absent_expression-returns t c = (
-  subst (λ a. SpellsForm form.AbsentExpression (point_of c.args.self.now) (point_of c.read_close.new.self) (AbsentExpression (tree_of a) (tree_of c.in_ok-new-2.field-0.value))) (sym c.in_ok-new.ensures.ok)
-      (subst (λ e. SpellsForm form.AbsentExpression (point_of c.args.self.now) (point_of c.read_close.new.self) (AbsentExpression (tree_of c.in_ok-absent.absent) (tree_of e))) (sym c.in_ok-new-2.ensures.ok)
+  subst (λ a. SpellsForm form.AbsentExpression (point_of c.args.self.now) (point_of c.read_close.new.self)
+      (AbsentExpression (tree_of a) (tree_of c.in_ok-new-2.field-0.value))) (sym c.in_ok-new.ensures.ok)
+      (subst (λ e. SpellsForm form.AbsentExpression (point_of c.args.self.now) (point_of c.read_close.new.self)
+      (AbsentExpression (tree_of c.in_ok-absent.absent) (tree_of e))) (sym c.in_ok-new-2.ensures.ok)
       (absent_expression c.in_ok-absent.ensures.0 c.in_ok-exp.ensures.0 c.in_ok-read_close.ensures.0)),
   c.in_ok-read_close.ensures.1 ∙ c.in_ok-exp.ensures.1 ∙ c.in_ok-absent.ensures.1,
-  (tt, two c.in_ok-new.field-0.value c.in_ok-new-2.field-0.value (boxed _ _ c.in_ok-new.ensures.ok c.in_ok-absent.ensures.2) (boxed _ _ c.in_ok-new-2.ensures.ok c.in_ok-exp.ensures.2)),
+  (
+    tt,
+    two c.in_ok-new.field-0.value c.in_ok-new-2.field-0.value (boxed _ _ c.in_ok-new.ensures.ok c.in_ok-absent.ensures.2)
+        (boxed _ _ c.in_ok-new-2.ensures.ok c.in_ok-exp.ensures.2),
+  ),
 )
 
 -- ---- alternations
@@ -53,7 +60,8 @@ read_alt-returns-in_err-branches t c =
 
 pub read_alt-returns : goal.read_alt-returns
 read_alt-returns t c = (
-  alt_spelled c.in_ok-first.first c.push.new.self.items c.in_ok-branches.branches (point_of c.args.self.now) (point_of c.read_node.new.self) (point_of c.read_parts.new.self)
+  alt_spelled c.in_ok-first.first c.push.new.self.items c.in_ok-branches.branches (point_of c.args.self.now) (point_of c.read_node.new.self)
+      (point_of c.read_parts.new.self)
       (c.in_ok-push.ensures.items ∙ ap (λ l. l ++ c.in_ok-first.first ∷ []) c.new_parts-branches.ensures)
       c.in_ok-first.ensures.0 c.in_ok-branches.ensures.0,
   c.in_ok-branches.ensures.1 ∙ c.in_ok-first.ensures.1,
@@ -95,9 +103,12 @@ read_conditional-returns-in_err-read_close t c =
 
 pub read_conditional-returns : goal.read_conditional-returns
 read_conditional-returns t c = (
-  subst (λ a. SpellsForm form.Conditional (point_of c.args.self.now) (point_of c.read_close.new.self) (Conditional (tree_of a) (tree_of c.in_ok-new-2.field-0.value) (tree_of c.in_ok-new-3.field-0.value))) (sym c.in_ok-new.ensures.ok)
-      (subst (λ a. SpellsForm form.Conditional (point_of c.args.self.now) (point_of c.read_close.new.self) (Conditional (tree_of c.in_ok-condition.condition) (tree_of a) (tree_of c.in_ok-new-3.field-0.value))) (sym c.in_ok-new-2.ensures.ok)
-      (subst (λ a. SpellsForm form.Conditional (point_of c.args.self.now) (point_of c.read_close.new.self) (Conditional (tree_of c.in_ok-condition.condition) (tree_of c.in_ok-true_branch.true_branch) (tree_of a))) (sym c.in_ok-new-3.ensures.ok)
+  subst (λ a. SpellsForm form.Conditional (point_of c.args.self.now) (point_of c.read_close.new.self)
+      (Conditional (tree_of a) (tree_of c.in_ok-new-2.field-0.value) (tree_of c.in_ok-new-3.field-0.value))) (sym c.in_ok-new.ensures.ok)
+      (subst (λ a. SpellsForm form.Conditional (point_of c.args.self.now) (point_of c.read_close.new.self)
+      (Conditional (tree_of c.in_ok-condition.condition) (tree_of a) (tree_of c.in_ok-new-3.field-0.value))) (sym c.in_ok-new-2.ensures.ok)
+      (subst (λ a. SpellsForm form.Conditional (point_of c.args.self.now) (point_of c.read_close.new.self)
+      (Conditional (tree_of c.in_ok-condition.condition) (tree_of c.in_ok-true_branch.true_branch) (tree_of a))) (sym c.in_ok-new-3.ensures.ok)
       (conditional c.in_ok-condition.ensures.0 c.in_ok-true_branch.ensures.0 c.in_ok-false_branch.ensures.0 c.in_ok-read_close.ensures.0))),
   c.in_ok-read_close.ensures.1 ∙ c.in_ok-false_branch.ensures.1 ∙ c.in_ok-true_branch.ensures.1 ∙ c.in_ok-condition.ensures.1,
   (
@@ -116,7 +127,9 @@ read_enclosed-returns-in_err-read_close t c =
     (fails_token closing Shut (λ u. []) (λ g t. refl) [] c.read_node.new.self _ c.in_err-read_close.ensures))
 
 pub read_enclosed-returns : goal.read_enclosed-returns
-read_enclosed-returns t c = enclosed_reads c.args.self.now c.read_node.new.self c.read_close.new.self c.args.enclosing c.in_ok-body.body c.enclosed.result c.in_ok-body.ensures c.in_ok-read_close.ensures c.enclosed.ensures
+read_enclosed-returns t c =
+    enclosed_reads c.args.self.now c.read_node.new.self c.read_close.new.self c.args.enclosing c.in_ok-body.body c.enclosed.result c.in_ok-body.ensures
+    c.in_ok-read_close.ensures c.enclosed.ensures
 
 -- ---- forms and nodes
 
@@ -145,27 +158,32 @@ read_node-returns t c =
 pub read_parts-loop-self-preserved-in_ok-splice_text : goal.read_parts-loop-self-preserved-in_ok-splice_text
 read_parts-loop-self-preserved-in_ok-splice_text t c =
     let s = c.in_ok-splice_text.ensures in
-    parts_splice c.args.splices c.args.self.now c.loop-self.self c.splice_text.new.self c.args.given.items c.loop-self.parts.items c.splice_text.new.parts.items s.0
-    (both_true _ _ (sym c.is_spliced.ensures ∙ c.if-is_spliced.true)) c.loop-self.invariant s.1 s.2 s.3 s.4
+    parts_splice c.args.splices c.args.self.now c.loop-self.self c.splice_text.new.self c.args.given.items c.loop-self.parts.items
+    c.splice_text.new.parts.items s.0
+    (and_parts _ _ (sym c.is_spliced.ensures ∙ c.if-is_spliced.true)).0 c.loop-self.invariant s.1 s.2 s.3 s.4
     (taken_shorter c.loop-self.self c.splice_text.new.self s.1)
 
 pub read_parts-returns-in_err-read_node : goal.read_parts-returns-in_err-read_node
 read_parts-returns-in_err-read_node t c =
     let p = err_from_is_err_and c.from_residual-in_err-read_node.result c.from_residual-in_err-read_node.ensures.1 in
     let f : c.is_at_close.result ≡ false = cc in
-    rw (p.1, p.2) (parts_fail c.args.splices c.args.self.now c.loop-self.self c.args.given.items c.loop-self.parts.items _ c.loop-self.invariant (no_close _ _ c.is_at_close.ensures f) c.in_err-read_node.ensures)
+    rw (p.1, p.2) (parts_fail c.args.splices c.args.self.now c.loop-self.self c.args.given.items c.loop-self.parts.items _ c.loop-self.invariant
+    (no_close _ _ c.is_at_close.ensures f) c.in_err-read_node.ensures)
 
 pub read_parts-loop-self-smaller : goal.read_parts-loop-self-smaller
 read_parts-loop-self-smaller t c = let h = node_shorter c.loop-self.self c.read_node.new.self c.in_ok-read_node.ensures.0 in omega (arith, h)
 
 pub read_parts-loop-self-preserved : goal.read_parts-loop-self-preserved
 read_parts-loop-self-preserved t c =
-    parts_next c.args.splices c.args.self.now c.loop-self.self c.read_node.new.self c.args.given.items c.loop-self.parts.items c.push.new.self.items c.in_ok-read_node.field-0 c.loop-self.invariant
+    parts_next c.args.splices c.args.self.now c.loop-self.self c.read_node.new.self c.args.given.items c.loop-self.parts.items c.push.new.self.items
+    c.in_ok-read_node.field-0 c.loop-self.invariant
     (not_both _ _ (sym c.is_spliced.ensures ∙ c.if-is_spliced.false)) c.in_ok-read_node.ensures c.in_ok-push.ensures.items
     (node_shorter c.loop-self.self c.read_node.new.self c.in_ok-read_node.ensures.0)
 
 pub read_parts-returns : goal.read_parts-returns
-read_parts-returns t c = parts_done c.args.splices c.args.self.now c.loop-self.self c.read_close.new.self c.args.given.items c.loop-self.parts.items c.loop-self.invariant c.in_ok-read_close.ensures
+read_parts-returns t c =
+    parts_done c.args.splices c.args.self.now c.loop-self.self c.read_close.new.self c.args.given.items c.loop-self.parts.items c.loop-self.invariant
+    c.in_ok-read_close.ensures
 
 -- ---- loops
 
@@ -179,7 +197,8 @@ read_repeat-returns-in_err-read_close t c =
 
 pub read_repeat-returns : goal.read_repeat-returns
 read_repeat-returns t c = (
-  subst (λ a. SpellsForm (form.Repeat c.args.greedy) (point_of c.args.self.now) (point_of c.read_close.new.self) (Repeat c.in_ok-lo.lo (bound_view c.in_ok-hi.hi) c.args.greedy (tree_of a))) (sym c.in_ok-new.ensures.ok)
+  subst (λ a. SpellsForm (form.Repeat c.args.greedy) (point_of c.args.self.now) (point_of c.read_close.new.self)
+      (Repeat c.in_ok-lo.lo (bound_of c.in_ok-hi.hi) c.args.greedy (tree_of a))) (sym c.in_ok-new.ensures.ok)
       (repeat c.in_ok-lo.ensures.0 c.in_ok-hi.ensures.0 c.in_ok-child.ensures.0 c.in_ok-read_close.ensures.0),
   c.in_ok-read_close.ensures.1 ∙ c.in_ok-child.ensures.1 ∙ c.in_ok-hi.ensures.1 ∙ c.in_ok-lo.ensures.1,
   (tt, boxed _ _ c.in_ok-new.ensures.ok c.in_ok-child.ensures.2),

@@ -7,7 +7,8 @@ use Rattle.fancy_notation.proofs.reader.Reader.read_head.Goals as goal
 pub returns : goal.returns
 returns c = (
   point_of c.take.new.self,
-  skips_giving (in_word (head_word c.args.self.now.groups)) _ c.args.self.now c.take.new.self (sym c.found_head-found.ensures ∙ c.in_ok-head.ensures.0) c.in_ok-head.ensures.1,
+  skips_giving (in_word (head_word c.args.self.now.groups)) _ c.args.self.now c.take.new.self (sym c.found_head-found.ensures
+      ∙ c.in_ok-head.ensures.0) c.in_ok-head.ensures.1,
   refl,
   c.in_ok-head.ensures.1.end,
 )

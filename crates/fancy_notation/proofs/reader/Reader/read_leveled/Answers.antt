@@ -32,7 +32,9 @@ returns-in_err-read_close c =
 
 pub returns : goal.returns
 returns c = (
-  subst (SpellsForm (form.Leveled c.args.leveled) (point_of c.args.self.now) (point_of c.read_close.new.self)) (sym (c.named_at_level.ensures ∙ ap (named_at c.args.leveled c.in_ok-group.group) (to_z-of_z {w = w64} (search rules)))) (names_at c.in_ok-group.ensures.0 c.in_ok-level.ensures.0 c.in_ok-read_close.ensures.0),
+  subst (SpellsForm (form.Leveled c.args.leveled) (point_of c.args.self.now) (point_of c.read_close.new.self))
+      (sym (c.named_at_level.ensures ∙ ap (named_at c.args.leveled c.in_ok-group.group) (to_z-of_z {w = w64} (search rules))))
+      (names_at c.in_ok-group.ensures.0 c.in_ok-level.ensures.0 c.in_ok-read_close.ensures.0),
   c.in_ok-read_close.ensures.1 ∙ c.in_ok-level.ensures.1 ∙ c.in_ok-group.ensures.1,
   named_at_chars c.named_at_level.result _ _ _ c.named_at_level.ensures,
 )

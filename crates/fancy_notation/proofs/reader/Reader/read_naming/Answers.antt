@@ -11,7 +11,8 @@ use Rattle.fancy_notation.proofs.reader.Reader.read_naming.Goals as goal
 
 pub returns : goal.returns
 returns c = (
-  subst (SpellsForm (form.Naming c.args.naming) (point_of c.args.self.now) (point_of c.read_close.new.self)) (sym c.named.ensures) (names c.in_ok-group.ensures.0 c.in_ok-read_close.ensures.0),
+  subst (SpellsForm (form.Naming c.args.naming) (point_of c.args.self.now) (point_of c.read_close.new.self)) (sym c.named.ensures)
+      (names c.in_ok-group.ensures.0 c.in_ok-read_close.ensures.0),
   c.in_ok-read_close.ensures.1 ∙ c.in_ok-group.ensures.1,
   named_chars c.named.result _ _ c.named.ensures,
 )

@@ -21,7 +21,8 @@ returns-in_err-read_close c =
 
 pub returns : goal.returns
 returns c = (
-  subst (λ s. SpellsForm (form.Set c.args.casei) (point_of c.args.self.now) (point_of c.read_close.new.self) (Delegate s c.args.casei)) (sym c.in_ok-from_str.ensures.ok) (set c.in_ok-inner.ensures.0 c.in_ok-read_close.ensures.0),
+  subst (λ s. SpellsForm (form.Set c.args.casei) (point_of c.args.self.now) (point_of c.read_close.new.self) (Delegate s c.args.casei))
+      (sym c.in_ok-from_str.ensures.ok) (set c.in_ok-inner.ensures.0 c.in_ok-read_close.ensures.0),
   c.in_ok-read_close.ensures.1 ∙ c.in_ok-inner.ensures.1,
   (tt, tt),
 )

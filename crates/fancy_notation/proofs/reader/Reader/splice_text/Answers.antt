@@ -13,6 +13,7 @@ returns-in_ok-push_text-in-Some-Quoted c =
       (c.in-Some-Quoted.folded, string_bytes c.in-Some-Quoted.text),
       skips_text c.args.self.now c.skip.new.self c.in-Some-Quoted.folded (string_bytes c.in-Some-Quoted.text) e c.skip.ensures,
       c.skip.ensures.end,
-      c.in_ok-push_text-in-Some-Quoted.ensures.0 ∙ ap (λ s. map tree_of c.args.parts.now.items ++ parts_of_text c.in-Some-Quoted.folded s) c.as_str.ensures.value,
+      c.in_ok-push_text-in-Some-Quoted.ensures.0
+          ∙ ap (λ s. map tree_of c.args.parts.now.items ++ parts_of_text c.in-Some-Quoted.folded s) c.as_str.ensures.value,
       c.in_ok-push_text-in-Some-Quoted.ensures.1,
     )
