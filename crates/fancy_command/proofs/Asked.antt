@@ -1,5 +1,5 @@
 -- What the calls of the program need of each other.
-use Rattle.std.proofs.Common.{◌≡◌, ℕ, Bool, true, false, not, ◌&&◌, ◌||◌, List, ◌∷◌, map, string_bytes, Option, Some, None, Result, IsTrue, refl, sym, ap, ◌∙◌, subst, leb-true, le-leb}
+use Rattle.std.proofs.Common.{◌≡◌, ℕ, Bool, true, false, not, ◌&&◌, ◌||◌, List, ◌∷◌, map, string_bytes, Option, Some, None, Result, IsTrue, refl, sym, ap, ◌∙◌, subst, leb-true}
 use Rattle.std.specs.Str.{IsCharBoundary}
 use Rattle.std.specs.declared.string.String.{String}
 use Rattle.std.specs.declared.alloc.Global.{Global}
@@ -10,6 +10,7 @@ use Rattle.fancy_meaning.specs.Options as plain
 use Rattle.fancy_meaning.specs.Places.{is_place}
 use Rattle.fancy_vm.specs.Programs.{options_of as run_options_of}
 use Rattle.fancy_notation.specs.Words.{when}
+use Rattle.fancy_notation.proofs.WordFacts.{by_test}
 use Rattle.fancy_expr.specs.declared.error.Error.{Error}
 use Rattle.fancy_expr.specs.declared.expr.ExprTree.{ExprTree}
 use Rattle.fancy_analysis.specs.declared.context.AnalyzeContext.{AnalyzeContext}
@@ -21,10 +22,6 @@ use Rattle.fancy_command.specs.Arguments.{Text, Question, arguments_of, question
 use Rattle.fancy_command.specs.Commands.{Finds, searched, IsRead}
 use Rattle.fancy_search.proofs.Searched.{place_of}
 use Rattle.fancy_search.specs.Searches.{Promises, input_of, options_fit, search_fits}
-
-by_test : {G : Type 0} (b : Bool) → (b ≡ true → G) → (b ≡ false → G) → G
-by_test true at_true at_false = at_true refl
-by_test false at_true at_false = at_false refl
 
 boundary_of : (text : List ℕ) (i : ℕ) → is_place text i ≡ true → IsCharBoundary text i
 boundary_of text i e = let p = and_parts _ _ e in IsCharBoundary-of_test text i (leb-true _ _ p.0) p.1
@@ -43,7 +40,10 @@ unfolding asked_with
 asks_split tree text ws a said = ap (asked_with tree text) said
 
 -- what the words ask: a search that begins at a place, and no other
-pub asks : (words : List (String Global)) (tree text : String Global) (rest : List (String Global)) (tree' text' : Text) (a : Arguments) (b : Bool) → words ≡ tree ∷ text ∷ rest → tree' ≡ string_bytes tree → text' ≡ string_bytes text → Some a ≡ arguments_of (map string_bytes rest) → is_place text' a.pos ≡ b → when b (record { tree = tree'; text = text'; arguments = a }) ≡ question_of (map string_bytes words)
+pub asks : (words : List (String Global)) (tree text : String Global) (rest : List (String Global)) (tree' text' : Text)
+    (a : Arguments) (b : Bool) → words ≡ tree ∷ text ∷ rest → tree' ≡ string_bytes tree → text' ≡ string_bytes text →
+    Some a ≡ arguments_of (map string_bytes rest) → is_place text' a.pos ≡ b →
+    when b (record { tree = tree'; text = text'; arguments = a }) ≡ question_of (map string_bytes words)
 asks words tree text rest tree' text' a b split of_tree of_text said at =
     ap (λ x. when x (record { tree = tree'; text = text'; arguments = a })) (sym at)
     ∙ subst (λ x. line.asks tree' text' a ≡ question_of (x ∷ string_bytes text ∷ map string_bytes rest)) of_tree

@@ -34,7 +34,8 @@ IsFaultOf text e = IsFault (length text) (tokens_of text) e
 pub data Finds (q : line.Question) : Result (Option (Vec ℕ Global)) Error → Type 0 where
   unread : {e : Error} → IsFaultOf q.tree e → Finds q (Err e)
   searched : {answer : Result (Option (Vec ℕ Global)) Error} {t : ExprTree} → IsRead q.tree t →
-      Promises (input_of t (analysis q.arguments) (compilation q.arguments)) q.text (running q.arguments) answer → Finds q answer
+      Promises (input_of t (analysis q.arguments) (compilation q.arguments)) q.text (running q.arguments) answer →
+      Finds q answer
 
 -- the line of the answer, or why there is none
 abbrev pub Shows : line.Question → Result (String Global) Error → Type 0
@@ -42,14 +43,15 @@ Shows q (Ok shown) = (answer : Option (Vec ℕ Global)) × Finds q (Ok answer) �
 Shows q (Err e) = Finds q (Err e)
 
 pub data Stream : Type 0 where
-  Output Error' : Stream
+  StandardOutput StandardError : Stream
 
 -- the line that words are answered with, the stream that it is written on, and the status once it is written
 pub data Reports (words : List Text) : Stream → Text → ℕ → Type 0 where
-  misused : question_of words ≡ None → Reports words Error' usage_line 2
+  misused : question_of words ≡ None → Reports words StandardError usage_line 2
   answered : {q : line.Question} {answer : Option (Vec ℕ Global)} → question_of words ≡ Some q → Finds q (Ok answer) →
-      Reports words Output (answer_line answer) 0
-  refused : {q : line.Question} {e : Error} → question_of words ≡ Some q → Finds q (Err e) → Reports words Output (error_line e) 1
+      Reports words StandardOutput (answer_line answer) 0
+  refused : {q : line.Question} {e : Error} → question_of words ≡ Some q → Finds q (Err e) →
+      Reports words StandardOutput (error_line e) 1
 
 -- where a write failed the status is 3
 abbrev pub status_after : Bool → ℕ → ℕ
@@ -58,12 +60,13 @@ status_after written status = if written then status else 3
 -- the refusal was written by its name, or as want of memory, with this status
 pub data Refuses (out out' : Option Text) (e : Error) : ℕ → Type 0 where
   by_name : {written : Bool} → Writes out out' (error_line e) written → Refuses out out' e (status_after written 1)
-  as_memory : {written : Bool} → Writes out out' (error_line error.Memory) written → Refuses out out' e (status_after written 1)
+  as_memory : {written : Bool} → Writes out out' (error_line error.Memory) written →
+      Refuses out out' e (status_after written 1)
 
--- What these words make the program write on standard output and standard error, from what either held to what it holds,
--- and the status.
+-- What these words make the program write on standard output and standard error, from what either held to what it
+-- holds, and the status.
 pub data Performs (words : List Text) (out out' err err' : Option Text) : ℕ → Type 0 where
-  on_output : {text : Text} {status : ℕ} {written : Bool} → Reports words Output text status → Writes out out' text written →
-      err' ≡ err → Performs words out out' err err' (status_after written status)
-  on_error : {text : Text} {status : ℕ} {written : Bool} → Reports words Error' text status → Writes err err' text written →
-      out' ≡ out → Performs words out out' err err' (status_after written status)
+  on_output : {text : Text} {status : ℕ} {written : Bool} → Reports words StandardOutput text status →
+      Writes out out' text written → err' ≡ err → Performs words out out' err err' (status_after written status)
+  on_error : {text : Text} {status : ℕ} {written : Bool} → Reports words StandardError text status →
+      Writes err err' text written → out' ≡ out → Performs words out out' err err' (status_after written status)

@@ -42,7 +42,8 @@ compile_error_text refusal.FeatureNotYetSupported = codes "FeatureNotYetSupporte
 compile_error_text refusal.SubroutineCallTargetNotFound = codes "SubroutineCallTargetNotFound"
 compile_error_text refusal.UnresolvedAstNode = codes "UnresolvedAstNode"
 compile_error_text (refusal.InvalidBackref group) = codes "InvalidBackref " ++ decimal group
-compile_error_text (refusal.LeftRecursiveSubroutineCall group) = codes "LeftRecursiveSubroutineCall " ++ string_bytes group
+compile_error_text (refusal.LeftRecursiveSubroutineCall group) =
+    codes "LeftRecursiveSubroutineCall " ++ string_bytes group
 compile_error_text refusal.NeverEndingRecursion = codes "NeverEndingRecursion"
 compile_error_text refusal.VariableLookBehindRequiresFeature = codes "VariableLookBehindRequiresFeature"
 compile_error_text (refusal.InnerError text) = codes "InnerError"

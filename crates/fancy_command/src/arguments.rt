@@ -1,14 +1,15 @@
 //! The words after TREE and TEXT: a position, flags and limits, and the options that they make.
 
 ghost use Rattle.std.specs.Prelude.{◌≡◌, ℕ, ◌+◌, ◌^◌, ◌<◌, false, None, Some, map, string_bytes};
-ghost use Rattle.fancy_notation.specs.Words.{found, number_of};
+ghost use Rattle.fancy_notation.specs.Words.{found};
 ghost use Rattle.fancy_vm.specs.Programs.{options_of as run_options_of};
 ghost use Rattle.fancy_command.specs.Arguments as line;
 
-use fancy_search::search::SearchOptions;
-use fancy_compile::compile::{BytesMode, CompileOptions};
-use fancy_vm::vm::RunOptions;
 use fancy_analysis::analyze::AnalyzeContext;
+use fancy_compile::compile::{BytesMode, CompileOptions};
+use fancy_notation::numbers::number;
+use fancy_search::search::SearchOptions;
+use fancy_vm::vm::RunOptions;
 
 /// An option that stands alone.
 #[derive(Clone, Copy, Debug, PartialEq, Eq, Drop)]
@@ -70,16 +71,6 @@ fn limit_of(word: &str) -> Option<Limit>
         "--max-prog" => Some(Limit::MaxProg),
         _ => None,
     }
-}
-
-/// The number that one or more decimal digits write, where it fits.
-fn number(word: &str) -> Option<usize>
-    ensures { result ≡ number_of word.now }
-{
-    if word.starts_with('+') {
-        return None;
-    }
-    word.parse::<usize>().ok()
 }
 
 impl Arguments {
@@ -256,7 +247,8 @@ impl Arguments {
     }
 }
 
-/// What the words after TREE and TEXT say: a place, where the first one is a number, and options, each at most once.
+/// What the words after TREE and TEXT say: a place, where the first one is a number, and options, each at most
+/// once.
 /// None where a word can't stand where it stands, or a number does not fit or is missing.
 pub fn read_arguments(words: &[String]) -> Option<Arguments>
     ensures { result ≡ line.arguments_of (map string_bytes words.now) }

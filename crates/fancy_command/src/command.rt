@@ -7,10 +7,10 @@ ghost use Rattle.fancy_command.specs.Commands.{Finds, Performs, Refuses, Shows, 
 
 use crate::arguments::{Arguments, read_arguments};
 use crate::printing::{answer_line, error_line, memory_line, usage_line, write_line};
+use fancy_expr::error::Error;
+use fancy_notation::notation::read_tree;
 use fancy_search::search::search;
 use fancy_vm::vm::Scratch;
-use fancy_notation::notation::read_tree;
-use fancy_expr::error::Error;
 use std::alloc::Global;
 use std::io::Write;
 
@@ -81,13 +81,13 @@ fn report<O: Write>(alloc: Global, error: &Error, out: &mut O) -> u8
     }
 }
 
-/// Searches as the words after the program's own name ask: TREE in the notation, TEXT, and then a place, a byte of TEXT,
-/// and options. Answers the status.
+/// Searches as the words after the program's own name ask: TREE in the notation, TEXT, and then a place, a byte of
+/// TEXT, and options. Answers the status.
 ///
-/// The answer is written on `out` with status 0: start and end of each group in bytes of TEXT, or `none`. A refusal is
-/// written there by its name with status 1. Other words, or a place inside a character of TEXT, give a line on `err` with
-/// status 2, and TREE is not read. Where a write fails, the status is 3, and no more is written: what was written before it
-/// is a part of the line from its start.
+/// The answer is written on `out` with status 0: start and end of each group in bytes of TEXT, or `none`. A refusal
+/// is written there by its name with status 1. Other words, or a place inside a character of TEXT, give a line on
+/// `err` with status 2, and TREE is not read. Where a write fails, the status is 3, and no more is written: what was
+/// written before it is a part of the line from its start.
 pub fn command<O: Write, E: Write>(alloc: Global, args: &[String], out: &mut O, err: &mut E) -> u8
     ensures { Performs
         (map string_bytes args.now)

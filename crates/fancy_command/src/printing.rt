@@ -11,7 +11,8 @@ use std::io::{ErrorKind, Write};
 
 /// A number of an answer, or `-` for one that is not set.
 fn push_number(line: &mut String, number: usize) -> Result<(), AllocError>
-    ensures { OnOk result (string_bytes line.new ≡ string_bytes line.old ++ printed.number_text number) }
+    ensures { OnOk result
+        (string_bytes line.new ≡ string_bytes line.old ++ printed.number_text number) }
 {
     if number == usize::MAX {
         line.push_str("-")
@@ -22,7 +23,8 @@ fn push_number(line: &mut String, number: usize) -> Result<(), AllocError>
 
 /// The numbers of an answer, separated by spaces.
 fn push_numbers(line: &mut String, numbers: &[usize]) -> Result<(), AllocError>
-    ensures { OnOk result (string_bytes line.new ≡ string_bytes line.old ++ printed.numbers_text numbers.now) }
+    ensures { OnOk result
+        (string_bytes line.new ≡ string_bytes line.old ++ printed.numbers_text numbers.now) }
 {
     let Some((first, others)) = numbers.split_first() else {
         return Ok(());
@@ -61,7 +63,8 @@ fn limit_name(error: RuntimeError) -> &'static str
 
 /// The name of the case in which a tree is refused, and for two of them a space and what they carry.
 fn push_compile_error(line: &mut String, error: &CompileError) -> Result<(), AllocError>
-    ensures { OnOk result (string_bytes line.new ≡ string_bytes line.old ++ printed.compile_error_text error.now) }
+    ensures { OnOk result
+        (string_bytes line.new ≡ string_bytes line.old ++ printed.compile_error_text error.now) }
 {
     match error {
         CompileError::NamedBackrefOnly => line.push_str("NamedBackrefOnly"),
@@ -84,7 +87,8 @@ fn push_compile_error(line: &mut String, error: &CompileError) -> Result<(), All
 
 /// The name of a refusal's innermost variant, and for some a space and what it carries.
 fn push_error(line: &mut String, error: &Error) -> Result<(), AllocError>
-    ensures { OnOk result (string_bytes line.new ≡ string_bytes line.old ++ printed.error_text error.now) }
+    ensures { OnOk result
+        (string_bytes line.new ≡ string_bytes line.old ++ printed.error_text error.now) }
 {
     match error {
         Error::CompileError(error) => push_compile_error(line, error),
@@ -118,8 +122,8 @@ pub fn usage_line() -> &'static [u8]
     b"usage: fancyrun TREE TEXT [POS] [options]\n"
 }
 
-/// Writes the line. Where a write fails, no more is written than a part of the line from its start, and the answer is no.
-/// A write that was interrupted is made again.
+/// Writes the line. Where a write fails, no more is written than a part of the line from its start, and the answer is
+/// no. A write that was interrupted is made again.
 pub fn write_line<W: Write>(writer: &mut W, line: &[u8]) -> bool
     ensures { Writes (W.contents writer.old) (W.contents writer.new) line.now result }
 {

@@ -19,8 +19,15 @@ returns-in-Err-2 g c =
 
 pub loop-turn-preserved : goal.loop-turn-preserved
 loop-turn-preserved g c = elim c.match-write.branch [
-  | in-Ok w ↦ rw w.done-is
-      (omega (arith, w.in-Ok.ensures.bound, length-take (length c.args.line.now - c.loop-turn.done) (drop c.loop-turn.done c.args.line.now), length-drop c.loop-turn.done c.args.line.now), more_written _ c.args.line.now _ _ c.loop-turn.done w.in-Ok.count c.loop-turn.invariant.1 w.in-Ok.ensures.bytes)
+  | in-Ok w ↦ rw w.done-is (
+    omega (
+      arith,
+      w.in-Ok.ensures.bound,
+      length-take (length c.args.line.now - c.loop-turn.done) (drop c.loop-turn.done c.args.line.now),
+      length-drop c.loop-turn.done c.args.line.now,
+    ),
+    more_written _ c.args.line.now _ _ c.loop-turn.done w.in-Ok.count c.loop-turn.invariant.1 w.in-Ok.ensures.bytes,
+  )
   | in-Err w ↦ rw w.done-is (c.loop-turn.invariant.0, Appends-kept _ _ _ _ c.loop-turn.invariant.1 w.in-Err.ensures.bytes)
 ]
 
