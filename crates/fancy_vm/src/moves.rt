@@ -8,8 +8,8 @@ ghost use Rattle.fancy_characters.specs.Classes.{class_of};
 ghost use Rattle.fancy_characters.specs.Literals.{literal_tests};
 ghost use Rattle.fancy_vm.specs.Refused.{IsMemory};
 
-use fancy_characters::places::is_place;
 use fancy_characters::classes::{CaseiLiteral, CharClassMatcher};
+use fancy_characters::places::is_place;
 use fancy_expr::error::Error;
 use std::alloc::Global;
 
