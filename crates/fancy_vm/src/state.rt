@@ -45,7 +45,8 @@ impl Model for State {
 
 /// The mark of the newest branch.
 fn newest_mark(branches: &[Branch]) -> Option<usize>
-    ensures { MatchOption result (reverse branches.now ≡ []) (λ m. IsNewest m (reverse branches.now)) }
+    ensures { MatchOption result (reverse branches.now ≡ [])
+        (λ m. IsNewest m (reverse branches.now)) }
 {
     match branches.last() {
         None => None,
@@ -95,7 +96,8 @@ impl State {
     /// the state is then as before.
     pub fn push(&mut self, pc: usize, ix: usize) -> Result<(), Error>
         ensures room { OnOk result (length self.old.branches < self.old.max_stack) }
-        ensures ok { OnOk result (self.new ≡ record self.old { branches = held_branch pc ix self.old ∷ self.old.branches }) }
+        ensures ok { OnOk result (self.new
+            ≡ record self.old { branches = held_branch pc ix self.old ∷ self.old.branches }) }
         ensures refused { IfErr result (IsRefused (length self.old.branches) self.old.max_stack) }
         ensures err { OnErr result (self.new ≡ self.old) }
     {
@@ -111,7 +113,8 @@ impl State {
     /// the text. There has to be one. It takes no memory.
     pub fn pop(&mut self) -> (usize, usize)
         requires { 0 < length self.old.branches }
-        ensures branch { self.old.branches ≡ held_branch result.0 result.1 self.new ∷ self.new.branches }
+        ensures branch { self.old.branches
+            ≡ held_branch result.0 result.1 self.new ∷ self.new.branches }
         ensures slots { length self.new.slots ≡ length self.old.slots }
         ensures max_stack { self.new.max_stack ≡ self.old.max_stack }
     {
@@ -126,7 +129,8 @@ impl State {
     /// before.
     pub fn save(&mut self, slot: usize, value: usize) -> Result<(), Error>
         requires { slot < length self.old.slots }
-        ensures ok { OnOk result (self.new ≡ record self.old { slots = slice_set self.old.slots slot value }) }
+        ensures ok { OnOk result
+            (self.new ≡ record self.old { slots = slice_set self.old.slots slot value }) }
         ensures refused { IfErr result IsMemory }
         ensures err { OnErr result (self.new ≡ self.old) }
     {
@@ -171,7 +175,8 @@ impl State {
     /// the state is then as before.
     pub fn stack_pop(&mut self) -> Result<usize, Error>
         requires { 0 < length self.old.stack }
-        ensures ok { IfOk result (λ value. self.old ≡ record self.new { stack = value ∷ self.new.stack }) }
+        ensures ok { IfOk result
+            (λ value. self.old ≡ record self.new { stack = value ∷ self.new.stack }) }
         ensures refused { IfErr result IsMemory }
         ensures err { OnErr result (self.new ≡ self.old) }
     {
@@ -192,7 +197,8 @@ impl State {
     /// How many branches stand before the last one that has this place of the program.
     pub(crate) fn count_before(&self, pc: usize) -> Option<usize>
         ensures { MatchOption result (below pc self.now.branches ≡ None)
-            (λ n. (n ≤ length self.now.branches) × (below pc self.now.branches ≡ Some (drop (length self.now.branches - n) self.now.branches))) }
+            (λ n. (n ≤ length self.now.branches) × (below pc self.now.branches
+            ≡ Some (drop (length self.now.branches - n) self.now.branches))) }
     {
         let mut count = self.branches.len();
         while count > 0 {
@@ -215,7 +221,9 @@ impl State {
     /// still has its own. It takes no memory.
     pub fn backtrack_cut(&mut self, count: usize)
         requires { count ≤ length self.old.branches }
-        ensures { self.new ≡ record self.old { branches = drop (length self.old.branches - count) self.old.branches } }
+        ensures { self.new ≡ record self.old {
+          branches = drop (length self.old.branches - count) self.old.branches;
+        } }
     {
         if count >= self.branches.len() {
             return;
