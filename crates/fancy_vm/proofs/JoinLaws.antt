@@ -2,7 +2,7 @@
 use Rattle.std.proofs.Common.{◌≡◌, ℕ, suc, ◌+◌, ◌<◌, ◌≤◌, List, [], ◌∷◌, ◌++◌, length, take, drop, slice_set, slice_index_or, sym, ap, ◌∙◌, arith, drop-cons, length-take, append_assoc, drop_of_length-le, append-nil}
 use Rattle.std.proofs.Math.Path.{fun_ext}
 use Rattle.std.proofs.lemmas.List.{drop-append-le, take_more_set, drop-set-lt}
-use Rattle.fancy_vm.specs.OldValues.{Cells, Agrees, IsSettled, old_at}
+use Rattle.fancy_vm.specs.OldValues.{Values, Agrees, IsSettled, old_at}
 use Rattle.fancy_vm.specs.declared.old_values.Old.{Old}
 use Rattle.fancy_vm.proofs.OldLaws.{settled_drop, left_out}
 
@@ -13,7 +13,7 @@ module _ (log : List Old) (e : Old) where
       drop-cons log next e here ∙ ap (λ x. x ∷ drop (suc next) log) (sym is) ∙ ap (λ k. e ∷ drop k log) more
 
   -- an old value of a settled cell is left out
-  pub joins_drop : (mark kept next : ℕ) (now : Cells) → mark ≤ kept → kept ≤ next → next < length log → e ≡ slice_index_or log next e
+  pub joins_drop : (mark kept next : ℕ) (now : Values) → mark ≤ kept → kept ≤ next → next < length log → e ≡ slice_index_or log next e
       → IsSettled (drop mark (take kept log)) e.cell → Agrees mark (take kept log ++ drop next log) now (take kept log ++ drop (next + 1) log) now
   joins_drop mark kept next now low le here is settled m before =
       let front = take kept log in

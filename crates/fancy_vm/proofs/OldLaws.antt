@@ -5,13 +5,13 @@ use Rattle.std.proofs.lemmas.List.{drop-append-le, get_or-set_same, get_or-set_o
 use Rattle.std.proofs.lemmas.Bool.{cond-true}
 use Rattle.std.proofs.lemmas.Bool.Decides.{eqb_tells}
 use Rattle.fancy_meaning.specs.MatchState.{put}
-use Rattle.fancy_vm.specs.OldValues.{Cells, cells_of, old_at, AreInside, IsSettled, Agrees}
+use Rattle.fancy_vm.specs.OldValues.{Values, values_of, old_at, AreInside, IsSettled, Agrees}
 use Rattle.fancy_vm.specs.declared.old_values.Old.{Old}
 
 pub same_of : (a b : ℕ) → (a == b) ≡ true → a ≡ b
 same_of a b is = ⊎_elim (λ h. h.1) (λ h. absurd (true≢false (sym is ∙ h.0))) (eqb_tells a b)
 
-pub set_put : (xs : List ℕ) (i v : ℕ) → i < length xs → cells_of (slice_set xs i v) ≡ put i v (cells_of xs)
+pub set_put : (xs : List ℕ) (i v : ℕ) → i < length xs → values_of (slice_set xs i v) ≡ put i v (values_of xs)
 set_put xs i v inside =
     fun_ext (λ j.
     ⊎_elim
@@ -19,7 +19,7 @@ set_put xs i v inside =
     (λ h. rw h.0 (get_or-set_other xs i j v 0 h.1))
     (eqb_tells j i))
 
-pub read_now : (xs : List ℕ) (i v : ℕ) → i < length xs → v ≡ slice_index_or xs i v → v ≡ cells_of xs i
+pub read_now : (xs : List ℕ) (i v : ℕ) → i < length xs → v ≡ slice_index_or xs i v → v ≡ values_of xs i
 read_now [] i v inside is = absurd (omega (arith, inside))
 read_now (x ∷ xs) zero v inside is = is
 read_now (x ∷ xs) (suc i) v inside is = read_now xs i v (omega (arith, inside)) is
@@ -54,7 +54,7 @@ choice us j true v now settled = settled refl v now
 choice us j false v now settled = refl
 
 -- a change of a settled cell
-put_settled : (us : List Old) (cell v : ℕ) (f : Cells) (j : ℕ) → IsSettled us cell → old_at us j (f j) ≡ old_at us j (put cell v f j)
+put_settled : (us : List Old) (cell v : ℕ) (f : Values) (j : ℕ) → IsSettled us cell → old_at us j (f j) ≡ old_at us j (put cell v f j)
 put_settled us cell v f j settled =
     sym (choice us j (j == cell) v (f j) (λ h. subst (IsSettled us) (sym (same_of j cell h)) settled))
 
@@ -67,7 +67,7 @@ left_out us vs e j now settled =
 
 -- ---- what agrees
 
-pub agrees_still : (log : List Old) (f : Cells) (mark cell v : ℕ) → IsSettled (drop mark log) cell → Agrees mark log f log (put cell v f)
+pub agrees_still : (log : List Old) (f : Values) (mark cell v : ℕ) → IsSettled (drop mark log) cell → Agrees mark log f log (put cell v f)
 agrees_still log f mark cell v settled m le =
     fun_ext (λ j. put_settled (drop m log) cell v f j (settled_drop log m mark cell le settled))
 
@@ -79,7 +79,7 @@ back_now e v now j is =
     (eqb_tells j e.cell)
 
 -- one more change is logged
-pub agrees_logged : (log : List Old) (f : Cells) (top : ℕ) (e : Old) (v : ℕ) → top ≤ length log → e.value ≡ f e.cell → Agrees top log f (log ++ e ∷ []) (put e.cell v f)
+pub agrees_logged : (log : List Old) (f : Values) (top : ℕ) (e : Old) (v : ℕ) → top ≤ length log → e.value ≡ f e.cell → Agrees top log f (log ++ e ∷ []) (put e.cell v f)
 agrees_logged log f top e v inside is m le =
     fun_ext (λ j.
     ap (old_at (drop m log) j) (back_now e v (f j) j (λ h. is ∙ ap f (sym h)))
@@ -87,13 +87,13 @@ agrees_logged log f top e v inside is m le =
     ∙ ap (λ us. old_at us j (put e.cell v f j)) (sym (drop-append-le m log (e ∷ []) (omega (arith, le, inside)))))
 
 -- the last change is taken back
-pub agrees_back : (log : List Old) (f : Cells) (top : ℕ) (e : Old) → top ≤ length log → Agrees top (log ++ e ∷ []) f log (put e.cell e.value f)
+pub agrees_back : (log : List Old) (f : Values) (top : ℕ) (e : Old) → top ≤ length log → Agrees top (log ++ e ∷ []) f log (put e.cell e.value f)
 agrees_back log f top e inside m le =
     fun_ext (λ j.
     ap (λ us. old_at us j (f j)) (drop-append-le m log (e ∷ []) (omega (arith, le, inside)))
     ∙ old_append (drop m log) (e ∷ []) j (f j))
 
-pub agrees_on : (top : ℕ) (a b d : List Old) (f g h : Cells) → Agrees top a f b g → Agrees top b g d h → Agrees top a f d h
+pub agrees_on : (top : ℕ) (a b d : List Old) (f g h : Values) → Agrees top a f b g → Agrees top b g d h → Agrees top a f d h
 agrees_on top a b d f g h one two m le = one m le ∙ two m le
 
 -- ---- which cells were changed

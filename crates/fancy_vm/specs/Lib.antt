@@ -1,5 +1,6 @@
 pub mod Held
 pub mod OldValues
+pub mod CellsView
 pub mod View
 pub mod Refused
 pub mod Insns

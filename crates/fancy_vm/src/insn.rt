@@ -167,7 +167,8 @@ impl ProgParts {
 
     /// How many groups there are with group 0, at most `usize::MAX`.
     fn groups(&self) -> usize
-        ensures { result ≡ min usize.MAX (if self.now.explicit_group_0 then self.now.total_groups else self.now.total_groups + 1) }
+        ensures { result ≡ min usize.MAX (if self.now.explicit_group_0
+            then self.now.total_groups else self.now.total_groups + 1) }
     {
         let groups = self.total_groups;
         if self.explicit_group_0 {
@@ -180,14 +181,16 @@ impl ProgParts {
 
 /// The last instruction is `End`.
 fn ends(body: &[Insn]) -> bool
-    ensures { result ≡ is_end_instr (slice_get (map insn_of body.now) (length (map insn_of body.now) - 1)) }
+    ensures { result ≡ is_end_instr
+        (slice_get (map insn_of body.now) (length (map insn_of body.now) - 1)) }
 {
     matches!(body.last(), Some(Insn::End))
 }
 
 /// Every instruction's targets are below the body's length, and its slots are there; `flag` is of the text-end flag's slot.
 fn all_fit(body: &[Insn], slots: usize, flag: bool) -> bool
-    ensures { result ≡ list_all (λ insn. instr_fits (length body.now) slots flag (insn_of insn)) body.now }
+    ensures { result ≡ list_all (λ insn. instr_fits (length body.now) slots flag (insn_of insn))
+        body.now }
 {
     let len = body.len();
     body.iter().all(|insn| insn.fits(len, slots, flag))

@@ -2,6 +2,7 @@
 #![tactic(auto)]
 
 mod insn;
+mod listing;
 mod machine;
 mod moves;
 mod old_values;

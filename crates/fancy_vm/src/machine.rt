@@ -74,7 +74,8 @@ impl Task<'_> {
     /// Falls back to the last branch.
     pub(crate) fn fail(&self, m: &mut Machine) -> Result<Next, Error>
         requires made { IsMade self.now m.old }
-        ensures leads { StepAnswers self.now (machine.fail (meant self.now) (config_of m.old)) result m.new }
+        ensures leads { StepAnswers self.now (machine.fail (meant self.now) (config_of m.old))
+            result m.new }
         ensures made { IsMade self.now m.new }
     {
         if m.state.backtrack_count() == 0 {
@@ -92,7 +93,8 @@ impl Task<'_> {
     pub(crate) fn goes_if(&self, test: bool, m: &mut Machine) -> Result<Next, Error>
         requires made { IsMade self.now m.old }
         requires pc { m.old.pc < usize.MAX }
-        ensures leads { StepAnswers self.now (machine.goes_if (meant self.now) test (config_of m.old)) result m.new }
+        ensures leads { StepAnswers self.now
+            (machine.goes_if (meant self.now) test (config_of m.old)) result m.new }
         ensures made { IsMade self.now m.new }
     {
         if !test {
@@ -106,7 +108,8 @@ impl Task<'_> {
     pub(crate) fn goes_from(&self, to: Option<usize>, m: &mut Machine) -> Result<Next, Error>
         requires made { IsMade self.now m.old }
         requires pc { m.old.pc < usize.MAX }
-        ensures leads { StepAnswers self.now (machine.goes_from (meant self.now) (config_of m.old) to) result m.new }
+        ensures leads { StepAnswers self.now
+            (machine.goes_from (meant self.now) (config_of m.old) to) result m.new }
         ensures made { IsMade self.now m.new }
     {
         match to {
@@ -135,7 +138,8 @@ impl Task<'_> {
         requires made { IsMade self.now m.old }
         ensures room { OnOk result (length (config_of m.old).branches < config.most_branches) }
         ensures ok { OnOk result (config_of m.new ≡ with_branch pc (config_of m.old)) }
-        ensures refused { IfErr result (IsRefused (length (config_of m.old).branches) config.most_branches) }
+        ensures refused { IfErr result
+            (IsRefused (length (config_of m.old).branches) config.most_branches) }
         ensures made { IsMade self.now m.new }
     {
         m.state.push(pc, m.ix)

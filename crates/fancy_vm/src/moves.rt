@@ -8,8 +8,8 @@ ghost use Rattle.fancy_characters.specs.Classes.{class_of};
 ghost use Rattle.fancy_characters.specs.Literals.{literal_tests};
 ghost use Rattle.fancy_vm.specs.Refused.{IsMemory};
 
-use fancy_characters::places::is_place;
 use fancy_characters::classes::{CaseiLiteral, CharClassMatcher};
+use fancy_characters::places::is_place;
 use fancy_expr::error::Error;
 use std::alloc::Global;
 
@@ -47,7 +47,8 @@ pub(crate) fn past_class(
     text: &str,
     ix: usize,
 ) -> Result<Option<usize>, Error>
-    ensures ok { IfOk result (λ to. to ≡ moves.past_char text.now (class_test (class_of class.now)) ix) }
+    ensures ok { IfOk result
+        (λ to. to ≡ moves.past_char text.now (class_test (class_of class.now)) ix) }
     ensures err { IfErr result IsMemory }
 {
     match class.match_len(alloc, text, ix)? {
@@ -58,7 +59,8 @@ pub(crate) fn past_class(
 
 /// The two are places of the text, in order.
 pub(crate) fn is_span(text: &[u8], from: usize, to: usize) -> bool
-    ensures { result ≡ (nat_le from to && (place.is_place text.now from && place.is_place text.now to)) }
+    ensures { result ≡ (nat_le from to
+        && (place.is_place text.now from && place.is_place text.now to)) }
 {
     from <= to && is_place(text, from) && is_place(text, to)
 }

@@ -1,10 +1,12 @@
 //! Cells, and what they held before they were changed.
 
-ghost use Rattle.std.specs.Prelude.{◌≡◌, ℕ, ◌<◌, ◌≤◌, IsTrue, length, drop, take, slice_set, OnOk, OnErr, IfErr, MatchOption};
-ghost use Rattle.fancy_vm.specs.OldValues.{Agrees, AreInside, Cells, IsSettled, cells_of};
+ghost use Rattle.std.specs.Prelude.{◌≡◌, [], ◌<◌, ◌≤◌, IsTrue, length, drop, take, slice_set, OnOk, OnErr, IfOk, IfErr, MatchOption};
+ghost use Rattle.fancy_vm.specs.OldValues.{Agrees, IsSettled, values_of, first_cells};
 ghost use Rattle.fancy_vm.specs.Refused.{IsMemory};
 
 use fancy_expr::error::Error;
+use std::alloc::Global;
+use std::marker::Model;
 
 /// What a cell held before a change.
 #[derive(Clone, Copy)]
@@ -15,6 +17,27 @@ pub(crate) struct Old {
     before: usize,
 }
 
+/// Cells, and a log of what they held before they were changed.
+#[derive(Drop)]
+pub(crate) struct Cells {
+    values: Vec<usize>,
+    /// Where each cell was last logged.
+    places: Vec<usize>,
+    log: Vec<Old>,
+}
+
+impl Model for Cells {
+    ghost use Rattle.fancy_vm.specs.OldValues.{Cells};
+
+    ghost Value = { Cells };
+
+    ghost use Rattle.fancy_vm.specs.CellsView.{cells_in, AreLogged};
+
+    ghost view = { cells_in };
+
+    ghost invariant = { AreLogged };
+}
+
 /// The cell's last change is logged at this place, since the mark.
 fn is_logged(log: &[Old], mark: usize, place: usize, cell: usize) -> bool
     ensures { IsTrue result → IsSettled (drop mark log.now) cell }
@@ -22,129 +45,174 @@ fn is_logged(log: &[Old], mark: usize, place: usize, cell: usize) -> bool
     mark <= place && place < log.len() && log[place].cell == cell
 }
 
-/// Changes a cell. Where there is a mark, what it held is logged, once since then.
-pub(crate) fn set_cell(
-    cells: &mut Vec<usize>,
-    places: &mut Vec<usize>,
-    log: &mut Vec<Old>,
-    mark: Option<usize>,
-    cell: usize,
-    value: usize,
-) -> Result<(), Error>
-    requires cell { cell < length cells.old.items }
-    requires places { length cells.old.items ≤ length places.old.items }
-    requires inside { AreInside (length cells.old.items) log.old.items }
-    requires mark { MatchOption mark (Unit {0}) (λ m. m ≤ length log.old.items) }
-    ensures value { OnOk result (cells.new.items ≡ slice_set cells.old.items cell value) }
-    ensures agrees { OnOk result (MatchOption mark (Unit {0}) (λ m.
-        Agrees m log.old.items (cells_of cells.old.items) log.new.items (cells_of cells.new.items))) }
-    ensures longer { length log.old.items ≤ length log.new.items }
-    ensures inside { AreInside (length cells.old.items) log.new.items }
-    ensures places { length places.new.items ≡ length places.old.items }
-    ensures refused { IfErr result IsMemory }
-    ensures cells { OnErr result (cells.new.items ≡ cells.old.items) }
-    ensures log { OnErr result (log.new.items ≡ log.old.items) }
-{
-    match mark {
-        None => {}
-        Some(mark) => {
-            let before = places[cell];
-            if !is_logged(log, mark, before, cell) {
-                let place = log.len();
-                let value = cells[cell];
-                log.push(Old {
-                    cell,
-                    value,
-                    before,
-                })?;
-                places[cell] = place;
+impl Cells {
+    /// So many cells that hold `usize::MAX`, and one that holds 0.
+    pub(crate) fn new(alloc: Global, count: usize) -> Result<Cells, Error>
+        ensures ok { IfOk result (λ cells. cells ≡ first_cells count) }
+        ensures err { IfErr result IsMemory }
+    {
+        let mut values = vec![in alloc; usize::MAX; count]?;
+        values.push(0)?;
+        let places = vec![in alloc; 0; values.len()]?;
+        Ok(Cells {
+            values,
+            places,
+            log: Vec::new(alloc),
+        })
+    }
+
+    /// Makes them as `new` does, in the memory that they have.
+    pub(crate) fn renew(self, count: usize) -> Result<Cells, Error>
+        ensures ok { IfOk result (λ cells. cells ≡ first_cells count) }
+        ensures err { IfErr result IsMemory }
+    {
+        let Cells {
+            mut values,
+            mut places,
+            mut log,
+        } = self;
+        values.clear();
+        values.resize(count, usize::MAX)?;
+        values.push(0)?;
+        places.clear();
+        places.resize(values.len(), 0)?;
+        log.clear();
+        Ok(Cells {
+            values,
+            places,
+            log,
+        })
+    }
+
+    /// What a cell holds.
+    pub(crate) fn get(&self, cell: usize) -> usize
+        requires { cell < length self.now.values }
+        ensures value { result ≡ values_of self.now.values cell }
+        ensures fits { length self.now.values ≤ usize.MAX }
+    {
+        self.values[cell]
+    }
+
+    /// What the first cells hold.
+    pub(crate) fn first(&self, alloc: Global, count: usize) -> Result<Vec<usize>, Error>
+        requires { count ≤ length self.now.values }
+        ensures ok { IfOk result (λ v. v.items ≡ take count self.now.values) }
+        ensures err { IfErr result IsMemory }
+    {
+        Ok(Vec::from_slice(alloc, &self.values[..count])?)
+    }
+
+    /// How many old values are logged.
+    pub(crate) fn mark(&self) -> usize
+        ensures { result ≡ length self.now.log }
+    {
+        self.log.len()
+    }
+
+    /// Changes a cell. Where there is a mark, what it held is logged, once since then.
+    pub(crate) fn set(
+        &mut self,
+        mark: Option<usize>,
+        cell: usize,
+        value: usize,
+    ) -> Result<(), Error>
+        requires cell { cell < length self.old.values }
+        requires mark { MatchOption mark (Unit {0}) (λ m. m ≤ length self.old.log) }
+        ensures value { OnOk result (self.new.values ≡ slice_set self.old.values cell value) }
+        ensures agrees { OnOk result (MatchOption mark (Unit {0}) (λ m. Agrees m
+            self.old.log (values_of self.old.values) self.new.log (values_of self.new.values))) }
+        ensures longer { length self.old.log ≤ length self.new.log }
+        ensures refused { IfErr result IsMemory }
+        ensures err { OnErr result (self.new ≡ self.old) }
+    {
+        match mark {
+            None => {}
+            Some(mark) => {
+                let before = self.places[cell];
+                if !is_logged(&self.log, mark, before, cell) {
+                    let place = self.log.len();
+                    let value = self.values[cell];
+                    self.log.push(Old {
+                        cell,
+                        value,
+                        before,
+                    })?;
+                    self.places[cell] = place;
+                }
             }
         }
+        self.values[cell] = value;
+        Ok(())
     }
-    cells[cell] = value;
-    Ok(())
-}
 
-/// Sees to it that the cell is there.
-pub(crate) fn make_room(
-    cells: &mut Vec<usize>,
-    places: &mut Vec<usize>,
-    cell: usize,
-) -> Result<(), Error>
-    requires cell { cell ≤ length cells.old.items }
-    requires places { length cells.old.items ≤ length places.old.items }
-    ensures cell { OnOk result (cell < length cells.new.items) }
-    ensures same { cells_of cells.new.items ≡ cells_of cells.old.items }
-    ensures longer { length cells.old.items ≤ length cells.new.items }
-    ensures places { length cells.new.items ≤ length places.new.items }
-    ensures refused { IfErr result IsMemory }
-{
-    if cell < cells.len() {
-        return Ok(());
+    /// Sees to it that the cell is there.
+    pub(crate) fn make_room(&mut self, cell: usize) -> Result<(), Error>
+        requires { cell ≤ length self.old.values }
+        ensures cell { OnOk result (cell < length self.new.values) }
+        ensures same { values_of self.new.values ≡ values_of self.old.values }
+        ensures log { self.new.log ≡ self.old.log }
+        ensures longer { length self.old.values ≤ length self.new.values }
+        ensures refused { IfErr result IsMemory }
+    {
+        if cell < self.values.len() {
+            return Ok(());
+        }
+        self.places.push(0)?;
+        self.values.push(0)?;
+        Ok(())
     }
-    places.push(0)?;
-    cells.push(0)?;
-    Ok(())
-}
 
-/// Gives a cell its old value back.
-fn put_back(cells: &mut Vec<usize>, places: &mut Vec<usize>, old: Old)
-    requires cell { old.cell < length cells.old.items }
-    requires places { length cells.old.items ≤ length places.old.items }
-    ensures cells { cells.new.items ≡ slice_set cells.old.items old.cell old.value }
-    ensures places { length places.new.items ≡ length places.old.items }
-{
-    cells[old.cell] = old.value;
-    places[old.cell] = old.before;
-}
-
-/// Gives the cells their old values back, until so many are logged.
-pub(crate) fn unwind(
-    cells: &mut Vec<usize>,
-    places: &mut Vec<usize>,
-    log: &mut Vec<Old>,
-    mark: usize,
-)
-    requires mark { mark ≤ length log.old.items }
-    requires places { length cells.old.items ≤ length places.old.items }
-    requires inside { AreInside (length cells.old.items) log.old.items }
-    ensures agrees { Agrees mark log.old.items (cells_of cells.old.items) log.new.items (cells_of cells.new.items) }
-    ensures len { length log.new.items ≡ mark }
-    ensures cells { length cells.new.items ≡ length cells.old.items }
-    ensures inside { AreInside (length cells.old.items) log.new.items }
-    ensures places { length places.new.items ≡ length places.old.items }
-{
-    'undo: while log.len() > mark {
-        let Some(old) = log.pop() else { unreachable!() };
-        put_back(cells, places, old);
-    }
-}
-
-/// Joins what was logged from `first` on with what was logged since the mark, and keeps the first old value of a cell.
-pub(crate) fn join(places: &mut Vec<usize>, log: &mut Vec<Old>, mark: usize, first: usize)
-    requires mark { mark ≤ first }
-    requires first { first ≤ length log.old.items }
-    requires inside { AreInside (length places.old.items) log.old.items }
-    ensures agrees { (now : Cells) → Agrees mark log.old.items now log.new.items now }
-    ensures longer { mark ≤ length log.new.items }
-    ensures inside { (room : ℕ) → AreInside room log.old.items → AreInside room log.new.items }
-    ensures places { length places.new.items ≡ length places.old.items }
-{
-    let mut kept = first;
-    'join: for next in first..log.len() {
-        let old = log[next];
-        let place = if old.before < first {
-            old.before
-        } else {
-            places[old.cell]
-        };
-        if is_logged(&log[..kept], mark, place, old.cell) {
-            places[old.cell] = place;
-        } else {
-            log[kept] = old;
-            places[old.cell] = kept;
-            kept += 1;
+    /// Gives the cells their old values back, until so many are logged.
+    pub(crate) fn unwind(&mut self, mark: usize)
+        requires { mark ≤ length self.old.log }
+        ensures agrees { Agrees mark
+            self.old.log (values_of self.old.values) self.new.log (values_of self.new.values) }
+        ensures log { length self.new.log ≡ mark }
+        ensures values { length self.new.values ≡ length self.old.values }
+    {
+        'undo: while self.log.len() > mark {
+            let Some(old) = self.log.pop() else {
+                unreachable!()
+            };
+            self.values[old.cell] = old.value;
+            self.places[old.cell] = old.before;
         }
     }
-    log.truncate(kept);
+
+    /// Joins what was logged from `first` on with what was logged since the mark, and keeps the first old value of a
+    /// cell.
+    pub(crate) fn join(&mut self, mark: usize, first: usize)
+        requires mark { mark ≤ first }
+        requires first { first ≤ length self.old.log }
+        ensures values { self.new.values ≡ self.old.values }
+        ensures agrees { Agrees mark
+            self.old.log (values_of self.old.values) self.new.log (values_of self.old.values) }
+        ensures longer { mark ≤ length self.new.log }
+    {
+        let mut kept = first;
+        'join: for next in first..self.log.len() {
+            let old = self.log[next];
+            let place = if old.before < first {
+                old.before
+            } else {
+                self.places[old.cell]
+            };
+            if is_logged(&self.log[..kept], mark, place, old.cell) {
+                self.places[old.cell] = place;
+            } else {
+                self.log[kept] = old;
+                self.places[old.cell] = kept;
+                kept += 1;
+            }
+        }
+        self.log.truncate(kept);
+    }
+
+    /// Forgets the old values.
+    pub(crate) fn forget(&mut self)
+        ensures values { self.new.values ≡ self.old.values }
+        ensures log { self.new.log ≡ [] }
+    {
+        self.log.clear();
+    }
 }

@@ -101,7 +101,8 @@ pub fn run(
 ) -> Result<Option<Vec<usize>>, Error>
     requires { IsTrue (run_fits (task_of prog.now text.now options.now)) }
     ensures machine { RunAnswers (machine.run (task_of prog.now text.now options.now)) result }
-    ensures meaning { IfOk result (λ found. Means (prog_of prog.now) text.now (options_of options.now) (numbers_of found)) }
+    ensures meaning { IfOk result
+        (λ found. Means (prog_of prog.now) text.now (options_of options.now) (numbers_of found)) }
 {
     let task = Task {
         prog,
@@ -125,7 +126,8 @@ pub fn run_spans(
 ) -> Result<Option<(usize, usize)>, Error>
     requires { IsTrue (run_fits (task_of prog.now text.now options.now)) }
     ensures machine { RunAnswersPair (machine.run (task_of prog.now text.now options.now)) result }
-    ensures meaning { IfOk result (λ found. MeansPair (prog_of prog.now) text.now (options_of options.now) found) }
+    ensures meaning { IfOk result
+        (λ found. MeansPair (prog_of prog.now) text.now (options_of options.now) found) }
 {
     let task = Task {
         prog,
@@ -148,7 +150,8 @@ pub fn run_default(
 ) -> Result<Option<Vec<usize>>, Error>
     requires { IsTrue (run_fits (default_task prog.now text.now pos)) }
     ensures machine { RunAnswers (machine.run (default_task prog.now text.now pos)) result }
-    ensures meaning { IfOk result (λ found. Means (prog_of prog.now) text.now (default_at pos) (numbers_of found)) }
+    ensures meaning { IfOk result
+        (λ found. Means (prog_of prog.now) text.now (default_at pos) (numbers_of found)) }
 {
     let mut scratch = Scratch::new(alloc);
     run(alloc, prog, text, &RunOptions::at(pos), &mut scratch)

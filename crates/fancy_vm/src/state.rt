@@ -5,7 +5,7 @@ ghost use Rattle.fancy_vm.specs.Held.{below, first_held, held_branch};
 ghost use Rattle.fancy_vm.specs.Refused.{IsRefused, IsMemory};
 ghost use Rattle.fancy_vm.specs.OldValues.{IsNewest};
 
-use crate::old_values::{Old, join, make_room, set_cell, unwind};
+use crate::old_values::Cells;
 use fancy_expr::error::{Error, RuntimeError};
 use std::alloc::Global;
 use std::marker::Model;
@@ -26,10 +26,7 @@ pub struct State {
     alloc: Global,
     slot_count: usize,
     /// The slots, then how many entries the explicit stack has, then these, and room that is never given back.
-    cells: Vec<usize>,
-    /// Where each cell was last logged.
-    places: Vec<usize>,
-    log: Vec<Old>,
+    cells: Cells,
     branches: Vec<Branch>,
     max_stack: usize,
 }
@@ -48,7 +45,8 @@ impl Model for State {
 
 /// The mark of the newest branch.
 fn newest_mark(branches: &[Branch]) -> Option<usize>
-    ensures { MatchOption result (reverse branches.now ≡ []) (λ m. IsNewest m (reverse branches.now)) }
+    ensures { MatchOption result (reverse branches.now ≡ [])
+        (λ m. IsNewest m (reverse branches.now)) }
 {
     match branches.last() {
         None => None,
@@ -63,15 +61,10 @@ impl State {
         ensures ok { IfOk result (λ s. s ≡ first_held n_saves max_stack) }
         ensures err { IfErr result IsMemory }
     {
-        let mut cells = vec![in alloc; usize::MAX; n_saves]?;
-        cells.push(0)?;
-        let places = vec![in alloc; 0; cells.len()]?;
         Ok(State {
             alloc,
             slot_count: n_saves,
-            cells,
-            places,
-            log: Vec::new(alloc),
+            cells: Cells::new(alloc, n_saves)?,
             branches: Vec::new(alloc),
             max_stack,
         })
@@ -84,25 +77,15 @@ impl State {
     {
         let State {
             alloc,
-            mut cells,
-            mut places,
-            mut log,
+            cells,
             mut branches,
             ..
         } = self;
-        cells.clear();
-        cells.resize(n_saves, usize::MAX)?;
-        cells.push(0)?;
-        places.clear();
-        places.resize(cells.len(), 0)?;
-        log.clear();
         branches.clear();
         Ok(State {
             alloc,
             slot_count: n_saves,
-            cells,
-            places,
-            log,
+            cells: cells.renew(n_saves)?,
             branches,
             max_stack,
         })
@@ -113,14 +96,15 @@ impl State {
     /// the state is then as before.
     pub fn push(&mut self, pc: usize, ix: usize) -> Result<(), Error>
         ensures room { OnOk result (length self.old.branches < self.old.max_stack) }
-        ensures ok { OnOk result (self.new ≡ record self.old { branches = held_branch pc ix self.old ∷ self.old.branches }) }
+        ensures ok { OnOk result (self.new
+            ≡ record self.old { branches = held_branch pc ix self.old ∷ self.old.branches }) }
         ensures refused { IfErr result (IsRefused (length self.old.branches) self.old.max_stack) }
         ensures err { OnErr result (self.new ≡ self.old) }
     {
         if self.branches.len() >= self.max_stack {
             return Err(Error::RuntimeError(RuntimeError::StackOverflow));
         }
-        let mark = self.log.len();
+        let mark = self.cells.mark();
         self.branches.push(Branch { pc, ix, mark })?;
         Ok(())
     }
@@ -129,14 +113,15 @@ impl State {
     /// the text. There has to be one. It takes no memory.
     pub fn pop(&mut self) -> (usize, usize)
         requires { 0 < length self.old.branches }
-        ensures branch { self.old.branches ≡ held_branch result.0 result.1 self.new ∷ self.new.branches }
+        ensures branch { self.old.branches
+            ≡ held_branch result.0 result.1 self.new ∷ self.new.branches }
         ensures slots { length self.new.slots ≡ length self.old.slots }
         ensures max_stack { self.new.max_stack ≡ self.old.max_stack }
     {
         let Some(Branch { pc, ix, mark }) = self.branches.pop() else {
             unreachable!()
         };
-        unwind(&mut self.cells, &mut self.places, &mut self.log, mark);
+        self.cells.unwind(mark);
         (pc, ix)
     }
 
@@ -144,19 +129,13 @@ impl State {
     /// before.
     pub fn save(&mut self, slot: usize, value: usize) -> Result<(), Error>
         requires { slot < length self.old.slots }
-        ensures ok { OnOk result (self.new ≡ record self.old { slots = slice_set self.old.slots slot value }) }
+        ensures ok { OnOk result
+            (self.new ≡ record self.old { slots = slice_set self.old.slots slot value }) }
         ensures refused { IfErr result IsMemory }
         ensures err { OnErr result (self.new ≡ self.old) }
     {
         let mark = newest_mark(&self.branches);
-        set_cell(
-            &mut self.cells,
-            &mut self.places,
-            &mut self.log,
-            mark,
-            slot,
-            value,
-        )?;
+        self.cells.set(mark, slot, value)?;
         Ok(())
     }
 
@@ -165,7 +144,7 @@ impl State {
         requires { slot < length self.now.slots }
         ensures { result ≡ slice_index self.now.slots slot }
     {
-        self.cells[slot]
+        self.cells.get(slot)
     }
 
     /// The first slots as numbers.
@@ -174,7 +153,7 @@ impl State {
         ensures ok { IfOk result (λ v. v.items ≡ take count self.now.slots) }
         ensures err { IfErr result IsMemory }
     {
-        Ok(Vec::from_slice(alloc, &self.cells[..count])?)
+        self.cells.first(alloc, count)
     }
 
     /// Adds an entry to the explicit stack. `Memory` where a request for memory was refused; the state is then as before.
@@ -183,26 +162,12 @@ impl State {
         ensures refused { IfErr result IsMemory }
         ensures err { OnErr result (self.new ≡ self.old) }
     {
-        let count = self.cells[self.slot_count];
+        let count = self.cells.get(self.slot_count);
         let entry = self.slot_count + 1 + count;
-        make_room(&mut self.cells, &mut self.places, entry)?;
+        self.cells.make_room(entry)?;
         let mark = newest_mark(&self.branches);
-        set_cell(
-            &mut self.cells,
-            &mut self.places,
-            &mut self.log,
-            mark,
-            entry,
-            value,
-        )?;
-        set_cell(
-            &mut self.cells,
-            &mut self.places,
-            &mut self.log,
-            mark,
-            self.slot_count,
-            count + 1,
-        )?;
+        self.cells.set(mark, entry, value)?;
+        self.cells.set(mark, self.slot_count, count + 1)?;
         Ok(())
     }
 
@@ -210,21 +175,15 @@ impl State {
     /// the state is then as before.
     pub fn stack_pop(&mut self) -> Result<usize, Error>
         requires { 0 < length self.old.stack }
-        ensures ok { IfOk result (λ value. self.old ≡ record self.new { stack = value ∷ self.new.stack }) }
+        ensures ok { IfOk result
+            (λ value. self.old ≡ record self.new { stack = value ∷ self.new.stack }) }
         ensures refused { IfErr result IsMemory }
         ensures err { OnErr result (self.new ≡ self.old) }
     {
-        let count = self.cells[self.slot_count];
-        let value = self.cells[self.slot_count + count];
+        let count = self.cells.get(self.slot_count);
+        let value = self.cells.get(self.slot_count + count);
         let mark = newest_mark(&self.branches);
-        set_cell(
-            &mut self.cells,
-            &mut self.places,
-            &mut self.log,
-            mark,
-            self.slot_count,
-            count - 1,
-        )?;
+        self.cells.set(mark, self.slot_count, count - 1)?;
         Ok(value)
     }
 
@@ -232,13 +191,14 @@ impl State {
     pub fn has_entry(&self) -> bool
         ensures { result ≡ nat_lt 0 (length self.now.stack) }
     {
-        self.cells[self.slot_count] > 0
+        self.cells.get(self.slot_count) > 0
     }
 
     /// How many branches stand before the last one that has this place of the program.
     pub(crate) fn count_before(&self, pc: usize) -> Option<usize>
         ensures { MatchOption result (below pc self.now.branches ≡ None)
-            (λ n. (n ≤ length self.now.branches) × (below pc self.now.branches ≡ Some (drop (length self.now.branches - n) self.now.branches))) }
+            (λ n. (n ≤ length self.now.branches) × (below pc self.now.branches
+            ≡ Some (drop (length self.now.branches - n) self.now.branches))) }
     {
         let mut count = self.branches.len();
         while count > 0 {
@@ -261,7 +221,9 @@ impl State {
     /// still has its own. It takes no memory.
     pub fn backtrack_cut(&mut self, count: usize)
         requires { count ≤ length self.old.branches }
-        ensures { self.new ≡ record self.old { branches = drop (length self.old.branches - count) self.old.branches } }
+        ensures { self.new ≡ record self.old {
+          branches = drop (length self.old.branches - count) self.old.branches;
+        } }
     {
         if count >= self.branches.len() {
             return;
@@ -269,8 +231,8 @@ impl State {
         let first = self.branches[count].mark;
         self.branches.truncate(count);
         match newest_mark(&self.branches) {
-            None => self.log.clear(),
-            Some(mark) => join(&mut self.places, &mut self.log, mark, first),
+            None => self.cells.forget(),
+            Some(mark) => self.cells.join(mark, first),
         }
     }
 }

@@ -1,6 +1,6 @@
 use Rattle.std.proofs.Common.{reverse, arith, sym, ap, ◌∙◌, ◌-◌, drop, Some}
 use Rattle.std.proofs.lemmas.List.{length-reverse}
-use Rattle.fancy_vm.specs.OldValues.{Cells, cells_of, held_branches}
+use Rattle.fancy_vm.specs.OldValues.{Values, values_of, held_branches}
 use Rattle.fancy_vm.proofs.HeldLaws.{find_here, find_on, find_none, reverse-take, held-drop, length-held}
 use Rattle.fancy_vm.proofs.state.State.count_before.Goals as goal
 
@@ -8,14 +8,14 @@ pub returns-then-index-pc : goal.returns-then-index-pc
 returns-then-index-pc c =
     let s = c.self.inside in
     let bs = s.branches.items in
-    let now : Cells = cells_of s.cells.items in
+    let now : Values = values_of s.cells.values in
     let n = c.loop-count.count in
-    let here = find_here s.slot_count s.log.items now c.args.pc bs n c.index.result.now c.loop-count-test.true c.loop-count.invariant.inside c.index.ensures c.if-index-pc.true in
+    let here = find_here s.slot_count s.cells.log now c.args.pc bs n c.index.result.now c.loop-count-test.true c.loop-count.invariant.inside c.index.ensures c.if-index-pc.true in
     rw (← c.self.view_is) (
-      omega (arith, length-held s.slot_count s.log.items now (reverse bs), length-reverse bs, c.loop-count.invariant.inside),
+      omega (arith, length-held s.slot_count s.cells.log now (reverse bs), length-reverse bs, c.loop-count.invariant.inside),
       sym c.loop-count.invariant.same ∙ here
-          ∙ ap Some (ap (held_branches s.slot_count s.log.items now) (reverse-take bs (n - 1)) ∙ held-drop s.slot_count s.log.items now (reverse bs) _
-          ∙ ap (λ k. drop (k - (n - 1)) (held_branches s.slot_count s.log.items now (reverse bs))) (sym (length-held s.slot_count s.log.items now (reverse bs) ∙ length-reverse bs))),
+          ∙ ap Some (ap (held_branches s.slot_count s.cells.log now) (reverse-take bs (n - 1)) ∙ held-drop s.slot_count s.cells.log now (reverse bs) _
+          ∙ ap (λ k. drop (k - (n - 1)) (held_branches s.slot_count s.cells.log now (reverse bs))) (sym (length-held s.slot_count s.cells.log now (reverse bs) ∙ length-reverse bs))),
     )
 
 pub loop-count-preserved : goal.loop-count-preserved
@@ -24,7 +24,7 @@ loop-count-preserved c =
     record {
       inside = omega (arith, c.loop-count.invariant.inside);
       same =
-          sym (find_on s.slot_count s.log.items (cells_of s.cells.items) c.args.pc s.branches.items c.loop-count.count c.index.result.now c.loop-count-test.true c.loop-count.invariant.inside c.index.ensures c.if-index-pc.false)
+          sym (find_on s.slot_count s.cells.log (values_of s.cells.values) c.args.pc s.branches.items c.loop-count.count c.index.result.now c.loop-count-test.true c.loop-count.invariant.inside c.index.ensures c.if-index-pc.false)
           ∙ c.loop-count.invariant.same;
     }
 
@@ -33,4 +33,4 @@ returns c =
     let s = c.self.inside in
     rw (← c.self.view_is)
     (sym c.loop-count.invariant.same
-    ∙ find_none s.slot_count s.log.items (cells_of s.cells.items) c.args.pc s.branches.items c.loop-count.count c.loop-count-test.false)
+    ∙ find_none s.slot_count s.cells.log (values_of s.cells.values) c.args.pc s.branches.items c.loop-count.count c.loop-count-test.false)

@@ -1,6 +1,6 @@
 use Rattle.std.proofs.Common.{◌≡◌, ◌≤◌, length, take, reverse}
 use Rattle.fancy_vm.specs.Held.{below}
-use Rattle.fancy_vm.specs.OldValues.{cells_of, held_branches}
+use Rattle.fancy_vm.specs.OldValues.{values_of, held_branches}
 use Rattle.fancy_vm.proofs.state.State.count_before.Given as goal
 
 abbrev pub invariant-loop-count : goal.invariant-loop-count
@@ -8,8 +8,8 @@ invariant-loop-count l =
     let s = l.self-inside in
     record {
       inside : l.count ≤ length s.branches.items;
-      same : below l.pc (held_branches s.slot_count s.log.items (cells_of s.cells.items) (reverse (take l.count s.branches.items)))
-          ≡ below l.pc (held_branches s.slot_count s.log.items (cells_of s.cells.items) (reverse s.branches.items));
+      same : below l.pc (held_branches s.slot_count s.cells.log (values_of s.cells.values) (reverse (take l.count s.branches.items)))
+          ≡ below l.pc (held_branches s.slot_count s.cells.log (values_of s.cells.values) (reverse s.branches.items));
     }
 
 abbrev pub decreases-loop-count : goal.decreases-loop-count

@@ -1,6 +1,6 @@
 use Rattle.std.proofs.Common.{◌≡◌, ◌∷◌, List, length, reverse, ap, ◌∙◌, sym, arith, subst}
 use Rattle.std.proofs.lemmas.List.{length-reverse}
-use Rattle.fancy_vm.specs.OldValues.{cells_of, IsSound}
+use Rattle.fancy_vm.specs.OldValues.{values_of, IsSound}
 use Rattle.fancy_vm.specs.declared.state.Branch.{Branch}
 use Rattle.fancy_vm.proofs.CellLaws.{length-slots}
 use Rattle.fancy_vm.proofs.HeldLaws.{length-held, reversed}
@@ -14,17 +14,17 @@ unreachable-requires c =
       arith,
       c.requires,
       ap (λ h. length h.branches) c.self.view_is,
-      length-held s.slot_count s.log.items (cells_of s.cells.items) (reverse s.branches.items),
+      length-held s.slot_count s.cells.log (values_of s.cells.values) (reverse s.branches.items),
       length-reverse s.branches.items,
       s.branches.ok.0,
       c.in_default.ensures.cases.0,
     )
 
-pub unwind-requires-clause-mark : goal.unwind-requires-clause-mark
-unwind-requires-clause-mark c =
+pub unwind-requires : goal.unwind-requires
+unwind-requires c =
     let s = c.self.inside in
     let was : reverse s.branches.items ≡ c.in-Some.field-0 ∷ reverse c.pop.new.self.items = reversed c.pop.new.self.items s.branches.items c.in-Some.field-0 c.in-Some.ensures.items in
-    (subst (λ (bs : List Branch). IsSound s.slot_count s.cells.items s.log.items bs) was c.self.invariant.sound).marks.0
+    (subst (λ (bs : List Branch). IsSound s.slot_count s.cells.values s.cells.log bs) was c.self.invariant).marks.0
 
 pub invariant_of-self : goal.invariant_of-self
 invariant_of-self c =
@@ -32,12 +32,9 @@ invariant_of-self c =
     let b = c.in-Some.field-0 in
     let bs = reverse c.pop.new.self.items in
     let was : reverse s.branches.items ≡ b ∷ bs = reversed c.pop.new.self.items s.branches.items b c.in-Some.ensures.items in
-    let sound = subst (λ (bs : List Branch). IsSound s.slot_count s.cells.items s.log.items bs) was c.self.invariant.sound in
+    let sound = subst (λ (bs : List Branch). IsSound s.slot_count s.cells.values s.cells.log bs) was c.self.invariant in
     let done = c.unwind.ensures in
-    record {
-      sound = pop_sound s.slot_count s.cells.items c.unwind.new.cells.items s.log.items c.unwind.new.log.items b bs done.agrees done.len done.cells done.inside sound;
-      places = omega (arith, done.cells, done.places, c.self.invariant.places);
-    }
+    pop_sound s.slot_count s.cells.values c.unwind.new.self.values s.cells.log c.unwind.new.self.log b bs done.agrees done.log done.values sound
 
 pub returns-clause-branch : goal.returns-clause-branch
 returns-clause-branch c =
@@ -45,12 +42,12 @@ returns-clause-branch c =
     let b = c.in-Some.field-0 in
     let bs = reverse c.pop.new.self.items in
     let was : reverse s.branches.items ≡ b ∷ bs = reversed c.pop.new.self.items s.branches.items b c.in-Some.ensures.items in
-    let sound = subst (λ (bs : List Branch). IsSound s.slot_count s.cells.items s.log.items bs) was c.self.invariant.sound in
+    let sound = subst (λ (bs : List Branch). IsSound s.slot_count s.cells.values s.cells.log bs) was c.self.invariant in
     let done = c.unwind.ensures in
     rw (← c.self.view_is, was)
-    (pop_held s.slot_count s.cells.items c.unwind.new.cells.items s.log.items c.unwind.new.log.items b bs done.agrees done.len done.cells done.inside sound)
+    (pop_held s.slot_count s.cells.values c.unwind.new.self.values s.cells.log c.unwind.new.self.log b bs done.agrees done.log done.values sound)
 
 pub returns-clause-slots : goal.returns-clause-slots
 returns-clause-slots c =
     let n = c.self.inside.slot_count in
-    rw (← c.self.view_is) (length-slots n (cells_of c.unwind.new.cells.items) ∙ sym (length-slots n (cells_of c.self.inside.cells.items)))
+    rw (← c.self.view_is) (length-slots n (values_of c.unwind.new.self.values) ∙ sym (length-slots n (values_of c.self.inside.cells.values)))

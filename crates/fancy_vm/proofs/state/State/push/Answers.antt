@@ -1,7 +1,7 @@
-use Rattle.std.proofs.Common.{List, ◌∷◌, subst, sym, length, reverse, ◌∙◌, arith}
+use Rattle.std.proofs.Common.{List, ◌∷◌, subst, sym, length, reverse, arith}
 use Rattle.std.proofs.lemmas.List.{length-reverse}
 use Rattle.std.proofs.lemmas.Result.{err_from_is_err_and}
-use Rattle.fancy_vm.specs.OldValues.{cells_of, IsSound}
+use Rattle.fancy_vm.specs.OldValues.{values_of, IsSound}
 use Rattle.fancy_vm.specs.declared.state.Branch.{Branch}
 use Rattle.fancy_vm.proofs.HeldLaws.{length-held, held_now, falls_now, reversed}
 use Rattle.fancy_vm.proofs.state.State.push.Goals as goal
@@ -20,24 +20,21 @@ returns-clause-room c = rw (← c.self.view_is) (rw (length-held, length-reverse
 pub returns-clause-ok : goal.returns-clause-ok
 returns-clause-ok c =
     let s = c.self.inside in
-    let b : Branch = record { pc = c.args.pc; ix = c.args.ix; mark = c.len-mark.result } in
+    let b : Branch = record { pc = c.args.pc; ix = c.args.ix; mark = c.mark-mark.result } in
     rw (← c.self.view_is)
     (rw (
       reversed s.branches.items c.push.new.self.items b c.in_ok-push.ensures.items,
-      held_now s.slot_count s.log.items (cells_of s.cells.items) b (reverse s.branches.items) (omega (arith, c.len-mark.ensures, s.log.ok.0)),
+      held_now s.slot_count s.cells.log (values_of s.cells.values) b (reverse s.branches.items) (omega (arith, c.mark-mark.ensures)),
     ))
 
 pub invariant_of-self-2 : goal.invariant_of-self-2
 invariant_of-self-2 c =
     let s = c.self.inside in
-    let sound = c.self.invariant.sound in
-    let b : Branch = record { pc = c.args.pc; ix = c.args.ix; mark = c.len-mark.result } in
-    let marked : IsSound s.slot_count s.cells.items s.log.items (b ∷ reverse s.branches.items) = record {
+    let sound = c.self.invariant in
+    let b : Branch = record { pc = c.args.pc; ix = c.args.ix; mark = c.mark-mark.result } in
+    let marked : IsSound s.slot_count s.cells.values s.cells.log (b ∷ reverse s.branches.items) = record {
       room = sound.room;
-      marks = falls_now s.slot_count (length s.cells.items) s.log.items (cells_of s.cells.items) b (reverse s.branches.items) (c.len-mark.ensures ∙ s.log.ok.0) sound.room sound.marks;
-      inside = sound.inside;
+      marks = falls_now s.slot_count (length s.cells.values) s.cells.log (values_of s.cells.values) b (reverse s.branches.items) c.mark-mark.ensures sound.room sound.marks;
     } in
-    record {
-      sound = subst (λ (bs : List Branch). IsSound s.slot_count s.cells.items s.log.items bs) (sym (reversed s.branches.items c.push.new.self.items b c.in_ok-push.ensures.items)) marked;
-      places = c.self.invariant.places;
-    }
+    subst (λ (bs : List Branch). IsSound s.slot_count s.cells.values s.cells.log bs)
+    (sym (reversed s.branches.items c.push.new.self.items b c.in_ok-push.ensures.items)) marked

@@ -1,42 +1,38 @@
-use Rattle.std.proofs.Common.{ap, length, reverse, arith}
-use Rattle.std.proofs.lemmas.List.{length-set}
+use Rattle.std.proofs.Common.{reverse, arith}
 use Rattle.fancy_vm.proofs.StateLaws.{slot_sound, slot_held, slot_less, slot_there, mark_inside}
 use Rattle.fancy_vm.proofs.state.State.save.Goals as goal
 
-pub set_cell-requires-clause-cell : goal.set_cell-requires-clause-cell
-set_cell-requires-clause-cell c =
+pub set-requires-clause-cell : goal.set-requires-clause-cell
+set-requires-clause-cell c =
     let s = c.self.inside in
     let bs = reverse s.branches.items in
-    let less = slot_less s.slot_count s.cells.items s.log.items bs s.max_stack c.args.slot c.args.self.now c.self.view_is c.requires in
-    slot_there s.slot_count s.cells.items s.log.items bs c.args.slot c.self.invariant.sound (omega (arith, less))
+    let less = slot_less s.slot_count s.cells.values s.cells.log bs s.max_stack c.args.slot c.args.self.now c.self.view_is c.requires in
+    slot_there s.slot_count s.cells.values s.cells.log bs c.args.slot c.self.invariant (omega (arith, less))
 
-pub set_cell-requires-clause-mark : goal.set_cell-requires-clause-mark
-set_cell-requires-clause-mark c =
+pub set-requires-clause-mark : goal.set-requires-clause-mark
+set-requires-clause-mark c =
     let s = c.self.inside in
-    mark_inside s.slot_count s.cells.items s.log.items (reverse s.branches.items) c.newest_mark-mark.result (rw c.deref.ensures.value at c.newest_mark-mark.ensures) c.self.invariant.sound
+    mark_inside s.slot_count s.cells.values s.cells.log (reverse s.branches.items) c.newest_mark-mark.result (rw c.deref.ensures.value at c.newest_mark-mark.ensures) c.self.invariant
 
 pub invariant_of-self-2 : goal.invariant_of-self-2
 invariant_of-self-2 c =
     let s = c.self.inside in
     let bs = reverse s.branches.items in
-    let sound = c.self.invariant.sound in
-    let done = c.in_ok-set_cell.ensures in
-    let less = slot_less s.slot_count s.cells.items s.log.items bs s.max_stack c.args.slot c.args.self.now c.self.view_is c.requires in
-    record {
-      sound = slot_sound s.slot_count s.cells.items c.set_cell.new.cells.items s.log.items c.set_cell.new.log.items bs c.newest_mark-mark.result c.args.slot c.args.value
-          done.value (slot_there s.slot_count s.cells.items s.log.items bs c.args.slot sound (omega (arith, less)))
-          (rw c.deref.ensures.value at c.newest_mark-mark.ensures) done.agrees done.longer done.inside sound less;
-      places = omega (arith, ap length done.value, length-set s.cells.items c.args.slot c.args.value, done.places, c.self.invariant.places);
-    }
+    let sound = c.self.invariant in
+    let done = c.in_ok-set.ensures in
+    let less = slot_less s.slot_count s.cells.values s.cells.log bs s.max_stack c.args.slot c.args.self.now c.self.view_is c.requires in
+    slot_sound s.slot_count s.cells.values c.set.new.self.values s.cells.log c.set.new.self.log bs c.newest_mark-mark.result c.args.slot c.args.value
+    done.value (slot_there s.slot_count s.cells.values s.cells.log bs c.args.slot sound (omega (arith, less)))
+    (rw c.deref.ensures.value at c.newest_mark-mark.ensures) done.agrees done.longer sound less
 
 pub returns-clause-ok : goal.returns-clause-ok
 returns-clause-ok c =
     let s = c.self.inside in
     let bs = reverse s.branches.items in
-    let sound = c.self.invariant.sound in
-    let done = c.in_ok-set_cell.ensures in
-    let less = slot_less s.slot_count s.cells.items s.log.items bs s.max_stack c.args.slot c.args.self.now c.self.view_is c.requires in
+    let sound = c.self.invariant in
+    let done = c.in_ok-set.ensures in
+    let less = slot_less s.slot_count s.cells.values s.cells.log bs s.max_stack c.args.slot c.args.self.now c.self.view_is c.requires in
     rw (← c.self.view_is)
-    (slot_held s.slot_count s.cells.items c.set_cell.new.cells.items s.log.items c.set_cell.new.log.items bs c.newest_mark-mark.result c.args.slot c.args.value
-    done.value (slot_there s.slot_count s.cells.items s.log.items bs c.args.slot sound (omega (arith, less)))
-    (rw c.deref.ensures.value at c.newest_mark-mark.ensures) done.agrees done.longer done.inside sound s.max_stack less)
+    (slot_held s.slot_count s.cells.values c.set.new.self.values s.cells.log c.set.new.self.log bs c.newest_mark-mark.result c.args.slot c.args.value
+    done.value (slot_there s.slot_count s.cells.values s.cells.log bs c.args.slot sound (omega (arith, less)))
+    (rw c.deref.ensures.value at c.newest_mark-mark.ensures) done.agrees done.longer sound s.max_stack less)
