@@ -25,6 +25,15 @@ pub fn pair(text: &str) -> (usize, usize) {
     (number(one), number(other))
 }
 
+/// The four numbers with commas between them.
+pub fn four(text: &str) -> (usize, usize, usize, usize) {
+    let mut numbers = text.split(',').map(number);
+    let one = numbers.next().unwrap_or(0);
+    let two = numbers.next().unwrap_or(0);
+    let three = numbers.next().unwrap_or(0);
+    (one, two, three, numbers.next().unwrap_or(0))
+}
+
 /// `9*a` is nine letters a.
 fn push_run(text: &mut String, run: &str) -> Result<(), AllocError> {
     let (count, letters) = run.split_once('*').unwrap_or(("0", ""));
@@ -86,10 +95,9 @@ pub fn bracket_words(alloc: Global, key: &str) -> Result<Vec<String>, AllocError
 pub fn search_words(alloc: Global, key: &str) -> Result<Vec<String>, AllocError> {
     let (tree, rest) = split(key);
     let (text, after) = split(rest);
-    let text = written_out(alloc, text)?;
     let mut words = Vec::new(alloc);
-    words.push(written_out(alloc, tree)?)?;
-    words.push(with_line_ends(alloc, text.as_str())?)?;
+    words.push(String::from_str(alloc, tree)?)?;
+    words.push(with_line_ends(alloc, text)?)?;
     for word in after.split_whitespace() {
         words.push(String::from_str(alloc, word)?)?;
     }
