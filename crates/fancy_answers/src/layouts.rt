@@ -1,4 +1,4 @@
-//! Trees and their programs, compiled anchored.
+//! Trees and their programs.
 
 use crate::searches::compiled;
 use fancy_regex_engine::analyze::AnalyzeContext;
@@ -67,15 +67,15 @@ fn push_insn(line: &mut String, insn: &Insn) -> Result<(), AllocError> {
     }
 }
 
-/// The program of the tree, compiled anchored.
-fn program(alloc: Global, tree: &str, explicit_group_0: bool) -> Result<Prog, Error> {
+/// The program of the tree, compiled anchored where there is no `S`.
+fn program(alloc: Global, tree: &str, letters: &str) -> Result<Prog, Error> {
     let tree = read_tree(alloc, tree)?;
     let context = AnalyzeContext {
-        explicit_capture_group_0: explicit_group_0,
+        explicit_capture_group_0: letters.contains('E'),
         ..AnalyzeContext::default()
     };
     let options = CompileOptions {
-        anchored: true,
+        anchored: !letters.contains('S'),
         ..CompileOptions::default()
     };
     compiled(alloc, &tree, context, options)
@@ -89,15 +89,14 @@ fn line(alloc: Global, insns: &[Insn]) -> Result<String, AllocError> {
         }
         push_insn(&mut line, insn)?;
     }
-    line.push('\n')?;
     Ok(line)
 }
 
-/// The instructions of the program of TREE, in which group 0 is the tree's own where `E` follows.
+/// The instructions of the program of TREE, in which group 0 is the tree's own where `E` follows, compiled not anchored where `S` follows.
 pub fn layout(alloc: Global, key: &str) -> Result<String, AllocError> {
-    let (tree, letter) = key.split_once(" | ").unwrap_or((key, ""));
-    match program(alloc, tree, letter == "E") {
+    let (tree, letters) = key.split_once(" | ").unwrap_or((key, ""));
+    match program(alloc, tree, letters) {
         Ok(prog) => line(alloc, prog.body()),
-        Err(error) => format!(in alloc; "{error:?}\n"),
+        Err(error) => format!(in alloc; "{error:?}"),
     }
 }

@@ -1,24 +1,35 @@
-//! Words that ask nothing.
+//! Words that ask nothing, and writers that fail.
 
-use crate::rows::differ;
 use crate::searches::{Output, printed};
+use fancy_regex_engine::command::command;
+use fancy_tables::closing::Closing;
+use fancy_tables::columns::{bracket_words, differ};
 use std::alloc::{AllocError, Global};
 
-/// The words that stand in brackets.
-fn words(alloc: Global, key: &str) -> Result<Vec<String>, AllocError> {
-    let mut words = Vec::new(alloc);
-    for piece in key.split('[').skip(1) {
-        let word = piece.trim_end().strip_suffix(']').unwrap_or(piece);
-        words.push(String::from_str(alloc, word)?)?;
+/// The status, and the line on standard error.
+pub fn said(alloc: Global, key: &str) -> Result<String, AllocError> {
+    let Output { status, out, err } = printed(alloc, &bracket_words(alloc, key)?)?;
+    match err.as_str().strip_suffix('\n') {
+        Some(line) if out.is_empty() => format!(in alloc; "{status} {line}"),
+        _ => differ(alloc, "command"),
     }
-    Ok(words)
 }
 
-/// The status, and what is written on standard error.
-pub fn said(alloc: Global, key: &str) -> Result<String, AllocError> {
-    let Output { status, out, err } = printed(alloc, &words(alloc, key)?)?;
-    if !out.is_empty() {
-        return differ(alloc, "command");
+/// No row writes more bytes.
+const MOST_BYTES: usize = 100;
+
+/// How many bytes the writers have to take, and the status then; with less room one write fails, and the status is 3.
+pub fn closed(alloc: Global, key: &str) -> Result<String, AllocError> {
+    let words = bracket_words(alloc, key)?;
+    for room in 0..MOST_BYTES {
+        let mut out = Closing::new(room);
+        let mut err = Closing::new(room);
+        let status = command(alloc, &words, &mut out, &mut err);
+        match out.failures().saturating_add(err.failures()) {
+            0 => return format!(in alloc; "{room} {status}"),
+            1 if status == 3 => {}
+            _ => return differ(alloc, "a write that fails"),
+        }
     }
-    format!(in alloc; "{status} {err}")
+    differ(alloc, "more bytes")
 }

@@ -1,7 +1,6 @@
 //! Searches by each call that makes one.
 
 use crate::comparison::{answers_as_meant, equal};
-use crate::rows::{differ, with_line_ends, written_out};
 use fancy_regex_engine::analyze::AnalyzeContext;
 use fancy_regex_engine::arguments::{Arguments, read_arguments};
 use fancy_regex_engine::command::command;
@@ -10,18 +9,8 @@ use fancy_regex_engine::error::Error;
 use fancy_regex_engine::expr::{ExprTree, is_well_formed, read_tree};
 use fancy_regex_engine::search::{Compiled, options_fit, search};
 use fancy_regex_engine::vm::{Prog, RunOptions, Scratch, run, run_default, run_spans};
+use fancy_tables::columns::{differ, search_words, written_out};
 use std::alloc::{AllocError, Global};
-
-/// TREE, TEXT, and these words.
-fn words(alloc: Global, tree: &str, text: &str, after: &str) -> Result<Vec<String>, AllocError> {
-    let mut words = Vec::new(alloc);
-    words.push(String::from_str(alloc, tree)?)?;
-    words.push(String::from_str(alloc, text)?)?;
-    for word in after.split_whitespace() {
-        words.push(String::from_str(alloc, word)?)?;
-    }
-    Ok(words)
-}
 
 /// The program of a tree.
 pub fn compiled(
@@ -64,20 +53,17 @@ fn differing_run(
     prog: &Prog,
     text: &str,
     arguments: &Arguments,
+    scratch: &mut Scratch,
 ) -> Option<&'static str> {
     let options = arguments.running();
     if !options.fits(prog, text) {
         return Some("fits");
     }
-    let mut scratch = Scratch::new(alloc);
-    let whole = run(alloc, prog, text, &options, &mut scratch);
-    if !agree(
-        &whole,
-        &run_spans(alloc, prog, text, &options, &mut scratch),
-    ) {
+    let whole = run(alloc, prog, text, &options, scratch);
+    if !agree(&whole, &run_spans(alloc, prog, text, &options, scratch)) {
         return Some("run_spans");
     }
-    if !equal(&whole, &run(alloc, prog, text, &options, &mut scratch)) {
+    if !equal(&whole, &run(alloc, prog, text, &options, scratch)) {
         return Some("run");
     }
     if !default_agrees(alloc, prog, text, arguments, &whole) {
@@ -111,14 +97,14 @@ fn search_agrees(
     prog: &Prog,
     text: &str,
     arguments: &Arguments,
+    scratch: &mut Scratch,
 ) -> bool {
     let options = arguments.options();
     if !is_well_formed(tree) || !options.fits(text) || !options.run.fits(prog, text) {
         return false;
     }
-    let mut scratch = Scratch::new(alloc);
-    let found = search(alloc, tree, text, &options, &mut scratch);
-    equal(&found, &run(alloc, prog, text, &options.run, &mut scratch))
+    let found = search(alloc, tree, text, &options, scratch);
+    equal(&found, &run(alloc, prog, text, &options.run, scratch))
 }
 
 /// Of the calls that search for the tree, one that answers otherwise than the run; none where the tree is refused.
@@ -127,14 +113,15 @@ fn differing_call(
     tree: &ExprTree,
     text: &str,
     arguments: &Arguments,
+    scratch: &mut Scratch,
 ) -> Option<&'static str> {
     let Ok(prog) = compiled(alloc, tree, arguments.analysis(), arguments.compilation()) else {
         return None;
     };
-    if let Some(call) = differing_run(alloc, &prog, text, arguments) {
+    if let Some(call) = differing_run(alloc, &prog, text, arguments, scratch) {
         return Some(call);
     }
-    if !search_agrees(alloc, tree, &prog, text, arguments) {
+    if !search_agrees(alloc, tree, &prog, text, arguments, scratch) {
         return Some("search");
     }
     if !answers_as_meant(alloc, tree, &prog, text, arguments) {
@@ -144,7 +131,7 @@ fn differing_call(
 }
 
 /// Of the calls that search as the words ask, one that answers otherwise.
-fn differing(alloc: Global, words: &[String]) -> Option<&'static str> {
+fn differing(alloc: Global, words: &[String], scratch: &mut Scratch) -> Option<&'static str> {
     let (tree, rest) = words.split_first()?;
     let (text, after) = rest.split_first()?;
     let Some(arguments) = read_arguments(after) else {
@@ -153,7 +140,7 @@ fn differing(alloc: Global, words: &[String]) -> Option<&'static str> {
     let Ok(tree) = read_tree(alloc, tree.as_str()) else {
         return None;
     };
-    differing_call(alloc, &tree, text.as_str(), &arguments)
+    differing_call(alloc, &tree, text.as_str(), &arguments, scratch)
 }
 
 /// What the program writes, and its status.
@@ -193,35 +180,24 @@ fn wanted_status(line: &str) -> u8 {
 /// The line that is printed, with the status that goes with it.
 fn line(alloc: Global, words: &[String]) -> Result<String, AllocError> {
     let Output { status, out, err } = printed(alloc, words)?;
-    if !err.is_empty() || status != wanted_status(out.as_str()) {
-        return differ(alloc, "command");
+    match out.as_str().strip_suffix('\n') {
+        Some(line) if err.is_empty() && status == wanted_status(line) => {
+            String::from_str(alloc, line)
+        }
+        _ => differ(alloc, "command"),
     }
-    Ok(out)
 }
 
-/// TREE, TEXT and the words of a row.
-fn columns(alloc: Global, key: &str) -> Result<Vec<String>, AllocError> {
-    let mut columns = key.split(" | ");
-    let tree = written_out(alloc, columns.next().unwrap_or(""))?;
-    let text = written_out(alloc, columns.next().unwrap_or(""))?;
-    let text = with_line_ends(alloc, text.as_str())?;
-    words(
-        alloc,
-        tree.as_str(),
-        text.as_str(),
-        columns.next().unwrap_or(""),
-    )
-}
-
-/// The line that is printed.
+/// The line that is printed; `<9*a>` is nine letters a.
 pub fn answered(alloc: Global, key: &str) -> Result<String, AllocError> {
-    line(alloc, &columns(alloc, key)?)
+    let key = written_out(alloc, key)?;
+    line(alloc, &search_words(alloc, key.as_str())?)
 }
 
 /// The line that is printed, where the calls that make the search agree.
-pub fn compared(alloc: Global, key: &str) -> Result<String, AllocError> {
-    let words = columns(alloc, key)?;
-    match differing(alloc, &words) {
+pub fn compared(alloc: Global, key: &str, scratch: &mut Scratch) -> Result<String, AllocError> {
+    let words = search_words(alloc, key)?;
+    match differing(alloc, &words, scratch) {
         Some(call) => differ(alloc, call),
         None => line(alloc, &words),
     }

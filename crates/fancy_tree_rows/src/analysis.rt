@@ -1,10 +1,10 @@
 //! What the analysis says of a tree.
 
-use crate::rows::{line_of, tree_and_letter};
-use fancy_notation::notation::read_tree;
+use crate::rows::line_of;
+use fancy_tables::columns::split;
 use fancy_tree::analyze::{AnalyzeContext, Info, analyze, can_compile_as_anchored};
 use fancy_tree::error::Error;
-use fancy_tree::expr::is_well_formed;
+use fancy_tree::expr::{Expr, ExprTree, is_well_formed, read_tree};
 use std::alloc::{AllocError, Global};
 
 /// `E` where group 0 is the tree's own, `N` where empty matches may be refused, `T` where those at the text's end may be.
@@ -16,20 +16,24 @@ fn context(letter: &str) -> AnalyzeContext {
     }
 }
 
-fn try_refusal(alloc: Global, key: &str) -> Result<String, Error> {
-    let (tree, letter) = tree_and_letter(key);
-    let tree = read_tree(alloc, tree)?;
-    if !is_well_formed(&tree) {
+/// How the analysis refuses the tree.
+pub fn refusal_of(alloc: Global, tree: &ExprTree, letter: &str) -> Result<String, Error> {
+    if !is_well_formed(tree) {
         return Ok(String::from_str(alloc, "not well formed")?);
     }
-    match analyze(alloc, &tree, context(letter)) {
+    match analyze(alloc, tree, context(letter)) {
         Ok(_) => Ok(String::from_str(alloc, "None")?),
         Err(Error::CompileError(error)) => Ok(format!(in alloc; "Some({error:?})")?),
         Err(error) => Err(error),
     }
 }
 
-/// How the analysis refuses the tree.
+fn try_refusal(alloc: Global, key: &str) -> Result<String, Error> {
+    let (tree, letter) = split(key);
+    refusal_of(alloc, &read_tree(alloc, tree)?, letter)
+}
+
+/// How the analysis refuses the tree that is spelled.
 pub fn refusal(alloc: Global, key: &str) -> Result<String, AllocError> {
     line_of(alloc, try_refusal(alloc, key))
 }
@@ -67,7 +71,7 @@ fn push_facts(line: &mut String, info: &Info<'_>) -> Result<(), AllocError> {
 }
 
 fn try_nodes(alloc: Global, key: &str) -> Result<String, Error> {
-    let (tree, letter) = tree_and_letter(key);
+    let (tree, letter) = split(key);
     let tree = read_tree(alloc, tree)?;
     let info = analyze(alloc, &tree, context(letter))?;
     let mut line = String::new(alloc);
@@ -93,4 +97,23 @@ fn try_anchor(alloc: Global, key: &str) -> Result<String, Error> {
 /// Whether the tree begins with an anchor.
 pub fn anchor(alloc: Global, key: &str) -> Result<String, AllocError> {
     line_of(alloc, try_anchor(alloc, key))
+}
+
+fn try_kept(alloc: Global, key: &str) -> Result<String, Error> {
+    let (tree, letter) = split(key);
+    let tree = read_tree(alloc, tree)?;
+    let info = analyze(alloc, &tree, context(letter))?;
+    let explicit = info.explicit_capture_group_0();
+    let (not_empty, end_text) = (info.find_not_empty(), info.end_text_option());
+    let kind = if matches!(info.expr(), Expr::Concat(_)) {
+        "cat"
+    } else {
+        "-"
+    };
+    Ok(format!(in alloc; "{explicit} {not_empty} {end_text} {kind}")?)
+}
+
+/// The options that an analysis keeps, and whether its expression is a concatenation.
+pub fn kept(alloc: Global, key: &str) -> Result<String, AllocError> {
+    line_of(alloc, try_kept(alloc, key))
 }

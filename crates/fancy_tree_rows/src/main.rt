@@ -1,73 +1,45 @@
-//! Tables of rows of trees, their notation and their analysis: prints each row's key and, in the place of its last column, which is not
-//! read, what comes out for that key.
+//! Tables of rows of trees, their notation, their analysis, and characters and places.
 #![tactic(auto)]
 
 mod analysis;
+mod changes;
+mod characters;
 mod notation;
 mod rows;
 
-use crate::rows::key_of;
+use fancy_tables::tables::{Table, print_table};
 use std::alloc::{AllocError, Global};
-use std::rt::Files;
-use std::{fs, io};
+use std::io;
 
-/// A file of rows.
-#[derive(Clone, Copy, Drop)]
-enum Table {
-    Notation,
-    Numbers,
-    Refusals,
-    Sizes,
-    Nodes,
-    Anchors,
+/// The functions of the analysis and of its parts.
+#[derive(Drop)]
+struct Trees;
+
+impl Table for Trees {
+    fn outcome(&mut self, alloc: Global, table: &str, key: &str) -> Result<String, AllocError> {
+        match table {
+            "notation" => notation::what_is_read(alloc, key),
+            "numbers" => notation::numbers(alloc, key),
+            "refusals" => analysis::refusal(alloc, key),
+            "sizes" => analysis::size(alloc, key),
+            "nodes" => analysis::nodes(alloc, key),
+            "anchors" => analysis::anchor(alloc, key),
+            "options" => analysis::kept(alloc, key),
+            "changes" => changes::refusal(alloc, key),
+            _ => characters::outcome(alloc, table, key),
+        }
+    }
 }
 
-const TABLES: [(&str, Table); 6] = [
-    ("notation", Table::Notation),
-    ("numbers", Table::Numbers),
-    ("refusals", Table::Refusals),
-    ("sizes", Table::Sizes),
-    ("nodes", Table::Nodes),
-    ("anchors", Table::Anchors),
+const TABLES: [&str; 14] = [
+    "notation", "numbers", "refusals", "sizes", "nodes", "anchors", "options", "changes",
+    "classes", "newlines", "folds", "literals", "pieces", "places",
 ];
 
-/// What comes out for the key of a row.
-fn outcome(alloc: Global, table: Table, key: &str) -> Result<String, AllocError> {
-    match table {
-        Table::Notation => notation::what_is_read(alloc, key),
-        Table::Numbers => notation::numbers(alloc, key),
-        Table::Refusals => analysis::refusal(alloc, key),
-        Table::Sizes => analysis::size(alloc, key),
-        Table::Nodes => analysis::nodes(alloc, key),
-        Table::Anchors => analysis::anchor(alloc, key),
-    }
-}
-
-/// Comments, which begin with `#`, are printed as they stand.
-fn print_row(rt: &(impl Print + AllocGlobal), table: Table, row: &str) -> io::Result<()> {
-    if row.starts_with('#') {
-        return println!(rt; "{row}");
-    }
-    let key = key_of(row);
-    let line = outcome(rt.alloc(), table, key)?;
-    println!(rt; "{key} | {line}")
-}
-
-fn print_table(
-    rt: &(impl Files + Print + AllocGlobal),
-    name: &str,
-    table: Table,
-) -> io::Result<()> {
-    let rows = fs::read_to_string(rt, name)?;
-    for row in rows.lines() {
-        print_row(rt, table, row)?;
-    }
-    Ok(())
-}
-
 fn main(rt: HostRuntime) -> io::Result<()> {
-    for (name, table) in TABLES {
-        print_table(&rt, name, table)?;
+    let mut trees = Trees;
+    for table in TABLES {
+        print_table(&rt, &mut trees, table)?;
     }
     Ok(())
 }

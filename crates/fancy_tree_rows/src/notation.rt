@@ -1,9 +1,9 @@
 //! What is read of a text.
 
 use crate::rows::line_of;
-use fancy_notation::notation::read_tree;
+use fancy_tables::columns::written_out;
 use fancy_tree::error::Error;
-use fancy_tree::expr::{ExprTree, is_well_formed};
+use fancy_tree::expr::{ExprTree, is_well_formed, read_tree};
 use std::alloc::{AllocError, Global};
 
 /// The tree, or the byte of the fault.
@@ -13,26 +13,6 @@ pub fn what_is_read(alloc: Global, text: &str) -> Result<String, AllocError> {
         Err(Error::TreeFault { at }) => format!(in alloc; "{at}"),
         Err(error) => format!(in alloc; "{error:?}"),
     }
-}
-
-/// `9*a` is nine letters a.
-fn push_run(text: &mut String, run: &str) -> Result<(), AllocError> {
-    let (count, letters) = run.split_once('*').unwrap_or(("0", ""));
-    for _ in 0..count.parse::<usize>().unwrap_or(0) {
-        text.push_str(letters)?;
-    }
-    Ok(())
-}
-
-/// The column, in which `<9*a>` is nine letters a.
-fn written_out(alloc: Global, column: &str) -> Result<String, AllocError> {
-    let mut text = String::new(alloc);
-    for piece in column.split('>') {
-        let (plain, run) = piece.split_once('<').unwrap_or((piece, ""));
-        text.push_str(plain)?;
-        push_run(&mut text, run)?;
-    }
-    Ok(text)
 }
 
 /// The tree has no names, and may be handed in.

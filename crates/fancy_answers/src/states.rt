@@ -1,0 +1,174 @@
+//! States, by calls in turn and beside a state that copies.
+
+ghost use Rattle.std.specs.Prelude.{◌≡◌, length};
+
+use fancy_regex_engine::error::Error;
+use fancy_regex_engine::vm::State;
+use fancy_tables::columns::{number, split};
+use fancy_tables::copying::{
+    Answer, Call, Copying, call_by_chance, call_of, equal, next_seed, push_answer,
+};
+use std::alloc::{AllocError, Global};
+
+/// A state of more slots is not set beside one that copies them.
+const MOST_SLOTS: usize = 16;
+
+/// A state of so many slots, whose calls do nothing where they may not be made.
+#[derive(Drop)]
+struct Tried {
+    state: State,
+    slots: usize,
+    ghost wide: { length state.slots ≡ slots },
+}
+
+impl Tried {
+    fn new(alloc: Global, slots: usize) -> Result<Tried, Error> {
+        let state = State::new(alloc, slots, 1_000_000)?;
+        Ok(Tried { state, slots })
+    }
+
+    fn save(&mut self, slot: usize, value: usize) -> Result<(), Error> {
+        if slot < self.slots {
+            self.state.save(slot, value)?;
+        }
+        Ok(())
+    }
+
+    fn get(&self, slot: usize) -> usize {
+        if slot < self.slots {
+            self.state.get(slot)
+        } else {
+            0
+        }
+    }
+
+    fn pop(&mut self) -> Answer {
+        if self.state.backtrack_count() == 0 {
+            return Answer::Nothing;
+        }
+        let (pc, ix) = self.state.pop();
+        Answer::Two(pc, ix)
+    }
+
+    fn stack_pop(&mut self) -> Result<Answer, Error> {
+        if !self.state.has_entry() {
+            return Ok(Answer::Nothing);
+        }
+        Ok(Answer::One(self.state.stack_pop()?))
+    }
+
+    fn cut(&mut self, count: usize) {
+        if count <= self.state.backtrack_count() {
+            self.state.backtrack_cut(count);
+        }
+    }
+
+    fn make(&mut self, call: Call) -> Result<Answer, Error> {
+        match call {
+            Call::Save(slot, value) => self.save(slot, value)?,
+            Call::Push(pc, ix) => self.state.push(pc, ix)?,
+            Call::Pop => return Ok(self.pop()),
+            Call::StackPush(value) => self.state.stack_push(value)?,
+            Call::StackPop => return self.stack_pop(),
+            Call::Cut(count) => self.cut(count),
+            Call::Get(slot) => return Ok(Answer::One(self.get(slot))),
+            Call::Count => return Ok(Answer::One(self.state.backtrack_count())),
+        }
+        Ok(Answer::Done)
+    }
+
+    /// So many branches, with a slot written after each.
+    fn fill(&mut self, count: usize) -> Result<(), Error> {
+        for place in 0..count {
+            self.state.push(place, place)?;
+            self.save(place.checked_rem(self.slots).unwrap_or(0), place)?;
+        }
+        Ok(())
+    }
+}
+
+/// What each call answers.
+fn try_called(alloc: Global, slots: usize, words: &str) -> Result<String, Error> {
+    let mut state = Tried::new(alloc, slots)?;
+    let mut copying = Copying::new(alloc, slots.min(MOST_SLOTS))?;
+    let mut line = String::from_str(alloc, "answers")?;
+    for word in words.split_whitespace() {
+        if let Some(count) = word.strip_prefix("fill:") {
+            state.fill(number(count))?;
+            continue;
+        }
+        match state.make(call_of(word)) {
+            Ok(answer) => push_answer(&mut line, answer)?,
+            Err(error) => write!(line, " {error:?}")?,
+        }
+    }
+    if slots <= MOST_SLOTS && !agree_on(&mut copying, alloc, slots, words)? {
+        line.push_str(" DIFFER")?;
+    }
+    Ok(line)
+}
+
+/// The calls answer as with copies.
+fn agree_on(
+    copying: &mut Copying,
+    alloc: Global,
+    slots: usize,
+    words: &str,
+) -> Result<bool, Error> {
+    let mut state = Tried::new(alloc, slots)?;
+    for word in words.split_whitespace() {
+        if !equal(state.make(call_of(word))?, copying.make(call_of(word))?) {
+            return Ok(false);
+        }
+    }
+    Ok(true)
+}
+
+fn line_of(alloc: Global, line: Result<String, Error>) -> Result<String, AllocError> {
+    match line {
+        Ok(line) => Ok(line),
+        Err(error) => format!(in alloc; "{error:?}"),
+    }
+}
+
+/// What each call answers, which is what a state that copies answers too.
+pub fn called(alloc: Global, key: &str) -> Result<String, AllocError> {
+    let (slots, words) = split(key);
+    line_of(alloc, try_called(alloc, number(slots), words))
+}
+
+/// After the call both have as many branches, and the four slots hold the same.
+fn same(state: &mut Tried, copying: &mut Copying, call: Call) -> Result<bool, Error> {
+    for call in [
+        call,
+        Call::Count,
+        Call::Get(0),
+        Call::Get(1),
+        Call::Get(2),
+        Call::Get(3),
+    ] {
+        if !equal(state.make(call)?, copying.make(call)?) {
+            return Ok(false);
+        }
+    }
+    Ok(true)
+}
+
+fn try_by_chance(alloc: Global, count: usize) -> Result<String, Error> {
+    let mut state = Tried::new(alloc, 4)?;
+    let mut copying = Copying::new(alloc, 4)?;
+    let mut seed = 7_u64;
+    for number in 0..count {
+        seed = next_seed(seed);
+        let call = call_by_chance((seed >> 40) as usize);
+        if !same(&mut state, &mut copying, call)? {
+            return Ok(format!(in alloc; "DIFFER: call {number}")?);
+        }
+    }
+    Ok(String::from_str(alloc, "agree")?)
+}
+
+/// So many calls, chosen by chance, answer as with copies.
+pub fn by_chance(alloc: Global, key: &str) -> Result<String, AllocError> {
+    line_of(alloc, try_by_chance(alloc, number(key)))
+}

@@ -1,0 +1,7 @@
+//! What the programs that read tables of rows share: the columns of a row, the print of a table, a writer that fails, a state that copies.
+#![tactic(auto)]
+
+pub mod closing;
+pub mod columns;
+pub mod copying;
+pub mod tables;
