@@ -11,12 +11,12 @@ ghost use Rattle.fancy_vm.specs.Programs.{default_at, options_of as run_options_
 ghost use Rattle.fancy_search.specs.Searches.{IsCompiledFrom, IsRefusedAs, Promises, input_of, program, search_fits};
 ghost use Rattle.fancy_search.specs.Searches as searches;
 
+use fancy_analysis::analyze::{AnalyzeContext, analyze};
 use fancy_characters::places::is_place;
 use fancy_compile::compile::{CompileOptions, compile};
-use fancy_vm::vm::{Prog, RunOptions, Scratch, run};
-use fancy_analysis::analyze::{AnalyzeContext, analyze};
 use fancy_expr::error::Error;
 use fancy_expr::expr::ExprTree;
+use fancy_vm::vm::{Prog, RunOptions, Scratch, run};
 use std::alloc::Global;
 
 /// The options of the three stages of a search.
@@ -57,8 +57,11 @@ impl Default for SearchOptions {
     fn default() -> SearchOptions
         ensures fits { (text : List ℕ) → IsUtf8 text → IsTrue (search_fits result text) }
         ensures analysis { analysis_options_of result.analysis
-            ≡ record { explicit_capture_group_0 = false; find_not_empty = false;
-                end_text = false } }
+            ≡ record {
+              explicit_capture_group_0 = false;
+              find_not_empty = false;
+              end_text = false;
+            } }
         ensures compilation { compile_options_of result.compilation
             ≡ record {
               anchored = false;
