@@ -19,7 +19,8 @@ use Rattle.fancy_expr.specs.declared.error.Error.{Error}
 use Rattle.fancy_expr.specs.declared.error.Error.TheVariants as error
 use Rattle.fancy_compile.specs.Kinds.{is_out_of_range}
 use Rattle.fancy_compile.specs.Faults as faults
-use Rattle.fancy_compile.specs.Faults.{MayReject, rejected, error_of, IsBelow, itself, below, through, Rejects, refused, out_of_range, IsCompilable}
+use Rattle.fancy_expr.specs.Errors.{error_of}
+use Rattle.fancy_compile.specs.Faults.{MayReject, rejected, IsBelow, itself, below, through, Rejects, refused, out_of_range, IsCompilable}
 use Rattle.fancy_compile.specs.Drafts.{Draft, IsOver, Extends, Breaks, Turns, Writes, no_node}
 use Rattle.fancy_compile.specs.Compiled.{refuses, too_big, Refuses, MayAnswer, Compiles}
 

@@ -19,7 +19,7 @@ use Rattle.fancy_compile.specs.declared.options.BytesMode.TheVariants as code
 use Rattle.fancy_compile.specs.declared.options.CompileOptions.{CompileOptions}
 use Rattle.fancy_compile.specs.Drafts.{Draft, Writes, no_node}
 use Rattle.fancy_compile.specs.Sites.{top}
-use Rattle.fancy_compile.specs.Faults.{error_of}
+use Rattle.fancy_expr.specs.Errors.{error_of}
 
 abbrev pub mode_of : BytesMode → plain.BytesMode
 mode_of code.Ascii = plain.Ascii

@@ -10,7 +10,8 @@ use Rattle.fancy_vm.specs.Insns.{insn_of}
 use Rattle.fancy_expr.specs.declared.error.Error.{Error}
 use Rattle.fancy_expr.specs.declared.error.Error.TheVariants as error
 use Rattle.fancy_compile.specs.declared.compiler.Compiler.{Compiler}
-use Rattle.fancy_compile.specs.Faults.{error_of, AreCompilable, HasRejected}
+use Rattle.fancy_expr.specs.Errors.{error_of}
+use Rattle.fancy_compile.specs.Faults.{AreCompilable, HasRejected}
 
 -- the program so far
 pub record Draft : Type 0 where

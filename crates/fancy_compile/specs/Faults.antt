@@ -1,28 +1,12 @@
 -- With which errors nodes that are written out are refused.
-use Rattle.std.specs.Prelude.{◌≡◌, ℕ, Bool, ◌<◌, ◌⊎◌, List, [], ◌∷◌, Some, IsTrue, string_bytes}
+use Rattle.std.specs.Prelude.{◌≡◌, ℕ, Bool, ◌<◌, ◌⊎◌, List, [], ◌∷◌, Some, IsTrue}
 use Rattle.fancy_meaning.specs.Tree.{Tree, Delegate, SubroutineCall}
 use Rattle.fancy_meaning.specs.Nodes.{target}
 use Rattle.fancy_meaning.specs.OpenCalls.{Depths, opened, call_depth}
 use Rattle.fancy_compile.specs.Sites.{Site}
 use Rattle.fancy_meaning.specs.AnalysisRefusals as plain
 use Rattle.fancy_meaning.specs.CompileRefusals.{IsAmong, written_parts, RefusesNode}
-use Rattle.fancy_expr.specs.declared.error.CompileError.{CompileError}
-use Rattle.fancy_expr.specs.declared.error.CompileError.TheVariants as code
 use Rattle.fancy_compile.specs.Kinds.{is_out_of_range}
-
--- what an error stands for
-abbrev pub error_of : CompileError → plain.CompileError
-error_of code.NamedBackrefOnly = plain.NamedBackrefOnly
-error_of code.FeatureNotYetSupported = plain.FeatureNotYetSupported
-error_of code.SubroutineCallTargetNotFound = plain.SubroutineCallTargetNotFound
-error_of code.UnresolvedAstNode = plain.UnresolvedAstNode
-error_of (code.InvalidBackref g) = plain.InvalidBackref g
-error_of (code.LeftRecursiveSubroutineCall text) = plain.LeftRecursiveSubroutineCall (string_bytes text)
-error_of code.NeverEndingRecursion = plain.NeverEndingRecursion
-error_of code.VariableLookBehindRequiresFeature = plain.VariableLookBehindRequiresFeature
-error_of (code.InnerError text) = plain.InnerError (string_bytes text)
-error_of (code.ClassTooBig text) = plain.ClassTooBig (string_bytes text)
-error_of code.PatternTooComplex = plain.PatternTooComplex
 
 -- the node is written out with the other, where these calls are calls
 pub data IsBelow (whole : Tree) : Depths → Tree → Tree → Type 0 where

@@ -26,7 +26,8 @@ impl Compiler {
     ghost use Rattle.fancy_meaning.specs.Code.{Laid, one};
     ghost use Rattle.fancy_meaning.specs.Tree.{Tree};
     ghost use Rattle.fancy_compile.specs.Sites.{Site};
-    ghost use Rattle.fancy_compile.specs.Faults.{HasRejected, error_of};
+    ghost use Rattle.fancy_expr.specs.Errors.{error_of};
+    ghost use Rattle.fancy_compile.specs.Faults.{HasRejected};
     ghost use Rattle.fancy_compile.specs.Drafts.{Adds, Breaks, IsOver, Writes, draft_of, one_over_slot, with_patch};
 
     /// One more instruction would be too many.

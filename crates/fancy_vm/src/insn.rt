@@ -2,13 +2,12 @@
 
 ghost use Rattle.std.specs.Prelude.{◌≡◌, List, ◌+◌, ◌-◌, ◌*◌, if◌then◌else◌, min, slice_get, IsTrue, map, length, nat_lt};
 ghost use Rattle.std.specs.List.{list_all};
-ghost use Rattle.fancy_meaning.specs.Assertions.{is_of_end};
-ghost use Rattle.fancy_expr.specs.Views.{assertion_of};
 ghost use Rattle.fancy_meaning.specs.Fits.{answer_fits, flag_fits, instr_fits, is_end_instr, program_fits, slots_fit, targets_fit};
 ghost use Rattle.fancy_vm.specs.declared.insn.Insn.{Insn};
 ghost use Rattle.fancy_vm.specs.Insns.{insn_of, prog_with};
 
 use fancy_characters::classes::{CaseiLiteral, CharClassMatcher};
+use fancy_characters::look::is_of_end;
 use fancy_expr::expr::Assertion;
 use std::rc::Rc;
 
@@ -201,17 +200,6 @@ fn is_pair(group: usize, slots: usize) -> bool
     ensures { result ≡ nat_lt (2 * group + 1) slots }
 {
     group < slots / 2
-}
-
-/// The assertion speaks of the text's end.
-pub(crate) fn is_of_end(assertion: Assertion) -> bool
-    ensures { result ≡ is_of_end (assertion_of assertion) }
-{
-    match assertion {
-        Assertion::EndText => true,
-        Assertion::EndTextIgnoreTrailingNewlines { .. } => true,
-        _ => false,
-    }
 }
 
 impl Insn {
