@@ -6,3 +6,4 @@ pub mod Groups
 pub mod Listed
 pub mod Numbered
 pub mod Starts
+pub mod Texts

@@ -4,3 +4,4 @@ pub mod Questions
 pub mod Sound
 pub mod Walk
 pub mod Each
+pub mod Texts
