@@ -18,3 +18,16 @@ module _ (f : Tree → Bool) (repeater : (x : Tree) → f (plain.AbsentRepeater 
 
   pub absent_fails : (e : Expr) (a : Absent) → e ≡ code.Absent a → false ≡ f (tree_of e)
   absent_fails e a is = sym (ap (λ x. f (tree_of x)) is ∙ fails a)
+
+-- what is the same of all absent nodes
+module _ {X : Type 0} (f : Tree → X) (x : X) (repeater : (y : Tree) → f (plain.AbsentRepeater y) ≡ x)
+    (expression : (y z : Tree) → f (plain.AbsentExpression y z) ≡ x) (stopper : (y : Tree) → f (plain.AbsentStopper y) ≡ x)
+    (clear : f plain.AbsentClear ≡ x) where
+  same : (a : Absent) → f (absent_of a) ≡ x
+  same (code_absent.Repeater' b y) = repeater _
+  same (code_absent.Expression' b y d z) = expression _ _
+  same (code_absent.Stopper' b y) = stopper _
+  same code_absent.Clear = clear
+
+  pub absent_same : (e : Expr) (a : Absent) → e ≡ code.Absent a → x ≡ f (tree_of e)
+  absent_same e a is = sym (ap (λ y. f (tree_of y)) is ∙ same a)

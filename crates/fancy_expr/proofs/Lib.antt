@@ -7,3 +7,4 @@ pub mod Listed
 pub mod Numbered
 pub mod Starts
 pub mod NodeParts
+pub mod Texts

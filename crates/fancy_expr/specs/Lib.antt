@@ -5,3 +5,4 @@ pub mod Sound
 pub mod Walk
 pub mod Each
 pub mod Errors
+pub mod Texts

@@ -6,5 +6,6 @@ pub mod expr;
 pub mod nodes;
 pub mod parts;
 mod sound;
+pub mod text;
 pub mod walk;
 pub mod well_formed;
