@@ -18,6 +18,7 @@ use crate::scope::Scope;
 use fancy_characters::classes::{CaseiLiteral, CharClassMatcher};
 use fancy_expr::error::{CompileError, Error};
 use fancy_expr::expr::{Assertion, BacktrackingControlVerb, Expr};
+use fancy_expr::text::first_char;
 use fancy_vm::vm::Insn;
 use std::alloc::{AllocError, Global};
 use std::rc::Rc;
@@ -32,16 +33,6 @@ fn any_insn(newline: bool, crlf: bool) -> Insn
         Insn::AnyNoCRLF
     } else {
         Insn::AnyNoNL
-    }
-}
-
-/// The character of a literal.
-fn first_char(val: &str) -> char
-    ensures { result ≡ slice_index (chars val.now) 0 }
-{
-    match val.chars().next() {
-        Some(c) => c,
-        None => '\0',
     }
 }
 

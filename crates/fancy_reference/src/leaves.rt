@@ -1,6 +1,6 @@
 //! The ways of nodes without children: characters, assertions, references, `\K` and `\G`.
 
-ghost use Rattle.std.specs.Prelude.{◌≡◌, ◌∷◌, [], ℕ, true, IfOk, IfErr, Option, is_some, string_bytes, chars, slice_index};
+ghost use Rattle.std.specs.Prelude.{◌≡◌, ◌∷◌, [], ℕ, true, IfOk, IfErr, Option, is_some, string_bytes, slice_index};
 ghost use Rattle.fancy_meaning.specs.Assertions.{assertion_within};
 ghost use Rattle.fancy_meaning.specs.MatchState.{Ways, stays_if};
 ghost use Rattle.fancy_meaning.specs.Numbering.{numbered_within};
@@ -20,6 +20,7 @@ use fancy_characters::look::{holds, is_of_end};
 use fancy_characters::places::past_any;
 use fancy_expr::error::Error;
 use fancy_expr::expr::{Assertion, Expr};
+use fancy_expr::text::first_char;
 use fancy_expr::walk::Within;
 use std::alloc::{AllocError, Global};
 
@@ -48,16 +49,6 @@ fn assertion_within(within: Within, assertion: Assertion) -> Assertion
             }
         }
         _ => assertion,
-    }
-}
-
-/// The first character of a text; of the empty one the character with number 0.
-fn first_char(text: &str) -> char
-    ensures { result ≡ slice_index (chars text.now) 0 }
-{
-    match text.chars().next() {
-        Some(c) => c,
-        None => '\0',
     }
 }
 
