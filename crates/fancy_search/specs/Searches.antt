@@ -23,7 +23,7 @@ use Rattle.fancy_vm.specs.declared.insn.Prog.{Prog}
 use Rattle.fancy_vm.specs.Programs.{prog_of}
 use Rattle.fancy_compile.specs.declared.options.CompileOptions.{CompileOptions}
 use Rattle.fancy_compile.specs.Compiled.{compile_options_of}
-use Rattle.fancy_compile.specs.Faults.{error_of}
+use Rattle.fancy_expr.specs.Errors.{error_of}
 use Rattle.fancy_search.specs.declared.search.Compiled.{Compiled}
 use Rattle.fancy_search.specs.declared.search.SearchOptions.{SearchOptions}
 
