@@ -5,15 +5,15 @@ use Rattle.fancy_meaning.specs.Tree as plain
 use Rattle.fancy_meaning.specs.Tree.{Tree, Trees, none, more, trees}
 use Rattle.fancy_meaning.specs.Options.{Analysis}
 use Rattle.fancy_analysis.specs.declared.endings.PartEnds.{PartEnds}
-use Rattle.fancy_analysis.specs.declared.info.Info.{Info}
+use Rattle.fancy_info.specs.declared.info.Info.{Info}
 use Rattle.fancy_expr.specs.declared.expr.Absent.{Absent}
 use Rattle.fancy_expr.specs.declared.expr.Absent.TheVariants as code_absent
 use Rattle.fancy_expr.specs.declared.expr.Expr.{Expr}
 use Rattle.fancy_expr.specs.declared.expr.Expr.TheVariants as code
 use Rattle.fancy_expr.specs.Exprs.{below, below_absent}
-use Rattle.fancy_analysis.specs.Infos.{nth, absent_over, node_over, info_tree, info_children, info_facts, IsAnalysed}
+use Rattle.fancy_info.specs.Infos.{nth, absent_over, node_over, info_tree, info_children, info_facts, IsAnalysed}
 use Rattle.fancy_analysis.specs.Endings.{ends_by, all_end_by, some_end_by, and_then, no_parts, node_ends, is_ended_group, is_own_end, group_ends}
-use Rattle.fancy_analysis.proofs.Unfolded.{tree_out}
+use Rattle.fancy_info.proofs.Unfolded.{tree_out}
 use Rattle.fancy_expr.proofs.Walks.{taken}
 use Rattle.fancy_analysis.proofs.InfoNodes.{any_in_each, any-below, any-taken, has_parts}
 

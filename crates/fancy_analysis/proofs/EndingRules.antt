@@ -12,12 +12,12 @@ use Rattle.fancy_meaning.specs.Nodes.{group_count}
 use Rattle.fancy_meaning.specs.Numbering.{numbered}
 use Rattle.fancy_meaning.specs.Options.{Analysis}
 use Rattle.fancy_meaning.specs.Tree.{NoLook}
-use Rattle.fancy_analysis.specs.declared.info.Info.{Info}
-use Rattle.fancy_analysis.specs.declared.info.Info.TheViews.{out-Info}
+use Rattle.fancy_info.specs.declared.info.Info.{Info}
+use Rattle.fancy_info.specs.declared.info.Info.TheViews.{out-Info}
 use Rattle.fancy_analysis.specs.Endings.{IsWhole, ends_by, all_end_by, some_end_by, is_ended_group, group_ends, set_count}
-use Rattle.fancy_analysis.specs.Infos.{info_tree}
+use Rattle.fancy_info.specs.Infos.{info_tree}
 use Rattle.fancy_analysis.specs.Endings as flag
-use Rattle.fancy_analysis.proofs.GroupNumbers.{numbers}
+use Rattle.fancy_info.proofs.GroupNumbers.{numbers}
 use Rattle.fancy_expr.proofs.Listed.{false_true}
 
 -- ---- tests

@@ -7,12 +7,13 @@ use Rattle.std.proofs.lemmas.List.Folds.{list_any-append}
 use Rattle.fancy_meaning.specs.Tree.{Tree, trees, parts}
 use Rattle.fancy_meaning.specs.Nodes.{nodes, nodes_of_each}
 use Rattle.fancy_meaning.specs.Options.{Analysis}
-use Rattle.fancy_analysis.specs.declared.info.Info.{Info}
+use Rattle.fancy_info.specs.declared.info.Info.{Info}
 use Rattle.fancy_expr.specs.Exprs.{below}
-use Rattle.fancy_analysis.specs.Infos.{info_tree, info_children, info_facts, IsAnalysed, IsFound}
-use Rattle.fancy_analysis.proofs.Unfolded.{tree_out, each_here, each_below}
+use Rattle.fancy_info.specs.Infos.{info_tree, info_children, info_facts, IsAnalysed, IsFound}
+use Rattle.fancy_info.proofs.Unfolded.{tree_out, each_here, each_below}
 use Rattle.fancy_expr.proofs.Walks.{taken}
-use Rattle.fancy_analysis.proofs.GroupSizes.{over-parts, each_at}
+use Rattle.fancy_analysis.proofs.GroupSizes.{each_at}
+use Rattle.fancy_info.proofs.OverParts.{over-parts}
 use Rattle.fancy_expr.proofs.NodeParts.{nodes-parts}
 
 -- how many children a node has

@@ -5,15 +5,15 @@ use Rattle.fancy_meaning.specs.Tree as plain
 use Rattle.fancy_meaning.specs.Tree.{Tree, Trees, none, more, trees, parts, Concat, Alt, Group, LookAround, Repeat, AtomicGroup, DefineGroup, Conditional, AbsentRepeater, AbsentStopper, AbsentExpression}
 use Rattle.fancy_meaning.specs.Options.{Analysis}
 use Rattle.fancy_analysis.specs.declared.late_reads.Met.{Met}
-use Rattle.fancy_analysis.specs.declared.info.Info.{Info}
+use Rattle.fancy_info.specs.declared.info.Info.{Info}
 use Rattle.fancy_expr.specs.declared.expr.Absent.{Absent}
 use Rattle.fancy_expr.specs.declared.expr.Absent.TheVariants as code_absent
 use Rattle.fancy_expr.specs.declared.expr.Expr.{Expr}
 use Rattle.fancy_expr.specs.declared.expr.Expr.TheVariants as code
 use Rattle.fancy_expr.specs.Views.{tree_of, absent_of}
-use Rattle.fancy_analysis.specs.Infos.{absent_over, node_over, info_tree, info_children, info_facts, IsAnalysed}
+use Rattle.fancy_info.specs.Infos.{absent_over, node_over, info_tree, info_children, info_facts, IsAnalysed}
 use Rattle.fancy_analysis.specs.LateReads.{owner_inside, own_inside, owned, owned_in_each, meet, met_over, met_nothing, is_read_late}
-use Rattle.fancy_analysis.proofs.Unfolded.{tree_out}
+use Rattle.fancy_info.proofs.Unfolded.{tree_out}
 use Rattle.fancy_expr.proofs.Walks.{taken}
 use Rattle.fancy_analysis.proofs.InfoNodes.{has_parts, parts-out}
 

@@ -1,8 +1,6 @@
-pub mod Unfolded
 pub mod MadeNodes
 pub mod VisitedParts
 pub mod GroupSizes
-pub mod GroupNumbers
 pub mod RoundSizes
 pub mod ReadNodes
 pub mod NoCalls

@@ -8,7 +8,7 @@ use Rattle.fancy_meaning.specs.Tree as plain
 use Rattle.fancy_meaning.specs.Tree.{Tree, Trees, none, more, trees}
 use Rattle.fancy_meaning.specs.Sizes.{known_of, size}
 use Rattle.fancy_meaning.specs.Spots.{Around, Spot, spot, spots, all_spots, spots_in_turn, spots_of_each, past}
-use Rattle.fancy_analysis.specs.declared.info.Info.{Info}
+use Rattle.fancy_info.specs.declared.info.Info.{Info}
 use Rattle.fancy_analysis.specs.declared.links.Link.{Link}
 use Rattle.fancy_analysis.specs.declared.links.Around as code_around
 use Rattle.fancy_expr.specs.declared.expr.Absent.{Absent}
@@ -16,10 +16,10 @@ use Rattle.fancy_expr.specs.declared.expr.Absent.TheVariants as code_absent
 use Rattle.fancy_expr.specs.declared.expr.Expr.{Expr}
 use Rattle.fancy_expr.specs.declared.expr.Expr.TheVariants as code
 use Rattle.fancy_expr.specs.Exprs.{below, below_absent}
-use Rattle.fancy_analysis.specs.Infos.{nth, absent_over, node_over, info_tree, info_size, info_children, info_facts, tree_over}
+use Rattle.fancy_info.specs.Infos.{nth, absent_over, node_over, info_tree, info_size, info_children, info_facts, tree_over}
 use Rattle.fancy_analysis.specs.Made.{IsSizedNode, IsSized}
 use Rattle.fancy_analysis.specs.Links.{IsAt, around_inside, follows, link_from, link_of, links_at, links_of}
-use Rattle.fancy_analysis.proofs.Unfolded.{tree_out, each_here}
+use Rattle.fancy_info.proofs.Unfolded.{tree_out, each_here}
 
 module _ (whole : Tree) where
   -- the spots of children, from this one on

@@ -7,9 +7,9 @@ use Rattle.fancy_meaning.specs.Options.{Analysis}
 use Rattle.fancy_meaning.specs.Sizes.{Size, Known, plus, either, times, size, size_by, each_size}
 use Rattle.fancy_meaning.specs.Hard.{is_hard, any_hard, is_hard_assertion}
 use Rattle.fancy_analysis.specs.declared.make.VisitTables.{VisitTables}
-use Rattle.fancy_analysis.specs.declared.info.Info.{Info}
-use Rattle.fancy_analysis.specs.declared.info.Info.TheOpen.{Info-F}
-use Rattle.fancy_analysis.specs.declared.info.Info.TheViews.{roll-Info, out-roll-Info}
+use Rattle.fancy_info.specs.declared.info.Info.{Info}
+use Rattle.fancy_info.specs.declared.info.Info.TheOpen.{Info-F}
+use Rattle.fancy_info.specs.declared.info.Info.TheViews.{roll-Info, out-roll-Info}
 use Rattle.fancy_expr.specs.declared.expr.Absent.{Absent}
 use Rattle.fancy_expr.specs.declared.expr.Absent.TheVariants as code_absent
 use Rattle.fancy_expr.specs.declared.expr.Expr.{Expr}
@@ -17,12 +17,12 @@ use Rattle.fancy_expr.specs.declared.expr.Expr.TheVariants as code
 use Rattle.fancy_expr.specs.declared.expr.Assertion.{Assertion}
 use Rattle.fancy_expr.specs.declared.expr.Assertion.TheVariants as code_assertion
 use Rattle.fancy_expr.specs.Views.{assertion_of, bound_of}
-use Rattle.fancy_analysis.specs.Sized.{size_of}
-use Rattle.fancy_analysis.specs.Infos.{analysis_options_of, nth, absent_over, node_over, info_tree, info_size, info_hard, is_read_group, facts, tree_over, IsFound, IsAnalysed}
+use Rattle.fancy_info.specs.Sized.{size_of}
+use Rattle.fancy_info.specs.Infos.{analysis_options_of, nth, absent_over, node_over, info_tree, info_size, info_hard, is_read_group, facts, tree_over, IsFound, IsAnalysed}
 use Rattle.fancy_expr.specs.Each.{Each}
 use Rattle.fancy_expr.specs.Walk.{within_of}
 use Rattle.fancy_analysis.specs.Made.{nth_size, absent_size, size_over, some_true, first_true, is_varying_empty, hard_over, read_flag, tables_known, IsSizedNode, IsSized, IsMadeNode}
-use Rattle.fancy_analysis.proofs.Unfolded.{tree_roll, tree_out, each_made, each_here}
+use Rattle.fancy_info.proofs.Unfolded.{tree_roll, tree_out, each_made, each_here}
 
 -- ---- sizes
 

@@ -5,14 +5,13 @@ use Rattle.fancy_meaning.specs.Tree.{Tree, trees}
 use Rattle.fancy_meaning.specs.Options.{Analysis}
 use Rattle.fancy_meaning.specs.Sizes.{size}
 use Rattle.fancy_meaning.specs.Hard.{is_hard}
-use Rattle.fancy_analysis.specs.declared.info.Info.{Info}
-use Rattle.fancy_analysis.specs.declared.info.Info.TheOpen.{Info-F}
-use Rattle.fancy_analysis.specs.declared.info.Info.TheViews.{out-Info, roll-Info, out-roll-Info}
-use Rattle.fancy_analysis.specs.Infos.{info_tree, info_size, info_hard, info_within, info_children, info_expr, info_facts, facts, tree_over, IsNode, IsFound, IsAnalysed, IsRoot}
+use Rattle.fancy_info.specs.declared.info.Info.{Info}
+use Rattle.fancy_info.specs.declared.info.Info.TheOpen.{Info-F}
+use Rattle.fancy_info.specs.declared.info.Info.TheViews.{out-Info, roll-Info, out-roll-Info}
+use Rattle.fancy_info.specs.Infos.{first_number, info_tree, info_size, info_hard, info_within, info_children, info_expr, info_facts, facts, tree_over, IsNode, IsFound, IsAnalysed, IsRoot}
 use Rattle.fancy_expr.specs.Each.{Each}
 use Rattle.fancy_expr.specs.Walk.{within_of}
-use Rattle.fancy_analysis.specs.Refusals.{first_number}
-use Rattle.fancy_analysis.proofs.Unfolded.{tree_roll, tree_out, each_here, each_below}
+use Rattle.fancy_info.proofs.Unfolded.{tree_roll, tree_out, each_here, each_below}
 
 abbrev hardened : Info → Bool → Info-F Info
 hardened i hard = record (out-Info i) { hard = hard }

@@ -7,7 +7,7 @@ use Rattle.fancy_meaning.specs.Numbering.{numbered_within}
 use Rattle.fancy_meaning.specs.Places.{range_from}
 use Rattle.fancy_meaning.specs.Sizes.{Size, Known, size_by, size_in_round, next_round, after_rounds, known_of, unknown}
 use Rattle.fancy_analysis.specs.Made.{from_0, from_1, past_first}
-use Rattle.fancy_analysis.proofs.GroupNumbers.{numbers}
+use Rattle.fancy_info.proofs.GroupNumbers.{numbers}
 
 -- ---- lists of numbers
 

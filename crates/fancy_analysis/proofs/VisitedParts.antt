@@ -7,15 +7,15 @@ use Rattle.fancy_meaning.specs.Nodes.{group_count}
 use Rattle.fancy_meaning.specs.Numbering.{numbered_within, each_numbered}
 use Rattle.fancy_meaning.specs.Options.{Analysis}
 use Rattle.fancy_analysis.specs.declared.make.VisitTables.{VisitTables}
-use Rattle.fancy_analysis.specs.declared.info.Info.{Info}
-use Rattle.fancy_analysis.specs.declared.info.Info.TheViews.{out-Info}
+use Rattle.fancy_info.specs.declared.info.Info.{Info}
+use Rattle.fancy_info.specs.declared.info.Info.TheViews.{out-Info}
 use Rattle.fancy_expr.specs.declared.expr.Absent.{Absent}
 use Rattle.fancy_expr.specs.declared.expr.Absent.TheVariants as code_absent
 use Rattle.fancy_expr.specs.declared.expr.Expr.{Expr}
 use Rattle.fancy_expr.specs.declared.expr.Expr.TheVariants as code
 use Rattle.fancy_expr.specs.Views.{tree_of, absent_of}
 use Rattle.fancy_expr.specs.Exprs.{below, exprs, exprs_of_each}
-use Rattle.fancy_analysis.specs.Infos.{absent_over, node_over, info_tree, info_expr, info_within, AreInTurn, IsAnalysed}
+use Rattle.fancy_info.specs.Infos.{absent_over, node_over, info_tree, info_expr, info_within, AreInTurn, IsAnalysed}
 use Rattle.fancy_expr.specs.Each.{Each}
 use Rattle.fancy_expr.specs.Walk.{start_inside, within_inside}
 use Rattle.fancy_analysis.specs.Made.{tables_known, IsSized, IsMadeNode, Suits}

@@ -5,12 +5,12 @@ use Rattle.fancy_meaning.specs.Numbering.{numbered, numbered_within}
 use Rattle.fancy_meaning.specs.Options.{AnalysisOptions, analysis_of}
 use Rattle.fancy_meaning.specs.Tree.{NoLook}
 use Rattle.fancy_analysis.specs.declared.make.VisitTables.{VisitTables}
-use Rattle.fancy_analysis.specs.declared.info.Info.{Info}
+use Rattle.fancy_info.specs.declared.info.Info.{Info}
 use Rattle.fancy_expr.specs.declared.expr.Expr.{Expr}
 use Rattle.fancy_expr.specs.Views.{tree_of}
 use Rattle.fancy_analysis.specs.Endings.{IsWhole}
 use Rattle.fancy_analysis.specs.Made.{IsSized, Suits}
-use Rattle.fancy_analysis.specs.Refusals.{first_number}
+use Rattle.fancy_info.specs.Infos.{first_number}
 use Rattle.fancy_analysis.specs.Visited.{IsVisited}
 use Rattle.fancy_expr.proofs.Numbered.{count-numbered}
 

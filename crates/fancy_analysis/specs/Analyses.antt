@@ -6,8 +6,8 @@ use Rattle.fancy_expr.specs.declared.error.Error.{Error}
 use Rattle.fancy_expr.specs.declared.error.Error.TheVariants as code
 use Rattle.fancy_expr.specs.declared.expr.ExprTree.{ExprTree}
 use Rattle.fancy_expr.specs.Views.{parsed_of, tree_of}
-use Rattle.fancy_analysis.specs.declared.info.Info.{Info}
-use Rattle.fancy_analysis.specs.Infos.{info_expr, IsRoot}
+use Rattle.fancy_info.specs.declared.info.Info.{Info}
+use Rattle.fancy_info.specs.Infos.{info_expr, IsRoot}
 use Rattle.fancy_analysis.specs.Refusals.{IsAnalysable}
 use Rattle.fancy_expr.specs.Errors.{error_of}
 

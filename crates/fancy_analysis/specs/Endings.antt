@@ -7,12 +7,12 @@ use Rattle.fancy_meaning.specs.Nodes.{nodes, group_count}
 use Rattle.fancy_meaning.specs.Numbering.{numbered}
 use Rattle.fancy_meaning.specs.Options.{Analysis}
 use Rattle.fancy_analysis.specs.declared.endings.PartEnds.{PartEnds}
-use Rattle.fancy_analysis.specs.declared.info.Info.{Info}
-use Rattle.fancy_analysis.specs.declared.info.Info.TheViews.{out-Info}
+use Rattle.fancy_info.specs.declared.info.Info.{Info}
+use Rattle.fancy_info.specs.declared.info.Info.TheViews.{out-Info}
 use Rattle.fancy_expr.specs.declared.expr.Expr.{Expr}
 use Rattle.fancy_expr.specs.declared.expr.Expr.TheVariants as code
 use Rattle.fancy_meaning.specs.Sizes.{known_of}
-use Rattle.fancy_analysis.specs.Infos.{info_tree, IsAnalysed}
+use Rattle.fancy_info.specs.Infos.{info_tree, IsAnalysed}
 use Rattle.fancy_analysis.specs.Made.{IsSized}
 
 -- the tree of an analysis, as the walk leaves it

@@ -1,5 +1,3 @@
-pub mod Sized
-pub mod Infos
 pub mod Made
 pub mod Visited
 pub mod Reads

@@ -8,16 +8,16 @@ use Rattle.fancy_meaning.specs.Sizes.{Size, Known, exactly, between, plus, eithe
 use Rattle.fancy_meaning.specs.Numbers.{usize_max}
 use Rattle.fancy_meaning.specs.Hard.{is_hard_assertion}
 use Rattle.fancy_analysis.specs.declared.make.VisitTables.{VisitTables}
-use Rattle.fancy_analysis.specs.declared.info.Info.{Info}
-use Rattle.fancy_analysis.specs.declared.info.Info.TheViews.{out-Info}
+use Rattle.fancy_info.specs.declared.info.Info.{Info}
+use Rattle.fancy_info.specs.declared.info.Info.TheViews.{out-Info}
 use Rattle.fancy_expr.specs.declared.expr.Absent.{Absent}
 use Rattle.fancy_expr.specs.declared.expr.Absent.TheVariants as code_absent
 use Rattle.fancy_expr.specs.declared.expr.Expr.{Expr}
 use Rattle.fancy_expr.specs.declared.expr.Expr.TheVariants as code
 use Rattle.fancy_expr.specs.Views.{assertion_of, bound_of}
 use Rattle.fancy_expr.specs.Exprs.{below}
-use Rattle.fancy_analysis.specs.Sized.{size_of}
-use Rattle.fancy_analysis.specs.Infos.{analysis_options_of, node_over, info_tree, info_expr, info_within, EachNode, Facts, tree_over, AreInTurn, IsAnalysed}
+use Rattle.fancy_info.specs.Sized.{size_of}
+use Rattle.fancy_info.specs.Infos.{analysis_options_of, node_over, info_tree, info_expr, info_within, EachNode, Facts, tree_over, AreInTurn, IsAnalysed}
 use Rattle.fancy_expr.specs.Each.{Each}
 use Rattle.fancy_expr.specs.Walk.{start_inside, within_inside}
 

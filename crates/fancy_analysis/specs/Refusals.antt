@@ -8,8 +8,9 @@ use Rattle.fancy_meaning.specs.Nodes.{nodes}
 use Rattle.fancy_expr.specs.Questions.{is_refused}
 use Rattle.fancy_meaning.specs.AnalysisRefusals as plain_errors
 use Rattle.fancy_meaning.specs.AnalysisRefusals.{AnalysisRefuses}
-use Rattle.fancy_analysis.specs.declared.context.AnalyzeContext.{AnalyzeContext}
+use Rattle.fancy_info.specs.declared.context.AnalyzeContext.{AnalyzeContext}
 use Rattle.fancy_expr.specs.declared.expr.ExprTree.{ExprTree}
+use Rattle.fancy_info.specs.Infos.{first_number}
 
 -- the error of a node that is refused
 abbrev pub refusal_of : Tree → plain_errors.CompileError
@@ -18,10 +19,6 @@ refusal_of (plain.BackrefExists g level) = plain_errors.InvalidBackref g
 refusal_of (plain.AstNode plain.UnresolvedCall) = plain_errors.SubroutineCallTargetNotFound
 refusal_of (plain.AstNode plain.UnresolvedOther) = plain_errors.UnresolvedAstNode
 refusal_of e = plain_errors.FeatureNotYetSupported
-
--- the number of the first group
-abbrev pub first_number : AnalysisOptions → ℕ
-first_number options = if options.explicit_capture_group_0 then 0 else 1
 
 -- the number of the last group, and 0 where there is none
 abbrev pub last_number : ParsedTree → AnalysisOptions → ℕ

@@ -5,11 +5,11 @@ use Rattle.fancy_meaning.specs.Nodes.{group_count}
 use Rattle.fancy_meaning.specs.Numbering.{numbered_within}
 use Rattle.fancy_meaning.specs.Options.{Analysis}
 use Rattle.fancy_analysis.specs.declared.make.VisitTables.{VisitTables}
-use Rattle.fancy_analysis.specs.declared.info.Info.{Info}
-use Rattle.fancy_analysis.specs.declared.info.Info.TheViews.{out-Info}
+use Rattle.fancy_info.specs.declared.info.Info.{Info}
+use Rattle.fancy_info.specs.declared.info.Info.TheViews.{out-Info}
 use Rattle.fancy_expr.specs.declared.expr.Expr.{Expr}
 use Rattle.fancy_expr.specs.Views.{tree_of}
-use Rattle.fancy_analysis.specs.Infos.{info_tree, info_expr, info_within, IsAnalysed}
+use Rattle.fancy_info.specs.Infos.{info_tree, info_expr, info_within, IsAnalysed}
 use Rattle.fancy_analysis.specs.Made.{tables_known, IsSized, Suits}
 
 pub record IsVisited (t : VisitTables) (e : Expr) (start : ℕ) (w : plain.Within) (info : Info) : Type 0 where

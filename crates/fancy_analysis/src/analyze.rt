@@ -5,13 +5,10 @@ ghost use Rattle.fancy_meaning.specs.Laws.{can_be_anchored, is_anchor};
 ghost use Rattle.fancy_meaning.specs.Options.{Analysis};
 ghost use Rattle.fancy_meaning.specs.Tree as plain;
 ghost use Rattle.fancy_analysis.specs.Analyses.{IsAnalysisOf, IsRefusedAs};
-ghost use Rattle.fancy_analysis.specs.Infos.{IsAnalysed, IsRoot, info_expr, info_facts, info_hard, info_size, info_tree, info_within, analysis_options_of};
-ghost use Rattle.fancy_analysis.specs.Refusals.{first_number};
+ghost use Rattle.fancy_info.specs.Infos.{IsAnalysed, IsRoot, first_number, info_expr, info_facts, info_hard, info_size, info_tree, info_within, analysis_options_of};
 ghost use Rattle.fancy_expr.specs.Sound.{IsWellFormedTree};
 ghost use Rattle.fancy_expr.specs.Views.{parsed_of, tree_of};
 
-pub use crate::context::AnalyzeContext;
-pub use crate::info::Info;
 use crate::make::VisitTables;
 use crate::reads::read_flags;
 use crate::refusals::{call_refusal, first_group, refusal};
@@ -20,6 +17,8 @@ use crate::visit::visit;
 use fancy_expr::error::Error;
 use fancy_expr::expr::{Assertion, Expr, ExprTree};
 use fancy_expr::walk::Within;
+pub use fancy_info::context::AnalyzeContext;
+pub use fancy_info::info::Info;
 use std::alloc::Global;
 
 /// Whether the root is hard: under the end-of-text option also where it may take nothing.

@@ -18,12 +18,12 @@ ghost use Rattle.std.specs.Prelude.{
 ghost use Rattle.fancy_meaning.specs.Options.{Analysis};
 ghost use Rattle.fancy_meaning.specs.Recursion.{CanEnd};
 ghost use Rattle.fancy_analysis.specs.Endings.{IsWhole, and_then, ends_by, group_ends, is_own_end, no_parts, node_ends, set_count, target_ends};
-ghost use Rattle.fancy_analysis.specs.Infos.{IsAnalysed, info_tree};
-ghost use Rattle.fancy_analysis.specs.declared.info.Info.TheViews.{out-Info};
+ghost use Rattle.fancy_info.specs.Infos.{IsAnalysed, info_tree};
+ghost use Rattle.fancy_info.specs.declared.info.Info.TheViews.{out-Info};
 
-use crate::info::Info;
 use crate::reads::no_flags;
 use fancy_expr::expr::Expr;
+use fancy_info::info::Info;
 use std::alloc::{AllocError, Global};
 
 /// How the parts of a node end.

@@ -5,12 +5,12 @@ ghost use Rattle.std.specs.List.{list_any};
 ghost use Rattle.fancy_meaning.specs.AnalysisRefusals.{ReadsAfterCall};
 ghost use Rattle.fancy_meaning.specs.Nodes.{nodes};
 ghost use Rattle.fancy_meaning.specs.Options.{Analysis};
-ghost use Rattle.fancy_analysis.specs.Infos.{IsAnalysed, info_facts, info_tree};
+ghost use Rattle.fancy_info.specs.Infos.{IsAnalysed, info_facts, info_tree};
 ghost use Rattle.fancy_analysis.specs.LateReads.{is_read_late, meet, met_over, own_inside, owned};
 ghost use Rattle.fancy_expr.specs.Views.{tree_of};
 
-use crate::info::Info;
 use fancy_expr::expr::Expr;
+use fancy_info::info::Info;
 
 /// What was met of a group on a walk over its body.
 #[derive(Clone, Copy)]

@@ -2,9 +2,7 @@
 #![tactic(auto)]
 
 pub mod analyze;
-mod context;
 mod endings;
-pub mod info;
 mod late_reads;
 mod links;
 mod make;
@@ -13,5 +11,4 @@ mod reads;
 mod recursion;
 mod refusals;
 mod rounds;
-mod size;
 mod visit;

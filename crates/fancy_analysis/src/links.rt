@@ -4,12 +4,12 @@ ghost use Rattle.std.specs.Prelude.{◌≡◌, ◌++◌, IfOk, option_to_list};
 ghost use Rattle.fancy_meaning.specs.Sizes.{known_of, size};
 ghost use Rattle.fancy_meaning.specs.Spots as plain_spots;
 ghost use Rattle.fancy_meaning.specs.Tree as plain;
-ghost use Rattle.fancy_analysis.specs.Infos.{info_facts, info_size, info_tree, node_over};
+ghost use Rattle.fancy_info.specs.Infos.{info_facts, info_size, info_tree, node_over};
 ghost use Rattle.fancy_analysis.specs.Links.{IsAt, around_inside, follows, link_from, links_at, links_of};
 ghost use Rattle.fancy_analysis.specs.Made.{IsSized};
 
-use crate::info::Info;
 use fancy_expr::expr::Expr;
+use fancy_info::info::Info;
 use std::alloc::{AllocError, Global};
 
 /// A step from one target to another, by number. The whole tree has the number 0.

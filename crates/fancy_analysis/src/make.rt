@@ -4,7 +4,7 @@ ghost use Rattle.std.specs.Prelude.{◌≡◌, map, slice_index_or, false};
 ghost use Rattle.fancy_meaning.specs.Hard.{is_hard_assertion, is_in_behind, is_outside};
 ghost use Rattle.fancy_meaning.specs.Sizes.{any_of, either, plus, size_of_group, size_of_target, sum_of};
 ghost use Rattle.fancy_meaning.specs.Tree as plain;
-ghost use Rattle.fancy_analysis.specs.Infos.{info_hard, info_size, analysis_options_of};
+ghost use Rattle.fancy_info.specs.Infos.{info_hard, info_size, analysis_options_of};
 ghost use Rattle.fancy_expr.specs.Walk.{within_of};
 ghost use Rattle.fancy_analysis.specs.Made.{
   IsMadeNode,
@@ -18,14 +18,14 @@ ghost use Rattle.fancy_analysis.specs.Made.{
   some_true,
   tables_known,
 };
-ghost use Rattle.fancy_analysis.specs.Sized.{size_of};
+ghost use Rattle.fancy_info.specs.Sized.{size_of};
 ghost use Rattle.fancy_expr.specs.Views.{assertion_of};
 
-use crate::context::AnalyzeContext;
-use crate::info::Info;
-use crate::size::Size;
 use fancy_expr::expr::{Absent, Assertion, Expr};
 use fancy_expr::walk::Within;
+use fancy_info::context::AnalyzeContext;
+use fancy_info::info::Info;
+use fancy_info::size::Size;
 
 /// The tables that a visit of the tree goes by, and its options.
 #[derive(Clone, Copy)]

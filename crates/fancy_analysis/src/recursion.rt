@@ -5,15 +5,15 @@ ghost use Rattle.fancy_meaning.specs.AnalysisRefusals.{Describes, IsLeastName, I
 ghost use Rattle.fancy_meaning.specs.Recursion.{IsLeastLeftRecursive, IsLeftRecursive};
 ghost use Rattle.fancy_meaning.specs.Sizes.{known_of};
 ghost use Rattle.fancy_meaning.specs.Tree as plain;
-ghost use Rattle.fancy_analysis.specs.Infos.{info_tree};
+ghost use Rattle.fancy_info.specs.Infos.{info_tree};
 ghost use Rattle.fancy_analysis.specs.Made.{IsSized};
 ghost use Rattle.fancy_analysis.specs.Names.{IsDescriptionOfLeast, names_of};
 ghost use Rattle.fancy_expr.specs.declared.error.Error.TheVariants.{Memory};
 
-use crate::info::Info;
 use crate::links::links_of;
 use crate::reached::least_into_cycle;
 use fancy_expr::error::Error;
+use fancy_info::info::Info;
 use std::alloc::{AllocError, Global};
 use std::collections::BTreeMap;
 

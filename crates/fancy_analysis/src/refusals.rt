@@ -4,7 +4,7 @@ ghost use Rattle.std.specs.Prelude.{◌≡◌, ◌≤◌, ◌+◌, ◌-◌, ℕ,
 ghost use Rattle.fancy_meaning.specs.AnalysisRefusals.{AnalysisRefuses};
 ghost use Rattle.fancy_meaning.specs.Options.{AnalysisOptions, analysis_of};
 ghost use Rattle.fancy_meaning.specs.WellFormed.{most_groups};
-ghost use Rattle.fancy_analysis.specs.Infos.{analysis_options_of};
+ghost use Rattle.fancy_info.specs.Infos.{analysis_options_of};
 ghost use Rattle.fancy_expr.specs.Questions.{is_refused};
 ghost use Rattle.fancy_analysis.specs.Refusals.{HasNoRefusedNode, IsAnalysable, first_of, has_named_and_numbered, last_of, refusal_of};
 ghost use Rattle.fancy_expr.specs.Errors.{error_of};
@@ -14,14 +14,14 @@ ghost use Rattle.fancy_expr.specs.declared.error.Error.TheVariants.{Memory};
 ghost use Rattle.fancy_expr.specs.Views.{parsed_of, tree_of, unresolved_of};
 ghost use Rattle.fancy_meaning.specs.Tree as plain;
 
-use crate::context::AnalyzeContext;
 use crate::endings::can_end;
-use crate::info::Info;
 use crate::late_reads::reads_after_call;
 use crate::recursion::left_recursion;
 use fancy_expr::error::{CompileError, Error};
 use fancy_expr::expr::{AstNode, Expr, ExprTree};
 use fancy_expr::nodes::{Question, find_node, has_node};
+use fancy_info::context::AnalyzeContext;
+use fancy_info::info::Info;
 use std::alloc::Global;
 
 fn unresolved_refusal(node: &AstNode) -> CompileError

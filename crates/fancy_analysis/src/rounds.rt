@@ -6,19 +6,19 @@ ghost use Rattle.fancy_meaning.specs.Numbering.{numbered_within};
 ghost use Rattle.fancy_meaning.specs.Sizes.{Known, known_of, next_round, size_by, unknown};
 ghost use Rattle.fancy_meaning.specs.Tree as plain;
 ghost use Rattle.fancy_meaning.specs.WellFormed.{most_groups};
-ghost use Rattle.fancy_analysis.specs.Infos.{info_tree};
+ghost use Rattle.fancy_info.specs.Infos.{info_tree};
 ghost use Rattle.fancy_analysis.specs.Made.{IsSized, from_0, from_1, own_size, tables_known};
 ghost use Rattle.fancy_expr.specs.Views.{tree_of};
-ghost use Rattle.fancy_analysis.specs.declared.info.Info.TheViews.{out-Info};
-ghost use Rattle.fancy_analysis.specs.Sized.{size_of};
+ghost use Rattle.fancy_info.specs.declared.info.Info.TheViews.{out-Info};
+ghost use Rattle.fancy_info.specs.Sized.{size_of};
 
-use crate::context::AnalyzeContext;
-use crate::info::Info;
 use crate::make::VisitTables;
-use crate::size::Size;
 use crate::visit::visit;
 use fancy_expr::expr::{Expr, ExprTree};
 use fancy_expr::walk::Within;
+use fancy_info::context::AnalyzeContext;
+use fancy_info::info::Info;
+use fancy_info::size::Size;
 use std::alloc::{AllocError, Global};
 
 fn add_own_size(info: &Info, table: &mut Vec<Size>) -> Result<(), AllocError>

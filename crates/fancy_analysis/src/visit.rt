@@ -6,11 +6,11 @@ ghost use Rattle.fancy_expr.specs.Walk.{within_of};
 ghost use Rattle.fancy_expr.specs.Views.{tree_of};
 ghost use Rattle.fancy_analysis.specs.Visited.{IsVisited};
 
-use crate::info::Info;
 use crate::make::{VisitTables, make_info};
 use fancy_expr::expr::Expr;
 use fancy_expr::parts::{part, part_count};
 use fancy_expr::walk::{Within, start_inside, within_inside};
+use fancy_info::info::Info;
 use std::alloc::{AllocError, Global};
 
 /// A node and all below it.

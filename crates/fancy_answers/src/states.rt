@@ -87,25 +87,40 @@ impl Tried {
     }
 }
 
-/// What each call answers.
-fn try_called(alloc: Global, slots: usize, words: &str) -> Result<String, Error> {
-    let mut state = Tried::new(alloc, slots)?;
-    let mut copying = Copying::new(alloc, slots.min(MOST_SLOTS))?;
-    let mut line = String::from_str(alloc, "answers")?;
+/// Writes what each call answers.
+fn push_answers(line: &mut String, state: &mut Tried, words: &str) -> Result<(), Error> {
     for word in words.split_whitespace() {
         if let Some(count) = word.strip_prefix("fill:") {
             state.fill(number(count))?;
             continue;
         }
         match state.make(call_of(word)) {
-            Ok(answer) => push_answer(&mut line, answer)?,
+            Ok(answer) => push_answer(line, answer)?,
             Err(error) => write!(line, " {error:?}")?,
         }
     }
-    if slots <= MOST_SLOTS && !agree_on(&mut copying, alloc, slots, words)? {
+    Ok(())
+}
+
+/// What each call answers.
+fn try_called(alloc: Global, slots: usize, words: &str) -> Result<String, Error> {
+    let is_same = agree(alloc, slots, words)?;
+    let mut line = String::from_str(alloc, "answers")?;
+    let mut state = Tried::new(alloc, slots)?;
+    push_answers(&mut line, &mut state, words)?;
+    if !is_same {
         line.push_str(" DIFFER")?;
     }
     Ok(line)
+}
+
+/// The calls answer as with copies, or there are too many slots to copy.
+fn agree(alloc: Global, slots: usize, words: &str) -> Result<bool, Error> {
+    if slots > MOST_SLOTS {
+        return Ok(true);
+    }
+    let mut copying = Copying::new(alloc, slots)?;
+    agree_on(&mut copying, alloc, slots, words)
 }
 
 /// The calls answer as with copies.
@@ -154,18 +169,30 @@ fn same(state: &mut Tried, copying: &mut Copying, call: Call) -> Result<bool, Er
     Ok(true)
 }
 
-fn try_by_chance(alloc: Global, count: usize) -> Result<String, Error> {
-    let mut state = Tried::new(alloc, 4)?;
-    let mut copying = Copying::new(alloc, 4)?;
+/// The number of the first call after which they are not the same.
+fn first_difference(
+    state: &mut Tried,
+    copying: &mut Copying,
+    count: usize,
+) -> Result<Option<usize>, Error> {
     let mut seed = 7_u64;
     for number in 0..count {
         seed = next_seed(seed);
         let call = call_by_chance((seed >> 40) as usize);
-        if !same(&mut state, &mut copying, call)? {
-            return Ok(format!(in alloc; "DIFFER: call {number}")?);
+        if !same(state, copying, call)? {
+            return Ok(Some(number));
         }
     }
-    Ok(String::from_str(alloc, "agree")?)
+    Ok(None)
+}
+
+fn try_by_chance(alloc: Global, count: usize) -> Result<String, Error> {
+    let mut state = Tried::new(alloc, 4)?;
+    let mut copying = Copying::new(alloc, 4)?;
+    match first_difference(&mut state, &mut copying, count)? {
+        Some(number) => Ok(format!(in alloc; "DIFFER: call {number}")?),
+        None => Ok(String::from_str(alloc, "agree")?),
+    }
 }
 
 /// So many calls, chosen by chance, answer as with copies.

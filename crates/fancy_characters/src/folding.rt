@@ -109,7 +109,7 @@ impl CaseiLiteral {
         'take: for i in 0..self.chars.len() {
             let (c, casei) = self.chars[i];
             let d = char_at(text, at)?;
-            if !takes(self.unicode, c as u32, casei, d) {
+            if !literal_takes(self.unicode, c as u32, casei, d) {
                 return None;
             }
             at += len_utf8(d);
@@ -118,8 +118,9 @@ impl CaseiLiteral {
     }
 }
 
-/// Whether a literal of the character `c` takes `d`.
-fn takes(unicode: bool, c: u32, casei: bool, d: u32) -> bool
+/// Whether a literal of the character `c` takes `d`: folded another character too, and without `unicode` only ASCII
+/// letters fold.
+pub fn literal_takes(unicode: bool, c: u32, casei: bool, d: u32) -> bool
     ensures { result ≡ meant.literal_takes unicode c casei d }
 {
     if casei {

@@ -13,7 +13,7 @@ use Rattle.fancy_notation.specs.Words.{when}
 use Rattle.fancy_notation.proofs.WordFacts.{by_test}
 use Rattle.fancy_expr.specs.declared.error.Error.{Error}
 use Rattle.fancy_expr.specs.declared.expr.ExprTree.{ExprTree}
-use Rattle.fancy_analysis.specs.declared.context.AnalyzeContext.{AnalyzeContext}
+use Rattle.fancy_info.specs.declared.context.AnalyzeContext.{AnalyzeContext}
 use Rattle.fancy_compile.specs.declared.options.CompileOptions.{CompileOptions}
 use Rattle.fancy_command.specs.declared.arguments.Arguments.{Arguments}
 use Rattle.fancy_search.specs.declared.search.SearchOptions.{SearchOptions}

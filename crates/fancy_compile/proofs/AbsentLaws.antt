@@ -17,16 +17,16 @@ use Rattle.fancy_expr.specs.declared.expr.Absent.{Absent}
 use Rattle.fancy_expr.specs.declared.expr.Absent.TheVariants as code_absent
 use Rattle.fancy_expr.specs.declared.expr.Expr.{Expr}
 use Rattle.fancy_expr.specs.declared.expr.Expr.TheVariants as code
-use Rattle.fancy_analysis.specs.declared.info.Info.{Info}
-use Rattle.fancy_analysis.specs.declared.info.Info.TheViews.{out-Info}
+use Rattle.fancy_info.specs.declared.info.Info.{Info}
+use Rattle.fancy_info.specs.declared.info.Info.TheViews.{out-Info}
 use Rattle.fancy_expr.specs.Exprs.{below, below_absent}
-use Rattle.fancy_analysis.specs.Infos.{nth, node_over, absent_over, info_tree, info_within, info_children, info_facts, info_hard, IsFound, IsAnalysed}
-use Rattle.fancy_analysis.proofs.GroupSizes.{over-parts}
+use Rattle.fancy_info.specs.Infos.{nth, node_over, absent_over, info_tree, info_within, info_children, info_facts, info_hard, IsFound, IsAnalysed}
+use Rattle.fancy_info.proofs.OverParts.{over-parts}
 use Rattle.fancy_expr.proofs.NodeParts.{nodes-parts}
 use Rattle.std.proofs.Math.Bool.{or-true}
 use Rattle.std.proofs.lemmas.Bool.{and_parts}
 use Rattle.std.proofs.lemmas.List.Folds.{list_any-append}
-use Rattle.fancy_analysis.proofs.Unfolded.{tree_out, each_here}
+use Rattle.fancy_info.proofs.Unfolded.{tree_out, each_here}
 use Rattle.fancy_compile.specs.Faults.{Rejects, refused, out_of_range, HasRejected}
 use Rattle.fancy_compile.specs.Drafts.{Draft, Writes, hard_code}
 use Rattle.fancy_compile.specs.Nodes.{is_repeater, is_absent_expr, IsKnown}

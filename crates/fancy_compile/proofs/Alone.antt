@@ -19,7 +19,7 @@ use Rattle.fancy_expr.specs.declared.error.Error.{Error}
 use Rattle.fancy_expr.specs.declared.error.Error.TheVariants as error
 use Rattle.fancy_compile.specs.Faults.{itself, Rejects, too_big, refused, out_of_range, HasRejected}
 use Rattle.fancy_expr.specs.declared.expr.Expr.{Expr}
-use Rattle.fancy_analysis.specs.Infos.{node_over, is_look}
+use Rattle.fancy_info.specs.Infos.{node_over, is_look}
 use Rattle.fancy_compile.specs.Kinds.{is_out_of_range}
 use Rattle.fancy_compile.specs.Drafts.{Draft, Breaks, Writes, hard_code}
 use Rattle.fancy_compile.specs.Nodes.{assertion_inside}

@@ -19,7 +19,7 @@ use Rattle.fancy_meaning.specs.Options.{Analysis}
 use Rattle.fancy_laws.proofs.Calls.{opening_lowers}
 use Rattle.fancy_expr.specs.declared.error.Error.{Error}
 use Rattle.fancy_expr.specs.declared.error.Error.TheVariants as error
-use Rattle.fancy_analysis.specs.Infos.{info_tree}
+use Rattle.fancy_info.specs.Infos.{info_tree}
 use Rattle.fancy_compile.specs.declared.scope.Scope.{Scope}
 use Rattle.fancy_compile.specs.declared.calls.OpenCall.{OpenCall}
 use Rattle.fancy_compile.specs.declared.calls.OpenCall.TheViews.{roll-OpenCall}

@@ -13,10 +13,10 @@ use Rattle.fancy_meaning.specs.Numbering.{numbered}
 use Rattle.fancy_meaning.specs.Options.{Analysis}
 use Rattle.fancy_meaning.specs.Places.{range_from}
 use Rattle.fancy_meaning.specs.Premises.{Analysed, analysis}
-use Rattle.fancy_analysis.specs.declared.info.Info.{Info}
-use Rattle.fancy_analysis.specs.Infos.{info_tree, IsRoot}
+use Rattle.fancy_info.specs.declared.info.Info.{Info}
+use Rattle.fancy_info.specs.Infos.{info_tree, IsRoot}
 use Rattle.fancy_expr.specs.Each.{Each}
-use Rattle.fancy_analysis.proofs.GroupNumbers.{numbers}
+use Rattle.fancy_info.proofs.GroupNumbers.{numbers}
 use Rattle.fancy_compile.specs.declared.scope.Scope.{Scope}
 use Rattle.fancy_compile.specs.declared.group_table.GroupTable.{GroupTable}
 use Rattle.fancy_compile.specs.Nodes.{AreNumbered, IsBody, IsScopeOf, has_target, node_count}

@@ -7,8 +7,8 @@ use Rattle.fancy_meaning.specs.Options.{AnalysisOptions, Plan}
 use Rattle.fancy_meaning.specs.Sizes.{Size, size}
 use Rattle.fancy_meaning.specs.Layout.{program_code, first_fresh, undelegated_layout}
 use Rattle.fancy_meaning.specs.Premises.{Analysed, analysis}
-use Rattle.fancy_analysis.specs.declared.info.Info.{Info}
-use Rattle.fancy_analysis.specs.Infos.{IsRoot, info_size, info_facts}
+use Rattle.fancy_info.specs.declared.info.Info.{Info}
+use Rattle.fancy_info.specs.Infos.{IsRoot, info_size, info_facts}
 use Rattle.fancy_compile.specs.declared.options.CompileOptions.{CompileOptions}
 use Rattle.fancy_compile.specs.declared.scope.Scope.{Scope}
 use Rattle.fancy_compile.specs.GroupTables.{IsTable}

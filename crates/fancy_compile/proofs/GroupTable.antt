@@ -14,12 +14,12 @@ use Rattle.fancy_expr.specs.declared.expr.Absent.{Absent}
 use Rattle.fancy_expr.specs.declared.expr.Absent.TheVariants as code_absent
 use Rattle.fancy_expr.specs.declared.expr.Expr.{Expr}
 use Rattle.fancy_expr.specs.declared.expr.Expr.TheVariants as code
-use Rattle.fancy_analysis.specs.declared.info.Info.{Info}
-use Rattle.fancy_analysis.specs.declared.info.Info.TheViews.{out-Info}
+use Rattle.fancy_info.specs.declared.info.Info.{Info}
+use Rattle.fancy_info.specs.declared.info.Info.TheViews.{out-Info}
 use Rattle.fancy_expr.specs.Exprs.{below}
-use Rattle.fancy_analysis.specs.Infos.{nth, node_over, absent_over, info_tree, info_within, info_children, info_facts, IsAnalysed}
+use Rattle.fancy_info.specs.Infos.{nth, node_over, absent_over, info_tree, info_within, info_children, info_facts, IsAnalysed}
 use Rattle.fancy_expr.specs.Each.{Each}
-use Rattle.fancy_analysis.proofs.Unfolded.{tree_out}
+use Rattle.fancy_info.proofs.Unfolded.{tree_out}
 use Rattle.fancy_compile.specs.Nodes.{AreNumbered, IsKnown, node_count}
 use Rattle.fancy_compile.specs.GroupTables.{is_group, is_concat, group_trees, own_trees, MarksAll}
 use Rattle.fancy_compile.proofs.Infos.{rest_at, only_one, known_child, each_at, node_count-below, child_count}

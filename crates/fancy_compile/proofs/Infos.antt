@@ -4,14 +4,14 @@ use Rattle.std.proofs.Math.Seq.{drop-cons}
 use Rattle.fancy_meaning.specs.Tree.{Tree, trees, children}
 use Rattle.fancy_meaning.specs.Options.{Analysis}
 use Rattle.fancy_meaning.specs.Sizes.{size}
-use Rattle.fancy_analysis.specs.declared.info.Info.{Info}
-use Rattle.fancy_analysis.specs.declared.info.Info.TheViews.{out-Info}
-use Rattle.fancy_analysis.specs.declared.info.Info.TheFolds.{fold_out-Info}
+use Rattle.fancy_info.specs.declared.info.Info.{Info}
+use Rattle.fancy_info.specs.declared.info.Info.TheViews.{out-Info}
+use Rattle.fancy_info.specs.declared.info.Info.TheFolds.{fold_out-Info}
 use Rattle.fancy_expr.specs.declared.expr.Expr.{Expr}
 use Rattle.fancy_expr.specs.Exprs.{below}
-use Rattle.fancy_analysis.specs.Infos.{info_tree, info_children, info_size, info_within, node_over, IsFound, IsAnalysed}
+use Rattle.fancy_info.specs.Infos.{info_tree, info_children, info_size, info_within, node_over, IsFound, IsAnalysed}
 use Rattle.fancy_expr.specs.Each.{Each}
-use Rattle.fancy_analysis.proofs.Unfolded.{tree_out, each_here, each_below}
+use Rattle.fancy_info.proofs.Unfolded.{tree_out, each_here, each_below}
 use Rattle.fancy_compile.specs.declared.scope.Scope.{Scope}
 use Rattle.fancy_compile.specs.Nodes.{total, size_step, node_count, IsWhole, AreWhole, IsKnown}
 

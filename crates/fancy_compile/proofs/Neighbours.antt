@@ -7,8 +7,8 @@ use Rattle.fancy_meaning.specs.Code.{Code, nothing, one, ◌>>◌, in_turn, bran
 use Rattle.fancy_meaning.specs.Marks.{takes_nothing}
 use Rattle.fancy_compile.specs.Sites.{Site}
 use Rattle.fancy_meaning.specs.Sizes.{Size, size}
-use Rattle.fancy_analysis.specs.declared.info.Info.{Info}
-use Rattle.fancy_analysis.specs.Infos.{info_tree, info_size}
+use Rattle.fancy_info.specs.declared.info.Info.{Info}
+use Rattle.fancy_info.specs.Infos.{info_tree, info_size}
 use Rattle.fancy_compile.specs.Arounds.{around_code, not_behind}
 use Rattle.fancy_compile.specs.Drafts.{Draft, Writes, hard_code, with_patch, with_jumps}
 use Rattle.fancy_compile.specs.Nodes.{IsKnown, codes_in_turn, codes_of_branches, codes_of_none, branch_over}

@@ -4,10 +4,10 @@ use Rattle.fancy_meaning.specs.Tree as plain
 use Rattle.fancy_meaning.specs.Nodes.{group_count}
 use Rattle.fancy_meaning.specs.Numbering.{numbered}
 use Rattle.fancy_meaning.specs.Premises.{Analysed, analysis}
-use Rattle.fancy_analysis.specs.declared.info.Info.{Info}
-use Rattle.fancy_analysis.specs.declared.info.Info.TheViews.{out-Info}
-use Rattle.fancy_analysis.specs.Infos.{IsRoot}
-use Rattle.fancy_analysis.proofs.Unfolded.{tree_out}
+use Rattle.fancy_info.specs.declared.info.Info.{Info}
+use Rattle.fancy_info.specs.declared.info.Info.TheViews.{out-Info}
+use Rattle.fancy_info.specs.Infos.{IsRoot}
+use Rattle.fancy_info.proofs.Unfolded.{tree_out}
 use Rattle.fancy_expr.proofs.Numbered.{count-numbered}
 use Rattle.fancy_compile.specs.Nodes.{IsKnown}
 

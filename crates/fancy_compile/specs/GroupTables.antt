@@ -8,8 +8,8 @@ use Rattle.fancy_meaning.specs.Nodes.{groups}
 use Rattle.fancy_meaning.specs.Options.{Analysis}
 use Rattle.fancy_expr.specs.declared.expr.Expr.{Expr}
 use Rattle.fancy_expr.specs.declared.expr.Expr.TheVariants as code
-use Rattle.fancy_analysis.specs.declared.info.Info.{Info}
-use Rattle.fancy_analysis.specs.Infos.{info_tree, info_facts, info_children}
+use Rattle.fancy_info.specs.declared.info.Info.{Info}
+use Rattle.fancy_info.specs.Infos.{info_tree, info_facts, info_children}
 use Rattle.fancy_expr.specs.Each.{Each}
 use Rattle.fancy_compile.specs.declared.group_table.GroupTable.{GroupTable}
 use Rattle.fancy_compile.specs.Nodes.{node_count, IsKnown, IsBody}

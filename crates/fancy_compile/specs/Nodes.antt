@@ -19,10 +19,10 @@ use Rattle.fancy_meaning.specs.OpenCalls.{Depths, free_calls}
 use Rattle.fancy_meaning.specs.Sizes.{size}
 use Rattle.fancy_meaning.specs.Options.{Analysis}
 use Rattle.fancy_compile.specs.Sites.{Site}
-use Rattle.fancy_analysis.specs.declared.info.Info.{Info}
-use Rattle.fancy_analysis.specs.declared.info.Info.TheOpen.{Info-F}
-use Rattle.fancy_analysis.specs.declared.info.Info.TheFolds.{fold-Info}
-use Rattle.fancy_analysis.specs.Infos.{node_over, info_tree, info_facts, info_size, info_hard, info_children, IsNode, IsAnalysed}
+use Rattle.fancy_info.specs.declared.info.Info.{Info}
+use Rattle.fancy_info.specs.declared.info.Info.TheOpen.{Info-F}
+use Rattle.fancy_info.specs.declared.info.Info.TheFolds.{fold-Info}
+use Rattle.fancy_info.specs.Infos.{node_over, info_tree, info_facts, info_size, info_hard, info_children, IsNode, IsAnalysed}
 use Rattle.fancy_expr.specs.Each.{Each}
 use Rattle.fancy_compile.specs.declared.scope.Scope.{Scope}
 use Rattle.fancy_compile.specs.declared.group_table.GroupTable.{GroupTable}

@@ -1,6 +1,6 @@
 //! Absent expressions: the repeater is written, the others are refused.
 
-ghost use Rattle.fancy_analysis.specs.Infos.{info_hard, info_tree};
+ghost use Rattle.fancy_info.specs.Infos.{info_hard, info_tree};
 ghost use Rattle.fancy_compile.specs.Drafts.{draft_of};
 ghost use Rattle.fancy_compile.specs.Nodes.{IsKnown, IsWhole, WritesAbsent, WritesOver, is_absent_expr, is_repeater, step_past};
 ghost use Rattle.fancy_meaning.specs.Nodes.{is_absent, nodes};
@@ -14,9 +14,9 @@ use crate::looks::LookKind;
 use crate::loops::LoopKind;
 use crate::nodes::child;
 use crate::scope::Scope;
-use fancy_analysis::info::Info;
 use fancy_expr::error::CompileError;
 use fancy_expr::expr::{Absent, Expr};
+use fancy_info::info::Info;
 use fancy_vm::vm::Insn;
 
 pub fn is_repeater(absent: &Absent) -> bool

@@ -1,6 +1,6 @@
 //! Alternations, also of what is looked for behind the place.
 
-ghost use Rattle.fancy_analysis.specs.Infos.{info_size};
+ghost use Rattle.fancy_info.specs.Infos.{info_size};
 ghost use Rattle.fancy_compile.specs.Drafts.{with_jumps, draft_of};
 ghost use Rattle.fancy_compile.specs.Nodes.{AreWhole, IsWhole, WritesBranches, WritesOver, branch_over};
 ghost use Rattle.std.specs.Prelude.{false, length, ◌≡◌};
@@ -9,8 +9,8 @@ use crate::around::Around;
 use crate::compiler::Compiler;
 use crate::looks::LookKind;
 use crate::scope::Scope;
-use fancy_analysis::info::Info;
 use fancy_expr::error::Error;
+use fancy_info::info::Info;
 use fancy_vm::vm::Insn;
 
 impl Compiler {

@@ -6,7 +6,7 @@ use crate::compiler::Compiler;
 use crate::looks::LookKind;
 use crate::loops::LoopKind;
 use crate::scope::Scope;
-use fancy_analysis::info::Info;
+use fancy_info::info::Info;
 use fancy_vm::vm::Insn;
 
 /// What stands around a node.

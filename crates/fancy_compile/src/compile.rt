@@ -9,7 +9,7 @@ ghost use Rattle.fancy_meaning.specs.Premises.{Analysed, analysis};
 ghost use Rattle.fancy_compile.specs.Compiled.{Compiles, IsWritingOf, MayCompile, mode_of, plan_with};
 ghost use Rattle.fancy_compile.specs.Drafts.{Writes, draft_of, no_node};
 ghost use Rattle.fancy_compile.specs.Nodes.{IsScope, IsScopeOf};
-ghost use Rattle.fancy_analysis.specs.Infos.{IsRoot};
+ghost use Rattle.fancy_info.specs.Infos.{IsRoot};
 ghost use Rattle.fancy_compile.specs.Sites.{Site, top};
 
 use crate::classes::SharedClasses;
@@ -17,8 +17,8 @@ use crate::compiler::Compiler;
 use crate::group_table::GroupTable;
 pub use crate::options::{BytesMode, CompileOptions};
 use crate::scope::Scope;
-use fancy_analysis::info::Info;
 use fancy_expr::error::{CompileError, Error};
+use fancy_info::info::Info;
 use fancy_vm::vm::{Insn, Prog, ProgParts};
 use std::alloc::Global;
 

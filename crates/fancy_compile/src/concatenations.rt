@@ -1,13 +1,13 @@
 //! Concatenations.
 
-ghost use Rattle.fancy_analysis.specs.Infos.{info_size};
+ghost use Rattle.fancy_info.specs.Infos.{info_size};
 ghost use Rattle.fancy_compile.specs.Drafts.{draft_of};
 ghost use Rattle.fancy_compile.specs.Nodes.{AreWhole, WritesInTurn};
 ghost use Rattle.std.specs.Prelude.{◌&&◌, ◌==◌, ◌≡◌};
 
 use crate::compiler::Compiler;
 use crate::scope::Scope;
-use fancy_analysis::info::Info;
+use fancy_info::info::Info;
 
 /// A match may still begin behind the node.
 fn is_still_first(is_first: bool, info: &Info) -> bool

@@ -5,7 +5,7 @@ ghost use Rattle.fancy_compile.specs.Nodes.{IsWhole, WritesConditional};
 
 use crate::compiler::Compiler;
 use crate::scope::Scope;
-use fancy_analysis::info::Info;
+use fancy_info::info::Info;
 use fancy_vm::vm::Insn;
 
 impl Compiler {

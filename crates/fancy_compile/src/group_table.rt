@@ -6,8 +6,8 @@ ghost use Rattle.fancy_meaning.specs.Options.{Analysis};
 ghost use Rattle.std.specs.Prelude.{IfOk, [], false, length, replicate, slice_index_or, ◌<◌, ◌∷◌, ◌≡◌};
 
 use crate::nodes::child;
-use fancy_analysis::info::Info;
 use fancy_expr::expr::Expr;
+use fancy_info::info::Info;
 use std::alloc::{AllocError, Global};
 
 /// The groups of a tree, in order of their numbers.

@@ -1,7 +1,7 @@
 //! Look-arounds: how each begins and ends, and which look-behinds are written.
 
 ghost use Rattle.fancy_compile.specs.declared.around.Around.TheVariants as around;
-ghost use Rattle.fancy_analysis.specs.Infos.{info_size};
+ghost use Rattle.fancy_info.specs.Infos.{info_size};
 ghost use Rattle.fancy_compile.specs.Arounds.{Ends, look_opening, not_ahead, not_behind};
 ghost use Rattle.fancy_compile.specs.Drafts.{Writes, draft_of};
 ghost use Rattle.fancy_compile.specs.Nodes.{AreWhole, IsWhole, WritesLook, WritesNoneBehind, has_const_branches, is_alt};
@@ -14,9 +14,9 @@ ghost use Rattle.std.specs.Prelude.{ℕ, [], ◌≡◌};
 use crate::around::{Around, Start};
 use crate::compiler::Compiler;
 use crate::scope::Scope;
-use fancy_analysis::info::Info;
 use fancy_expr::error::CompileError;
 use fancy_expr::expr::{Expr, LookAround};
+use fancy_info::info::Info;
 use fancy_vm::vm::Insn;
 
 /// How a look-around looks; behind means so many characters back.

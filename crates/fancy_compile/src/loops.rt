@@ -15,7 +15,7 @@ ghost use Rattle.std.specs.Prelude.{[], ◌≡◌};
 use crate::around::{Around, Start};
 use crate::compiler::Compiler;
 use crate::scope::Scope;
-use fancy_analysis::info::Info;
+use fancy_info::info::Info;
 use fancy_vm::vm::Insn;
 
 /// How a loop is written. Without `Counted` there is no bound but that of the name.

@@ -1,6 +1,6 @@
 //! A node with all below it, by what it is.
 
-ghost use Rattle.fancy_analysis.specs.Infos.{info_children};
+ghost use Rattle.fancy_info.specs.Infos.{info_children};
 ghost use Rattle.fancy_compile.specs.Drafts.{draft_of};
 ghost use Rattle.fancy_compile.specs.Nodes.{IsWhole, WritesNode};
 ghost use Rattle.std.specs.Prelude.{length, slice_index_or, ◌<◌, ◌≡◌};
@@ -9,9 +9,9 @@ use crate::absents::is_repeater;
 use crate::around::Around;
 use crate::compiler::Compiler;
 use crate::scope::Scope;
-use fancy_analysis::info::Info;
 use fancy_expr::error::CompileError;
 use fancy_expr::expr::Expr;
+use fancy_info::info::Info;
 
 /// A node's child with this index.
 pub fn child<'i, 'a>(info: &'i Info<'a>, i: usize) -> &'i Info<'a>

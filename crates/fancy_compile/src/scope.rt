@@ -2,7 +2,7 @@
 
 use crate::calls::OpenCall;
 use crate::group_table::GroupTable;
-use fancy_analysis::info::Info;
+use fancy_info::info::Info;
 use std::alloc::Global;
 
 #[derive(Clone, Copy)]

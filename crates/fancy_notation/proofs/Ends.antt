@@ -5,19 +5,18 @@ use Rattle.fancy_expr.specs.declared.error.Error.{Error}
 use Rattle.fancy_expr.specs.declared.expr.Expr.{Expr}
 use Rattle.fancy_expr.specs.declared.expr.Absent.TheViews as view
 use Rattle.fancy_expr.specs.Views.{tree_of}
-use Rattle.fancy_notation.specs.declared.forms.Enclosing.{Enclosing}
 use Rattle.fancy_notation.specs.declared.forms.Form.{Form}
 use Rattle.fancy_notation.specs.declared.forms.Form.TheVariants as form
 use Rattle.fancy_notation.specs.declared.reader.Reader.{Reader}
 use Rattle.fancy_notation.specs.Tokens.{Token, Placed, Opened, Closed, Quoted, Word, Broken}
 use Rattle.fancy_notation.specs.Words.{leaf_of}
-use Rattle.fancy_notation.specs.Grammar.{Point, in_word, opening, closing, is_at_text, enclosed, Takes, Begins, Spells, leaf, formed, SpellsForm, cat, alt, around}
-use Rattle.fancy_notation.specs.Misfit.{Node, Shut, wants, with_groups, given, node_step, next_step}
+use Rattle.fancy_notation.specs.Grammar.{Point, in_word, opening, is_at_text, Begins, Spells, leaf, formed, SpellsForm, cat, alt}
+use Rattle.fancy_notation.specs.Misfit.{Node, wants, with_groups, given, node_step, next_step}
 use Rattle.fancy_notation.specs.NotationViews.{point_of}
-use Rattle.fancy_notation.specs.Reading.{first_gives, Skips, ReadsToken, ReadsHead, ReadsTree, OneCharEach, SpellsPartsAfter, Makes}
+use Rattle.fancy_notation.specs.Reading.{first_gives, Skips, ReadsToken, ReadsHead, ReadsTree, SpellsPartsAfter}
 use Rattle.fancy_notation.proofs.MadeTrees.{tree-concat, tree-alt}
 use Rattle.fancy_notation.proofs.Stack.{begun}
-use Rattle.fancy_notation.proofs.Failing.{memory, fails_here, fails_on}
+use Rattle.fancy_notation.proofs.Failing.{fails_here, fails_on}
 use Rattle.fancy_notation.proofs.Loops.{skips_giving}
 use Rattle.fancy_notation.proofs.OneChars.{leaf_chars}
 
@@ -46,15 +45,6 @@ pub form_reads : (old mid new : Reader) (f : Form) (r : Result Expr Error) → B
     ReadsTree (wants f) (λ e x y. SpellsForm f x y e) mid new r → ReadsTree (Node ∷ []) (λ e x y. Spells x y e) old new r
 form_reads old mid new f (Ok v) b same h = (formed b h.0, h.1 ∙ same, h.2)
 form_reads old mid new f (Err e) b same h = fails_on old mid (Node ∷ []) (wants f) e same (λ k. begun b old.end k) h
-
-pub enclosed_reads : (old mid new : Reader) (f : Enclosing) (body : Expr) (r : Result Expr Error) →
-    Spells (point_of old) (point_of mid) (tree_of body) × (mid.end ≡ old.end) × OneCharEach body →
-    Takes closing (point_of mid) tt (point_of new) × (new.end ≡ mid.end) → (OneCharEach body → Makes (enclosed f (tree_of body)) r) →
-    ReadsTree (Node ∷ Shut ∷ []) (λ e x y. SpellsForm (form.Enclosing f) x y e) old new r
-enclosed_reads old mid new f body (Ok made) s t h =
-    let m = h s.2 in
-    (subst (SpellsForm (form.Enclosing f) (point_of old) (point_of new)) (sym m.0) (around s.0 t.0), t.1 ∙ s.1, m.1)
-enclosed_reads old mid new f body (Err e) s t h = memory (Node ∷ Shut ∷ []) old e (h s.2)
 
 pub cat_spelled : (given : List Expr) (v : Vec Expr Global) (x y : Point) → given ≡ [] → SpellsPartsAfter true given v.items x y →
     SpellsForm form.Cat x y (tree_of (view.Concat v))

@@ -1,5 +1,6 @@
 -- The contracts of the reader's calls: what each reads, or where it fails.
 use Rattle.std.specs.Prelude.{◌≡◌, ℕ, Bool, List, map, [], ◌∷◌, ◌++◌, Option, Some, None, Result, Ok, Err}
+use Rattle.std.specs.Global.{Box}
 use Rattle.fancy_meaning.specs.Tree.{Tree}
 use Rattle.fancy_expr.specs.Views.{tree_of}
 use Rattle.fancy_expr.specs.Exprs.{exprs}
@@ -11,7 +12,7 @@ use Rattle.fancy_expr.specs.declared.error.Error.{Error}
 use Rattle.fancy_expr.specs.declared.error.Error.TheVariants.{TreeFault, Memory}
 use Rattle.fancy_notation.specs.declared.reader.Reader.{Reader}
 use Rattle.fancy_notation.specs.Tokens.{Token, Placed}
-use Rattle.fancy_notation.specs.Grammar.{Point, Takes, SpellsParts, in_word, head_word, quoted, parts_of_text}
+use Rattle.fancy_notation.specs.Grammar.{Point, Takes, Spells, SpellsParts, closing, in_word, head_word, quoted, parts_of_text}
 use Rattle.fancy_notation.specs.declared.lexer.Lexer.{Lexer}
 use Rattle.fancy_notation.specs.Lexing.{Step}
 use Rattle.fancy_notation.specs.Faults.{IsFaultAt}
@@ -84,6 +85,16 @@ abbrev pub ReadsTree : List Want → (Tree → Point → Point → Type 0) → R
 ReadsTree ws spells old new (Ok e) =
     spells (tree_of e) (point_of old) (point_of new) × (new.end ≡ old.end) × OneCharEach e
 ReadsTree ws spells old new (Err e) = Fails ws old e
+
+-- the same for a tree in a box
+abbrev pub ReadsBoxed : List Want → (Tree → Point → Point → Type 0) → Reader → Reader → Result (Box Expr) Error → Type 0
+ReadsBoxed ws spells old new (Ok b) =
+    spells (tree_of b.value) (point_of old) (point_of new) × (new.end ≡ old.end) × OneCharEach b.value
+ReadsBoxed ws spells old new (Err e) = Fails ws old e
+
+-- a tree, and the closing parenthesis after it
+abbrev pub SpellsLast : Point → Point → Tree → Type 0
+SpellsLast x z e = (y : Point) × Spells x y e × Takes closing y tt z
 
 -- these parts follow the given ones
 abbrev pub SpellsPartsAfter : Bool → List Expr → List Expr → Point → Point → Type 0

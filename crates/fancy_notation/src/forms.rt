@@ -3,7 +3,7 @@
 use fancy_expr::expr::LookAround;
 
 /// What stands around one expression.
-#[derive(Clone, Copy, Debug, PartialEq, Eq)]
+#[derive(Clone, Copy)]
 pub enum Enclosing {
     Group,
     Atomic,
@@ -14,7 +14,7 @@ pub enum Enclosing {
 }
 
 /// What names a group.
-#[derive(Clone, Copy, Debug, PartialEq, Eq)]
+#[derive(Clone, Copy)]
 pub enum Naming {
     Backref { casei: bool },
     Exists,
@@ -22,14 +22,14 @@ pub enum Naming {
 }
 
 /// What names a group and a level of recursion.
-#[derive(Clone, Copy, Debug, PartialEq, Eq)]
+#[derive(Clone, Copy)]
 pub enum Leveled {
     Backref,
     Exists,
 }
 
 /// What the word after an opening parenthesis begins.
-#[derive(Clone, Copy, Debug, PartialEq, Eq)]
+#[derive(Clone, Copy)]
 pub enum Form {
     Cat,
     Alt,

@@ -57,9 +57,10 @@ fn described(alloc: Global, expr: Expr, total_groups: usize) -> Result<ExprTree,
         calls: false,
     };
     survey.note_all(&expr)?;
+    let backrefs = within(alloc, &survey.references, total_groups)?;
     Ok(ExprTree {
         expr,
-        backrefs: within(alloc, &survey.references, total_groups)?,
+        backrefs,
         out_of_range_backref: first_past(&survey.references, total_groups),
         named_groups: BTreeMap::new(alloc),
         numeric_capture_group_references: survey.numeric,

@@ -12,7 +12,7 @@ ghost use Rattle.fancy_notation.specs.Grammar.{in_word, opening, closing, class,
 ghost use Rattle.fancy_notation.specs.Misfit.{wants, Node, Shut, Parts, Count, Number, Level, Bytes, Class, VerbName, Bound};
 ghost use Rattle.fancy_notation.specs.NotationViews.{token_of, point_of};
 ghost use Rattle.fancy_notation.specs.declared.forms.Form.TheVariants as form;
-ghost use Rattle.fancy_notation.specs.Reading.{next_token, next_word, first_gives, IsFaultHere, PassesFound, Skips, SplicesText, ReadsToken, Reads, ReadsTree, OneCharEach, ReadsHead, SpellsPartsAfter, Appends, Makes};
+ghost use Rattle.fancy_notation.specs.Reading.{next_token, next_word, first_gives, IsFaultHere, PassesFound, Skips, SplicesText, ReadsToken, Reads, ReadsTree, ReadsBoxed, SpellsLast, OneCharEach, ReadsHead, SpellsPartsAfter, Appends, Makes};
 
 use crate::forms::{Enclosing, Form, Leveled, Naming};
 use crate::numbers::number;
@@ -353,14 +353,33 @@ impl<'a> Reader<'a> {
         Ok(Expr::Alt(branches))
     }
 
+    /// A node, in a box.
+    #[cycle(reading)]
+    fn read_boxed(&mut self) -> Result<Box<Expr>, Error>
+        ensures { ReadsBoxed (Node ∷ []) (λ e x y. Spells x y e) self.old self.new result }
+    {
+        let node = self.read_node()?;
+        Ok(Box::new(self.alloc, node)?)
+    }
+
+    /// The last node of a form, in a box, and the closing parenthesis after it.
+    #[cycle(reading)]
+    fn read_last(&mut self) -> Result<Box<Expr>, Error>
+        ensures { ReadsBoxed (Node ∷ Shut ∷ []) (λ e x y. SpellsLast x y e) self.old
+            self.new result }
+    {
+        let node = self.read_boxed()?;
+        self.read_close()?;
+        Ok(node)
+    }
+
     #[cycle(reading)]
     fn read_enclosed(&mut self, enclosing: Enclosing) -> Result<Expr, Error>
         ensures { ReadsTree (wants (form.Enclosing enclosing))
             (λ e x y. SpellsForm (form.Enclosing enclosing) x y e) self.old self.new result }
     {
-        let body = self.read_node()?;
-        self.read_close()?;
-        enclosed(self.alloc, enclosing, body)
+        let body = self.read_last()?;
+        Ok(enclosed(enclosing, body))
     }
 
     #[cycle(reading)]
@@ -370,10 +389,9 @@ impl<'a> Reader<'a> {
     {
         let lo = self.read_count()?;
         let hi = self.read_bound(lo)?;
-        let child = self.read_node()?;
-        self.read_close()?;
+        let child = self.read_last()?;
         Ok(Expr::Repeat {
-            child: Box::new(self.alloc, child)?,
+            child,
             lo,
             hi,
             greedy,
@@ -385,14 +403,13 @@ impl<'a> Reader<'a> {
         ensures { ReadsTree (wants (form.Conditional))
             (λ e x y. SpellsForm (form.Conditional) x y e) self.old self.new result }
     {
-        let condition = self.read_node()?;
-        let true_branch = self.read_node()?;
-        let false_branch = self.read_node()?;
-        self.read_close()?;
+        let condition = self.read_boxed()?;
+        let true_branch = self.read_boxed()?;
+        let false_branch = self.read_last()?;
         Ok(Expr::Conditional {
-            condition: Box::new(self.alloc, condition)?,
-            true_branch: Box::new(self.alloc, true_branch)?,
-            false_branch: Box::new(self.alloc, false_branch)?,
+            condition,
+            true_branch,
+            false_branch,
         })
     }
 
@@ -401,13 +418,9 @@ impl<'a> Reader<'a> {
         ensures { ReadsTree (wants (form.AbsentExpression))
             (λ e x y. SpellsForm (form.AbsentExpression) x y e) self.old self.new result }
     {
-        let absent = self.read_node()?;
-        let exp = self.read_node()?;
-        self.read_close()?;
-        Ok(Expr::Absent(Absent::Expression {
-            absent: Box::new(self.alloc, absent)?,
-            exp: Box::new(self.alloc, exp)?,
-        }))
+        let absent = self.read_boxed()?;
+        let exp = self.read_last()?;
+        Ok(Expr::Absent(Absent::Expression { absent, exp }))
     }
 
     fn read_set(&mut self, casei: bool) -> Result<Expr, Error>
@@ -531,18 +544,18 @@ fn joined(literals: Vec<Expr>) -> Expr
     }
 }
 
-fn enclosed(alloc: Global, enclosing: Enclosing, body: Expr) -> Result<Expr, Error>
-    ensures { OneCharEach body → Makes (enclosed enclosing (tree_of body)) result }
+fn enclosed(enclosing: Enclosing, body: Box<Expr>) -> Expr
+    ensures { (tree_of result ≡ enclosed enclosing (tree_of body.value))
+        × (OneCharEach body.value → OneCharEach result) }
 {
-    let body = Box::new(alloc, body)?;
-    Ok(match enclosing {
+    match enclosing {
         Enclosing::Group => Expr::Group(body),
         Enclosing::Atomic => Expr::AtomicGroup(body),
         Enclosing::Define => Expr::DefineGroup { definitions: body },
         Enclosing::Look(look) => Expr::LookAround(body, look),
         Enclosing::AbsentRepeater => Expr::Absent(Absent::Repeater(body)),
         Enclosing::AbsentStopper => Expr::Absent(Absent::Stopper(body)),
-    })
+    }
 }
 
 fn named(naming: Naming, group: usize) -> Expr

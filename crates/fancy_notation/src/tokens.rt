@@ -1,7 +1,7 @@
 //! Tokens: parentheses, words, quoted texts and broken ones, each with its byte.
 
 /// A token.
-#[derive(Drop, Debug)]
+#[derive(Drop)]
 pub enum Token {
     Opened,
     Closed,
@@ -13,7 +13,7 @@ pub enum Token {
 }
 
 /// A token and the byte at which it begins.
-#[derive(Drop, Debug)]
+#[derive(Drop)]
 pub struct Placed {
     pub at: usize,
     pub token: Token,

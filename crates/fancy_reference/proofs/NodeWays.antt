@@ -1,9 +1,9 @@
 -- The ways of a node, from those of its parts.
-use Rattle.std.proofs.Common.{◌≡◌, ℕ, suc, Bool, true, false, List, length, map, refl, sym, ap, ◌∙◌}
+use Rattle.std.proofs.Common.{◌≡◌, ℕ, suc, Bool, true, false, List, length, map, Result, Ok, Err, IfOk, Vec, Global, refl, sym, ap, ◌∙◌}
 use Rattle.fancy_meaning.specs.Tree as plain
 use Rattle.fancy_meaning.specs.Tree.{Tree, Trees, parts, children}
 use Rattle.fancy_meaning.specs.Numbering.{within, numbered_within, each_numbered}
-use Rattle.fancy_meaning.specs.MatchState.{Ways, in_order, one_of, fails}
+use Rattle.fancy_meaning.specs.MatchState.{MatchState, Ways, in_order, one_of, fails}
 use Rattle.fancy_meaning.specs.Loops.{repeats}
 use Rattle.fancy_meaning.specs.Ways.{Setting, ways_with, captured, atomic, absent, looks}
 use Rattle.fancy_expr.specs.declared.expr.Absent.{Absent}
@@ -17,6 +17,8 @@ use Rattle.std.proofs.lemmas.List.{length-map}
 use Rattle.fancy_reference.specs.declared.nodes.Node.{Node}
 use Rattle.fancy_reference.specs.declared.leaves.Search.{Search}
 use Rattle.fancy_reference.specs.declared.calls.Calls.{Calls}
+use Rattle.fancy_reference.specs.declared.states.State.{State}
+use Rattle.fancy_reference.specs.States.{states_of}
 use Rattle.fancy_reference.specs.Nodes.{node_tree, branches_of, ArePartsOf, AreBranchesOf}
 use Rattle.fancy_reference.specs.Searches.{conditional_of, is_repeater, setting_of, call_of, ways_of, ways_of_each}
 use Rattle.fancy_reference.proofs.WaysLaws.{each_mapped, one_alone, look_ways}
@@ -87,6 +89,19 @@ three_parts (code.Conditional' b c d t x f) w n h = refl
 three_parts e w n h = cc
 
 -- ---- nodes of the code
+
+-- the ways that are answered, by another name
+pub same_ways : {E : Type 0} {a b : List MatchState} (r : Result (Vec State Global) E) → a ≡ b → IfOk r (λ ways. states_of ways.items ≡ a) →
+    IfOk r (λ ways. states_of ways.items ≡ b)
+same_ways (Ok ways) is h = h ∙ is
+same_ways (Err x) is h = tt
+
+-- the ways that are answered, whatever a call gives and from which group on there are numbers
+pub leaf_ways : {E : Type 0} {a : List MatchState} (b : (ℕ → Ways) → ℕ → List MatchState) (r : Result (Vec State Global) E) →
+    ((call : ℕ → Ways) (n : ℕ) → a ≡ b call n) → IfOk r (λ ways. states_of ways.items ≡ a) →
+    IfOk r (λ ways. (call : ℕ → Ways) (n : ℕ) → states_of ways.items ≡ b call n)
+leaf_ways b (Ok ways) is h = λ call n. h ∙ is call n
+leaf_ways b (Err x) is h = tt
 
 module _ (S : Search) (K : Calls) (n : Node) where
   -- of the parts that were found

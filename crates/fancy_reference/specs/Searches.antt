@@ -69,3 +69,11 @@ is_leaf (code.Conditional' b c d t x f) = false
 is_leaf (code.SubroutineCall g) = false
 is_leaf (code.Absent a) = false
 is_leaf e = true
+
+-- such a node takes no text, or one character whichever it is
+abbrev pub is_plain_leaf : Expr → Bool
+is_plain_leaf (code.GeneralNewline unicode) = false
+is_plain_leaf (code.Literal val casei) = false
+is_plain_leaf (code.LiteralBytes bytes) = false
+is_plain_leaf (code.Delegate inner casei) = false
+is_plain_leaf e = is_leaf e

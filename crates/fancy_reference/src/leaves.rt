@@ -53,7 +53,7 @@ fn assertion_within(within: Within, assertion: Assertion) -> Assertion
 }
 
 impl<'a> Search<'a> {
-    ghost use Rattle.fancy_reference.specs.Searches.{existence, is_leaf, kept_here, setting_of};
+    ghost use Rattle.fancy_reference.specs.Searches.{existence, is_leaf, is_plain_leaf, kept_here, setting_of};
 
     /// The state after a move, if there is one.
     fn moved(&self, state: &State, to: Option<usize>) -> Result<Vec<State>, AllocError>
@@ -124,6 +124,42 @@ impl<'a> Search<'a> {
         only(self.alloc, kept)
     }
 
+    /// The ways of a leaf that takes no text, or one character whichever it is.
+    fn plain_leaf(
+        &self,
+        expr: &Expr,
+        within: Within,
+        state: &State,
+    ) -> Result<Vec<State>, AllocError>
+        requires { is_plain_leaf expr.now ≡ true }
+        ensures { IfOk result (λ ways. (call : ℕ → Ways) (n : ℕ)
+            → states_of ways.items
+            ≡ ways_with (setting_of self.now) call
+            (numbered_within (within_of within) n (tree_of expr.now)) (state_of state.now)) }
+    {
+        match expr {
+            Expr::Empty => same(self.alloc, state),
+            Expr::DefineGroup { .. } => same(self.alloc, state),
+            Expr::Any { newline, crlf } => {
+                let text = self.text.as_bytes();
+                self.moved(state, past_any(text, *newline, *crlf, state.place))
+            }
+            Expr::Assertion(assertion) => {
+                self.asserted(assertion_within(within, *assertion), state)
+            }
+            Expr::Backref { group, casei } => self.repeated(*group, *casei, state),
+            Expr::BackrefExistsCondition {
+                group,
+                relative_recursion_level,
+            } => self.exists(*group, *relative_recursion_level, state),
+            Expr::KeepOut => self.kept(state),
+            Expr::ContinueFromPreviousMatchEnd => {
+                same_if(self.alloc, self.continued && state.place == self.pos, state)
+            }
+            _ => Ok(Vec::new(self.alloc)),
+        }
+    }
+
     /// The ways of a node that has none below it which they go by.
     pub(crate) fn leaf(
         &self,
@@ -140,41 +176,25 @@ impl<'a> Search<'a> {
     {
         let alloc = self.alloc;
         let text = self.text;
-        let unicode = self.unicode;
         let ix = state.place;
-        match expr {
-            Expr::Empty => Ok(same(alloc, state)?),
-            Expr::DefineGroup { .. } => Ok(same(alloc, state)?),
-            Expr::Any { newline, crlf } => {
-                Ok(self.moved(state, past_any(text.as_bytes(), *newline, *crlf, ix))?)
-            }
-            Expr::Assertion(assertion) => {
-                Ok(self.asserted(assertion_within(within, *assertion), state)?)
-            }
-            Expr::GeneralNewline { unicode: wide } => {
-                Ok(self.moved(state, past_newline(alloc, text, *wide, ix)?)?)
-            }
+        let to = match expr {
+            Expr::GeneralNewline { unicode } => past_newline(alloc, text, *unicode, ix)?,
             Expr::Literal { val, casei } => {
-                let c = first_char(val.as_str());
-                Ok(self.moved(state, past_literal(alloc, text, unicode, c, *casei, ix)?)?)
+                past_literal(
+                    alloc,
+                    text,
+                    self.unicode,
+                    first_char(val.as_str()),
+                    *casei,
+                    ix,
+                )?
             }
-            Expr::LiteralBytes { bytes } => {
-                Ok(self.moved(state, past_chars(alloc, text, bytes, ix)?)?)
-            }
+            Expr::LiteralBytes { bytes } => past_chars(alloc, text, bytes, ix)?,
             Expr::Delegate { inner, casei } => {
-                let to = past_class(alloc, text, unicode, inner.as_str(), *casei, ix)?;
-                Ok(self.moved(state, to)?)
+                past_class(alloc, text, self.unicode, inner.as_str(), *casei, ix)?
             }
-            Expr::Backref { group, casei } => Ok(self.repeated(*group, *casei, state)?),
-            Expr::BackrefExistsCondition {
-                group,
-                relative_recursion_level,
-            } => Ok(self.exists(*group, *relative_recursion_level, state)?),
-            Expr::KeepOut => Ok(self.kept(state)?),
-            Expr::ContinueFromPreviousMatchEnd => {
-                Ok(same_if(alloc, self.continued && ix == self.pos, state)?)
-            }
-            _ => Ok(Vec::new(alloc)),
-        }
+            _ => return Ok(self.plain_leaf(expr, within, state)?),
+        };
+        Ok(self.moved(state, to)?)
     }
 }

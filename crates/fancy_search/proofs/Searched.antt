@@ -21,10 +21,10 @@ use Rattle.fancy_expr.specs.declared.error.RuntimeError.TheVariants as limit
 use Rattle.fancy_expr.specs.declared.expr.ExprTree.{ExprTree}
 use Rattle.fancy_expr.specs.Sound.{IsWellFormedTree}
 use Rattle.fancy_expr.specs.Views.{parsed_of}
-use Rattle.fancy_analysis.specs.declared.context.AnalyzeContext.{AnalyzeContext}
-use Rattle.fancy_analysis.specs.declared.info.Info.{Info}
+use Rattle.fancy_info.specs.declared.context.AnalyzeContext.{AnalyzeContext}
+use Rattle.fancy_info.specs.declared.info.Info.{Info}
 use Rattle.fancy_analysis.specs.Analyses.{IsAnalysisOf, IsRefusedAs}
-use Rattle.fancy_analysis.specs.Infos.{analysis_options_of}
+use Rattle.fancy_info.specs.Infos.{analysis_options_of}
 use Rattle.fancy_vm.proofs.FitsLaws.{run_implicit}
 use Rattle.fancy_vm.specs.declared.insn.Prog.{Prog}
 use Rattle.fancy_vm.specs.declared.runs.RunOptions.{RunOptions}

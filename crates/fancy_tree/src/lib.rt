@@ -3,6 +3,7 @@
 
 pub mod expr;
 
-pub use fancy_analysis::{analyze, info};
+pub use fancy_analysis::analyze;
 pub use fancy_characters::{classes, look};
 pub use fancy_expr::{error, parts};
+pub use fancy_info::info;

@@ -1,10 +1,8 @@
 //! What the analysis says of a tree.
 
-use crate::rows::line_of;
-use fancy_tables::columns::split;
 use fancy_tree::analyze::{AnalyzeContext, Info, analyze, can_compile_as_anchored};
 use fancy_tree::error::Error;
-use fancy_tree::expr::{Expr, ExprTree, is_well_formed, read_tree};
+use fancy_tree::expr::{Expr, ExprTree, is_well_formed};
 use std::alloc::{AllocError, Global};
 
 /// `E` where group 0 is the tree's own, `N` where empty matches may be refused, `T` where those at the text's end may be.
@@ -28,28 +26,17 @@ pub fn refusal_of(alloc: Global, tree: &ExprTree, letter: &str) -> Result<String
     }
 }
 
-fn try_refusal(alloc: Global, key: &str) -> Result<String, Error> {
-    let (tree, letter) = split(key);
-    refusal_of(alloc, &read_tree(alloc, tree)?, letter)
-}
-
-/// How the analysis refuses the tree that is spelled.
-pub fn refusal(alloc: Global, key: &str) -> Result<String, AllocError> {
-    line_of(alloc, try_refusal(alloc, key))
-}
-
-fn try_size(alloc: Global, key: &str) -> Result<String, Error> {
-    let tree = read_tree(alloc, key)?;
-    let info = analyze(alloc, &tree, AnalyzeContext::default())?;
-    let least = info.min_size();
-    let most = info.max_size();
-    let is_const = info.const_size();
-    Ok(format!(in alloc; "{least} {most} {is_const}")?)
+/// Whether the tree begins with an anchor.
+pub fn anchor(alloc: Global, expr: &Expr) -> Result<String, AllocError> {
+    let is_anchored = can_compile_as_anchored(expr);
+    format!(in alloc; "{is_anchored}")
 }
 
 /// How many characters the tree takes at least and at most, and whether always as many.
-pub fn size(alloc: Global, key: &str) -> Result<String, AllocError> {
-    line_of(alloc, try_size(alloc, key))
+fn size(alloc: Global, info: &Info<'_>) -> Result<String, AllocError> {
+    let (least, most) = (info.min_size(), info.max_size());
+    let is_const = info.const_size();
+    format!(in alloc; "{least} {most} {is_const}")
 }
 
 /// What is said of the node: group numbers, sizes, and what holds.
@@ -70,12 +57,10 @@ fn push_facts(line: &mut String, info: &Info<'_>) -> Result<(), AllocError> {
     line.push(';')
 }
 
-fn try_nodes(alloc: Global, key: &str) -> Result<String, Error> {
-    let (tree, letter) = split(key);
-    let tree = read_tree(alloc, tree)?;
-    let info = analyze(alloc, &tree, context(letter))?;
+/// What is said of the root and of each of its children.
+fn nodes(alloc: Global, info: &Info<'_>) -> Result<String, AllocError> {
     let mut line = String::new(alloc);
-    push_facts(&mut line, &info)?;
+    push_facts(&mut line, info)?;
     for child in info.children() {
         line.push(' ')?;
         push_facts(&mut line, child)?;
@@ -83,26 +68,8 @@ fn try_nodes(alloc: Global, key: &str) -> Result<String, Error> {
     Ok(line)
 }
 
-/// What is said of the root and of each of its children.
-pub fn nodes(alloc: Global, key: &str) -> Result<String, AllocError> {
-    line_of(alloc, try_nodes(alloc, key))
-}
-
-fn try_anchor(alloc: Global, key: &str) -> Result<String, Error> {
-    let tree = read_tree(alloc, key)?;
-    let is_anchored = can_compile_as_anchored(&tree.expr);
-    Ok(format!(in alloc; "{is_anchored}")?)
-}
-
-/// Whether the tree begins with an anchor.
-pub fn anchor(alloc: Global, key: &str) -> Result<String, AllocError> {
-    line_of(alloc, try_anchor(alloc, key))
-}
-
-fn try_kept(alloc: Global, key: &str) -> Result<String, Error> {
-    let (tree, letter) = split(key);
-    let tree = read_tree(alloc, tree)?;
-    let info = analyze(alloc, &tree, context(letter))?;
+/// The options that an analysis keeps, and whether its expression is a concatenation.
+fn kept(alloc: Global, info: &Info<'_>) -> Result<String, AllocError> {
     let explicit = info.explicit_capture_group_0();
     let (not_empty, end_text) = (info.find_not_empty(), info.end_text_option());
     let kind = if matches!(info.expr(), Expr::Concat(_)) {
@@ -110,10 +77,24 @@ fn try_kept(alloc: Global, key: &str) -> Result<String, Error> {
     } else {
         "-"
     };
-    Ok(format!(in alloc; "{explicit} {not_empty} {end_text} {kind}")?)
+    format!(in alloc; "{explicit} {not_empty} {end_text} {kind}")
 }
 
-/// The options that an analysis keeps, and whether its expression is a concatenation.
-pub fn kept(alloc: Global, key: &str) -> Result<String, AllocError> {
-    line_of(alloc, try_kept(alloc, key))
+/// What the table asks of the tree's analysis.
+pub fn analysed(
+    alloc: Global,
+    table: &str,
+    tree: &ExprTree,
+    letter: &str,
+) -> Result<String, Error> {
+    if !is_well_formed(tree) {
+        return Err(Error::TreeFault { at: 0 });
+    }
+    let info = analyze(alloc, tree, context(letter))?;
+    let line = match table {
+        "sizes" => size(alloc, &info),
+        "nodes" => nodes(alloc, &info),
+        _ => kept(alloc, &info),
+    };
+    Ok(line?)
 }

@@ -1,11 +1,10 @@
 //! Trees that no notation spells: a tree that is read and then changed.
 
 use crate::analysis::refusal_of;
-use crate::rows::line_of;
-use fancy_tables::columns::{number, pair, split};
+use fancy_tables::columns::{number, pair};
 use fancy_tree::error::Error;
-use fancy_tree::expr::{AstNode, CaptureGroupTarget, Expr, ExprTree, read_tree};
-use std::alloc::{AllocError, Global};
+use fancy_tree::expr::{AstNode, CaptureGroupTarget, Expr, ExprTree};
+use std::alloc::Global;
 use std::collections::BTreeSet;
 
 /// A node that only a parser makes.
@@ -69,16 +68,14 @@ fn change(alloc: Global, tree: &mut ExprTree, word: &str) -> Result<(), Error> {
     Ok(())
 }
 
-fn try_refusal(alloc: Global, key: &str) -> Result<String, Error> {
-    let (tree, changes) = split(key);
-    let mut tree = read_tree(alloc, tree)?;
-    for word in changes.split_whitespace() {
-        change(alloc, &mut tree, word)?;
-    }
-    refusal_of(alloc, &tree, "")
-}
-
 /// How the analysis refuses the tree when it is changed.
-pub fn refusal(alloc: Global, key: &str) -> Result<String, AllocError> {
-    line_of(alloc, try_refusal(alloc, key))
+pub fn refusal_when_changed(
+    alloc: Global,
+    tree: &mut ExprTree,
+    changes: &str,
+) -> Result<String, Error> {
+    for word in changes.split_whitespace() {
+        change(alloc, tree, word)?;
+    }
+    refusal_of(alloc, tree, "")
 }

@@ -6,7 +6,7 @@ use fancy_tree::classes::{
     CaseiLiteral, CharClassMatcher, fold_equal, matches_literal_casei_unicode, past_piece,
 };
 use fancy_tree::error::Error;
-use fancy_tree::expr::{Expr, read_tree};
+use fancy_tree::expr::Expr;
 use fancy_tree::look::holds;
 use std::alloc::{AllocError, Global};
 
@@ -82,17 +82,16 @@ fn piece(alloc: Global, key: &str) -> Result<String, Error> {
 }
 
 /// The places of the text where the assertion holds.
-fn places(alloc: Global, key: &str) -> Result<String, Error> {
-    let (assertion, rest) = split(key);
-    let (letters, text) = split(rest);
-    let text = with_line_ends(alloc, text)?;
-    let Expr::Assertion(assertion) = read_tree(alloc, assertion)?.expr else {
+pub fn places(alloc: Global, expr: &Expr, columns: &str) -> Result<String, Error> {
+    let Expr::Assertion(assertion) = expr else {
         return Err(Error::TreeFault { at: 0 });
     };
+    let (letters, text) = split(columns);
+    let text = with_line_ends(alloc, text)?;
     let mut line = String::from_str(alloc, "at")?;
     for ix in 0..text.len() + 1 {
         let text = text.as_str();
-        if text.is_char_boundary(ix) && holds(assertion, !letters.contains('a'), text, ix) {
+        if text.is_char_boundary(ix) && holds(*assertion, !letters.contains('a'), text, ix) {
             write!(line, " {ix}")?;
         }
     }
@@ -106,8 +105,7 @@ pub fn outcome(alloc: Global, table: &str, key: &str) -> Result<String, AllocErr
         "newlines" => newline(alloc, key),
         "folds" => fold(alloc, key),
         "literals" => literal(alloc, key),
-        "pieces" => piece(alloc, key),
-        _ => places(alloc, key),
+        _ => piece(alloc, key),
     };
     line_of(alloc, line)
 }

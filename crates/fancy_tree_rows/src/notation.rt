@@ -1,7 +1,5 @@
 //! What is read of a text.
 
-use crate::rows::line_of;
-use fancy_tables::columns::written_out;
 use fancy_tree::error::Error;
 use fancy_tree::expr::{ExprTree, is_well_formed, read_tree};
 use std::alloc::{AllocError, Global};
@@ -22,7 +20,7 @@ fn is_plain(tree: &ExprTree) -> bool {
 
 /// How many groups the tree has, the groups that its references name, the number that no group has, whether it has a number that names a
 /// group, and whether it has a call.
-fn described(alloc: Global, tree: &ExprTree) -> Result<String, Error> {
+pub fn described(alloc: Global, tree: &ExprTree) -> Result<String, Error> {
     if !is_plain(tree) {
         return Ok(String::from_str(alloc, "names, or ill-formed")?);
     }
@@ -35,15 +33,4 @@ fn described(alloc: Global, tree: &ExprTree) -> Result<String, Error> {
     let has_call = tree.contains_subroutines;
     write!(line, " {past:?} {has_number} {has_call}")?;
     Ok(line)
-}
-
-fn try_numbers(alloc: Global, key: &str) -> Result<String, Error> {
-    let text = written_out(alloc, key)?;
-    let tree = read_tree(alloc, text.as_str())?;
-    described(alloc, &tree)
-}
-
-/// What comes with the tree.
-pub fn numbers(alloc: Global, key: &str) -> Result<String, AllocError> {
-    line_of(alloc, try_numbers(alloc, key))
 }

@@ -3,9 +3,4 @@ pub mod FitsLaws
 pub mod NumbersLaws
 pub mod StepLaws
 pub mod BackLaws
-pub mod OldLaws
-pub mod CellLaws
-pub mod HeldLaws
-pub mod JoinLaws
-pub mod StateLaws
 pub mod MeaningLaws

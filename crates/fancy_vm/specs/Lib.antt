@@ -1,8 +1,3 @@
-pub mod Held
-pub mod OldValues
-pub mod CellsView
-pub mod View
-pub mod Refused
 pub mod Insns
 pub mod Programs
 pub mod Meant

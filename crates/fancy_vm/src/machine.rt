@@ -3,14 +3,14 @@
 ghost use Rattle.std.specs.Prelude.{◌≡◌, ◌+◌, ◌<◌, ◌≤◌, length, OnOk, IfErr};
 ghost use Rattle.fancy_meaning.specs.Config as config;
 ghost use Rattle.fancy_meaning.specs.Machine as machine;
-ghost use Rattle.fancy_vm.specs.Held.{first_held};
-ghost use Rattle.fancy_vm.specs.Refused.{IsMemory, IsRefused};
+ghost use Rattle.fancy_state.specs.Held.{first_held};
+ghost use Rattle.fancy_state.specs.Refused.{IsMemory, IsRefused};
 ghost use Rattle.fancy_vm.specs.Meant.{IsMade, StepAnswers, config_of, meant, with_branch};
 
 use crate::insn::Prog;
 use crate::runs::RunOptions;
-use crate::state::State;
 use fancy_expr::error::{Error, RuntimeError};
+use fancy_state::state::State;
 use std::alloc::Global;
 
 /// How many branches a run may hold.

@@ -6,7 +6,7 @@ ghost use Rattle.fancy_meaning.specs.Places as place;
 ghost use Rattle.fancy_meaning.specs.Machine.{class_test};
 ghost use Rattle.fancy_characters.specs.Classes.{class_of};
 ghost use Rattle.fancy_characters.specs.Literals.{literal_tests};
-ghost use Rattle.fancy_vm.specs.Refused.{IsMemory};
+ghost use Rattle.fancy_state.specs.Refused.{IsMemory};
 
 use fancy_characters::classes::{CaseiLiteral, CharClassMatcher};
 use fancy_characters::places::is_place;

@@ -6,13 +6,13 @@ ghost use Rattle.fancy_meaning.specs.Fits.{run_fits};
 ghost use Rattle.fancy_vm.specs.Means.{Means, MeansPair, numbers_of};
 ghost use Rattle.fancy_vm.specs.Meant.{RunAnswers, RunAnswersPair, Finds, IsMade, config_of, meant};
 ghost use Rattle.fancy_vm.specs.Programs.{IsUnused, allocator_of, default_at, default_task, options_of, prog_of, task_of};
-ghost use Rattle.fancy_vm.specs.Refused.{IsMemory};
+ghost use Rattle.fancy_state.specs.Refused.{IsMemory};
 
 use crate::insn::Prog;
 use crate::machine::{MAX_BRANCHES, Machine, Next, Task};
-use crate::state::State;
 use fancy_characters::places::is_place;
 use fancy_expr::error::{Error, RuntimeError};
+use fancy_state::state::State;
 use std::alloc::Global;
 
 /// How a program is run.

@@ -2,4 +2,4 @@
 
 pub use crate::insn::{Insn, Prog, ProgParts};
 pub use crate::runs::{RunOptions, Scratch, run, run_default, run_spans};
-pub use crate::state::State;
+pub use fancy_state::state::State;

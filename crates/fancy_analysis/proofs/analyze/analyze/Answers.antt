@@ -5,9 +5,9 @@ use Rattle.fancy_meaning.specs.Options.{AnalysisOptions, analysis_of}
 use Rattle.fancy_meaning.specs.Sizes.{known_of}
 use Rattle.fancy_meaning.specs.Tree.{NoLook}
 use Rattle.fancy_analysis.specs.Endings.{IsWhole}
-use Rattle.fancy_analysis.specs.Infos.{analysis_options_of}
+use Rattle.fancy_info.specs.Infos.{analysis_options_of}
 use Rattle.fancy_analysis.specs.Analyses.{IsAnalysisOf, IsRefusedAs}
-use Rattle.fancy_analysis.specs.declared.info.Info.{Info}
+use Rattle.fancy_info.specs.declared.info.Info.{Info}
 use Rattle.fancy_expr.specs.declared.expr.ExprTree.{ExprTree}
 use Rattle.fancy_expr.specs.declared.error.Error.{Error}
 use Rattle.fancy_expr.specs.declared.error.Error.TheVariants.{Memory}
@@ -16,7 +16,7 @@ use Rattle.fancy_analysis.specs.Refusals.{HasNoRefusedNode, IsAnalysable}
 use Rattle.fancy_expr.specs.Errors.{error_of}
 use Rattle.fancy_expr.proofs.Listed.{false_true}
 use Rattle.fancy_analysis.proofs.WholeNodes.{whole_visited}
-use Rattle.fancy_analysis.specs.Sized.{size_of}
+use Rattle.fancy_info.specs.Sized.{size_of}
 use Rattle.fancy_expr.specs.Views.{parsed_of}
 use Rattle.fancy_analysis.proofs.RefusalNodes.{flag_is_read}
 use Rattle.fancy_analysis.proofs.analyze.analyze.Goals as goal

@@ -1,6 +1,6 @@
 use Rattle.std.proofs.Common.{◌≡◌, ◌&&◌, ◌||◌, false, nat_lt, ◌<◌, length, get_or, slice_index_or, arith, ap, ◌∙◌, sym}
 use Rattle.fancy_analysis.specs.Endings.{ends_by, and_then, node_ends, is_own_end, group_ends}
-use Rattle.fancy_analysis.specs.Infos.{info_tree, info_children, info_facts}
+use Rattle.fancy_info.specs.Infos.{info_tree, info_children, info_facts}
 use Rattle.fancy_analysis.proofs.InfoNodes.{child_analysed}
 use Rattle.fancy_analysis.proofs.EndingParts.{ends-taken, ends-here, flag_more, flag_all}
 use Rattle.fancy_analysis.proofs.endings.+find_ends.Goals as goal

@@ -1,6 +1,6 @@
 use Rattle.std.proofs.Common.{◌≡◌, ℕ, ◌&&◌, ◌||◌, false, nat_lt, take, length, slice_index_or}
 use Rattle.fancy_meaning.specs.Options.{Analysis}
-use Rattle.fancy_analysis.specs.Infos.{info_children, IsAnalysed}
+use Rattle.fancy_info.specs.Infos.{info_children, IsAnalysed}
 use Rattle.fancy_analysis.specs.Endings.{is_ended_group}
 use Rattle.fancy_analysis.proofs.InfoNodes.{any_in_each}
 use Rattle.fancy_analysis.proofs.EndingParts.{ends_of}

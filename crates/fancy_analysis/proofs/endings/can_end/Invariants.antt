@@ -1,6 +1,6 @@
 use Rattle.std.proofs.Common.{◌≡◌, ◌≤◌, length, max}
 use Rattle.fancy_meaning.specs.Options.{Analysis}
-use Rattle.fancy_analysis.specs.declared.info.Info.TheViews.{out-Info}
+use Rattle.fancy_info.specs.declared.info.Info.TheViews.{out-Info}
 use Rattle.fancy_analysis.specs.Endings.{IsWhole, set_count}
 use Rattle.fancy_analysis.proofs.EndingRules.{IsSoundFor}
 use Rattle.fancy_analysis.proofs.endings.can_end.Given as goal

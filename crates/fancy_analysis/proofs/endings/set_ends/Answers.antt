@@ -1,6 +1,6 @@
 use Rattle.std.proofs.Common.{◌≡◌, ◌&&◌, ◌||◌, false, nat_lt, length, slice_index_or, slice_set, ap, ◌∙◌, sym}
 use Rattle.fancy_analysis.specs.Endings.{group_ends}
-use Rattle.fancy_analysis.specs.Infos.{info_tree}
+use Rattle.fancy_info.specs.Infos.{info_tree}
 use Rattle.fancy_analysis.proofs.EndingRules.{next_of}
 use Rattle.fancy_analysis.proofs.endings.set_ends.Goals.{then-flags, else-flags}
 use Rattle.fancy_analysis.proofs.endings.set_ends.Goals as goal

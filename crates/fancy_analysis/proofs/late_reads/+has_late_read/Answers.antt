@@ -2,7 +2,7 @@ use Rattle.std.proofs.Common.{◌≡◌, ◌<◌, ◌||◌, length, get_or, arit
 use Rattle.std.specs.List.{list_any}
 use Rattle.std.proofs.lemmas.List.{take_all}
 use Rattle.fancy_meaning.specs.Nodes.{nodes}
-use Rattle.fancy_analysis.specs.Infos.{info_tree, info_children}
+use Rattle.fancy_info.specs.Infos.{info_tree, info_children}
 use Rattle.fancy_analysis.specs.LateReads.{is_read_late}
 use Rattle.fancy_analysis.proofs.EndingRules.{or_right}
 use Rattle.fancy_analysis.proofs.InfoNodes.{has_parts, child_analysed, any_in_each, any-below, any-taken, any-at}

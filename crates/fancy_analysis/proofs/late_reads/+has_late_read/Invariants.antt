@@ -1,6 +1,6 @@
 use Rattle.std.proofs.Common.{◌≡◌, false, take}
 use Rattle.fancy_meaning.specs.Options.{Analysis}
-use Rattle.fancy_analysis.specs.Infos.{info_children, IsAnalysed}
+use Rattle.fancy_info.specs.Infos.{info_children, IsAnalysed}
 use Rattle.fancy_analysis.specs.LateReads.{is_read_late}
 use Rattle.fancy_analysis.proofs.InfoNodes.{any_in_each}
 use Rattle.fancy_analysis.proofs.late_reads.+has_late_read.Given as goal

@@ -1,5 +1,5 @@
 use Rattle.std.proofs.Common.{◌≡◌, ◌<◌, ◌==◌, length, get_or, arith, ap, ◌∙◌, sym}
-use Rattle.fancy_analysis.specs.Infos.{info_tree, info_children, info_facts}
+use Rattle.fancy_info.specs.Infos.{info_tree, info_children, info_facts}
 use Rattle.fancy_analysis.specs.LateReads.{meet, met_over, owned, owner_inside, own_inside}
 use Rattle.fancy_expr.specs.Views.{tree_of}
 use Rattle.fancy_analysis.proofs.InfoNodes.{child_analysed}

@@ -1,6 +1,6 @@
 use Rattle.std.proofs.Common.{◌≡◌, ℕ, ◌==◌, take}
 use Rattle.fancy_meaning.specs.Options.{Analysis}
-use Rattle.fancy_analysis.specs.Infos.{info_tree, info_children, IsAnalysed}
+use Rattle.fancy_info.specs.Infos.{info_tree, info_children, IsAnalysed}
 use Rattle.fancy_analysis.specs.LateReads.{meet, owner_inside}
 use Rattle.fancy_analysis.proofs.LateReadWalk.{met_in_each}
 use Rattle.fancy_analysis.proofs.late_reads.+meet_all.Given as goal

@@ -1,8 +1,8 @@
 use Rattle.std.proofs.Common.{map, ap, ◌∙◌, sym, refl}
 use Rattle.std.proofs.lemmas.Bool.{eq-eqb}
 use Rattle.fancy_meaning.specs.Tree.{trees}
-use Rattle.fancy_analysis.specs.Infos.{node_over, info_tree, info_children, info_facts}
-use Rattle.fancy_analysis.proofs.Unfolded.{tree_out}
+use Rattle.fancy_info.specs.Infos.{node_over, info_tree, info_children, info_facts}
+use Rattle.fancy_info.proofs.Unfolded.{tree_out}
 use Rattle.fancy_analysis.proofs.LateReadWalk.{late_group, no_group_late}
 use Rattle.fancy_analysis.proofs.late_reads.is_read_late.Goals as goal
 

@@ -1,5 +1,5 @@
 use Rattle.std.proofs.Common.{◌∙◌, sym}
-use Rattle.fancy_analysis.specs.Infos.{info_tree}
+use Rattle.fancy_info.specs.Infos.{info_tree}
 use Rattle.fancy_analysis.proofs.LateReadSpots.{read_late, no_read_late}
 use Rattle.fancy_analysis.proofs.late_reads.reads_after_call.Goals as goal
 

@@ -1,7 +1,7 @@
 use Rattle.std.proofs.Common.{◌≡◌, ◌<◌, length, get_or, if◌then◌else◌, sym, ap, ◌∙◌, subst, arith}
 use Rattle.fancy_meaning.specs.Sizes.{known_of}
 use Rattle.fancy_meaning.specs.Spots.{past}
-use Rattle.fancy_analysis.specs.Infos.{info_children, info_facts, info_tree}
+use Rattle.fancy_info.specs.Infos.{info_children, info_facts, info_tree}
 use Rattle.fancy_analysis.specs.Links.{IsAt, around_inside, follows}
 use Rattle.fancy_analysis.proofs.LinkNodes.{on_way_first, on_way_more, on_way_all, own_added, child_size}
 use Rattle.fancy_analysis.proofs.GroupSizes.{child_sized}

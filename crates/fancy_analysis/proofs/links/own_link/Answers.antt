@@ -1,5 +1,5 @@
 use Rattle.std.proofs.Common.{sym, ap, ◌∙◌}
-use Rattle.fancy_analysis.specs.Infos.{nth, node_over}
+use Rattle.fancy_info.specs.Infos.{nth, node_over}
 use Rattle.fancy_analysis.specs.Links.{link_from}
 use Rattle.fancy_analysis.proofs.links.own_link.Goals as goal
 

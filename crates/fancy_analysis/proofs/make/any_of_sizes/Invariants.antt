@@ -1,7 +1,7 @@
 use Rattle.std.proofs.Common.{◌≡◌, map, drop, ◌<◌, length}
 use Rattle.fancy_meaning.specs.Sizes.{any_of}
-use Rattle.fancy_analysis.specs.Sized.{size_of}
-use Rattle.fancy_analysis.specs.Infos.{info_size}
+use Rattle.fancy_info.specs.Sized.{size_of}
+use Rattle.fancy_info.specs.Infos.{info_size}
 use Rattle.fancy_analysis.proofs.make.any_of_sizes.Given as goal
 
 abbrev pub invariant-loop-i : goal.invariant-loop-i

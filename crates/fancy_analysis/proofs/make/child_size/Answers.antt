@@ -1,7 +1,7 @@
 use Rattle.std.proofs.Common.{◌≡◌, ℕ, zero, suc, ◌<◌, ◌≤◌, List, [], ◌∷◌, length, map, get_or, refl, ap, ◌∙◌, arith}
 use Rattle.fancy_meaning.specs.Sizes.{exactly}
-use Rattle.fancy_analysis.specs.declared.info.Info.{Info}
-use Rattle.fancy_analysis.specs.Infos.{info_size}
+use Rattle.fancy_info.specs.declared.info.Info.{Info}
+use Rattle.fancy_info.specs.Infos.{info_size}
 use Rattle.fancy_analysis.specs.Made.{nth_size}
 use Rattle.fancy_analysis.proofs.make.child_size.Goals as goal
 

@@ -1,5 +1,5 @@
 use Rattle.std.proofs.Common.{◌≡◌, map, drop}
-use Rattle.fancy_analysis.specs.Infos.{info_hard}
+use Rattle.fancy_info.specs.Infos.{info_hard}
 use Rattle.fancy_analysis.specs.Made.{some_true}
 use Rattle.fancy_analysis.proofs.make.has_hard.Given as goal
 

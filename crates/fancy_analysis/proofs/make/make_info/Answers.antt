@@ -1,7 +1,7 @@
 use Rattle.std.proofs.Common.{map, refl, ap, ◌∙◌}
-use Rattle.fancy_analysis.specs.Infos.{info_size, info_hard, analysis_options_of}
+use Rattle.fancy_info.specs.Infos.{info_size, info_hard, analysis_options_of}
 use Rattle.fancy_expr.specs.Walk.{within_of}
-use Rattle.fancy_analysis.specs.Sized.{size_of}
+use Rattle.fancy_info.specs.Sized.{size_of}
 use Rattle.fancy_analysis.specs.Made.{size_over, hard_over, tables_known}
 use Rattle.fancy_analysis.proofs.MadeNodes.{made}
 use Rattle.fancy_analysis.proofs.make.make_info.Goals as goal

@@ -1,6 +1,6 @@
 use Rattle.std.proofs.Common.{◌≡◌, ◌&&◌, false, true, sym, ap, ◌∙◌, subst}
 use Rattle.fancy_meaning.specs.AnalysisRefusals.{AnalysisRefuses, before_end, named_groups_with_numbers}
-use Rattle.fancy_analysis.specs.Infos.{analysis_options_of}
+use Rattle.fancy_info.specs.Infos.{analysis_options_of}
 use Rattle.fancy_expr.specs.Questions.{is_refused}
 use Rattle.std.specs.List.{list_any}
 use Rattle.fancy_meaning.specs.Nodes.{nodes}

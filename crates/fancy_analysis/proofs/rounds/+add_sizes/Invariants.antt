@@ -1,8 +1,8 @@
 use Rattle.std.proofs.Common.{◌≡◌, ◌++◌, map, take}
 use Rattle.fancy_meaning.specs.Sizes.{Known}
-use Rattle.fancy_analysis.specs.Infos.{info_facts, info_size, info_children}
+use Rattle.fancy_info.specs.Infos.{info_facts, info_size, info_children}
 use Rattle.fancy_analysis.specs.Made.{IsSized, own_size}
-use Rattle.fancy_analysis.specs.Sized.{size_of}
+use Rattle.fancy_info.specs.Sized.{size_of}
 use Rattle.fancy_analysis.proofs.GroupSizes.{sizes_in_each}
 use Rattle.fancy_analysis.proofs.rounds.+add_sizes.Given as goal
 

@@ -1,7 +1,7 @@
 use Rattle.std.proofs.Common.{◌≡◌, ℕ, ◌+◌, ◌<◌, ◌++◌, List, ◌∷◌, [], length, map, take, get_or, false, refl, sym, ap, ◌∙◌, arith}
 use Rattle.std.proofs.lemmas.List.{map-append, take_more, take_all}
-use Rattle.fancy_analysis.specs.declared.size.Size.{Size}
-use Rattle.fancy_analysis.specs.Sized.{size_of}
+use Rattle.fancy_info.specs.declared.size.Size.{Size}
+use Rattle.fancy_info.specs.Sized.{size_of}
 use Rattle.fancy_analysis.proofs.rounds.are_same.Goals as goal
 
 step : (xs : List Size) (i : ℕ) (d : Size) → i < length xs → map size_of (take (i + 1) xs) ≡ map size_of (take i xs) ++ size_of (get_or xs i d) ∷ []

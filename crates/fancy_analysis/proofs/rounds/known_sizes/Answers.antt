@@ -4,7 +4,7 @@ use Rattle.fancy_meaning.specs.Nodes.{group_count}
 use Rattle.fancy_meaning.specs.Numbering.{numbered_within}
 use Rattle.fancy_meaning.specs.Sizes.{next_round, after_rounds, unknown}
 use Rattle.fancy_expr.specs.Views.{tree_of}
-use Rattle.fancy_analysis.specs.Sized.{size_of}
+use Rattle.fancy_info.specs.Sized.{size_of}
 use Rattle.fancy_expr.proofs.Numbered.{count-numbered}
 use Rattle.fancy_analysis.proofs.RoundSizes.{settled, last_round}
 use Rattle.fancy_analysis.proofs.rounds.known_sizes.Goals as goal

@@ -3,7 +3,7 @@ use Rattle.fancy_meaning.specs.Tree as plain
 use Rattle.fancy_meaning.specs.Numbering.{numbered_within}
 use Rattle.fancy_meaning.specs.Sizes.{after_rounds}
 use Rattle.fancy_expr.specs.Views.{tree_of}
-use Rattle.fancy_analysis.specs.Sized.{size_of}
+use Rattle.fancy_info.specs.Sized.{size_of}
 use Rattle.fancy_analysis.proofs.rounds.known_sizes.Given as goal
 
 abbrev pub invariant-loop-round : goal.invariant-loop-round

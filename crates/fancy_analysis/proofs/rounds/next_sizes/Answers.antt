@@ -3,7 +3,7 @@ use Rattle.fancy_meaning.specs.Tree as plain
 use Rattle.fancy_meaning.specs.Numbering.{numbered_within}
 use Rattle.fancy_meaning.specs.Sizes.{next_round}
 use Rattle.fancy_expr.specs.Views.{tree_of}
-use Rattle.fancy_analysis.specs.Sized.{size_of}
+use Rattle.fancy_info.specs.Sized.{size_of}
 use Rattle.fancy_analysis.specs.Made.{from_0, from_1, tables_known}
 use Rattle.fancy_analysis.proofs.RoundSizes.{round_from_0, round_from_1}
 use Rattle.fancy_analysis.proofs.rounds.next_sizes.Goals as goal

@@ -1,5 +1,5 @@
 use Rattle.std.proofs.Common.{◌+◌, ◌||◌, drop, ◌<◌, length, map, sym, ap, ◌∙◌, subst, arith}
-use Rattle.fancy_analysis.specs.Infos.{IsAnalysed, info_children}
+use Rattle.fancy_info.specs.Infos.{IsAnalysed, info_children}
 use Rattle.fancy_expr.specs.Each.{Each}
 use Rattle.fancy_compile.specs.Nodes.{node_count, total, is_absent_expr}
 use Rattle.fancy_compile.proofs.Infos.{node_count-below, child_count, each_at, known_child}

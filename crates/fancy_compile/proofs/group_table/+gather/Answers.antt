@@ -1,9 +1,9 @@
 use Rattle.std.proofs.Common.{◌<◌, ◌++◌, length, map, drop, ◌+◌, sym, ap, ◌∙◌, subst, arith, append_assoc}
-use Rattle.fancy_analysis.specs.Infos.{IsAnalysed, info_tree}
+use Rattle.fancy_info.specs.Infos.{IsAnalysed, info_tree}
 use Rattle.fancy_expr.specs.Each.{Each}
 use Rattle.fancy_compile.specs.Nodes.{node_count, total}
 use Rattle.fancy_compile.specs.GroupTables.{is_group, own_trees, trees_of, group_trees}
-use Rattle.fancy_analysis.specs.Infos.{info_facts, info_children}
+use Rattle.fancy_info.specs.Infos.{info_facts, info_children}
 use Rattle.fancy_compile.proofs.Infos.{node_count-below, child_count, each_at, known_child}
 use Rattle.fancy_compile.proofs.GroupTable.{each_group_trees, groups_of_info, each_rest}
 use Rattle.fancy_compile.proofs.group_table.+gather.Goals as goal

@@ -1,6 +1,6 @@
 use Rattle.std.proofs.Common.{◌≡◌, ℕ, ◌≤◌, ◌++◌, drop}
 use Rattle.fancy_meaning.specs.Options.{Analysis}
-use Rattle.fancy_analysis.specs.Infos.{info_tree}
+use Rattle.fancy_info.specs.Infos.{info_tree}
 use Rattle.fancy_expr.specs.Each.{Each}
 use Rattle.fancy_compile.specs.Nodes.{node_count, IsKnown, IsBody}
 use Rattle.fancy_compile.specs.GroupTables.{trees_of, group_trees}

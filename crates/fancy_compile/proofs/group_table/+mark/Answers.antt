@@ -1,7 +1,7 @@
 use Rattle.std.proofs.Common.{◌≡◌, ◌<◌, ◌==◌, ◌∷◌, [], length, map, sym, ap, ◌∙◌, subst, arith, eq-eqb, ne_eqb}
 use Rattle.fancy_meaning.specs.Marks.{marked_groups}
 use Rattle.fancy_meaning.specs.Sizes.{Size}
-use Rattle.fancy_analysis.specs.Infos.{IsAnalysed, info_tree, info_facts}
+use Rattle.fancy_info.specs.Infos.{IsAnalysed, info_tree, info_facts}
 use Rattle.fancy_expr.specs.Each.{Each}
 use Rattle.fancy_compile.specs.Nodes.{node_count, total}
 use Rattle.fancy_compile.specs.GroupTables.{MarksAll, is_group, is_concat}

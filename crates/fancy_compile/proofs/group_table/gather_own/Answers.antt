@@ -1,6 +1,6 @@
 use Rattle.std.proofs.Common.{◌++◌, ◌∷◌, [], sym, ap, ◌∙◌, subst, arith}
 use Rattle.std.proofs.lemmas.List.{map-append}
-use Rattle.fancy_analysis.specs.Infos.{info_tree}
+use Rattle.fancy_info.specs.Infos.{info_tree}
 use Rattle.fancy_expr.specs.Each.{Each}
 use Rattle.fancy_compile.specs.Nodes.{IsBody}
 use Rattle.fancy_compile.specs.GroupTables.{is_group, trees_of}

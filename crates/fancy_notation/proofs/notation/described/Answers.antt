@@ -13,6 +13,6 @@ returns c = (
   refl,
   described_by _ (surveyed_of c.note_all.new.self) (c.in_ok-note_all.ensures
       ∙ ap (λ l. noted_all (record { references = l; numeric = false; calls = false }) (nodes (tree_of c.args.expr))) c.new.ensures.items)
-      (c.in_ok-within.ensures ∙ ap (up_to c.args.total_groups []) c.deref.ensures.value) (c.first_past.ensures
+      (c.in_ok-backrefs.ensures ∙ ap (up_to c.args.total_groups []) c.deref.ensures.value) (c.first_past.ensures
       ∙ ap (first_past c.args.total_groups) c.deref-2.ensures.value) refl refl refl c.new-2.ensures.empty,
 )

@@ -11,12 +11,12 @@ returns-in_err-d-clause-taken c =
     (omega arith) (sym c.in_err-d.ensures) in
     rw c.from_residual.ensures (sym nothing ∙ c.take.invariant.0)
 
-pub returns-then-not-takes-clause-taken : goal.returns-then-not-takes-clause-taken
-returns-then-not-takes-clause-taken c =
+pub returns-then-not-literal_takes-clause-taken : goal.returns-then-not-literal_takes-clause-taken
+returns-then-not-literal_takes-clause-taken c =
     let unicode = c.args.self.now.unicode in
     let other = other_there c.args.text.now (λ d. literal_takes unicode d.0 d.1) c.args.self.now.chars.items c.index.result.now c.take.i c.take.at
     (omega arith) c.in_ok-d.d
-    (sym c.in_ok-d.ensures) (ap (λ d. literal_takes unicode d.0 d.1 c.in_ok-d.d) (sym c.index.ensures) ∙ sym c.if-not-takes.ensures) in
+    (sym c.in_ok-d.ensures) (ap (λ d. literal_takes unicode d.0 d.1 c.in_ok-d.d) (sym c.index.ensures) ∙ sym c.if-not-literal_takes.ensures) in
     sym other ∙ c.take.invariant.0
 
 pub overflow_add-at : goal.overflow_add-at
@@ -27,7 +27,7 @@ take-preserved c =
     let unicode = c.args.self.now.unicode in
     let more = taken_there c.args.text.now (λ d. literal_takes unicode d.0 d.1) c.args.self.now.chars.items c.index.result.now c.take.i c.take.at
     (omega arith) c.in_ok-d.d
-    (sym c.in_ok-d.ensures) (ap (λ d. literal_takes unicode d.0 d.1 c.in_ok-d.d) (sym c.index.ensures) ∙ sym c.if-not-takes.ensures) in (
+    (sym c.in_ok-d.ensures) (ap (λ d. literal_takes unicode d.0 d.1 c.in_ok-d.d) (sym c.index.ensures) ∙ sym c.if-not-literal_takes.ensures) in (
       rw c.len_utf8-at.ensures (sym more ∙ c.take.invariant.0),
       omega (arith, c.take.invariant.1),
       omega (arith, c.take.invariant.2, c.len_utf8-at.ensures, char_at_fits c.args.text.now c.take.at c.in_ok-d.d (sym c.in_ok-d.ensures)),

@@ -9,10 +9,10 @@ use Rattle.fancy_meaning.specs.Nodes.{is_read, nodes, is_absent}
 use Rattle.fancy_meaning.specs.Code.{Code, nothing, one, ◌>>◌, branch}
 use Rattle.fancy_meaning.specs.Constructs.{group_code, loop_form}
 use Rattle.fancy_meaning.specs.Instr.{Instr}
-use Rattle.fancy_analysis.specs.declared.info.Info.TheViews.{out-Info}
-use Rattle.fancy_analysis.specs.Infos.{node_over, info_tree, info_size, info_children, info_within, IsAnalysed}
+use Rattle.fancy_info.specs.declared.info.Info.TheViews.{out-Info}
+use Rattle.fancy_info.specs.Infos.{node_over, info_tree, info_size, info_children, info_within, IsAnalysed}
 use Rattle.fancy_expr.specs.Each.{Each}
-use Rattle.fancy_analysis.proofs.Unfolded.{tree_out}
+use Rattle.fancy_info.proofs.Unfolded.{tree_out}
 use Rattle.fancy_compile.specs.Drafts.{draft_of, with_patch, with_jumps, Adds, Writes, hard_code}
 use Rattle.fancy_meaning.specs.AnalysisRefusals as refusal
 use Rattle.fancy_meaning.specs.Sizes.{Size}

@@ -1,7 +1,7 @@
 use Rattle.std.proofs.Common.{ℕ, ◌+◌, ◌*◌, ◌≤◌, Bool, map, drop, length}
 use Rattle.fancy_meaning.specs.Code.{Code, in_turn, branches}
 use Rattle.fancy_compile.specs.Sites.{Site}
-use Rattle.fancy_analysis.specs.Infos.{info_tree, IsAnalysed}
+use Rattle.fancy_info.specs.Infos.{info_tree, IsAnalysed}
 use Rattle.fancy_expr.specs.Each.{Each}
 use Rattle.fancy_compile.specs.Drafts.{Draft, Writes, draft_of, with_jumps}
 use Rattle.fancy_compile.specs.Nodes.{work, node_count, total, codes_in_turn, codes_of_branches, codes_of_none, IsScopeAt}

@@ -1,51 +1,35 @@
 use Rattle.std.proofs.Common.{◌≡◌, false, [], ◌∷◌, ◌++◌, sym, ap, ◌∙◌, subst, refl, arith}
 use Rattle.std.proofs.lemmas.Bool.{and_parts}
 use Rattle.std.proofs.lemmas.Result.{err_from_is_err_and}
-use Rattle.fancy_meaning.specs.Tree.{AbsentExpression, Conditional, Repeat}
 use Rattle.fancy_expr.specs.declared.expr.Absent.TheViews as view
-use Rattle.fancy_expr.specs.Views.{tree_of, bound_of}
+use Rattle.fancy_expr.specs.Views.{tree_of}
 use Rattle.fancy_notation.specs.declared.forms.Form.TheVariants as form
-use Rattle.fancy_notation.specs.Grammar.{closing, SpellsForm, repeat, conditional, absent_expression}
+use Rattle.fancy_notation.specs.Grammar.{closing, Spells, SpellsForm, around, repeat, conditional, absent_expression}
 use Rattle.fancy_notation.specs.Misfit.{Node, Shut, Parts, Count, Bound}
 use Rattle.fancy_notation.specs.NotationViews.{point_of}
 use Rattle.fancy_notation.proofs.Failing.{fails_token, fails_first, after_token, after_node}
 use Rattle.fancy_notation.proofs.Lengths.{node_shorter, taken_shorter}
 use Rattle.fancy_notation.proofs.Loops.{parts_next, parts_splice, parts_done, parts_fail, no_close}
 use Rattle.fancy_notation.proofs.OneChars.{concat_chars, alt_chars, no_parts, one_part, boxed, two, three}
-use Rattle.fancy_notation.proofs.Ends.{leaf_reads, begins_by, form_reads, enclosed_reads, cat_spelled, alt_spelled, not_both}
+use Rattle.fancy_notation.proofs.Ends.{leaf_reads, begins_by, form_reads, cat_spelled, alt_spelled, not_both}
 use Rattle.fancy_notation.proofs.reader.Reader.+reading.Goals as goal
 
 -- ---- absent expressions
 
-pub read_absent_expression-read_node-requires-2 : goal.read_absent_expression-read_node-requires-2
-read_absent_expression-read_node-requires-2 t c = let h = node_shorter c.args.self.now c.read_node.new.self c.in_ok-absent.ensures.0 in (omega (arith, h), tt)
+pub read_absent_expression-read_last-requires : goal.read_absent_expression-read_last-requires
+read_absent_expression-read_last-requires t c =
+    let h = node_shorter c.args.self.now c.read_boxed.new.self c.in_ok-absent.ensures.0 in (omega (arith, h), tt)
 
 pub read_absent_expression-returns-in_err-exp : goal.read_absent_expression-returns-in_err-exp
 read_absent_expression-returns-in_err-exp t c =
     let p = err_from_is_err_and c.from_residual-in_err-exp.result c.from_residual-in_err-exp.ensures.1 in
-    rw (p.1, p.2) (after_node (Node ∷ Shut ∷ []) c.args.self.now c.read_node.new.self _ c.in_ok-absent.ensures
-    (fails_first Node (Shut ∷ []) c.read_node.new.self _ c.in_err-exp.ensures))
-
-pub read_absent_expression-returns-in_err-read_close : goal.read_absent_expression-returns-in_err-read_close
-read_absent_expression-returns-in_err-read_close t c =
-    let p = err_from_is_err_and c.from_residual-in_err-read_close.result c.from_residual-in_err-read_close.ensures.1 in
-    rw (p.1, p.2) (after_node (Node ∷ Shut ∷ []) c.args.self.now c.read_node.new.self _ c.in_ok-absent.ensures
-    (after_node (Shut ∷ []) c.read_node.new.self c.read_node-2.new.self _ c.in_ok-exp.ensures
-    (fails_token closing Shut (λ u. []) (λ g t. refl) [] c.read_node-2.new.self _ c.in_err-read_close.ensures)))
+    rw (p.1, p.2) (after_node (Node ∷ Shut ∷ []) c.args.self.now c.read_boxed.new.self _ c.in_ok-absent.ensures c.in_err-exp.ensures)
 
 pub read_absent_expression-returns : goal.read_absent_expression-returns
 read_absent_expression-returns t c = (
-  subst (λ a. SpellsForm form.AbsentExpression (point_of c.args.self.now) (point_of c.read_close.new.self)
-      (AbsentExpression (tree_of a) (tree_of c.in_ok-new-2.field-0.value))) (sym c.in_ok-new.ensures.ok)
-      (subst (λ e. SpellsForm form.AbsentExpression (point_of c.args.self.now) (point_of c.read_close.new.self)
-      (AbsentExpression (tree_of c.in_ok-absent.absent) (tree_of e))) (sym c.in_ok-new-2.ensures.ok)
-      (absent_expression c.in_ok-absent.ensures.0 c.in_ok-exp.ensures.0 c.in_ok-read_close.ensures.0)),
-  c.in_ok-read_close.ensures.1 ∙ c.in_ok-exp.ensures.1 ∙ c.in_ok-absent.ensures.1,
-  (
-    tt,
-    two c.in_ok-new.field-0.value c.in_ok-new-2.field-0.value (boxed _ _ c.in_ok-new.ensures.ok c.in_ok-absent.ensures.2)
-        (boxed _ _ c.in_ok-new-2.ensures.ok c.in_ok-exp.ensures.2),
-  ),
+  absent_expression c.in_ok-absent.ensures.0 c.in_ok-exp.ensures.0.1 c.in_ok-exp.ensures.0.2,
+  c.in_ok-exp.ensures.1 ∙ c.in_ok-absent.ensures.1,
+  (tt, two c.in_ok-absent.absent.value c.in_ok-exp.exp.value c.in_ok-absent.ensures.2 c.in_ok-exp.ensures.2),
 )
 
 -- ---- alternations
@@ -69,67 +53,72 @@ read_alt-returns t c = (
       (c.in_ok-push.ensures.items ∙ ap (λ l. l ++ c.in_ok-first.first ∷ []) c.new_parts-branches.ensures) c.in_ok-first.ensures.2)),
 )
 
+-- ---- boxes
+
+pub read_boxed-returns : goal.read_boxed-returns
+read_boxed-returns t c = (
+  subst (λ e. Spells (point_of c.args.self.now) (point_of c.read_node.new.self) (tree_of e)) (sym c.in_ok-new.ensures.ok) c.in_ok-node.ensures.0,
+  c.in_ok-node.ensures.1,
+  boxed _ _ c.in_ok-new.ensures.ok c.in_ok-node.ensures.2,
+)
+
+pub read_last-returns-in_err-read_close : goal.read_last-returns-in_err-read_close
+read_last-returns-in_err-read_close t c =
+    let p = err_from_is_err_and c.from_residual-in_err-read_close.result c.from_residual-in_err-read_close.ensures.1 in
+    rw (p.1, p.2) (after_node (Shut ∷ []) c.args.self.now c.read_boxed.new.self _ c.in_ok-node.ensures
+    (fails_token closing Shut (λ u. []) (λ g t. refl) [] c.read_boxed.new.self _ c.in_err-read_close.ensures))
+
+pub read_last-returns : goal.read_last-returns
+read_last-returns t c = (
+  (_, c.in_ok-node.ensures.0, c.in_ok-read_close.ensures.0),
+  c.in_ok-read_close.ensures.1 ∙ c.in_ok-node.ensures.1,
+  c.in_ok-node.ensures.2,
+)
+
 -- ---- conditionals
 
-pub read_conditional-read_node-requires-2 : goal.read_conditional-read_node-requires-2
-read_conditional-read_node-requires-2 t c = let h = node_shorter c.args.self.now c.read_node.new.self c.in_ok-condition.ensures.0 in (omega (arith, h), tt)
+pub read_conditional-read_boxed-requires-2 : goal.read_conditional-read_boxed-requires-2
+read_conditional-read_boxed-requires-2 t c =
+    let h = node_shorter c.args.self.now c.read_boxed.new.self c.in_ok-condition.ensures.0 in (omega (arith, h), tt)
 
 pub read_conditional-returns-in_err-true_branch : goal.read_conditional-returns-in_err-true_branch
 read_conditional-returns-in_err-true_branch t c =
     let p = err_from_is_err_and c.from_residual-in_err-true_branch.result c.from_residual-in_err-true_branch.ensures.1 in
-    rw (p.1, p.2) (after_node (Node ∷ Node ∷ Shut ∷ []) c.args.self.now c.read_node.new.self _ c.in_ok-condition.ensures
-    (fails_first Node (Node ∷ Shut ∷ []) c.read_node.new.self _ c.in_err-true_branch.ensures))
+    rw (p.1, p.2) (after_node (Node ∷ Node ∷ Shut ∷ []) c.args.self.now c.read_boxed.new.self _ c.in_ok-condition.ensures
+    (fails_first Node (Node ∷ Shut ∷ []) c.read_boxed.new.self _ c.in_err-true_branch.ensures))
 
-pub read_conditional-read_node-requires-3 : goal.read_conditional-read_node-requires-3
-read_conditional-read_node-requires-3 t c =
-    let h = node_shorter c.args.self.now c.read_node.new.self c.in_ok-condition.ensures.0 in
-    let k = node_shorter c.read_node.new.self c.read_node-2.new.self c.in_ok-true_branch.ensures.0 in
+pub read_conditional-read_last-requires : goal.read_conditional-read_last-requires
+read_conditional-read_last-requires t c =
+    let h = node_shorter c.args.self.now c.read_boxed.new.self c.in_ok-condition.ensures.0 in
+    let k = node_shorter c.read_boxed.new.self c.read_boxed-2.new.self c.in_ok-true_branch.ensures.0 in
     (omega (arith, h, k), tt)
 
 pub read_conditional-returns-in_err-false_branch : goal.read_conditional-returns-in_err-false_branch
 read_conditional-returns-in_err-false_branch t c =
     let p = err_from_is_err_and c.from_residual-in_err-false_branch.result c.from_residual-in_err-false_branch.ensures.1 in
-    rw (p.1, p.2) (after_node (Node ∷ Node ∷ Shut ∷ []) c.args.self.now c.read_node.new.self _ c.in_ok-condition.ensures
-    (after_node (Node ∷ Shut ∷ []) c.read_node.new.self c.read_node-2.new.self _ c.in_ok-true_branch.ensures
-    (fails_first Node (Shut ∷ []) c.read_node-2.new.self _ c.in_err-false_branch.ensures)))
-
-pub read_conditional-returns-in_err-read_close : goal.read_conditional-returns-in_err-read_close
-read_conditional-returns-in_err-read_close t c =
-    let p = err_from_is_err_and c.from_residual-in_err-read_close.result c.from_residual-in_err-read_close.ensures.1 in
-    rw (p.1, p.2) (after_node (Node ∷ Node ∷ Shut ∷ []) c.args.self.now c.read_node.new.self _ c.in_ok-condition.ensures
-    (after_node (Node ∷ Shut ∷ []) c.read_node.new.self c.read_node-2.new.self _ c.in_ok-true_branch.ensures
-    (after_node (Shut ∷ []) c.read_node-2.new.self c.read_node-3.new.self _ c.in_ok-false_branch.ensures
-    (fails_token closing Shut (λ u. []) (λ g t. refl) [] c.read_node-3.new.self _ c.in_err-read_close.ensures))))
+    rw (p.1, p.2) (after_node (Node ∷ Node ∷ Shut ∷ []) c.args.self.now c.read_boxed.new.self _ c.in_ok-condition.ensures
+    (after_node (Node ∷ Shut ∷ []) c.read_boxed.new.self c.read_boxed-2.new.self _ c.in_ok-true_branch.ensures c.in_err-false_branch.ensures))
 
 pub read_conditional-returns : goal.read_conditional-returns
 read_conditional-returns t c = (
-  subst (λ a. SpellsForm form.Conditional (point_of c.args.self.now) (point_of c.read_close.new.self)
-      (Conditional (tree_of a) (tree_of c.in_ok-new-2.field-0.value) (tree_of c.in_ok-new-3.field-0.value))) (sym c.in_ok-new.ensures.ok)
-      (subst (λ a. SpellsForm form.Conditional (point_of c.args.self.now) (point_of c.read_close.new.self)
-      (Conditional (tree_of c.in_ok-condition.condition) (tree_of a) (tree_of c.in_ok-new-3.field-0.value))) (sym c.in_ok-new-2.ensures.ok)
-      (subst (λ a. SpellsForm form.Conditional (point_of c.args.self.now) (point_of c.read_close.new.self)
-      (Conditional (tree_of c.in_ok-condition.condition) (tree_of c.in_ok-true_branch.true_branch) (tree_of a))) (sym c.in_ok-new-3.ensures.ok)
-      (conditional c.in_ok-condition.ensures.0 c.in_ok-true_branch.ensures.0 c.in_ok-false_branch.ensures.0 c.in_ok-read_close.ensures.0))),
-  c.in_ok-read_close.ensures.1 ∙ c.in_ok-false_branch.ensures.1 ∙ c.in_ok-true_branch.ensures.1 ∙ c.in_ok-condition.ensures.1,
+  conditional c.in_ok-condition.ensures.0 c.in_ok-true_branch.ensures.0 c.in_ok-false_branch.ensures.0.1 c.in_ok-false_branch.ensures.0.2,
+  c.in_ok-false_branch.ensures.1 ∙ c.in_ok-true_branch.ensures.1 ∙ c.in_ok-condition.ensures.1,
   (
     tt,
-    three c.in_ok-new.field-0.value c.in_ok-new-2.field-0.value c.in_ok-new-3.field-0.value (boxed _ _ c.in_ok-new.ensures.ok c.in_ok-condition.ensures.2)
-        (boxed _ _ c.in_ok-new-2.ensures.ok c.in_ok-true_branch.ensures.2) (boxed _ _ c.in_ok-new-3.ensures.ok c.in_ok-false_branch.ensures.2),
+    three c.in_ok-condition.condition.value c.in_ok-true_branch.true_branch.value c.in_ok-false_branch.false_branch.value c.in_ok-condition.ensures.2
+        c.in_ok-true_branch.ensures.2 c.in_ok-false_branch.ensures.2,
   ),
 )
 
 -- ---- what stands around one expression
 
-pub read_enclosed-returns-in_err-read_close : goal.read_enclosed-returns-in_err-read_close
-read_enclosed-returns-in_err-read_close t c =
-    let p = err_from_is_err_and c.from_residual-in_err-read_close.result c.from_residual-in_err-read_close.ensures.1 in
-    rw (p.1, p.2) (after_node (Shut ∷ []) c.args.self.now c.read_node.new.self _ c.in_ok-body.ensures
-    (fails_token closing Shut (λ u. []) (λ g t. refl) [] c.read_node.new.self _ c.in_err-read_close.ensures))
-
 pub read_enclosed-returns : goal.read_enclosed-returns
-read_enclosed-returns t c =
-    enclosed_reads c.args.self.now c.read_node.new.self c.read_close.new.self c.args.enclosing c.in_ok-body.body c.enclosed.result c.in_ok-body.ensures
-    c.in_ok-read_close.ensures c.enclosed.ensures
+read_enclosed-returns t c = (
+  subst (SpellsForm (form.Enclosing c.args.enclosing) (point_of c.args.self.now) (point_of c.read_last.new.self)) (sym c.enclosed.ensures.0)
+      (around c.in_ok-body.ensures.0.1 c.in_ok-body.ensures.0.2),
+  c.in_ok-body.ensures.1,
+  c.enclosed.ensures.1 c.in_ok-body.ensures.2,
+)
 
 -- ---- forms and nodes
 
@@ -187,19 +176,16 @@ read_parts-returns t c =
 
 -- ---- loops
 
-pub read_repeat-returns-in_err-read_close : goal.read_repeat-returns-in_err-read_close
-read_repeat-returns-in_err-read_close t c =
-    let p = err_from_is_err_and c.from_residual-in_err-read_close.result c.from_residual-in_err-read_close.ensures.1 in
+pub read_repeat-returns-in_err-child : goal.read_repeat-returns-in_err-child
+read_repeat-returns-in_err-child t c =
+    let p = err_from_is_err_and c.from_residual-in_err-child.result c.from_residual-in_err-child.ensures.1 in
     rw (p.1, p.2) (after_token Count (λ n. Bound n ∷ []) (λ g t. refl) (Node ∷ Shut ∷ []) c.args.self.now c.read_count.new.self _ c.in_ok-lo.ensures
     (after_token (Bound c.in_ok-lo.lo) (λ n. []) (λ g t. refl) (Node ∷ Shut ∷ []) c.read_count.new.self c.read_bound.new.self _ c.in_ok-hi.ensures
-    (after_node (Shut ∷ []) c.read_bound.new.self c.read_node.new.self _ c.in_ok-child.ensures
-    (fails_token closing Shut (λ u. []) (λ g t. refl) [] c.read_node.new.self _ c.in_err-read_close.ensures))))
+    c.in_err-child.ensures))
 
 pub read_repeat-returns : goal.read_repeat-returns
 read_repeat-returns t c = (
-  subst (λ a. SpellsForm (form.Repeat c.args.greedy) (point_of c.args.self.now) (point_of c.read_close.new.self)
-      (Repeat c.in_ok-lo.lo (bound_of c.in_ok-hi.hi) c.args.greedy (tree_of a))) (sym c.in_ok-new.ensures.ok)
-      (repeat c.in_ok-lo.ensures.0 c.in_ok-hi.ensures.0 c.in_ok-child.ensures.0 c.in_ok-read_close.ensures.0),
-  c.in_ok-read_close.ensures.1 ∙ c.in_ok-child.ensures.1 ∙ c.in_ok-hi.ensures.1 ∙ c.in_ok-lo.ensures.1,
-  (tt, boxed _ _ c.in_ok-new.ensures.ok c.in_ok-child.ensures.2),
+  repeat c.in_ok-lo.ensures.0 c.in_ok-hi.ensures.0 c.in_ok-child.ensures.0.1 c.in_ok-child.ensures.0.2,
+  c.in_ok-child.ensures.1 ∙ c.in_ok-hi.ensures.1 ∙ c.in_ok-lo.ensures.1,
+  (tt, c.in_ok-child.ensures.2),
 )

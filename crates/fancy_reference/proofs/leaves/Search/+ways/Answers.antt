@@ -12,7 +12,7 @@ use Rattle.fancy_reference.specs.States.{state_of, states_of, depths_of}
 use Rattle.fancy_reference.specs.Searches.{setting_of, call_of, ways_of, ways_of_each, ways_of_one, more}
 use Rattle.fancy_reference.proofs.ListLaws.{get_same, slice_mapped, take_mapped}
 use Rattle.fancy_reference.proofs.NodeLaws.{part_size}
-use Rattle.fancy_reference.proofs.NodeWays.{node_found, look_found, three_nodes, is_conditional, repeater_is, other_is}
+use Rattle.fancy_reference.proofs.NodeWays.{node_found, look_found, three_nodes, is_conditional, repeater_is, other_is, same_ways}
 use Rattle.fancy_reference.proofs.Sizes.{call_falls}
 use Rattle.fancy_reference.proofs.WaysLaws.{after_required, again, one_of_next, in_order_next, in_order_done, behind_next, flat_next, required_next, none_from, repeats_by, more_step, absent_on, absent_stop, absent_done, absent_turned, way_found, no_way_found, condition_met, called_open, captured_group}
 use Rattle.fancy_reference.proofs.leaves.Search.+ways.Goals as goal
@@ -185,8 +185,8 @@ conditional-returns-in-Some-clause-found t c =
     ap (λ l. slice_get l 0) (sym c.in_ok-first.ensures.found)
     ∙ slice_mapped state_of c.in_ok-first.first.items
     ∙ ap (option_map state_of) (ap (λ l. slice_get l 0) (sym c.deref.ensures.value) ∙ sym c.first.ensures.value ∙ ap option_copied c.in-Some.is) in
-    IfOk-weaker c.ways-in-Some.result _ _
-    (λ ways h. h ∙ condition_met f c.args.parts.now c.index-parts-0.result c.index-parts-1.result s (state_of c.in-Some.met.now) c.requires
+    same_ways c.ways-in-Some.result
+    (condition_met f c.args.parts.now c.index-parts-0.result c.index-parts-1.result s (state_of c.in-Some.met.now) c.requires
     c.index-parts-0.is c.index-parts-1.is met)
     c.ways-in-Some.ensures.found
 
@@ -226,7 +226,8 @@ call-returns-clause-found t c =
 pub ways-returns-in-Concat-clause-found : goal.ways-returns-in-Concat-clause-found
 ways-returns-in-Concat-clause-found t c =
     let s = state_of c.args.state.now in
-    IfOk-weaker c.in_order.result _ _ (λ ways h. h ∙ ap (λ w. w s)
+    same_ways c.in_order.result
+    (ap (λ w. w s)
     (node_found c.args.self.now c.args.calls.now c.args.node c.in_ok-parts.parts.items c.as_slice-nodes.result.now _ c.in_ok-parts.ensures
     c.as_slice-nodes.ensures.value c.in-Concat.is))
     c.in_order.ensures.found
@@ -234,7 +235,8 @@ ways-returns-in-Concat-clause-found t c =
 pub ways-returns-in-Alt-clause-found : goal.ways-returns-in-Alt-clause-found
 ways-returns-in-Alt-clause-found t c =
     let s = state_of c.args.state.now in
-    IfOk-weaker c.one_of.result _ _ (λ ways h. h ∙ ap (λ w. w s)
+    same_ways c.one_of.result
+    (ap (λ w. w s)
     (node_found c.args.self.now c.args.calls.now c.args.node c.in_ok-parts.parts.items c.as_slice-nodes.result.now _ c.in_ok-parts.ensures
     c.as_slice-nodes.ensures.value c.in-Alt.is))
     c.one_of.ensures.found
@@ -250,8 +252,8 @@ ways-returns-in-Group-clause-found t c =
 pub ways-returns-in-LookAround-clause-found : goal.ways-returns-in-LookAround-clause-found
 ways-returns-in-LookAround-clause-found t c =
     let s = state_of c.args.state.now in
-    IfOk-weaker c.looks.result _ _
-    (λ ways h. h ∙ ap (λ w. w s) (look_found c.args.self.now c.args.calls.now c.args.node c.in_ok-branches-in-LookAround.branches.items
+    same_ways c.looks.result
+    (ap (λ w. w s) (look_found c.args.self.now c.args.calls.now c.args.node c.in_ok-branches-in-LookAround.branches.items
     c.deref-in-LookAround.result.now _
     c.in_ok-branches-in-LookAround.ensures c.deref-in-LookAround.ensures.value c.in-LookAround.is refl))
     c.looks.ensures.found
@@ -259,7 +261,8 @@ ways-returns-in-LookAround-clause-found t c =
 pub ways-returns-in-Repeat-clause-found : goal.ways-returns-in-Repeat-clause-found
 ways-returns-in-Repeat-clause-found t c =
     let s = state_of c.args.state.now in
-    IfOk-weaker c.repeats.result _ _ (λ ways h. h ∙ ap (λ w. w s)
+    same_ways c.repeats.result
+    (ap (λ w. w s)
     (node_found c.args.self.now c.args.calls.now c.args.node c.in_ok-parts.parts.items c.as_slice-nodes.result.now _ c.in_ok-parts.ensures
     c.as_slice-nodes.ensures.value c.in-Repeat.is))
     c.repeats.ensures.found
@@ -276,7 +279,8 @@ ways-returns-in-AtomicGroup-clause-found t c =
 pub ways-returns-in-Conditional-clause-found : goal.ways-returns-in-Conditional-clause-found
 ways-returns-in-Conditional-clause-found t c =
     let s = state_of c.args.state.now in
-    IfOk-weaker c.conditional.result _ _ (λ ways h. h ∙ ap (λ w. w s)
+    same_ways c.conditional.result
+    (ap (λ w. w s)
     (node_found c.args.self.now c.args.calls.now c.args.node c.in_ok-parts.parts.items c.as_slice-nodes.result.now _ c.in_ok-parts.ensures
     c.as_slice-nodes.ensures.value c.in-Conditional.is))
     c.conditional.ensures.found
@@ -284,7 +288,8 @@ ways-returns-in-Conditional-clause-found t c =
 pub ways-returns-in-SubroutineCall-clause-found : goal.ways-returns-in-SubroutineCall-clause-found
 ways-returns-in-SubroutineCall-clause-found t c =
     let s = state_of c.args.state.now in
-    IfOk-weaker c.call.result _ _ (λ ways h. h ∙ ap (λ w. w s)
+    same_ways c.call.result
+    (ap (λ w. w s)
     (node_found c.args.self.now c.args.calls.now c.args.node c.in_ok-parts.parts.items c.as_slice-nodes.result.now _ c.in_ok-parts.ensures
     c.as_slice-nodes.ensures.value c.in-SubroutineCall.is))
     c.call.ensures.found
@@ -293,8 +298,8 @@ pub ways-returns-then-is_repeater-clause-found : goal.ways-returns-then-is_repea
 ways-returns-then-is_repeater-clause-found t c =
     let s = state_of c.args.state.now in
     let ws = ways_of_each c.args.self.now c.args.calls.now c.as_slice-nodes.result.now in
-    IfOk-weaker c.absent.result _ _
-    (λ ways h. h ∙ ap (λ w. w s) (repeater_is (setting_of c.args.self.now) (call_of c.args.self.now c.args.calls.now) c.in-Absent.absent ws
+    same_ways c.absent.result
+    (ap (λ w. w s) (repeater_is (setting_of c.args.self.now) (call_of c.args.self.now c.args.calls.now) c.in-Absent.absent ws
     (sym c.is_repeater.ensures ∙ c.if-is_repeater.true)
     ∙ node_found c.args.self.now c.args.calls.now c.args.node c.in_ok-parts.parts.items c.as_slice-nodes.result.now _ c.in_ok-parts.ensures
     c.as_slice-nodes.ensures.value c.in-Absent.is))

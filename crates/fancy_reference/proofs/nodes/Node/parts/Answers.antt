@@ -1,4 +1,4 @@
-use Rattle.std.proofs.Common.{◌≡◌, ◌+◌, ◌^◌, ◌<◌, refl, arith}
+use Rattle.std.proofs.Common.{◌+◌, ◌^◌, ◌<◌, refl, arith}
 use Rattle.fancy_meaning.specs.Nodes.{group_count}
 use Rattle.fancy_expr.specs.Exprs.{below}
 use Rattle.fancy_expr.specs.Views.{tree_of}

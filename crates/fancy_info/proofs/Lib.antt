@@ -1,0 +1,3 @@
+pub mod Unfolded
+pub mod OverParts
+pub mod GroupNumbers

@@ -1,0 +1,187 @@
+-- The way back to what is tried later.
+use Rattle.std.proofs.Common.{◌≡◌, ◌≤◌, ◌+◌, ◌∷◌, [], ℕ, zero, suc, List, Bool, Some, None, Result, Ok, Err, length, take, reverse, refl, sym, ap, ◌∙◌, subst, arith}
+use Rattle.std.proofs.lemmas.List.{length-take}
+use Rattle.fancy_points.specs.PointSearch as plain
+use Rattle.fancy_points.specs.FirstWays.{search_in}
+use Rattle.fancy_expr.specs.declared.error.Error.{Error}
+use Rattle.fancy_plain.specs.declared.log.Entry.{Entry}
+use Rattle.fancy_plain.specs.declared.log.Stand.{Stand}
+use Rattle.fancy_plain.specs.declared.search.Choice.{Choice}
+use Rattle.fancy_plain.specs.declared.search.Lead.{Lead}
+use Rattle.fancy_plain.specs.declared.search.Lead.TheVariants as lead
+use Rattle.fancy_plain.specs.declared.search.Memo.{Memo}
+use Rattle.fancy_plain.specs.declared.search.Task.{Task}
+use Rattle.fancy_plain.specs.Paths.{IsStand}
+use Rattle.fancy_plain.specs.Searches.{after_steps_of, leading_of, next_of, Advances, AreKept, EndsAs, GoesBack, HaveFailed, IsHere, IsSearch, Keeps, Leading, Leads}
+use Rattle.fancy_plain.proofs.PathLaws.{agree_cut, kept_agree, stand_agrees}
+
+-- some steps on it still goes back, and the memo stands for it
+abbrev pub IsBack : Task → Memo → plain.Next → Type 0
+IsBack task m next =
+    (steps : ℕ) × ((f : plain.Search) ×
+    ((after_steps_of task steps next ≡ plain.TakesBack f) × IsSearch (leading_of task) m f))
+
+-- one step more
+pub one_more : (task : Task) (steps : ℕ) (n k : plain.Next) → after_steps_of task steps n ≡ k →
+    after_steps_of task (suc steps) n ≡ next_of task k
+one_more task zero n k e = ap (next_of task) e
+one_more task (suc steps) n k e = one_more task steps (next_of task n) k e
+
+-- the last choice that is kept
+pub record IsLast (leading : Leading) (m : Memo) (c : Choice) (cs : List Choice) (f : plain.Search) : Type 0 where
+  pub stand : plain.Stand
+  pub rest : List plain.Later
+  pub within : c.path ≤ length m.log.entries.items
+  pub stands : IsStand m.log.entries.items c.path c.stand stand
+  pub keeps : Keeps c.is_untried (leading stand) stand rest f.later
+  pub kept : AreKept leading m.log.entries.items c.path cs rest
+
+pub last_kept : (leading : Leading) (m : Memo) (c : Choice) (cs : List Choice) (f : plain.Search) → reverse m.later.items ≡ c ∷ cs →
+    IsSearch leading m f → IsLast leading m c cs f
+last_kept leading m c cs f e h =
+    let k = subst (λ l. AreKept leading m.log.entries.items (length m.log.entries.items) l f.later) e h.later in
+    record { within = k.0; stand = k.1.0; rest = k.1.1.0; stands = k.1.1.1.0; keeps = k.1.1.1.1; kept = k.1.1.1.2 }
+
+module _ (leading : Leading) (m cut : Memo) (c : Choice) (cs : List Choice) (f : plain.Search) (last : IsLast leading m c cs f)
+    (later : reverse cut.later.items ≡ cs) (path : cut.log.entries.items ≡ take c.path m.log.entries.items)
+    (failed : cut.failed ≡ m.failed) (visits : cut.visits ≡ m.visits) (h : IsSearch leading m f) where
+  abbrev es : List Entry
+  es = m.log.entries.items
+
+  long : length cut.log.entries.items ≡ c.path
+  long = ap length path ∙ length-take c.path es ∙ (let w = last.within in omega (arith, w))
+
+  -- the path is cut to where the choice stands
+  pub here_cut : IsHere cut c.stand last.stand
+  here_cut =
+      subst (λ n. IsStand cut.log.entries.items n c.stand last.stand) (sym long)
+      (subst (λ l. IsStand l c.path c.stand last.stand) (sym path)
+      (stand_agrees es (take c.path es) c.path c.stand last.stand (agree_cut c.path c.path es (omega arith)) last.stands))
+
+  pub search_cut : IsSearch leading cut (record f { later = last.rest })
+  search_cut = record {
+    later =
+        subst (λ l. AreKept leading cut.log.entries.items (length cut.log.entries.items) l last.rest) (sym later)
+        (subst (λ n. AreKept leading cut.log.entries.items n cs last.rest) (sym long)
+        (subst (λ l. AreKept leading l c.path cs last.rest) (sym path)
+        (kept_agree es (take c.path es) leading c.path cs last.rest (agree_cut c.path c.path es (omega arith)) last.kept)));
+    failed = λ p. ap (λ x. Rattle.fancy_plain.specs.FailedPairs.has_pair x (Rattle.fancy_plain.specs.FailedPairs.key_of p)) failed ∙ h.failed p;
+    visits = subst (λ v. v ≤ f.visits) (sym visits) h.visits;
+  }
+
+-- what the other way on answers is what going back answers
+pub goes_back : (task : Task) (next : plain.Next) (steps : ℕ) (s other : plain.Stand) (here : Stand) (f g : plain.Search)
+    (result : Result Lead Error) (m : Memo) → after_steps_of task steps next ≡ plain.TakesBack f →
+    next_of task (plain.TakesBack f) ≡ plain.TakesUp other g → g.failed ≡ f.failed →
+    Leads (leading_of task) s here f.failed (plain.TakesUp other g) result m → GoesBack task next result m
+goes_back task next steps s other here f g (Ok lead.Found) m e up same (x, (is, h, stands)) = absurd (no_end is)
+  where
+    no_end : plain.TakesUp other g ≡ plain.Ends (Some s) x → ⊥
+    no_end is = cc
+goes_back task next steps s other here f g (Ok lead.Lost) m e up same (x, (is, rest)) = absurd (no_back is)
+  where
+    no_back : plain.TakesUp other g ≡ plain.TakesBack x → ⊥
+    no_back is = cc
+goes_back task next steps s other here f g (Ok (lead.Goes there)) m e up same (x, (t, (is, h, stands))) =
+    (suc steps, (x, (t, (one_more task steps next (plain.TakesBack f) e ∙ up ∙ is, h, stands))))
+goes_back task next steps s other here f g (Err error) m e up same (memory, failed) = (
+  memory,
+  (
+    suc steps,
+    λ p.
+        failed p ∙ sym (ap (λ v. v p) (ap (λ n. (search_in n).failed) (one_more task steps next (plain.TakesBack f) e ∙ up) ∙ same)),
+  ),
+)
+
+-- a pair is noted, and nothing else changes
+pub search_noted : (leading : Leading) (m new : Memo) (f : plain.Search) (p : plain.Pair) →
+    new ≡ record m { numbers = new.numbers; failed = new.failed } → HaveFailed new (plain.with_failed p f).failed →
+    IsSearch leading m f → IsSearch leading new (plain.with_failed p f)
+search_noted leading m new f p same failed h = record {
+  later =
+      subst (λ (n : Memo). AreKept leading n.log.entries.items (length n.log.entries.items) (reverse n.later.items) f.later) (sym same) h.later;
+  failed = failed;
+  visits = subst (λ (n : Memo). n.visits ≤ f.visits) (sym same) h.visits;
+}
+
+-- the last choice was tried: its pair is noted
+pub back_noted : (task : Task) (next : plain.Next) (steps : ℕ) (f : plain.Search) (s : plain.Stand) (rest : List plain.Later) →
+    after_steps_of task steps next ≡ plain.TakesBack f → f.later ≡ plain.Fails (plain.pair_of s) ∷ rest →
+    after_steps_of task (suc steps) next ≡ plain.TakesBack (plain.with_failed (plain.pair_of s) (record f { later = rest }))
+back_noted task next steps f s rest e keeps =
+    one_more task steps next (plain.TakesBack f) e ∙ ap (λ l. plain.back_to l f) keeps
+
+pub none_kept : (leading : Leading) (entries : List Entry) (path : ℕ) (cs : List Choice) (later : List plain.Later) → cs ≡ [] →
+    AreKept leading entries path cs later → later ≡ []
+none_kept leading entries path cs later e h = subst (λ l. AreKept leading entries path l later) e h
+
+pub no_items : {A : Type 0} (l : List A) → length l ≡ 0 → l ≡ []
+no_items [] e = refl
+no_items (x ∷ xs) e = absurd (omega (arith, e))
+
+-- ---- from a step to the next
+
+pub steps_then : (task : Task) (k j : ℕ) (n w : plain.Next) → after_steps_of task k n ≡ w →
+    after_steps_of task (k + j) n ≡ after_steps_of task j w
+steps_then task zero j n w e =
+    let same : 0 + j ≡ j = omega arith in
+    ap (λ i. after_steps_of task i n) same ∙ ap (after_steps_of task j) e
+steps_then task (suc k) j n w e =
+    let same : suc k + j ≡ suc (k + j) = omega arith in
+    ap (λ i. after_steps_of task i n) same ∙ steps_then task k j (next_of task n) w e
+
+-- a step that goes on, and a way back from there
+pub leads_back : (task : Task) (s : plain.Stand) (here : Stand) (failed : plain.Pair → Bool) (n w : plain.Next)
+    (result : Result Lead Error) (m : Memo) → next_of task n ≡ w → GoesBack task w result m → GoesBack task n result m
+leads_back task s here failed n w (Ok lead.Found) m e h = h
+leads_back task s here failed n w (Ok lead.Lost) m e (k, (f, (is, h))) = (suc k, (f, (ap (after_steps_of task k) e ∙ is, h)))
+leads_back task s here failed n w (Ok (lead.Goes there)) m e (k, (f, (t, (is, h, stands)))) =
+    (suc k, (f, (t, (ap (after_steps_of task k) e ∙ is, h, stands))))
+leads_back task s here failed n w (Err error) m e (memory, (k, h)) =
+    (memory, (suc k, λ p. h p ∙ sym (ap (λ x. (search_in (after_steps_of task k x)).failed p) e)))
+
+-- one step alone
+pub leads_on : (task : Task) (s : plain.Stand) (here : Stand) (f : plain.Search) (result : Result Lead Error) (m : Memo) →
+    (result ≡ Ok lead.Lost → ⊥) →
+    Leads (leading_of task) s here f.failed (next_of task (plain.TakesUp s f)) result m →
+    Advances task here (plain.TakesUp s f) result m
+leads_on task s here f (Ok lead.Found) m w (g, (is, h, stands)) = (1, (g, (s, (is, h, stands))))
+leads_on task s here f (Ok lead.Lost) m w h = absurd (w refl)
+leads_on task s here f (Ok (lead.Goes there)) m w (g, (t, (is, h, stands))) = (1, (g, (t, (is, h, stands))))
+leads_on task s here f (Err error) m w (memory, h) = (memory, (0, h))
+
+pub back_advances : (task : Task) (here : Stand) (n : plain.Next) (result : Result Lead Error) (m : Memo) →
+    GoesBack task n result m → Advances task here n result m
+back_advances task here n (Ok lead.Found) m h = absurd h
+back_advances task here n (Ok lead.Lost) m h = h
+back_advances task here n (Ok (lead.Goes there)) m h = h
+back_advances task here n (Err error) m h = h
+
+pub ok_same : {l k : Lead} → (let r : Result Lead Error = Ok l in r) ≡ Ok k → l ≡ k
+ok_same e = cc
+
+-- from a step of the search to its end
+pub ends_found : (task : Task) (k : ℕ) (n w : plain.Next) (here : Stand) (m : Memo) → after_steps_of task k n ≡ w →
+    Advances task here w (Ok lead.Found) m → EndsAs task n (Ok (Some here)) m
+ends_found task k n w here m e (j, (f, (t, (is, h, stands)))) =
+    (k + j, (f, (t, (steps_then task k j n w e ∙ is, h, stands))))
+
+pub ends_lost : (task : Task) (k : ℕ) (n w : plain.Next) (here : Stand) (m : Memo) → after_steps_of task k n ≡ w →
+    Advances task here w (Ok lead.Lost) m → EndsAs task n (Ok None) m
+ends_lost task k n w here m e (j, (f, (is, h))) = (k + j, (f, (steps_then task k j n w e ∙ is, h)))
+
+pub ends_err : (task : Task) (k : ℕ) (n w : plain.Next) (here : Stand) (error : Error) (m : Memo) → after_steps_of task k n ≡ w →
+    Advances task here w (Err error) m → EndsAs task n (Err error) m
+ends_err task k n w here error m e (memory, (j, h)) =
+    (memory, (k + j, λ p. h p ∙ sym (ap (λ x. (search_in x).failed p) (steps_then task k j n w e))))
+
+-- a search that goes on from this stand after some steps
+abbrev pub GoesOn : Task → plain.Next → Memo → Stand → Type 0
+GoesOn task n m here =
+    (steps : ℕ) × ((f : plain.Search) × ((t : plain.Stand) × ((after_steps_of task steps n ≡ plain.TakesUp t f)
+    × IsSearch (leading_of task) m f × IsHere m here t)))
+
+pub goes_further : (task : Task) (k : ℕ) (n w : plain.Next) (here there : Stand) (m : Memo) → after_steps_of task k n ≡ w →
+    Advances task here w (Ok (lead.Goes there)) m → GoesOn task n m there
+goes_further task k n w here there m e (j, (f, (t, (is, h, stands)))) =
+    (k + j, (f, (t, (steps_then task k j n w e ∙ is, h, stands))))

@@ -1,0 +1,173 @@
+-- From the end of a search to what the first way answers.
+use Rattle.std.proofs.Common.{◌≡◌, ◌≤◌, [], ℕ, zero, suc, Bool, false, List, length, map, reverse, take, Option, Some, None, Ok, IsTrue, option_map, refl, sym, arith, ap, ◌∙◌, subst}
+use Rattle.std.proofs.lemmas.List.{take_all}
+use Rattle.fancy_meaning.specs.Tree.{Tree}
+use Rattle.fancy_meaning.specs.Places.{is_place}
+use Rattle.fancy_meaning.specs.Options.{Analysis}
+use Rattle.fancy_meaning.specs.Premises.{IsText}
+use Rattle.fancy_meaning.specs.Ways.{Setting}
+use Rattle.fancy_points.specs.Points.{Point}
+use Rattle.fancy_points.specs.PointCode.{points_of}
+use Rattle.fancy_points.specs.PointSearch as plain
+use Rattle.fancy_points.specs.PointSearch.{Pair, Search, Next, TakesUp, TakesBack, Ends, after_steps, next}
+use Rattle.fancy_points.specs.FirstWays.{AreNoted, FindsFirst, of_search, search_in, searched, seen_of, spans_of}
+use Rattle.fancy_points.proofs.PlainSearch.{plain_search_finds}
+use Rattle.fancy_plain.specs.declared.first_way.FirstWay.{FirstWay}
+use Rattle.fancy_plain.specs.declared.first_way.Way.{Way}
+use Rattle.fancy_plain.specs.declared.fragment.Fragment.{Fragment}
+use Rattle.fancy_plain.specs.declared.log.Entry.{Entry}
+use Rattle.fancy_plain.specs.declared.log.Stand.{Stand}
+use Rattle.fancy_plain.specs.declared.search.Memo.{Memo}
+use Rattle.fancy_plain.specs.declared.search.Task.{Task}
+use Rattle.fancy_plain.specs.Fragments.{IsFragment}
+use Rattle.fancy_plain.specs.Paths.{closed_after}
+use Rattle.fancy_plain.specs.Searches.{AreKept, EndsAs, HaveFailed, IsHere, IsSearch, Leading}
+use Rattle.fancy_plain.specs.Views.{point_of}
+use Rattle.fancy_plain.specs.Ways.{IsFirstWay, IsMemoOf, IsSeenAs, listed}
+
+-- ---- a search has one end
+
+abbrev way_at : Next → Option plain.Stand
+way_at (TakesUp s found) = None
+way_at (TakesBack found) = None
+way_at (Ends way found) = way
+
+module _ (text : List ℕ) (unicode : Bool) (points : List Point) where
+  pub end_stays : (k : ℕ) (way : Option plain.Stand) (found : Search) →
+      after_steps text unicode points k (Ends way found) ≡ Ends way found
+  end_stays zero way found = refl
+  end_stays (suc k) way found = end_stays k way found
+
+  pub one_end : (k l : ℕ) (n : Next) (way other : Option plain.Stand) (found with_other : Search) →
+      after_steps text unicode points k n ≡ Ends way found →
+      after_steps text unicode points l n ≡ Ends other with_other → Ends way found ≡ Ends other with_other
+  one_end zero l n way other found with_other e h =
+      sym (end_stays l way found) ∙ ap (after_steps text unicode points l) (sym e) ∙ h
+  one_end (suc k) zero n way other found with_other e h =
+      sym e ∙ ap (after_steps text unicode points (suc k)) h ∙ end_stays (suc k) other with_other
+  one_end (suc k) (suc l) n way other found with_other e h =
+      one_end k l (next text unicode points n) way other found with_other e h
+
+-- ---- before the first point
+
+module _ (leading : Leading) (m : Memo) (failed : Pair → Bool) (place : ℕ) (path : m.log.entries.items ≡ [])
+    (later : m.later.items ≡ []) (visits : m.visits ≡ 0) (have : HaveFailed m failed) where
+  pub search_at_start : IsSearch leading m (plain.first_search failed)
+  search_at_start = record {
+    later = subst (λ choices. AreKept leading m.log.entries.items (length m.log.entries.items) (reverse choices) [])
+        (sym later) refl;
+    failed = have;
+    visits = omega (arith, visits);
+  }
+
+  pub here_at_start : IsHere m (record { at = 0; place = place; turns = 0; opened = 0 }) (plain.first_stand place)
+  here_at_start = record {
+    at = refl;
+    place = refl;
+    turns_link = omega arith;
+    opened_link = omega arith;
+    turns = refl;
+    opened = refl;
+    spans = ap (λ entries. closed_after [] (take (length entries) entries)) path;
+  }
+
+-- ---- what is seen
+
+pub seen_at_end : (w : Way) (entries : List Entry) (t : plain.Stand) → w.end ≡ t.place →
+    closed_after [] entries ≡ t.spans → ((g : ℕ) → listed w.spans.items g ≡ spans_of (closed_after [] entries) g) →
+    IsSeenAs (Some w) (Some (seen_of t))
+seen_at_end w entries t place spans same = (place, (λ g. same g ∙ ap (λ closed. spans_of closed g) spans))
+
+module _ (text : List ℕ) (f : Fragment) (place : ℕ) (failed : Pair → Bool) (is_text : IsText text)
+    (at : IsTrue (is_place text place))
+    (noted : AreNoted text f.unicode (map point_of f.points.items) failed) where
+  abbrev run : ℕ → Next
+  run steps = searched text f.unicode (map point_of f.points.items) failed place steps
+
+  pub memo_after : (m : Memo) (steps : ℕ) → HaveFailed m (search_in (run steps)).failed → IsMemoOf text f m
+  memo_after m steps h = ((search_in (run steps)).failed, (h, of_search place steps at noted))
+
+  module _ (a : Analysis) (es : List Tree) (h : IsFragment a es f.unicode f) (pos : ℕ) (continued : Bool) where
+    abbrev q : Setting
+    q = record { text = text; pos = pos; continued = continued; unicode = f.unicode }
+
+    finds : FindsFirst q a es failed place
+    finds = plain_search_finds q a es failed place is_text at h.easy
+        (subst (λ points. AreNoted text f.unicode points failed) h.points noted)
+
+    same_end : (steps : ℕ) (way : Option plain.Stand) (found : Search) → run steps ≡ Ends way found →
+        Ends way found ≡ Ends finds.way finds.found
+    same_end steps way found e =
+        one_end text f.unicode (points_of a.tree es) steps finds.steps
+        (TakesUp (plain.first_stand place) (plain.first_search failed)) way finds.way found finds.found
+        (subst (λ points. searched text f.unicode points failed place steps ≡ Ends way found) h.points e) finds.ends
+
+  -- the end of the search is the first way
+  pub first_at_end : (answer : FirstWay) (steps : ℕ) (way : Option plain.Stand) (found : Search) →
+      run steps ≡ Ends way found → IsSeenAs answer.way (option_map seen_of way) → answer.visits ≤ found.visits →
+      IsFirstWay text f place answer
+  first_at_end answer steps way found e same fewer = λ a es h. (
+    (λ pos continued.
+        subst (λ way. IsSeenAs answer.way way)
+        (ap (λ n. option_map seen_of (way_at n)) (same_end a es h pos continued steps way found e)
+        ∙ (finds a es h pos continued).first) same),
+    omega (arith, fewer, ap (λ n. (search_in n).visits) (same_end a es h 0 false steps way found e), (finds a es h 0 false).bounded),
+  )
+
+-- ---- how a search ended
+
+-- the stand of the code is at the end of the way, or both are none
+abbrev pub AtEnd : Memo → Option Stand → Option plain.Stand → Type 0
+AtEnd m None None = Unit {0}
+AtEnd m None (Some t) = ⊥
+AtEnd m (Some s) None = ⊥
+AtEnd m (Some s) (Some t) = IsHere m s t
+
+pub record Ended (text : List ℕ) (unicode : Bool) (points : List Point) (failed : Pair → Bool) (place : ℕ)
+    (there : Option Stand) (m : Memo) : Type 0 where
+  pub steps : ℕ
+  pub way : Option plain.Stand
+  pub found : Search
+  pub ends : searched text unicode points failed place steps ≡ Ends way found
+  pub have : HaveFailed m found.failed
+  pub visits : m.visits ≤ found.visits
+  pub at_end : AtEnd m there way
+
+pub ended : (task : Task) (failed : Pair → Bool) (place : ℕ) (there : Option Stand) (m : Memo) →
+    EndsAs task (TakesUp (plain.first_stand place) (plain.first_search failed)) (Ok there) m →
+    Ended (task.text).now task.unicode (map point_of (task.points).now) failed place there m
+ended task failed place None m (steps, (f, (is, h))) =
+    record { steps = steps; way = None; found = f; ends = is; have = h.failed; visits = h.visits; at_end = tt }
+ended task failed place (Some s) m (steps, (f, (t, (is, h, here)))) =
+    record { steps = steps; way = Some t; found = f; ends = is; have = h.failed; visits = h.visits; at_end = here }
+
+-- ---- what is answered at the end
+
+module _ (text : List ℕ) (f : Fragment) (place : ℕ) (failed : Pair → Bool) (is_text : IsText text)
+    (at : IsTrue (is_place text place))
+    (known : AreNoted text f.unicode (map point_of f.points.items) failed) (answer : FirstWay) (m : Memo) (visits : answer.visits ≡ m.visits) where
+  pub first_found : (there : Stand) (e : Ended text f.unicode (map point_of f.points.items) failed place (Some there) m) (w : Way) →
+      answer.way ≡ Some w → w.end ≡ there.place →
+      ((g : ℕ) → listed w.spans.items g ≡ spans_of (closed_after [] m.log.entries.items) g) →
+      IsFirstWay text f place answer
+  first_found there e w is end spans =
+      first_at_end text f place failed is_text at known answer e.steps e.way e.found e.ends
+      (subst (λ o. IsSeenAs o (option_map seen_of e.way)) (sym is) (go e.way e.at_end))
+      (let v = e.visits in omega (arith, v, visits))
+    where
+      go : (way : Option plain.Stand) → AtEnd m (Some there) way → IsSeenAs (Some w) (option_map seen_of way)
+      go None h = absurd h
+      go (Some t) h =
+          seen_at_end w m.log.entries.items t (end ∙ h.place)
+          (ap (closed_after []) (sym (take_all (length m.log.entries.items) m.log.entries.items (omega arith))) ∙ h.spans) spans
+
+  pub first_none : (e : Ended text f.unicode (map point_of f.points.items) failed place None m) →
+      answer.way ≡ None → IsFirstWay text f place answer
+  first_none e is =
+      first_at_end text f place failed is_text at known answer e.steps e.way e.found e.ends
+      (subst (λ o. IsSeenAs o (option_map seen_of e.way)) (sym is) (go e.way e.at_end))
+      (let v = e.visits in omega (arith, v, visits))
+    where
+      go : (way : Option plain.Stand) → AtEnd m None way → IsSeenAs None (option_map seen_of way)
+      go None h = tt
+      go (Some t) h = absurd h

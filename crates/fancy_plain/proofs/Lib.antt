@@ -1,0 +1,12 @@
+pub mod PathLaws
+pub mod SearchLaws
+pub mod FailedLaws
+pub mod PairKeys
+pub mod Nodes
+pub mod Laid
+pub mod Texts
+pub mod Branches
+pub mod Built
+pub mod BackLaws
+pub mod WayLaws
+pub mod FirstWayLaws

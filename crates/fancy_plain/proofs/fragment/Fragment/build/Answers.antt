@@ -1,0 +1,34 @@
+use Rattle.std.proofs.Common.{[], ◌∷◌, map, refl, sym, ap, ◌∙◌, subst}
+use Rattle.std.proofs.lemmas.List.{map-append}
+use Rattle.fancy_expr.specs.Each.{Each}
+use Rattle.fancy_plain.specs.declared.point.Point.TheVariants as code
+use Rattle.fancy_plain.specs.declared.layout.Layout.{Layout}
+use Rattle.fancy_plain.specs.Fragments.{IsRefusedFor}
+use Rattle.fancy_plain.specs.Views.{point_of, IsPointReadBy}
+use Rattle.fancy_plain.proofs.Built.{are_easy, fault_passed, all_points, each_more}
+use Rattle.fancy_plain.proofs.fragment.Fragment.build.Goals as goal
+
+pub returns-in_err-lay_each-clause-refused : goal.returns-in_err-lay_each-clause-refused
+returns-in_err-lay_each-clause-refused c =
+    fault_passed (IsRefusedFor c.args.unicode c.args.infos.now) c.from_residual.result _ c.from_residual.ensures
+    (c.in_err-lay_each.ensures c.requires.0 c.requires.1)
+
+pub returns-clause-fragment : goal.returns-clause-fragment
+returns-clause-fragment c = λ a each fine.
+    let infos = c.args.infos.now in
+    let adds = c.in_ok-lay_each.ensures a each in
+    let t = c.lay_each.new.self in
+    let s : Layout = record { alloc = c.args.alloc; unicode = c.args.unicode; points = c.new-points.result } in
+    let none = c.new-points.ensures.items in
+    let more = c.in_ok-push.ensures.items in record {
+      points = all_points a infos s t (ap (map point_of) none) adds (map point_of c.push.new.self.items)
+          (ap (map point_of) more ∙ map-append point_of t.points.items (code.Stop ∷ []));
+      unicode = refl;
+      reads = subst (Each (IsPointReadBy c.args.unicode)) (sym more)
+          (each_more (IsPointReadBy c.args.unicode) t.points.items code.Stop
+          (adds.added.reads (subst (Each (IsPointReadBy c.args.unicode)) (sym none) tt)) tt);
+      easy = are_easy a infos each fine;
+    }
+
+pub returns-clause-classes : goal.returns-clause-classes
+returns-clause-classes c = (c.in_ok-lay_each.ensures c.requires.0 c.requires.1).classes

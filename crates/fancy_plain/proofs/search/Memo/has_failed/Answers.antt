@@ -1,0 +1,11 @@
+use Rattle.std.proofs.Common.{ap, ◌∙◌}
+use Rattle.fancy_points.specs.PointSearch.{pair_of}
+use Rattle.fancy_plain.specs.FailedPairs.{has_pair}
+use Rattle.fancy_plain.proofs.SearchLaws.{key_outside}
+use Rattle.fancy_plain.proofs.search.Memo.has_failed.Goals as goal
+
+-- src/search.rt:162:13
+pub returns-then-stand-eq0-clause-ok : goal.returns-then-stand-eq0-clause-ok
+returns-then-stand-eq0-clause-ok c = λ s failed h have.
+    c.has.ensures ∙ ap (has_pair c.args.self.now.failed) (key_outside c.args.self.now c.args.stand s h c.if-stand-eq0.true)
+    ∙ have (pair_of s)

@@ -1,0 +1,17 @@
+use Rattle.std.proofs.Common.{sym, ◌≤◌, ◌+◌, length}
+use Rattle.fancy_plain.specs.Searches.{leading_of}
+use Rattle.std.proofs.lemmas.Bool.{ltb-false}
+use Rattle.fancy_plain.proofs.SearchLaws.{nothing_there, one_visit}
+use Rattle.fancy_plain.proofs.search.Task.take_up.Goals as goal
+
+-- src/search.rt:428:5
+pub returns-in-None : goal.returns-in-None
+returns-in-None c = λ s f h here.
+    let task = c.args.self.now in
+    let past : length task.points.now ≤ c.args.stand.at = ltb-false c.args.stand.at (length task.points.now) (sym c.in-None.ensures.lookup.0) in (
+      record f { visits = f.visits + 1 },
+      (
+        nothing_there task c.args.stand s f here.at past,
+        one_visit (leading_of task) c.args.m.now f h c.count.new.self _ c.count.ensures,
+      ),
+    )

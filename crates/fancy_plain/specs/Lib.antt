@@ -1,0 +1,10 @@
+pub mod Views
+pub mod Paths
+pub mod FailedPairs
+pub mod Searches
+pub mod Ways
+pub mod Neighbours
+pub mod ClassTexts
+pub mod Shapes
+pub mod Layouts
+pub mod Fragments

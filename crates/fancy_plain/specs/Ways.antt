@@ -1,0 +1,59 @@
+-- What the search for a fragment's first way answers.
+use Rattle.std.specs.Prelude.{◌≡◌, ◌≤◌, ◌-◌, ℕ, Bool, List, length, map, Option, Some, None, IfSome, nat_eq}
+use Rattle.std.specs.List.Sorted.{IsStrictlySortedBy}
+use Rattle.std.specs.Map.{keys_of, lookup}
+use Rattle.std.specs.Ordering.{nat_cmp}
+use Rattle.fancy_meaning.specs.Tree.{Tree}
+use Rattle.fancy_meaning.specs.Options.{Analysis}
+use Rattle.fancy_meaning.specs.FragmentPoints.{visit_bound}
+use Rattle.fancy_meaning.specs.MatchState.{Span}
+use Rattle.fancy_points.specs.PointSearch.{Pair}
+use Rattle.fancy_points.specs.FirstWays.{AreNoted, Seen, first_seen}
+use Rattle.fancy_plain.specs.declared.first_way.FirstWay.{FirstWay}
+use Rattle.fancy_plain.specs.declared.first_way.Way.{Way}
+use Rattle.fancy_plain.specs.declared.fragment.Fragment.{Fragment}
+use Rattle.fancy_plain.specs.declared.search.Memo.{Memo}
+use Rattle.fancy_plain.specs.Views.{point_of}
+use Rattle.fancy_plain.specs.Fragments.{IsFragment}
+use Rattle.fancy_plain.specs.Searches.{HaveFailed}
+
+-- a group's number, the start and the end of its span
+abbrev pub span_entry : ℕ × ℕ × ℕ → ℕ × Span
+span_entry s = (s.0, (s.1, s.2))
+
+-- the span that the list has for a group
+abbrev pub listed : List (ℕ × ℕ × ℕ) → ℕ → Option Span
+listed spans g = lookup (nat_eq g) (map span_entry spans)
+
+-- the groups of the list ascend, so each has one span
+abbrev pub Ascends : List (ℕ × ℕ × ℕ) → Type 0
+Ascends spans = IsStrictlySortedBy nat_cmp (keys_of (map span_entry spans))
+
+-- the spans of the way, if there is one, are in order
+abbrev pub HasAscending : FirstWay → Type 0
+HasAscending answer = IfSome answer.way (λ w. Ascends w.spans.items)
+
+-- a way ends and sets the groups as this one does, or there is none
+abbrev pub IsSeenAs : Option Way → Option Seen → Type 0
+IsSeenAs None None = Unit {0}
+IsSeenAs None (Some way) = ⊥
+IsSeenAs (Some w) None = ⊥
+IsSeenAs (Some w) (Some way) = (w.end ≡ way.0) × ((g : ℕ) → listed w.spans.items g ≡ way.1 g)
+
+-- The answer is the first way of the nodes, wherever the search of the whole pattern began, and no more points are told
+-- as taken up than one of each at each place.
+abbrev pub IsFirstWay : (text : List ℕ) → Fragment → (place : ℕ) → FirstWay → Type 0
+IsFirstWay text f place answer = (a : Analysis) (es : List Tree) → IsFragment a es f.unicode f →
+    ((pos : ℕ) (continued : Bool) →
+    IsSeenAs answer.way
+    (first_seen (record { text = text; pos = pos; continued = continued; unicode = f.unicode }) es place))
+    × (answer.visits ≤ visit_bound a.tree es (length text - place))
+
+-- it is the fragment of some nodes
+abbrev pub IsOfNodes : Fragment → Type 0
+IsOfNodes f = (a : Analysis) × ((es : List Tree) × IsFragment a es f.unicode f)
+
+-- it knows what searches of this fragment in this text have noted, and no more
+abbrev pub IsMemoOf : (text : List ℕ) → Fragment → Memo → Type 0
+IsMemoOf text f m = (failed : Pair → Bool) ×
+    (HaveFailed m failed × AreNoted text f.unicode (map point_of f.points.items) failed)

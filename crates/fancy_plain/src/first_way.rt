@@ -1,0 +1,110 @@
+//! The first way of a fragment from a place.
+
+ghost use Rattle.std.specs.Prelude.{◌≡◌, [], ℕ, IfOk, IfErr, IsTrue};
+ghost use Rattle.fancy_meaning.specs.Places.{is_place};
+ghost use Rattle.fancy_points.specs.FirstWays.{spans_of};
+ghost use Rattle.fancy_plain.specs.Paths.{closed_after};
+ghost use Rattle.fancy_plain.specs.Searches.{IsMemory};
+ghost use Rattle.fancy_plain.specs.Ways.{listed, Ascends, HasAscending, IsFirstWay, IsMemoOf, IsOfNodes};
+
+use crate::fragment::Fragment;
+use crate::log::{Entry, Stand};
+use crate::search::{Memo, Task};
+use fancy_expr::error::Error;
+use std::alloc::Global;
+use std::collections::BTreeMap;
+
+/// A way of a fragment.
+#[derive(Debug, Drop)]
+pub struct Way {
+    /// The place where it ends, in bytes.
+    pub end: usize,
+    /// For each group that it sets the number, the start and the end in bytes, by ascending number.
+    pub spans: Vec<(usize, usize, usize)>,
+}
+
+/// What a search for the first way answers.
+#[derive(Debug, Drop)]
+pub struct FirstWay {
+    pub way: Option<Way>,
+    /// How many points were taken up.
+    pub visits: u64,
+}
+
+/// The first way of the fragment from `ix`, a character boundary of the text. `Memory` where a request for memory was
+/// refused, and after 2^64 - 1 steps, more than any machine takes.
+pub fn first_way(
+    alloc: Global,
+    fragment: &Fragment,
+    text: &str,
+    ix: usize,
+) -> Result<FirstWay, Error>
+    requires place { IsTrue (is_place text.now ix) }
+    requires fragment { IsOfNodes fragment.now }
+    ensures first { IfOk result (IsFirstWay text.now fragment.now ix) }
+    ensures ascends { IfOk result HasAscending }
+    ensures refused { IfErr result IsMemory }
+{
+    let mut memo = Memo::new(alloc, fragment, ix);
+    first_way_with(alloc, fragment, text, ix, &mut memo)
+}
+
+/// The same, with what earlier searches of this fragment in this text have noted.
+pub fn first_way_with(
+    alloc: Global,
+    fragment: &Fragment,
+    text: &str,
+    ix: usize,
+    memo: &mut Memo,
+) -> Result<FirstWay, Error>
+    requires place { IsTrue (is_place text.now ix) }
+    requires fragment { IsOfNodes fragment.now }
+    requires memo { IsMemoOf text.now fragment.now memo.old }
+    ensures first { IfOk result (IsFirstWay text.now fragment.now ix) }
+    ensures ascends { IfOk result HasAscending }
+    ensures memo { IsMemoOf text.now fragment.now memo.new }
+    ensures refused { IfErr result IsMemory }
+{
+    let task = Task {
+        points: &fragment.points,
+        unicode: fragment.unicode,
+        text,
+    };
+    let start = Stand {
+        at: 0,
+        place: ix,
+        turns: 0,
+        opened: 0,
+    };
+    memo.start();
+    let found = task.find(memo, start)?;
+    let visits = memo.visits();
+    let way = match found {
+        Some(stand) => Some(Way {
+            end: stand.place,
+            spans: spans(alloc, memo.path())?,
+        }),
+        None => None,
+    };
+    Ok(FirstWay { way, visits })
+}
+
+/// The last span of each group that was closed, by ascending number.
+fn spans(alloc: Global, entries: &[Entry]) -> Result<Vec<(usize, usize, usize)>, Error>
+    ensures listed { IfOk result (λ spans. (g : ℕ) → listed spans.items g
+        ≡ spans_of (closed_after [] entries.now) g) }
+    ensures ascends { IfOk result (λ spans. Ascends spans.items) }
+    ensures refused { IfErr result IsMemory }
+{
+    let mut last = BTreeMap::new(alloc);
+    for entry in entries {
+        if let Entry::Closed { group, from, to } = entry {
+            last.insert(*group, (*from, *to))?;
+        }
+    }
+    let mut spans = Vec::with_capacity(alloc, last.len())?;
+    for (group, span) in &last {
+        spans.push((*group, span.0, span.1))?;
+    }
+    Ok(spans)
+}

@@ -1,0 +1,47 @@
+//! Fragments: neighbouring easy nodes, laid out as points.
+
+ghost use Rattle.fancy_info.specs.Infos.{info_tree};
+ghost use Rattle.fancy_expr.specs.Each.{Each};
+ghost use Rattle.fancy_meaning.specs.Options.{Analysis};
+ghost use Rattle.fancy_plain.specs.Fragments.{AreFine, HaveClasses, IsFragment, IsRefusedFor};
+ghost use Rattle.fancy_plain.specs.Neighbours.{AreNeighbours, IsEasy};
+ghost use Rattle.std.specs.Prelude.{IfErr, IfOk, map};
+
+use crate::layout::Layout;
+use crate::point::Point;
+use fancy_expr::error::Error;
+use fancy_info::info::Info;
+use std::alloc::Global;
+
+/// Neighbouring easy nodes that are searched for plainly.
+#[derive(Drop)]
+pub struct Fragment {
+    pub(crate) points: Vec<Point>,
+    pub(crate) unicode: bool,
+}
+
+impl Fragment {
+    /// The fragment of neighbouring nodes of one analysed tree, none of them hard.
+    ///
+    /// A class text that `regex` refuses is refused as `InnerError` or `ClassTooBig`, but not in a loop that is never
+    /// entered or in a DEFINE, which are not written out. Want of memory is `Error::Memory`.
+    pub fn build(alloc: Global, infos: &[Info], unicode: bool) -> Result<Fragment, Error>
+        requires { AreNeighbours infos.now }
+        ensures fragment { IfOk result (λ f. (a : Analysis)
+            → Each (IsEasy a) infos.now → AreFine (map info_tree infos.now)
+            → IsFragment a (map info_tree infos.now) unicode f) }
+        ensures classes { IfOk result (λ f. HaveClasses unicode infos.now) }
+        ensures refused { IfErr result (IsRefusedFor unicode infos.now) }
+    {
+        let points = Vec::new(alloc);
+        let mut layout = Layout {
+            alloc,
+            unicode,
+            points,
+        };
+        layout.lay_each(infos)?;
+        let mut points = layout.points;
+        points.push(Point::Stop)?;
+        Ok(Fragment { points, unicode })
+    }
+}

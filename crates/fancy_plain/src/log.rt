@@ -1,0 +1,140 @@
+//! Where a search stands, and what it went through on the path to there.
+
+ghost use Rattle.std.specs.Prelude.{◌≡◌, ◌++◌, ◌∷◌, [], ◌≤◌, ◌<◌, ◌+◌, List, ℕ, take, length, option_map, Some, None, IfOk, IfErr, IfSome};
+ghost use Rattle.fancy_points.specs.PointSearch as plain;
+ghost use Rattle.fancy_plain.specs.Paths.{HasTurns, HasOpened, EndsTurns, EndsOpened};
+ghost use Rattle.fancy_plain.specs.Searches.{IsMemory};
+
+use fancy_expr::error::Error;
+use std::alloc::Global;
+
+/// One entry of the path. A link to an entry is its index and one more; 0 is no link.
+#[derive(Clone, Copy)]
+pub(crate) enum Entry {
+    /// An iteration of a loop that counts.
+    Turn {
+        outer: usize,
+        turn: Turn,
+    },
+    /// A group began here.
+    Opened {
+        outer: usize,
+        from: usize,
+    },
+    /// A group ended.
+    Closed {
+        group: usize,
+        from: usize,
+        to: usize,
+    },
+}
+
+/// How many iterations were begun before this one, and where it began if it is asked whether it moves.
+#[derive(Clone, Copy)]
+pub(crate) struct Turn {
+    pub(crate) count: usize,
+    pub(crate) since: Option<usize>,
+}
+
+/// Where a search stands: the point, the place in bytes, and the links to the innermost loop that counts and the
+/// innermost group.
+#[derive(Clone, Copy)]
+pub(crate) struct Stand {
+    pub(crate) at: usize,
+    pub(crate) place: usize,
+    pub(crate) turns: usize,
+    pub(crate) opened: usize,
+}
+
+impl Stand {
+    pub(crate) fn goes_to(self, at: usize) -> Stand
+        ensures { result ≡ record self { at = at } }
+    {
+        Stand { at, ..self }
+    }
+
+    /// Behind a loop, inside the loop around it.
+    pub(crate) fn goes_out(self, at: usize, turns: usize) -> Stand
+        ensures { result ≡ record self { at = at; turns = turns } }
+    {
+        Stand { at, turns, ..self }
+    }
+
+    pub(crate) fn forward(self) -> Stand
+        requires { self.at < usize.MAX }
+        ensures { result ≡ record self { at = self.at + 1 } }
+    {
+        Stand {
+            at: self.at + 1,
+            ..self
+        }
+    }
+}
+
+/// The path.
+#[derive(Drop)]
+pub(crate) struct Log {
+    entries: Vec<Entry>,
+}
+
+impl Log {
+    pub(crate) fn new(alloc: Global) -> Log
+        ensures { result.entries.items ≡ [] }
+    {
+        Log {
+            entries: Vec::new(alloc),
+        }
+    }
+
+    pub(crate) fn len(&self) -> usize
+        ensures { result ≡ length self.now.entries.items }
+    {
+        self.entries.len()
+    }
+
+    pub(crate) fn truncate(&mut self, len: usize)
+        ensures { self.new.entries.items ≡ take len self.old.entries.items }
+    {
+        self.entries.truncate(len);
+    }
+
+    /// One more entry, and the link to it.
+    pub(crate) fn push(&mut self, entry: Entry) -> Result<usize, Error>
+        ensures link { IfOk result (λ link. link ≡ length self.old.entries.items + 1) }
+        ensures entries { IfOk result (λ _. self.new.entries.items
+            ≡ self.old.entries.items ++ (entry ∷ [])) }
+        ensures refused { IfErr result IsMemory }
+    {
+        self.entries.push(entry)?;
+        Ok(self.entries.len())
+    }
+
+    /// The iteration that is linked to, and the link to the one around.
+    pub(crate) fn turn(&self, link: usize) -> Option<(Turn, usize)>
+        ensures turns { (turns : List plain.Turn) → HasTurns self.now.entries.items link turns
+            → EndsTurns self.now.entries.items link turns result }
+        ensures below { IfSome result (λ found. found.1 < link) }
+    {
+        match self.entries.get(link.checked_sub(1)?)? {
+            Entry::Turn { outer, turn } if *outer < link => Some((*turn, *outer)),
+            _ => None,
+        }
+    }
+
+    /// Where the group that is linked to began, and the link to the one around.
+    pub(crate) fn opened(&self, link: usize) -> Option<(usize, usize)>
+        ensures { (opened : List ℕ) → HasOpened self.now.entries.items link opened
+            → EndsOpened self.now.entries.items link opened result }
+    {
+        match self.entries.get(link.checked_sub(1)?)? {
+            Entry::Opened { outer, from } => Some((*from, *outer)),
+            _ => None,
+        }
+    }
+
+    pub(crate) fn entries(&self) -> &[Entry]
+        ensures { result.now ≡ self.now.entries.items }
+    {
+        &self.entries
+    }
+}

@@ -1,0 +1,117 @@
+//! The points of a plain search, and the test on one character.
+
+ghost use Rattle.std.specs.Prelude.{◌≡◌, ◌≤◌, length, IfOk, IfErr, IfSome};
+ghost use Rattle.fancy_meaning.specs.Chars as chars;
+ghost use Rattle.fancy_meaning.specs.Machine.{class_test};
+ghost use Rattle.fancy_meaning.specs.Moves.{past_char};
+ghost use Rattle.fancy_characters.specs.Classes.{class_of};
+ghost use Rattle.fancy_points.specs.PointSearch as plain;
+ghost use Rattle.fancy_plain.specs.Views.{IsReadBy, test_of};
+ghost use Rattle.fancy_plain.specs.Searches.{IsMemory};
+
+use fancy_characters::classes::{CharClassMatcher, literal_takes};
+use fancy_characters::places::{len_utf8, past_any};
+use fancy_expr::error::Error;
+use fancy_expr::expr::Assertion;
+use regex_nfa::char_at;
+use std::alloc::Global;
+
+/// A test on one character.
+#[derive(Drop)]
+pub(crate) enum CharTest {
+    /// Any character, LF and CR as in `Expr::Any`.
+    Any { newline: bool, crlf: bool },
+    /// This character, folded or not.
+    One { c: char, casei: bool },
+    /// One of a class.
+    Class(CharClassMatcher),
+}
+
+/// A loop that counts its iterations, or asks whether one has moved.
+#[derive(Clone, Copy)]
+pub(crate) struct Loop {
+    pub(crate) lo: usize,
+    /// `usize::MAX` is no bound.
+    pub(crate) hi: usize,
+    pub(crate) greedy: bool,
+    /// An iteration begun at or past `lo` that moves nothing leaves the loop.
+    pub(crate) asks_moved: bool,
+}
+
+/// One point. Where nothing is said, the search goes on at the next one.
+#[derive(Drop)]
+pub(crate) enum Point {
+    /// The fragment's end.
+    Stop,
+    Take(CharTest),
+    Holds(Assertion),
+    /// A group begins.
+    Open,
+    /// The group with this number ends.
+    Close(usize),
+    /// Before an alternation, or a body that may be left out: on at the first, and else at the second.
+    Split(usize, usize),
+    /// The same before a further branch.
+    Or(usize, usize),
+    /// The same at the head of a loop that does not count.
+    Fork(usize, usize),
+    Jump(usize),
+    /// Where several ways on meet.
+    Join,
+    /// A loop that counts begins.
+    Enter,
+    /// Before each of its iterations, which begin at the next point; `after` is behind the loop.
+    Head { turns: Loop, after: usize },
+}
+
+impl CharTest {
+    /// Past the character at `ix`, if it passes. `Memory` where a request for memory was refused.
+    pub(crate) fn past(
+        &self,
+        alloc: Global,
+        unicode: bool,
+        text: &str,
+        ix: usize,
+    ) -> Result<Option<usize>, Error>
+        requires { IsReadBy unicode self.now }
+        ensures ok { IfOk result (λ to. to
+            ≡ past_char text.now (plain.passes text.now unicode (test_of self.now)) ix) }
+        ensures small { IfOk result (λ to. IfSome to (λ i. i ≤ length text.now)) }
+        ensures refused { IfErr result IsMemory }
+    {
+        match self {
+            CharTest::Any { newline, crlf } => Ok(past_any(text.as_bytes(), *newline, *crlf, ix)),
+            CharTest::One { c, casei } => Ok(past_one(text.as_bytes(), unicode, *c, *casei, ix)),
+            CharTest::Class(class) => past_class(alloc, class, text, ix),
+        }
+    }
+}
+
+/// Past this character.
+fn past_one(text: &[u8], unicode: bool, c: char, casei: bool, ix: usize) -> Option<usize>
+    ensures { result ≡ past_char text.now (chars.literal_takes unicode c casei) ix }
+{
+    let d = char_at(text, ix)?;
+    if literal_takes(unicode, c as u32, casei, d) {
+        Some(ix + len_utf8(d))
+    } else {
+        None
+    }
+}
+
+/// Past one character of the class. `Memory` where a request for memory was refused.
+fn past_class(
+    alloc: Global,
+    class: &CharClassMatcher,
+    text: &str,
+    ix: usize,
+) -> Result<Option<usize>, Error>
+    ensures ok { IfOk result
+        (λ to. to ≡ past_char text.now (class_test (class_of class.now)) ix) }
+    ensures refused { IfErr result IsMemory }
+{
+    match class.match_len(alloc, text, ix)? {
+        None => Ok(None),
+        Some(len) => Ok(Some(ix + len)),
+    }
+}

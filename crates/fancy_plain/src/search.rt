@@ -1,0 +1,602 @@
+//! The plain search: from point to point, with what is tried later on a stack.
+
+ghost use Rattle.std.specs.Prelude.{◌≡◌, ◌≤◌, ◌<◌, ◌+◌, ◌∷◌, ◌++◌, [], ℕ, List, Bool, Option, Some, None, min, true, false, length, map, slice_get, if◌then◌else◌, IfOk, IfErr};
+ghost use Rattle.fancy_points.specs.PointSearch as plain;
+ghost use Rattle.fancy_points.specs.PointSearch.{Next, Search, TakesBack, TakesUp, pair_of};
+ghost use Rattle.fancy_points.specs.Points as points;
+ghost use Rattle.fancy_plain.specs.FailedPairs.{key_of, turn_numbers};
+ghost use Rattle.fancy_plain.specs.Paths.{HasTurns, turn_of};
+ghost use Rattle.fancy_plain.specs.Views.{loop_of, point_of, IsPointReadBy, IsReadBy, test_of};
+ghost use Rattle.fancy_plain.specs.Ways.{IsMemoOf};
+ghost use Rattle.fancy_plain.specs.Searches.{Advances, EndsAs, GoesBack, HaveFailed, IsHere, IsTask, TurnsBy, fails_before, leading_of, next_of, IsMemory, IsSearch, Keeps, Leading, Leads};
+
+use crate::failed::Failed;
+use crate::fragment::Fragment;
+use crate::log::{Entry, Log, Stand, Turn};
+use crate::point::{CharTest, Loop, Point};
+use fancy_characters::look::holds;
+use fancy_expr::error::Error;
+use std::alloc::Global;
+
+/// A choice on the path: where it stands, how long the path is, and whether its other way on is still untried.
+#[derive(Clone, Copy)]
+pub(crate) struct Choice {
+    stand: Stand,
+    path: usize,
+    is_untried: bool,
+}
+
+/// What a search keeps from one start to the next: the pairs that have no way, and room.
+#[derive(Drop)]
+pub struct Memo {
+    alloc: Global,
+    failed: Failed,
+    later: Vec<Choice>,
+    log: Log,
+    /// Room for the numbers of a pair.
+    numbers: Vec<usize>,
+    /// How many points this search has taken up.
+    visits: u64,
+}
+
+/// What a point leads to.
+#[derive(Clone, Copy)]
+pub(crate) enum Lead {
+    Found,
+    Lost,
+    Goes(Stand),
+}
+
+/// The points of a fragment, and the text that they are searched in.
+#[derive(Clone, Copy)]
+pub(crate) struct Task<'a> {
+    pub(crate) points: &'a [Point],
+    pub(crate) unicode: bool,
+    pub(crate) text: &'a str,
+}
+
+/// Which ways on there are at the head of a loop, the first one first.
+#[derive(Clone, Copy)]
+pub(crate) enum Turning {
+    Out,
+    In,
+    InOrOut,
+    OutOrIn,
+}
+
+impl Loop {
+    /// Which ways on there are.
+    fn turning(self, turn: Turn, place: usize) -> Turning
+        ensures { TurnsBy result (loop_of self) place (turn_of turn) }
+    {
+        if self.is_over(turn, place) {
+            Turning::Out
+        } else if turn.count < self.lo {
+            Turning::In
+        } else if self.greedy {
+            Turning::InOrOut
+        } else {
+            Turning::OutOrIn
+        }
+    }
+
+    /// No iteration may be begun.
+    fn is_over(self, turn: Turn, place: usize) -> bool
+        ensures { result ≡ plain.is_over (loop_of self) place (turn_of turn) }
+    {
+        turn.since == Some(place) || (self.hi != usize::MAX && turn.count >= self.hi)
+    }
+
+    /// The iteration that begins here. Past `lo` a loop without a bound counts no more.
+    fn next_turn(self, turn: Turn, place: usize) -> Turn
+        requires { plain.is_over (loop_of self) place (turn_of turn) ≡ false }
+        ensures { turn_of result ≡ plain.next_turn (loop_of self) place (turn_of turn) }
+    {
+        let is_free = turn.count >= self.lo;
+        Turn {
+            count: if is_free && self.hi == usize::MAX {
+                self.lo
+            } else {
+                turn.count + 1
+            },
+            since: if self.asks_moved && is_free {
+                Some(place)
+            } else {
+                None
+            },
+        }
+    }
+}
+
+/// Writes the numbers of the pair of this stand.
+fn write_numbers(log: &Log, stand: Stand, numbers: &mut Vec<usize>) -> Result<(), Error>
+    ensures ok { IfOk result (λ _. (s : plain.Stand) → stand.at ≡ s.at → stand.place ≡ s.place
+        → HasTurns log.now.entries.items stand.turns s.turns
+        → numbers.new.items ≡ key_of (pair_of s)) }
+    ensures refused { IfErr result IsMemory }
+{
+    numbers.clear();
+    numbers.push(stand.at)?;
+    numbers.push(stand.place)?;
+    push_turns(log, stand, numbers)
+}
+
+/// Adds the numbers of the iterations around this stand.
+fn push_turns(log: &Log, stand: Stand, numbers: &mut Vec<usize>) -> Result<(), Error>
+    ensures ok { IfOk result (λ _. (turns : List plain.Turn)
+        → HasTurns log.now.entries.items stand.turns turns
+        → numbers.new.items ≡ numbers.old.items
+        ++ turn_numbers (map (plain.turn_key stand.place) turns)) }
+    ensures refused { IfErr result IsMemory }
+{
+    let mut link = stand.turns;
+    'turns: while let Some((turn, outer)) = log.turn(link) {
+        numbers.push(turn.count)?;
+        let has_stayed = turn.since == Some(stand.place);
+        numbers.push(has_stayed as usize)?;
+        link = outer;
+    }
+    Ok(())
+}
+
+impl Memo {
+    /// For searches of the fragment in one text, from `pos` on.
+    pub fn new(alloc: Global, fragment: &Fragment, pos: usize) -> Memo
+        ensures { (text : List ℕ) → IsMemoOf text fragment.now result }
+    {
+        Memo {
+            alloc,
+            failed: Failed::new(alloc, fragment.points.len(), pos),
+            later: Vec::new(alloc),
+            log: Log::new(alloc),
+            numbers: Vec::new(alloc),
+            visits: 0,
+        }
+    }
+
+    /// Before another search.
+    pub(crate) fn start(&mut self)
+        ensures later { self.new.later.items ≡ [] }
+        ensures path { self.new.log.entries.items ≡ [] }
+        ensures visits { self.new.visits ≡ 0 }
+        ensures failed { self.new.failed ≡ self.old.failed }
+    {
+        self.later.clear();
+        self.log.truncate(0);
+        self.visits = 0;
+    }
+
+    /// How many points the search has taken up.
+    pub(crate) fn visits(&self) -> u64
+        ensures { result ≡ self.now.visits }
+    {
+        self.visits
+    }
+
+    /// The path of the search.
+    pub(crate) fn path(&self) -> &[Entry]
+        ensures { result.now ≡ self.now.log.entries.items }
+    {
+        self.log.entries()
+    }
+
+    /// One more point is taken up.
+    fn count(&mut self)
+        ensures { self.new ≡ record self.old { visits = min u64.MAX (self.old.visits + 1) } }
+    {
+        self.visits = self.visits.saturating_add(1);
+    }
+
+    /// Whether the pair of this stand is known to have no way.
+    fn has_failed(&mut self, stand: Stand) -> Result<bool, Error>
+        ensures ok { IfOk result (λ yes. (s : plain.Stand) (failed : plain.Pair → Bool)
+            → IsHere self.old stand s → HaveFailed self.old failed → yes ≡ failed (pair_of s)) }
+        ensures refused { IfErr result IsMemory }
+        ensures rest { self.new ≡ record self.old { numbers = self.new.numbers } }
+    {
+        if stand.turns == 0 {
+            return Ok(self.failed.has(&[stand.at, stand.place]));
+        }
+        write_numbers(&self.log, stand, &mut self.numbers)?;
+        Ok(self.failed.has(&self.numbers))
+    }
+
+    /// The pair of this stand has no way.
+    fn note_failed(&mut self, stand: Stand) -> Result<(), Error>
+        ensures ok { IfOk result (λ _. (s : plain.Stand) (f : Search)
+            → IsHere self.old stand s → HaveFailed self.old f.failed
+            → HaveFailed self.new (plain.with_failed (pair_of s) f).failed) }
+        ensures refused { IfErr result IsMemory }
+        ensures err { IfErr result (λ _. (failed : plain.Pair → Bool)
+            → HaveFailed self.old failed → HaveFailed self.new failed) }
+        ensures rest { self.new
+            ≡ record self.old { numbers = self.new.numbers; failed = self.new.failed } }
+    {
+        if stand.turns == 0 {
+            self.failed.add(self.alloc, &[stand.at, stand.place])?;
+        } else {
+            write_numbers(&self.log, stand, &mut self.numbers)?;
+            self.failed.add(self.alloc, &self.numbers)?;
+        }
+        Ok(())
+    }
+
+    /// Keeps a choice for later.
+    fn keep(&mut self, stand: Stand, is_untried: bool) -> Result<(), Error>
+        ensures ok { IfOk result (λ _. (leading : Leading) (f : Search) (s : plain.Stand)
+            (later : List plain.Later) → IsSearch leading self.old f → IsHere self.old stand s
+            → Keeps is_untried (leading s) s f.later later
+            → IsSearch leading self.new (record f { later = later })) }
+        ensures refused { IfErr result IsMemory }
+        ensures rest { self.new ≡ record self.old { later = self.new.later } }
+    {
+        let path = self.log.len();
+        self.later.push(Choice {
+            stand,
+            path,
+            is_untried,
+        })?;
+        Ok(())
+    }
+
+    /// Into the loop whose head this stand is at.
+    fn begin_turn(&mut self, stand: Stand, outer: usize, turn: Turn) -> Result<Stand, Error>
+        requires { stand.at < usize.MAX }
+        ensures here { IfOk result (λ on. (s : plain.Stand) (turns : List plain.Turn)
+            → IsHere self.old stand s → outer ≤ length self.old.log.entries.items
+            → HasTurns self.old.log.entries.items outer turns
+            → IsHere self.new on (record (plain.forward s) { turns = turn_of turn ∷ turns })) }
+        ensures search { IfOk result (λ _. (leading : Leading) (f : Search)
+            → IsSearch leading self.old f → IsSearch leading self.new f) }
+        ensures refused { IfErr result IsMemory }
+        ensures rest { self.new ≡ record self.old { log = self.new.log } }
+    {
+        let turns = self.log.push(Entry::Turn { outer, turn })?;
+        Ok(Stand {
+            at: stand.at + 1,
+            turns,
+            ..stand
+        })
+    }
+
+    /// A group begins.
+    fn open(&mut self, stand: Stand) -> Result<Lead, Error>
+        requires { stand.at < usize.MAX }
+        ensures { (leading : Leading) (s : plain.Stand) (f : Search)
+            → IsSearch leading self.old f → IsHere self.old stand s
+            → Leads leading s stand f.failed
+            (TakesUp (record (plain.forward s) { opened = s.place ∷ s.opened }) f) result self.new }
+    {
+        let opened = self.log.push(Entry::Opened {
+            outer: stand.opened,
+            from: stand.place,
+        })?;
+        Ok(Lead::Goes(Stand {
+            at: stand.at + 1,
+            opened,
+            ..stand
+        }))
+    }
+
+    /// A group ends.
+    fn close(&mut self, stand: Stand, group: usize) -> Result<Lead, Error>
+        requires { stand.at < usize.MAX }
+        ensures { (leading : Leading) (s : plain.Stand) (f : Search)
+            → IsSearch leading self.old f → IsHere self.old stand s
+            → Leads leading s stand f.failed (plain.next_by (plain.close_lead group s s.opened)
+            (Some (points.Close group)) s f) result self.new }
+    {
+        let Some((from, outer)) = self.log.opened(stand.opened) else {
+            return Ok(Lead::Lost);
+        };
+        self.log.push(Entry::Closed {
+            group,
+            from,
+            to: stand.place,
+        })?;
+        Ok(Lead::Goes(Stand {
+            at: stand.at + 1,
+            opened: outer,
+            ..stand
+        }))
+    }
+
+    /// On at the first, and later at the second.
+    fn choose(&mut self, stand: Stand, first: usize) -> Result<Lead, Error>
+        ensures { (leading : Leading) (s : plain.Stand) (f : Search) (later : List plain.Later)
+            → IsSearch leading self.old f → IsHere self.old stand s
+            → Keeps true (leading s) s f.later later
+            → Leads leading s stand f.failed
+            (TakesUp (plain.goes_to first s) (record f { later = later })) result self.new }
+    {
+        self.keep(stand, true)?;
+        Ok(Lead::Goes(stand.goes_to(first)))
+    }
+
+    /// The same, unless there is no way from here.
+    fn fork(&mut self, stand: Stand, first: usize) -> Result<Lead, Error>
+        ensures { (leading : Leading) (s : plain.Stand) (second : ℕ) (f : Search)
+            → IsSearch leading self.old f → IsHere self.old stand s
+            → leading s ≡ plain.Tries true (plain.goes_to first s) (plain.goes_to second s ∷ [])
+            → Leads leading s stand f.failed
+            (plain.next_by (leading s) (Some (points.Fork first second)) s f) result self.new }
+    {
+        if self.has_failed(stand)? {
+            return Ok(Lead::Lost);
+        }
+        self.count();
+        self.choose(stand, first)
+    }
+
+    /// On, unless there is no way from here.
+    fn join(&mut self, stand: Stand) -> Result<Lead, Error>
+        requires { stand.at < usize.MAX }
+        ensures { (leading : Leading) (s : plain.Stand) (f : Search)
+            → IsSearch leading self.old f → IsHere self.old stand s
+            → leading s ≡ plain.Tries true (plain.forward s) []
+            → Leads leading s stand f.failed
+            (plain.next_by (leading s) (Some points.Join) s f) result self.new }
+    {
+        if self.has_failed(stand)? {
+            return Ok(Lead::Lost);
+        }
+        self.keep(stand, false)?;
+        Ok(Lead::Goes(stand.forward()))
+    }
+
+    /// At the head of a loop that counts.
+    fn turn(&mut self, stand: Stand, turns: Loop, after: usize) -> Result<Lead, Error>
+        requires { stand.at < usize.MAX }
+        ensures { (leading : Leading) (s : plain.Stand) (f : Search)
+            → IsSearch leading self.old f → IsHere self.old stand s
+            → leading s ≡ plain.head_lead (loop_of turns) after s s.turns
+            → Leads leading s stand f.failed
+            (plain.next_by (leading s) (Some (points.Head (loop_of turns) after)) s f)
+            result self.new }
+    {
+        let Some((turn, outer)) = self.log.turn(stand.turns) else {
+            self.count();
+            return Ok(Lead::Lost);
+        };
+        if self.has_failed(stand)? {
+            return Ok(Lead::Lost);
+        }
+        self.count();
+        match turns.turning(turn, stand.place) {
+            Turning::Out => {
+                self.keep(stand, false)?;
+                Ok(Lead::Goes(stand.goes_out(after, outer)))
+            }
+            Turning::In => {
+                self.keep(stand, false)?;
+                self.turn_in(stand, turns, turn, outer)
+            }
+            Turning::InOrOut => {
+                self.keep(stand, true)?;
+                self.turn_in(stand, turns, turn, outer)
+            }
+            Turning::OutOrIn => {
+                self.keep(stand, true)?;
+                Ok(Lead::Goes(stand.goes_out(after, outer)))
+            }
+        }
+    }
+
+    /// The other way on from a loop's head.
+    fn other_turn(&mut self, stand: Stand, turns: Loop, after: usize) -> Result<Lead, Error>
+        requires { stand.at < usize.MAX }
+        ensures { (leading : Leading) (s first other : plain.Stand) (f : Search)
+            → IsSearch leading self.old f → IsHere self.old stand s
+            → plain.head_lead (loop_of turns) after s s.turns ≡ plain.Tries true first (other ∷ [])
+            → Leads leading s stand f.failed (TakesUp other f) result self.new }
+    {
+        let Some((turn, outer)) = self.log.turn(stand.turns) else {
+            return Ok(Lead::Lost);
+        };
+        match turns.turning(turn, stand.place) {
+            Turning::InOrOut => Ok(Lead::Goes(stand.goes_out(after, outer))),
+            Turning::OutOrIn => self.turn_in(stand, turns, turn, outer),
+            _ => Ok(Lead::Lost),
+        }
+    }
+
+    /// Into the next iteration.
+    fn turn_in(
+        &mut self,
+        stand: Stand,
+        turns: Loop,
+        turn: Turn,
+        outer: usize,
+    ) -> Result<Lead, Error>
+        requires at { stand.at < usize.MAX }
+        requires goes_on { plain.is_over (loop_of turns) stand.place (turn_of turn) ≡ false }
+        ensures { (leading : Leading) (s : plain.Stand) (f : Search) (around : List plain.Turn)
+            → IsSearch leading self.old f → IsHere self.old stand s
+            → outer ≤ length self.old.log.entries.items
+            → HasTurns self.old.log.entries.items outer around
+            → Leads leading s stand f.failed (TakesUp (record (plain.forward s)
+            { turns = plain.next_turn (loop_of turns) s.place (turn_of turn) ∷ around }) f)
+            result self.new }
+    {
+        let next = turns.next_turn(turn, stand.place);
+        let on = self.begin_turn(stand, outer, next)?;
+        Ok(Lead::Goes(on))
+    }
+}
+
+impl Task<'_> {
+    /// Searches from this stand on. After 2^64 - 1 steps, more than any machine takes, it gives up with `Memory`.
+    pub(crate) fn find(&self, m: &mut Memo, start: Stand) -> Result<Option<Stand>, Error>
+        requires { IsTask self.now }
+        ensures { (s : plain.Stand) (f : Search)
+            → IsSearch (leading_of self.now) m.old f → IsHere m.old start s
+            → EndsAs self.now (TakesUp s f) result m.new }
+    {
+        let mut stand = start;
+        'steps: for _ in 0..u64::MAX {
+            match self.advance(m, stand)? {
+                Lead::Found => return Ok(Some(stand)),
+                Lead::Goes(next) => stand = next,
+                Lead::Lost => return Ok(None),
+            }
+        }
+        Err(Error::Memory)
+    }
+
+    /// Takes up the point, and where it leads nowhere goes back to what is tried later.
+    fn advance(&self, m: &mut Memo, stand: Stand) -> Result<Lead, Error>
+        requires { IsTask self.now }
+        ensures { (s : plain.Stand) (f : Search)
+            → IsSearch (leading_of self.now) m.old f → IsHere m.old stand s
+            → Advances self.now stand (TakesUp s f) result m.new }
+    {
+        match self.take_up(m, stand)? {
+            Lead::Lost => self.take_back(m),
+            lead => Ok(lead),
+        }
+    }
+
+    /// Takes up the point.
+    fn take_up(&self, m: &mut Memo, stand: Stand) -> Result<Lead, Error>
+        requires { IsTask self.now }
+        ensures { (s : plain.Stand) (f : Search)
+            → IsSearch (leading_of self.now) m.old f → IsHere m.old stand s
+            → Leads (leading_of self.now) s stand f.failed
+            (next_of self.now (TakesUp s f)) result m.new }
+    {
+        match self.points.get(stand.at) {
+            None => {
+                m.count();
+                Ok(Lead::Lost)
+            }
+            Some(point) => self.take_up_point(point, m, stand),
+        }
+    }
+
+    fn take_up_point(&self, point: &Point, m: &mut Memo, stand: Stand) -> Result<Lead, Error>
+        requires at { slice_get self.now.points.now stand.at ≡ Some point.now }
+        requires read { IsPointReadBy self.now.unicode point.now }
+        ensures { (s : plain.Stand) (f : Search)
+            → IsSearch (leading_of self.now) m.old f → IsHere m.old stand s
+            → Leads (leading_of self.now) s stand f.failed
+            (next_of self.now (TakesUp s f)) result m.new }
+    {
+        match point {
+            Point::Take(test) => self.take(test, m, stand),
+            Point::Fork(first, _) => m.fork(stand, *first),
+            Point::Jump(to) => Ok(Lead::Goes(stand.goes_to(*to))),
+            Point::Or(first, _) => m.choose(stand, *first),
+            Point::Close(group) => m.close(stand, *group),
+            Point::Join => m.join(stand),
+            Point::Head { turns, after } => m.turn(stand, *turns, *after),
+            Point::Split(first, _) => {
+                m.count();
+                m.choose(stand, *first)
+            }
+            Point::Open => {
+                m.count();
+                m.open(stand)
+            }
+            Point::Enter => {
+                m.count();
+                let turn = Turn {
+                    count: 0,
+                    since: None,
+                };
+                let next = m.begin_turn(stand, stand.turns, turn)?;
+                Ok(Lead::Goes(next))
+            }
+            Point::Holds(assertion) => {
+                m.count();
+                if holds(*assertion, self.unicode, self.text, stand.place) {
+                    Ok(Lead::Goes(stand.forward()))
+                } else {
+                    Ok(Lead::Lost)
+                }
+            }
+            Point::Stop => {
+                m.count();
+                Ok(Lead::Found)
+            }
+        }
+    }
+
+    /// Past one character that passes the test.
+    fn take(&self, test: &CharTest, m: &mut Memo, stand: Stand) -> Result<Lead, Error>
+        requires at { stand.at < usize.MAX }
+        requires read { IsReadBy self.now.unicode test.now }
+        ensures { (s : plain.Stand) (f : Search)
+            → IsSearch (leading_of self.now) m.old f → IsHere m.old stand s
+            → Leads (leading_of self.now) s stand f.failed
+            (plain.next_by (plain.lead_by self.now.text.now self.now.unicode
+            (points.Take (test_of test.now)) s) (Some (points.Take (test_of test.now))) s f)
+            result m.new }
+    {
+        m.count();
+        match test.past(m.alloc, self.unicode, self.text, stand.place)? {
+            Some(place) => Ok(Lead::Goes(Stand {
+                at: stand.at + 1,
+                place,
+                ..stand
+            })),
+            None => Ok(Lead::Lost),
+        }
+    }
+
+    /// Back to the last choice that has an untried way on. Each that was tried on the way back has none.
+    fn take_back(&self, m: &mut Memo) -> Result<Lead, Error>
+        ensures { (f : Search) → IsSearch (leading_of self.now) m.old f
+            → GoesBack self.now (TakesBack f) result m.new }
+    {
+        'later: while let Some(choice) = m.later.pop() {
+            m.log.truncate(choice.path);
+            if choice.is_untried {
+                return self.take_other(m, choice.stand);
+            }
+            m.note_failed(choice.stand)?;
+        }
+        Ok(Lead::Lost)
+    }
+
+    /// On at the other way from this stand.
+    fn take_other(&self, m: &mut Memo, stand: Stand) -> Result<Lead, Error>
+        ensures { (s first other : plain.Stand) (is_noted : Bool) (f : Search)
+            (rest : List plain.Later)
+            → IsSearch (leading_of self.now) m.old (record f { later = rest })
+            → IsHere m.old stand s
+            → leading_of self.now s ≡ plain.Tries is_noted first (other ∷ [])
+            → Leads (leading_of self.now) s stand f.failed
+            (TakesUp other (record f { later = fails_before is_noted s rest })) result m.new }
+    {
+        match self.points.get(stand.at) {
+            None => Ok(Lead::Lost),
+            Some(point) => self.other_from(point, m, stand),
+        }
+    }
+
+    /// On at the other way from this point.
+    fn other_from(&self, point: &Point, m: &mut Memo, stand: Stand) -> Result<Lead, Error>
+        requires { slice_get self.now.points.now stand.at ≡ Some point.now }
+        ensures { (s first other : plain.Stand) (is_noted : Bool) (f : Search)
+            (rest : List plain.Later)
+            → IsSearch (leading_of self.now) m.old (record f { later = rest })
+            → IsHere m.old stand s
+            → leading_of self.now s ≡ plain.Tries is_noted first (other ∷ [])
+            → Leads (leading_of self.now) s stand f.failed
+            (TakesUp other (record f { later = fails_before is_noted s rest })) result m.new }
+    {
+        match point {
+            Point::Split(_, second) => Ok(Lead::Goes(stand.goes_to(*second))),
+            Point::Or(_, second) => Ok(Lead::Goes(stand.goes_to(*second))),
+            Point::Fork(_, second) => {
+                m.keep(stand, false)?;
+                Ok(Lead::Goes(stand.goes_to(*second)))
+            }
+            Point::Head { turns, after } => {
+                m.keep(stand, false)?;
+                m.other_turn(stand, *turns, *after)
+            }
+            _ => Ok(Lead::Lost),
+        }
+    }
+}

@@ -1,0 +1,4 @@
+pub mod Points
+pub mod PointCode
+pub mod PointSearch
+pub mod FirstWays

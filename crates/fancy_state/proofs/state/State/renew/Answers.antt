@@ -1,0 +1,5 @@
+use Rattle.fancy_state.proofs.StateLaws.{first_state}
+use Rattle.fancy_state.proofs.state.State.renew.Goals as goal
+
+pub returns-clause-ok : goal.returns-clause-ok
+returns-clause-ok c = rw (c.in_ok-renew.ensures.ok, c.clear.ensures.items) (first_state c.args.n_saves _ c.args.max_stack)

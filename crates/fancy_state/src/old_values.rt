@@ -1,0 +1,218 @@
+//! Cells, and what they held before they were changed.
+
+ghost use Rattle.std.specs.Prelude.{◌≡◌, [], ◌<◌, ◌≤◌, IsTrue, length, drop, take, slice_set, OnOk, OnErr, IfOk, IfErr, MatchOption};
+ghost use Rattle.fancy_state.specs.OldValues.{Agrees, IsSettled, values_of, first_cells};
+ghost use Rattle.fancy_state.specs.Refused.{IsMemory};
+
+use fancy_expr::error::Error;
+use std::alloc::Global;
+use std::marker::Model;
+
+/// What a cell held before a change.
+#[derive(Clone, Copy)]
+pub(crate) struct Old {
+    cell: usize,
+    value: usize,
+    /// Where the cell was logged before, if it was.
+    before: usize,
+}
+
+/// Cells, and a log of what they held before they were changed.
+#[derive(Drop)]
+pub(crate) struct Cells {
+    values: Vec<usize>,
+    /// Where each cell was last logged.
+    places: Vec<usize>,
+    log: Vec<Old>,
+}
+
+impl Model for Cells {
+    ghost use Rattle.fancy_state.specs.OldValues.{Cells};
+
+    ghost Value = { Cells };
+
+    ghost use Rattle.fancy_state.specs.CellsView.{cells_in, AreLogged};
+
+    ghost view = { cells_in };
+
+    ghost invariant = { AreLogged };
+}
+
+/// The cell's last change is logged at this place, since the mark.
+fn is_logged(log: &[Old], mark: usize, place: usize, cell: usize) -> bool
+    ensures { IsTrue result → IsSettled (drop mark log.now) cell }
+{
+    mark <= place && place < log.len() && log[place].cell == cell
+}
+
+impl Cells {
+    /// So many cells that hold `usize::MAX`, and one that holds 0.
+    pub(crate) fn new(alloc: Global, count: usize) -> Result<Cells, Error>
+        ensures ok { IfOk result (λ cells. cells ≡ first_cells count) }
+        ensures err { IfErr result IsMemory }
+    {
+        let mut values = vec![in alloc; usize::MAX; count]?;
+        values.push(0)?;
+        let places = vec![in alloc; 0; values.len()]?;
+        Ok(Cells {
+            values,
+            places,
+            log: Vec::new(alloc),
+        })
+    }
+
+    /// Makes them as `new` does, in the memory that they have.
+    pub(crate) fn renew(self, count: usize) -> Result<Cells, Error>
+        ensures ok { IfOk result (λ cells. cells ≡ first_cells count) }
+        ensures err { IfErr result IsMemory }
+    {
+        let Cells {
+            mut values,
+            mut places,
+            mut log,
+        } = self;
+        values.clear();
+        values.resize(count, usize::MAX)?;
+        values.push(0)?;
+        places.clear();
+        places.resize(values.len(), 0)?;
+        log.clear();
+        Ok(Cells {
+            values,
+            places,
+            log,
+        })
+    }
+
+    /// What a cell holds.
+    pub(crate) fn get(&self, cell: usize) -> usize
+        requires { cell < length self.now.values }
+        ensures value { result ≡ values_of self.now.values cell }
+        ensures fits { length self.now.values ≤ usize.MAX }
+    {
+        self.values[cell]
+    }
+
+    /// What the first cells hold.
+    pub(crate) fn first(&self, alloc: Global, count: usize) -> Result<Vec<usize>, Error>
+        requires { count ≤ length self.now.values }
+        ensures ok { IfOk result (λ v. v.items ≡ take count self.now.values) }
+        ensures err { IfErr result IsMemory }
+    {
+        Ok(Vec::from_slice(alloc, &self.values[..count])?)
+    }
+
+    /// How many old values are logged.
+    pub(crate) fn mark(&self) -> usize
+        ensures { result ≡ length self.now.log }
+    {
+        self.log.len()
+    }
+
+    /// Changes a cell. Where there is a mark, what it held is logged, once since then.
+    pub(crate) fn set(
+        &mut self,
+        mark: Option<usize>,
+        cell: usize,
+        value: usize,
+    ) -> Result<(), Error>
+        requires cell { cell < length self.old.values }
+        requires mark { MatchOption mark (Unit {0}) (λ m. m ≤ length self.old.log) }
+        ensures value { OnOk result (self.new.values ≡ slice_set self.old.values cell value) }
+        ensures agrees { OnOk result (MatchOption mark (Unit {0}) (λ m. Agrees m
+            self.old.log (values_of self.old.values) self.new.log (values_of self.new.values))) }
+        ensures longer { length self.old.log ≤ length self.new.log }
+        ensures refused { IfErr result IsMemory }
+        ensures err { OnErr result (self.new ≡ self.old) }
+    {
+        match mark {
+            None => {}
+            Some(mark) => {
+                let before = self.places[cell];
+                if !is_logged(&self.log, mark, before, cell) {
+                    let place = self.log.len();
+                    let value = self.values[cell];
+                    self.log.push(Old {
+                        cell,
+                        value,
+                        before,
+                    })?;
+                    self.places[cell] = place;
+                }
+            }
+        }
+        self.values[cell] = value;
+        Ok(())
+    }
+
+    /// Sees to it that the cell is there.
+    pub(crate) fn make_room(&mut self, cell: usize) -> Result<(), Error>
+        requires { cell ≤ length self.old.values }
+        ensures cell { OnOk result (cell < length self.new.values) }
+        ensures same { values_of self.new.values ≡ values_of self.old.values }
+        ensures log { self.new.log ≡ self.old.log }
+        ensures longer { length self.old.values ≤ length self.new.values }
+        ensures refused { IfErr result IsMemory }
+    {
+        if cell < self.values.len() {
+            return Ok(());
+        }
+        self.places.push(0)?;
+        self.values.push(0)?;
+        Ok(())
+    }
+
+    /// Gives the cells their old values back, until so many are logged.
+    pub(crate) fn unwind(&mut self, mark: usize)
+        requires { mark ≤ length self.old.log }
+        ensures agrees { Agrees mark
+            self.old.log (values_of self.old.values) self.new.log (values_of self.new.values) }
+        ensures log { length self.new.log ≡ mark }
+        ensures values { length self.new.values ≡ length self.old.values }
+    {
+        'undo: while self.log.len() > mark {
+            let Some(old) = self.log.pop() else {
+                unreachable!()
+            };
+            self.values[old.cell] = old.value;
+            self.places[old.cell] = old.before;
+        }
+    }
+
+    /// Joins what was logged from `first` on with what was logged since the mark, and keeps the first old value of a
+    /// cell.
+    pub(crate) fn join(&mut self, mark: usize, first: usize)
+        requires mark { mark ≤ first }
+        requires first { first ≤ length self.old.log }
+        ensures values { self.new.values ≡ self.old.values }
+        ensures agrees { Agrees mark
+            self.old.log (values_of self.old.values) self.new.log (values_of self.old.values) }
+        ensures longer { mark ≤ length self.new.log }
+    {
+        let mut kept = first;
+        'join: for next in first..self.log.len() {
+            let old = self.log[next];
+            let place = if old.before < first {
+                old.before
+            } else {
+                self.places[old.cell]
+            };
+            if is_logged(&self.log[..kept], mark, place, old.cell) {
+                self.places[old.cell] = place;
+            } else {
+                self.log[kept] = old;
+                self.places[old.cell] = kept;
+                kept += 1;
+            }
+        }
+        self.log.truncate(kept);
+    }
+
+    /// Forgets the old values.
+    pub(crate) fn forget(&mut self)
+        ensures values { self.new.values ≡ self.old.values }
+        ensures log { self.new.log ≡ [] }
+    {
+        self.log.clear();
+    }
+}

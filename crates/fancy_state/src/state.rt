@@ -1,0 +1,238 @@
+//! Slots, an explicit stack, and the branches that a run can fall back to.
+
+ghost use Rattle.std.specs.Prelude.{◌≡◌, ◌-◌, ◌<◌, ◌≤◌, [], ◌∷◌, None, Some, nat_lt, length, drop, take, reverse, slice_index, slice_set, IfOk, OnOk, OnErr, IfErr, MatchOption};
+ghost use Rattle.fancy_state.specs.Held.{below, first_held, held_branch};
+ghost use Rattle.fancy_state.specs.Refused.{IsRefused, IsMemory};
+ghost use Rattle.fancy_state.specs.OldValues.{IsNewest};
+
+use crate::old_values::Cells;
+use fancy_expr::error::{Error, RuntimeError};
+use std::alloc::Global;
+use std::marker::Model;
+
+/// What a failure falls back to.
+#[derive(Drop)]
+pub(crate) struct Branch {
+    pc: usize,
+    ix: usize,
+    /// How many old values were logged.
+    mark: usize,
+}
+
+/// Slots, an explicit stack and branches. The slots and the stack are cells; what a cell held before a change is logged
+/// once for each branch, and `pop` takes it back.
+#[derive(Drop)]
+pub struct State {
+    alloc: Global,
+    slot_count: usize,
+    /// The slots, then how many entries the explicit stack has, then these, and room that is never given back.
+    cells: Cells,
+    branches: Vec<Branch>,
+    max_stack: usize,
+}
+
+impl Model for State {
+    ghost use Rattle.fancy_state.specs.Held.{Held};
+
+    ghost Value = { Held };
+
+    ghost use Rattle.fancy_state.specs.View.{held, IsLogged};
+
+    ghost view = { held };
+
+    ghost invariant = { IsLogged };
+}
+
+/// The mark of the newest branch.
+fn newest_mark(branches: &[Branch]) -> Option<usize>
+    ensures { MatchOption result (reverse branches.now ≡ [])
+        (λ m. IsNewest m (reverse branches.now)) }
+{
+    match branches.last() {
+        None => None,
+        Some(branch) => Some(branch.mark),
+    }
+}
+
+impl State {
+    /// A state of `n_saves` slots that are not set, which may hold `max_stack` branches. `Memory` where a request for
+    /// memory was refused.
+    pub fn new(alloc: Global, n_saves: usize, max_stack: usize) -> Result<State, Error>
+        ensures ok { IfOk result (λ s. s ≡ first_held n_saves max_stack) }
+        ensures err { IfErr result IsMemory }
+    {
+        Ok(State {
+            alloc,
+            slot_count: n_saves,
+            cells: Cells::new(alloc, n_saves)?,
+            branches: Vec::new(alloc),
+            max_stack,
+        })
+    }
+
+    /// Makes it as `new` does, in the memory that it has.
+    pub fn renew(self, n_saves: usize, max_stack: usize) -> Result<State, Error>
+        ensures ok { IfOk result (λ s. s ≡ first_held n_saves max_stack) }
+        ensures err { IfErr result IsMemory }
+    {
+        let State {
+            alloc,
+            cells,
+            mut branches,
+            ..
+        } = self;
+        branches.clear();
+        Ok(State {
+            alloc,
+            slot_count: n_saves,
+            cells: cells.renew(n_saves)?,
+            branches,
+            max_stack,
+        })
+    }
+
+    /// Adds a branch at a place of the program and a byte of the text; it keeps the slots and the explicit stack.
+    /// `StackOverflow` exactly where `max_stack` branches are held, and `Memory` where a request for memory was refused;
+    /// the state is then as before.
+    pub fn push(&mut self, pc: usize, ix: usize) -> Result<(), Error>
+        ensures room { OnOk result (length self.old.branches < self.old.max_stack) }
+        ensures ok { OnOk result (self.new
+            ≡ record self.old { branches = held_branch pc ix self.old ∷ self.old.branches }) }
+        ensures refused { IfErr result (IsRefused (length self.old.branches) self.old.max_stack) }
+        ensures err { OnErr result (self.new ≡ self.old) }
+    {
+        if self.branches.len() >= self.max_stack {
+            return Err(Error::RuntimeError(RuntimeError::StackOverflow));
+        }
+        let mark = self.cells.mark();
+        self.branches.push(Branch { pc, ix, mark })?;
+        Ok(())
+    }
+
+    /// Takes the last branch off, with its slots and its explicit stack, and answers its places in the program and in
+    /// the text. There has to be one. It takes no memory.
+    pub fn pop(&mut self) -> (usize, usize)
+        requires { 0 < length self.old.branches }
+        ensures branch { self.old.branches
+            ≡ held_branch result.0 result.1 self.new ∷ self.new.branches }
+        ensures slots { length self.new.slots ≡ length self.old.slots }
+        ensures max_stack { self.new.max_stack ≡ self.old.max_stack }
+    {
+        let Some(Branch { pc, ix, mark }) = self.branches.pop() else {
+            unreachable!()
+        };
+        self.cells.unwind(mark);
+        (pc, ix)
+    }
+
+    /// Sets a slot, one of the first `n_saves`. `Memory` where a request for memory was refused; the state is then as
+    /// before.
+    pub fn save(&mut self, slot: usize, value: usize) -> Result<(), Error>
+        requires { slot < length self.old.slots }
+        ensures ok { OnOk result
+            (self.new ≡ record self.old { slots = slice_set self.old.slots slot value }) }
+        ensures refused { IfErr result IsMemory }
+        ensures err { OnErr result (self.new ≡ self.old) }
+    {
+        let mark = newest_mark(&self.branches);
+        self.cells.set(mark, slot, value)?;
+        Ok(())
+    }
+
+    /// What a slot holds, one of the first `n_saves`; `usize::MAX` where it was not set.
+    pub fn get(&self, slot: usize) -> usize
+        requires { slot < length self.now.slots }
+        ensures { result ≡ slice_index self.now.slots slot }
+    {
+        self.cells.get(slot)
+    }
+
+    /// The first slots as numbers.
+    pub fn first_slots(&self, alloc: Global, count: usize) -> Result<Vec<usize>, Error>
+        requires { count ≤ length self.now.slots }
+        ensures ok { IfOk result (λ v. v.items ≡ take count self.now.slots) }
+        ensures err { IfErr result IsMemory }
+    {
+        self.cells.first(alloc, count)
+    }
+
+    /// Adds an entry to the explicit stack. `Memory` where a request for memory was refused; the state is then as before.
+    pub fn stack_push(&mut self, value: usize) -> Result<(), Error>
+        ensures ok { OnOk result (self.new ≡ record self.old { stack = value ∷ self.old.stack }) }
+        ensures refused { IfErr result IsMemory }
+        ensures err { OnErr result (self.new ≡ self.old) }
+    {
+        let count = self.cells.get(self.slot_count);
+        let entry = self.slot_count + 1 + count;
+        self.cells.make_room(entry)?;
+        let mark = newest_mark(&self.branches);
+        self.cells.set(mark, entry, value)?;
+        self.cells.set(mark, self.slot_count, count + 1)?;
+        Ok(())
+    }
+
+    /// Takes the last entry off the explicit stack. There has to be one. `Memory` where a request for memory was refused;
+    /// the state is then as before.
+    pub fn stack_pop(&mut self) -> Result<usize, Error>
+        requires { 0 < length self.old.stack }
+        ensures ok { IfOk result
+            (λ value. self.old ≡ record self.new { stack = value ∷ self.new.stack }) }
+        ensures refused { IfErr result IsMemory }
+        ensures err { OnErr result (self.new ≡ self.old) }
+    {
+        let count = self.cells.get(self.slot_count);
+        let value = self.cells.get(self.slot_count + count);
+        let mark = newest_mark(&self.branches);
+        self.cells.set(mark, self.slot_count, count - 1)?;
+        Ok(value)
+    }
+
+    /// The explicit stack has an entry.
+    pub fn has_entry(&self) -> bool
+        ensures { result ≡ nat_lt 0 (length self.now.stack) }
+    {
+        self.cells.get(self.slot_count) > 0
+    }
+
+    /// How many branches stand before the last one that has this place of the program.
+    pub fn count_before(&self, pc: usize) -> Option<usize>
+        ensures { MatchOption result (below pc self.now.branches ≡ None)
+            (λ n. (n ≤ length self.now.branches) × (below pc self.now.branches
+            ≡ Some (drop (length self.now.branches - n) self.now.branches))) }
+    {
+        let mut count = self.branches.len();
+        while count > 0 {
+            count -= 1;
+            if self.branches[count].pc == pc {
+                return Some(count);
+            }
+        }
+        None
+    }
+
+    /// How many branches are held.
+    pub fn backtrack_count(&self) -> usize
+        ensures { result ≡ length self.now.branches }
+    {
+        self.branches.len()
+    }
+
+    /// Keeps the first `count` branches, of which there are so many, the slots and the explicit stack: each kept branch
+    /// still has its own. It takes no memory.
+    pub fn backtrack_cut(&mut self, count: usize)
+        requires { count ≤ length self.old.branches }
+        ensures { self.new ≡ record self.old {
+          branches = drop (length self.old.branches - count) self.old.branches;
+        } }
+    {
+        if count >= self.branches.len() {
+            return;
+        }
+        let first = self.branches[count].mark;
+        self.branches.truncate(count);
+        match newest_mark(&self.branches) {
+            None => self.cells.forget(),
+            Some(mark) => self.cells.join(mark, first),
+        }
+    }
+}

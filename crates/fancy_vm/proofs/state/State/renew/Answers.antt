@@ -1,5 +1,0 @@
-use Rattle.fancy_vm.proofs.StateLaws.{first_state}
-use Rattle.fancy_vm.proofs.state.State.renew.Goals as goal
-
-pub returns-clause-ok : goal.returns-clause-ok
-returns-clause-ok c = rw (c.in_ok-renew.ensures.ok, c.clear.ensures.items) (first_state c.args.n_saves _ c.args.max_stack)
