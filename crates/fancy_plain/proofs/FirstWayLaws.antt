@@ -14,12 +14,12 @@ use Rattle.fancy_points.specs.FirstWays.{AreNoted, FindsFirst, of_search, search
 use Rattle.fancy_points.proofs.PlainSearch.{plain_search_finds}
 use Rattle.fancy_plain.specs.declared.first_way.FirstWay.{FirstWay}
 use Rattle.fancy_plain.specs.declared.first_way.Way.{Way}
-use Rattle.fancy_plain.specs.declared.fragment.Fragment.{Fragment}
+use Rattle.fancy_plain.specs.declared.table.PointTable.{PointTable}
 use Rattle.fancy_plain.specs.declared.log.Entry.{Entry}
 use Rattle.fancy_plain.specs.declared.log.Stand.{Stand}
 use Rattle.fancy_plain.specs.declared.search.Memo.{Memo}
 use Rattle.fancy_plain.specs.declared.search.Task.{Task}
-use Rattle.fancy_plain.specs.Fragments.{IsFragment}
+use Rattle.fancy_plain.specs.Tables.{IsTableOf}
 use Rattle.fancy_plain.specs.Paths.{closed_after}
 use Rattle.fancy_plain.specs.Searches.{AreKept, EndsAs, HaveFailed, IsHere, IsSearch, Leading}
 use Rattle.fancy_plain.specs.Views.{point_of}
@@ -78,7 +78,7 @@ pub seen_at_end : (w : Way) (entries : List Entry) (t : plain.Stand) → w.end �
     IsSeenAs (Some w) (Some (seen_of t))
 seen_at_end w entries t place spans same = (place, (λ g. same g ∙ ap (λ closed. spans_of closed g) spans))
 
-module _ (text : List ℕ) (f : Fragment) (place : ℕ) (failed : Pair → Bool) (is_text : IsText text)
+module _ (text : List ℕ) (f : PointTable) (place : ℕ) (failed : Pair → Bool) (is_text : IsText text)
     (at : IsTrue (is_place text place))
     (noted : AreNoted text f.unicode (map point_of f.points.items) failed) where
   abbrev run : ℕ → Next
@@ -87,7 +87,7 @@ module _ (text : List ℕ) (f : Fragment) (place : ℕ) (failed : Pair → Bool)
   pub memo_after : (m : Memo) (steps : ℕ) → HaveFailed m (search_in (run steps)).failed → IsMemoOf text f m
   memo_after m steps h = ((search_in (run steps)).failed, (h, of_search place steps at noted))
 
-  module _ (a : Analysis) (es : List Tree) (h : IsFragment a es f.unicode f) (pos : ℕ) (continued : Bool) where
+  module _ (a : Analysis) (es : List Tree) (h : IsTableOf a es f.unicode f) (pos : ℕ) (continued : Bool) where
     abbrev q : Setting
     q = record { text = text; pos = pos; continued = continued; unicode = f.unicode }
 
@@ -143,7 +143,7 @@ ended task failed place (Some s) m (steps, (f, (t, (is, h, here)))) =
 
 -- ---- what is answered at the end
 
-module _ (text : List ℕ) (f : Fragment) (place : ℕ) (failed : Pair → Bool) (is_text : IsText text)
+module _ (text : List ℕ) (f : PointTable) (place : ℕ) (failed : Pair → Bool) (is_text : IsText text)
     (at : IsTrue (is_place text place))
     (known : AreNoted text f.unicode (map point_of f.points.items) failed) (answer : FirstWay) (m : Memo) (visits : answer.visits ≡ m.visits) where
   pub first_found : (there : Stand) (e : Ended text f.unicode (map point_of f.points.items) failed place (Some there) m) (w : Way) →

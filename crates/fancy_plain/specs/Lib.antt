@@ -7,4 +7,4 @@ pub mod Neighbours
 pub mod ClassTexts
 pub mod Shapes
 pub mod Layouts
-pub mod Fragments
+pub mod Tables

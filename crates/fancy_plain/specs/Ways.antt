@@ -11,10 +11,10 @@ use Rattle.fancy_points.specs.PointSearch.{Pair}
 use Rattle.fancy_points.specs.FirstWays.{AreNoted, Seen, first_seen}
 use Rattle.fancy_plain.specs.declared.first_way.FirstWay.{FirstWay}
 use Rattle.fancy_plain.specs.declared.first_way.Way.{Way}
-use Rattle.fancy_plain.specs.declared.fragment.Fragment.{Fragment}
+use Rattle.fancy_plain.specs.declared.table.PointTable.{PointTable}
 use Rattle.fancy_plain.specs.declared.search.Memo.{Memo}
 use Rattle.fancy_plain.specs.Views.{point_of}
-use Rattle.fancy_plain.specs.Fragments.{IsFragment}
+use Rattle.fancy_plain.specs.Tables.{IsTableOf}
 use Rattle.fancy_plain.specs.Searches.{HaveFailed}
 
 -- a group's number, the start and the end of its span
@@ -42,18 +42,18 @@ IsSeenAs (Some w) (Some way) = (w.end ≡ way.0) × ((g : ℕ) → listed w.span
 
 -- The answer is the first way of the nodes, wherever the search of the whole pattern began, and no more points are told
 -- as taken up than one of each at each place.
-abbrev pub IsFirstWay : (text : List ℕ) → Fragment → (place : ℕ) → FirstWay → Type 0
-IsFirstWay text f place answer = (a : Analysis) (es : List Tree) → IsFragment a es f.unicode f →
+abbrev pub IsFirstWay : (text : List ℕ) → PointTable → (place : ℕ) → FirstWay → Type 0
+IsFirstWay text f place answer = (a : Analysis) (es : List Tree) → IsTableOf a es f.unicode f →
     ((pos : ℕ) (continued : Bool) →
     IsSeenAs answer.way
     (first_seen (record { text = text; pos = pos; continued = continued; unicode = f.unicode }) es place))
     × (answer.visits ≤ visit_bound a.tree es (length text - place))
 
 -- it is the fragment of some nodes
-abbrev pub IsOfNodes : Fragment → Type 0
-IsOfNodes f = (a : Analysis) × ((es : List Tree) × IsFragment a es f.unicode f)
+abbrev pub IsOfNodes : PointTable → Type 0
+IsOfNodes f = (a : Analysis) × ((es : List Tree) × IsTableOf a es f.unicode f)
 
 -- it knows what searches of this fragment in this text have noted, and no more
-abbrev pub IsMemoOf : (text : List ℕ) → Fragment → Memo → Type 0
+abbrev pub IsMemoOf : (text : List ℕ) → PointTable → Memo → Type 0
 IsMemoOf text f m = (failed : Pair → Bool) ×
     (HaveFailed m failed × AreNoted text f.unicode (map point_of f.points.items) failed)

@@ -1,4 +1,4 @@
-//! The first way of a fragment from a place.
+//! The first way by a table from a place.
 
 ghost use Rattle.std.specs.Prelude.{◌≡◌, [], ℕ, IfOk, IfErr, IsTrue};
 ghost use Rattle.fancy_meaning.specs.Places.{is_place};
@@ -7,14 +7,14 @@ ghost use Rattle.fancy_plain.specs.Paths.{closed_after};
 ghost use Rattle.fancy_plain.specs.Searches.{IsMemory};
 ghost use Rattle.fancy_plain.specs.Ways.{listed, Ascends, HasAscending, IsFirstWay, IsMemoOf, IsOfNodes};
 
-use crate::fragment::Fragment;
+use crate::table::PointTable;
 use crate::log::{Entry, Stand};
 use crate::search::{Memo, Task};
 use fancy_expr::error::Error;
 use std::alloc::Global;
 use std::collections::BTreeMap;
 
-/// A way of a fragment.
+/// A way of a table's nodes.
 #[derive(Debug, Drop)]
 pub struct Way {
     /// The place where it ends, in bytes.
@@ -31,43 +31,43 @@ pub struct FirstWay {
     pub visits: u64,
 }
 
-/// The first way of the fragment from `ix`, a character boundary of the text. `Memory` where a request for memory was
+/// The first way of the table's nodes from `ix`, a character boundary of the text. `Memory` where a request for memory was
 /// refused, and after 2^64 - 1 steps, more than any machine takes.
 pub fn first_way(
     alloc: Global,
-    fragment: &Fragment,
+    table: &PointTable,
     text: &str,
     ix: usize,
 ) -> Result<FirstWay, Error>
     requires place { IsTrue (is_place text.now ix) }
-    requires fragment { IsOfNodes fragment.now }
-    ensures first { IfOk result (IsFirstWay text.now fragment.now ix) }
+    requires table { IsOfNodes table.now }
+    ensures first { IfOk result (IsFirstWay text.now table.now ix) }
     ensures ascends { IfOk result HasAscending }
     ensures refused { IfErr result IsMemory }
 {
-    let mut memo = Memo::new(alloc, fragment, ix);
-    first_way_with(alloc, fragment, text, ix, &mut memo)
+    let mut memo = Memo::new(alloc, table, ix);
+    first_way_with(alloc, table, text, ix, &mut memo)
 }
 
-/// The same, with what earlier searches of this fragment in this text have noted.
+/// The same, with what earlier searches by this table in this text have noted.
 pub fn first_way_with(
     alloc: Global,
-    fragment: &Fragment,
+    table: &PointTable,
     text: &str,
     ix: usize,
     memo: &mut Memo,
 ) -> Result<FirstWay, Error>
     requires place { IsTrue (is_place text.now ix) }
-    requires fragment { IsOfNodes fragment.now }
-    requires memo { IsMemoOf text.now fragment.now memo.old }
-    ensures first { IfOk result (IsFirstWay text.now fragment.now ix) }
+    requires table { IsOfNodes table.now }
+    requires memo { IsMemoOf text.now table.now memo.old }
+    ensures first { IfOk result (IsFirstWay text.now table.now ix) }
     ensures ascends { IfOk result HasAscending }
-    ensures memo { IsMemoOf text.now fragment.now memo.new }
+    ensures memo { IsMemoOf text.now table.now memo.new }
     ensures refused { IfErr result IsMemory }
 {
     let task = Task {
-        points: &fragment.points,
-        unicode: fragment.unicode,
+        points: &table.points,
+        unicode: table.unicode,
         text,
     };
     let start = Stand {

@@ -3,7 +3,7 @@
 
 mod failed;
 pub mod first_way;
-pub mod fragment;
+pub mod table;
 mod layout;
 mod log;
 mod point;

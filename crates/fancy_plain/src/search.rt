@@ -11,7 +11,7 @@ ghost use Rattle.fancy_plain.specs.Ways.{IsMemoOf};
 ghost use Rattle.fancy_plain.specs.Searches.{Advances, EndsAs, GoesBack, HaveFailed, IsHere, IsTask, TurnsBy, fails_before, leading_of, next_of, IsMemory, IsSearch, Keeps, Leading, Leads};
 
 use crate::failed::Failed;
-use crate::fragment::Fragment;
+use crate::table::PointTable;
 use crate::log::{Entry, Log, Stand, Turn};
 use crate::point::{CharTest, Loop, Point};
 use fancy_characters::look::holds;
@@ -47,7 +47,7 @@ pub(crate) enum Lead {
     Goes(Stand),
 }
 
-/// The points of a fragment, and the text that they are searched in.
+/// The points of a table, and the text that they are searched in.
 #[derive(Clone, Copy)]
 pub(crate) struct Task<'a> {
     pub(crate) points: &'a [Point],
@@ -140,18 +140,25 @@ fn push_turns(log: &Log, stand: Stand, numbers: &mut Vec<usize>) -> Result<(), E
 }
 
 impl Memo {
-    /// For searches of the fragment in one text, from `pos` on.
-    pub fn new(alloc: Global, fragment: &Fragment, pos: usize) -> Memo
-        ensures { (text : List ℕ) → IsMemoOf text fragment.now result }
+    /// For searches by the table in one text, from `pos` on.
+    pub fn new(alloc: Global, table: &PointTable, pos: usize) -> Memo
+        ensures { (text : List ℕ) → IsMemoOf text table.now result }
     {
         Memo {
             alloc,
-            failed: Failed::new(alloc, fragment.points.len(), pos),
+            failed: Failed::new(alloc, table.points.len(), pos),
             later: Vec::new(alloc),
             log: Log::new(alloc),
             numbers: Vec::new(alloc),
             visits: 0,
         }
+    }
+
+    /// As `new` for another table or text, with the room of this one, in time that follows what was noted.
+    pub fn clear(&mut self, table: &PointTable, pos: usize)
+        ensures { (text : List ℕ) → IsMemoOf text table.now self.new }
+    {
+        self.failed.clear(table.points.len(), pos);
     }
 
     /// Before another search.

@@ -9,6 +9,7 @@ ghost use Rattle.fancy_vm.specs.Insns.{insn_of, prog_with};
 use fancy_characters::classes::{CaseiLiteral, CharClassMatcher};
 use fancy_characters::look::is_of_end;
 use fancy_expr::expr::Assertion;
+use fancy_fragments::delegate::Delegate;
 use std::rc::Rc;
 
 /// One instruction. Places in the program, and slots, are indices; places in a text are bytes.
@@ -94,6 +95,11 @@ pub enum Insn {
     },
     /// Fails where the group was not closed.
     BackrefExistsCondition(usize),
+    /// Goes on where the fragment's first way ends, with the pairs of the groups that it sets.
+    Delegate(Rc<Delegate>),
+    /// At the text's end, and where the fragment has a way, goes on. Else it takes a character and comes here again,
+    /// with a branch that goes on from where it was.
+    AbsentRepeater(Rc<Delegate>),
     /// Marks how many branches there are.
     BeginAtomic,
     /// Drops the branches since the last mark.
@@ -228,6 +234,7 @@ impl Insn {
             Insn::RepeatEpsilonNg { repeat, check, .. } => *repeat < slots && *check < slots,
             Insn::Backref { slot, .. } => *slot < slots.saturating_sub(1),
             Insn::BackrefExistsCondition(group) => is_pair(*group, slots),
+            Insn::Delegate(delegate) => delegate.fragment().fits(slots),
             _ => true,
         }
     }

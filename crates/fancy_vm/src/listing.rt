@@ -2,6 +2,7 @@
 
 use crate::insn::{Insn, Prog};
 use fancy_characters::classes::CharClassMatcher;
+use fancy_fragments::delegate::Delegate;
 use std::fmt;
 
 impl Insn {
@@ -32,6 +33,8 @@ impl Insn {
             Insn::GoBack(_) => "GoBack",
             Insn::Backref { .. } => "Backref",
             Insn::BackrefExistsCondition(_) => "Exists",
+            Insn::Delegate(_) => "Delegate",
+            Insn::AbsentRepeater(_) => "AbsentRepeater",
             Insn::BeginAtomic => "BeginAtomic",
             Insn::EndAtomic => "EndAtomic",
             Insn::Fail => "Fail",
@@ -57,6 +60,8 @@ impl Insn {
             Insn::GoBack(chars) => write!(f, "({chars})"),
             Insn::Backref { slot, .. } => write!(f, "({slot})"),
             Insn::BackrefExistsCondition(group) => write!(f, "({group})"),
+            Insn::Delegate(delegate) => write_delegate(delegate, f),
+            Insn::AbsentRepeater(delegate) => write_delegate(delegate, f),
             Insn::ContinueFromPreviousMatchEnd { at_start } => write!(f, "{{{at_start}}}"),
             _ => self.write_loop(f),
         }
@@ -99,6 +104,19 @@ fn write_class<W: fmt::Write>(class: &CharClassMatcher, f: &mut fmt::Formatter<W
     match class {
         CharClassMatcher::Codepoint { name, .. } => write!(f, "({name})"),
         CharClassMatcher::Newline { .. } => write!(f, "(Newline)"),
+    }
+}
+
+/// Writes the fragment's name and the numbers of its groups.
+fn write_delegate<W: fmt::Write>(delegate: &Delegate, f: &mut fmt::Formatter<W>) -> fmt::Result {
+    let pattern = delegate.pattern();
+    match delegate.capture_groups() {
+        None => write!(f, "(\"{pattern}\", no groups)"),
+        Some(range) => {
+            let start = range.start();
+            let end = range.end();
+            write!(f, "(\"{pattern}\", groups ({start},{end}))")
+        }
     }
 }
 

@@ -20,8 +20,8 @@ use Rattle.fancy_plain.proofs.first_way.first_way_with.Goals.{in-Some+in_ok-span
 pub returns-in_err-found-clause-memo : goal.returns-in_err-found-clause-memo
 returns-in_err-found-clause-memo c =
     let text = c.args.text.now in
-    let unicode = c.args.fragment.now.unicode in
-    let points = map point_of c.args.fragment.now.points.items in
+    let unicode = c.args.table.now.unicode in
+    let points = map point_of c.args.table.now.points.items in
     let small : length text < usize_max = omega arith in
     let is_text : IsText text = record { utf8 = c.utf8.text; fits = small } in
     let failed = c.requires.memo.0 in
@@ -32,15 +32,15 @@ returns-in_err-found-clause-memo c =
     let here = here_at_start (leading_of task) m failed c.args.ix c.start.ensures.path c.start.ensures.later c.start.ensures.visits have in
     let same = ap (map point_of) c.deref.ensures.value in
     let h = c.in_err-found.ensures (plain.first_stand c.args.ix) (plain.first_search failed) search_before here in
-    memo_after text c.args.fragment.now c.args.ix failed is_text c.requires.place c.requires.memo.1.1 c.find.new.m h.1.0
+    memo_after text c.args.table.now c.args.ix failed is_text c.requires.place c.requires.memo.1.1 c.find.new.m h.1.0
     (subst (λ ps. HaveFailed c.find.new.m (search_in (searched text unicode ps failed c.args.ix h.1.0)).failed) same h.1.1)
 
 -- src/first_way.rt:80:17
 pub returns-in_err-found-clause-refused : goal.returns-in_err-found-clause-refused
 returns-in_err-found-clause-refused c =
     let text = c.args.text.now in
-    let unicode = c.args.fragment.now.unicode in
-    let points = map point_of c.args.fragment.now.points.items in
+    let unicode = c.args.table.now.unicode in
+    let points = map point_of c.args.table.now.points.items in
     let small : length text < usize_max = omega arith in
     let is_text : IsText text = record { utf8 = c.utf8.text; fits = small } in
     let failed = c.requires.memo.0 in
@@ -58,8 +58,8 @@ returns-in_err-found-clause-refused c =
 pub returns-in_err-spans-in-Some-clause-memo : goal.returns-in_err-spans-in-Some-clause-memo
 returns-in_err-spans-in-Some-clause-memo c =
     let text = c.args.text.now in
-    let unicode = c.args.fragment.now.unicode in
-    let points = map point_of c.args.fragment.now.points.items in
+    let unicode = c.args.table.now.unicode in
+    let points = map point_of c.args.table.now.points.items in
     let small : length text < usize_max = omega arith in
     let is_text : IsText text = record { utf8 = c.utf8.text; fits = small } in
     let failed = c.requires.memo.0 in
@@ -72,15 +72,15 @@ returns-in_err-spans-in-Some-clause-memo c =
     let e = subst (λ ps. Ended text unicode ps failed c.args.ix c.in_ok-found.found c.find.new.m) same
     (ended task failed c.args.ix c.in_ok-found.found c.find.new.m
     (c.in_ok-found.ensures (plain.first_stand c.args.ix) (plain.first_search failed) search_before here)) in
-    memo_after text c.args.fragment.now c.args.ix failed is_text c.requires.place c.requires.memo.1.1 c.find.new.m e.steps
+    memo_after text c.args.table.now c.args.ix failed is_text c.requires.place c.requires.memo.1.1 c.find.new.m e.steps
     (subst (λ n. HaveFailed c.find.new.m (search_in n).failed) (sym e.ends) e.have)
 
 -- src/first_way.rt:53:1
 pub returns-clause-first : goal.returns-clause-first
 returns-clause-first c =
     let text = c.args.text.now in
-    let unicode = c.args.fragment.now.unicode in
-    let points = map point_of c.args.fragment.now.points.items in
+    let unicode = c.args.table.now.unicode in
+    let points = map point_of c.args.table.now.points.items in
     let small : length text < usize_max = omega arith in
     let is_text : IsText text = record { utf8 = c.utf8.text; fits = small } in
     let failed = c.requires.memo.0 in
@@ -99,14 +99,14 @@ returns-clause-first c =
           subst (λ o. Ended text unicode points failed c.args.ix o c.find.new.m) w.in-Some.is e in
           let answer : FirstWay = record { way = c.match-found.way'; visits = c.visits-visits.result } in
           let way : Way = record { end = w.in-Some.stand.place; spans = w.in_ok-spans-in-Some.field-0 } in
-          first_found text c.args.fragment.now c.args.ix failed is_text c.requires.place c.requires.memo.1.1 answer c.find.new.m
+          first_found text c.args.table.now c.args.ix failed is_text c.requires.place c.requires.memo.1.1 answer c.find.new.m
           c.visits-visits.ensures w.in-Some.stand there way w.way'-is refl
           (λ g. w.in_ok-spans-in-Some.ensures.listed g ∙ ap (λ entries. spans_of (closed_after [] entries) g) w.path.ensures)
       | in-None w ↦
           let there : Ended text unicode points failed c.args.ix None c.find.new.m =
           subst (λ o. Ended text unicode points failed c.args.ix o c.find.new.m) w.in-None.is e in
           let answer : FirstWay = record { way = c.match-found.way'; visits = c.visits-visits.result } in
-          first_none text c.args.fragment.now c.args.ix failed is_text c.requires.place c.requires.memo.1.1 answer c.find.new.m
+          first_none text c.args.table.now c.args.ix failed is_text c.requires.place c.requires.memo.1.1 answer c.find.new.m
           c.visits-visits.ensures there w.way'-is
     ]
 
@@ -114,8 +114,8 @@ returns-clause-first c =
 pub returns-clause-memo : goal.returns-clause-memo
 returns-clause-memo c =
     let text = c.args.text.now in
-    let unicode = c.args.fragment.now.unicode in
-    let points = map point_of c.args.fragment.now.points.items in
+    let unicode = c.args.table.now.unicode in
+    let points = map point_of c.args.table.now.points.items in
     let small : length text < usize_max = omega arith in
     let is_text : IsText text = record { utf8 = c.utf8.text; fits = small } in
     let failed = c.requires.memo.0 in
@@ -128,5 +128,5 @@ returns-clause-memo c =
     let e = subst (λ ps. Ended text unicode ps failed c.args.ix c.in_ok-found.found c.find.new.m) same
     (ended task failed c.args.ix c.in_ok-found.found c.find.new.m
     (c.in_ok-found.ensures (plain.first_stand c.args.ix) (plain.first_search failed) search_before here)) in
-    memo_after text c.args.fragment.now c.args.ix failed is_text c.requires.place c.requires.memo.1.1 c.find.new.m e.steps
+    memo_after text c.args.table.now c.args.ix failed is_text c.requires.place c.requires.memo.1.1 c.find.new.m e.steps
     (subst (λ n. HaveFailed c.find.new.m (search_in n).failed) (sym e.ends) e.have)

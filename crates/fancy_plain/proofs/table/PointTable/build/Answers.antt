@@ -3,18 +3,18 @@ use Rattle.std.proofs.lemmas.List.{map-append}
 use Rattle.fancy_expr.specs.Each.{Each}
 use Rattle.fancy_plain.specs.declared.point.Point.TheVariants as code
 use Rattle.fancy_plain.specs.declared.layout.Layout.{Layout}
-use Rattle.fancy_plain.specs.Fragments.{IsRefusedFor}
+use Rattle.fancy_plain.specs.Tables.{IsRefusedFor}
 use Rattle.fancy_plain.specs.Views.{point_of, IsPointReadBy}
 use Rattle.fancy_plain.proofs.Built.{are_easy, fault_passed, all_points, each_more}
-use Rattle.fancy_plain.proofs.fragment.Fragment.build.Goals as goal
+use Rattle.fancy_plain.proofs.table.PointTable.build.Goals as goal
 
 pub returns-in_err-lay_each-clause-refused : goal.returns-in_err-lay_each-clause-refused
 returns-in_err-lay_each-clause-refused c =
     fault_passed (IsRefusedFor c.args.unicode c.args.infos.now) c.from_residual.result _ c.from_residual.ensures
     (c.in_err-lay_each.ensures c.requires.0 c.requires.1)
 
-pub returns-clause-fragment : goal.returns-clause-fragment
-returns-clause-fragment c = λ a each fine.
+pub returns-clause-table : goal.returns-clause-table
+returns-clause-table c = λ a each fine.
     let infos = c.args.infos.now in
     let adds = c.in_ok-lay_each.ensures a each in
     let t = c.lay_each.new.self in

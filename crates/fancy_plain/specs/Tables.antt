@@ -9,7 +9,7 @@ use Rattle.fancy_points.specs.PointCode.{points_of}
 use Rattle.fancy_expr.specs.declared.error.Error.{Error}
 use Rattle.fancy_expr.specs.Each.{Each}
 use Rattle.fancy_info.specs.declared.info.Info.{Info}
-use Rattle.fancy_plain.specs.declared.fragment.Fragment.{Fragment}
+use Rattle.fancy_plain.specs.declared.table.PointTable.{PointTable}
 use Rattle.fancy_plain.specs.Views.{point_of, IsPointReadBy}
 use Rattle.fancy_plain.specs.Neighbours.{trees_of}
 use Rattle.fancy_plain.specs.ClassTexts.{texts_in, AreClasses, IsRefusal}
@@ -20,7 +20,7 @@ AreFine [] = Unit {0}
 AreFine (e ∷ es) = ((d : Tree) → Contains (nodes e) d → IsFine d) × AreFine es
 
 -- a fragment of these neighbouring nodes
-pub record IsFragment (a : Analysis) (es : List Tree) (is_unicode : Bool) (f : Fragment) : Type 0 where
+pub record IsTableOf (a : Analysis) (es : List Tree) (is_unicode : Bool) (f : PointTable) : Type 0 where
   pub points : map point_of f.points.items ≡ points_of a.tree es
   pub unicode : f.unicode ≡ is_unicode
   pub reads : Each (IsPointReadBy is_unicode) f.points.items

@@ -1,0 +1,33 @@
+-- What a fragment stands for, and what its search answers.
+use Rattle.std.specs.Prelude.{◌≤◌, ◌-◌, ℕ, Bool, List, length}
+use Rattle.fancy_meaning.specs.Tree.{Tree}
+use Rattle.fancy_meaning.specs.Instr as plain
+use Rattle.fancy_meaning.specs.Options.{Analysis}
+use Rattle.fancy_meaning.specs.FragmentPoints.{visit_bound}
+use Rattle.fancy_points.specs.FirstWays.{AreEasy, first_seen}
+use Rattle.fancy_expr.specs.Walk.{within_of}
+use Rattle.fancy_plain.specs.declared.first_way.FirstWay.{FirstWay}
+use Rattle.fancy_plain.specs.declared.search.Memo.{Memo}
+use Rattle.fancy_plain.specs.Ways.{IsMemoOf, IsSeenAs}
+use Rattle.fancy_fragments.specs.declared.fragment.Fragment.{Fragment}
+use Rattle.fancy_fragments.specs.Nodes.{nodes_over}
+
+-- the numbered nodes
+abbrev pub nodes_of : Fragment → List Tree
+nodes_of f = nodes_over f.exprs.items f.first_group (within_of f.within)
+
+abbrev pub fragment_of : Fragment → plain.Fragment
+fragment_of f = record { nodes = nodes_of f; unicode = f.unicode }
+
+-- The answer is the first way of the nodes, wherever the search of the whole pattern began, and no more points are told
+-- as taken up than one of each at each place.
+pub record IsFirstWayOf (text : List ℕ) (f : Fragment) (place : ℕ) (answer : FirstWay) : Type 0 where
+  pub way : (pos : ℕ) (continued : Bool) →
+      IsSeenAs answer.way
+      (first_seen (record { text = text; pos = pos; continued = continued; unicode = f.unicode }) (nodes_of f) place)
+  pub visits : (a : Analysis) → AreEasy a (nodes_of f) →
+      answer.visits ≤ visit_bound a.tree (nodes_of f) (length text - place)
+
+-- it knows what searches of this fragment in this text have noted, and no more
+abbrev pub IsMemoFor : (text : List ℕ) → Fragment → Memo → Type 0
+IsMemoFor text f m = IsMemoOf text f.table m

@@ -1,0 +1,36 @@
+-- Neighbouring easy nodes, as infos and as expressions that are kept.
+use Rattle.std.specs.Prelude.{◌≡◌, ℕ, Bool, List, ◌+◌, ◌*◌, ◌<◌, map, flat_map, nat_lt}
+use Rattle.std.specs.List.{list_all}
+use Rattle.fancy_meaning.specs.Tree.{Tree, Within, trees, children}
+use Rattle.fancy_meaning.specs.Numbering.{each_numbered}
+use Rattle.fancy_meaning.specs.Options.{Analysis}
+use Rattle.fancy_meaning.specs.Fits.{settable_groups}
+use Rattle.fancy_expr.specs.declared.expr.Expr.{Expr}
+use Rattle.fancy_expr.specs.Views.{tree_of}
+use Rattle.fancy_expr.specs.Each.{Each}
+use Rattle.fancy_info.specs.declared.info.Info.{Info}
+use Rattle.fancy_info.specs.Infos.{info_tree, AreInTurn}
+use Rattle.fancy_plain.specs.declared.table.PointTable.{PointTable}
+use Rattle.fancy_plain.specs.Neighbours.{IsEasy}
+use Rattle.fancy_plain.specs.Tables.{AreFine, IsTableOf}
+
+-- well-formed nodes of one analysed tree, each behind the other, none of them hard
+pub record AreEasyNeighbours (is : List Info) : Type 0 where
+  pub analysis : Analysis
+  pub each : Each (IsEasy analysis) is
+  pub fine : AreFine (map info_tree is)
+  pub within : Within
+  pub first : ℕ
+  pub in_turn : AreInTurn within first is
+
+-- these expressions as nodes: the first group has this number, and they stand within this
+abbrev pub nodes_over : List Expr → ℕ → Within → List Tree
+nodes_over exprs first w = children (each_numbered w first (trees (map tree_of exprs)))
+
+-- the table is that of easy nodes
+abbrev pub IsLaidOut : List Tree → Bool → PointTable → Type 0
+IsLaidOut es unicode table = (a : Analysis) × IsTableOf a es unicode table
+
+-- the pairs that a way of these nodes can set are among the first so many slots
+abbrev pub fits_over : ℕ → List Tree → Bool
+fits_over slots es = list_all (λ g. nat_lt (2 * g + 1) slots) (flat_map settable_groups es)

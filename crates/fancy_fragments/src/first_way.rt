@@ -1,0 +1,48 @@
+//! The first way of a fragment from a place.
+
+ghost use Rattle.std.specs.Prelude.{ℕ, List, IfOk, IfErr, IsTrue};
+ghost use Rattle.fancy_meaning.specs.Places.{is_place};
+ghost use Rattle.fancy_plain.specs.Searches.{IsMemory};
+ghost use Rattle.fancy_plain.specs.Ways.{HasAscending};
+ghost use Rattle.fancy_fragments.specs.Fragments.{IsFirstWayOf, IsMemoFor};
+
+use crate::fragment::Fragment;
+use fancy_expr::error::Error;
+use fancy_plain::first_way::FirstWay;
+use fancy_plain::search::Memo;
+use std::alloc::Global;
+
+/// The first way of the fragment from `ix`, a character boundary of the text. `Memory` where a request for memory was
+/// refused, and after 2^64 - 1 steps, more than any machine takes.
+pub fn first_way(
+    alloc: Global,
+    fragment: &Fragment,
+    text: &str,
+    ix: usize,
+) -> Result<FirstWay, Error>
+    requires place { IsTrue (is_place text.now ix) }
+    ensures first { IfOk result (IsFirstWayOf text.now fragment.now ix) }
+    ensures ascends { IfOk result HasAscending }
+    ensures refused { IfErr result IsMemory }
+{
+    let mut memo = fragment.memo(alloc, ix);
+    first_way_with(alloc, fragment, text, ix, &mut memo)
+}
+
+/// The same, with what earlier searches of this fragment in this text have noted.
+pub fn first_way_with(
+    alloc: Global,
+    fragment: &Fragment,
+    text: &str,
+    ix: usize,
+    memo: &mut Memo,
+) -> Result<FirstWay, Error>
+    requires place { IsTrue (is_place text.now ix) }
+    requires memo { IsMemoFor text.now fragment.now memo.old }
+    ensures first { IfOk result (IsFirstWayOf text.now fragment.now ix) }
+    ensures ascends { IfOk result HasAscending }
+    ensures memo { IsMemoFor text.now fragment.now memo.new }
+    ensures refused { IfErr result IsMemory }
+{
+    Err(Error::Memory)
+}
