@@ -4,6 +4,7 @@
 mod absents;
 mod alternations;
 mod around;
+mod batches;
 mod calls;
 mod classes;
 pub mod compile;

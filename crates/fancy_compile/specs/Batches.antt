@@ -1,0 +1,26 @@
+-- What writing neighbouring easy nodes does.
+use Rattle.std.specs.Prelude.{◌≡◌, List, [], ◌∷◌, map}
+use Rattle.fancy_meaning.specs.Batches.{batch, fragment, group_range, pattern_of}
+use Rattle.fancy_meaning.specs.Code.{one}
+use Rattle.fancy_meaning.specs.Instr.{Instr}
+use Rattle.fancy_expr.specs.Each.{Each}
+use Rattle.fancy_info.specs.declared.info.Info.{Info}
+use Rattle.fancy_info.specs.Infos.{info_tree}
+use Rattle.fancy_plain.specs.Neighbours.{IsEasy}
+use Rattle.fancy_compile.specs.declared.scope.Scope.{Scope}
+use Rattle.fancy_compile.specs.Drafts.{Draft, Writes}
+use Rattle.fancy_compile.specs.Sites.{Site}
+
+-- neighbouring easy nodes as one instruction
+abbrev pub WritesBatch : Scope → List Info → Draft → Draft → Type 0
+WritesBatch scope is s t =
+    (p : Site) → p.unicode ≡ scope.unicode → Each (IsEasy p.analysis) is →
+    Writes p (batch p.unicode (map info_tree is)) (map info_tree is) s t
+
+-- the instruction of an absent repeater of an easy node
+abbrev pub WritesRepeater : Scope → Info → Draft → Draft → Type 0
+WritesRepeater scope i s t =
+    (p : Site) →
+    let es = info_tree i ∷ [] in
+    p.unicode ≡ scope.unicode → IsEasy p.analysis i →
+    Writes p (one (Instr.AbsentRepeater (pattern_of p.unicode es) (fragment p.unicode es) (group_range es))) es s t
