@@ -1,9 +1,11 @@
-//! Tables of rows of trees, their notation, their analysis, and characters and places.
+//! Tables of rows of trees, their notation, their analysis, fragments, and characters and places.
 #![tactic(auto)]
 
 mod analysis;
 mod changes;
 mod characters;
+mod easy;
+mod fragments;
 mod notation;
 mod rows;
 mod trees;
@@ -12,7 +14,7 @@ use fancy_tables::tables::{Table, print_table};
 use std::alloc::{AllocError, Global};
 use std::io;
 
-/// The functions of trees, of their analysis, and of characters.
+/// The functions of trees, of their analysis, of fragments, and of characters.
 #[derive(Drop)]
 struct TreeTables;
 
@@ -23,14 +25,34 @@ impl Table for TreeTables {
             "classes" | "newlines" | "folds" | "literals" | "pieces" => {
                 characters::outcome(alloc, table, key)
             }
+            "first_ways" | "compared_ways" | "fragments" | "starts" => {
+                fragments::outcome(alloc, table, key)
+            }
             _ => trees::outcome(alloc, table, key),
         }
     }
 }
 
-const TABLES: [&str; 15] = [
-    "notation", "numbers", "patterns", "refusals", "sizes", "nodes", "anchors", "options",
-    "changes", "classes", "newlines", "folds", "literals", "pieces", "places",
+const TABLES: [&str; 19] = [
+    "notation",
+    "numbers",
+    "patterns",
+    "refusals",
+    "sizes",
+    "nodes",
+    "anchors",
+    "options",
+    "changes",
+    "classes",
+    "newlines",
+    "folds",
+    "literals",
+    "pieces",
+    "places",
+    "fragments",
+    "first_ways",
+    "compared_ways",
+    "starts",
 ];
 
 fn main(rt: HostRuntime) -> io::Result<()> {
