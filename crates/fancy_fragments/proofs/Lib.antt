@@ -1,0 +1,2 @@
+pub mod EasySizes
+pub mod FirstWays
