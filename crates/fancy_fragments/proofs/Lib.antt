@@ -1,2 +1,4 @@
 pub mod EasySizes
 pub mod FirstWays
+pub mod Numbered
+pub mod CopiedNodes

@@ -1,3 +1,4 @@
+pub mod Leaves
 pub mod Nodes
 pub mod Fragments
 pub mod Delegates
