@@ -17,8 +17,9 @@ use Rattle.fancy_expr.proofs.Exprs.{parts-below}
 use Rattle.fancy_expr.proofs.Numbered.{count-numbered}
 use Rattle.fancy_info.specs.declared.info.Info.{Info}
 use Rattle.fancy_info.specs.declared.info.Info.TheViews.{out-Info}
-use Rattle.fancy_info.specs.Infos.{info_tree, info_expr, info_children, info_within, info_facts, absent_over, node_over, AreInTurn, IsFound, IsAnalysed}
+use Rattle.fancy_info.specs.Infos.{info_tree, info_expr, info_children, info_within, absent_over, node_over, AreInTurn, IsFound, IsAnalysed}
 use Rattle.fancy_info.proofs.Unfolded.{tree_out, each_here, each_below}
+use Rattle.fancy_fragments.specs.Nodes.{plain_tree, start_of}
 use Rattle.fancy_plain.proofs.Nodes.{node_count, node_counts, node_count-below}
 
 -- ---- one node over its numbered children
@@ -35,12 +36,6 @@ over_numbered w n (code.Absent a) = absent_numbered w n a
 over_numbered w n e = refl
 
 -- ---- all nodes
-
-abbrev pub start_of : Info → ℕ
-start_of i = (info_facts i).start_group
-
-abbrev pub plain_tree : Info → Tree
-plain_tree i = tree_of (info_expr i)
 
 abbrev IsNumbered : Info → Type 0
 IsNumbered i = info_tree i ≡ numbered_within (info_within i) (start_of i) (plain_tree i)
@@ -81,17 +76,16 @@ module _ (a : Analysis) where
       ∙ ap (each_numbered v k) (sym (parts-below e)))
       ∙ over_numbered (info_within i) (start_of i) e
 
-  mutual
-    numbered_by : (count : ℕ) (i : Info) → node_count i ≤ count → IsAnalysed a i → IsNumbered i
-    numbered_by zero i le h = absurd (omega (arith, le, node_count-below i))
-    numbered_by (suc count) i le h =
-        node_numbered i h
-        (each_numbered_by count (info_children i) (omega (arith, le, node_count-below i)) (each_below (IsFound a) i h))
+  each_by : (count : ℕ) → ((i : Info) → node_count i ≤ count → IsAnalysed a i → IsNumbered i) → (is : List Info) → node_counts is ≤ count →
+      Each (IsAnalysed a) is → Each IsNumbered is
+  each_by count by [] le h = tt
+  each_by count by (i ∷ is) le h = (by i (omega (arith, le)) h.0, each_by count by is (omega (arith, le)) h.1)
 
-    each_numbered_by : (count : ℕ) (is : List Info) → node_counts is ≤ count → Each (IsAnalysed a) is → Each IsNumbered is
-    each_numbered_by count [] le h = tt
-    each_numbered_by count (i ∷ is) le h =
-        (numbered_by count i (omega (arith, le)) h.0, each_numbered_by count is (omega (arith, le)) h.1)
+  numbered_by : (count : ℕ) (i : Info) → node_count i ≤ count → IsAnalysed a i → IsNumbered i
+  numbered_by zero i le h = absurd (omega (arith, le, node_count-below i))
+  numbered_by (suc count) i le h =
+      node_numbered i h
+      (each_by count (numbered_by count) (info_children i) (omega (arith, le, node_count-below i)) (each_below (IsFound a) i h))
 
   pub is_numbered : (i : Info) → IsAnalysed a i → IsNumbered i
   is_numbered i h = numbered_by (node_count i) i (omega arith) h

@@ -5,3 +5,4 @@ mod copies;
 pub mod delegate;
 pub mod first_way;
 pub mod fragment;
+mod settable;
