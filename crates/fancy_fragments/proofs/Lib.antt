@@ -4,3 +4,6 @@ pub mod Numbered
 pub mod CopiedNodes
 pub mod SettableNodes
 pub mod FragmentNodes
+pub mod PatternTexts
+pub mod GroupRanges
+pub mod DelegateParts
