@@ -1,5 +1,5 @@
 -- The range of the groups of neighbouring nodes.
-use Rattle.std.proofs.Common.{◌≡◌, ℕ, zero, suc, ◌+◌, ◌<◌, Bool, true, false, ◌==◌, if◌then◌else◌, List, [], ◌∷◌, ◌++◌, length, map, flat_map, Option, Some, None, option_map, refl, sym, ap, ap₂, subst, ◌∙◌, arith, length-append}
+use Rattle.std.proofs.Common.{◌≡◌, ℕ, zero, suc, ◌+◌, ◌-◌, Bool, true, false, ◌==◌, if◌then◌else◌, List, [], ◌∷◌, ◌++◌, length, map, flat_map, slice_get, Option, Some, None, option_map, refl, sym, ap, ap₂, subst, ◌∙◌, arith, length-append}
 use Rattle.std.proofs.lemmas.Bool.{eq-eqb, ne_eqb}
 use Rattle.std.proofs.lemmas.List.{map-append}
 use Rattle.fancy_meaning.specs.Tree.{Tree, Within}
@@ -15,7 +15,8 @@ use Rattle.fancy_info.specs.Infos.{info_tree, info_within, AreInTurn, IsAnalysed
 use Rattle.fancy_info.proofs.GroupNumbers.{numbers}
 use Rattle.fancy_fragments.specs.declared.delegate.CaptureGroupRange.{CaptureGroupRange}
 use Rattle.fancy_fragments.specs.Delegates.{range_of}
-use Rattle.fancy_fragments.specs.Nodes.{plain_tree, start_of}
+use Rattle.fancy_fragments.specs.Nodes.{AreEasyNeighbours, plain_tree, start_of}
+use Rattle.fancy_fragments.proofs.FragmentNodes.{each_analysed}
 use Rattle.fancy_fragments.proofs.Numbered.{is_numbered, ends}
 
 abbrev Groups : Type 0
@@ -66,9 +67,26 @@ module _ (a : Analysis) where
       (subst (λ k. GoFrom k (groups_in is)) next (all_go w (out-Info i).end_group is h.1 rest))
 
   -- the last one ends behind the groups of all
-  last_ends : (w : Within) (n : ℕ) (i : Info) (is : List Info) → Each (IsAnalysed a) (i ∷ is) → AreInTurn w n (i ∷ is) → (last : Info) →
-      IsLast last (i ∷ is) → (out-Info last).end_group ≡ n + length (groups_in (i ∷ is))
-  last_ends w n i is h turn last at = ?
+  last_ends : (w : Within) (n : ℕ) (is : List Info) → Each (IsAnalysed a) is → AreInTurn w n is → (k : ℕ) → length is ≡ suc k → (last : Info) →
+      Some last ≡ slice_get is k → (out-Info last).end_group ≡ n + length (groups_in is)
+  last_ends w n [] h turn k len last at = absurd (omega (arith, len))
+  last_ends w n (i ∷ []) h (within, starts, rest) zero len last at =
+      let same : last ≡ i = cc in
+      omega (arith, ap (λ x. (out-Info x).end_group) same, node_ends i h.0, starts, length-append (groups (info_tree i)) [])
+  last_ends w n (i ∷ []) h turn (suc k) len last at = absurd (omega (arith, len))
+  last_ends w n (i ∷ j ∷ is) h turn zero len last at = absurd (omega (arith, len))
+  last_ends w n (i ∷ j ∷ is) h (within, starts, rest) (suc k) len last at =
+      omega (
+        arith,
+        last_ends w (out-Info i).end_group (j ∷ is) h.1 rest k (omega (arith, len)) last at,
+        node_ends i h.0,
+        starts,
+        length-append (groups (info_tree i)) (groups_in (j ∷ is)),
+      )
+
+first_begins : (w : Within) (n : ℕ) (is : List Info) → AreInTurn w n is → (first : Info) → Some first ≡ slice_get is 0 → start_of first ≡ n
+first_begins w n [] turn first at = cc
+first_begins w n (i ∷ is) (within, starts, rest) first at = let same : first ≡ i = cc in ap start_of same ∙ starts
 
 no_range : (es : List Tree) → flat_map groups es ≡ [] → group_range es ≡ None
 no_range es e = rw e refl
@@ -87,6 +105,20 @@ range_over es (g ∷ gs) e n m starts end =
     ∙ ap₂ (λ x y. Some (x, y)) (sym same) (end ∙ ap (λ k. k + suc (length gs)) (sym same))
     ∙ sym (some_range es g gs e)
 
-seen_range : (b : Bool) (r : CaptureGroupRange) → range_of (if b then None else Some r) ≡ (if b then None else Some (r.0, r.1))
+pub seen_range : (b : Bool) (r : CaptureGroupRange) → range_of (if b then None else Some r) ≡ (if b then None else Some (r.0, r.1))
 seen_range true r = refl
 seen_range false r = refl
+
+some_length : (is : List Info) (last : Info) → Some last ≡ slice_get is (length is - 1) → length is ≡ suc (length is - 1)
+some_length [] last at = cc
+some_length (i ∷ is) last at = omega arith
+
+pub between : (is : List Info) → AreEasyNeighbours is → (first last : Info) → Some first ≡ slice_get is 0 → Some last ≡ slice_get is (length is - 1) →
+    (n m : ℕ) → n ≡ start_of first → m ≡ (out-Info last).end_group → (if n == m then None else Some (n, m)) ≡ group_range (map info_tree is)
+between is h first last at_first at_last n m starts ends =
+    let found = each_analysed h.analysis is h.each in
+    let begins = starts ∙ first_begins h.within h.first is h.in_turn first at_first in
+    let goes = all_go h.analysis h.within h.first is found h.in_turn in
+    let far = last_ends h.analysis h.within h.first is found h.in_turn (length is - 1) (some_length is last at_last) last at_last in
+    range_over (map info_tree is) (groups_in is) refl n m (subst (λ k. GoFrom k (groups_in is)) (sym begins) goes)
+    (ends ∙ far ∙ ap (λ k. k + length (groups_in is)) (sym begins))
