@@ -1,3 +1,5 @@
+pub mod Leaves
+pub mod Settable
 pub mod Nodes
 pub mod Fragments
 pub mod Delegates

@@ -80,7 +80,9 @@ impl Delegate {
         ensures classes { IfOk result (λ f. HaveClasses unicode infos.now) }
         ensures refused { IfErr result (IsRefusedFor unicode infos.now) }
     {
-        Err(Error::Memory)
+        let fragment = Fragment::build(alloc, infos, unicode)?;
+        let pattern = pattern_text(alloc, infos)?;
+        Ok(Delegate::new(pattern, fragment, group_range(infos)))
     }
 
     /// The pattern text that names it; it is never matched.
@@ -112,5 +114,23 @@ pub fn pattern_text(alloc: Global, infos: &[Info]) -> Result<String, Error>
         → string_bytes text ≡ pattern_of unicode (map info_tree infos.now)) }
     ensures refused { IfErr result IsMemory }
 {
-    Err(Error::Memory)
+    let mut text = String::new(alloc);
+    for info in infos {
+        let part = info.expr().to_str(alloc, 1)?;
+        text.push_str(&part)?;
+    }
+    Ok(text)
+}
+
+/// The numbers of the groups of neighbouring nodes, if they have any.
+fn group_range(infos: &[Info]) -> Option<CaptureGroupRange>
+    requires { AreEasyNeighbours infos.now }
+    ensures { range_of result ≡ group_range (map info_tree infos.now) }
+{
+    match (infos.first(), infos.last()) {
+        (Some(first), Some(last)) => {
+            CaptureGroupRange(first.start_group(), last.end_group()).to_option_if_non_empty()
+        }
+        _ => None,
+    }
 }

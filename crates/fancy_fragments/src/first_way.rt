@@ -44,5 +44,5 @@ pub fn first_way_with(
     ensures memo { IsMemoFor text.now fragment.now memo.new }
     ensures refused { IfErr result IsMemory }
 {
-    Err(Error::Memory)
+    fancy_plain::first_way::first_way_with(alloc, &fragment.table, text, ix, memo)
 }

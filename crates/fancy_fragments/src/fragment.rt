@@ -2,18 +2,21 @@
 
 ghost use Rattle.std.specs.Prelude.{◌≡◌, ◌*◌, ℕ, List, IfOk, IfErr, map, nat_le};
 ghost use Rattle.fancy_meaning.specs.Fits.{fragment_fits};
+ghost use Rattle.fancy_expr.specs.Views.{tree_of};
 ghost use Rattle.fancy_expr.specs.Walk.{within_of};
 ghost use Rattle.fancy_info.specs.Infos.{info_tree};
 ghost use Rattle.fancy_plain.specs.Tables.{HaveClasses, IsRefusedFor};
-ghost use Rattle.fancy_fragments.specs.Nodes.{AreEasyNeighbours, IsLaidOut, fits_over, nodes_over};
+ghost use Rattle.fancy_fragments.specs.Nodes.{AreEasyNeighbours, Begin, IsLaidOut, fits_over, nodes_over, plain_tree};
 
+use crate::copies::copy_of;
+use crate::settable::settable_above;
 use fancy_expr::error::Error;
 use fancy_expr::expr::Expr;
 use fancy_expr::walk::Within;
 use fancy_info::info::Info;
 use fancy_plain::search::Memo;
 use fancy_plain::table::PointTable;
-use std::alloc::Global;
+use std::alloc::{AllocError, Global};
 
 /// Neighbouring easy nodes that are searched for plainly.
 #[derive(Drop)]
@@ -46,7 +49,17 @@ impl Fragment {
         ensures classes { IfOk result (λ f. HaveClasses unicode infos.now) }
         ensures refused { IfErr result (IsRefusedFor unicode infos.now) }
     {
-        Err(Error::Memory)
+        let table = PointTable::build(alloc, infos, unicode)?;
+        let exprs = copies_of_nodes(alloc, infos)?;
+        let (first_group, within) = beginning(infos);
+        Ok(Fragment {
+            exprs,
+            first_group,
+            within,
+            unicode,
+            table,
+            settable: settable_above(infos),
+        })
     }
 
     /// The pairs of all groups that a way can set are among the first so many slots.
@@ -68,5 +81,27 @@ impl Fragment {
         ensures { (text : List ℕ) → IsMemoFor text self.now memo.new }
     {
         memo.clear(&self.table, pos);
+    }
+}
+
+/// The expressions of the nodes.
+fn copies_of_nodes(alloc: Global, infos: &[Info]) -> Result<Vec<Expr>, AllocError>
+    ensures { IfOk result (λ copies. map tree_of copies.items ≡ map plain_tree infos.now) }
+{
+    let mut copies = Vec::new(alloc);
+    for info in infos {
+        copies.push(copy_of(alloc, info.expr())?)?;
+    }
+    Ok(copies)
+}
+
+/// Where the nodes begin: the number of the next group, and the look-around that they stand in. Without a node it is
+/// the beginning of a tree.
+fn beginning(infos: &[Info]) -> (usize, Within)
+    ensures { Begin (within_of result.1) result.0 infos.now }
+{
+    match infos.first() {
+        Some(info) => (info.start_group(), info.within),
+        None => (0, Within::NoLook),
     }
 }

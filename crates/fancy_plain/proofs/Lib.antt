@@ -10,3 +10,4 @@ pub mod Built
 pub mod BackLaws
 pub mod WayLaws
 pub mod FirstWayLaws
+pub mod ReadPoints

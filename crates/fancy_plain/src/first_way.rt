@@ -40,7 +40,7 @@ pub fn first_way(
     ix: usize,
 ) -> Result<FirstWay, Error>
     requires place { IsTrue (is_place text.now ix) }
-    requires table { IsOfNodes table.now }
+    requires table { ∥ IsOfNodes table.now ∥₁ }
     ensures first { IfOk result (IsFirstWay text.now table.now ix) }
     ensures ascends { IfOk result HasAscending }
     ensures refused { IfErr result IsMemory }
@@ -58,7 +58,7 @@ pub fn first_way_with(
     memo: &mut Memo,
 ) -> Result<FirstWay, Error>
     requires place { IsTrue (is_place text.now ix) }
-    requires table { IsOfNodes table.now }
+    requires table { ∥ IsOfNodes table.now ∥₁ }
     requires memo { IsMemoOf text.now table.now memo.old }
     ensures first { IfOk result (IsFirstWay text.now table.now ix) }
     ensures ascends { IfOk result HasAscending }

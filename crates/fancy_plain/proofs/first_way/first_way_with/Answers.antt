@@ -1,4 +1,4 @@
-use Rattle.std.proofs.Common.{Some, None, refl, sym, ap, ◌∙◌, subst, arith, map, [], ◌<◌, length}
+use Rattle.std.proofs.Common.{slice_get, Some, None, refl, sym, ap, ◌∙◌, subst, arith, map, [], ◌<◌, length}
 use Rattle.fancy_points.specs.FirstWays.{spans_of}
 use Rattle.fancy_plain.specs.Paths.{closed_after}
 use Rattle.std.proofs.lemmas.Result.{err_from_is_err_and}
@@ -13,6 +13,7 @@ use Rattle.fancy_plain.specs.declared.first_way.FirstWay.{FirstWay}
 use Rattle.fancy_plain.specs.declared.first_way.Way.{Way}
 use Rattle.fancy_plain.specs.declared.search.Task.{Task}
 use Rattle.fancy_plain.proofs.FirstWayLaws.{Ended, ended, first_found, first_none, here_at_start, memo_after, search_at_start}
+use Rattle.fancy_plain.proofs.ReadPoints.{points_read}
 use Rattle.fancy_plain.proofs.first_way.first_way_with.Goals as goal
 use Rattle.fancy_plain.proofs.first_way.first_way_with.Goals.{in-Some+in_ok-spans-in-Some, in-None}
 
@@ -130,3 +131,7 @@ returns-clause-memo c =
     (c.in_ok-found.ensures (plain.first_stand c.args.ix) (plain.first_search failed) search_before here)) in
     memo_after text c.args.table.now c.args.ix failed is_text c.requires.place c.requires.memo.1.1 c.find.new.m e.steps
     (subst (λ n. HaveFailed c.find.new.m (search_in n).failed) (sym e.ends) e.have)
+
+pub find-requires : goal.find-requires
+find-requires c = λ i p at.
+    points_read c.args.table.now c.requires.table i p (ap (λ l. slice_get l i) (sym c.deref.ensures.value) ∙ at)

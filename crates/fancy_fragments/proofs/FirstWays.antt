@@ -1,0 +1,52 @@
+-- The first way by the table is that of the nodes.
+use Rattle.std.proofs.Common.{◌≡◌, ◌≤◌, ◌-◌, ℕ, Bool, List, length, Option, Some, None, Result, Ok, Err, IfOk, sym, subst}
+use Rattle.std.proofs.Math.Logic.{∥∥₁_elim, ∥∥₁_map}
+use Rattle.std.specs.Coded.{×_prop, Π_prop, Unit-prop, le_prop, Coded-set, coded_option, coded×, coded_ℕ}
+use Rattle.std.proofs.Props.{props}
+use Rattle.fancy_meaning.specs.FragmentPoints.{visit_bound}
+use Rattle.fancy_expr.specs.declared.error.Error.{Error}
+use Rattle.fancy_points.specs.FirstWays.{Seen, first_seen}
+use Rattle.fancy_plain.specs.declared.first_way.FirstWay.{FirstWay}
+use Rattle.fancy_plain.specs.declared.first_way.Way.{Way}
+use Rattle.fancy_plain.specs.Tables.{IsTableOf}
+use Rattle.fancy_plain.specs.Ways.{IsFirstWay, IsOfNodes, IsSeenAs}
+use Rattle.fancy_fragments.specs.declared.fragment.Fragment.{Fragment}
+use Rattle.fancy_fragments.specs.Nodes.{IsLaidOut}
+use Rattle.fancy_fragments.specs.Fragments.{nodes_of, IsFirstWayOf}
+use Rattle.fancy_fragments.proofs.EasySizes.{bound_alike}
+
+-- it can be seen in one way only
+seen-prop : (way : Option Way) (seen : Option Seen) → IsProp (IsSeenAs way seen)
+seen-prop None None = Unit-prop
+seen-prop None (Some seen) = λ x y. elim x [ ]
+seen-prop (Some w) None = λ x y. elim x [ ]
+seen-prop (Some w) (Some seen) = ×_prop (search props) (Π_prop (λ g. Coded-set (coded_option (coded× coded_ℕ coded_ℕ)) _ _))
+
+module _ (f : Fragment) where
+  -- the table's own option is the fragment's
+  by_option : (laid : IsLaidOut (nodes_of f) f.unicode f.table) → IsTableOf laid.0 (nodes_of f) (f.table).unicode f.table
+  by_option laid = subst (λ u. IsTableOf laid.0 (nodes_of f) u f.table) (sym laid.1.unicode) laid.1
+
+  pub of_nodes : ∥ IsOfNodes f.table ∥₁
+  of_nodes = ∥∥₁_map f.laid_out (λ laid. (laid.0, (nodes_of f, by_option laid)))
+
+  by_table : (text : List ℕ) (place : ℕ) (answer : FirstWay) → IsFirstWay text f.table place answer → IsFirstWayOf text f place answer
+  by_table text place answer h = record {
+    way = λ pos continued.
+        ∥∥₁_elim f.laid_out (seen-prop answer.way _) (λ laid.
+        subst
+        (λ u. IsSeenAs answer.way (first_seen (record { text = text; pos = pos; continued = continued; unicode = u }) (nodes_of f) place))
+        laid.1.unicode
+        ((h laid.0 (nodes_of f) (by_option laid)).0 pos continued));
+    visits = λ a easy.
+        ∥∥₁_elim f.laid_out le_prop (λ laid.
+        subst
+        (λ n. answer.visits ≤ n)
+        (bound_alike a (laid.0).tree a.tree (nodes_of f) easy (length text - place))
+        (h laid.0 (nodes_of f) (by_option laid)).1);
+  }
+
+pub found_first : (text : List ℕ) (f : Fragment) (place : ℕ) (result : Result FirstWay Error) → IfOk result (IsFirstWay text f.table place) →
+    IfOk result (IsFirstWayOf text f place)
+found_first text f place (Ok answer) h = by_table f text place answer h
+found_first text f place (Err e) h = h

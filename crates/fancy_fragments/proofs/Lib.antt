@@ -1,0 +1,9 @@
+pub mod EasySizes
+pub mod FirstWays
+pub mod Numbered
+pub mod CopiedNodes
+pub mod SettableNodes
+pub mod FragmentNodes
+pub mod PatternTexts
+pub mod GroupRanges
+pub mod DelegateParts

@@ -1,0 +1,32 @@
+-- The classes of a table's points are read by its option.
+use Rattle.std.proofs.Common.{◌≡◌, ℕ, zero, suc, Bool, List, [], ◌∷◌, slice_get, Option, Some, None, sym, ap, ◌∙◌, subst}
+use Rattle.std.proofs.Math.Bool.{Bool-set}
+use Rattle.std.proofs.Math.Logic.{∥∥₁_elim, ∥∥₁_map}
+use Rattle.fancy_characters.specs.declared.classes.CharClassMatcher.TheVariants as matcher
+use Rattle.fancy_meaning.specs.Instr.{Codepoint, Newline}
+use Rattle.fancy_expr.specs.Each.{Each}
+use Rattle.fancy_plain.specs.declared.point.CharTest.TheVariants as test
+use Rattle.fancy_plain.specs.declared.point.Point.{Point}
+use Rattle.fancy_plain.specs.declared.point.Point.TheVariants as code
+use Rattle.fancy_plain.specs.declared.table.PointTable.{PointTable}
+use Rattle.fancy_plain.specs.Views.{IsPointReadBy}
+use Rattle.fancy_plain.specs.Ways.{IsOfNodes}
+
+read_at : {X : Type 0} (P : X → Type 0) (l : List X) (i : ℕ) (x : X) → Each P l → slice_get l i ≡ Some x → P x
+read_at P [] i x h at = cc
+read_at P (y ∷ l) zero x h at = let same : y ≡ x = cc in subst P same h.0
+read_at P (y ∷ l) (suc i) x h at = read_at P l i x h.1 at
+
+-- what is read can be told from the class
+known_read : (unicode : Bool) (p : Point) → ∥ IsPointReadBy unicode p ∥₁ → IsPointReadBy unicode p
+known_read unicode (code.Take (test.Class (matcher.Codepoint name class))) h =
+    let same : class.unicode ≡ unicode = ∥∥₁_elim h (Bool-set _ _) (λ r. let e = r.1.1 in cc) in
+    (class.inner, (class.casei, ap (Codepoint class.inner class.casei) same))
+known_read unicode (code.Take (test.Class (matcher.Newline u))) h = absurd (∥∥₁_elim h (λ x y. elim x [ ]) (λ r. let e = r.1.1 in cc))
+known_read unicode (code.Take (test.Any newline crlf)) h = tt
+known_read unicode (code.Take (test.One c casei)) h = tt
+known_read unicode code.Stop h = tt
+known_read unicode p h = tt
+
+pub points_read : (f : PointTable) → ∥ IsOfNodes f ∥₁ → (i : ℕ) (p : Point) → slice_get f.points.items i ≡ Some p → IsPointReadBy f.unicode p
+points_read f h i p at = known_read f.unicode p (∥∥₁_map h (λ t. read_at (IsPointReadBy f.unicode) f.points.items i p t.1.1.reads at))
