@@ -4,3 +4,6 @@ pub mod NumbersLaws
 pub mod StepLaws
 pub mod BackLaws
 pub mod MeaningLaws
+pub mod MemosLaws
+pub mod PlacesLaws
+pub mod PairsLaws

@@ -1,4 +1,6 @@
 pub mod Insns
 pub mod Programs
+pub mod MemoRuns
+pub mod Memos
 pub mod Meant
 pub mod Means

@@ -1,9 +1,11 @@
 //! The machine: instructions, programs, states and runs.
 #![tactic(auto)]
 
+mod delegates;
 mod insn;
 mod listing;
 mod machine;
+mod memos;
 mod moves;
 mod program;
 mod runs;

@@ -5,9 +5,11 @@ ghost use Rattle.fancy_meaning.specs.Config as config;
 ghost use Rattle.fancy_meaning.specs.Machine as machine;
 ghost use Rattle.fancy_state.specs.Held.{first_held};
 ghost use Rattle.fancy_state.specs.Refused.{IsMemory, IsRefused};
+ghost use Rattle.fancy_vm.specs.Memos.{AreMemosOf};
 ghost use Rattle.fancy_vm.specs.Meant.{IsMade, StepAnswers, config_of, meant, with_branch};
 
 use crate::insn::Prog;
+use crate::memos::Memos;
 use crate::runs::RunOptions;
 use fancy_expr::error::{Error, RuntimeError};
 use fancy_state::state::State;
@@ -34,6 +36,7 @@ pub(crate) struct Machine {
     pub(crate) start: usize,
     pub(crate) backtracks: usize,
     pub(crate) state: State,
+    pub(crate) memos: Memos,
 }
 
 /// What an instruction led to.
@@ -45,8 +48,9 @@ pub(crate) enum Next {
 }
 
 impl Machine {
-    pub(crate) fn begin(task: &Task<'_>, state: State) -> Machine
-        requires { state ≡ first_held task.now.prog.now.parts.slots config.most_branches }
+    pub(crate) fn begin(task: &Task<'_>, state: State, memos: Memos) -> Machine
+        requires state { state ≡ first_held task.now.prog.now.parts.slots config.most_branches }
+        requires memos { AreMemosOf task.now memos }
         ensures begins { config_of result ≡ machine.begin (meant task.now) }
         ensures made { IsMade task.now result }
     {
@@ -58,6 +62,7 @@ impl Machine {
             start: pos,
             backtracks: 0,
             state,
+            memos,
         }
     }
 

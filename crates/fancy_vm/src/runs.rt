@@ -1,15 +1,17 @@
 //! Runs of a program.
 
-ghost use Rattle.std.specs.Prelude.{◌≡◌, IsTrue, IfOk, IfErr, false};
+ghost use Rattle.std.specs.Prelude.{◌≡◌, IsTrue, IsUtf8, IfOk, IfErr, false};
+ghost use Rattle.fancy_meaning.specs.Places.{is_place};
 ghost use Rattle.fancy_meaning.specs.Machine as machine;
 ghost use Rattle.fancy_meaning.specs.Fits.{run_fits};
-ghost use Rattle.fancy_vm.specs.Means.{Means, MeansPair, numbers_of};
+ghost use Rattle.fancy_vm.specs.Means.{IsMeaning, IsMeaningPair, Means, MeansPair, numbers_of};
 ghost use Rattle.fancy_vm.specs.Meant.{RunAnswers, RunAnswersPair, Finds, IsMade, config_of, meant};
 ghost use Rattle.fancy_vm.specs.Programs.{IsUnused, allocator_of, default_at, default_task, options_of, prog_of, task_of};
 ghost use Rattle.fancy_state.specs.Refused.{IsMemory};
 
 use crate::insn::Prog;
 use crate::machine::{MAX_BRANCHES, Machine, Next, Task};
+use crate::memos::Memos;
 use fancy_characters::places::is_place;
 use fancy_expr::error::{Error, RuntimeError};
 use fancy_state::state::State;
@@ -74,6 +76,7 @@ impl Default for RunOptions {
 pub struct Scratch {
     alloc: Global,
     state: Option<State>,
+    memos: Option<Memos>,
 }
 
 impl Scratch {
@@ -82,7 +85,11 @@ impl Scratch {
         ensures alloc { allocator_of result ≡ alloc }
         ensures unused { IsUnused result }
     {
-        Scratch { alloc, state: None }
+        Scratch {
+            alloc,
+            state: None,
+            memos: None,
+        }
     }
 }
 
@@ -103,6 +110,8 @@ pub fn run(
     ensures machine { RunAnswers (machine.run (task_of prog.now text.now options.now)) result }
     ensures meaning { IfOk result
         (λ found. Means (prog_of prog.now) text.now (options_of options.now) (numbers_of found)) }
+    ensures headline { IfOk result (λ found.
+        IsMeaning (prog_of prog.now) text.now (options_of options.now) (numbers_of found)) }
 {
     let task = Task {
         prog,
@@ -113,6 +122,7 @@ pub fn run(
     let mut m = scratch.begin(&task)?;
     let answer = task.answer(&mut m);
     scratch.state = Some(m.state);
+    scratch.memos = Some(m.memos);
     answer
 }
 
@@ -128,6 +138,8 @@ pub fn run_spans(
     ensures machine { RunAnswersPair (machine.run (task_of prog.now text.now options.now)) result }
     ensures meaning { IfOk result
         (λ found. MeansPair (prog_of prog.now) text.now (options_of options.now) found) }
+    ensures headline { IfOk result
+        (IsMeaningPair (prog_of prog.now) text.now (options_of options.now)) }
 {
     let task = Task {
         prog,
@@ -138,6 +150,7 @@ pub fn run_spans(
     let mut m = scratch.begin(&task)?;
     let answer = task.answer_pair(&mut m);
     scratch.state = Some(m.state);
+    scratch.memos = Some(m.memos);
     answer
 }
 
@@ -152,6 +165,8 @@ pub fn run_default(
     ensures machine { RunAnswers (machine.run (default_task prog.now text.now pos)) result }
     ensures meaning { IfOk result
         (λ found. Means (prog_of prog.now) text.now (default_at pos) (numbers_of found)) }
+    ensures headline { IfOk result
+        (λ found. IsMeaning (prog_of prog.now) text.now (default_at pos) (numbers_of found)) }
 {
     let mut scratch = Scratch::new(alloc);
     run(alloc, prog, text, &RunOptions::at(pos), &mut scratch)
@@ -169,7 +184,11 @@ impl Scratch {
             None => State::new(self.alloc, slots, MAX_BRANCHES)?,
             Some(state) => state.renew(slots, MAX_BRANCHES)?,
         };
-        Ok(Machine::begin(task, state))
+        let memos = match self.memos.take() {
+            None => Memos::new(self.alloc),
+            Some(memos) => memos.renew(self.alloc),
+        };
+        Ok(Machine::begin(task, state, memos))
     }
 }
 
@@ -178,6 +197,8 @@ impl Task<'_> {
     fn run(&self, m: &mut Machine) -> Result<bool, Error>
         requires made { IsMade self.now m.old }
         requires begins { config_of m.old ≡ machine.begin (meant self.now) }
+        requires text { IsUtf8 self.now.text.now }
+        requires place { IsTrue (is_place self.now.text.now self.now.options.now.pos) }
         ensures finds { Finds self.now (machine.run (meant self.now)) result m.new }
         ensures made { IsMade self.now m.new }
     {
@@ -195,6 +216,8 @@ impl Task<'_> {
     fn answer(&self, m: &mut Machine) -> Result<Option<Vec<usize>>, Error>
         requires made { IsMade self.now m.old }
         requires begins { config_of m.old ≡ machine.begin (meant self.now) }
+        requires text { IsUtf8 self.now.text.now }
+        requires place { IsTrue (is_place self.now.text.now self.now.options.now.pos) }
         ensures { RunAnswers (machine.run (meant self.now)) result }
     {
         if !self.run(m)? {
@@ -207,6 +230,8 @@ impl Task<'_> {
     fn answer_pair(&self, m: &mut Machine) -> Result<Option<(usize, usize)>, Error>
         requires made { IsMade self.now m.old }
         requires begins { config_of m.old ≡ machine.begin (meant self.now) }
+        requires text { IsUtf8 self.now.text.now }
+        requires place { IsTrue (is_place self.now.text.now self.now.options.now.pos) }
         requires implicit { self.now.prog.now.parts.explicit_group_0 ≡ false }
         ensures { RunAnswersPair (machine.run (meant self.now)) result }
     {

@@ -1,0 +1,127 @@
+//! What searches of delegates have noted, for later ones of the same run.
+
+ghost use Rattle.std.specs.Prelude.{◌≡◌, ◌<◌, Some, None, length, slice_get, slice_set, IfErr, IfOk, IsTrue, OnOk};
+ghost use Rattle.fancy_meaning.specs.Places.{is_place};
+ghost use Rattle.fancy_fragments.specs.Fragments.{IsFirstWayOf, IsMemoFor};
+ghost use Rattle.fancy_plain.specs.Searches.{IsMemory};
+ghost use Rattle.fancy_plain.specs.Ways.{HasAscending};
+ghost use Rattle.fancy_vm.specs.MemoRuns.{AddsNoMemo, AreOfRuns};
+
+use crate::machine::Task;
+use fancy_expr::error::Error;
+use fancy_fragments::first_way::first_way_with;
+use fancy_fragments::fragment::Fragment;
+use fancy_plain::first_way::FirstWay;
+use fancy_plain::search::Memo;
+use std::alloc::Global;
+
+/// A memo, and the run that wrote it.
+#[derive(Drop)]
+pub(crate) struct RunMemo {
+    memo: Memo,
+    run: u64,
+}
+
+/// By the place of a delegate in a program, what its searches have noted. Of a memo of an earlier run only the room is
+/// used again.
+#[derive(Drop)]
+pub(crate) struct Memos {
+    by_place: Vec<Option<RunMemo>>,
+    /// The number of this run.
+    run: u64,
+    ghost of_runs: { AreOfRuns run by_place.items },
+}
+
+/// Makes room up to this place.
+fn grow(by_place: &mut Vec<Option<RunMemo>>, pc: usize) -> Result<(), Error>
+    ensures room { OnOk result (pc < length by_place.new.items) }
+    ensures same { AddsNoMemo by_place.old.items by_place.new.items }
+    ensures err { IfErr result IsMemory }
+{
+    'places: while by_place.len() <= pc {
+        by_place.push(None)?;
+    }
+    Ok(())
+}
+
+/// Takes the memo at this place out.
+fn take_out(by_place: &mut Vec<Option<RunMemo>>, pc: usize) -> Option<RunMemo>
+    requires { pc < length by_place.old.items }
+    ensures found { slice_get by_place.old.items pc ≡ Some result }
+    ensures rest { by_place.new.items ≡ slice_set by_place.old.items pc None }
+{
+    by_place[pc].take()
+}
+
+impl Memos {
+    ghost use Rattle.fancy_vm.specs.declared.machine.Task as tasks;
+    ghost use Rattle.fancy_vm.specs.Memos.{AreMemosOf, fragment_at};
+
+    /// Nothing is noted.
+    pub(crate) fn new(alloc: Global) -> Memos
+        ensures { (task : tasks.Task) → AreMemosOf task result }
+    {
+        Memos {
+            by_place: Vec::new(alloc),
+            run: 0,
+        }
+    }
+
+    /// For another run, of which nothing is noted yet.
+    pub(crate) fn renew(self, alloc: Global) -> Memos
+        ensures { (task : tasks.Task) → AreMemosOf task result }
+    {
+        match self.run.checked_add(1) {
+            None => Memos::new(alloc),
+            Some(run) => Memos {
+                by_place: self.by_place,
+                run,
+            },
+        }
+    }
+
+    /// The first way from `ix` of the fragment that stands at `pc` in the program, with what was noted of it in this run.
+    pub(crate) fn first_way(
+        &mut self,
+        task: &Task<'_>,
+        fragment: &Fragment,
+        pc: usize,
+        ix: usize,
+    ) -> Result<FirstWay, Error>
+        requires place { IsTrue (is_place task.now.text.now ix) }
+        requires here { fragment_at task.now pc ≡ Some fragment.now }
+        requires memos { AreMemosOf task.now self.old }
+        ensures first { IfOk result (IsFirstWayOf task.now.text.now fragment.now ix) }
+        ensures ascends { IfOk result HasAscending }
+        ensures memos { AreMemosOf task.now self.new }
+        ensures err { IfErr result IsMemory }
+    {
+        let mut memo = self.memo_for(task, fragment, pc)?;
+        let way = first_way_with(task.alloc, fragment, task.text, ix, &mut memo);
+        let run = self.run;
+        self.by_place[pc] = Some(RunMemo { memo, run });
+        way
+    }
+
+    /// Takes out what was noted in this run of the fragment that stands at `pc` in the program.
+    fn memo_for(&mut self, task: &Task<'_>, fragment: &Fragment, pc: usize) -> Result<Memo, Error>
+        requires here { fragment_at task.now pc ≡ Some fragment.now }
+        requires memos { AreMemosOf task.now self.old }
+        ensures memo { IfOk result (IsMemoFor task.now.text.now fragment.now) }
+        ensures room { OnOk result (pc < length self.new.by_place.items) }
+        ensures memos { AreMemosOf task.now self.new }
+        ensures err { IfErr result IsMemory }
+    {
+        grow(&mut self.by_place, pc)?;
+        let pos = task.options.pos;
+        match take_out(&mut self.by_place, pc) {
+            None => Ok(fragment.memo(task.alloc, pos)),
+            Some(RunMemo { mut memo, run }) => {
+                if run != self.run {
+                    fragment.clear(&mut memo, pos);
+                }
+                Ok(memo)
+            }
+        }
+    }
+}
