@@ -2,9 +2,9 @@
 use Rattle.std.proofs.Common.{◌≡◌, ℕ, ◌+◌, ◌*◌, List, [], ◌∷◌, refl, sym, ap, ap₂, ◌∙◌}
 use Rattle.std.specs.Prelude.{sum_by}
 use Rattle.std.proofs.lemmas.List.Sums.{sum_by-cons}
-use Rattle.fancy_meaning.specs.Tree.{Tree, Trees, none, more, Empty, KeepOut, ContinueFromPreviousMatchEnd, AbsentClear, Any, Assert, GeneralNewline, Literal, LiteralBytes, Delegate, Concat, Alt, Group, LookAround, Repeat, Backref, BackrefWithLevel, BackrefExists, AtomicGroup, DefineGroup, AbsentRepeater, AbsentStopper, AbsentExpression, Control, Conditional, SubroutineCall, AstNode}
+use Rattle.fancy_meaning.specs.Tree.{Tree, Trees, none, more, Concat, Alt, Group, Repeat, Backref, BackrefWithLevel, AtomicGroup, AbsentExpression, Conditional, SubroutineCall}
 use Rattle.fancy_meaning.specs.Options.{Analysis}
-use Rattle.fancy_meaning.specs.Sizes.{Known, known_of, sum_of, any_of, times, size_by, each_size, size}
+use Rattle.fancy_meaning.specs.Sizes.{Known, known_of, sum_of, any_of, times, size_by, each_size}
 use Rattle.fancy_meaning.specs.FragmentPoints.{loop_counts, points, points_of_each, fragment_points, visit_bound}
 use Rattle.fancy_points.specs.FirstWays.{AreEasy}
 use Rattle.fancy_delegation.proofs.EasyNodes.{IsEasy, AllEasy, easy_group, easy_repeat, easy_concat, easy_alt, easy_each}

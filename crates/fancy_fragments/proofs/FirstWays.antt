@@ -1,9 +1,8 @@
 -- The first way by the table is that of the nodes.
-use Rattle.std.proofs.Common.{◌≡◌, ◌≤◌, ◌-◌, ℕ, Bool, List, length, Option, Some, None, Result, Ok, Err, IfOk, sym, subst}
+use Rattle.std.proofs.Common.{◌≤◌, ◌-◌, ℕ, List, length, Option, Some, None, Result, Ok, Err, IfOk, sym, subst}
 use Rattle.std.proofs.Math.Logic.{∥∥₁_elim, ∥∥₁_map}
 use Rattle.std.specs.Coded.{×_prop, Π_prop, Unit-prop, le_prop, Coded-set, coded_option, coded×, coded_ℕ}
 use Rattle.std.proofs.Props.{props}
-use Rattle.fancy_meaning.specs.FragmentPoints.{visit_bound}
 use Rattle.fancy_expr.specs.declared.error.Error.{Error}
 use Rattle.fancy_points.specs.FirstWays.{Seen, first_seen}
 use Rattle.fancy_plain.specs.declared.first_way.FirstWay.{FirstWay}

@@ -1,7 +1,7 @@
 -- The nodes of a fragment are those that it was built of.
-use Rattle.std.proofs.Common.{◌≡◌, ℕ, ◌+◌, ◌*◌, ◌<◌, ◌≤◌, Bool, nat_le, List, [], ◌∷◌, ◌++◌, length, map, take, get_or, refl, sym, ap, ap₂, subst, ◌∙◌}
-use Rattle.std.proofs.lemmas.List.{map-append, take_all}
-use Rattle.fancy_meaning.specs.Tree.{Tree, Within, trees, children}
+use Rattle.std.proofs.Common.{◌≡◌, ℕ, ◌+◌, ◌*◌, ◌<◌, Bool, nat_le, List, [], ◌∷◌, ◌++◌, length, map, take, get_or, refl, sym, ap, ap₂, subst, ◌∙◌}
+use Rattle.std.proofs.lemmas.List.{map-append}
+use Rattle.fancy_meaning.specs.Tree.{Within, trees, children}
 use Rattle.fancy_meaning.specs.Numbering.{each_numbered}
 use Rattle.fancy_meaning.specs.Options.{Analysis}
 use Rattle.fancy_expr.specs.declared.expr.Expr.{Expr}
@@ -9,15 +9,14 @@ use Rattle.fancy_expr.specs.Each.{Each}
 use Rattle.fancy_expr.specs.Views.{tree_of}
 use Rattle.fancy_expr.proofs.Walks.{taken}
 use Rattle.fancy_info.specs.declared.info.Info.{Info}
-use Rattle.fancy_info.specs.declared.info.Info.TheViews.{out-Info}
-use Rattle.fancy_info.specs.Infos.{info_tree, info_expr, AreInTurn, IsAnalysed}
+use Rattle.fancy_info.specs.Infos.{info_tree, AreInTurn, IsAnalysed}
 use Rattle.fancy_plain.specs.declared.table.PointTable.{PointTable}
 use Rattle.fancy_plain.specs.Neighbours.{IsEasy}
 use Rattle.fancy_plain.specs.Tables.{AreFine, IsTableOf}
-use Rattle.fancy_fragments.specs.Nodes.{AreEasyNeighbours, Begin, IsLaidOut, fits_over, nodes_over, plain_tree, start_of}
+use Rattle.fancy_fragments.specs.Nodes.{AreEasyNeighbours, BeginAt, IsLaidOut, fits_over, nodes_over, plain_tree}
 use Rattle.fancy_fragments.specs.Settable.{settable_above}
 use Rattle.fancy_fragments.proofs.Numbered.{are_numbered}
-use Rattle.fancy_fragments.proofs.SettableNodes.{fits_below}
+use Rattle.fancy_fragments.proofs.SettableNodes.{children_listed, fits_below}
 
 -- one more copy
 pub one_more : (is : List Info) (old new : List Expr) (k : ℕ) (i : Info) (copy : Expr) → k < length is → i ≡ get_or is k i →
@@ -34,19 +33,15 @@ pub each_analysed : (a : Analysis) (is : List Info) → Each (IsEasy a) is → E
 each_analysed a [] h = tt
 each_analysed a (i ∷ is) h = (h.0.analysed, each_analysed a is h.1)
 
-children_listed : (es : List Tree) → children (trees es) ≡ es
-children_listed [] = refl
-children_listed (e ∷ es) = ap (λ l. e ∷ l) (children_listed es)
-
 -- they can be taken to begin where the first of them does
-begun : (w v : Within) (n k : ℕ) (is : List Info) → AreInTurn w n is → Begin v k is →
+begun : (w v : Within) (n k : ℕ) (is : List Info) → AreInTurn w n is → BeginAt v k is →
     each_numbered w n (trees (map plain_tree is)) ≡ each_numbered v k (trees (map plain_tree is))
 begun w v n k [] turn begin = refl
 begun w v n k (i ∷ is) (within, starts, rest) begin =
     ap₂ (λ x m. each_numbered x m (trees (map plain_tree (i ∷ is)))) (sym within ∙ sym begin.0) (sym starts ∙ sym begin.1)
 
 module _ (is : List Info) (h : AreEasyNeighbours is) (exprs : List Expr) (copied : map tree_of exprs ≡ map plain_tree is) (first : ℕ) (w : Within)
-    (begin : Begin w first is) where
+    (begin : BeginAt w first is) where
   pub same_nodes : nodes_over exprs first w ≡ map info_tree is
   same_nodes =
       ap (λ l. children (each_numbered w first (trees l))) copied

@@ -10,7 +10,6 @@ use Rattle.fancy_expr.specs.declared.expr.Absent.TheVariants as code_absent
 use Rattle.fancy_expr.specs.declared.expr.Expr.{Expr}
 use Rattle.fancy_expr.specs.declared.expr.Expr.TheVariants as code
 use Rattle.fancy_expr.specs.Each.{Each}
-use Rattle.fancy_expr.specs.Exprs.{below}
 use Rattle.fancy_expr.specs.Views.{tree_of, absent_of}
 use Rattle.fancy_expr.specs.Walk.{start_inside, within_inside}
 use Rattle.fancy_expr.proofs.Exprs.{parts-below}

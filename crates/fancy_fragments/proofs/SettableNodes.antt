@@ -1,26 +1,24 @@
 -- The greatest group that ways of nodes can set, node by node.
-use Rattle.std.proofs.Common.{◌≡◌, ℕ, zero, suc, ◌+◌, ◌*◌, ◌<◌, ◌≤◌, max, Bool, true, false, not, ◌||◌, ◌&&◌, if◌then◌else◌, ◌==◌, nat_lt, nat_le, List, [], ◌∷◌, ◌++◌, length, map, take, flat_map, get_or, Box, Global, Option, Some, None, refl, sym, ap, ap₂, subst, ◌∙◌, arith, append-nil}
+use Rattle.std.proofs.Common.{◌≡◌, ℕ, suc, ◌+◌, ◌*◌, ◌<◌, max, Bool, true, false, ◌&&◌, if◌then◌else◌, nat_lt, nat_le, List, [], ◌∷◌, ◌++◌, length, map, take, flat_map, get_or, Box, Global, refl, sym, ap, ap₂, ◌∙◌, arith, append-nil}
 use Rattle.std.proofs.lemmas.List.{map-append, length-map}
 use Rattle.std.specs.List.{list_all}
 use Rattle.std.specs.Ordering.{ord_max, nat_cmp}
 use Rattle.std.proofs.lemmas.Bool.Decides.{nat_tests}
 use Rattle.fancy_meaning.specs.Tree as plain
 use Rattle.fancy_meaning.specs.Tree.{Tree, Trees, none, more, trees, children, parts}
-use Rattle.fancy_meaning.specs.Fits.{is_entered, is_positive, settable_groups, settable_in_each}
+use Rattle.fancy_meaning.specs.Fits.{is_entered, settable_groups, settable_in_each}
 use Rattle.fancy_meaning.specs.Nodes.{group_count, groups}
-use Rattle.fancy_meaning.specs.Options.{Analysis}
 use Rattle.fancy_expr.specs.declared.expr.Absent.{Absent}
 use Rattle.fancy_expr.specs.declared.expr.Absent.TheVariants as code_absent
 use Rattle.fancy_expr.specs.declared.expr.Absent.TheViews as view
 use Rattle.fancy_expr.specs.declared.expr.Expr.{Expr}
 use Rattle.fancy_expr.specs.declared.expr.Expr.TheVariants as code
-use Rattle.fancy_expr.specs.Each.{Each}
 use Rattle.fancy_expr.specs.Exprs.{below}
 use Rattle.fancy_expr.specs.Views.{tree_of}
 use Rattle.fancy_expr.proofs.Walks.{taken}
 use Rattle.fancy_info.specs.declared.info.Info.{Info}
 use Rattle.fancy_info.specs.declared.info.Info.TheViews.{out-Info}
-use Rattle.fancy_info.specs.Infos.{info_tree, info_expr, info_children, info_within, absent_over, node_over, IsFound, IsAnalysed}
+use Rattle.fancy_info.specs.Infos.{info_tree, info_expr, info_children, info_within, absent_over, node_over, IsFound}
 use Rattle.fancy_info.proofs.OverParts.{over-parts}
 use Rattle.fancy_info.proofs.Unfolded.{tree_out, each_here}
 use Rattle.fancy_fragments.specs.Nodes.{start_of, fits_over, IsAnalysedNode}
@@ -94,7 +92,7 @@ way_over : (e : Expr) (n : ℕ) (w : plain.Within) (es : Trees) → is_way_in (n
 way_over (code.Absent x) n w es = absent_way x es
 way_over e n w es = refl
 
-children_listed : (es : List Tree) → children (trees es) ≡ es
+pub children_listed : (es : List Tree) → children (trees es) ≡ es
 children_listed [] = refl
 children_listed (e ∷ es) = ap (λ l. e ∷ l) (children_listed es)
 

@@ -1,5 +1,5 @@
 -- Neighbouring easy nodes, as infos and as expressions that are kept.
-use Rattle.std.specs.Prelude.{◌≡◌, ℕ, Bool, List, [], ◌∷◌, ◌+◌, ◌*◌, ◌<◌, map, flat_map, nat_lt}
+use Rattle.std.specs.Prelude.{◌≡◌, ℕ, Bool, List, [], ◌∷◌, ◌+◌, ◌*◌, map, flat_map, nat_lt}
 use Rattle.std.specs.List.{list_all}
 use Rattle.fancy_meaning.specs.Tree.{Tree, Within, trees, children}
 use Rattle.fancy_meaning.specs.Numbering.{each_numbered}
@@ -43,9 +43,9 @@ abbrev pub start_of : Info → ℕ
 start_of i = (info_facts i).start_group
 
 -- the first of them begins at this group and stands within this
-abbrev pub Begin : Within → ℕ → List Info → Type 0
-Begin w n [] = Unit {0}
-Begin w n (i ∷ is) = (w ≡ info_within i) × (n ≡ start_of i)
+abbrev pub BeginAt : Within → ℕ → List Info → Type 0
+BeginAt w n [] = Unit {0}
+BeginAt w n (i ∷ is) = (w ≡ info_within i) × (n ≡ start_of i)
 
 -- what was found of a node of some tree
 abbrev pub IsAnalysedNode : Info → Type 0

@@ -43,7 +43,7 @@ impl CaptureGroupRange {
 }
 
 /// A fragment with its name and its groups.
-#[derive(Drop)]
+#[derive(Debug, Drop)]
 pub struct Delegate {
     pub(crate) pattern: String,
     pub(crate) fragment: Fragment,

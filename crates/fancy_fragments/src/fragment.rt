@@ -6,7 +6,7 @@ ghost use Rattle.fancy_expr.specs.Views.{tree_of};
 ghost use Rattle.fancy_expr.specs.Walk.{within_of};
 ghost use Rattle.fancy_info.specs.Infos.{info_tree};
 ghost use Rattle.fancy_plain.specs.Tables.{HaveClasses, IsRefusedFor};
-ghost use Rattle.fancy_fragments.specs.Nodes.{AreEasyNeighbours, Begin, IsLaidOut, fits_over, nodes_over, plain_tree};
+ghost use Rattle.fancy_fragments.specs.Nodes.{AreEasyNeighbours, BeginAt, IsLaidOut, fits_over, nodes_over, plain_tree};
 
 use crate::copies::copy_of;
 use crate::settable::settable_above;
@@ -17,6 +17,7 @@ use fancy_info::info::Info;
 use fancy_plain::search::Memo;
 use fancy_plain::table::PointTable;
 use std::alloc::{AllocError, Global};
+use std::fmt;
 
 /// Neighbouring easy nodes that are searched for plainly.
 #[derive(Drop)]
@@ -84,6 +85,19 @@ impl Fragment {
     }
 }
 
+impl fmt::Debug for Fragment {
+    /// All but the table, which is laid out for the rest.
+    fn fmt<W: fmt::Write>(&self, f: &mut fmt::Formatter<W>) -> fmt::Result {
+        f.debug_struct("Fragment")
+            .field("exprs", &self.exprs)
+            .field("first_group", &self.first_group)
+            .field("within", &self.within)
+            .field("unicode", &self.unicode)
+            .field("settable", &self.settable)
+            .finish_non_exhaustive()
+    }
+}
+
 /// The expressions of the nodes.
 fn copies_of_nodes(alloc: Global, infos: &[Info]) -> Result<Vec<Expr>, AllocError>
     ensures { IfOk result (λ copies. map tree_of copies.items ≡ map plain_tree infos.now) }
@@ -98,7 +112,7 @@ fn copies_of_nodes(alloc: Global, infos: &[Info]) -> Result<Vec<Expr>, AllocErro
 /// Where the nodes begin: the number of the next group, and the look-around that they stand in. Without a node it is
 /// the beginning of a tree.
 fn beginning(infos: &[Info]) -> (usize, Within)
-    ensures { Begin (within_of result.1) result.0 infos.now }
+    ensures { BeginAt (within_of result.1) result.0 infos.now }
 {
     match infos.first() {
         Some(info) => (info.start_group(), info.within),

@@ -1,9 +1,9 @@
 -- The classes of a table's points are read by its option.
-use Rattle.std.proofs.Common.{◌≡◌, ℕ, zero, suc, Bool, List, [], ◌∷◌, slice_get, Option, Some, None, sym, ap, ◌∙◌, subst}
+use Rattle.std.proofs.Common.{◌≡◌, ℕ, zero, suc, Bool, List, [], ◌∷◌, slice_get, Some, ap, subst}
 use Rattle.std.proofs.Math.Bool.{Bool-set}
 use Rattle.std.proofs.Math.Logic.{∥∥₁_elim, ∥∥₁_map}
 use Rattle.fancy_characters.specs.declared.classes.CharClassMatcher.TheVariants as matcher
-use Rattle.fancy_meaning.specs.Instr.{Codepoint, Newline}
+use Rattle.fancy_meaning.specs.Instr.{Codepoint}
 use Rattle.fancy_expr.specs.Each.{Each}
 use Rattle.fancy_plain.specs.declared.point.CharTest.TheVariants as test
 use Rattle.fancy_plain.specs.declared.point.Point.{Point}

@@ -7,9 +7,9 @@ ghost use Rattle.fancy_plain.specs.Paths.{closed_after};
 ghost use Rattle.fancy_plain.specs.Searches.{IsMemory};
 ghost use Rattle.fancy_plain.specs.Ways.{listed, Ascends, HasAscending, IsFirstWay, IsMemoOf, IsOfNodes};
 
-use crate::table::PointTable;
 use crate::log::{Entry, Stand};
 use crate::search::{Memo, Task};
+use crate::table::PointTable;
 use fancy_expr::error::Error;
 use std::alloc::Global;
 use std::collections::BTreeMap;

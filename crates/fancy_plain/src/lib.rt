@@ -3,8 +3,8 @@
 
 mod failed;
 pub mod first_way;
-pub mod table;
 mod layout;
 mod log;
 mod point;
 pub mod search;
+pub mod table;

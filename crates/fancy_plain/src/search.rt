@@ -11,9 +11,9 @@ ghost use Rattle.fancy_plain.specs.Ways.{IsMemoOf};
 ghost use Rattle.fancy_plain.specs.Searches.{Advances, EndsAs, GoesBack, HaveFailed, IsHere, IsTask, TurnsBy, fails_before, leading_of, next_of, IsMemory, IsSearch, Keeps, Leading, Leads};
 
 use crate::failed::Failed;
-use crate::table::PointTable;
 use crate::log::{Entry, Log, Stand, Turn};
 use crate::point::{CharTest, Loop, Point};
+use crate::table::PointTable;
 use fancy_characters::look::holds;
 use fancy_expr::error::Error;
 use std::alloc::Global;

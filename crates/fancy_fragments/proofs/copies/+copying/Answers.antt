@@ -1,7 +1,4 @@
-use Rattle.std.proofs.Common.{map, take, ap, sym, ◌∙◌, arith}
-use Rattle.fancy_meaning.specs.Tree.{Concat, Alt, trees}
-use Rattle.fancy_expr.specs.Exprs.{below}
-use Rattle.fancy_expr.specs.Views.{tree_of}
+use Rattle.std.proofs.Common.{arith}
 use Rattle.fancy_expr.proofs.Exprs.{child_smaller}
 use Rattle.fancy_fragments.proofs.CopiedNodes.{copied_concat, copied_alt, one_more, no_more}
 use Rattle.fancy_fragments.proofs.copies.+copying.Goals as goal

@@ -1,4 +1,4 @@
-use Rattle.std.proofs.Common.{◌≡◌, ℕ, ◌+◌, ◌*◌, map, take, length}
+use Rattle.std.proofs.Common.{◌≡◌, ◌+◌, ◌*◌, map, take, length}
 use Rattle.fancy_expr.specs.Exprs.{below, exprs, exprs_in_absent}
 use Rattle.fancy_expr.specs.Views.{tree_of}
 use Rattle.fancy_fragments.proofs.copies.+copying.Given as goal

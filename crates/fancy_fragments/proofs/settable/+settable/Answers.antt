@@ -1,5 +1,4 @@
-use Rattle.std.proofs.Common.{max, map, take, length, ap, sym, ◌∙◌, subst, arith}
-use Rattle.std.proofs.lemmas.List.{take_all}
+use Rattle.std.proofs.Common.{max, map, ap, sym, ◌∙◌, subst, arith}
 use Rattle.fancy_expr.specs.Each.{Each}
 use Rattle.fancy_info.specs.Infos.{info_tree, IsFound, IsAnalysed}
 use Rattle.fancy_info.proofs.Unfolded.{each_below}

@@ -1,4 +1,4 @@
-use Rattle.std.proofs.Common.{ap, sym, ◌∙◌}
+use Rattle.std.proofs.Common.{◌∙◌}
 use Rattle.fancy_fragments.proofs.DelegateParts.{parts_are}
 use Rattle.fancy_fragments.proofs.delegate.Delegate.build.Goals as goal
 
