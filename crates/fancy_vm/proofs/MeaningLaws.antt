@@ -61,7 +61,8 @@ module _ (program : Prog) (text : List ℕ) (o : RunOptions) (utf8 : IsUtf8 text
   means : (found : Option (List ℕ)) → run_fits task ≡ true → run task ≡ theorem.outcome_of found → AnswersMeaning found
   means found fits comes i accepted is = same_answer found (answer (search_of (plan i) text o)) (run task) comes (answers i fits accepted is)
 
-  run_answers : (result : Result (Option (Vec ℕ Global)) Error) → run_fits task ≡ true → RunAnswers (run task) result → IfOk result (λ found. AnswersMeaning (numbers_of found))
+  run_answers : (result : Result (Option (Vec ℕ Global)) Error) → run_fits task ≡ true → RunAnswers (run task) result →
+      IfOk result (λ found. AnswersMeaning (numbers_of found))
   run_answers (Ok None) fits comes = means None fits comes
   run_answers (Ok (Some numbers)) fits comes = means (Some numbers.items) fits comes
   run_answers (Err e) fits comes = tt
@@ -92,16 +93,21 @@ module _ (program : Prog) (text : List ℕ) (o : RunOptions) (utf8 : IsUtf8 text
   abbrev task_here : Task
   task_here = record { program = program; text = text; options = o }
 
-  pub run_means : (result : Result (Option (Vec ℕ Global)) Error) → run_fits task_here ≡ true → RunAnswers (run task_here) result → IfOk result (λ found. Means program text o (numbers_of found))
+  pub run_means : (result : Result (Option (Vec ℕ Global)) Error) → run_fits task_here ≡ true → RunAnswers (run task_here) result →
+      IfOk result (λ found. Means program text o (numbers_of found))
   run_means = run_answers program text o utf8 small undelegated_layout keeps_undelegated (λ i. undelegated i text o)
 
-  pub run_means_pair : (result : Result (Option (ℕ × ℕ)) Error) → run_fits task_here ≡ true → RunAnswersPair (run task_here) result → IfOk result (λ found. MeansPair program text o found)
+  pub run_means_pair : (result : Result (Option (ℕ × ℕ)) Error) → run_fits task_here ≡ true → RunAnswersPair (run task_here) result →
+      IfOk result (λ found. MeansPair program text o found)
   run_means_pair = run_answers_pair program text o utf8 small undelegated_layout keeps_undelegated (λ i. undelegated i text o)
 
-  pub run_is_meaning : (result : Result (Option (Vec ℕ Global)) Error) → run_fits task_here ≡ true → RunAnswers (run task_here) result → IfOk result (λ found. IsMeaning program text o (numbers_of found))
+  pub run_is_meaning : (result : Result (Option (Vec ℕ Global)) Error) → run_fits task_here ≡ true → RunAnswers (run task_here) result →
+      IfOk result (λ found. IsMeaning program text o (numbers_of found))
   run_is_meaning result fits comes =
       on_ok result (λ found h. record { answers = h }) (run_answers program text o utf8 small layout keeps_delegated (λ i. headline i text o) result fits comes)
 
-  pub run_is_meaning_pair : (result : Result (Option (ℕ × ℕ)) Error) → run_fits task_here ≡ true → RunAnswersPair (run task_here) result → IfOk result (IsMeaningPair program text o)
+  pub run_is_meaning_pair : (result : Result (Option (ℕ × ℕ)) Error) → run_fits task_here ≡ true → RunAnswersPair (run task_here) result →
+      IfOk result (IsMeaningPair program text o)
   run_is_meaning_pair result fits comes =
-      on_ok result (λ found h. record { answers = h }) (run_answers_pair program text o utf8 small layout keeps_delegated (λ i. headline i text o) result fits comes)
+      on_ok result (λ found h. record { answers = h })
+      (run_answers_pair program text o utf8 small layout keeps_delegated (λ i. headline i text o) result fits comes)

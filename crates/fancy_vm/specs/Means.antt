@@ -13,7 +13,8 @@ use Rattle.fancy_vm.specs.Meant.{first_pair}
 -- tree has in the text, and there are none where it has no such way.
 abbrev pub Means : Prog → List ℕ → RunOptions → Option (List ℕ) → Type 0
 Means program text o found =
-    (i : Input) → IsAccepted i (length program.body) → program ≡ undelegated_layout (plan i) → found ≡ answer (search_of (plan i) text o)
+    (i : Input) → IsAccepted i (length program.body) → program ≡ undelegated_layout (plan i) →
+    found ≡ answer (search_of (plan i) text o)
 
 -- the same for the first pair alone
 abbrev pub MeansPair : Prog → List ℕ → RunOptions → Option (ℕ × ℕ) → Type 0

@@ -29,7 +29,7 @@ pub enum Insn {
     LitCasei(CaseiLiteral),
     /// Takes one character of the class, which instructions of one class share.
     CharClass(Rc<CharClassMatcher>),
-    /// Fails where the assertion does not hold. One of the text's end that holds sets the text-end flag, if there is one.
+    /// Fails where the assertion does not hold. One of the text's end that holds sets the text-end flag, if it is there.
     Assertion(Assertion),
     /// Goes on at the first, with a branch at the second.
     Split(usize, usize),
@@ -192,7 +192,7 @@ fn ends(body: &[Insn]) -> bool
     matches!(body.last(), Some(Insn::End))
 }
 
-/// Every instruction's targets are below the body's length, and its slots are there; `flag` is of the text-end flag's slot.
+/// Every instruction's targets are below the body's length, and its slots are there, the text-end flag's with `flag`.
 fn all_fit(body: &[Insn], slots: usize, flag: bool) -> bool
     ensures { result ≡ list_all (λ insn. instr_fits (length body.now) slots flag (insn_of insn))
         body.now }
@@ -216,7 +216,7 @@ impl Insn {
         self.targets_fit(len) && self.slots_fit(slots, flag)
     }
 
-    /// The slots that it reads or writes are there: the first so many are, and with `flag` the one of the text-end flag.
+    /// The slots that it reads or writes are there: the first so many are, and with `flag` that of the text-end flag.
     fn slots_fit(&self, slots: usize, flag: bool) -> bool
         ensures { result ≡ slots_fit slots flag (insn_of self.now) }
     {

@@ -80,7 +80,7 @@ impl Memos {
         }
     }
 
-    /// The first way from `ix` of the fragment that stands at `pc` in the program, with what was noted of it in this run.
+    /// The first way from `ix` of the fragment that stands at `pc` in the program, by what this run noted of it.
     pub(crate) fn first_way(
         &mut self,
         task: &Task<'_>,

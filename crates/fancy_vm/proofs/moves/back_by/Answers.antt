@@ -12,7 +12,8 @@ returns-then-left-eq0 c =
 pub returns-then-at-eq0 : goal.returns-then-at-eq0
 returns-then-at-eq0 c =
     elim c.if-is_place.branch [
-      | then-is_place+else-left-eq0 w ↦ back_out_on c.args.text.now c.back.left c.back.at c.if-at-eq0.true (sym w.if-is_place.ensures) (omega arith) ∙ c.back.invariant
+      | then-is_place+else-left-eq0 w ↦ back_out_on c.args.text.now c.back.left c.back.at c.if-at-eq0.true (sym w.if-is_place.ensures) (omega arith)
+          ∙ c.back.invariant
       | else-is_place w ↦ back_out c.args.text.now c.back.left c.back.at c.if-at-eq0.true (sym w.if-is_place.ensures) ∙ c.back.invariant
     ]
 

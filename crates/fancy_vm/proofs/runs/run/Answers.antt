@@ -11,9 +11,11 @@ answer-answer-requires-clause-place c = run_place (task_of c.args.prog.now c.arg
 pub returns-clause-meaning : goal.returns-clause-meaning
 returns-clause-meaning c =
     let small : length c.args.text.now < usize_max = omega arith in
-    run_means (prog_of c.args.prog.now) c.args.text.now (options_of c.args.options.now) c.utf8.text small c.answer-answer.result c.requires c.answer-answer.ensures
+    run_means (prog_of c.args.prog.now) c.args.text.now
+    (options_of c.args.options.now) c.utf8.text small c.answer-answer.result c.requires c.answer-answer.ensures
 
 pub returns-clause-headline : goal.returns-clause-headline
 returns-clause-headline c =
     let small : length c.args.text.now < usize_max = omega arith in
-    run_is_meaning (prog_of c.args.prog.now) c.args.text.now (options_of c.args.options.now) c.utf8.text small c.answer-answer.result c.requires c.answer-answer.ensures
+    run_is_meaning (prog_of c.args.prog.now) c.args.text.now
+    (options_of c.args.options.now) c.utf8.text small c.answer-answer.result c.requires c.answer-answer.ensures

@@ -14,9 +14,11 @@ answer_pair-answer-requires-clause-place c = run_place (task_of c.args.prog.now 
 pub returns-clause-meaning : goal.returns-clause-meaning
 returns-clause-meaning c =
     let small : length c.args.text.now < usize_max = omega arith in
-    run_means_pair (prog_of c.args.prog.now) c.args.text.now (options_of c.args.options.now) c.utf8.text small c.answer_pair-answer.result c.requires c.answer_pair-answer.ensures
+    run_means_pair (prog_of c.args.prog.now) c.args.text.now
+    (options_of c.args.options.now) c.utf8.text small c.answer_pair-answer.result c.requires c.answer_pair-answer.ensures
 
 pub returns-clause-headline : goal.returns-clause-headline
 returns-clause-headline c =
     let small : length c.args.text.now < usize_max = omega arith in
-    run_is_meaning_pair (prog_of c.args.prog.now) c.args.text.now (options_of c.args.options.now) c.utf8.text small c.answer_pair-answer.result c.requires c.answer_pair-answer.ensures
+    run_is_meaning_pair (prog_of c.args.prog.now) c.args.text.now
+    (options_of c.args.options.now) c.utf8.text small c.answer_pair-answer.result c.requires c.answer_pair-answer.ensures

@@ -9,4 +9,6 @@ pub returns-then-not-ends : goal.returns-then-not-ends
 returns-then-not-ends c = no_end c.args.self.now c.args.body.now (sym (c.if-not-answer_fits.ensures c.args.body.now)) (sym c.if-not-ends.ensures)
 
 pub returns : goal.returns
-returns c = c.all_fit.ensures ∙ all_else c.args.self.now c.args.body.now (sym (c.if-not-answer_fits.ensures c.args.body.now)) (sym c.if-not-ends.ensures) c.flag_fits.result (c.flag_fits.ensures c.args.body.now)
+returns c =
+    c.all_fit.ensures ∙ all_else c.args.self.now c.args.body.now (sym (c.if-not-answer_fits.ensures c.args.body.now))
+    (sym c.if-not-ends.ensures) c.flag_fits.result (c.flag_fits.ensures c.args.body.now)
