@@ -117,8 +117,8 @@ module _ (p : Site) (g : ℕ) (b : Tree) (at : target p.analysis.tree g ≡ Some
     abbrev pub inner_call : ℕ → ℕ → Bool → Code
     inner_call n = called_code p.plan (is_easy p.analysis) n (opened g p.depths)
 
-    called_open : (n : ℕ) (in_hard : Bool) → called_code p.plan (is_easy p.analysis) (suc n) p.depths g in_hard ≡ target_code p.plan (is_easy p.analysis) g (inner_call n) in_hard
-        (Some b)
+    called_open : (n : ℕ) (in_hard : Bool) → called_code p.plan (is_easy p.analysis) (suc n) p.depths g in_hard ≡
+        target_code p.plan (is_easy p.analysis) g (inner_call n) in_hard (Some b)
     called_open n in_hard =
         cond-true (nat_lt (p.depths g) call_depth) (target_code p.plan (is_easy p.analysis) g (inner_call n) in_hard (target p.analysis.tree g))
         (fail_code (target p.analysis.tree g)) (lt-ltb (p.depths g) call_depth free)
@@ -245,7 +245,8 @@ module _ (p : Site) (call : ℕ → Bool → Code) (scope : Scope) (u : IsScopeA
     calls = refl;
   }
 
-  pub wrote_called : (at_start in_hard : Bool) (s t : Draft) → Writes (under_call g p) (target_code p.plan (is_easy p.analysis) g inner_code in_hard (Some b)) (b ∷ []) s t
+  pub wrote_called : (at_start in_hard : Bool) (s t : Draft)
+      → Writes (under_call g p) (target_code p.plan (is_easy p.analysis) g inner_code in_hard (Some b)) (b ∷ []) s t
       → Writes p (hard_code p call (SubroutineCall g) at_start in_hard) (SubroutineCall g ∷ []) s t
   wrote_called at_start in_hard s t h =
       wrote_open p g b at free call left at_start in_hard s t (u.calls ∙ ap (λ n. called_code p.plan (is_easy p.analysis) n p.depths) budget_is) h

@@ -1,5 +1,5 @@
 -- How the children of a concatenation, of an alternation and of a look-around are written.
-use Rattle.std.proofs.Common.{◌≡◌, ℕ, zero, suc, ◌+◌, ◌-◌, ◌&&◌, ◌||◌, ◌==◌, Bool, true, false, not, List, [], ◌∷◌, ◌++◌, length, map, take, drop, reverse, if◌then◌else◌, true≢false, refl, sym, ap, ap₂, ◌∙◌, subst, arith, length-drop}
+use Rattle.std.proofs.Common.{◌≡◌, ℕ, zero, suc, ◌+◌, ◌-◌, ◌&&◌, ◌||◌, ◌==◌, Bool, true, false, not, List, [], ◌∷◌, ◌++◌, length, map, take, drop, reverse, if◌then◌else◌, true≢false, refl, sym, ap, ap₂, ◌∙◌, arith, length-drop}
 use Rattle.std.specs.List.{list_all, prefix_len, suffix_len}
 use Rattle.std.proofs.lemmas.List.{length-map, take-map, drop-map, take-append-drop, map-append}
 use Rattle.std.proofs.lemmas.List.Folds.{length-prefix_len, list_all-map}
@@ -13,10 +13,9 @@ use Rattle.fancy_meaning.specs.Batches.{batch}
 use Rattle.fancy_meaning.specs.Code.{Code, nothing, one, ◌>>◌, in_turn, branches}
 use Rattle.fancy_meaning.specs.Constructs.{look_code, negative_look_code, behind_code}
 use Rattle.fancy_meaning.specs.Marks.{takes_nothing}
-use Rattle.fancy_meaning.specs.Hard.{is_hard}
 use Rattle.fancy_meaning.specs.Layout.{Part, concat_code, each_part, in_context, is_prefix, is_suffix, written, body_code}
 use Rattle.fancy_info.specs.declared.info.Info.{Info}
-use Rattle.fancy_info.specs.Infos.{info_tree, info_hard, info_size, IsAnalysed}
+use Rattle.fancy_info.specs.Infos.{info_tree, info_size, IsAnalysed}
 use Rattle.fancy_expr.specs.Each.{Each}
 use Rattle.fancy_compile.specs.Drafts.{is_easy, hard_code, node_code}
 use Rattle.fancy_compile.specs.Nodes.{back_start, codes_in_turn, codes_of_branches, codes_of_none, front_count, is_back, is_front}
@@ -145,11 +144,11 @@ module _ (p : Site) (call : ℕ → Bool → Code) where
 
   -- the children of a concatenation, as they were analysed
   module _ (at_start in_hard : Bool) (is : List Info) (each : Each (IsAnalysed p.analysis) is) where
-    abbrev es : List Tree
-    es = map info_tree is
+    abbrev child_trees : List Tree
+    child_trees = map info_tree is
 
-    abbrev ws : List Part
-    ws = each_part p.plan (is_easy p.analysis) call at_start (trees es)
+    abbrev child_parts : List Part
+    child_parts = each_part p.plan (is_easy p.analysis) call at_start (trees child_trees)
 
     abbrev n : ℕ
     n = front_count is
@@ -160,39 +159,39 @@ module _ (p : Site) (call : ℕ → Bool → Code) where
     abbrev m : ℕ
     m = back_start in_hard rest
 
-    same_front : first_count p in_hard ws ≡ n
+    same_front : first_count p in_hard child_parts ≡ n
     same_front =
-        sym (run_mapped (front_test p.analysis) (λ w. w.tree) ws)
-        ∙ ap (prefix_len (front_test p.analysis)) (part_trees at_start es)
+        sym (run_mapped (front_test p.analysis) (λ w. w.tree) child_parts)
+        ∙ ap (prefix_len (front_test p.analysis)) (part_trees at_start child_trees)
         ∙ run_mapped (front_test p.analysis) info_tree is
         ∙ sym (run_same is_front (λ i. front_test p.analysis (info_tree i)) is
         (each_by (IsAnalysed p.analysis) (λ i. is_front i ≡ front_test p.analysis (info_tree i)) (front_known p.analysis) is each))
 
-    trees_behind : map (λ w. w.tree) (drop n ws) ≡ map info_tree rest
-    trees_behind = sym (drop-map (λ w. w.tree) n ws) ∙ ap (drop n) (part_trees at_start es) ∙ drop-map info_tree n is
+    trees_behind : map (λ w. w.tree) (drop n child_parts) ≡ map info_tree rest
+    trees_behind = sym (drop-map (λ w. w.tree) n child_parts) ∙ ap (drop n) (part_trees at_start child_trees) ∙ drop-map info_tree n is
 
-    same_suffix : suffix_len (λ w. back_test p.analysis in_hard w.tree) (drop n ws) ≡ suffix_len (is_back in_hard) rest
+    same_suffix : suffix_len (λ w. back_test p.analysis in_hard w.tree) (drop n child_parts) ≡ suffix_len (is_back in_hard) rest
     same_suffix =
         let test = back_test p.analysis in_hard in
-        sym (run_mapped test (λ w. w.tree) (reverse (drop n ws)))
+        sym (run_mapped test (λ w. w.tree) (reverse (drop n child_parts)))
         ∙ ap (prefix_len test)
-        (map-reverse (λ w. w.tree) (drop n ws) ∙ ap reverse trees_behind ∙ sym (map-reverse info_tree rest))
+        (map-reverse (λ w. w.tree) (drop n child_parts) ∙ ap reverse trees_behind ∙ sym (map-reverse info_tree rest))
         ∙ run_mapped test info_tree (reverse rest)
         ∙ sym (run_same (is_back in_hard) (λ i. test (info_tree i)) (reverse rest)
         (each_by (IsAnalysed p.analysis) (λ i. is_back in_hard i ≡ test (info_tree i)) (back_known p.analysis in_hard) (reverse rest)
         (each_reverse (IsAnalysed p.analysis) rest (each_drop (IsAnalysed p.analysis) n is each))))
 
-    same_length : length (drop n ws) ≡ length rest
-    same_length = sym (length-map (drop n ws) (λ w. w.tree)) ∙ ap length trees_behind ∙ length-map rest info_tree
+    same_length : length (drop n child_parts) ≡ length rest
+    same_length = sym (length-map (drop n child_parts) (λ w. w.tree)) ∙ ap length trees_behind ∙ length-map rest info_tree
 
-    same_start : start_of p in_hard ws n ≡ m
+    same_start : start_of p in_hard child_parts n ≡ m
     same_start = ap₂ (λ x y. x - y) same_length same_suffix
 
     -- the mark goes on past the first batch
     abbrev pub is_first : Bool
     is_first = at_start && list_all (λ i. (info_size i).most == 0) (take n is)
 
-    same_mark : (at_start && list_all (takes_nothing p.analysis.tree) (take n es)) ≡ is_first
+    same_mark : (at_start && list_all (takes_nothing p.analysis.tree) (take n child_trees)) ≡ is_first
     same_mark =
         ap (λ l. at_start && list_all (takes_nothing p.analysis.tree) l) (take-map info_tree n is)
         ∙ ap (λ b. at_start && b) (list_all-map (takes_nothing p.analysis.tree) info_tree (take n is)
@@ -200,40 +199,40 @@ module _ (p : Site) (call : ℕ → Bool → Code) where
         (each_by (IsAnalysed p.analysis) (λ i. takes_nothing p.analysis.tree (info_tree i) ≡ ((info_size i).most == 0)) (nothing_known p.analysis) (take n is)
         (each_take (IsAnalysed p.analysis) n is each)))
 
-    front_trees : map (λ w. w.tree) (take n ws) ≡ map info_tree (take n is)
-    front_trees = sym (take-map (λ w. w.tree) n ws) ∙ ap (take n) (part_trees at_start es) ∙ take-map info_tree n is
+    front_trees : map (λ w. w.tree) (take n child_parts) ≡ map info_tree (take n is)
+    front_trees = sym (take-map (λ w. w.tree) n child_parts) ∙ ap (take n) (part_trees at_start child_trees) ∙ take-map info_tree n is
 
-    middle_codes : map (λ w. w.code true) (take m (drop n ws)) ≡ codes_in_turn p call is_first (map info_tree (take m rest))
+    middle_codes : map (λ w. w.code true) (take m (drop n child_parts)) ≡ codes_in_turn p call is_first (map info_tree (take m rest))
     middle_codes =
-        sym (take-map (λ w. w.code true) m (drop n ws))
-        ∙ ap (take m) (sym (drop-map (λ w. w.code true) n ws) ∙ ap (drop n) (in_turn_codes at_start es) ∙ codes_behind n at_start es)
-        ∙ codes_first m (at_start && list_all (takes_nothing p.analysis.tree) (take n es)) (drop n es)
+        sym (take-map (λ w. w.code true) m (drop n child_parts))
+        ∙ ap (take m) (sym (drop-map (λ w. w.code true) n child_parts) ∙ ap (drop n) (in_turn_codes at_start child_trees) ∙ codes_behind n at_start child_trees)
+        ∙ codes_first m (at_start && list_all (takes_nothing p.analysis.tree) (take n child_trees)) (drop n child_trees)
         ∙ ap₂ (codes_in_turn p call) same_mark (ap (take m) (drop-map info_tree n is) ∙ take-map info_tree m rest)
 
-    back_trees : map (λ w. w.tree) (drop m (drop n ws)) ≡ map info_tree (drop m rest)
-    back_trees = sym (drop-map (λ w. w.tree) m (drop n ws)) ∙ ap (drop m) trees_behind ∙ drop-map info_tree m rest
+    back_trees : map (λ w. w.tree) (drop m (drop n child_parts)) ≡ map info_tree (drop m rest)
+    back_trees = sym (drop-map (λ w. w.tree) m (drop n child_parts)) ∙ ap (drop m) trees_behind ∙ drop-map info_tree m rest
 
     abbrev of_counts : ℕ → ℕ → Code
     of_counts k j =
-        batch p.unicode (map (λ w. w.tree) (take k ws)) >> in_turn (map (λ w. w.code true) (take j (drop k ws)))
-        >> batch p.unicode (map (λ w. w.tree) (drop j (drop k ws)))
+        batch p.unicode (map (λ w. w.tree) (take k child_parts)) >> in_turn (map (λ w. w.code true) (take j (drop k child_parts)))
+        >> batch p.unicode (map (λ w. w.tree) (drop j (drop k child_parts)))
 
     abbrev of_lists : List Tree → List Code → List Tree → Code
     of_lists front codes back = batch p.unicode front >> in_turn codes >> batch p.unicode back
 
-    pub concat_by : hard_code p call (Concat (trees es)) at_start in_hard ≡
+    pub concat_by : hard_code p call (Concat (trees child_trees)) at_start in_hard ≡
         (batch p.unicode (map info_tree (take n is)) >> in_turn (codes_in_turn p call is_first (map info_tree (take m rest)))
         >> batch p.unicode (map info_tree (drop m rest)))
     concat_by =
-        concat_cut p in_hard ws
-        ∙ ap (λ k. of_counts k (start_of p in_hard ws k)) same_front
+        concat_cut p in_hard child_parts
+        ∙ ap (λ k. of_counts k (start_of p in_hard child_parts k)) same_front
         ∙ ap (of_counts n) same_start
-        ∙ ap (λ l. of_lists l (map (λ w. w.code true) (take m (drop n ws))) (map (λ w. w.tree) (drop m (drop n ws)))) front_trees
-        ∙ ap (λ l. of_lists (map info_tree (take n is)) l (map (λ w. w.tree) (drop m (drop n ws)))) middle_codes
+        ∙ ap (λ l. of_lists l (map (λ w. w.code true) (take m (drop n child_parts))) (map (λ w. w.tree) (drop m (drop n child_parts)))) front_trees
+        ∙ ap (λ l. of_lists (map info_tree (take n is)) l (map (λ w. w.tree) (drop m (drop n child_parts)))) middle_codes
         ∙ ap (of_lists (map info_tree (take n is)) (codes_in_turn p call is_first (map info_tree (take m rest)))) back_trees
 
     -- they are all of them
-    pub concat_parts : (map info_tree (take n is) ++ (map info_tree (take m rest) ++ map info_tree (drop m rest))) ≡ es
+    pub concat_parts : (map info_tree (take n is) ++ (map info_tree (take m rest) ++ map info_tree (drop m rest))) ≡ child_trees
     concat_parts =
         ap (λ l. map info_tree (take n is) ++ l) (sym (map-append info_tree (take m rest) (drop m rest)) ∙ ap (map info_tree) (take-append-drop m rest))
         ∙ sym (map-append info_tree (take n is) rest) ∙ ap (map info_tree) (take-append-drop n is)

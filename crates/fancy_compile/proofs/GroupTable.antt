@@ -5,8 +5,7 @@ use Rattle.std.specs.List.{list_any}
 use Rattle.std.proofs.lemmas.List.Folds.{list_any-append}
 use Rattle.std.proofs.lemmas.List.{map-append, drop_all}
 use Rattle.std.proofs.lemmas.List.Elements.{filter_map-append}
-use Rattle.fancy_meaning.specs.Tree as plain
-use Rattle.fancy_meaning.specs.Tree.{Tree, Trees, none, more, trees, Within}
+use Rattle.fancy_meaning.specs.Tree.{Tree, Trees, trees, Within}
 use Rattle.fancy_meaning.specs.Marks.{takes_nothing, marked_groups, group_number, marked_nodes, first_marked_nodes}
 use Rattle.fancy_meaning.specs.Nodes.{nodes, nodes_of_each, as_group, groups, target, body_in}
 use Rattle.fancy_meaning.specs.Options.{Analysis}

@@ -89,7 +89,8 @@ module _ (p : Site) (call : ℕ → Bool → Code) (at_start in_hard : Bool) (lo
   abbrev Wrote : Option ℕ → Type 0
   Wrote hi = Writes p (hard_code p call (Repeat lo hi greedy e) at_start in_hard) (Repeat lo hi greedy e ∷ []) s t
 
-  pub wrote_repeat : (hi : Option ℕ) (k : LoopKind) → kind_form k ≡ form hi → Writes p (repeat_code greedy (body (kind_form k)) (kind_form k)) (e ∷ []) s t → Wrote hi
+  pub wrote_repeat : (hi : Option ℕ) (k : LoopKind) → kind_form k ≡ form hi
+      → Writes p (repeat_code greedy (body (kind_form k)) (kind_form k)) (e ∷ []) s t → Wrote hi
   wrote_repeat (Some zero) k is h = clash (kind_form k) (sym is) (kind_enters k)
   wrote_repeat (Some (suc n)) k is h =
       wrote_node p _ (Repeat lo (Some (suc n)) greedy e) s t (safe_fine p (Repeat lo (Some (suc n)) greedy e) refl refl)

@@ -1,4 +1,4 @@
-use Rattle.std.proofs.Common.{length, ◌-◌, ◌≡◌, ◌≤◌, ◌+◌, take}
+use Rattle.std.proofs.Common.{length, ◌≡◌, ◌≤◌, ◌+◌, take}
 use Rattle.std.specs.List.{suffix_len}
 use Rattle.fancy_compile.specs.Nodes.{is_back}
 use Rattle.fancy_compile.proofs.concatenations.back_start.Given as goal

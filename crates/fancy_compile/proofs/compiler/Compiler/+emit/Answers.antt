@@ -118,7 +118,11 @@ emit_node-emit_branches-requires t c = (
 )
 
 pub emit_node-child-requires : goal.emit_node-child-requires
-emit_node-child-requires t c = omega (arith, has_one c.args.scope.now c.args.info.now c.args.info.now _ (sym c.expr-expr.ensures ∙ c.in-Group.is) c.requires refl)
+emit_node-child-requires t c = omega (
+  arith,
+  has_one c.args.scope.now c.args.info.now c.args.info.now _
+      (sym c.expr-expr.ensures ∙ c.in-Group.is) c.requires refl,
+)
 
 pub emit_node-emit_around-requires : goal.emit_node-emit_around-requires
 emit_node-emit_around-requires t c =
@@ -226,7 +230,8 @@ emit_node-returns-in-Conditional t c = λ p call u known.
     c.child-in-Conditional-2.ensures c.child-in-Conditional-3.ensures p.analysis known in
     let e = plain.Conditional (info_tree c.child-in-Conditional.result.now) (info_tree c.child-in-Conditional-2.result.now)
     (info_tree c.child-in-Conditional-3.result.now) in
-    subst (λ x. Writes p (hard_code p call x c.args.at_start c.args.in_hard) (x ∷ []) (draft_of c.args.self.now) (draft_of c.emit_conditional.new.self)) (sym tree)
+    subst (λ x. Writes p (hard_code p call x c.args.at_start c.args.in_hard) (x ∷ []) (draft_of c.args.self.now)
+    (draft_of c.emit_conditional.new.self)) (sym tree)
     (wrote_node p _ e _ _ (safe_fine p e refl refl) (c.emit_conditional.ensures p call u each.0 each.1.0 each.1.1))
 
 pub emit_node-emit_conditional-requires : goal.emit_node-emit_conditional-requires
@@ -253,10 +258,15 @@ emit_conditional-returns t c = λ p call u first second third.
     let b : Code = end >> at_third in
     let es = info_tree c.args.first.now ∷ info_tree c.args.second.now ∷ [] in
     let ds = info_tree c.args.third.now ∷ [] in
+    let first_wrote = wrote_child p call c.args.first.now first false c.args.in_hard _ _
+    (c.emit.ensures p call u (known_child p.analysis c.args.first.now first)) in
+    let second_wrote = wrote_child p call c.args.second.now second false c.args.in_hard _ _
+    (c.emit-2.ensures p call u (known_child p.analysis c.args.second.now second)) in
+    let third_wrote = wrote_child p call c.args.third.now third false c.args.in_hard _ _
+    (c.emit-3.ensures p call u (known_child p.analysis c.args.third.now third)) in
     let wrote_a = wrote_then p at_first (end >> at_second) (info_tree c.args.first.now ∷ []) (info_tree c.args.second.now ∷ []) _ _ _
-    (wrote_child p call c.args.first.now first false c.args.in_hard _ _ (c.emit.ensures p call u (known_child p.analysis c.args.first.now first)))
-    (wrote_then p end at_second [] (info_tree c.args.second.now ∷ []) _ _ _ (c.push-3.ensures.writes p) (wrote_child p call c.args.second.now second false c.args.in_hard _ _ (c.emit-2.ensures p call u (known_child p.analysis c.args.second.now second)))) in
-    let wrote_b = wrote_then p end at_third [] ds _ _ _ (c.push-5.ensures.writes p) (wrote_child p call c.args.third.now third false c.args.in_hard _ _ (c.emit-3.ensures p call u (known_child p.analysis c.args.third.now third))) in
+    first_wrote (wrote_then p end at_second [] (info_tree c.args.second.now ∷ []) _ _ _ (c.push-3.ensures.writes p) second_wrote) in
+    let wrote_b = wrote_then p end at_third [] ds _ _ _ (c.push-5.ensures.writes p) third_wrote in
     let jump = subst (λ d. Writes p (one (Instr.Jmp 0)) [] d (draft_of c.push-4.new.self)) c.patch.ensures (c.push-4.ensures.writes p) in
     let both = wrote_both p es ds a b (draft_of c.push.new.self) (draft_of c.push-2.new.self) (draft_of c.emit-2.new.self) (draft_of c.push-4.new.self)
     (draft_of c.emit-3.new.self) c.len-split.result c.len-jump.result _ _
@@ -475,8 +485,9 @@ emit_behind-emit_branches-requires t c = (
 pub emit_behind-returns-then-const_size : goal.emit_behind-returns-then-const_size
 emit_behind-returns-then-const_size t c = λ in_hard p call at_start u known.
     let e = info_tree c.args.body.now in
-    let const = ap (λ (z : Size). z.is_const) (sym (size_known c.args.body.now p.analysis (known_child p.analysis c.args.body.now known))) ∙ sym c.const_size.ensures ∙ c.if-const_size.true in
-    let least = c.min_size.ensures ∙ ap (λ (z : Size). z.least) (size_known c.args.body.now p.analysis (known_child p.analysis c.args.body.now known)) in
+    let size = size_known c.args.body.now p.analysis (known_child p.analysis c.args.body.now known) in
+    let const = ap (λ (z : Size). z.is_const) (sym size) ∙ sym c.const_size.ensures ∙ c.if-const_size.true in
+    let least = c.min_size.ensures ∙ ap (λ (z : Size). z.least) size in
     wrote_behind p call at_start in_hard _ _ e c.min_size.result const least (c.emit_around.ensures p call u known)
 
 pub emit_behind-returns-then-has_const_branches : goal.emit_behind-returns-then-has_const_branches
@@ -508,8 +519,9 @@ emit_not_behind-emit_none_behind-requires t c = (
 pub emit_not_behind-returns-then-const_size : goal.emit_not_behind-returns-then-const_size
 emit_not_behind-returns-then-const_size t c = λ in_hard p call at_start u known.
     let e = info_tree c.args.body.now in
-    let const = ap (λ (z : Size). z.is_const) (sym (size_known c.args.body.now p.analysis (known_child p.analysis c.args.body.now known))) ∙ sym c.const_size.ensures ∙ c.if-const_size.true in
-    let least = c.min_size.ensures ∙ ap (λ (z : Size). z.least) (size_known c.args.body.now p.analysis (known_child p.analysis c.args.body.now known)) in
+    let size = size_known c.args.body.now p.analysis (known_child p.analysis c.args.body.now known) in
+    let const = ap (λ (z : Size). z.is_const) (sym size) ∙ sym c.const_size.ensures ∙ c.if-const_size.true in
+    let least = c.min_size.ensures ∙ ap (λ (z : Size). z.least) size in
     wrote_not_behind p call at_start in_hard _ _ e c.min_size.result const least (c.emit_around.ensures p call u known)
 
 pub emit_not_behind-returns-then-has_const_branches : goal.emit_not_behind-returns-then-has_const_branches
@@ -747,5 +759,6 @@ pub emit_node-returns-in-Assertion : goal.emit_node-returns-in-Assertion
 emit_node-returns-in-Assertion t c = λ p call u known.
     let i = c.args.info.now in
     let tree = tree_by i _ _ (sym c.expr-expr.ensures ∙ c.in-Assertion.is) refl in
-    subst (λ e. Writes p (hard_code p call e c.args.at_start c.args.in_hard) (e ∷ []) (draft_of c.args.self.now) (draft_of c.emit_assertion.new.self)) (sym tree)
+    subst (λ e. Writes p (hard_code p call e c.args.at_start c.args.in_hard) (e ∷ []) (draft_of c.args.self.now)
+    (draft_of c.emit_assertion.new.self)) (sym tree)
     (wrote_assertion p call c.args.at_start c.args.in_hard _ _ (info_within i) _ c.in_look_around.result c.in_look_around.ensures (c.emit_assertion.ensures p))

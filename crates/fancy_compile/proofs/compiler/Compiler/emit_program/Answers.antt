@@ -14,7 +14,13 @@ use Rattle.fancy_compile.proofs.Writing.{wrote_then}
 use Rattle.fancy_compile.proofs.compiler.Compiler.emit_program.Goals as goal
 
 pub emit-requires : goal.emit-requires
-emit-requires c = record { analysis = c.requires.whole.0; of_tree = c.requires.whole.1; known = (c.requires.whole.1).root; small = omega arith; fine = (c.requires.whole.1).fine }
+emit-requires c = record {
+  analysis = c.requires.whole.0;
+  of_tree = c.requires.whole.1;
+  known = (c.requires.whole.1).root;
+  small = omega arith;
+  fine = (c.requires.whole.1).fine;
+}
 
 pub returns : goal.returns
 returns c = λ p unicode anchored end_text of_tree.
