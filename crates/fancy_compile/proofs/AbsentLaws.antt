@@ -1,14 +1,15 @@
 -- Absent repeaters, and which nodes stand below a node.
-use Rattle.std.proofs.Common.{◌≡◌, ℕ, ◌+◌, ◌<◌, ◌≤◌, ◌&&◌, ◌||◌, Bool, true, false, List, [], ◌∷◌, ◌++◌, length, map, drop, get_or, if◌then◌else◌, true≢false, refl, sym, ap, ap₂, ◌∙◌, subst, arith}
+use Rattle.std.proofs.Common.{◌≡◌, ℕ, ◌+◌, ◌<◌, ◌≤◌, ◌&&◌, ◌||◌, Bool, true, false, not, List, [], ◌∷◌, length, map, drop, get_or, if◌then◌else◌, true≢false, refl, sym, ap, ap₂, ◌∙◌, subst}
 use Rattle.std.specs.List.{list_any}
-use Rattle.std.proofs.lemmas.List.{length-map}
 use Rattle.std.proofs.lemmas.List.{drop_all}
 use Rattle.fancy_meaning.specs.Tree as plain
-use Rattle.fancy_meaning.specs.Tree.{Tree, Trees, none, more, trees, parts, Within, AbsentRepeater}
+use Rattle.fancy_meaning.specs.Tree.{Tree, Trees, trees, Within, AbsentRepeater}
 use Rattle.fancy_meaning.specs.Nodes.{nodes, nodes_of_each, is_absent}
 use Rattle.fancy_meaning.specs.AnalysisRefusals as refusal
 use Rattle.fancy_meaning.specs.CompileRefusals.{absent_in_hard_repeater, absent_other}
-use Rattle.fancy_meaning.specs.Code.{Code, nothing}
+use Rattle.fancy_meaning.specs.Batches.{fragment, group_range, pattern_of}
+use Rattle.fancy_meaning.specs.Code.{Code, nothing, one}
+use Rattle.fancy_meaning.specs.Instr.{Instr}
 use Rattle.fancy_meaning.specs.Constructs.{absent_code}
 use Rattle.fancy_meaning.specs.Hard.{is_hard}
 use Rattle.fancy_meaning.specs.Options.{Analysis}
@@ -19,28 +20,17 @@ use Rattle.fancy_expr.specs.declared.expr.Expr.{Expr}
 use Rattle.fancy_expr.specs.declared.expr.Expr.TheVariants as code
 use Rattle.fancy_info.specs.declared.info.Info.{Info}
 use Rattle.fancy_info.specs.declared.info.Info.TheViews.{out-Info}
-use Rattle.fancy_expr.specs.Exprs.{below, below_absent}
-use Rattle.fancy_info.specs.Infos.{nth, node_over, absent_over, info_tree, info_within, info_children, info_facts, info_hard, IsFound, IsAnalysed}
-use Rattle.fancy_info.proofs.OverParts.{over-parts}
-use Rattle.fancy_expr.proofs.NodeParts.{nodes-parts}
+use Rattle.fancy_expr.specs.Exprs.{below}
+use Rattle.fancy_info.specs.Infos.{nth, node_over, absent_over, info_tree, info_within, info_children, info_facts}
 use Rattle.std.proofs.Math.Bool.{or-true}
 use Rattle.std.proofs.lemmas.Bool.{and_parts}
 use Rattle.std.proofs.lemmas.List.Folds.{list_any-append}
-use Rattle.fancy_info.proofs.Unfolded.{tree_out, each_here}
+use Rattle.fancy_info.proofs.Unfolded.{tree_out}
 use Rattle.fancy_compile.specs.Faults.{Rejects, refused, out_of_range, HasRejected}
-use Rattle.fancy_compile.specs.Drafts.{Draft, Writes, hard_code}
+use Rattle.fancy_compile.specs.Drafts.{Draft, Writes, hard_code, node_code}
 use Rattle.fancy_compile.specs.Nodes.{is_repeater, is_absent_expr, IsKnown}
-use Rattle.fancy_compile.proofs.Infos.{rest_at}
+use Rattle.fancy_compile.proofs.Infos.{nodes_of_info, rest_at}
 use Rattle.fancy_compile.proofs.Written.{wrote_node, rejected_here, other_absent}
-
--- ---- the nodes below a node
-
-pub nodes_of_info : (a : Analysis) (i : Info) → IsKnown a i → nodes (info_tree i) ≡ info_tree i ∷ nodes_of_each (trees (map info_tree (info_children i)))
-nodes_of_info a i k =
-    let ts = map info_tree (info_children i) in
-    let e = (out-Info i).expr.now in
-    let below_it = over-parts e (out-Info i).start_group (info_within i) ts (length-map (info_children i) info_tree ∙ (k.node).arity) in
-    nodes-parts (info_tree i) ∙ ap (λ t. info_tree i ∷ nodes_of_each t) (ap parts (tree_out i) ∙ below_it)
 
 -- ---- whether an absent node stands below a node
 
@@ -108,10 +98,6 @@ not_repeater p code_absent.Clear es h = other_absent p plain.AbsentClear refl re
 
 -- ---- what is written
 
--- the hardness of an only child
-pub hard_child : (a : Analysis) (i : Info) → IsAnalysed a i → info_hard i ≡ is_hard a (info_tree i)
-hard_child a i h = (each_here (IsFound a) i h).hard ∙ ap (is_hard a) (sym (tree_out i))
-
 module _ (p : Site) (e : Tree) where
   abbrev is_refused : Bool
   is_refused = is_hard p.analysis e && list_any is_absent (nodes e)
@@ -126,9 +112,27 @@ module _ (p : Site) (e : Tree) where
   repeater_fine h x (refused (absent_other i n)) = n e refl
   repeater_fine h x (out_of_range i) = true≢false (sym i)
 
-  pub wrote_absent : (call : ℕ → Bool → Code) (at_start in_hard : Bool) (s t : Draft) → is_refused ≡ false
-      → Writes p (absent_code (hard_code p call e false false)) (e ∷ []) s t
-      → Writes p (hard_code p call (AbsentRepeater e) at_start in_hard) (AbsentRepeater e ∷ []) s t
-  wrote_absent call at_start in_hard s t h w =
-      subst (λ k. Writes p k (AbsentRepeater e ∷ []) s t) (sym (ap (λ b. if b then nothing else absent_code (hard_code p call e false false)) h))
-      (wrote_node p (absent_code (hard_code p call e false false) (length s.instrs) s.fresh) (AbsentRepeater e) s t (repeater_fine h, refl) w)
+  module _ (call : ℕ → Bool → Code) (at_start in_hard : Bool) (s t : Draft) where
+    abbrev Wrote : Type 0
+    Wrote = Writes p (hard_code p call (AbsentRepeater e) at_start in_hard) (AbsentRepeater e ∷ []) s t
+
+    -- by one instruction
+    abbrev at_once : Code
+    at_once = one (Instr.AbsentRepeater (pattern_of p.unicode (e ∷ [])) (fragment p.unicode (e ∷ [])) (group_range (e ∷ [])))
+
+    -- by its code, where the body is easy and where it is not
+    abbrev over_easy : Bool → Code
+    over_easy easy = if easy then at_once else (if is_refused then nothing else absent_code (node_code p call e false false))
+
+    pub wrote_repeater : is_hard p.analysis e ≡ false → Writes p at_once (e ∷ []) s t → Wrote
+    wrote_repeater easy w =
+        let passes : is_refused ≡ false = ap (λ b. b && list_any is_absent (nodes e)) easy in
+        subst (λ k. Writes p k (AbsentRepeater e ∷ []) s t) (sym (ap (λ b. over_easy (not b)) easy))
+        (wrote_node p (at_once (length s.instrs) s.fresh) (AbsentRepeater e) s t (repeater_fine passes, refl) w)
+
+    pub wrote_absent : is_hard p.analysis e ≡ true → is_refused ≡ false → Writes p (absent_code (node_code p call e false false)) (e ∷ []) s t → Wrote
+    wrote_absent hard h w =
+        let body = absent_code (node_code p call e false false) in
+        subst (λ k. Writes p k (AbsentRepeater e ∷ []) s t)
+        (sym (ap (λ b. over_easy (not b)) hard ∙ ap (λ b. if b then nothing else body) h))
+        (wrote_node p (body (length s.instrs) s.fresh) (AbsentRepeater e) s t (repeater_fine h, refl) w)

@@ -1,21 +1,22 @@
 -- Calls: what they call is written anew, below one more open call.
-use Rattle.std.proofs.Common.{◌≡◌, ℕ, zero, suc, ◌+◌, ◌-◌, ◌*◌, ◌<◌, ◌≤◌, ◌||◌, inl, inr, Bool, true, [], ◌∷◌, length, Option, Some, None, nat_eq, nat_lt, true≢false, refl, sym, ap, ap₂, ◌∙◌, subst, arith, lt-ltb, le-ltb, add-one, Bor}
+use Rattle.std.proofs.Common.{◌≡◌, ℕ, zero, suc, ◌+◌, ◌-◌, ◌*◌, ◌<◌, ◌≤◌, ◌||◌, ◌&&◌, ◌==◌, inl, inr, Bool, true, false, not, [], ◌∷◌, length, Option, Some, None, nat_eq, nat_lt, true≢false, refl, sym, ap, ap₂, ◌∙◌, subst, arith, lt-ltb, le-ltb, add-one, Bor}
 use Rattle.std.specs.List.{list_any}
 use Rattle.std.proofs.lemmas.Bool.{cond-true, cond-false}
 use Rattle.std.proofs.lemmas.Option.{none-some}
 use Rattle.std.proofs.Math.Nat.{mul-le-mul_left, mul-suc}
 use Rattle.std.proofs.Math.Path.{fun_ext}
-use Rattle.fancy_meaning.specs.Tree.{Tree, SubroutineCall}
+use Rattle.fancy_meaning.specs.Tree.{Tree, Group, SubroutineCall}
 use Rattle.fancy_meaning.specs.AnalysisRefusals as refusal
-use Rattle.fancy_meaning.specs.CompileRefusals.{missing_group, absent_other}
-use Rattle.fancy_meaning.specs.Nodes.{target, is_read}
+use Rattle.fancy_meaning.specs.CompileRefusals.{here, there, missing_group, absent_other}
+use Rattle.fancy_meaning.specs.Hard.{is_hard, is_root_hard}
+use Rattle.fancy_meaning.specs.Nodes.{target}
 use Rattle.fancy_meaning.specs.OpenCalls.{opened, call_depth, free_calls}
 use Rattle.fancy_meaning.specs.Code.{Code, Laid, one}
-use Rattle.fancy_meaning.specs.Constructs.{group_code}
 use Rattle.fancy_meaning.specs.Instr.{Instr}
-use Rattle.fancy_meaning.specs.Layout.{called_code, target_code, fail_code}
+use Rattle.fancy_meaning.specs.Layout.{called_code, is_root_easy, target_code, fail_code}
 use Rattle.fancy_meaning.specs.Marks.{marked_groups}
-use Rattle.fancy_meaning.specs.Options.{Analysis}
+use Rattle.fancy_meaning.specs.Options.{Analysis, Plan}
+use Rattle.fancy_meaning.specs.Sizes.{size}
 use Rattle.fancy_laws.proofs.Calls.{opening_lowers}
 use Rattle.fancy_expr.specs.declared.error.Error.{Error}
 use Rattle.fancy_expr.specs.declared.error.Error.TheVariants as error
@@ -25,11 +26,11 @@ use Rattle.fancy_compile.specs.declared.calls.OpenCall.{OpenCall}
 use Rattle.fancy_compile.specs.declared.calls.OpenCall.TheViews.{roll-OpenCall}
 use Rattle.fancy_compile.specs.OpenDepths.{depths_in, depths_of}
 use Rattle.fancy_compile.specs.Sites.{Site, under_call}
-use Rattle.fancy_compile.specs.Faults.{IsBelow, itself, below, through, Rejects, MayReject, rejected, too_big, refused, out_of_range, IsCompilable, HasRejected}
-use Rattle.fancy_compile.specs.Drafts.{Draft, Breaks, Turns, Adds, Writes, no_node, hard_code}
+use Rattle.fancy_compile.specs.Faults.{IsBelow, itself, below, through, Rejects, MayReject, rejected, too_big, refused, out_of_range, IsCompilable, IsRejected, HasRejected}
+use Rattle.fancy_compile.specs.Drafts.{Draft, Breaks, Turns, Adds, Writes, code_in, is_easy, hard_code}
 use Rattle.fancy_compile.specs.Nodes.{IsScopeOf, IsScopeAt, work, work_by, node_count}
 use Rattle.fancy_compile.proofs.Writing.{adds_to}
-use Rattle.fancy_compile.proofs.Written.{rejected_here}
+use Rattle.fancy_compile.proofs.Written.{rejected_here, safe_fine}
 use Rattle.fancy_compile.proofs.OpenDepths.{depth_by, depth_rolled}
 
 pub missing_refused : (p : Site) (g : ℕ) → target p.analysis.tree g ≡ None → HasRejected p (SubroutineCall g ∷ []) refusal.SubroutineCallTargetNotFound
@@ -42,7 +43,7 @@ module _ (p : Site) (g : ℕ) (b : Tree) (at : target p.analysis.tree g ≡ Some
   call_fine x (out_of_range i) = true≢false (sym i)
 
   same_body : (c : Tree) → target p.analysis.tree g ≡ Some c → b ≡ c
-  same_body c there = ap held (sym at ∙ there)
+  same_body c found = ap held (sym at ∙ found)
     where
       held : Option Tree → Tree
       held None = b
@@ -53,17 +54,17 @@ module _ (p : Site) (g : ℕ) (b : Tree) (at : target p.analysis.tree g ≡ Some
   full_accepted : call_depth ≤ p.depths g → IsCompilable p (SubroutineCall g)
   full_accepted full d itself x r = call_fine x r
   full_accepted full d (below i h) x r = elim i [ ]
-  full_accepted full d (through lt there h) x r = absurd (omega (arith, full, lt))
+  full_accepted full d (through lt found h) x r = absurd (omega (arith, full, lt))
 
-  full_code : (n : ℕ) (in_hard : Bool) → call_depth ≤ p.depths g → called_code p.plan no_node n p.depths g in_hard ≡ one Instr.Fail
+  full_code : (n : ℕ) (in_hard : Bool) → call_depth ≤ p.depths g → called_code p.plan (is_easy p.analysis) n p.depths g in_hard ≡ one Instr.Fail
   full_code zero in_hard full = ap fail_code at
   full_code (suc n) in_hard full =
       cond-false (nat_lt (p.depths g) call_depth)
-      (target_code p.plan no_node g (called_code p.plan no_node n (opened g p.depths)) in_hard (target p.analysis.tree g))
+      (target_code p.plan (is_easy p.analysis) g (called_code p.plan (is_easy p.analysis) n (opened g p.depths)) in_hard (target p.analysis.tree g))
       (fail_code (target p.analysis.tree g)) (le-ltb (p.depths g) call_depth full)
       ∙ ap fail_code at
 
-  pub wrote_full : (call : ℕ → Bool → Code) (n : ℕ) (at_start in_hard : Bool) (s t : Draft) → call ≡ called_code p.plan no_node n p.depths
+  pub wrote_full : (call : ℕ → Bool → Code) (n : ℕ) (at_start in_hard : Bool) (s t : Draft) → call ≡ called_code p.plan (is_easy p.analysis) n p.depths
       → call_depth ≤ p.depths g → Writes p (one Instr.Fail) [] s t → Writes p (hard_code p call (SubroutineCall g) at_start in_hard) (SubroutineCall g ∷ []) s t
   wrote_full call n at_start in_hard s t is full h =
       subst (λ k. Adds p (k (length s.instrs) s.fresh) (SubroutineCall g ∷ []) s t) (sym (ap (λ f. f g in_hard) is ∙ full_code n in_hard full))
@@ -91,7 +92,7 @@ module _ (p : Site) (g : ℕ) (b : Tree) (at : target p.analysis.tree g ≡ Some
     open_accepted : IsCompilable inside b → IsCompilable p (SubroutineCall g)
     open_accepted ok d itself x r = call_fine x r
     open_accepted ok d (below i h) x r = elim i [ ]
-    open_accepted ok d (through {body = c} lt there h) x r = ok d (subst (λ e. IsBelow p.analysis.tree (opened g p.depths) e d) (sym (same_body c there)) h) x
+    open_accepted ok d (through {body = c} lt found h) x r = ok d (subst (λ e. IsBelow p.analysis.tree (opened g p.depths) e d) (sym (same_body c found)) h) x
         (rejects_in d x r)
 
     open_breaks : (a : Laid) (s : Draft) (x : Error) → Breaks inside a (b ∷ []) s x → Breaks p a (SubroutineCall g ∷ []) s x
@@ -114,34 +115,64 @@ module _ (p : Site) (g : ℕ) (b : Tree) (at : target p.analysis.tree g ≡ Some
 
     -- the calls below, with one fewer to open
     abbrev pub inner_call : ℕ → ℕ → Bool → Code
-    inner_call n = called_code p.plan no_node n (opened g p.depths)
+    inner_call n = called_code p.plan (is_easy p.analysis) n (opened g p.depths)
 
-    called_open : (n : ℕ) (in_hard : Bool) → called_code p.plan no_node (suc n) p.depths g in_hard ≡ target_code p.plan no_node g (inner_call n) in_hard
-        (Some b)
+    called_open : (n : ℕ) (in_hard : Bool) → called_code p.plan (is_easy p.analysis) (suc n) p.depths g in_hard ≡
+        target_code p.plan (is_easy p.analysis) g (inner_call n) in_hard (Some b)
     called_open n in_hard =
-        cond-true (nat_lt (p.depths g) call_depth) (target_code p.plan no_node g (inner_call n) in_hard (target p.analysis.tree g))
+        cond-true (nat_lt (p.depths g) call_depth) (target_code p.plan (is_easy p.analysis) g (inner_call n) in_hard (target p.analysis.tree g))
         (fail_code (target p.analysis.tree g)) (lt-ltb (p.depths g) call_depth free)
-        ∙ ap (target_code p.plan no_node g (inner_call n) in_hard) at
+        ∙ ap (target_code p.plan (is_easy p.analysis) g (inner_call n) in_hard) at
 
-    pub wrote_open : (call : ℕ → Bool → Code) (n : ℕ) (at_start in_hard : Bool) (s t : Draft) → call ≡ called_code p.plan no_node (suc n) p.depths
-        → Writes inside (target_code p.plan no_node g (inner_call n) in_hard (Some b)) (b ∷ []) s t
+    pub wrote_open : (call : ℕ → Bool → Code) (n : ℕ) (at_start in_hard : Bool) (s t : Draft) → call ≡ called_code p.plan (is_easy p.analysis) (suc n) p.depths
+        → Writes inside (target_code p.plan (is_easy p.analysis) g (inner_call n) in_hard (Some b)) (b ∷ []) s t
         → Writes p (hard_code p call (SubroutineCall g) at_start in_hard) (SubroutineCall g ∷ []) s t
     wrote_open call n at_start in_hard s t is h =
         subst (λ k. Adds p (k (length s.instrs) s.fresh) (SubroutineCall g ∷ []) s t) (sym (ap (λ f. f g in_hard) is ∙ called_open n in_hard))
-        (open_adds (target_code p.plan no_node g (inner_call n) in_hard (Some b) (length s.instrs) s.fresh) s t h)
+        (open_adds (target_code p.plan (is_easy p.analysis) g (inner_call n) in_hard (Some b) (length s.instrs) s.fresh) s t h)
 
     pub lower : free_calls p.analysis.tree (opened g p.depths) < free_calls p.analysis.tree p.depths
     lower = opening_lowers p.analysis.tree g p.depths b at free
 
--- the code of what is called
+-- ---- the code of what is called
+
+not_or : (x y : Bool) → not (x || y) ≡ (not x && not y)
+not_or true y = refl
+not_or false y = refl
+
+-- the whole tree is written as its hardness says
+pub root_by : (p : Plan) (hard : Bool) → hard ≡ is_root_hard p.analysis → not hard ≡ is_root_easy p (is_easy p.analysis)
+root_by p hard is =
+    ap not is ∙ not_or (is_hard p.analysis p.analysis.tree) (p.analysis.end_text && (size p.analysis.tree p.analysis.tree).least == 0)
+
 module _ (p : Site) (in_hard : Bool) (inner : ℕ → Bool → Code) (b : Tree) where
-  pub code_of_zero : (g : ℕ) → g ≡ 0 → target_code p.plan no_node g inner in_hard (Some b) ≡ hard_code p inner p.analysis.tree true in_hard
-  code_of_zero g is = ap (λ n. target_code p.plan no_node n inner in_hard (Some b)) is
+  pub code_of_zero : (g : ℕ) → g ≡ 0 → target_code p.plan (is_easy p.analysis) g inner in_hard (Some b) ≡
+      code_in p inner (is_root_easy p.plan (is_easy p.analysis)) p.analysis.tree true in_hard
+  code_of_zero g is = ap (λ n. target_code p.plan (is_easy p.analysis) n inner in_hard (Some b)) is
 
   pub code_of_group : (g : ℕ) (starts : Bool) → ¬ (g ≡ 0) → starts ≡ list_any (nat_eq g) (marked_groups p.analysis.tree p.analysis.tree)
-      → target_code p.plan no_node g inner in_hard (Some b) ≡ group_code g (hard_code p inner b starts (in_hard || is_read p.analysis.tree g))
+      → target_code p.plan (is_easy p.analysis) g inner in_hard (Some b) ≡ hard_code p inner (Group g b) starts in_hard
   code_of_group zero starts h is = absurd (h refl)
-  code_of_group (suc g) starts h is = ap (λ m. group_code (suc g) (hard_code p inner b m (in_hard || is_read p.analysis.tree (suc g)))) (sym is)
+  code_of_group (suc g) starts h is = ap (λ m. hard_code p inner (Group (suc g) b) m in_hard) (sym is)
+
+-- a group that is written out anew, as its body
+module _ (p : Site) (g : ℕ) (b : Tree) where
+  body_compilable : IsCompilable p (Group g b) → IsCompilable p b
+  body_compilable h d inside = h d (below here inside)
+
+  body_rejected : (d : Tree) (x : refusal.CompileError) → IsBelow p.analysis.tree p.depths (Group g b) d → MayReject p d x → IsRejected p b x
+  body_rejected d x itself (rejected r) = absurd ((safe_fine p (Group g b) refl refl).0 x r)
+  body_rejected d x (below here h) r = record { node = d; is_below = h; rejects = r }
+  body_rejected d x (below (there i) h) r = elim i [ ]
+
+  has_rejected : (x : refusal.CompileError) → HasRejected p (Group g b ∷ []) x → HasRejected p (b ∷ []) x
+  has_rejected x (inl r) = inl (body_rejected r.node x r.is_below r.rejects)
+  has_rejected x (inr r) = absurd r
+
+  pub wrote_body : (k : Code) (s t : Draft) → Writes p k (Group g b ∷ []) s t → Writes p k (b ∷ []) s t
+  wrote_body k s t h =
+      adds_to p (k (length s.instrs) s.fresh) (k (length s.instrs) s.fresh) (Group g b ∷ []) (b ∷ []) s t t (omega arith) (λ x. x)
+      (λ a. (body_compilable a.0, tt)) has_rejected h refl refl
 
 -- ---- the scope below an open call
 
@@ -153,7 +184,16 @@ abbrev pub one_more : ℕ → ℕ → Option (Bor OpenCall) → OpenCall
 one_more g depth outer = roll-OpenCall (record { group = g; depth = depth; outer = outer })
 
 pub same_tree : (a : Analysis) (scope : Scope) (calls : Option (Bor OpenCall)) → IsScopeOf a scope → IsScopeOf a (record scope { calls = calls })
-same_tree a scope calls s = record { tree = s.tree; root = s.root; bodies = s.bodies; numbers = s.numbers; known = s.known; starts = s.starts }
+same_tree a scope calls s = record {
+  tree = s.tree;
+  root = s.root;
+  hard = s.hard;
+  fine = s.fine;
+  nodes = s.nodes;
+  numbers = s.numbers;
+  known = s.known;
+  starts = s.starts;
+}
 
 module _ (g depth : ℕ) (outer : Option (Bor OpenCall)) (deeper : depth ≡ depths_of outer g + 1) where
   depth_at : (h : ℕ) → opened g (depths_of outer) h ≡ depths_in (one_more g depth outer) h
@@ -192,7 +232,7 @@ module _ (p : Site) (call : ℕ → Bool → Code) (scope : Scope) (u : IsScopeA
   budget_is = omega (arith, below_lower, u.enough)
 
   abbrev pub inner_code : ℕ → Bool → Code
-  inner_code = called_code p.plan no_node left (opened g p.depths)
+  inner_code = called_code p.plan (is_easy p.analysis) left (opened g p.depths)
 
   pub inner_u : (depth : ℕ) → depth ≡ depths_of scope.calls g + 1 → (pointer : ℕ × ℕ)
       → IsScopeAt (under_call g p) inner_code (record scope { calls = Some (record { ref_ptr = pointer; now = one_more g depth scope.calls }) })
@@ -205,7 +245,8 @@ module _ (p : Site) (call : ℕ → Bool → Code) (scope : Scope) (u : IsScopeA
     calls = refl;
   }
 
-  pub wrote_called : (at_start in_hard : Bool) (s t : Draft) → Writes (under_call g p) (target_code p.plan no_node g inner_code in_hard (Some b)) (b ∷ []) s t
+  pub wrote_called : (at_start in_hard : Bool) (s t : Draft)
+      → Writes (under_call g p) (target_code p.plan (is_easy p.analysis) g inner_code in_hard (Some b)) (b ∷ []) s t
       → Writes p (hard_code p call (SubroutineCall g) at_start in_hard) (SubroutineCall g ∷ []) s t
   wrote_called at_start in_hard s t h =
-      wrote_open p g b at free call left at_start in_hard s t (u.calls ∙ ap (λ n. called_code p.plan no_node n p.depths) budget_is) h
+      wrote_open p g b at free call left at_start in_hard s t (u.calls ∙ ap (λ n. called_code p.plan (is_easy p.analysis) n p.depths) budget_is) h

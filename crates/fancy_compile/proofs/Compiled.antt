@@ -8,7 +8,7 @@ use Rattle.fancy_meaning.specs.Options as plain
 use Rattle.fancy_meaning.specs.Options.{Plan}
 use Rattle.fancy_meaning.specs.AnalysisRefusals as refusal
 use Rattle.fancy_meaning.specs.CompileRefusals.{IsWritten, root, part, callee, IsAmong, written_parts, CompileRefuses, refused_node, too_long, bytes_mode}
-use Rattle.fancy_meaning.specs.Layout.{program_code, first_fresh, undelegated_layout}
+use Rattle.fancy_meaning.specs.Layout.{program_code, first_fresh, layout}
 use Rattle.fancy_meaning.specs.Nodes.{group_count, target}
 use Rattle.fancy_meaning.specs.OpenCalls.{Depths, opened, no_calls, call_depth}
 use Rattle.fancy_compile.specs.Sites.{top}
@@ -21,7 +21,7 @@ use Rattle.fancy_compile.specs.Kinds.{is_out_of_range}
 use Rattle.fancy_compile.specs.Faults as faults
 use Rattle.fancy_expr.specs.Errors.{error_of}
 use Rattle.fancy_compile.specs.Faults.{MayReject, rejected, IsBelow, itself, below, through, Rejects, refused, out_of_range, IsCompilable}
-use Rattle.fancy_compile.specs.Drafts.{Draft, IsOver, Extends, Breaks, Turns, Writes, no_node}
+use Rattle.fancy_compile.specs.Drafts.{Draft, IsOver, Extends, Breaks, Turns, Writes, is_easy}
 use Rattle.fancy_compile.specs.Compiled.{refuses, too_big, Refuses, MayAnswer, Compiles}
 
 some_same : (a b : Tree) → Some a ≡ Some b → a ≡ b
@@ -67,10 +67,10 @@ module _ (p : Plan) where
   -- ---- what is written
 
   abbrev pub whole_code : Laid
-  whole_code = program_code p no_node 0 (first_fresh p)
+  whole_code = program_code p (is_easy p.analysis) 0 (first_fresh p)
 
-  pub body_is : (undelegated_layout p).body ≡ whole_code.instrs
-  unfolding undelegated_layout
+  pub body_is : (layout p).body ≡ whole_code.instrs
+  unfolding layout
   body_is = refl
 
   -- each node that is written has its slot
@@ -83,7 +83,7 @@ module _ (p : Plan) where
   refused_at ranged e x w (faults.too_big {casei = casei}) = too_big (casei, w)
 
   refused_over : (most : Option ℕ) → p.max_prog_size ≡ most → IsOver most (length whole_code.instrs)
-      → CompileRefuses p (length (undelegated_layout p).body) refusal.PatternTooComplex
+      → CompileRefuses p (length (layout p).body) refusal.PatternTooComplex
   refused_over None same h = absurd h
   refused_over (Some most) same h = too_long same (omega (arith, h, ap length body_is))
 
@@ -116,12 +116,12 @@ module _ (p : Plan) where
   abbrev pub start : ℕ → Draft
   start fresh = record { instrs = []; fresh = fresh; limit = p.max_prog_size; fault = None }
 
-  pub error_may_answer : AllInRange → (t : Draft) (x : Error) → Writes (top p) (program_code p no_node) (whole ∷ []) (start (first_fresh p)) t
+  pub error_may_answer : AllInRange → (t : Draft) (x : Error) → Writes (top p) (program_code p (is_easy p.analysis)) (whole ∷ []) (start (first_fresh p)) t
       → t.fault ≡ Some x → Compiles p (Err x)
   error_may_answer ranged t x h is = refused_breaks ranged (start (first_fresh p)) refl refl x
       (subst (Turns (top p) whole_code (whole ∷ []) (start (first_fresh p)) t None) is h.turns)
 
-  pub written : (t : Draft) → Writes (top p) (program_code p no_node) (whole ∷ []) (start (first_fresh p)) t → t.fault ≡ None
+  pub written : (t : Draft) → Writes (top p) (program_code p (is_easy p.analysis)) (whole ∷ []) (start (first_fresh p)) t → t.fault ≡ None
       → Extends whole_code (start (first_fresh p)) t × IsCompilable (top p) whole
   written t h is =
       let done = subst (Turns (top p) whole_code (whole ∷ []) (start (first_fresh p)) t None) is h.turns in
@@ -143,8 +143,8 @@ module _ (p : Plan) where
 
   pub same_program : (body : List Instr) (max_size total slots : ℕ) (explicit not_empty : Bool) → body ≡ whole_code.instrs → max_size ≡ (size whole whole).most
       → total ≡ group_count whole → slots ≡ max 2 whole_code.fresh → explicit ≡ (p.analysis.options).explicit_capture_group_0
-      → not_empty ≡ (p.analysis.options).find_not_empty → made body max_size total slots explicit not_empty ≡ undelegated_layout p
-  unfolding undelegated_layout
+      → not_empty ≡ (p.analysis.options).find_not_empty → made body max_size total slots explicit not_empty ≡ layout p
+  unfolding layout
   same_program body max_size total slots explicit not_empty b m g s e n =
       ap (λ x. made x max_size total slots explicit not_empty) b
       ∙ ap (λ x. made whole_code.instrs x total slots explicit not_empty) m

@@ -5,7 +5,7 @@ use Rattle.fancy_meaning.specs.Nodes.{group_count}
 use Rattle.fancy_meaning.specs.Instr.{Instr}
 use Rattle.fancy_meaning.specs.Options.{AnalysisOptions, Plan}
 use Rattle.fancy_meaning.specs.Sizes.{Size, size}
-use Rattle.fancy_meaning.specs.Layout.{program_code, first_fresh, undelegated_layout}
+use Rattle.fancy_meaning.specs.Layout.{program_code, first_fresh, layout}
 use Rattle.fancy_meaning.specs.Premises.{Analysed, analysis}
 use Rattle.fancy_info.specs.declared.info.Info.{Info}
 use Rattle.fancy_info.specs.Infos.{IsRoot, info_size, info_facts}
@@ -14,14 +14,14 @@ use Rattle.fancy_compile.specs.declared.scope.Scope.{Scope}
 use Rattle.fancy_compile.specs.GroupTables.{IsTable}
 use Rattle.fancy_compile.specs.Nodes.{IsScopeOf}
 use Rattle.fancy_compile.specs.Sites.{top}
-use Rattle.fancy_compile.specs.Drafts.{Draft, Extends, Writes, no_node}
+use Rattle.fancy_compile.specs.Drafts.{Draft, Extends, Writes, is_easy}
 use Rattle.fancy_meaning.specs.AnalysisRefusals.{CompileError, AnalysisRefuses}
 use Rattle.fancy_meaning.specs.Fits.{program_fits}
 use Rattle.fancy_fits.proofs.Programs.{layouts_fit}
 use Rattle.fancy_compile.specs.Compiled.{IsWritingOf, MayCompile, compile_options_of, plan_with}
-use Rattle.fancy_compile.proofs.Called.{table_bodies, table_numbers, table_known, table_starts}
+use Rattle.fancy_compile.proofs.Called.{table_nodes, table_numbers, table_known, table_starts}
 use Rattle.fancy_compile.proofs.Infos.{size_known}
-use Rattle.fancy_compile.proofs.Roots.{root_known}
+use Rattle.fancy_compile.proofs.Roots.{root_fine, root_known}
 use Rattle.fancy_compile.proofs.Compiled.{start, whole_code, made, same_program}
 
 -- the scope of the root, with the table of its groups
@@ -35,7 +35,9 @@ scope_of_table a scope r explicit read first is t =
     record {
       tree = r.tree;
       root = root_known a i r;
-      bodies = table_bodies a i r first g t;
+      hard = r.hard;
+      fine = root_fine a i r;
+      nodes = table_nodes a i r first g t;
       numbers = table_numbers a i r first g t from;
       known = table_known a i r first g t;
       starts = table_starts a i r first g t;
@@ -65,15 +67,15 @@ module _ (a : Analysed) (i : Info) (o : CompileOptions) (m : MayCompile a i o) w
 
     -- the writing begins as the layout does
     pub writing_from_start : (instrs : List Instr) (fresh : ℕ) (t : Draft) → instrs ≡ [] → fresh ≡ fresh_by explicit total
-        → Writes (top p) (program_code p no_node) (whole ∷ []) (draft instrs fresh) t → IsWritingOf p t
+        → Writes (top p) (program_code p (is_easy p.analysis)) (whole ∷ []) (draft instrs fresh) t → IsWritingOf p t
     writing_from_start instrs fresh t none at h =
-        subst (λ n. Writes (top p) (program_code p no_node) (whole ∷ []) (draft [] n) t) (at ∙ fresh_is)
-        (subst (λ l. Writes (top p) (program_code p no_node) (whole ∷ []) (draft l fresh) t) none h)
+        subst (λ n. Writes (top p) (program_code p (is_easy p.analysis)) (whole ∷ []) (draft [] n) t) (at ∙ fresh_is)
+        (subst (λ l. Writes (top p) (program_code p (is_easy p.analysis)) (whole ∷ []) (draft l fresh) t) none h)
 
     -- the parts are those of the layout
     pub finish_compiles : (not_empty : Bool) → not_empty ≡ ((info_facts i).options).find_not_empty → (most slots : ℕ) (t : Draft) → most ≡ (info_size i).most
         → Extends (whole_code p) (start p (first_fresh p)) t → slots ≡ max 2 t.fresh
-        → made p t.instrs most total slots explicit not_empty ≡ undelegated_layout p
+        → made p t.instrs most total slots explicit not_empty ≡ layout p
     finish_compiles not_empty not_empty_read most slots t size_is e room =
         same_program p t.instrs most total slots explicit not_empty e.instrs
         (size_is ∙ ap (λ (s : Size). s.most) (size_known i (analysis a) (root_known a i m.root) ∙ ap (size whole) (m.root).tree))
@@ -81,5 +83,5 @@ module _ (a : Analysed) (i : Info) (o : CompileOptions) (m : MayCompile a i o) w
 
 -- the machine takes the program
 pub fits : (a : Analysed) (o : CompileOptions) → ((error : CompileError) → ¬ AnalysisRefuses a.parsed a.options error)
-    → program_fits (undelegated_layout (plan_with a o)) ≡ true
-fits a o accepted = (layouts_fit (record { parsed = a.parsed; analysis = a.options; options = compile_options_of o }) accepted).0
+    → program_fits (layout (plan_with a o)) ≡ true
+fits a o accepted = (layouts_fit (record { parsed = a.parsed; analysis = a.options; options = compile_options_of o }) accepted).1

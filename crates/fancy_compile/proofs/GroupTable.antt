@@ -1,12 +1,11 @@
--- The table of what calls may name: the bodies of the groups, and the marks of those with which a match may begin.
+-- The table of what calls may name: the groups, and the marks of those with which a match may begin.
 use Rattle.std.proofs.Common.{◌≡◌, ℕ, zero, suc, ◌+◌, ◌<◌, ◌≤◌, ◌&&◌, ◌||◌, Bool, true, false, List, [], ◌∷◌, ◌++◌, length, map, drop, filter_map, get_or, Some, None, if◌then◌else◌, nat_eq, nat_lt, true≢false, refl, sym, ap, ap₂, ◌∙◌, arith, append-nil, eq-eqb, ne_eqb}
 use Rattle.std.specs.Prelude.{slice_index_or}
 use Rattle.std.specs.List.{list_any}
 use Rattle.std.proofs.lemmas.List.Folds.{list_any-append}
-use Rattle.std.proofs.lemmas.List.{length-map, map-append, drop_all}
+use Rattle.std.proofs.lemmas.List.{map-append, drop_all}
 use Rattle.std.proofs.lemmas.List.Elements.{filter_map-append}
-use Rattle.fancy_meaning.specs.Tree as plain
-use Rattle.fancy_meaning.specs.Tree.{Tree, Trees, none, more, trees, Within}
+use Rattle.fancy_meaning.specs.Tree.{Tree, Trees, trees, Within}
 use Rattle.fancy_meaning.specs.Marks.{takes_nothing, marked_groups, group_number, marked_nodes, first_marked_nodes}
 use Rattle.fancy_meaning.specs.Nodes.{nodes, nodes_of_each, as_group, groups, target, body_in}
 use Rattle.fancy_meaning.specs.Options.{Analysis}
@@ -17,64 +16,60 @@ use Rattle.fancy_expr.specs.declared.expr.Expr.TheVariants as code
 use Rattle.fancy_info.specs.declared.info.Info.{Info}
 use Rattle.fancy_info.specs.declared.info.Info.TheViews.{out-Info}
 use Rattle.fancy_expr.specs.Exprs.{below}
-use Rattle.fancy_info.specs.Infos.{nth, node_over, absent_over, info_tree, info_within, info_children, info_facts, IsAnalysed}
-use Rattle.fancy_expr.specs.Each.{Each}
+use Rattle.fancy_info.specs.Infos.{node_over, absent_over, info_tree, info_within, info_children, info_facts, IsAnalysed}
 use Rattle.fancy_info.proofs.Unfolded.{tree_out}
-use Rattle.fancy_compile.specs.Nodes.{AreNumbered, IsKnown, node_count}
+use Rattle.fancy_compile.specs.Nodes.{AreNumbered, IsKnown, group_node, node_count}
 use Rattle.fancy_compile.specs.GroupTables.{is_group, is_concat, group_trees, own_trees, MarksAll}
-use Rattle.fancy_compile.proofs.Infos.{rest_at, only_one, known_child, each_at, node_count-below, child_count}
-use Rattle.fancy_compile.proofs.AbsentLaws.{nodes_of_info}
+use Rattle.fancy_compile.proofs.Infos.{nodes_of_info, rest_at, only_one, known_child, each_at, node_count-below, child_count}
 
--- ---- the bodies of a node's groups
+-- ---- a node's groups
 
 abbrev pub each_group_trees : List Info → List Tree
 each_group_trees [] = []
 each_group_trees (i ∷ is) = group_trees (info_tree i) ++ each_group_trees is
 
--- the bodies among these nodes
-abbrev bodies_among : List Tree → List Tree
-bodies_among es = map (λ h. h.1) (filter_map as_group es)
+-- the groups among these nodes
+abbrev groups_among : List Tree → List Tree
+groups_among es = map group_node (filter_map as_group es)
 
-among-append : (a b : List Tree) → bodies_among (a ++ b) ≡ bodies_among a ++ bodies_among b
-among-append a b = ap (map (λ h. h.1)) (filter_map-append as_group a b) ∙ map-append (λ h. h.1) (filter_map as_group a) (filter_map as_group b)
+among-append : (a b : List Tree) → groups_among (a ++ b) ≡ groups_among a ++ groups_among b
+among-append a b = ap (map group_node) (filter_map-append as_group a b) ∙ map-append group_node (filter_map as_group a) (filter_map as_group b)
 
-in_among : (e : Tree) → group_trees e ≡ bodies_among (nodes e)
+in_among : (e : Tree) → group_trees e ≡ groups_among (nodes e)
 unfolding groups
 in_among e = refl
 
-each-among : (is : List Info) → bodies_among (nodes_of_each (trees (map info_tree is))) ≡ each_group_trees is
+each-among : (is : List Info) → groups_among (nodes_of_each (trees (map info_tree is))) ≡ each_group_trees is
 each-among [] = refl
 each-among (i ∷ is) =
     among-append (nodes (info_tree i)) (nodes_of_each (trees (map info_tree is)))
-    ∙ ap (λ l. l ++ bodies_among (nodes_of_each (trees (map info_tree is)))) (sym (in_among (info_tree i)))
+    ∙ ap (λ l. l ++ groups_among (nodes_of_each (trees (map info_tree is)))) (sym (in_among (info_tree i)))
     ∙ ap (λ l. group_trees (info_tree i) ++ l) (each-among is)
 
 module _ (n : ℕ) (w : Within) where
-  absent_alone : (a : Absent) (es : Trees) → bodies_among (absent_over a es ∷ []) ≡ []
+  absent_alone : (a : Absent) (es : Trees) → groups_among (absent_over a es ∷ []) ≡ []
   absent_alone (code_absent.Repeater' b e) es = refl
   absent_alone (code_absent.Expression' b a c e) es = refl
   absent_alone (code_absent.Stopper' b e) es = refl
   absent_alone code_absent.Clear es = refl
 
-  group_alone : (ts : List Tree) → length ts ≡ 1 → bodies_among (plain.Group n (nth (trees ts) 0) ∷ []) ≡ own_trees true ts
-  group_alone [] h = absurd (omega arith)
-  group_alone (t ∷ ts) h = refl
+  over_alone : (e : Expr) (es : Trees) → groups_among (node_over e n w es ∷ []) ≡ own_trees (is_group e) (node_over e n w es)
+  over_alone (code.Group' b e) es = refl
+  over_alone (code.Absent a) es = absent_alone a es
+  over_alone e es = refl
 
-  over_alone : (e : Expr) (ts : List Tree) → length ts ≡ length (below e) → bodies_among (node_over e n w (trees ts) ∷ []) ≡ own_trees (is_group e) ts
-  over_alone (code.Group' b e) ts h = group_alone ts h
-  over_alone (code.Absent a) ts h = absent_alone a (trees ts)
-  over_alone e ts h = refl
+own_groups : (i : Info) → groups_among (info_tree i ∷ []) ≡ own_trees (is_group (info_facts i).expr) (info_tree i)
+own_groups i =
+    let es = trees (map info_tree (info_children i)) in
+    ap (λ t. groups_among (t ∷ [])) (tree_out i) ∙ over_alone (out-Info i).start_group (info_within i) (out-Info i).expr.now es
+    ∙ ap (own_trees (is_group (info_facts i).expr)) (sym (tree_out i))
 
 pub groups_of_info : (a : Analysis) (i : Info) → IsKnown a i → group_trees (info_tree i) ≡ own_trees (is_group (info_facts i).expr)
-    (map info_tree (info_children i)) ++ each_group_trees (info_children i)
+    (info_tree i) ++ each_group_trees (info_children i)
 groups_of_info a i k =
-    let ts = map info_tree (info_children i) in
-    in_among (info_tree i) ∙ ap bodies_among (nodes_of_info a i k)
-    ∙ among-append (info_tree i ∷ []) (nodes_of_each (trees ts))
-    ∙ ap₂ (λ x y. x ++ y)
-    (ap (λ t. bodies_among (t ∷ [])) (tree_out i) ∙ over_alone (out-Info i).start_group (info_within i) (out-Info i).expr.now ts
-    (length-map (info_children i) info_tree ∙ (k.node).arity))
-    (each-among (info_children i))
+    in_among (info_tree i) ∙ ap groups_among (nodes_of_info a i k)
+    ∙ among-append (info_tree i ∷ []) (nodes_of_each (trees (map info_tree (info_children i))))
+    ∙ ap₂ (λ x y. x ++ y) (own_groups i) (each-among (info_children i))
 
 pub each_rest : (l : List Info) (i : ℕ) (x : Info) → i < length l → x ≡ get_or l i x
     → each_group_trees (drop i l) ≡ group_trees (info_tree x) ++ each_group_trees (drop (i + 1) l)
@@ -82,10 +77,6 @@ each_rest l i x lt at = ap each_group_trees (rest_at l i x lt at)
 
 pub each_done : (l : List Info) (i : ℕ) → length l ≤ i → each_group_trees (drop i l) ≡ []
 each_done l i end = ap each_group_trees (drop_all i l end)
-
-pub each_append : {X : Type 0} (P : X → Type 0) (l : List X) (x : X) → Each P l → P x → Each P (l ++ x ∷ [])
-each_append P [] x h hx = (hx, tt)
-each_append P (y ∷ l) x h hx = (h.0, each_append P l x h.1 hx)
 
 -- ---- marks
 
@@ -203,9 +194,6 @@ module _ (i b : Info) (g : is_group (info_facts i).expr ≡ true) (at : b ≡ ge
   pub body_smaller : node_count b < node_count i
   body_smaller = omega (arith, node_count-below i, child_count (info_children i) 0 b (omega (arith, one_child)) at)
 
-  pub own_body : own_trees (is_group (info_facts i).expr) (map info_tree (info_children i)) ≡ info_tree b ∷ []
-  own_body = ap (λ t. own_trees t (map info_tree (info_children i))) g ∙ ap (λ l. own_trees true (map info_tree l)) only_body
-
 -- ---- the body with a number
 
 body_below : (n g : ℕ) (hs : List (ℕ × Tree)) → AreNumbered n hs → g < n → body_in hs g ≡ None
@@ -219,6 +207,11 @@ body_past n zero (x ∷ hs) h le = absurd (omega (arith, le))
 body_past n (suc k) (x ∷ hs) h le =
     ap (λ b. if b then Some x.1 else body_in hs (n + suc k)) (ne_eqb x.0 (n + suc k) (λ e. omega (arith, e, h.0)))
     ∙ (let next : n + suc k ≡ suc n + k = omega arith in ap (body_in hs) next) ∙ body_past (suc n) k hs h.1 (omega (arith, le))
+
+pub number_at : (n k : ℕ) (hs : List (ℕ × Tree)) (d : ℕ × Tree) → AreNumbered n hs → k < length hs → (get_or hs k d).0 ≡ n + k
+number_at n k [] d h lt = absurd (omega (arith, lt))
+number_at n zero (x ∷ hs) d h lt = omega (arith, h.0)
+number_at n (suc k) (x ∷ hs) d h lt = omega (arith, number_at (suc n) k hs d h.1 (omega (arith, lt)))
 
 body_at : (n k : ℕ) (hs : List (ℕ × Tree)) (d : Tree) → AreNumbered n hs → k < length hs → body_in hs (n + k) ≡ Some (get_or (map (λ h. h.1) hs) k d)
 body_at n k [] d h lt = absurd (omega (arith, lt))
@@ -241,5 +234,5 @@ module _ (whole : Tree) (first g : ℕ) (numbered : AreNumbered first (groups wh
     pub target_past : length (groups whole) ≤ k → target whole g ≡ None
     target_past le = target_of_group whole g not_zero ∙ ap (body_in (groups whole)) is ∙ body_past first k (groups whole) numbered le
 
-    pub target_at : (d : Tree) → k < length (groups whole) → target whole g ≡ Some (get_or (group_trees whole) k d)
+    pub target_at : (d : Tree) → k < length (groups whole) → target whole g ≡ Some (get_or (map (λ h. h.1) (groups whole)) k d)
     target_at d lt = target_of_group whole g not_zero ∙ ap (body_in (groups whole)) is ∙ body_at first k (groups whole) d numbered lt

@@ -1,19 +1,30 @@
 -- What is known of a node, and of its children.
-use Rattle.std.proofs.Common.{◌≡◌, ℕ, zero, suc, ◌+◌, ◌<◌, ◌≤◌, List, [], ◌∷◌, length, map, drop, get_or, refl, sym, ap, ◌∙◌, subst, arith, add-one}
+use Rattle.std.proofs.Common.{◌≡◌, ℕ, zero, suc, ◌+◌, ◌<◌, ◌≤◌, false, List, [], ◌∷◌, length, map, drop, get_or, Contains, refl, sym, ap, ◌∙◌, subst, arith, add-one}
 use Rattle.std.proofs.Math.Seq.{drop-cons}
-use Rattle.fancy_meaning.specs.Tree.{Tree, trees, children}
+use Rattle.std.proofs.lemmas.List.{length-map}
+use Rattle.std.proofs.lemmas.List.Elements.{Contains-append_left, Contains-append_right}
+use Rattle.fancy_meaning.specs.Tree.{Tree, trees, children, parts}
+use Rattle.fancy_meaning.specs.Nodes.{nodes, nodes_of_each}
+use Rattle.fancy_meaning.specs.Hard.{is_hard}
+use Rattle.fancy_meaning.specs.WellFormed.{IsFine}
 use Rattle.fancy_meaning.specs.Options.{Analysis}
 use Rattle.fancy_meaning.specs.Sizes.{size}
 use Rattle.fancy_info.specs.declared.info.Info.{Info}
-use Rattle.fancy_info.specs.declared.info.Info.TheViews.{out-Info}
+use Rattle.fancy_info.specs.declared.info.Info.TheViews.{out-Info, roll-out-Info}
 use Rattle.fancy_info.specs.declared.info.Info.TheFolds.{fold_out-Info}
 use Rattle.fancy_expr.specs.declared.expr.Expr.{Expr}
 use Rattle.fancy_expr.specs.Exprs.{below}
-use Rattle.fancy_info.specs.Infos.{info_tree, info_children, info_size, info_within, node_over, IsFound, IsAnalysed}
+use Rattle.fancy_info.specs.Infos.{info_tree, info_children, info_facts, info_hard, info_size, info_within, node_over, is_read_group, EachNode, IsFound, IsAnalysed}
 use Rattle.fancy_expr.specs.Each.{Each}
-use Rattle.fancy_info.proofs.Unfolded.{tree_out, each_here, each_below}
+use Rattle.fancy_info.proofs.Unfolded.{tree_out, each_here, each_below, each_made}
+use Rattle.fancy_info.proofs.OverParts.{over-parts}
+use Rattle.fancy_expr.proofs.NodeParts.{nodes-parts}
+use Rattle.fancy_expr.specs.Walk.{start_inside, within_inside}
+use Rattle.fancy_plain.specs.Neighbours.{IsEasy}
+use Rattle.fancy_plain.specs.Tables.{AreFine}
+use Rattle.fancy_fragments.specs.Nodes.{AreEasyNeighbours}
 use Rattle.fancy_compile.specs.declared.scope.Scope.{Scope}
-use Rattle.fancy_compile.specs.Nodes.{total, size_step, node_count, IsWhole, AreWhole, IsKnown}
+use Rattle.fancy_compile.specs.Nodes.{total, size_step, node_count, IsWhole, AreWhole, IsFineTree, IsKnown}
 
 -- ---- lists
 
@@ -53,12 +64,74 @@ child_count (y ∷ l) (suc i) x h e = omega (arith, child_count l i x (omega ari
 
 -- ---- what is known
 
+-- the hardness of a node that was visited
+pub hard_child : (a : Analysis) (i : Info) → IsAnalysed a i → info_hard i ≡ is_hard a (info_tree i)
+hard_child a i h = (each_here (IsFound a) i h).hard ∙ ap (is_hard a) (sym (tree_out i))
+
 pub known_child : (a : Analysis) (i : Info) → IsAnalysed a i → IsKnown a i
-known_child a i h = record { node = (each_here (IsFound a) i h).node; children = each_below (IsFound a) i h }
+known_child a i h = record {
+  node = (each_here (IsFound a) i h).node;
+  children = each_below (IsFound a) i h;
+  easy = λ e. sym (hard_child a i h) ∙ e;
+}
+
+-- a node that is said to be easy is
+pub easy_known : (a : Analysis) (i : Info) → IsKnown a i → info_hard i ≡ false → IsEasy a i
+easy_known a i k h =
+    let easy = k.easy h in
+    let found : IsFound a (info_facts i) (info_children i) = record { node = k.node; hard = h ∙ sym easy ∙ ap (is_hard a) (tree_out i) } in
+    record { analysed = subst (EachNode (IsFound a)) (roll-out-Info i) (each_made (IsFound a) (out-Info i) found k.children); easy = easy }
+
+-- ---- the nodes below a node
+
+pub nodes_of_info : (a : Analysis) (i : Info) → IsKnown a i → nodes (info_tree i) ≡ info_tree i ∷ nodes_of_each (trees (map info_tree (info_children i)))
+nodes_of_info a i k =
+    let ts = map info_tree (info_children i) in
+    let e = (out-Info i).expr.now in
+    let below_it = over-parts e (out-Info i).start_group (info_within i) ts (length-map (info_children i) info_tree ∙ (k.node).arity) in
+    nodes-parts (info_tree i) ∙ ap (λ t. info_tree i ∷ nodes_of_each t) (ap parts (tree_out i) ∙ below_it)
+
+fine_each : (es : List Tree) → ((d : Tree) → Contains (nodes_of_each (trees es)) d → IsFine d) → AreFine es
+fine_each [] h = tt
+fine_each (e ∷ es) h = (
+  λ d c. h d (Contains-append_left (nodes e) (nodes_of_each (trees es)) d c),
+  fine_each es (λ d c. h d (Contains-append_right (nodes e) (nodes_of_each (trees es)) d c)),
+)
+
+pub fine_below : (a : Analysis) (i : Info) → IsKnown a i → IsFineTree (info_tree i) → AreFine (map info_tree (info_children i))
+fine_below a i k h =
+    let rest = nodes_of_each (trees (map info_tree (info_children i))) in
+    fine_each (map info_tree (info_children i))
+    (λ d c. h d (subst (λ l. Contains l d) (sym (nodes_of_info a i k)) (Contains-append_right (info_tree i ∷ []) rest d c)))
+
+pub fine_at : (l : List Info) (i : ℕ) (x : Info) → AreFine (map info_tree l) → i < length l → x ≡ get_or l i x → IsFineTree (info_tree x)
+fine_at [] i x h lt e = absurd (omega arith)
+fine_at (y ∷ l) zero x h lt e = subst (λ z. IsFineTree (info_tree z)) (sym e) h.0
+fine_at (y ∷ l) (suc i) x h lt e = fine_at l i x h.1 (omega arith) e
 
 module _ (scope : Scope) where
   pub whole_below : (i : Info) → IsWhole scope i → AreWhole scope (info_children i)
-  whole_below i h = record { analysis = h.analysis; of_tree = h.of_tree; each = (h.known).children; small = omega (arith, node_count-below i, h.small) }
+  whole_below i h = record {
+    analysis = h.analysis;
+    of_tree = h.of_tree;
+    each = (h.known).children;
+    small = omega (arith, node_count-below i, h.small);
+    fine = fine_below h.analysis i h.known h.fine;
+    within = within_inside (info_facts i).expr (info_facts i).within;
+    first = start_inside (info_facts i).expr (info_facts i).start_group;
+    in_turn = ((h.known).node).in_turn;
+  }
+
+  -- an easy node by itself
+  pub easy_alone : (i : Info) → IsWhole scope i → info_hard i ≡ false → AreEasyNeighbours (i ∷ [])
+  easy_alone i h easy = record {
+    analysis = h.analysis;
+    each = (easy_known h.analysis i h.known easy, tt);
+    fine = (h.fine, tt);
+    within = info_within i;
+    first = (out-Info i).start_group;
+    in_turn = (refl, refl, tt);
+  }
 
   pub whole_arity : (i : Info) → IsWhole scope i → length (info_children i) ≡ length (below (out-Info i).expr.now)
   whole_arity i h = ((h.known).node).arity
@@ -70,6 +143,7 @@ module _ (scope : Scope) where
     known = known_child h.analysis x
         (each_at (IsAnalysed h.analysis) l i x h.each lt at);
     small = omega (arith, child_count l i x lt at, h.small);
+    fine = fine_at l i x h.fine lt at;
   }
 
 module _ (info : Info) where
@@ -82,6 +156,9 @@ module _ (info : Info) where
 
   pub size_known : (a : Analysis) → IsKnown a info → info_size info ≡ size a.tree (info_tree info)
   size_known a k = k.node.size ∙ ap (size a.tree) (sym (tree_out info))
+
+pub read_known : (a : Analysis) (i : Info) → IsKnown a i → (info_facts i).is_read ≡ is_read_group a.tree (info_tree i)
+read_known a i k = (k.node).read ∙ ap (is_read_group a.tree) (sym (tree_out i))
 
 module _ (scope : Scope) (info : Info) where
   -- a node over one other
@@ -99,8 +176,8 @@ module _ (scope : Scope) (info : Info) where
     pub whole_child : d ≡ get_or (info_children info) 0 d → IsWhole scope d
     whole_child here = whole_at scope (info_children info) 0 d (whole_below scope info whole) (omega (arith, has_one)) here
 
-    pub known_only : d ≡ get_or (info_children info) 0 d → (a : Analysis) → IsKnown a info → IsKnown a d
-    known_only here a k = known_child a d (each_at (IsAnalysed a) (info_children info) 0 d k.children (omega (arith, has_one)) here)
+    pub analysed_only : d ≡ get_or (info_children info) 0 d → (a : Analysis) → IsKnown a info → IsAnalysed a d
+    analysed_only here a k = each_at (IsAnalysed a) (info_children info) 0 d k.children (omega (arith, has_one)) here
 
   -- a node over three others
   module _ (c d x : Info) (e : Expr) (at : (out-Info info).expr.now ≡ e) (whole : IsWhole scope info) (three : length (below e) ≡ 3)
@@ -123,11 +200,11 @@ module _ (scope : Scope) (info : Info) where
       ),
     )
 
-    pub known_three : (a : Analysis) → IsKnown a info → IsKnown a c × (IsKnown a d × IsKnown a x)
-    known_three a k = (
-      known_child a c (each_at (IsAnalysed a) (info_children info) 0 c k.children (omega (arith, has_three)) c_at),
+    pub analysed_three : (a : Analysis) → IsKnown a info → IsAnalysed a c × (IsAnalysed a d × IsAnalysed a x)
+    analysed_three a k = (
+      each_at (IsAnalysed a) (info_children info) 0 c k.children (omega (arith, has_three)) c_at,
       (
-        known_child a d (each_at (IsAnalysed a) (info_children info) 1 d k.children (omega (arith, has_three)) d_at),
-        known_child a x (each_at (IsAnalysed a) (info_children info) 2 x k.children (omega (arith, has_three)) x_at),
+        each_at (IsAnalysed a) (info_children info) 1 d k.children (omega (arith, has_three)) d_at,
+        each_at (IsAnalysed a) (info_children info) 2 x k.children (omega (arith, has_three)) x_at,
       ),
     )

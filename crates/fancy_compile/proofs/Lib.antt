@@ -3,6 +3,7 @@ pub mod Writing
 pub mod Patches
 pub mod Written
 pub mod Infos
+pub mod Slices
 pub mod Concat
 pub mod Alone
 pub mod Neighbours

@@ -19,7 +19,7 @@ use Rattle.fancy_expr.specs.Each.{Each}
 use Rattle.fancy_info.proofs.Unfolded.{tree_out}
 use Rattle.fancy_compile.specs.Arounds.{around_code, behind, not_behind}
 use Rattle.fancy_compile.specs.Faults.{Rejects, refused, out_of_range, HasRejected}
-use Rattle.fancy_compile.specs.Drafts.{Draft, Writes, hard_code}
+use Rattle.fancy_compile.specs.Drafts.{Draft, Writes, hard_code, node_code}
 use Rattle.fancy_compile.specs.Nodes.{is_alt, has_const_branches, IsKnown, codes_of_branches, codes_of_none}
 use Rattle.fancy_compile.proofs.Concat.{AllConst, behind_by, not_behind_by, behind_alt_by, not_behind_alt_by}
 use Rattle.fancy_compile.proofs.Infos.{known_child, size_known, children_trees}
@@ -129,17 +129,17 @@ module _ (p : Site) where
     constant_fine look e h = (behind_fine look e (λ v. v.body_varies h), refl)
 
     pub wrote_behind : (e : Tree) (n : ℕ) → (size p.analysis.tree e).is_const ≡ true → n ≡ (size p.analysis.tree e).least
-        → Writes p (around_code (behind n) (hard_code p call e false false)) (e ∷ []) s t → Wrote LookBehind e
+        → Writes p (around_code (behind n) (node_code p call e false false)) (e ∷ []) s t → Wrote LookBehind e
     wrote_behind e n const is h =
         wrote_node p _ (LookAround LookBehind e) s t (constant_fine LookBehind e const)
-        (subst (λ k. Writes p k (e ∷ []) s t) (ap (λ m. around_code (behind m) (hard_code p call e false false)) is
+        (subst (λ k. Writes p k (e ∷ []) s t) (ap (λ m. around_code (behind m) (node_code p call e false false)) is
         ∙ sym (behind_by p call at_start in_hard e const)) h)
 
     pub wrote_not_behind : (e : Tree) (n : ℕ) → (size p.analysis.tree e).is_const ≡ true → n ≡ (size p.analysis.tree e).least
-        → Writes p (around_code (not_behind n) (hard_code p call e false false)) (e ∷ []) s t → Wrote LookBehindNeg e
+        → Writes p (around_code (not_behind n) (node_code p call e false false)) (e ∷ []) s t → Wrote LookBehindNeg e
     wrote_not_behind e n const is h =
         wrote_node p _ (LookAround LookBehindNeg e) s t (constant_fine LookBehindNeg e const)
-        (subst (λ k. Writes p k (e ∷ []) s t) (ap (λ m. around_code (not_behind m) (hard_code p call e false false)) is
+        (subst (λ k. Writes p k (e ∷ []) s t) (ap (λ m. around_code (not_behind m) (node_code p call e false false)) is
         ∙ sym (not_behind_by p call at_start in_hard e const)) h)
 
     -- over branches

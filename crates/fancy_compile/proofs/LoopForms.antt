@@ -11,7 +11,7 @@ use Rattle.fancy_expr.specs.Views.{bound_of}
 use Rattle.fancy_compile.specs.declared.loops.LoopKind.{LoopKind}
 use Rattle.fancy_compile.specs.declared.loops.LoopKind.TheVariants as kind
 use Rattle.fancy_compile.specs.Arounds.{kind_form}
-use Rattle.fancy_compile.specs.Drafts.{Draft, Writes, hard_code}
+use Rattle.fancy_compile.specs.Drafts.{Draft, Writes, hard_code, node_code}
 use Rattle.fancy_compile.proofs.Writing.{wrote_nothing}
 use Rattle.fancy_compile.proofs.Written.{wrote_node, safe_fine}
 
@@ -84,23 +84,20 @@ module _ (p : Site) (call : ℕ → Bool → Code) (at_start in_hard : Bool) (lo
   form hi = loop_form lo hi ((size p.analysis.tree e).least == 0)
 
   abbrev body : LoopForm → Code
-  body f = hard_code p call e false (in_hard || not (is_at_most_once f))
+  body f = node_code p call e false (in_hard || not (is_at_most_once f))
 
   abbrev Wrote : Option ℕ → Type 0
   Wrote hi = Writes p (hard_code p call (Repeat lo hi greedy e) at_start in_hard) (Repeat lo hi greedy e ∷ []) s t
 
-  wrote_form : (hi : Option ℕ) (k : LoopKind) → kind_form k ≡ form hi → Writes p (repeat_code greedy (body (kind_form k)) (kind_form k)) (e ∷ []) s t → Wrote hi
-  wrote_form (Some zero) k is h = clash (kind_form k) (sym is) (kind_enters k)
-  wrote_form (Some (suc n)) k is h =
+  pub wrote_repeat : (hi : Option ℕ) (k : LoopKind) → kind_form k ≡ form hi
+      → Writes p (repeat_code greedy (body (kind_form k)) (kind_form k)) (e ∷ []) s t → Wrote hi
+  wrote_repeat (Some zero) k is h = clash (kind_form k) (sym is) (kind_enters k)
+  wrote_repeat (Some (suc n)) k is h =
       wrote_node p _ (Repeat lo (Some (suc n)) greedy e) s t (safe_fine p (Repeat lo (Some (suc n)) greedy e) refl refl)
       (subst (λ f. Writes p (repeat_code greedy (body f) f) (e ∷ []) s t) is h)
-  wrote_form None k is h =
+  wrote_repeat None k is h =
       wrote_node p _ (Repeat lo None greedy e) s t (safe_fine p (Repeat lo None greedy e) refl refl)
       (subst (λ f. Writes p (repeat_code greedy (body f) f) (e ∷ []) s t) is h)
-
-  pub wrote_repeat : (hi : Option ℕ) (k : LoopKind) → kind_form k ≡ form hi
-      → ((b : Bool) → Writes p (repeat_code greedy (hard_code p call e false b) (kind_form k)) (e ∷ []) s t) → Wrote hi
-  wrote_repeat hi k is h = wrote_form hi k is (h (in_hard || not (is_at_most_once (kind_form k))))
 
 -- a loop that is never entered
 pub wrote_never : (p : Site) (call : ℕ → Bool → Code) (at_start in_hard : Bool) (lo : ℕ) (greedy : Bool) (e : Tree) (s : Draft) (hi : Option ℕ)

@@ -1,22 +1,24 @@
 -- Neighbours and branches, one by one.
-use Rattle.std.proofs.Common.{◌≡◌, ℕ, suc, ◌+◌, ◌<◌, ◌≤◌, ◌&&◌, Bool, true, false, List, [], ◌∷◌, ◌++◌, length, map, drop, get_or, refl, sym, ap, ◌∙◌, subst, arith, length-drop, append-nil}
+use Rattle.std.proofs.Common.{◌≡◌, ℕ, suc, ◌+◌, ◌<◌, ◌≤◌, ◌&&◌, Bool, true, false, not, List, [], ◌∷◌, ◌++◌, length, map, drop, get_or, refl, sym, ap, ◌∙◌, subst, arith, length-drop}
 use Rattle.std.proofs.lemmas.List.{drop_all}
 use Rattle.fancy_meaning.specs.Tree.{Tree, trees, Concat, Alt}
+use Rattle.fancy_expr.specs.Each.{Each}
+use Rattle.fancy_meaning.specs.Batches.{batch}
 use Rattle.fancy_meaning.specs.Instr.{Instr}
 use Rattle.fancy_meaning.specs.Code.{Code, nothing, one, ◌>>◌, in_turn, branch, branches}
 use Rattle.fancy_meaning.specs.Marks.{takes_nothing}
 use Rattle.fancy_compile.specs.Sites.{Site}
 use Rattle.fancy_meaning.specs.Sizes.{Size, size}
 use Rattle.fancy_info.specs.declared.info.Info.{Info}
-use Rattle.fancy_info.specs.Infos.{info_tree, info_size}
+use Rattle.fancy_info.specs.Infos.{info_tree, info_hard, info_size, IsAnalysed}
 use Rattle.fancy_compile.specs.Arounds.{around_code, not_behind}
-use Rattle.fancy_compile.specs.Drafts.{Draft, Writes, hard_code, with_patch, with_jumps}
-use Rattle.fancy_compile.specs.Nodes.{IsKnown, codes_in_turn, codes_of_branches, codes_of_none, branch_over}
+use Rattle.fancy_compile.specs.Drafts.{Draft, Writes, code_in, hard_code, node_code, with_patch, with_jumps}
+use Rattle.fancy_compile.specs.Nodes.{IsKnown, back_of, codes_in_turn, codes_of_branches, codes_of_none, branch_over, front_of, middle_of}
 use Rattle.fancy_compile.proofs.Writing.{wrote_nothing, wrote_then, without_nothing}
 use Rattle.fancy_compile.proofs.Patches.{wrote_both, patched_length, with_jumps_last}
 use Rattle.fancy_compile.proofs.Written.{wrote_node, safe_fine}
-use Rattle.fancy_compile.proofs.Infos.{rest_at, children_trees, size_known}
-use Rattle.fancy_compile.proofs.Concat.{concat_by, alt_by}
+use Rattle.fancy_compile.proofs.Infos.{hard_child, rest_at, children_trees, size_known}
+use Rattle.fancy_compile.proofs.Concat.{alt_by, concat_by, concat_parts, is_first}
 
 branches_more : (c : Code) (cs : List Code) → 0 < length cs → branches (c ∷ cs) ≡ branch c (branches cs)
 branches_more c [] h = absurd (omega arith)
@@ -33,12 +35,19 @@ module _ (p : Site) (call : ℕ → Bool → Code) where
   abbrev pub LeftNone : List Info → Draft → Draft → Type 0
   LeftNone is t u = Writes p (in_turn (codes_of_none p call (map info_tree is))) (map info_tree is) t u
 
+  -- a child by its own hardness
+  pub wrote_child : (x : Info) → IsAnalysed p.analysis x → (at_start in_hard : Bool) (s t : Draft)
+      → Writes p (code_in p call (not (info_hard x)) (info_tree x) at_start in_hard) (info_tree x ∷ []) s t
+      → Writes p (node_code p call (info_tree x) at_start in_hard) (info_tree x ∷ []) s t
+  wrote_child x h at_start in_hard s t w =
+      subst (λ b. Writes p (code_in p call (not b) (info_tree x) at_start in_hard) (info_tree x ∷ []) s t) (hard_child p.analysis x h) w
+
   -- a branch by its size
   pub at_branch : (is_behind in_hard : Bool) (x : Info) → IsKnown p.analysis x → (t u : Draft)
-      → Writes p (branch_over is_behind (info_size x).least (hard_code p call (info_tree x) false in_hard)) (info_tree x ∷ []) t u
-      → Writes p (branch_over is_behind (size p.analysis.tree (info_tree x)).least (hard_code p call (info_tree x) false in_hard)) (info_tree x ∷ []) t u
+      → Writes p (branch_over is_behind (info_size x).least (node_code p call (info_tree x) false in_hard)) (info_tree x ∷ []) t u
+      → Writes p (branch_over is_behind (size p.analysis.tree (info_tree x)).least (node_code p call (info_tree x) false in_hard)) (info_tree x ∷ []) t u
   at_branch is_behind in_hard x known t u h =
-      subst (λ (z : Size). Writes p (branch_over is_behind z.least (hard_code p call (info_tree x) false in_hard)) (info_tree x ∷ []) t u)
+      subst (λ (z : Size). Writes p (branch_over is_behind z.least (node_code p call (info_tree x) false in_hard)) (info_tree x ∷ []) t u)
       (size_known x p.analysis known) h
 
   codes_length : (is_behind in_hard : Bool) (is : List Info) → length (codes_of_branches p call is_behind in_hard (map info_tree is)) ≡ length is
@@ -47,23 +56,23 @@ module _ (p : Site) (call : ℕ → Bool → Code) where
 
   module _ (l : List Info) (i : ℕ) (x : Info) (lt : i < length l) (at : x ≡ get_or l i x) (t : Draft) where
     pub in_turn_step : (first next : Bool) (t' u : Draft) → next ≡ (first && takes_nothing p.analysis.tree (info_tree x))
-        → Writes p (hard_code p call (info_tree x) first true) (info_tree x ∷ []) t t' → LeftInTurn next (drop (i + 1) l) t' u → LeftInTurn first (drop i l) t u
+        → Writes p (node_code p call (info_tree x) first true) (info_tree x ∷ []) t t' → LeftInTurn next (drop (i + 1) l) t' u → LeftInTurn first (drop i l) t u
     in_turn_step first next t' u is h g =
         subst (λ m. LeftInTurn first m t u) (sym (rest_at l i x lt at))
-        (wrote_then p (hard_code p call (info_tree x) first true)
+        (wrote_then p (node_code p call (info_tree x) first true)
         (in_turn (codes_in_turn p call (first && takes_nothing p.analysis.tree (info_tree x)) (map info_tree (drop (i + 1) l))))
         (info_tree x ∷ []) _ t t' u h (subst (λ b. LeftInTurn b (drop (i + 1) l) t' u) is g))
 
     pub none_step : (t' u : Draft) → Writes p (around_code (not_behind (size p.analysis.tree (info_tree x)).least)
-        (hard_code p call (info_tree x) false false)) (info_tree x ∷ []) t t' → LeftNone (drop (i + 1) l) t' u → LeftNone (drop i l) t u
+        (node_code p call (info_tree x) false false)) (info_tree x ∷ []) t t' → LeftNone (drop (i + 1) l) t' u → LeftNone (drop i l) t u
     none_step t' u h g =
         subst (λ m. LeftNone m t u) (sym (rest_at l i x lt at))
-        (wrote_then p (around_code (not_behind (size p.analysis.tree (info_tree x)).least) (hard_code p call (info_tree x) false false))
+        (wrote_then p (around_code (not_behind (size p.analysis.tree (info_tree x)).least) (node_code p call (info_tree x) false false))
         (in_turn (codes_of_none p call (map info_tree (drop (i + 1) l)))) (info_tree x ∷ []) _ t t' u h g)
 
     module _ (is_behind in_hard : Bool) where
       abbrev here : Code
-      here = branch_over is_behind (size p.analysis.tree (info_tree x)).least (hard_code p call (info_tree x) false in_hard)
+      here = branch_over is_behind (size p.analysis.tree (info_tree x)).least (node_code p call (info_tree x) false in_hard)
 
       pub last_step : (t' u : Draft) → length l ≤ i + 1 → Writes p here (info_tree x ∷ []) t t' → LeftBranches is_behind in_hard (drop (i + 1) l) t' u
           → LeftBranches is_behind in_hard (drop i l) t u
@@ -113,17 +122,36 @@ module _ (p : Site) (call : ℕ → Bool → Code) where
 
   -- ---- the nodes
 
-  module _ (es : List Tree) (at_start in_hard : Bool) (s t : Draft) where
-    abbrev neighbours : Code
-    neighbours = in_turn (codes_in_turn p call at_start es)
+  -- the children of a concatenation, in three
+  module _ (at_start in_hard : Bool) (is : List Info) (each : Each (IsAnalysed p.analysis) is) (front middle back : List Info) (first : Bool)
+      (s t u v : Draft) where
+    abbrev three : List Tree
+    three = map info_tree (front_of is) ++ (map info_tree (middle_of in_hard is) ++ map info_tree (back_of in_hard is))
 
-    pub wrote_concat : Writes p neighbours es s t → Writes p (hard_code p call (Concat (trees es)) at_start in_hard) (Concat (trees es) ∷ []) s t
+    abbrev Batches : List Info → Draft → Draft → Type 0
+    Batches l = Writes p (batch p.unicode (map info_tree l)) (map info_tree l)
+
+    pub wrote_three : front ≡ front_of is → middle ≡ middle_of in_hard is → back ≡ back_of in_hard is → first ≡ is_first p call at_start in_hard is each
+        → Batches front s t → LeftInTurn first middle t u → Batches back u v
+        → Writes p (hard_code p call (Concat (trees (map info_tree is))) at_start in_hard) (map info_tree is) s v
+    wrote_three front_is middle_is back_is first_is a b c =
+        let begins = batch p.unicode (map info_tree (front_of is)) in
+        let goes = in_turn (codes_in_turn p call (is_first p call at_start in_hard is each) (map info_tree (middle_of in_hard is))) in
+        let ends = batch p.unicode (map info_tree (back_of in_hard is)) in
+        subst (λ ds. Writes p (hard_code p call (Concat (trees (map info_tree is))) at_start in_hard) ds s v)
+        (concat_parts p call at_start in_hard is each)
+        (subst (λ k. Writes p k three s v) (sym (concat_by p call at_start in_hard is each))
+        (wrote_then p begins (goes >> ends) _ _ s t v (subst (λ l. Batches l s t) front_is a)
+        (wrote_then p goes ends _ _ t u v
+        (subst (λ x. LeftInTurn x (middle_of in_hard is) t u) first_is (subst (λ l. LeftInTurn first l t u) middle_is b))
+        (subst (λ l. Batches l u v) back_is c))))
+
+  module _ (es : List Tree) (at_start in_hard : Bool) (s t : Draft) where
+    pub wrote_concat : Writes p (hard_code p call (Concat (trees es)) at_start in_hard) es s t
+        → Writes p (hard_code p call (Concat (trees es)) at_start in_hard) (Concat (trees es) ∷ []) s t
     wrote_concat h =
-        subst (λ k. Writes p k (Concat (trees es) ∷ []) s t) (sym (concat_by p call at_start in_hard es))
-        (wrote_node p _ (Concat (trees es)) s t (safe_fine p (Concat (trees es)) refl refl)
-        (subst (λ ds. Writes p (nothing >> neighbours >> nothing) ds s t) (append-nil es ∙ sym (children_trees es))
-        (wrote_then p nothing (neighbours >> nothing) [] (es ++ []) s s t (wrote_nothing p s)
-        (wrote_then p neighbours nothing es [] s t t h (wrote_nothing p t)))))
+        wrote_node p _ (Concat (trees es)) s t (safe_fine p (Concat (trees es)) refl refl)
+        (subst (λ ds. Writes p (hard_code p call (Concat (trees es)) at_start in_hard) ds s t) (sym (children_trees es)) h)
 
     pub wrote_alt : Writes p (branches (codes_of_branches p call false in_hard es)) es s t
         → Writes p (hard_code p call (Alt (trees es)) at_start in_hard) (Alt (trees es) ∷ []) s t

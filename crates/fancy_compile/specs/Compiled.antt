@@ -7,7 +7,7 @@ use Rattle.fancy_meaning.specs.Premises.{Analysed, analysis}
 use Rattle.fancy_meaning.specs.AnalysisRefusals as refusal
 use Rattle.fancy_meaning.specs.AnalysisRefusals.{AnalysisRefuses}
 use Rattle.fancy_meaning.specs.CompileRefusals.{CompileRefuses, MayBeTooBig}
-use Rattle.fancy_meaning.specs.Layout.{first_fresh, program_code, undelegated_layout}
+use Rattle.fancy_meaning.specs.Layout.{first_fresh, layout, program_code}
 use Rattle.fancy_vm.specs.Programs.{prog_of}
 use Rattle.fancy_vm.specs.declared.insn.Prog.{Prog}
 use Rattle.fancy_expr.specs.declared.error.Error.{Error}
@@ -17,7 +17,7 @@ use Rattle.fancy_info.specs.Infos.{IsRoot}
 use Rattle.fancy_compile.specs.declared.options.BytesMode.{BytesMode}
 use Rattle.fancy_compile.specs.declared.options.BytesMode.TheVariants as code
 use Rattle.fancy_compile.specs.declared.options.CompileOptions.{CompileOptions}
-use Rattle.fancy_compile.specs.Drafts.{Draft, Writes, no_node}
+use Rattle.fancy_compile.specs.Drafts.{Draft, Writes, is_easy}
 use Rattle.fancy_compile.specs.Sites.{top}
 use Rattle.fancy_expr.specs.Errors.{error_of}
 
@@ -47,8 +47,12 @@ pub record MayCompile (a : Analysed) (i : Info) (o : CompileOptions) : Type 0 wh
   pub end_text : o.disallow_empty_match_at_eof_after_newline ≡ true → ((analysis a).options).end_text ≡ true
 
 module _ (p : Plan) where
+  -- how many instructions the program has
+  abbrev pub program_size : ℕ
+  program_size = length (layout p).body
+
   abbrev pub Refuses : refusal.CompileError → Type 0
-  Refuses x = CompileRefuses p (length (undelegated_layout p).body) x
+  Refuses x = CompileRefuses p program_size x
 
   -- refused, or a class text that `regex` finds too big
   pub data MayAnswer : refusal.CompileError → Type 0 where
@@ -56,8 +60,8 @@ module _ (p : Plan) where
     too_big : {inner : List ℕ} → MayBeTooBig p inner → MayAnswer (refusal.ClassTooBig inner)
 
   pub record IsCompiled (prog : Prog) : Type 0 where
-    pub layout : prog_of prog ≡ undelegated_layout p
-    pub small : ForSome p.max_prog_size (λ most. length (undelegated_layout p).body ≤ most)
+    pub layout : prog_of prog ≡ layout p
+    pub small : ForSome p.max_prog_size (λ most. program_size ≤ most)
     pub not_refused : (x : refusal.CompileError) → ¬ Refuses x
 
   abbrev pub Compiles : Result Prog Error → Type 0
@@ -70,5 +74,5 @@ module _ (p : Plan) where
   -- the whole program was written, from nothing
   abbrev pub IsWritingOf : Draft → Type 0
   IsWritingOf t =
-      Writes (top p) (program_code p no_node) (p.analysis.tree ∷ [])
+      Writes (top p) (program_code p (is_easy p.analysis)) (p.analysis.tree ∷ [])
       (record { instrs = []; fresh = first_fresh p; limit = p.max_prog_size; fault = None }) t

@@ -1,9 +1,12 @@
 -- What a step of the compiler does to the program so far.
-use Rattle.std.specs.Prelude.{◌≡◌, ℕ, ◌+◌, ◌<◌, ◌⊎◌, Bool, false, List, [], ◌∷◌, ◌++◌, length, map, slice_set, Option, Some, None}
+use Rattle.std.specs.Prelude.{◌≡◌, ℕ, ◌+◌, ◌<◌, ◌⊎◌, Bool, not, ◌&&◌, if◌then◌else◌, List, [], ◌∷◌, ◌++◌, length, map, slice_set, Option, Some, None}
 use Rattle.fancy_meaning.specs.Tree.{Tree}
 use Rattle.fancy_meaning.specs.Instr.{Instr}
 use Rattle.fancy_meaning.specs.Code.{Code, Laid}
 use Rattle.fancy_compile.specs.Sites.{Site}
+use Rattle.fancy_meaning.specs.Batches.{batch}
+use Rattle.fancy_meaning.specs.Hard.{is_hard}
+use Rattle.fancy_meaning.specs.Options.{Analysis}
 use Rattle.fancy_meaning.specs.Layout.{written}
 use Rattle.fancy_meaning.specs.AnalysisRefusals as plain
 use Rattle.fancy_vm.specs.Insns.{insn_of}
@@ -73,9 +76,18 @@ Writes p k es s t = Adds p (k (length s.instrs) s.fresh) es s t
 abbrev pub one_over_slot : Instr → Code
 one_over_slot i base fresh = record { instrs = i ∷ []; fresh = fresh + 1 }
 
-abbrev pub no_node : Tree → Bool
-no_node e = false
+-- which nodes may be left to a plain search
+abbrev pub is_easy : Analysis → Tree → Bool
+is_easy a e = not (is_hard a e)
 
--- a node's code where no node is left to a plain search
+-- a node's code where it is written out
 abbrev pub hard_code : Site → (ℕ → Bool → Code) → Tree → (at_start in_hard : Bool) → Code
-hard_code p call e at_start in_hard = written p.plan no_node call e at_start in_hard
+hard_code p call e at_start in_hard = written p.plan (is_easy p.analysis) call e at_start in_hard
+
+-- a node's code in a context, where the node is easy or not
+abbrev pub code_in : Site → (ℕ → Bool → Code) → (easy : Bool) → Tree → (at_start in_hard : Bool) → Code
+code_in p call easy e at_start in_hard =
+    if easy && not in_hard then batch p.unicode (e ∷ []) else hard_code p call e at_start in_hard
+
+abbrev pub node_code : Site → (ℕ → Bool → Code) → Tree → (at_start in_hard : Bool) → Code
+node_code p call e at_start in_hard = code_in p call (is_easy p.analysis e) e at_start in_hard

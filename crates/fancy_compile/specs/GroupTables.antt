@@ -1,5 +1,5 @@
 -- The table of what calls may name.
-use Rattle.std.specs.Prelude.{◌≡◌, ℕ, ◌+◌, ◌≤◌, Bool, true, false, ◌&&◌, ◌||◌, nat_eq, nat_lt, List, [], ◌∷◌, ◌++◌, map, length, slice_index_or}
+use Rattle.std.specs.Prelude.{◌≡◌, ℕ, ◌+◌, ◌≤◌, Bool, true, false, ◌&&◌, ◌||◌, nat_eq, nat_lt, List, [], ◌∷◌, ◌++◌, map, length, slice_index_or, if◌then◌else◌}
 use Rattle.std.specs.Borrow.{Bor}
 use Rattle.std.specs.List.{list_any}
 use Rattle.fancy_meaning.specs.Tree.{Tree}
@@ -9,10 +9,10 @@ use Rattle.fancy_meaning.specs.Options.{Analysis}
 use Rattle.fancy_expr.specs.declared.expr.Expr.{Expr}
 use Rattle.fancy_expr.specs.declared.expr.Expr.TheVariants as code
 use Rattle.fancy_info.specs.declared.info.Info.{Info}
-use Rattle.fancy_info.specs.Infos.{info_tree, info_facts, info_children}
+use Rattle.fancy_info.specs.Infos.{info_tree, info_facts}
 use Rattle.fancy_expr.specs.Each.{Each}
 use Rattle.fancy_compile.specs.declared.group_table.GroupTable.{GroupTable}
-use Rattle.fancy_compile.specs.Nodes.{node_count, IsKnown, IsBody}
+use Rattle.fancy_compile.specs.Nodes.{group_node, node_count, IsKnown, IsEntry, IsFineTree}
 
 abbrev pub is_group : Expr → Bool
 is_group (code.Group' b e) = true
@@ -27,23 +27,26 @@ abbrev pub trees_of : List (Bor Info) → List Tree
 trees_of = map (λ b. info_tree b.now)
 
 abbrev pub group_trees : Tree → List Tree
-group_trees e = map (λ h. h.1) (groups e)
+group_trees e = map group_node (groups e)
 
--- the body, where the node is a group
-abbrev pub own_trees : Bool → List Tree → List Tree
-own_trees true (e ∷ es) = e ∷ []
-own_trees b es = []
+-- the node, where it is a group
+abbrev pub own_trees : Bool → Tree → List Tree
+own_trees is e = if is then e ∷ [] else []
+
+-- each of them is known, where the node is
+abbrev pub AddsKnown : Info → List (Bor Info) → List (Bor Info) → Type 0
+AddsKnown i old new =
+    (a : Analysis) (most : ℕ) → IsKnown a i → IsFineTree (info_tree i) → node_count i ≤ most
+    → Each (IsEntry a most) old → Each (IsEntry a most) new
 
 pub record GathersOwn (i : Info) (old new : List (Bor Info)) : Type 0 where
-  pub bodies : trees_of new ≡ trees_of old ++ own_trees (is_group (info_facts i).expr) (map info_tree (info_children i))
-  pub known : (a : Analysis) (most : ℕ) → IsKnown a i → node_count i ≤ most → Each (IsBody a most) old
-      → Each (IsBody a most) new
+  pub nodes : trees_of new ≡ trees_of old ++ own_trees (is_group (info_facts i).expr) (info_tree i)
+  pub known : AddsKnown i old new
 
--- the bodies of the node's groups are added
+-- the node's groups are added
 pub record Gathers (i : Info) (old new : List (Bor Info)) : Type 0 where
-  pub bodies : (a : Analysis) → IsKnown a i → trees_of new ≡ trees_of old ++ group_trees (info_tree i)
-  pub known : (a : Analysis) (most : ℕ) → IsKnown a i → node_count i ≤ most → Each (IsBody a most) old
-      → Each (IsBody a most) new
+  pub nodes : (a : Analysis) → IsKnown a i → trees_of new ≡ trees_of old ++ group_trees (info_tree i)
+  pub known : AddsKnown i old new
 
 -- the marks of these numbers are set, where the first mark is that of this number
 pub record MarksAll (first : ℕ) (gs : List ℕ) (old new : List Bool) : Type 0 where
@@ -57,7 +60,7 @@ Marks i first old new = (a : Analysis) → IsKnown a i → MarksAll first (marke
 -- the table of a tree's groups
 pub record IsTable (i : Info) (first : ℕ) (g : GroupTable) : Type 0 where
   pub from : g.first ≡ first
-  pub bodies : Gathers i [] g.bodies.items
+  pub nodes : Gathers i [] g.nodes.items
   pub starts : (a : Analysis) → IsKnown a i → (k : ℕ)
       → slice_index_or g.starts.items k false
-      ≡ (nat_lt k (length g.bodies.items) && list_any (nat_eq (first + k)) (marked_groups a.tree (info_tree i)))
+      ≡ (nat_lt k (length g.nodes.items) && list_any (nat_eq (first + k)) (marked_groups a.tree (info_tree i)))

@@ -1,20 +1,22 @@
 -- What writing a node does.
-use Rattle.std.specs.Prelude.{◌≡◌, ℕ, suc, ◌+◌, ◌*◌, ◌≤◌, Bool, true, false, ◌&&◌, ◌||◌, ◌==◌, nat_eq, List, [], ◌∷◌, map, length, Option, slice_index_or, nat_lt, nat_le, ◌-◌}
+use Rattle.std.specs.Prelude.{◌≡◌, ℕ, suc, ◌+◌, ◌*◌, ◌≤◌, Bool, true, false, not, ◌&&◌, ◌||◌, ◌==◌, nat_eq, List, [], ◌∷◌, map, length, take, drop, Contains, Option, slice_index_or, nat_lt, nat_le, ◌-◌}
 use Rattle.std.specs.Borrow.{Bor}
-use Rattle.std.specs.List.{list_all, list_any}
+use Rattle.std.specs.List.{list_all, list_any, prefix_len, suffix_len}
 use Rattle.fancy_meaning.specs.Tree as plain
-use Rattle.fancy_meaning.specs.Tree.{Tree, Trees}
+use Rattle.fancy_meaning.specs.Tree.{Tree, Trees, trees}
 use Rattle.fancy_expr.specs.declared.expr.Absent.{Absent}
 use Rattle.fancy_expr.specs.declared.expr.Absent.TheVariants as code_absent
 use Rattle.fancy_expr.specs.declared.expr.Expr.{Expr}
 use Rattle.fancy_expr.specs.declared.expr.Expr.TheVariants as code
 use Rattle.fancy_meaning.specs.Code.{Code, nothing, one, in_turn, branches}
 use Rattle.fancy_meaning.specs.Instr.{Instr}
-use Rattle.fancy_meaning.specs.Hard.{is_hard}
+use Rattle.fancy_meaning.specs.Hard.{is_hard, is_root_hard}
 use Rattle.fancy_meaning.specs.Constructs.{conditional_code, negative_look_code}
 use Rattle.fancy_meaning.specs.Marks.{takes_nothing, marked_groups}
 use Rattle.fancy_meaning.specs.Layout.{called_code}
-use Rattle.fancy_meaning.specs.Nodes.{groups}
+use Rattle.fancy_meaning.specs.Nodes.{groups, nodes}
+use Rattle.fancy_meaning.specs.WellFormed.{IsFine}
+use Rattle.fancy_plain.specs.Tables.{AreFine}
 use Rattle.fancy_meaning.specs.OpenCalls.{Depths, free_calls}
 use Rattle.fancy_meaning.specs.Sizes.{size}
 use Rattle.fancy_meaning.specs.Options.{Analysis}
@@ -22,13 +24,13 @@ use Rattle.fancy_compile.specs.Sites.{Site}
 use Rattle.fancy_info.specs.declared.info.Info.{Info}
 use Rattle.fancy_info.specs.declared.info.Info.TheOpen.{Info-F}
 use Rattle.fancy_info.specs.declared.info.Info.TheFolds.{fold-Info}
-use Rattle.fancy_info.specs.Infos.{node_over, info_tree, info_facts, info_size, info_hard, info_children, IsNode, IsAnalysed}
+use Rattle.fancy_info.specs.Infos.{node_over, info_tree, info_facts, info_size, info_hard, info_children, AreInTurn, IsNode, IsAnalysed}
 use Rattle.fancy_expr.specs.Each.{Each}
 use Rattle.fancy_compile.specs.declared.scope.Scope.{Scope}
 use Rattle.fancy_compile.specs.declared.group_table.GroupTable.{GroupTable}
 use Rattle.fancy_compile.specs.OpenDepths.{depths_of}
 use Rattle.fancy_compile.specs.Arounds.{around_code, behind, not_behind}
-use Rattle.fancy_compile.specs.Drafts.{Draft, Writes, hard_code, no_node}
+use Rattle.fancy_compile.specs.Drafts.{Draft, Writes, code_in, hard_code, is_easy, node_code}
 
 abbrev pub total : List ℕ → ℕ
 total [] = 0
@@ -41,30 +43,41 @@ size_step i = suc (total i.children.items)
 abbrev pub node_count : Info → ℕ
 node_count = fold-Info ℕ size_step
 
--- what was found of a node, but for its own hardness
+-- what was found of a node, but that the whole tree may be hard for its own reason
 pub record IsKnown (a : Analysis) (i : Info) : Type 0 where
   pub node : IsNode a (info_facts i) (info_children i)
   pub children : Each (IsAnalysed a) (info_children i)
+  pub easy : info_hard i ≡ false → is_hard a (info_tree i) ≡ false
+
+-- the node and each below it is well formed
+abbrev pub IsFineTree : Tree → Type 0
+IsFineTree e = (d : Tree) → Contains (nodes e) d → IsFine d
 
 -- numbered one by one, from this number
 abbrev pub AreNumbered : ℕ → List (ℕ × Tree) → Type 0
 AreNumbered n [] = Unit {0}
 AreNumbered n (h ∷ hs) = (h.0 ≡ n) × AreNumbered (suc n) hs
 
--- a node of at most this size is known
-abbrev pub IsBody : Analysis → ℕ → Bor Info → Type 0
-IsBody a most b = IsKnown a b.now × (node_count b.now ≤ most)
+-- a node of at most this size is known, and is well formed
+abbrev pub IsEntry : Analysis → ℕ → Bor Info → Type 0
+IsEntry a most b = IsKnown a b.now × (node_count b.now ≤ most) × IsFineTree (info_tree b.now)
+
+-- a group, of its number and its body
+abbrev pub group_node : ℕ × Tree → Tree
+group_node h = plain.Group h.0 h.1
 
 -- What a scope says of the whole tree: it has the root, and the groups in order of their numbers.
 pub record IsScopeOf (a : Analysis) (scope : Scope) : Type 0 where
   pub tree : info_tree scope.root.now ≡ a.tree
   pub root : IsKnown a scope.root.now
-  pub bodies : map (λ b. info_tree b.now) scope.groups.now.bodies.items ≡ map (λ h. h.1) (groups a.tree)
+  pub hard : info_hard scope.root.now ≡ is_root_hard a
+  pub fine : IsFineTree (info_tree scope.root.now)
+  pub nodes : map (λ b. info_tree b.now) scope.groups.now.nodes.items ≡ map group_node (groups a.tree)
   pub numbers : AreNumbered scope.groups.now.first (groups a.tree)
-  pub known : Each (IsBody a (node_count scope.root.now)) scope.groups.now.bodies.items
+  pub known : Each (IsEntry a (node_count scope.root.now)) scope.groups.now.nodes.items
   pub starts : (k : ℕ)
       → slice_index_or scope.groups.now.starts.items k false
-      ≡ (nat_lt k (length scope.groups.now.bodies.items) && list_any (nat_eq (scope.groups.now.first + k))
+      ≡ (nat_lt k (length scope.groups.now.nodes.items) && list_any (nat_eq (scope.groups.now.first + k))
       (marked_groups a.tree a.tree))
 
 -- a scope for an analysed tree
@@ -77,12 +90,18 @@ pub record IsWhole (scope : Scope) (i : Info) : Type 0 where
   pub of_tree : IsScopeOf analysis scope
   pub known : IsKnown analysis i
   pub small : node_count i ≤ node_count scope.root.now
+  pub fine : IsFineTree (info_tree i)
 
+-- neighbours of the scope's tree
 pub record AreWhole (scope : Scope) (is : List Info) : Type 0 where
   pub analysis : Analysis
   pub of_tree : IsScopeOf analysis scope
   pub each : Each (IsAnalysed analysis) is
   pub small : total (map node_count is) ≤ node_count scope.root.now
+  pub fine : AreFine (map info_tree is)
+  pub within : plain.Within
+  pub first : ℕ
+  pub in_turn : AreInTurn within first is
 
 -- the plan, the open calls, and the code of calls, of a scope
 pub record IsScopeAt (p : Site) (call : ℕ → Bool → Code) (scope : Scope) : Type 0 where
@@ -92,15 +111,23 @@ pub record IsScopeAt (p : Site) (call : ℕ → Bool → Code) (scope : Scope) :
   -- so many more calls may be opened, at least
   pub budget : ℕ
   pub enough : free_calls p.analysis.tree p.depths ≤ budget
-  pub calls : call ≡ called_code p.plan no_node budget p.depths
+  pub calls : call ≡ called_code p.plan (is_easy p.analysis) budget p.depths
 
--- the node is written as in the layout without delegates
-abbrev pub WritesNode : Scope → Info → Bool → Draft → Draft → Type 0
-WritesNode scope i at_start s t =
-    (p : Site) (call : ℕ → Bool → Code) (in_hard : Bool)
+-- the node is written out
+abbrev pub WritesOut : Scope → Info → (at_start in_hard : Bool) → Draft → Draft → Type 0
+WritesOut scope i at_start in_hard s t =
+    (p : Site) (call : ℕ → Bool → Code)
     → IsScopeAt p call scope
     → IsKnown p.analysis i
     → Writes p (hard_code p call (info_tree i) at_start in_hard) (info_tree i ∷ []) s t
+
+-- the node is written in its context
+abbrev pub WritesNode : Scope → Info → (at_start in_hard : Bool) → Draft → Draft → Type 0
+WritesNode scope i at_start in_hard s t =
+    (p : Site) (call : ℕ → Bool → Code)
+    → IsScopeAt p call scope
+    → IsKnown p.analysis i
+    → Writes p (code_in p call (not (info_hard i)) (info_tree i) at_start in_hard) (info_tree i ∷ []) s t
 
 -- a node of this tree
 abbrev pub WritesTree : Scope → Tree → Draft → Draft → Type 0
@@ -127,7 +154,7 @@ assertion_inside in_look a = a
 abbrev pub codes_in_turn : Site → (ℕ → Bool → Code) → (at_start : Bool) → List Tree → List Code
 codes_in_turn p call at_start [] = []
 codes_in_turn p call at_start (e ∷ es) =
-    hard_code p call e at_start true ∷ codes_in_turn p call (at_start && takes_nothing p.analysis.tree e) es
+    node_code p call e at_start true ∷ codes_in_turn p call (at_start && takes_nothing p.analysis.tree e) es
 
 -- a branch, which may be looked for behind the place
 abbrev pub branch_over : (is_behind : Bool) → ℕ → Code → Code
@@ -138,15 +165,49 @@ branch_over false least body = body
 abbrev pub codes_of_branches : Site → (ℕ → Bool → Code) → (is_behind in_hard : Bool) → List Tree → List Code
 codes_of_branches p call is_behind in_hard [] = []
 codes_of_branches p call is_behind in_hard (e ∷ es) =
-    branch_over is_behind (size p.analysis.tree e).least (hard_code p call e false in_hard)
+    branch_over is_behind (size p.analysis.tree e).least (node_code p call e false in_hard)
     ∷ codes_of_branches p call is_behind in_hard es
 
 -- the codes of neighbours none of which may stand behind the place
 abbrev pub codes_of_none : Site → (ℕ → Bool → Code) → List Tree → List Code
 codes_of_none p call [] = []
 codes_of_none p call (e ∷ es) =
-    around_code (not_behind (size p.analysis.tree e).least) (hard_code p call e false false)
+    around_code (not_behind (size p.analysis.tree e).least) (node_code p call e false false)
     ∷ codes_of_none p call es
+
+-- the first of them that may be one batch: easy nodes of constant size
+abbrev pub is_front : Info → Bool
+is_front i = not (info_hard i) && (info_size i).is_const
+
+abbrev pub front_count : List Info → ℕ
+front_count is = prefix_len is_front is
+
+-- the last of them that may be one batch
+abbrev pub is_back : (in_hard : Bool) → Info → Bool
+is_back in_hard i = not (info_hard i) && (not in_hard || (info_size i).is_const)
+
+abbrev pub back_start : (in_hard : Bool) → List Info → ℕ
+back_start in_hard is = length is - suffix_len (is_back in_hard) is
+
+abbrev pub front_of : List Info → List Info
+front_of is = take (front_count is) is
+
+abbrev pub rest_of : List Info → List Info
+rest_of is = drop (front_count is) is
+
+abbrev pub middle_of : (in_hard : Bool) → List Info → List Info
+middle_of in_hard is = take (back_start in_hard (rest_of is)) (rest_of is)
+
+abbrev pub back_of : (in_hard : Bool) → List Info → List Info
+back_of in_hard is = drop (back_start in_hard (rest_of is)) (rest_of is)
+
+-- neighbours are written as the children of a concatenation
+abbrev pub WritesConcat : Scope → List Info → (at_start in_hard : Bool) → Draft → Draft → Type 0
+WritesConcat scope is at_start in_hard s t =
+    (p : Site) (call : ℕ → Bool → Code)
+    → IsScopeAt p call scope
+    → Each (IsAnalysed p.analysis) is
+    → Writes p (hard_code p call (plain.Concat (trees (map info_tree is))) at_start in_hard) (map info_tree is) s t
 
 abbrev pub WritesInTurn : Scope → List Info → Bool → Draft → Draft → Type 0
 WritesInTurn scope is at_start s t =
@@ -155,9 +216,9 @@ WritesInTurn scope is at_start s t =
     → Each (IsAnalysed p.analysis) is
     → Writes p (in_turn (codes_in_turn p call at_start (map info_tree is))) (map info_tree is) s t
 
-abbrev pub WritesBranches : (is_behind : Bool) → Scope → List Info → Draft → Draft → Type 0
-WritesBranches is_behind scope is s t =
-    (p : Site) (call : ℕ → Bool → Code) (in_hard : Bool)
+abbrev pub WritesBranches : (is_behind in_hard : Bool) → Scope → List Info → Draft → Draft → Type 0
+WritesBranches is_behind in_hard scope is s t =
+    (p : Site) (call : ℕ → Bool → Code)
     → IsScopeAt p call scope
     → Each (IsAnalysed p.analysis) is
     → Writes p (branches (codes_of_branches p call is_behind in_hard (map info_tree is))) (map info_tree is) s t
@@ -172,42 +233,43 @@ WritesNoneBehind scope is s t =
 -- ---- nodes over others
 
 -- code that is made of that of one node
-abbrev pub WritesOver : (Code → Code) → Scope → Info → Bool → Draft → Draft → Type 0
-WritesOver over scope i at_start s t =
-    (p : Site) (call : ℕ → Bool → Code) (in_hard : Bool)
+abbrev pub WritesOver : (Code → Code) → Scope → Info → (at_start in_hard : Bool) → Draft → Draft → Type 0
+WritesOver over scope i at_start in_hard s t =
+    (p : Site) (call : ℕ → Bool → Code)
     → IsScopeAt p call scope
-    → IsKnown p.analysis i
-    → Writes p (over (hard_code p call (info_tree i) at_start in_hard)) (info_tree i ∷ []) s t
+    → IsAnalysed p.analysis i
+    → Writes p (over (node_code p call (info_tree i) at_start in_hard)) (info_tree i ∷ []) s t
 
-abbrev pub WritesConditional : Scope → Info → Info → Info → Draft → Draft → Type 0
-WritesConditional scope c d e s t =
-    (p : Site) (call : ℕ → Bool → Code) (in_hard : Bool)
+abbrev pub WritesConditional : Scope → Info → Info → Info → (in_hard : Bool) → Draft → Draft → Type 0
+WritesConditional scope c d e in_hard s t =
+    (p : Site) (call : ℕ → Bool → Code)
     → IsScopeAt p call scope
-    → IsKnown p.analysis c
-    → IsKnown p.analysis d
-    → IsKnown p.analysis e
+    → IsAnalysed p.analysis c
+    → IsAnalysed p.analysis d
+    → IsAnalysed p.analysis e
     → Writes
     p
     (conditional_code
-    (hard_code p call (info_tree c) false in_hard)
-    (hard_code p call (info_tree d) false in_hard)
-    (hard_code p call (info_tree e) false in_hard))
+    (node_code p call (info_tree c) false in_hard)
+    (node_code p call (info_tree d) false in_hard)
+    (node_code p call (info_tree e) false in_hard))
     (info_tree c ∷ info_tree d ∷ info_tree e ∷ [])
     s
     t
 
 -- a node over one other, which is made so
-abbrev pub WritesParent : (Tree → Tree) → Scope → Info → Draft → Draft → Type 0
-WritesParent made scope i s t =
-    (p : Site) (call : ℕ → Bool → Code) (at_start in_hard : Bool)
+abbrev pub WritesParent : (Tree → Tree) → Scope → Info → (in_hard : Bool) → Draft → Draft → Type 0
+WritesParent made scope i in_hard s t =
+    (p : Site) (call : ℕ → Bool → Code) (at_start : Bool)
     → IsScopeAt p call scope
-    → IsKnown p.analysis i
+    → IsAnalysed p.analysis i
     → Writes p (hard_code p call (made (info_tree i)) at_start in_hard) (made (info_tree i) ∷ []) s t
 
+-- in whichever context it stands
 abbrev pub WritesLook : plain.Look → Scope → Info → Draft → Draft → Type 0
-WritesLook look = WritesParent (λ e. plain.LookAround look e)
+WritesLook look scope i s t = (in_hard : Bool) → WritesParent (λ e. plain.LookAround look e) scope i in_hard s t
 
-abbrev pub WritesRepeat : ℕ → Option ℕ → Bool → Scope → Info → Draft → Draft → Type 0
+abbrev pub WritesRepeat : ℕ → Option ℕ → Bool → Scope → Info → (in_hard : Bool) → Draft → Draft → Type 0
 WritesRepeat lo hi greedy = WritesParent (λ e. plain.Repeat lo hi greedy e)
 
 -- ---- lookbehind over branches
@@ -234,27 +296,20 @@ is_absent_expr e = false
 abbrev pub step_past : Code → Code
 step_past body = conditional_code (negative_look_code body) (one Instr.Any) nothing
 
--- an absent repeater, whose body's hardness was found
 abbrev pub WritesAbsent : Scope → Info → Draft → Draft → Type 0
-WritesAbsent scope i s t =
-    (p : Site) (call : ℕ → Bool → Code) (at_start in_hard : Bool)
-    → IsScopeAt p call scope
-    → IsKnown p.analysis i
-    → info_hard i ≡ is_hard p.analysis (info_tree i)
-    → Writes p (hard_code p call (plain.AbsentRepeater (info_tree i)) at_start in_hard)
-    (plain.AbsentRepeater (info_tree i) ∷ []) s t
+WritesAbsent scope i s t = (in_hard : Bool) → WritesParent plain.AbsentRepeater scope i in_hard s t
 
 -- ---- calls
 
-abbrev pub WritesCall : Scope → ℕ → Draft → Draft → Type 0
-WritesCall scope g s t =
-    (p : Site) (call : ℕ → Bool → Code) (at_start in_hard : Bool)
+abbrev pub WritesCall : Scope → ℕ → (in_hard : Bool) → Draft → Draft → Type 0
+WritesCall scope g in_hard s t =
+    (p : Site) (call : ℕ → Bool → Code) (at_start : Bool)
     → IsScopeAt p call scope
     → Writes p (hard_code p call (plain.SubroutineCall g) at_start in_hard) (plain.SubroutineCall g ∷ []) s t
 
 -- there is something that a call of the number calls
 abbrev pub has_target : GroupTable → ℕ → Bool
-has_target gs g = g == 0 || (nat_le gs.first g && nat_lt (g - gs.first) (length gs.bodies.items))
+has_target gs g = g == 0 || (nat_le gs.first g && nat_lt (g - gs.first) (length gs.nodes.items))
 
 -- ---- how far there is to go
 

@@ -63,12 +63,16 @@ fn is_refused_body(body: &Info) -> bool
 }
 
 impl Compiler {
-    /// One character at a time, as long as the node has no way here.
+    /// One character at a time, as long as the node has no way here: by one instruction where the node is easy.
     #[cycle(emit)]
     pub fn emit_absent(&mut self, scope: &Scope, body: &Info)
         requires { IsWhole scope.now body.now }
         ensures { WritesAbsent scope.now body.now (draft_of self.old) (draft_of self.new) }
     {
+        if !body.hard() {
+            self.emit_repeater(scope, body);
+            return;
+        }
         if is_refused_body(body) {
             self.refuse(CompileError::FeatureNotYetSupported);
             return;
@@ -87,13 +91,13 @@ impl Compiler {
     #[cycle(emit)]
     fn emit_step_past(&mut self, scope: &Scope, body: &Info)
         requires { IsWhole scope.now body.now }
-        ensures { WritesOver step_past scope.now body.now false
+        ensures { WritesOver step_past scope.now body.now false false
             (draft_of self.old) (draft_of self.new) }
     {
         self.push(Insn::BeginAtomic);
         let split = self.code.len();
         self.push(Insn::Split(split + 1, 0));
-        self.emit_around(scope, Around::Look(LookKind::NotAhead), body, false);
+        self.emit_around(scope, Around::Look(LookKind::NotAhead), body, false, false);
         self.push(Insn::EndAtomic);
         self.push(Insn::Any);
         let jump = self.code.len();

@@ -16,9 +16,9 @@ use fancy_vm::vm::Insn;
 impl Compiler {
     /// Nodes, one or the other: each but the last goes on behind the last. With `behind`, each is looked for behind the place.
     #[cycle(emit)]
-    pub fn emit_branches(&mut self, scope: &Scope, infos: &[Info], behind: bool)
+    pub fn emit_branches(&mut self, scope: &Scope, infos: &[Info], behind: bool, in_hard: bool)
         requires { AreWhole scope.now infos.now }
-        ensures { WritesBranches behind scope.now infos.now
+        ensures { WritesBranches behind in_hard scope.now infos.now
             (draft_of self.old) (draft_of self.new) }
     {
         let count = infos.len();
@@ -35,21 +35,21 @@ impl Compiler {
         for i in 0..count - 1 {
             let split = self.code.len();
             self.push(Insn::Split(split + 1, 0));
-            self.emit_branch(scope, &infos[i], behind);
+            self.emit_branch(scope, &infos[i], behind, in_hard);
             let jump = self.code.len();
             self.patch(split, Insn::Split(split + 1, jump + 1));
             jumps.push(jump).unwrap();
             self.push(Insn::Jmp(0));
         }
-        self.emit_branch(scope, &infos[count - 1], behind);
+        self.emit_branch(scope, &infos[count - 1], behind, in_hard);
         self.patch_jumps(jumps);
     }
 
     #[cycle(emit)]
-    fn emit_branch(&mut self, scope: &Scope, info: &Info, behind: bool)
+    fn emit_branch(&mut self, scope: &Scope, info: &Info, behind: bool, in_hard: bool)
         requires { IsWhole scope.now info.now }
         ensures { WritesOver (branch_over behind (info_size info.now).least)
-            scope.now info.now false (draft_of self.old) (draft_of self.new) }
+            scope.now info.now false in_hard (draft_of self.old) (draft_of self.new) }
     {
         if behind {
             self.emit_around(
@@ -57,9 +57,10 @@ impl Compiler {
                 Around::Look(LookKind::Behind(info.min_size())),
                 info,
                 false,
+                in_hard,
             );
         } else {
-            self.emit(scope, info, false);
+            self.emit(scope, info, false, in_hard);
         }
     }
 

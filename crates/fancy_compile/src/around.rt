@@ -70,14 +70,21 @@ impl Compiler {
 
     /// A node with what stands around it.
     #[cycle(emit)]
-    pub fn emit_around(&mut self, scope: &Scope, around: Around, body: &Info, at_start: bool)
+    pub fn emit_around(
+        &mut self,
+        scope: &Scope,
+        around: Around,
+        body: &Info,
+        at_start: bool,
+        in_hard: bool,
+    )
         requires { IsWhole scope.now body.now }
-        ensures { WritesOver (around_code around) scope.now body.now at_start
+        ensures { WritesOver (around_code around) scope.now body.now at_start in_hard
             (draft_of self.old) (draft_of self.new) }
     {
         let start = self.start();
         self.begin(around);
-        self.emit(scope, body, at_start);
+        self.emit(scope, body, at_start, in_hard);
         self.end(around, start);
     }
 }

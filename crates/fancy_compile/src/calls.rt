@@ -5,7 +5,6 @@ ghost use Rattle.fancy_compile.specs.Nodes.{IsScope, WritesCall};
 ghost use Rattle.fancy_compile.specs.OpenDepths.{depths_in, depths_of};
 ghost use Rattle.std.specs.Prelude.{◌≡◌};
 
-use crate::around::Around;
 use crate::compiler::Compiler;
 use crate::group_table::is_marked;
 use crate::scope::Scope;
@@ -54,9 +53,9 @@ impl<'t, 'i, 'a, 'o> Scope<'t, 'i, 'a, 'o> {
 impl Compiler {
     /// A call: what it names is written anew.
     #[cycle(emit)]
-    pub fn emit_call(&mut self, scope: &Scope, group: usize)
+    pub fn emit_call(&mut self, scope: &Scope, group: usize, in_hard: bool)
         requires { IsScope scope.now }
-        ensures { WritesCall scope.now group (draft_of self.old) (draft_of self.new) }
+        ensures { WritesCall scope.now group in_hard (draft_of self.old) (draft_of self.new) }
     {
         if !scope.groups.has_target(group) {
             self.refuse(CompileError::SubroutineCallTargetNotFound);
@@ -80,11 +79,11 @@ impl Compiler {
             calls: Some(&call),
         };
         if group == 0 {
-            self.emit(&inner, scope.root, true);
+            self.emit(&inner, scope.root, true, in_hard);
             return;
         }
         let i = group - scope.groups.first;
         let at_start = is_marked(&scope.groups.starts, i);
-        self.emit_around(&inner, Around::Group(group), scope.groups.body(i), at_start);
+        self.emit_node(&inner, scope.groups.node(i), at_start, in_hard);
     }
 }

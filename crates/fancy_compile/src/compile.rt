@@ -7,7 +7,7 @@ ghost use Rattle.fancy_meaning.specs.Options as plain;
 ghost use Rattle.fancy_meaning.specs.Nodes.{group_count};
 ghost use Rattle.fancy_meaning.specs.Premises.{Analysed, analysis};
 ghost use Rattle.fancy_compile.specs.Compiled.{Compiles, IsWritingOf, MayCompile, mode_of, plan_with};
-ghost use Rattle.fancy_compile.specs.Drafts.{Writes, draft_of, no_node};
+ghost use Rattle.fancy_compile.specs.Drafts.{Writes, draft_of, is_easy};
 ghost use Rattle.fancy_compile.specs.Nodes.{IsScope, IsScopeOf};
 ghost use Rattle.fancy_info.specs.Infos.{IsRoot};
 ghost use Rattle.fancy_compile.specs.Sites.{Site, top};
@@ -108,13 +108,13 @@ impl Compiler {
             → p.anchored ≡ anchored
             → p.end_text ≡ end_text
             → IsScopeOf p.analysis scope.now
-            → Writes (top p) (program_code p no_node) (p.analysis.tree ∷ [])
+            → Writes (top p) (program_code p (is_easy p.analysis)) (p.analysis.tree ∷ [])
             (draft_of self.old) (draft_of self.new) }
     {
         let explicit = scope.root.explicit_capture_group_0();
         self.emit_search(anchored);
         self.emit_edge(explicit, 0);
-        self.emit(scope, scope.root, true);
+        self.emit(scope, scope.root, true, false);
         self.emit_edge(explicit, 1);
         self.emit_end_text(end_text);
         self.push(Insn::End);
@@ -155,7 +155,7 @@ impl Compiler {
     }
 }
 
-/// The program of an analysed tree, by the layout of "docs/LAYOUT.md" with every node written out: nothing is left to a plain search yet.
+/// The program of an analysed tree, by the layout of "docs/LAYOUT.md": easy nodes are left to plain searches where their context lets them be.
 ///
 /// `info` is the root that `analyze` answered, and the end-of-text option is set only where the analysis knew of it. What is written out is
 /// refused as `Error::CompileError`: as `FeatureNotYetSupported` an existence condition with a recursion level, a control verb but `Fail`, an

@@ -1,4 +1,4 @@
-//! The table of a tree's groups: their bodies, and with which of them a match may begin.
+//! The table of a tree's groups, and with which of them a match may begin.
 
 ghost use Rattle.fancy_compile.specs.Nodes.{IsKnown, has_target};
 ghost use Rattle.fancy_compile.specs.GroupTables.{Gathers, GathersOwn, IsTable, Marks, MarksAll, is_concat, is_group};
@@ -15,8 +15,7 @@ use std::alloc::{AllocError, Global};
 pub struct GroupTable<'i, 'a> {
     /// The number of the first group.
     pub first: usize,
-    /// The bodies of the groups.
-    pub bodies: Vec<&'i Info<'a>>,
+    pub nodes: Vec<&'i Info<'a>>,
     /// Whether a match may begin with the group.
     pub starts: Vec<bool>,
 }
@@ -39,27 +38,26 @@ fn is_concat(expr: &Expr) -> bool
     }
 }
 
-/// The body of a group.
-fn gather_own<'i, 'a>(info: &'i Info<'a>, bodies: &mut Vec<&'i Info<'a>>) -> Result<(), AllocError>
-    requires { (a : Analysis) × IsKnown a info.now }
-    ensures { IfOk result (λ u. GathersOwn info.now bodies.old.items bodies.new.items) }
+/// The node, where it is a group.
+fn gather_own<'i, 'a>(info: &'i Info<'a>, nodes: &mut Vec<&'i Info<'a>>) -> Result<(), AllocError>
+    ensures { IfOk result (λ u. GathersOwn info.now nodes.old.items nodes.new.items) }
 {
     if !is_group(info.expr()) {
         return Ok(());
     }
-    bodies.push(child(info, 0))?;
+    nodes.push(info)?;
     Ok(())
 }
 
-/// The bodies of the groups of a node, in the order in which they open.
-fn gather<'i, 'a>(info: &'i Info<'a>, bodies: &mut Vec<&'i Info<'a>>) -> Result<(), AllocError>
+/// The groups of a node, in the order in which they open.
+fn gather<'i, 'a>(info: &'i Info<'a>, nodes: &mut Vec<&'i Info<'a>>) -> Result<(), AllocError>
     requires { (a : Analysis) × IsKnown a info.now }
-    ensures { IfOk result (λ u. Gathers info.now bodies.old.items bodies.new.items) }
+    ensures { IfOk result (λ u. Gathers info.now nodes.old.items nodes.new.items) }
 {
-    gather_own(info, bodies)?;
+    gather_own(info, nodes)?;
     let children = info.children();
     for part in children {
-        gather(part, bodies)?;
+        gather(part, nodes)?;
     }
     Ok(())
 }
@@ -127,13 +125,13 @@ impl<'i, 'a> GroupTable<'i, 'a> {
         requires { (a : Analysis) × IsKnown a root.now }
         ensures { IfOk result (λ g. IsTable root.now first g) }
     {
-        let mut bodies = Vec::new(alloc);
-        gather(root, &mut bodies)?;
-        let mut starts = no_marks(alloc, bodies.len())?;
+        let mut nodes = Vec::new(alloc);
+        gather(root, &mut nodes)?;
+        let mut starts = no_marks(alloc, nodes.len())?;
         mark(root, first, &mut starts);
         Ok(GroupTable {
             first,
-            bodies,
+            nodes,
             starts,
         })
     }
@@ -145,14 +143,14 @@ impl<'i, 'a> GroupTable<'i, 'a> {
         if group == 0 {
             return true;
         }
-        group >= self.first && group - self.first < self.bodies.len()
+        group >= self.first && group - self.first < self.nodes.len()
     }
 
-    /// The body of the group with this index.
-    pub fn body(&self, i: usize) -> &'i Info<'a>
-        requires { i < length self.now.bodies.items }
-        ensures { result ≡ slice_index_or self.now.bodies.items i result }
+    /// The group with this index.
+    pub fn node(&self, i: usize) -> &'i Info<'a>
+        requires { i < length self.now.nodes.items }
+        ensures { result ≡ slice_index_or self.now.nodes.items i result }
     {
-        self.bodies[i]
+        self.nodes[i]
     }
 }

@@ -64,11 +64,13 @@ impl Compiler {
                 Around::Look(LookKind::Ahead),
                 body,
                 false,
+                false,
             ),
             LookAround::LookAheadNeg => self.emit_around(
                 scope,
                 Around::Look(LookKind::NotAhead),
                 body,
+                false,
                 false,
             ),
             LookAround::LookBehind => self.emit_behind(scope, body),
@@ -88,11 +90,12 @@ impl Compiler {
                 Around::Look(LookKind::Behind(body.min_size())),
                 body,
                 false,
+                false,
             );
             return;
         }
         if has_const_branches(body) {
-            self.emit_branches(scope, body.children(), true);
+            self.emit_branches(scope, body.children(), true, false);
             return;
         }
         self.refuse(CompileError::VariableLookBehindRequiresFeature);
@@ -110,6 +113,7 @@ impl Compiler {
                 scope,
                 Around::Look(LookKind::NotBehind(body.min_size())),
                 body,
+                false,
                 false,
             );
             return;
@@ -132,6 +136,7 @@ impl Compiler {
                 scope,
                 Around::Look(LookKind::NotBehind(info.min_size())),
                 info,
+                false,
                 false,
             );
         }

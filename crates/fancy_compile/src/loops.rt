@@ -2,15 +2,16 @@
 
 ghost use Rattle.fancy_compile.specs.declared.around.Around.TheVariants as around;
 ghost use Rattle.fancy_compile.specs.declared.loops.LoopKind.TheVariants as kind;
-ghost use Rattle.fancy_compile.specs.Arounds.{Ends, form_of, loop_opening};
+ghost use Rattle.fancy_compile.specs.Arounds.{Ends, form_of, kind_form, loop_opening};
 ghost use Rattle.fancy_compile.specs.Drafts.{Writes, draft_of};
 ghost use Rattle.fancy_compile.specs.Nodes.{IsWhole, WritesRepeat};
 ghost use Rattle.fancy_compile.specs.Sites.{Site};
 ghost use Rattle.fancy_expr.specs.Views.{bound_of};
 ghost use Rattle.fancy_meaning.specs.Constructs.{loop_form, split};
 ghost use Rattle.fancy_meaning.specs.Instr.{Instr};
+ghost use Rattle.fancy_meaning.specs.Layout.{is_at_most_once};
 ghost use Rattle.fancy_vm.specs.Insns.{insn_of};
-ghost use Rattle.std.specs.Prelude.{[], ◌≡◌};
+ghost use Rattle.std.specs.Prelude.{[], not, ◌||◌, ◌≡◌};
 
 use crate::around::{Around, Start};
 use crate::compiler::Compiler;
@@ -51,6 +52,22 @@ pub fn loop_kind(lo: usize, hi: usize, may_be_empty: bool) -> Option<LoopKind>
         1 => Some(LoopKind::Plus),
         _ => Some(LoopKind::Counted { lo, hi }),
     }
+}
+
+fn is_at_most_once(kind: LoopKind) -> bool
+    ensures { result ≡ is_at_most_once (kind_form kind) }
+{
+    match kind {
+        LoopKind::AtMostOnce => true,
+        _ => false,
+    }
+}
+
+/// The body is in a hard context where the loop is in one, or may enter the body again.
+fn is_body_hard(kind: LoopKind, in_hard: bool) -> bool
+    ensures { result ≡ (in_hard || not (is_at_most_once (kind_form kind))) }
+{
+    in_hard || !is_at_most_once(kind)
 }
 
 /// The split that goes on first, or last.
@@ -109,13 +126,27 @@ fn counted_insn(greedy: bool, lo: usize, hi: usize, next: usize, repeat: usize) 
 impl Compiler {
     /// A loop.
     #[cycle(emit)]
-    pub fn emit_repeat(&mut self, scope: &Scope, lo: usize, hi: usize, greedy: bool, body: &Info)
+    pub fn emit_repeat(
+        &mut self,
+        scope: &Scope,
+        lo: usize,
+        hi: usize,
+        greedy: bool,
+        body: &Info,
+        in_hard: bool,
+    )
         requires { IsWhole scope.now body.now }
-        ensures { WritesRepeat lo (bound_of hi) greedy scope.now body.now
+        ensures { WritesRepeat lo (bound_of hi) greedy scope.now body.now in_hard
             (draft_of self.old) (draft_of self.new) }
     {
         match loop_kind(lo, hi, body.min_size() == 0) {
-            Some(kind) => self.emit_around(scope, Around::Loop { kind, greedy }, body, false),
+            Some(kind) => self.emit_around(
+                scope,
+                Around::Loop { kind, greedy },
+                body,
+                false,
+                is_body_hard(kind, in_hard),
+            ),
             None => {}
         }
     }

@@ -1,4 +1,4 @@
-use Rattle.std.proofs.Common.{length, if◌then◌else◌, map, refl, ap, ◌∙◌, arith}
+use Rattle.std.proofs.Common.{length, map, refl, ap, arith}
 use Rattle.fancy_vm.specs.Insns.{insn_of}
 use Rattle.fancy_meaning.specs.CompileRefusals.{bytes_mode}
 use Rattle.fancy_meaning.specs.Premises.{analysis}

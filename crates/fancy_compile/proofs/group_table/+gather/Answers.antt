@@ -1,21 +1,22 @@
 use Rattle.std.proofs.Common.{◌<◌, ◌++◌, length, map, drop, ◌+◌, sym, ap, ◌∙◌, subst, arith, append_assoc}
 use Rattle.fancy_info.specs.Infos.{IsAnalysed, info_tree}
 use Rattle.fancy_expr.specs.Each.{Each}
+use Rattle.fancy_plain.specs.Tables.{AreFine}
 use Rattle.fancy_compile.specs.Nodes.{node_count, total}
 use Rattle.fancy_compile.specs.GroupTables.{is_group, own_trees, trees_of, group_trees}
 use Rattle.fancy_info.specs.Infos.{info_facts, info_children}
-use Rattle.fancy_compile.proofs.Infos.{node_count-below, child_count, each_at, known_child}
+use Rattle.fancy_compile.proofs.Infos.{fine_at, fine_below, node_count-below, child_count, each_at, known_child}
 use Rattle.fancy_compile.proofs.GroupTable.{each_group_trees, groups_of_info, each_rest}
 use Rattle.fancy_compile.proofs.group_table.+gather.Goals as goal
 
 pub loop-part-init : goal.loop-part-init
 loop-part-init t c =
     let i = c.args.info.now in
-    let own = own_trees (is_group (info_facts i).expr) (map info_tree (info_children i)) in
-    let old = trees_of c.args.bodies.now.items in
+    let own = own_trees (is_group (info_facts i).expr) (info_tree i) in
+    let old = trees_of c.args.nodes.now.items in
     record {
-      bodies = λ a k.
-          ap (λ l. l ++ each_group_trees c.children-children.result.now) c.in_ok-gather_own.ensures.bodies
+      nodes = λ a k.
+          ap (λ l. l ++ each_group_trees c.children-children.result.now) c.in_ok-gather_own.ensures.nodes
           ∙ ap (λ l. (old ++ own) ++ each_group_trees l) c.children-children.ensures
           ∙ append_assoc old own (each_group_trees (info_children i))
           ∙ ap (λ l. old ++ l) (sym (groups_of_info a i k));
@@ -45,19 +46,20 @@ loop-part-preserved t c =
     let n = c.loop-part.part-index in
     let x = c.part-item.result in
     let lt : n < length children = omega arith in
-    let before = trees_of c.loop-part.bodies.items in
+    let before = trees_of c.loop-part.nodes.items in
     record {
-      bodies = λ a k.
+      nodes = λ a k.
           let each = subst (Each (IsAnalysed a)) (sym c.children-children.ensures) k.children in
           let known = known_child a x (each_at (IsAnalysed a) children n x each lt c.part-item.is) in
-          ap (λ l. l ++ each_group_trees (drop (n + 1) children)) (c.in_ok-gather.ensures.bodies a known)
+          ap (λ l. l ++ each_group_trees (drop (n + 1) children)) (c.in_ok-gather.ensures.nodes a known)
           ∙ append_assoc before (group_trees (info_tree x)) (each_group_trees (drop (n + 1) children))
           ∙ ap (λ l. before ++ l) (sym (each_rest children n x lt c.part-item.is))
-          ∙ c.loop-part.invariant.bodies a k;
-      known = λ a most k le all.
+          ∙ c.loop-part.invariant.nodes a k;
+      known = λ a most k fine le all.
           let each = subst (Each (IsAnalysed a)) (sym c.children-children.ensures) k.children in
           let known = known_child a x (each_at (IsAnalysed a) children n x each lt c.part-item.is) in
-          c.in_ok-gather.ensures.known a most known
+          let below = subst (λ l. AreFine (map info_tree l)) (sym c.children-children.ensures) (fine_below a c.args.info.now k fine) in
+          c.in_ok-gather.ensures.known a most known (fine_at children n x below lt c.part-item.is)
           (omega (
             arith,
             le,
@@ -65,5 +67,5 @@ loop-part-preserved t c =
             ap (λ l. total (map node_count l)) c.children-children.ensures,
             child_count children n x lt c.part-item.is,
           ))
-          (c.loop-part.invariant.known a most k le all);
+          (c.loop-part.invariant.known a most k fine le all);
     }

@@ -8,43 +8,49 @@ use Rattle.fancy_compile.specs.Nodes.{work, node_count, total, codes_in_turn, co
 use Rattle.fancy_compile.proofs.compiler.Compiler.+emit.Given as goal
 
 abbrev pub decreases-emit : goal.decreases-emit
-decreases-emit l = work l.scope.now + 8 * node_count l.info.now
+decreases-emit l = work l.scope.now + 8 * node_count l.info.now + 1
+
+abbrev pub decreases-emit_node : goal.decreases-emit_node
+decreases-emit_node l = work l.scope.now + 8 * node_count l.info.now
+
+abbrev pub decreases-emit_concat : goal.decreases-emit_concat
+decreases-emit_concat l = work l.scope.now + 8 * total (map node_count l.infos.now) + 3
 
 abbrev pub decreases-emit_in_turn : goal.decreases-emit_in_turn
-decreases-emit_in_turn l = work l.scope.now + 8 * total (map node_count l.infos.now) + 1
+decreases-emit_in_turn l = work l.scope.now + 8 * total (map node_count l.infos.now) + 2
 
 abbrev pub decreases-emit_branches : goal.decreases-emit_branches
-decreases-emit_branches l = work l.scope.now + 8 * total (map node_count l.infos.now) + 6
+decreases-emit_branches l = work l.scope.now + 8 * total (map node_count l.infos.now) + 7
 
 abbrev pub decreases-emit_branch : goal.decreases-emit_branch
-decreases-emit_branch l = work l.scope.now + 8 * node_count l.info.now + 3
+decreases-emit_branch l = work l.scope.now + 8 * node_count l.info.now + 4
 
 abbrev pub decreases-emit_around : goal.decreases-emit_around
-decreases-emit_around l = work l.scope.now + 8 * node_count l.body.now + 1
+decreases-emit_around l = work l.scope.now + 8 * node_count l.body.now + 2
 
 abbrev pub decreases-emit_conditional : goal.decreases-emit_conditional
-decreases-emit_conditional l = work l.scope.now + 8 * (node_count l.first.now + node_count l.second.now + node_count l.third.now) + 1
+decreases-emit_conditional l = work l.scope.now + 8 * (node_count l.first.now + node_count l.second.now + node_count l.third.now) + 2
 
 abbrev pub decreases-emit_repeat : goal.decreases-emit_repeat
-decreases-emit_repeat l = work l.scope.now + 8 * node_count l.body.now + 2
+decreases-emit_repeat l = work l.scope.now + 8 * node_count l.body.now + 3
 
 abbrev pub decreases-emit_look : goal.decreases-emit_look
-decreases-emit_look l = work l.scope.now + 8 * node_count l.body.now + 5
+decreases-emit_look l = work l.scope.now + 8 * node_count l.body.now + 6
 
 abbrev pub decreases-emit_behind : goal.decreases-emit_behind
-decreases-emit_behind l = work l.scope.now + 8 * node_count l.body.now + 4
+decreases-emit_behind l = work l.scope.now + 8 * node_count l.body.now + 5
 
 abbrev pub decreases-emit_not_behind : goal.decreases-emit_not_behind
-decreases-emit_not_behind l = work l.scope.now + 8 * node_count l.body.now + 4
+decreases-emit_not_behind l = work l.scope.now + 8 * node_count l.body.now + 5
 
 abbrev pub decreases-emit_none_behind : goal.decreases-emit_none_behind
-decreases-emit_none_behind l = work l.scope.now + 8 * total (map node_count l.infos.now) + 6
+decreases-emit_none_behind l = work l.scope.now + 8 * total (map node_count l.infos.now) + 7
 
 abbrev pub decreases-emit_absent : goal.decreases-emit_absent
-decreases-emit_absent l = work l.scope.now + 8 * node_count l.body.now + 3
+decreases-emit_absent l = work l.scope.now + 8 * node_count l.body.now + 4
 
 abbrev pub decreases-emit_step_past : goal.decreases-emit_step_past
-decreases-emit_step_past l = work l.scope.now + 8 * node_count l.body.now + 2
+decreases-emit_step_past l = work l.scope.now + 8 * node_count l.body.now + 3
 
 abbrev pub decreases-emit_call : goal.decreases-emit_call
 decreases-emit_call l = work l.scope.now + 7
@@ -63,12 +69,12 @@ abbrev pub invariant-emit_branches-loop-i : goal.invariant-emit_branches-loop-i
 invariant-emit_branches-loop-i l = record {
   room : length l.infos ≤ l.jumps.cap;
   few : length l.jumps.items ≤ l.i;
-  goes : (p : Site) (call : ℕ → Bool → Code) (in_hard : Bool) (u : Draft)
+  goes : (p : Site) (call : ℕ → Bool → Code) (u : Draft)
       → IsScopeAt p call l.scope
       → Each (IsAnalysed p.analysis) l.infos
-      → Writes p (branches (codes_of_branches p call l.behind in_hard (map info_tree (drop l.i l.infos)))) (map info_tree (drop l.i l.infos))
+      → Writes p (branches (codes_of_branches p call l.behind l.in_hard (map info_tree (drop l.i l.infos)))) (map info_tree (drop l.i l.infos))
       (draft_of l.self) u
-      → Writes p (branches (codes_of_branches p call l.behind in_hard (map info_tree l.infos))) (map info_tree l.infos) (draft_of l.fn.self)
+      → Writes p (branches (codes_of_branches p call l.behind l.in_hard (map info_tree l.infos))) (map info_tree l.infos) (draft_of l.fn.self)
       (with_jumps l.jumps.items (length u.instrs) u);
 }
 
