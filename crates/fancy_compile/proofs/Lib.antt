@@ -19,3 +19,6 @@ pub mod Roots
 pub mod Finished
 pub mod References
 pub mod ClassTable
+pub mod Collected
+pub mod EasyClasses
+pub mod BatchCodes
