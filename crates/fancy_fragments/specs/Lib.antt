@@ -1,3 +1,4 @@
 pub mod Nodes
 pub mod Fragments
 pub mod Delegates
+pub mod Same

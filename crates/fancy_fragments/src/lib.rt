@@ -4,3 +4,4 @@
 pub mod delegate;
 pub mod first_way;
 pub mod fragment;
+mod same;
