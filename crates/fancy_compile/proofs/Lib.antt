@@ -22,3 +22,4 @@ pub mod ClassTable
 pub mod Collected
 pub mod EasyClasses
 pub mod BatchCodes
+pub mod DelegateTable

@@ -13,17 +13,17 @@ ghost use Rattle.std.specs.Prelude.{IfErr, IfOk, None, [], map, ◌∷◌, ◌�
 
 use crate::classes::SharedClasses;
 use crate::compiler::Compiler;
+use crate::delegates::SharedDelegates;
 use crate::leaves::any_insn;
 use crate::scope::Scope;
 use fancy_characters::classes::CaseiLiteral;
 use fancy_expr::error::Error;
 use fancy_expr::expr::Expr;
 use fancy_expr::text::first_char;
-use fancy_fragments::delegate::{Delegate, pattern_text};
+use fancy_fragments::delegate::pattern_text;
 use fancy_info::info::Info;
 use fancy_vm::vm::Insn;
 use std::alloc::{AllocError, Global};
-use std::rc::Rc;
 
 /// Whether the node has another part than literals. The characters of those before it are put behind `chars`, each with
 /// whether it is folded.
@@ -78,7 +78,12 @@ fn chars_insn(alloc: Global, chars: Vec<(char, bool)>, unicode: bool) -> Result<
 }
 
 /// The delegate of nodes that have a text.
-fn delegate_insn(alloc: Global, infos: &[Info], unicode: bool) -> Result<Option<Insn>, Error>
+fn delegate_insn(
+    delegates: &mut SharedDelegates,
+    alloc: Global,
+    infos: &[Info],
+    unicode: bool,
+) -> Result<Option<Insn>, Error>
     requires { AreEasyNeighbours infos.now }
     ensures insn { IfOk result (λ i. code_of i
         ≡ delegate_code unicode (map info_tree infos.now)) }
@@ -89,13 +94,14 @@ fn delegate_insn(alloc: Global, infos: &[Info], unicode: bool) -> Result<Option<
     if text.is_empty() {
         return Ok(None);
     }
-    let delegate = Delegate::build(alloc, infos, unicode)?;
-    Ok(Some(Insn::Delegate(Rc::new(alloc, delegate)?)))
+    let delegate = delegates.get(alloc, infos, text, unicode)?;
+    Ok(Some(Insn::Delegate(delegate)))
 }
 
 /// The instruction of nodes that are not all literal.
 fn other_insn(
     classes: &mut SharedClasses,
+    delegates: &mut SharedDelegates,
     alloc: Global,
     infos: &[Info],
     unicode: bool,
@@ -116,12 +122,13 @@ fn other_insn(
             _ => {}
         }
     }
-    delegate_insn(alloc, infos, unicode)
+    delegate_insn(delegates, alloc, infos, unicode)
 }
 
 /// The instruction of neighbouring easy nodes; none where they need nothing.
 fn batch_insn(
     classes: &mut SharedClasses,
+    delegates: &mut SharedDelegates,
     alloc: Global,
     infos: &[Info],
     unicode: bool,
@@ -136,13 +143,18 @@ fn batch_insn(
     }
     let mut chars = Vec::new(alloc);
     if have_other(infos, &mut chars)? {
-        return other_insn(classes, alloc, infos, unicode);
+        return other_insn(classes, delegates, alloc, infos, unicode);
     }
     Ok(Some(chars_insn(alloc, chars, unicode)?))
 }
 
 /// The instruction of an absent repeater of an easy node.
-fn repeater_insn(alloc: Global, body: &Info, unicode: bool) -> Result<Insn, Error>
+fn repeater_insn(
+    delegates: &mut SharedDelegates,
+    alloc: Global,
+    body: &Info,
+    unicode: bool,
+) -> Result<Insn, Error>
     requires { AreEasyNeighbours (body.now ∷ []) }
     ensures insn { IfOk result (λ i. insn_of i
         ≡ Instr.AbsentRepeater (pattern_of unicode (info_tree body.now ∷ []))
@@ -151,8 +163,10 @@ fn repeater_insn(alloc: Global, body: &Info, unicode: bool) -> Result<Insn, Erro
     ensures classes { IfOk result (λ i. HaveClasses unicode (body.now ∷ [])) }
     ensures refused { IfErr result (IsRefusedFor unicode (body.now ∷ [])) }
 {
-    let delegate = Delegate::build(alloc, std::slice::from_ref(body), unicode)?;
-    Ok(Insn::AbsentRepeater(Rc::new(alloc, delegate)?))
+    let infos = std::slice::from_ref(body);
+    let text = pattern_text(alloc, infos)?;
+    let delegate = delegates.get(alloc, infos, text, unicode)?;
+    Ok(Insn::AbsentRepeater(delegate))
 }
 
 impl Compiler {
@@ -161,7 +175,14 @@ impl Compiler {
         requires { AreEasyNeighbours infos.now }
         ensures { WritesBatch scope.now infos.now (draft_of self.old) (draft_of self.new) }
     {
-        match batch_insn(&mut self.classes, scope.alloc, infos, scope.unicode) {
+        let made = batch_insn(
+            &mut self.classes,
+            &mut self.delegates,
+            scope.alloc,
+            infos,
+            scope.unicode,
+        );
+        match made {
             Ok(Some(insn)) => self.push(insn),
             Ok(None) => {}
             Err(error) => self.fail(error),
@@ -173,7 +194,7 @@ impl Compiler {
         requires { AreEasyNeighbours (body.now ∷ []) }
         ensures { WritesRepeater scope.now body.now (draft_of self.old) (draft_of self.new) }
     {
-        match repeater_insn(scope.alloc, body, scope.unicode) {
+        match repeater_insn(&mut self.delegates, scope.alloc, body, scope.unicode) {
             Ok(insn) => self.push(insn),
             Err(error) => self.fail(error),
         }

@@ -2,7 +2,6 @@ use Rattle.std.proofs.Common.{map, sym, ap, ◌∙◌}
 use Rattle.fancy_info.specs.Infos.{info_tree}
 use Rattle.fancy_meaning.specs.Code.{one}
 use Rattle.fancy_headline.proofs.Batches.{no_name}
-use Rattle.fancy_fragments.specs.Delegates.{delegate_instr}
 use Rattle.fancy_compile.proofs.BatchCodes.{named, no_text, some_text}
 use Rattle.fancy_compile.proofs.EasyClasses.{textless_classes}
 use Rattle.fancy_compile.proofs.batches.delegate_insn.Goals as goal
@@ -24,5 +23,5 @@ returns-clause-insn c =
     let unicode = c.args.unicode in
     let es = map info_tree c.args.infos.now in
     let some = some_text _ _ c.in_ok-text.text.bytes.ok.0 (sym c.is_empty.ensures ∙ c.if-is_empty.false) in
-    ap one (ap delegate_instr c.in_ok-new.ensures.ok ∙ c.in_ok-delegate.ensures.delegate)
+    ap one c.in_ok-delegate.ensures.delegate
     ∙ named unicode es (λ e. some (c.in_ok-text.ensures.text unicode ∙ e))
