@@ -20,3 +20,7 @@ pub mod Roots
 pub mod Finished
 pub mod References
 pub mod ClassTable
+pub mod Collected
+pub mod EasyClasses
+pub mod BatchCodes
+pub mod DelegateTable

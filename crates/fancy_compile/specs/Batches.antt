@@ -1,15 +1,27 @@
 -- What writing neighbouring easy nodes does.
-use Rattle.std.specs.Prelude.{◌≡◌, List, [], ◌∷◌, map}
+use Rattle.std.specs.Prelude.{◌≡◌, ℕ, Bool, true, false, List, [], ◌∷◌, ◌++◌, Option, Some, None, map}
 use Rattle.fancy_meaning.specs.Batches.{batch, fragment, group_range, pattern_of}
-use Rattle.fancy_meaning.specs.Code.{one}
+use Rattle.fancy_meaning.specs.Code.{Code, nothing, one}
 use Rattle.fancy_meaning.specs.Instr.{Instr}
 use Rattle.fancy_expr.specs.Each.{Each}
 use Rattle.fancy_info.specs.declared.info.Info.{Info}
 use Rattle.fancy_info.specs.Infos.{info_tree}
 use Rattle.fancy_plain.specs.Neighbours.{IsEasy}
+use Rattle.fancy_vm.specs.Insns.{insn_of}
+use Rattle.fancy_vm.specs.declared.insn.Insn.{Insn}
 use Rattle.fancy_compile.specs.declared.scope.Scope.{Scope}
 use Rattle.fancy_compile.specs.Drafts.{Draft, Writes}
 use Rattle.fancy_compile.specs.Sites.{Site}
+
+-- Where there are characters, they are put behind those so far, and no other part was met.
+abbrev pub Collects : Option (List (ℕ × Bool)) → (old new : List (ℕ × Bool)) → (is_other : Bool) → Type 0
+Collects (Some cs) old new is_other = (is_other ≡ false) × (new ≡ old ++ cs)
+Collects None old new is_other = is_other ≡ true
+
+-- an instruction, or none
+abbrev pub code_of : Option Insn → Code
+code_of (Some i) = one (insn_of i)
+code_of None = nothing
 
 -- neighbouring easy nodes as one instruction
 abbrev pub WritesBatch : Scope → List Info → Draft → Draft → Type 0

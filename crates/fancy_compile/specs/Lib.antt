@@ -9,3 +9,4 @@ pub mod Nodes
 pub mod GroupTables
 pub mod Compiled
 pub mod ClassKeys
+pub mod SharedDelegates

@@ -1,14 +1,173 @@
 //! Batches: neighbouring easy nodes as one instruction.
 
-ghost use Rattle.fancy_compile.specs.Batches.{WritesBatch, WritesRepeater};
+ghost use Rattle.fancy_compile.specs.Batches.{Collects, WritesBatch, WritesRepeater, code_of};
 ghost use Rattle.fancy_compile.specs.Drafts.{draft_of};
 ghost use Rattle.fancy_fragments.specs.Nodes.{AreEasyNeighbours};
-ghost use Rattle.std.specs.Prelude.{[], ◌∷◌};
+ghost use Rattle.fancy_info.specs.Infos.{info_tree};
+ghost use Rattle.fancy_meaning.specs.Batches.{all_joined, batch, batch_code, delegate_code, fragment, group_range, literal_chars, literal_instr, pattern_of};
+ghost use Rattle.fancy_meaning.specs.Instr.{Instr};
+ghost use Rattle.fancy_plain.specs.Tables.{HaveClasses, IsRefusedFor};
+ghost use Rattle.fancy_vm.specs.Insns.{insn_of};
+ghost use Rattle.std.specs.List.{list_any};
+ghost use Rattle.std.specs.Prelude.{IfErr, IfOk, None, [], map, ◌∷◌, ◌≡◌};
 
+use crate::classes::SharedClasses;
 use crate::compiler::Compiler;
+use crate::delegates::SharedDelegates;
+use crate::leaves::any_insn;
 use crate::scope::Scope;
+use fancy_characters::classes::CaseiLiteral;
 use fancy_expr::error::Error;
+use fancy_expr::expr::Expr;
+use fancy_expr::text::first_char;
+use fancy_fragments::delegate::pattern_text;
 use fancy_info::info::Info;
+use fancy_vm::vm::Insn;
+use std::alloc::{AllocError, Global};
+
+/// Whether the node has another part than literals. The characters of those before it are put behind `chars`, each with
+/// whether it is folded.
+#[cycle(collect)]
+fn has_other(info: &Info, chars: &mut Vec<(char, bool)>) -> Result<bool, AllocError>
+    ensures { IfOk result (Collects (literal_chars (info_tree info.now))
+        chars.old.items chars.new.items) }
+{
+    match info.expr() {
+        Expr::Literal { val, casei } => {
+            chars.push((first_char(val), *casei))?;
+            Ok(false)
+        }
+        Expr::Concat(_) => have_other(info.children(), chars),
+        _ => Ok(true),
+    }
+}
+
+/// The same of neighbours.
+#[cycle(collect)]
+fn have_other(infos: &[Info], chars: &mut Vec<(char, bool)>) -> Result<bool, AllocError>
+    ensures { IfOk result (Collects (all_joined (map literal_chars (map info_tree infos.now)))
+        chars.old.items chars.new.items) }
+{
+    for info in infos {
+        if has_other(info, chars)? {
+            return Ok(true);
+        }
+    }
+    Ok(false)
+}
+
+/// One of the characters is folded.
+fn is_folded(chars: &[(char, bool)]) -> bool
+    ensures { result ≡ list_any (λ c. c.1) chars.now }
+{
+    chars.iter().any(|c| c.1)
+}
+
+/// The instruction for these characters, each folded or not.
+fn chars_insn(alloc: Global, chars: Vec<(char, bool)>, unicode: bool) -> Result<Insn, AllocError>
+    ensures { IfOk result (λ i. insn_of i ≡ literal_instr unicode chars.items) }
+{
+    if is_folded(&chars) {
+        return Ok(Insn::LitCasei(CaseiLiteral::new(chars, unicode)));
+    }
+    let mut text = String::new(alloc);
+    for c in &chars {
+        text.push(c.0)?;
+    }
+    Ok(Insn::Lit(text))
+}
+
+/// The delegate of nodes that have a text.
+fn delegate_insn(
+    delegates: &mut SharedDelegates,
+    alloc: Global,
+    infos: &[Info],
+    unicode: bool,
+) -> Result<Option<Insn>, Error>
+    requires { AreEasyNeighbours infos.now }
+    ensures insn { IfOk result (λ i. code_of i
+        ≡ delegate_code unicode (map info_tree infos.now)) }
+    ensures classes { IfOk result (λ i. HaveClasses unicode infos.now) }
+    ensures refused { IfErr result (IsRefusedFor unicode infos.now) }
+{
+    let text = pattern_text(alloc, infos)?;
+    if text.is_empty() {
+        return Ok(None);
+    }
+    let delegate = delegates.get(alloc, infos, text, unicode)?;
+    Ok(Some(Insn::Delegate(delegate)))
+}
+
+/// The instruction of nodes that are not all literal.
+fn other_insn(
+    classes: &mut SharedClasses,
+    delegates: &mut SharedDelegates,
+    alloc: Global,
+    infos: &[Info],
+    unicode: bool,
+) -> Result<Option<Insn>, Error>
+    requires { AreEasyNeighbours infos.now }
+    ensures insn { IfOk result (λ i. code_of i
+        ≡ batch_code unicode None (map info_tree infos.now)) }
+    ensures classes { IfOk result (λ i. HaveClasses unicode infos.now) }
+    ensures refused { IfErr result (IsRefusedFor unicode infos.now) }
+{
+    if infos.len() == 1 {
+        match infos[0].expr() {
+            Expr::Delegate { inner, casei } => {
+                let class = classes.get(alloc, inner, *casei, unicode)?;
+                return Ok(Some(Insn::CharClass(class)));
+            }
+            Expr::Any { newline, crlf } => return Ok(Some(any_insn(*newline, *crlf))),
+            _ => {}
+        }
+    }
+    delegate_insn(delegates, alloc, infos, unicode)
+}
+
+/// The instruction of neighbouring easy nodes; none where they need nothing.
+fn batch_insn(
+    classes: &mut SharedClasses,
+    delegates: &mut SharedDelegates,
+    alloc: Global,
+    infos: &[Info],
+    unicode: bool,
+) -> Result<Option<Insn>, Error>
+    requires { AreEasyNeighbours infos.now }
+    ensures insn { IfOk result (λ i. code_of i ≡ batch unicode (map info_tree infos.now)) }
+    ensures classes { IfOk result (λ i. HaveClasses unicode infos.now) }
+    ensures refused { IfErr result (IsRefusedFor unicode infos.now) }
+{
+    if infos.is_empty() {
+        return Ok(None);
+    }
+    let mut chars = Vec::new(alloc);
+    if have_other(infos, &mut chars)? {
+        return other_insn(classes, delegates, alloc, infos, unicode);
+    }
+    Ok(Some(chars_insn(alloc, chars, unicode)?))
+}
+
+/// The instruction of an absent repeater of an easy node.
+fn repeater_insn(
+    delegates: &mut SharedDelegates,
+    alloc: Global,
+    body: &Info,
+    unicode: bool,
+) -> Result<Insn, Error>
+    requires { AreEasyNeighbours (body.now ∷ []) }
+    ensures insn { IfOk result (λ i. insn_of i
+        ≡ Instr.AbsentRepeater (pattern_of unicode (info_tree body.now ∷ []))
+        (fragment unicode (info_tree body.now ∷ []))
+        (group_range (info_tree body.now ∷ []))) }
+    ensures classes { IfOk result (λ i. HaveClasses unicode (body.now ∷ [])) }
+    ensures refused { IfErr result (IsRefusedFor unicode (body.now ∷ [])) }
+{
+    let infos = std::slice::from_ref(body);
+    let text = pattern_text(alloc, infos)?;
+    let delegate = delegates.get(alloc, infos, text, unicode)?;
+    Ok(Insn::AbsentRepeater(delegate))
+}
 
 impl Compiler {
     /// Neighbouring easy nodes: a literal, one class, one character, or a delegate; nothing where their text is empty.
@@ -16,7 +175,18 @@ impl Compiler {
         requires { AreEasyNeighbours infos.now }
         ensures { WritesBatch scope.now infos.now (draft_of self.old) (draft_of self.new) }
     {
-        self.fail(Error::Memory);
+        let made = batch_insn(
+            &mut self.classes,
+            &mut self.delegates,
+            scope.alloc,
+            infos,
+            scope.unicode,
+        );
+        match made {
+            Ok(Some(insn)) => self.push(insn),
+            Ok(None) => {}
+            Err(error) => self.fail(error),
+        }
     }
 
     /// An absent repeater of an easy node.
@@ -24,6 +194,9 @@ impl Compiler {
         requires { AreEasyNeighbours (body.now ∷ []) }
         ensures { WritesRepeater scope.now body.now (draft_of self.old) (draft_of self.new) }
     {
-        self.fail(Error::Memory);
+        match repeater_insn(&mut self.delegates, scope.alloc, body, scope.unicode) {
+            Ok(insn) => self.push(insn),
+            Err(error) => self.fail(error),
+        }
     }
 }

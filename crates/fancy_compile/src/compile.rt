@@ -14,6 +14,7 @@ ghost use Rattle.fancy_compile.specs.Sites.{Site, top};
 
 use crate::classes::SharedClasses;
 use crate::compiler::Compiler;
+use crate::delegates::SharedDelegates;
 use crate::group_table::GroupTable;
 pub use crate::options::{BytesMode, CompileOptions};
 use crate::scope::Scope;
@@ -188,6 +189,7 @@ pub fn compile(alloc: Global, info: &Info, options: CompileOptions) -> Result<Pr
         limit: options.max_prog_size,
         fault: None,
         classes: SharedClasses::new(alloc),
+        delegates: SharedDelegates::new(alloc),
     };
     compiler.emit_program(&scope, options.anchored, end_text);
     compiler.finish(info, options)

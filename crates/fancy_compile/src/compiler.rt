@@ -4,6 +4,7 @@ ghost use Rattle.std.specs.Prelude.{◌≡◌, ◌+◌, ◌≤◌, ◌^◌, List
 ghost use Rattle.std.specs.Option.{ForSome};
 
 use crate::classes::SharedClasses;
+use crate::delegates::SharedDelegates;
 use fancy_expr::error::{CompileError, Error};
 use fancy_vm::vm::Insn;
 
@@ -17,6 +18,7 @@ pub struct Compiler {
     pub limit: Option<usize>,
     pub fault: Option<Error>,
     pub classes: SharedClasses,
+    pub delegates: SharedDelegates,
     ghost within: { ForSome limit (λ most. length code.items ≤ most) },
     ghost slots_fit: { fresh ≤ 2 ^ 62 + length code.items },
 }

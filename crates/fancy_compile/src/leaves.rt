@@ -24,7 +24,7 @@ use std::alloc::{AllocError, Global};
 use std::rc::Rc;
 
 /// The instruction for any character.
-fn any_insn(newline: bool, crlf: bool) -> Insn
+pub fn any_insn(newline: bool, crlf: bool) -> Insn
     ensures { insn_of result ≡ any_instr newline crlf }
 {
     if newline {

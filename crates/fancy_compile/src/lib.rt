@@ -11,6 +11,7 @@ pub mod compile;
 mod compiler;
 mod concatenations;
 mod conditionals;
+mod delegates;
 mod group_table;
 mod groups;
 mod leaves;

@@ -6,3 +6,4 @@ pub mod delegate;
 pub mod first_way;
 pub mod fragment;
 mod settable;
+mod same;

@@ -1,0 +1,11 @@
+use Rattle.std.proofs.Common.{Bool, drop}
+use Rattle.fancy_headline.proofs.Literals.{Chars}
+use Rattle.fancy_compile.specs.Batches.{Collects}
+use Rattle.fancy_compile.proofs.Collected.{chars_of}
+use Rattle.fancy_compile.proofs.batches.+collect.Given as goal
+
+-- what is left, collected from here, completes the whole
+abbrev pub invariant-have_other-loop-info : goal.invariant-have_other-loop-info
+invariant-have_other-loop-info l =
+    (u : Chars) (is_other : Bool) → Collects (chars_of (drop l.info-index l.infos)) l.chars.items u is_other
+    → Collects (chars_of l.infos) l.fn.chars.items u is_other
