@@ -8,7 +8,7 @@ use Rattle.std.proofs.lemmas.Str.{IsCharBoundary-start}
 use Rattle.std.specs.Str.{IsCharBoundary}
 use Rattle.regex.proofs.Utf8Lemmas.{test_of_IsCharBoundary}
 use Rattle.fancy_meaning.specs.Instr as plain_program
-use Rattle.fancy_meaning.specs.Layout.{undelegated_layout}
+use Rattle.fancy_meaning.specs.Layout.{layout}
 use Rattle.fancy_meaning.specs.Machine as machine
 use Rattle.fancy_meaning.specs.Fits.{run_fits}
 use Rattle.fancy_meaning.specs.Places.{is_place}
@@ -28,7 +28,7 @@ use Rattle.fancy_info.specs.Infos.{analysis_options_of}
 use Rattle.fancy_vm.proofs.FitsLaws.{run_implicit}
 use Rattle.fancy_vm.specs.declared.insn.Prog.{Prog}
 use Rattle.fancy_vm.specs.declared.runs.RunOptions.{RunOptions}
-use Rattle.fancy_vm.specs.Means.{Means, numbers_of}
+use Rattle.fancy_vm.specs.Means.{IsMeaning, numbers_of}
 use Rattle.fancy_vm.specs.Meant.{RunAnswers, outcome_of}
 use Rattle.fancy_vm.specs.Programs.{prog_of, task_of, options_of as run_options_of}
 use Rattle.fancy_compile.specs.declared.options.CompileOptions.{CompileOptions}
@@ -91,7 +91,7 @@ module _ (t : ExprTree) (context : AnalyzeContext) (o : CompileOptions) (ok : Is
       compiled = compiled.not_refused;
       implicit_group_0 = implicit;
     };
-    program = compiled.layout;
+    program = compiled.program;
   }
 
 passes_of : (l : RuntimeError) → outcome_of l ≡ searches.outcome_of (limit_of l)
@@ -105,22 +105,22 @@ module _ (i : Input) (compiled : Compiled) (text : List ℕ) (o : RunOptions) (f
   prog = prog_of (program compiled)
 
   implicit : (i.analysis).explicit_capture_group_0 ≡ false
-  unfolding undelegated_layout
+  unfolding layout
   implicit = sym (ap (λ (p : plain_program.Prog). p.explicit_group_0) from.program) ∙ run_implicit (task_of (program compiled) text o) fits
 
-  is_accepted : IsAccepted i (instructions_of i)
-  is_accepted = from.accepted implicit
+  pub accepted_input : IsAccepted i (instructions_of i)
+  accepted_input = from.accepted implicit
 
   accepted : IsAccepted i (length prog.body)
-  accepted = subst (λ (p : plain_program.Prog). IsAccepted i (length p.body)) (sym from.program) is_accepted
+  accepted = subst (λ (p : plain_program.Prog). IsAccepted i (length p.body)) (sym from.program) accepted_input
 
   -- a run of the tree's program answers as is promised
   pub run_promises : (result : Result (Option (Vec ℕ Global)) Error) → RunAnswers (machine.run (task_of (program compiled) text o)) result →
-      IfOk result (λ found. Means prog text (run_options_of o) (numbers_of found)) → Promises i text (run_options_of o) result
-  run_promises (Ok None) answers means = (is_accepted, means i accepted from.program)
-  run_promises (Ok (Some numbers)) answers means = (is_accepted, means i accepted from.program)
+      IfOk result (λ found. IsMeaning prog text (run_options_of o) (numbers_of found)) → Promises i text (run_options_of o) result
+  run_promises (Ok None) answers means = (accepted_input, means.answers i accepted from.program)
+  run_promises (Ok (Some numbers)) answers means = (accepted_input, means.answers i accepted from.program)
   run_promises (Err (error.RuntimeError l)) answers means = (
-    is_accepted,
+    accepted_input,
     sym (ap (λ p. machine.run (record { program = p; text = text; options = run_options_of o })) from.program) ∙ answers ∙ passes_of l,
   )
   run_promises (Err error.Memory) answers means = tt
@@ -156,7 +156,7 @@ fits_search s text fits =
 -- it fits the run of the program
 pub may_run : (s : SearchOptions) (t : ExprTree) (compiled : Compiled) (text : List ℕ) → search_fits s text ≡ true →
     IsCompiledFrom (input_of t s.analysis s.compilation) compiled → run_fits (task_of (program compiled) text s.run) ≡ true
-unfolding run_fits undelegated_layout
+unfolding run_fits layout
 may_run s t compiled text fits from =
     let h = fits_search s text fits in
     let n = not (s.run).not_empty in

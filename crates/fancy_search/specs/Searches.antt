@@ -1,14 +1,16 @@
 -- The promise filled in for a search of the code: its input, its program, its reply, and what it was compiled from.
-use Rattle.std.specs.Prelude.{◌≡◌, ℕ, Bool, false, ◌&&◌, ◌||◌, not, List, Option, length, Result, Ok, Err}
+use Rattle.std.specs.Prelude.{◌≡◌, ◌≤◌, ◌*◌, ℕ, Bool, IsFalse, false, ◌&&◌, ◌||◌, not, List, Option, length, Result, Ok, Err}
 use Rattle.std.specs.declared.vec.Vec.{Vec}
 use Rattle.std.specs.declared.alloc.Global.{Global}
 use Rattle.fancy_meaning.specs.Options as plain
 use Rattle.fancy_meaning.specs.Places.{is_place}
 use Rattle.fancy_meaning.specs.Config.{Outcome, BacktrackLimitExceeded, StackOverflow, StepLimitExceeded}
 use Rattle.fancy_meaning.specs.Instr as plain_program
-use Rattle.fancy_meaning.specs.Layout.{undelegated_layout}
 use Rattle.fancy_meaning.specs.Machine as machine
+use Rattle.fancy_meaning.specs.Hard.{is_root_hard}
+use Rattle.fancy_meaning.specs.Layout.{layout}
 use Rattle.fancy_meaning.specs.Premises.{Input, plan, IsAccepted}
+use Rattle.fancy_meaning.specs.Theorems.{tried}
 use Rattle.fancy_meaning.specs.Promise.{Limit, Backtracks, Branches, Instructions, Reply, Found, Refused, Passed, OutOfMemory, IsRefused, Promise}
 use Rattle.fancy_expr.specs.declared.error.Error.{Error}
 use Rattle.fancy_expr.specs.declared.error.Error.TheVariants as error
@@ -53,7 +55,7 @@ program compiled = compiled.prog
 
 -- the program of a tree and its options
 abbrev pub program_of : Input → plain_program.Prog
-program_of i = undelegated_layout (plan i)
+program_of i = layout (plan i)
 
 abbrev pub instructions_of : Input → ℕ
 instructions_of i = length (program_of i).body
@@ -84,6 +86,17 @@ module _ (i : Input) where
   Promises text o (Err (error.RuntimeError e)) = MayReply text o (Passed (limit_of e))
   Promises text o (Err error.Memory) = MayReply text o OutOfMemory
   Promises text o (Err (error.TreeFault at)) = ⊥
+
+  -- The whole tree is easy, and the limits allow one backtrack and eight instructions for each start that may be tried.
+  pub record HasRoom (text : List ℕ) (o : plain.RunOptions) : Type 0 where
+    pub easy : IsFalse (is_root_hard (plan i).analysis)
+    pub backtracks : tried i text o ≤ o.backtrack_limit
+    pub instructions : 8 * tried i text o ≤ o.step_limit
+
+  -- then no limit is answered
+  abbrev pub Bounds : List ℕ → plain.RunOptions → Result (Option (Vec ℕ Global)) Error → Type 0
+  Bounds text o (Err (error.RuntimeError e)) = ¬ HasRoom text o
+  Bounds text o result = Unit {0}
 
   -- the tree is refused with the error, or memory was
   abbrev pub IsRefusedAs : Error → Type 0

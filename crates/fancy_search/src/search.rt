@@ -8,7 +8,7 @@ ghost use Rattle.fancy_info.specs.Infos.{analysis_options_of};
 ghost use Rattle.fancy_compile.specs.Compiled.{compile_options_of};
 ghost use Rattle.fancy_expr.specs.Sound.{IsWellFormedTree};
 ghost use Rattle.fancy_vm.specs.Programs.{default_at, options_of as run_options_of, task_of};
-ghost use Rattle.fancy_search.specs.Searches.{IsCompiledFrom, IsRefusedAs, Promises, input_of, program, search_fits};
+ghost use Rattle.fancy_search.specs.Searches.{Bounds, IsCompiledFrom, IsRefusedAs, Promises, input_of, program, search_fits};
 ghost use Rattle.fancy_search.specs.Searches as searches;
 
 use fancy_analysis::analyze::{AnalyzeContext, analyze};
@@ -135,7 +135,8 @@ impl Compiled {
     /// group from 0 up, in bytes of the text, with `usize::MAX` for a group that is not set, or none.
     ///
     /// A `RuntimeError` tells which limit was passed, and `Memory` that a request for memory was refused. The scratch
-    /// may be used again after either.
+    /// may be used again after either. Where the whole tree is easy, limits of one backtrack and eight instructions for
+    /// each start are never passed.
     pub fn search(
         &self,
         alloc: Global,
@@ -144,9 +145,12 @@ impl Compiled {
         scratch: &mut Scratch,
     ) -> Result<Option<Vec<usize>>, Error>
         requires { IsTrue (run_fits (task_of (program self.now) text.now options.now)) }
-        ensures { (i : Input)
+        ensures promise { (i : Input)
             → IsCompiledFrom i self.now
             → Promises i text.now (run_options_of options.now) result }
+        ensures bounds { (i : Input)
+            → IsCompiledFrom i self.now
+            → Bounds i text.now (run_options_of options.now) result }
     {
         run(alloc, &self.prog, text, options, scratch)
     }
@@ -158,7 +162,8 @@ impl Compiled {
 ///
 /// `tree` has passed `is_well_formed`, and the options `SearchOptions::fits`. A tree is refused as
 /// `Error::CompileError` where a case of `analyze` or `compile` holds; a `RuntimeError` tells which limit was passed,
-/// and `Memory` that a request for memory was refused. The scratch may be used again after any of them.
+/// and `Memory` that a request for memory was refused. The scratch may be used again after any of them. Where the whole
+/// tree is easy, limits of one backtrack and eight instructions for each start are never passed.
 pub fn search(
     alloc: Global,
     tree: &ExprTree,
@@ -168,7 +173,12 @@ pub fn search(
 ) -> Result<Option<Vec<usize>>, Error>
     requires well_formed { IsWellFormedTree tree.now }
     requires fits { IsTrue (search_fits options.now text.now) }
-    ensures { Promises
+    ensures promise { Promises
+        (input_of tree.now options.now.analysis options.now.compilation)
+        text.now
+        (run_options_of options.now.run)
+        result }
+    ensures bounds { Bounds
         (input_of tree.now options.now.analysis options.now.compilation)
         text.now
         (run_options_of options.now.run)

@@ -1,6 +1,14 @@
+use Rattle.std.proofs.Common.{◌<◌, length, arith}
+use Rattle.fancy_meaning.specs.Numbers.{usize_max}
+use Rattle.fancy_search.proofs.Bounded.{run_bounds}
 use Rattle.fancy_search.proofs.Searched.{run_promises}
 use Rattle.fancy_search.proofs.search.Compiled.search.Goals as goal
 
-pub returns : goal.returns
-returns c i from =
-    run_promises i c.args.self.now c.args.text.now c.args.options.now from c.requires c.run.result c.run.ensures.machine c.run.ensures.meaning
+pub returns-clause-promise : goal.returns-clause-promise
+returns-clause-promise c i from =
+    run_promises i c.args.self.now c.args.text.now c.args.options.now from c.requires c.run.result c.run.ensures.machine c.run.ensures.headline
+
+pub returns-clause-bounds : goal.returns-clause-bounds
+returns-clause-bounds c i from =
+    let small : length c.args.text.now < usize_max = omega arith in
+    run_bounds i c.args.self.now c.args.text.now c.args.options.now from c.requires c.utf8.text small c.run.result c.run.ensures.machine

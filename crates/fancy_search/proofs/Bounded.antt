@@ -1,0 +1,54 @@
+-- Where the whole tree is easy, a search with room for each start passes no limit.
+use Rattle.std.proofs.Common.{◌≡◌, ℕ, ◌<◌, true, List, length, Option, Ok, Err, Result, sym, ap, ◌∙◌}
+use Rattle.std.specs.Prelude.{IsUtf8}
+use Rattle.std.specs.declared.vec.Vec.{Vec}
+use Rattle.std.specs.declared.alloc.Global.{Global}
+use Rattle.fancy_meaning.specs.Numbers.{usize_max}
+use Rattle.fancy_meaning.specs.Instr as plain_program
+use Rattle.fancy_meaning.specs.Config as config
+use Rattle.fancy_meaning.specs.Layout.{layout}
+use Rattle.fancy_meaning.specs.Machine as machine
+use Rattle.fancy_meaning.specs.Fits.{run_fits}
+use Rattle.fancy_meaning.specs.Premises.{Input, IsFit}
+use Rattle.fancy_meaning.specs.Theorems.{EasyRun, outcome}
+use Rattle.fancy_headline.proofs.Bounds.{branch_bound, backtrack_bound, instruction_bound}
+use Rattle.fancy_expr.specs.declared.error.Error.{Error}
+use Rattle.fancy_expr.specs.declared.error.Error.TheVariants as error
+use Rattle.fancy_expr.specs.declared.error.RuntimeError.{RuntimeError}
+use Rattle.fancy_expr.specs.declared.error.RuntimeError.TheVariants as limit
+use Rattle.fancy_vm.proofs.FitsLaws.{run_implicit, run_place, run_not_empty}
+use Rattle.fancy_vm.specs.declared.runs.RunOptions.{RunOptions}
+use Rattle.fancy_vm.specs.Meant.{RunAnswers, outcome_of}
+use Rattle.fancy_vm.specs.Programs.{prog_of, task_of, options_of as run_options_of}
+use Rattle.fancy_search.specs.declared.search.Compiled.{Compiled}
+use Rattle.fancy_search.specs.Searches.{IsCompiledFrom, HasRoom, Bounds, program}
+use Rattle.fancy_search.proofs.Searched.{accepted_input}
+
+module _ (i : Input) (compiled : Compiled) (text : List ℕ) (o : RunOptions) (from : IsCompiledFrom i compiled)
+    (fits : run_fits (task_of (program compiled) text o) ≡ true) (utf8 : IsUtf8 text) (small : length text < usize_max) where
+  fit : IsFit i text (run_options_of o)
+  unfolding layout
+  fit = record {
+    is_text = record { utf8 = utf8; fits = small };
+    pos = run_place (task_of (program compiled) text o) fits;
+    not_empty = λ on. sym (ap (λ (p : plain_program.Prog). p.find_not_empty) from.program)
+        ∙ run_not_empty (task_of (program compiled) text o) fits on;
+  }
+
+  module _ (room : HasRoom i text (run_options_of o)) where
+    easy : EasyRun i text (run_options_of o)
+    easy = (accepted_input i compiled text o from fits, fit, room.easy)
+
+    no_limit : (l : RuntimeError) → outcome i text (run_options_of o) ≡ outcome_of l → ⊥
+    no_limit limit.BacktrackLimitExceeded = backtrack_bound i text (run_options_of o) easy room.backtracks
+    no_limit limit.StackOverflow = (branch_bound i text (run_options_of o) easy).1
+    no_limit limit.StepLimitExceeded = instruction_bound i text (run_options_of o) easy room.instructions
+
+  pub run_bounds : (result : Result (Option (Vec ℕ Global)) Error) →
+      RunAnswers (machine.run (task_of (program compiled) text o)) result → Bounds i text (run_options_of o) result
+  run_bounds (Err (error.RuntimeError l)) answers = λ room. no_limit room l
+      (sym (ap (λ p. machine.run (record { program = p; text = text; options = run_options_of o })) from.program) ∙ answers)
+  run_bounds (Ok found) answers = tt
+  run_bounds (Err error.Memory) answers = tt
+  run_bounds (Err (error.CompileError e)) answers = tt
+  run_bounds (Err (error.TreeFault at)) answers = tt
