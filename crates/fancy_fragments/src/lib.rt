@@ -5,5 +5,5 @@ mod copies;
 pub mod delegate;
 pub mod first_way;
 pub mod fragment;
-mod settable;
 mod same;
+mod settable;

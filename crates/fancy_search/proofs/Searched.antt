@@ -91,7 +91,7 @@ module _ (t : ExprTree) (context : AnalyzeContext) (o : CompileOptions) (ok : Is
       compiled = compiled.not_refused;
       implicit_group_0 = implicit;
     };
-    program = compiled.program;
+    program = compiled.layout;
   }
 
 passes_of : (l : RuntimeError) → outcome_of l ≡ searches.outcome_of (limit_of l)
