@@ -2,5 +2,5 @@ pub mod Insns
 pub mod Programs
 pub mod MemoRuns
 pub mod Memos
-pub mod Meant
+pub mod Outcomes
 pub mod Means

@@ -7,7 +7,7 @@ use Rattle.fancy_meaning.specs.Options.{RunOptions}
 use Rattle.fancy_meaning.specs.Instr.{Prog}
 use Rattle.fancy_meaning.specs.Layout.{layout, undelegated_layout}
 use Rattle.fancy_meaning.specs.Premises.{Input, plan, IsAccepted}
-use Rattle.fancy_vm.specs.Meant.{first_pair}
+use Rattle.fancy_vm.specs.Outcomes.{first_pair}
 
 -- Whatever well-formed and accepted tree the program is of, these are the numbers of the first admitted way that the
 -- tree has in the text, and there are none where it has no such way.

@@ -6,7 +6,7 @@ ghost use Rattle.fancy_meaning.specs.Machine as machine;
 ghost use Rattle.fancy_state.specs.Held.{first_held};
 ghost use Rattle.fancy_state.specs.Refused.{IsMemory, IsRefused};
 ghost use Rattle.fancy_vm.specs.Memos.{AreMemosOf};
-ghost use Rattle.fancy_vm.specs.Meant.{IsMade, StepAnswers, config_of, meant, with_branch};
+ghost use Rattle.fancy_vm.specs.Outcomes.{IsSoundMachine, StepAnswers, config_of, plain_task, with_branch};
 
 use crate::insn::Prog;
 use crate::memos::Memos;
@@ -51,8 +51,8 @@ impl Machine {
     pub(crate) fn begin(task: &Task<'_>, state: State, memos: Memos) -> Machine
         requires state { state ≡ first_held task.now.prog.now.parts.slots config.most_branches }
         requires memos { AreMemosOf task.now memos }
-        ensures begins { config_of result ≡ machine.begin (meant task.now) }
-        ensures made { IsMade task.now result }
+        ensures begins { config_of result ≡ machine.begin (plain_task task.now) }
+        ensures sound { IsSoundMachine task.now result }
     {
         let pos = task.options.pos;
         let _slots = task.prog.parts.slots;
@@ -78,10 +78,10 @@ impl Machine {
 impl Task<'_> {
     /// Falls back to the last branch.
     pub(crate) fn fail(&self, m: &mut Machine) -> Result<Next, Error>
-        requires made { IsMade self.now m.old }
-        ensures leads { StepAnswers self.now (machine.fail (meant self.now) (config_of m.old))
+        requires sound { IsSoundMachine self.now m.old }
+        ensures leads { StepAnswers self.now (machine.fail (plain_task self.now) (config_of m.old))
             result m.new }
-        ensures made { IsMade self.now m.new }
+        ensures sound { IsSoundMachine self.now m.new }
     {
         if m.state.backtrack_count() == 0 {
             return Ok(Next::Failed);
@@ -96,11 +96,11 @@ impl Task<'_> {
 
     /// Goes on at the next instruction where the test holds, and else fails.
     pub(crate) fn goes_if(&self, test: bool, m: &mut Machine) -> Result<Next, Error>
-        requires made { IsMade self.now m.old }
+        requires sound { IsSoundMachine self.now m.old }
         requires pc { m.old.pc < usize.MAX }
         ensures leads { StepAnswers self.now
-            (machine.goes_if (meant self.now) test (config_of m.old)) result m.new }
-        ensures made { IsMade self.now m.new }
+            (machine.goes_if (plain_task self.now) test (config_of m.old)) result m.new }
+        ensures sound { IsSoundMachine self.now m.new }
     {
         if !test {
             return self.fail(m);
@@ -111,11 +111,11 @@ impl Task<'_> {
 
     /// Goes on at the next instruction from this place, and fails where there is none.
     pub(crate) fn goes_from(&self, to: Option<usize>, m: &mut Machine) -> Result<Next, Error>
-        requires made { IsMade self.now m.old }
+        requires sound { IsSoundMachine self.now m.old }
         requires pc { m.old.pc < usize.MAX }
         ensures leads { StepAnswers self.now
-            (machine.goes_from (meant self.now) (config_of m.old) to) result m.new }
-        ensures made { IsMade self.now m.new }
+            (machine.goes_from (plain_task self.now) (config_of m.old) to) result m.new }
+        ensures sound { IsSoundMachine self.now m.new }
     {
         match to {
             None => self.fail(m),
@@ -129,23 +129,23 @@ impl Task<'_> {
 
     /// Sets a slot.
     pub(crate) fn put(&self, slot: usize, value: usize, m: &mut Machine) -> Result<(), Error>
-        requires made { IsMade self.now m.old }
+        requires sound { IsSoundMachine self.now m.old }
         requires slot { slot < self.now.prog.now.parts.slots }
         ensures ok { OnOk result (config_of m.new ≡ config.with_slot slot value (config_of m.old)) }
         ensures err { IfErr result IsMemory }
-        ensures made { IsMade self.now m.new }
+        ensures sound { IsSoundMachine self.now m.new }
     {
         m.state.save(slot, value)
     }
 
     /// Adds a branch of this machine at another place of the program.
     pub(crate) fn push(&self, pc: usize, m: &mut Machine) -> Result<(), Error>
-        requires made { IsMade self.now m.old }
+        requires sound { IsSoundMachine self.now m.old }
         ensures room { OnOk result (length (config_of m.old).branches < config.most_branches) }
         ensures ok { OnOk result (config_of m.new ≡ with_branch pc (config_of m.old)) }
         ensures refused { IfErr result
             (IsRefused (length (config_of m.old).branches) config.most_branches) }
-        ensures made { IsMade self.now m.new }
+        ensures sound { IsSoundMachine self.now m.new }
     {
         m.state.push(pc, m.ix)
     }

@@ -5,7 +5,7 @@ ghost use Rattle.fancy_meaning.specs.Places.{is_place};
 ghost use Rattle.fancy_meaning.specs.Machine as machine;
 ghost use Rattle.fancy_meaning.specs.Fits.{run_fits};
 ghost use Rattle.fancy_vm.specs.Means.{IsMeaning, IsMeaningPair, Means, MeansPair, numbers_of};
-ghost use Rattle.fancy_vm.specs.Meant.{RunAnswers, RunAnswersPair, Finds, IsMade, config_of, meant};
+ghost use Rattle.fancy_vm.specs.Outcomes.{RunAnswers, RunAnswersPair, Finds, IsSoundMachine, config_of, plain_task};
 ghost use Rattle.fancy_vm.specs.Programs.{IsUnused, allocator_of, default_at, default_task, options_of, prog_of, task_of};
 ghost use Rattle.fancy_state.specs.Refused.{IsMemory};
 
@@ -175,8 +175,8 @@ pub fn run_default(
 impl Scratch {
     /// A machine at the start of the task, with the scratch's memory.
     fn begin(&mut self, task: &Task<'_>) -> Result<Machine, Error>
-        ensures begins { IfOk result (λ m. config_of m ≡ machine.begin (meant task.now)) }
-        ensures made { IfOk result (IsMade task.now) }
+        ensures begins { IfOk result (λ m. config_of m ≡ machine.begin (plain_task task.now)) }
+        ensures sound { IfOk result (IsSoundMachine task.now) }
         ensures err { IfErr result IsMemory }
     {
         let slots = task.prog.parts.slots;
@@ -195,12 +195,12 @@ impl Scratch {
 impl Task<'_> {
     /// Steps until a match is found, which the machine then holds, or none is there.
     fn run(&self, m: &mut Machine) -> Result<bool, Error>
-        requires made { IsMade self.now m.old }
-        requires begins { config_of m.old ≡ machine.begin (meant self.now) }
+        requires sound { IsSoundMachine self.now m.old }
+        requires begins { config_of m.old ≡ machine.begin (plain_task self.now) }
         requires text { IsUtf8 self.now.text.now }
         requires place { IsTrue (is_place self.now.text.now self.now.options.now.pos) }
-        ensures finds { Finds self.now (machine.run (meant self.now)) result m.new }
-        ensures made { IsMade self.now m.new }
+        ensures finds { Finds self.now (machine.run (plain_task self.now)) result m.new }
+        ensures sound { IsSoundMachine self.now m.new }
     {
         'steps: for _step in 0..self.options.step_limit {
             match self.step(m)? {
@@ -214,11 +214,11 @@ impl Task<'_> {
 
     /// The numbers that the run answers.
     fn answer(&self, m: &mut Machine) -> Result<Option<Vec<usize>>, Error>
-        requires made { IsMade self.now m.old }
-        requires begins { config_of m.old ≡ machine.begin (meant self.now) }
+        requires sound { IsSoundMachine self.now m.old }
+        requires begins { config_of m.old ≡ machine.begin (plain_task self.now) }
         requires text { IsUtf8 self.now.text.now }
         requires place { IsTrue (is_place self.now.text.now self.now.options.now.pos) }
-        ensures { RunAnswers (machine.run (meant self.now)) result }
+        ensures { RunAnswers (machine.run (plain_task self.now)) result }
     {
         if !self.run(m)? {
             return Ok(None);
@@ -228,12 +228,12 @@ impl Task<'_> {
 
     /// The first pair of the numbers that the run answers.
     fn answer_pair(&self, m: &mut Machine) -> Result<Option<(usize, usize)>, Error>
-        requires made { IsMade self.now m.old }
-        requires begins { config_of m.old ≡ machine.begin (meant self.now) }
+        requires sound { IsSoundMachine self.now m.old }
+        requires begins { config_of m.old ≡ machine.begin (plain_task self.now) }
         requires text { IsUtf8 self.now.text.now }
         requires place { IsTrue (is_place self.now.text.now self.now.options.now.pos) }
         requires implicit { self.now.prog.now.parts.explicit_group_0 ≡ false }
-        ensures { RunAnswersPair (machine.run (meant self.now)) result }
+        ensures { RunAnswersPair (machine.run (plain_task self.now)) result }
     {
         if !self.run(m)? {
             return Ok(None);

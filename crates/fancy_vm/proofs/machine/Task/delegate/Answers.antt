@@ -5,13 +5,13 @@ use Rattle.fancy_laws.proofs.Every.{All-every}
 use Rattle.fancy_points.specs.FirstWays.{seen}
 use Rattle.fancy_plain.specs.Ways.{IsSeenAs, listed}
 use Rattle.fancy_fragments.specs.Fragments.{fragment_of}
-use Rattle.fancy_vm.specs.Meant.{StepAnswers, config_of, meant}
+use Rattle.fancy_vm.specs.Outcomes.{StepAnswers, config_of, plain_task}
 use Rattle.fancy_vm.proofs.PairsLaws.{takes_none, takes_some, way_fits}
 use Rattle.fancy_vm.proofs.machine.Task.delegate.Goals as goal
 
 pub returns-in-None-clause-leads : goal.returns-in-None-clause-leads
 returns-in-None-clause-leads c =
-    let t = meant c.args.self.now in
+    let t = plain_task c.args.self.now in
     let way = first_way t (fragment_of c.args.delegate.now.fragment) c.args.m.now.ix in
     let found = subst (λ w. IsSeenAs w (option_map seen way)) c.in-None.is c.in_ok-first_way.ensures.seen in
     subst (λ to. StepAnswers c.args.self.now to c.fail.result c.fail.new.m)
@@ -19,7 +19,7 @@ returns-in-None-clause-leads c =
 
 pub set_pairs-requires-clause-slots : goal.set_pairs-requires-clause-slots
 set_pairs-requires-clause-slots c =
-    let t = meant c.args.self.now in
+    let t = plain_task c.args.self.now in
     let fragment = fragment_of c.args.delegate.now.fragment in
     let slots = c.args.self.now.prog.now.parts.slots in
     let way = first_way t fragment c.args.m.now.ix in
@@ -29,7 +29,7 @@ set_pairs-requires-clause-slots c =
 
 pub returns-in_ok-set_pairs-in-Some-clause-leads : goal.returns-in_ok-set_pairs-in-Some-clause-leads
 returns-in_ok-set_pairs-in-Some-clause-leads c =
-    let t = meant c.args.self.now in
+    let t = plain_task c.args.self.now in
     let way = first_way t (fragment_of c.args.delegate.now.fragment) c.args.m.now.ix in
     let found = subst (λ w. IsSeenAs w (option_map seen way)) c.in-Some.is c.in_ok-first_way.ensures.seen in
     let here = config_of c.first_way.new.m in

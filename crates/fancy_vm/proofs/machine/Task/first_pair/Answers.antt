@@ -9,10 +9,10 @@ use Rattle.fancy_vm.proofs.machine.Task.first_pair.Goals as goal
 pub slot-requires : goal.slot-requires
 slot-requires c =
     let prog = c.args.self.now.prog.now in
-    omega (arith, c.requires.made.slots, fits_two (prog_of prog) prog.fits)
+    omega (arith, c.requires.sound.slots, fits_two (prog_of prog) prog.fits)
 
 pub returns : goal.returns
 returns c =
     let prog = prog_of c.args.self.now.prog.now in
     let two = first_two _ (flag_slot prog) usize_max (flag_two prog c.requires.implicit) in
-    ap₂ (λ a b. (a, b)) (two.0 ∙ sym c.kept.ensures) (two.1 ∙ sym c.slot.ensures)
+    ap₂ (λ a b. (a, b)) (two.0 ∙ sym c.match_start.ensures) (two.1 ∙ sym c.slot.ensures)

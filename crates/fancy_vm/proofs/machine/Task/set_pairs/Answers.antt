@@ -2,12 +2,12 @@ use Rattle.std.proofs.Common.{◌≡◌, suc, ◌+◌, ◌∷◌, ap, ◌∙◌,
 use Rattle.std.proofs.Math.ListN.{drop_of_length-le}
 use Rattle.fancy_meaning.specs.Config as config
 use Rattle.fancy_plain.specs.Ways.{Ascends, listed}
-use Rattle.fancy_vm.specs.Meant.{config_of}
+use Rattle.fancy_vm.specs.Outcomes.{config_of}
 use Rattle.fancy_vm.proofs.PairsLaws.{ascend_on, pairs_none, pairs_of_one}
 use Rattle.fancy_vm.proofs.machine.Task.set_pairs.Goals as goal
 
-pub put-requires-clause-made : goal.put-requires-clause-made
-put-requires-clause-made c = c.pairs.invariant.made
+pub put-requires-clause-sound : goal.put-requires-clause-sound
+put-requires-clause-sound c = c.pairs.invariant.sound
 
 pub pairs-preserved : goal.pairs-preserved
 pairs-preserved c =
@@ -18,7 +18,7 @@ pairs-preserved c =
     let cut : drop i spans ≡ x ∷ drop (i + 1) spans = drop-cons spans i (0, 0, 0) c.pairs-test.true ∙ ap (λ n. x ∷ drop n spans) one in
     let on = ascend_on x (drop (i + 1) spans) (subst Ascends cut c.pairs.invariant.ascend) in
     record {
-      made = c.in_ok-put-2.ensures.made;
+      sound = c.in_ok-put-2.ensures.sound;
       ascend = on.1;
       same = pairs_of_one (config_of c.pairs.m) (config_of c.put.new.m) (config_of c.put-in-pairs.new.m) x.0 x.1 x.2 (drop (i + 1) spans)
           c.in_ok-put.ensures.ok c.in_ok-put-2.ensures.ok on.0
@@ -35,5 +35,5 @@ returns-clause-ok c =
     ∙ ap (λ slots. config.with_slots slots now) (pairs_none now.slots))
     ∙ c.pairs.invariant.same
 
-pub returns-clause-made : goal.returns-clause-made
-returns-clause-made c = c.pairs.invariant.made
+pub returns-clause-sound : goal.returns-clause-sound
+returns-clause-sound c = c.pairs.invariant.sound
