@@ -112,8 +112,8 @@ module _ (i : Info) (h : IsAnalysedNode i) where
       (over-parts (info_expr i) (start_of i) (info_within i) (map info_tree (info_children i)) (length-map (info_children i) info_tree ∙ found.arity))
       ∙ children_listed (map info_tree (info_children i))
 
-  pub node_in : is_way_in (tree_of (info_expr i)) ≡ true → (kids own : ℕ) → kids ≡ settable_above (map info_tree (info_children i)) → own ≡ own_above (info_tree i) →
-      max kids own ≡ settable_above (info_tree i ∷ [])
+  pub node_in : is_way_in (tree_of (info_expr i)) ≡ true → (kids own : ℕ) → kids ≡ settable_above (map info_tree (info_children i)) →
+      own ≡ own_above (info_tree i) → max kids own ≡ settable_above (info_tree i ∷ [])
   node_in on kids own below mine =
       ap₂ max (below ∙ ap settable_above (sym parts_of_tree)) mine
       ∙ ap (λ b. if b then max (settable_above (children (parts (info_tree i)))) (own_above (info_tree i)) else 0) (sym (way_in_tree ∙ on))
