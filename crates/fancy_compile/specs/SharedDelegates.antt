@@ -29,5 +29,6 @@ AreNamedAlike ds = (place : ℕ) → ForSome (slice_get ds place) IsNamedAlike
 
 -- the delegate of these nodes, whose class texts are classes
 pub record IsDelegateOf (unicode : Bool) (is : List Info) (i : Instr) : Type 0 where
-  pub instr : i ≡ Instr.Delegate (pattern_of unicode (map info_tree is)) (fragment unicode (map info_tree is)) (group_range (map info_tree is))
+  pub instr : i
+      ≡ Instr.Delegate (pattern_of unicode (map info_tree is)) (fragment unicode (map info_tree is)) (group_range (map info_tree is))
   pub classes : HaveClasses unicode is

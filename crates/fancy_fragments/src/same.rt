@@ -93,6 +93,29 @@ fn is_alike(expr: &Expr, other: &Expr) -> bool
         → (es : Trees) → node_over expr.now 0 NoLook es ≡ node_over other.now 0 NoLook es }
 {
     match (expr, other) {
+        (Expr::Concat(_), Expr::Concat(_)) => true,
+        (Expr::Alt(_), Expr::Alt(_)) => true,
+        (Expr::Group(_), Expr::Group(_)) => true,
+        (
+            Expr::Repeat { lo, hi, greedy, .. },
+            Expr::Repeat {
+                lo: l,
+                hi: h,
+                greedy: g,
+                ..
+            },
+        ) => *lo == *l && *hi == *h && *greedy == *g,
+        (Expr::DefineGroup { .. }, Expr::DefineGroup { .. }) => true,
+        _ => is_same_leaf(expr, other),
+    }
+}
+
+/// They are the same node, of such a kind, without children.
+fn is_same_leaf(expr: &Expr, other: &Expr) -> bool
+    ensures { result ≡ true
+        → (es : Trees) → node_over expr.now 0 NoLook es ≡ node_over other.now 0 NoLook es }
+{
+    match (expr, other) {
         (Expr::Empty, Expr::Empty) => true,
         (
             Expr::Any { newline, crlf },
@@ -108,19 +131,6 @@ fn is_alike(expr: &Expr, other: &Expr) -> bool
         (Expr::Delegate { inner, casei }, Expr::Delegate { inner: i, casei: c }) => {
             *casei == *c && inner.as_str() == i.as_str()
         }
-        (Expr::Concat(_), Expr::Concat(_)) => true,
-        (Expr::Alt(_), Expr::Alt(_)) => true,
-        (Expr::Group(_), Expr::Group(_)) => true,
-        (
-            Expr::Repeat { lo, hi, greedy, .. },
-            Expr::Repeat {
-                lo: l,
-                hi: h,
-                greedy: g,
-                ..
-            },
-        ) => *lo == *l && *hi == *h && *greedy == *g,
-        (Expr::DefineGroup { .. }, Expr::DefineGroup { .. }) => true,
         _ => false,
     }
 }

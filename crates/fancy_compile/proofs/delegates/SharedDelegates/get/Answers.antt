@@ -1,4 +1,4 @@
-use Rattle.std.proofs.Common.{sym, ap, ◌∙◌}
+use Rattle.std.proofs.Common.{ap, ◌∙◌}
 use Rattle.std.specs.Prelude.{is_ok}
 use Rattle.fancy_fragments.specs.Delegates.{delegate_instr}
 use Rattle.fancy_compile.proofs.DelegateTable.{named_push, named_built}
