@@ -3,6 +3,6 @@
 
 pub use fancy_command::{arguments, command};
 pub use fancy_compile::compile;
-pub use fancy_machine::vm;
+pub use fancy_machine::{plain, vm};
 pub use fancy_search::search;
 pub use fancy_tree::{analyze, classes, error, expr, look};

@@ -12,4 +12,4 @@ pub returns : goal.returns
 returns c =
     let o = c.options-options in
     finds_by (asked c.args.self.now) c.in_ok-tree.tree o.result c.search.result c.in_ok-tree.ensures.answer o.ensures.analysis o.ensures.compilation
-    o.ensures.run c.search.ensures
+    o.ensures.run c.search.ensures.promise
