@@ -1,6 +1,6 @@
--- Where the whole tree is easy, a search with room for each start passes no limit.
+-- Where the whole tree is easy, a search passes a limit only below its bound.
 use Rattle.std.proofs.Common.{◌≡◌, ℕ, ◌<◌, true, List, length, Option, Ok, Err, Result, sym, ap, ◌∙◌}
-use Rattle.std.specs.Prelude.{IsUtf8}
+use Rattle.std.specs.Prelude.{IsUtf8, IsFalse}
 use Rattle.std.specs.declared.vec.Vec.{Vec}
 use Rattle.std.specs.declared.alloc.Global.{Global}
 use Rattle.fancy_meaning.specs.Numbers.{usize_max}
@@ -9,7 +9,8 @@ use Rattle.fancy_meaning.specs.Config as config
 use Rattle.fancy_meaning.specs.Layout.{layout}
 use Rattle.fancy_meaning.specs.Machine as machine
 use Rattle.fancy_meaning.specs.Fits.{run_fits}
-use Rattle.fancy_meaning.specs.Premises.{Input, IsFit}
+use Rattle.fancy_meaning.specs.Hard.{is_root_hard}
+use Rattle.fancy_meaning.specs.Premises.{Input, IsFit, plan}
 use Rattle.fancy_meaning.specs.Theorems.{EasyRun, outcome}
 use Rattle.fancy_headline.proofs.Bounds.{branch_bound, backtrack_bound, instruction_bound}
 use Rattle.fancy_expr.specs.declared.error.Error.{Error}
@@ -21,7 +22,7 @@ use Rattle.fancy_vm.specs.declared.runs.RunOptions.{RunOptions}
 use Rattle.fancy_vm.specs.Outcomes.{RunAnswers, outcome_of}
 use Rattle.fancy_vm.specs.Programs.{prog_of, task_of, options_of as run_options_of}
 use Rattle.fancy_search.specs.declared.search.Compiled.{Compiled}
-use Rattle.fancy_search.specs.Searches.{IsCompiledFrom, HasRoom, Bounds, program}
+use Rattle.fancy_search.specs.Searches.{IsBelowBound, IsCompiledFrom, Bounds, limit_of, program}
 use Rattle.fancy_search.proofs.Searched.{accepted_input}
 
 module _ (i : Input) (compiled : Compiled) (text : List ℕ) (o : RunOptions) (from : IsCompiledFrom i compiled)
@@ -35,18 +36,19 @@ module _ (i : Input) (compiled : Compiled) (text : List ℕ) (o : RunOptions) (f
         ∙ run_not_empty (task_of (program compiled) text o) fits on;
   }
 
-  module _ (room : HasRoom i text (run_options_of o)) where
+  module _ (root : IsFalse (is_root_hard (plan i).analysis)) where
     easy : EasyRun i text (run_options_of o)
-    easy = (accepted_input i compiled text o from fits, fit, room.easy)
+    easy = (accepted_input i compiled text o from fits, fit, root)
 
-    no_limit : (l : RuntimeError) → outcome i text (run_options_of o) ≡ outcome_of l → ⊥
-    no_limit limit.BacktrackLimitExceeded = backtrack_bound i text (run_options_of o) easy room.backtracks
-    no_limit limit.StackOverflow = (branch_bound i text (run_options_of o) easy).1
-    no_limit limit.StepLimitExceeded = instruction_bound i text (run_options_of o) easy room.instructions
+    is_below : (l : RuntimeError) → outcome i text (run_options_of o) ≡ outcome_of l →
+        IsBelowBound i text (run_options_of o) (limit_of l)
+    is_below limit.BacktrackLimitExceeded passed = λ enough. backtrack_bound i text (run_options_of o) easy enough passed
+    is_below limit.StackOverflow passed = (branch_bound i text (run_options_of o) easy).1 passed
+    is_below limit.StepLimitExceeded passed = λ enough. instruction_bound i text (run_options_of o) easy enough passed
 
   pub run_bounds : (result : Result (Option (Vec ℕ Global)) Error) →
       RunAnswers (machine.run (task_of (program compiled) text o)) result → Bounds i text (run_options_of o) result
-  run_bounds (Err (error.RuntimeError l)) answers = λ room. no_limit room l
+  run_bounds (Err (error.RuntimeError l)) answers = λ root. is_below root l
       (sym (ap (λ p. machine.run (record { program = p; text = text; options = run_options_of o })) from.program) ∙ answers)
   run_bounds (Ok found) answers = tt
   run_bounds (Err error.Memory) answers = tt

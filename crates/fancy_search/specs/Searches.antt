@@ -87,15 +87,17 @@ module _ (i : Input) where
   Promises text o (Err error.Memory) = MayReply text o OutOfMemory
   Promises text o (Err (error.TreeFault at)) = ⊥
 
-  -- The whole tree is easy, and the limits allow one backtrack and eight instructions for each start that may be tried.
-  pub record HasRoom (text : List ℕ) (o : plain.RunOptions) : Type 0 where
-    pub easy : IsFalse (is_root_hard (plan i).analysis)
-    pub backtracks : tried i text o ≤ o.backtrack_limit
-    pub instructions : 8 * tried i text o ≤ o.step_limit
+  -- one backtrack and eight instructions for each start that may be tried are more than the limit, and no number of
+  -- branches is
+  abbrev pub IsBelowBound : List ℕ → plain.RunOptions → Limit → Type 0
+  IsBelowBound text o Backtracks = ¬ (tried i text o ≤ o.backtrack_limit)
+  IsBelowBound text o Branches = ⊥
+  IsBelowBound text o Instructions = ¬ (8 * tried i text o ≤ o.step_limit)
 
-  -- then no limit is answered
+  -- where the whole tree is easy, a limit is answered only if it is below its bound
   abbrev pub Bounds : List ℕ → plain.RunOptions → Result (Option (Vec ℕ Global)) Error → Type 0
-  Bounds text o (Err (error.RuntimeError e)) = ¬ HasRoom text o
+  Bounds text o (Err (error.RuntimeError e)) =
+      IsFalse (is_root_hard (plan i).analysis) → IsBelowBound text o (limit_of e)
   Bounds text o result = Unit {0}
 
   -- the tree is refused with the error, or memory was
