@@ -11,7 +11,7 @@ use Rattle.fancy_meaning.specs.Instr.{Instr, Save, End, RejectEmptyMatchAtEOFFol
 use Rattle.fancy_meaning.specs.Config.{Slots, Branch, Config, Match, Ends}
 use Rattle.fancy_meaning.specs.Machine.{fail, is_rejected, goes_if, numbers_of}
 use Rattle.fancy_meaning.specs.Hands.{start_number, end_number}
-use Rattle.fancy_composed.proofs.Courses.{Course, To, to_same, to_eq, to_trans, after, Ground, here, go, resume, failed, step_at_pc}
+use Rattle.fancy_composed.proofs.Courses.{Course, Tally, To, to_same, to_eq, to_trans, after, Ground, here, go, resume, failed, step_at_pc}
 use Rattle.fancy_composed.proofs.Hands.{Hands, none, way}
 use Rattle.fancy_composed.proofs.Parts.{put_same, put_other, Stands, After, flag, flag_is, body, whole}
 

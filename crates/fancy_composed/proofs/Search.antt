@@ -20,7 +20,7 @@ use Rattle.fancy_meaning.specs.Config.{Slots, Branch, Config, Outcome, NoMatch, 
 use Rattle.fancy_meaning.specs.Machine.{Task, exec, fail_to, then_on, goes_from, is_search, begin, run}
 use Rattle.fancy_meaning.specs.Premises.{Input, plan, IsAccepted, IsFit, Analysed}
 use Rattle.fancy_meaning.specs.Theorems.{IsProgramFor, outcome_of, Answers, HasEnough}
-use Rattle.fancy_composed.proofs.Courses.{Course, Meets, limit, same, To, to_now, to_same, to_eq, to_trans, after, Ground, config, task_step, step_at_pc}
+use Rattle.fancy_composed.proofs.Courses.{Course, Meets, limit, same, Tally, tally_of, once_more, To, to_now, to_same, to_eq, to_trans, after, Ground, config, task_step, step_at_pc}
 use Rattle.fancy_composed.proofs.Runs.{limit_or_answer, enough_steps}
 use Rattle.fancy_meaning.specs.Marks.{has_marked_continue}
 use Rattle.fancy_composed.proofs.Alike.{or_first}
