@@ -49,6 +49,13 @@ module _ (q : Setting) (a : Analysed) (is : IsText q.text) (start : ℕ) (at : i
       (ways_have_sizes q whole is.utf8 (analysed_is_orderly a) whole no_calls (itself_contained whole) (first_state start)
       (first_is_sound q whole start at)) c
 
+  -- each way ends in the text, and no text is so long
+  pub way_is_small : (s : MatchState) → Contains ways_there s → s.place < usize_max
+  way_is_small s c =
+      let within = (is_place_parts q.text s.place ((sized s c).sound).place).0 in
+      let fits = is.fits in
+      omega (arith, within, fits)
+
   -- of two ways neither goes past the other that takes as many characters as the size allows
   goes_no_further : (s t : MatchState) → Contains ways_there s → Contains ways_there t →
       chars_between q.text start s.place ≡ (size whole whole).most → t.place ≤ s.place
