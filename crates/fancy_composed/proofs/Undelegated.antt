@@ -1,5 +1,5 @@
 -- A run of the undelegated program answers what the tree means, and ends.
-use Rattle.std.proofs.Common.{ℕ, true, false, List, refl, sym, length}
+use Rattle.std.proofs.Common.{ℕ, true, false, List, refl, length}
 use Rattle.fancy_meaning.specs.OpenCalls.{no_calls, free_calls}
 use Rattle.fancy_meaning.specs.Ways.{ways}
 use Rattle.fancy_meaning.specs.Layout.{undelegated_layout, program}

@@ -1,5 +1,5 @@
 -- Where no `\K` is in the tree, no way is longer than one that takes as many characters as the tree's size allows.
-use Rattle.std.proofs.Common.{◌≡◌, ⊎_elim, ℕ, zero, suc, ◌+◌, ◌-◌, ◌≤◌, ◌<◌, true, false, if◌then◌else◌, List, ◌∷◌, length, filter, Contains, refl, sym, ◌∙◌, arith}
+use Rattle.std.proofs.Common.{◌≡◌, ⊎_elim, ℕ, zero, suc, ◌-◌, ◌≤◌, ◌<◌, true, false, if◌then◌else◌, List, ◌∷◌, length, filter, Contains, arith}
 use Rattle.std.specs.List.{list_any}
 use Rattle.std.proofs.lemmas.Bool.{cases_lt}
 use Rattle.fancy_meaning.specs.Numbers.{usize_max}
