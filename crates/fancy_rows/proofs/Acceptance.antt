@@ -9,7 +9,7 @@ use Rattle.fancy_meaning.specs.Numbering.{numbered}
 use Rattle.fancy_meaning.specs.WellFormed.{Has, refers}
 use Rattle.fancy_meaning.specs.Spots.{Spot, all_spots}
 use Rattle.fancy_meaning.specs.Recursion.{Calls, LeadsAtOnce, once, again, IsLeftRecursive}
-use Rattle.fancy_meaning.specs.AnalysisRefusals.{CompileError, is_back_to, has_level, spots_in_group, ReadsAfterCall, is_no_group, RefusesBeforeEnd, named_groups_with_numbers, reference_to_0, reference_after_call, unresolved_call, unresolved_node, reference_with_level, group_out_of_range, left_recursion}
+use Rattle.fancy_meaning.specs.AnalysisRefusals.{CompileError, is_back_to, has_level, spots_in_group, ReadsAfterCall, is_no_group, RefusesBeforeEnd, named_groups_with_numbers, reference_to_0, reference_after_call, unresolved_call, unresolved_node, reference_with_level, lazy_loop, group_out_of_range, left_recursion}
 use Rattle.fancy_rows.proofs.Notation.{parsed, no_options}
 use Rattle.fancy_rows.proofs.CallsAtOnce.{passed}
 
@@ -144,5 +144,6 @@ not_refused_before_end e back unresolved levels reads references cycles error (r
 not_refused_before_end e back unresolved levels reads references cycles error (unresolved_call c) = cc (passed is_unresolved _ _ c refl, unresolved)
 not_refused_before_end e back unresolved levels reads references cycles error (unresolved_node c) = cc (passed is_unresolved _ _ c refl, unresolved)
 not_refused_before_end e back unresolved levels reads references cycles error (reference_with_level t) = cc (t, levels)
+not_refused_before_end e back unresolved levels reads references cycles error (lazy_loop on t) = cc (on)
 not_refused_before_end e back unresolved levels reads references cycles error (group_out_of_range g t out) = cc (references g t, out)
 not_refused_before_end e back unresolved levels reads references cycles error (left_recursion g text r d) = cycles g (r.is_one)

@@ -77,4 +77,5 @@ fits = record {
   is_text = record { utf8 = (codes "abcd", (refl, refl)); fits = omega arith };
   pos = refl;
   not_empty = λ t. cc (t);
+  longest = λ t. cc (t);
 }
