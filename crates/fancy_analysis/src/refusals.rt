@@ -84,6 +84,9 @@ pub fn refusal(tree: &ExprTree, context: AnalyzeContext) -> Option<CompileError>
     if has_named_and_numbered(tree) {
         return Some(CompileError::NamedBackrefOnly);
     }
+    if context.leftmost_longest && has_node(&tree.expr, Question::IsLazy) {
+        return Some(CompileError::FeatureNotYetSupported);
+    }
     let first = first_group(context);
     let last = last_group(tree, context);
     match find_node(&tree.expr, Question::IsRefused { first, last }) {

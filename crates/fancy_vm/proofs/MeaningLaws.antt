@@ -10,7 +10,7 @@ use Rattle.fancy_meaning.specs.Options.{Plan, RunOptions}
 use Rattle.fancy_meaning.specs.Instr.{Prog}
 use Rattle.fancy_meaning.specs.Layout.{layout, undelegated_layout}
 use Rattle.fancy_meaning.specs.Premises.{Input, plan, IsAccepted, IsFit}
-use Rattle.fancy_meaning.specs.Config.{Outcome}
+use Rattle.fancy_meaning.specs.Config.{Outcome, outcome_of}
 use Rattle.fancy_meaning.specs.Machine.{Task, run}
 use Rattle.fancy_meaning.specs.Hands.{IsLimit}
 use Rattle.fancy_meaning.specs.Theorems as theorem
@@ -19,26 +19,31 @@ use Rattle.fancy_headline.proofs.Answered.{headline}
 use Rattle.fancy_meaning.specs.Fits.{run_fits}
 use Rattle.fancy_vm.specs.Means.{IsMeaning, IsMeaningPair, Means, MeansPair, numbers_of}
 use Rattle.fancy_vm.specs.Outcomes.{RunAnswers, RunAnswersPair, first_pair}
-use Rattle.fancy_vm.proofs.FitsLaws.{run_place, run_not_empty}
+use Rattle.fancy_vm.proofs.FitsLaws.{run_place, run_not_empty, run_longest}
 
 -- an outcome that is an answer passes no limit, and is of one answer
-no_limit : (found : Option (List ℕ)) → IsLimit (theorem.outcome_of found) → ⊥
+no_limit : (found : Option (List ℕ)) → IsLimit (outcome_of found) → ⊥
 no_limit None limit = limit
 no_limit (Some numbers) limit = limit
 
-one_answer : (found wanted : Option (List ℕ)) → theorem.outcome_of found ≡ theorem.outcome_of wanted → found ≡ wanted
+one_answer : (found wanted : Option (List ℕ)) → outcome_of found ≡ outcome_of wanted → found ≡ wanted
 one_answer None None same = refl
 one_answer None (Some wanted) same = cc
 one_answer (Some numbers) None same = cc
 one_answer (Some numbers) (Some wanted) same = cc
 
-same_answer : (found wanted : Option (List ℕ)) (o : Outcome) → o ≡ theorem.outcome_of found → IsLimit o ⊎ (o ≡ theorem.outcome_of wanted) → found ≡ wanted
+same_answer : (found wanted : Option (List ℕ)) (o : Outcome) → o ≡ outcome_of found → IsLimit o ⊎ (o ≡ outcome_of wanted) → found ≡ wanted
 same_answer found wanted o is (inl limit) = absurd (no_limit found (subst IsLimit is limit))
 same_answer found wanted o is (inr same) = one_answer found wanted (sym is ∙ same)
 
+-- the program has the options of the analysis
+record KeepsOptions (i : Input) (p : Prog) : Type 0 where
+  not_empty : p.find_not_empty ≡ (i.analysis).find_not_empty
+  longest : p.leftmost_longest ≡ (i.analysis).leftmost_longest
+
 -- `laid` is a layout whose runs answer what the tree means
 module _ (program : Prog) (text : List ℕ) (o : RunOptions) (utf8 : IsUtf8 text) (small : length text < usize_max)
-    (laid : Plan → Prog) (keeps : (i : Input) → (laid (plan i)).find_not_empty ≡ (i.analysis).find_not_empty)
+    (laid : Plan → Prog) (keeps : (i : Input) → KeepsOptions i (laid (plan i)))
     (holds : (i : Input) → IsAccepted i (length (laid (plan i)).body) → IsFit i text o → theorem.Answers (plan i) (laid (plan i)) text o) where
   abbrev task : Task
   task = record { program = program; text = text; options = o }
@@ -47,7 +52,8 @@ module _ (program : Prog) (text : List ℕ) (o : RunOptions) (utf8 : IsUtf8 text
   may_run i fits is = record {
     is_text = record { utf8 = utf8; fits = small };
     pos = run_place task fits;
-    not_empty = λ on. sym (keeps i) ∙ sym (ap (λ (p : Prog). p.find_not_empty) is) ∙ run_not_empty task fits on;
+    not_empty = λ on. sym (keeps i).not_empty ∙ sym (ap (λ (p : Prog). p.find_not_empty) is) ∙ run_not_empty task fits on;
+    longest = λ on. sym (keeps i).longest ∙ sym (ap (λ (p : Prog). p.leftmost_longest) is) ∙ run_longest task fits on;
   }
 
   answers : (i : Input) → run_fits task ≡ true → IsAccepted i (length program.body) → program ≡ laid (plan i) → theorem.Answers (plan i) program text o
@@ -58,7 +64,7 @@ module _ (program : Prog) (text : List ℕ) (o : RunOptions) (utf8 : IsUtf8 text
   abbrev AnswersMeaning : Option (List ℕ) → Type 0
   AnswersMeaning found = (i : Input) → IsAccepted i (length program.body) → program ≡ laid (plan i) → found ≡ answer (search_of (plan i) text o)
 
-  means : (found : Option (List ℕ)) → run_fits task ≡ true → run task ≡ theorem.outcome_of found → AnswersMeaning found
+  means : (found : Option (List ℕ)) → run_fits task ≡ true → run task ≡ outcome_of found → AnswersMeaning found
   means found fits comes i accepted is = same_answer found (answer (search_of (plan i) text o)) (run task) comes (answers i fits accepted is)
 
   run_answers : (result : Result (Option (Vec ℕ Global)) Error) → run_fits task ≡ true → RunAnswers (run task) result →
@@ -77,13 +83,13 @@ module _ (program : Prog) (text : List ℕ) (o : RunOptions) (utf8 : IsUtf8 text
       λ i accepted is. ap Some (sym comes.1.1) ∙ ap (option_map first_pair) (means (Some comes.0) fits comes.1.0 i accepted is)
   run_answers_pair (Err e) fits comes = tt
 
-keeps_undelegated : (i : Input) → (undelegated_layout (plan i)).find_not_empty ≡ (i.analysis).find_not_empty
+keeps_undelegated : (i : Input) → KeepsOptions i (undelegated_layout (plan i))
 unfolding undelegated_layout
-keeps_undelegated i = refl
+keeps_undelegated i = record { not_empty = refl; longest = refl }
 
-keeps_delegated : (i : Input) → (layout (plan i)).find_not_empty ≡ (i.analysis).find_not_empty
+keeps_delegated : (i : Input) → KeepsOptions i (layout (plan i))
 unfolding layout
-keeps_delegated i = refl
+keeps_delegated i = record { not_empty = refl; longest = refl }
 
 on_ok : {A : Type 0} {P Q : A → Type 0} (result : Result A Error) → ((x : A) → P x → Q x) → IfOk result P → IfOk result Q
 on_ok (Ok x) k h = k x h
