@@ -1,7 +1,7 @@
 -- A node is refused exactly where a case of a refusal holds, or it is a call.
 use Rattle.std.proofs.Common.{◌≡◌, ℕ, suc, ◌+◌, ◌-◌, ◌<◌, ◌≤◌, Bool, true, false, not, ◌&&◌, ◌||◌, ◌==◌, nat_lt, if◌then◌else◌, List, [], ◌∷◌, length, map, Contains, IsTrue, refl, sym, ap, ap₂, ◌∙◌, subst, arith}
 use Rattle.std.specs.List.{list_any}
-use Rattle.std.proofs.lemmas.Bool.{eqb-true, eq-eqb, ltb-true, ltb-false, lt-ltb}
+use Rattle.std.proofs.lemmas.Bool.{and_parts, eqb-true, eq-eqb, ltb-true, ltb-false, lt-ltb}
 use Rattle.std.proofs.lemmas.List.{length-map}
 use Rattle.fancy_analysis.specs.Reads.{is_named}
 use Rattle.fancy_analysis.proofs.ReadNodes.{read-nodes, read-numbered}
@@ -11,7 +11,7 @@ use Rattle.fancy_meaning.specs.Nodes.{nodes, group_count, is_read, read_by}
 use Rattle.fancy_meaning.specs.Numbering.{numbered_within, numbered}
 use Rattle.fancy_meaning.specs.Options.{ParsedTree, AnalysisOptions}
 use Rattle.fancy_meaning.specs.WellFormed.{refers, is_call}
-use Rattle.fancy_meaning.specs.AnalysisRefusals.{CompileError, AnalysisRefuses, RefusesBeforeEnd, is_back_to, is_lazy, has_level, is_no_group, before_end, never_ends, named_groups_with_numbers, reference_to_0, reference_after_call, unresolved_call, unresolved_node, reference_with_level, lazy_loop, group_out_of_range, left_recursion, InvalidBackref, NeverEndingRecursion, ReadsAfterCall}
+use Rattle.fancy_meaning.specs.AnalysisRefusals.{CompileError, AnalysisRefuses, RefusesBeforeEnd, is_back_to, is_lazy, has_level, is_no_group, before_end, never_ends, named_groups_with_numbers, reference_to_0, reference_after_call, unresolved_call, unresolved_node, reference_with_level, lazy_loop, group_out_of_range, left_recursion, FeatureNotYetSupported, InvalidBackref, NeverEndingRecursion, ReadsAfterCall}
 use Rattle.fancy_expr.specs.Questions.{is_refused}
 use Rattle.fancy_analysis.specs.Refusals.{refusal_of, HasNoRefusedNode, IsAnalysable}
 use Rattle.fancy_meaning.specs.Recursion.{IsLeftRecursive, CanEnd}
@@ -153,6 +153,13 @@ module _ (p : ParsedTree) (options : AnalysisOptions) where
   refused_for_a_case counted (AstNode UnresolvedCall) there h = before_end (unresolved_call (unresolved_there UnresolvedCall there refl))
   refused_for_a_case counted (AstNode UnresolvedOther) there h = before_end (unresolved_node (unresolved_there UnresolvedOther there refl))
   refused_for_a_case counted x there h = absurd (false_true h)
+
+  -- a lazy loop is refused where the longest match may be asked for
+  pub lazy_refused : (options.leftmost_longest && list_any is_lazy (nodes p.tree)) ≡ true → AnalysisRefuses p options FeatureNotYetSupported
+  unfolding numbered
+  lazy_refused h =
+      let both = and_parts options.leftmost_longest (list_any is_lazy (nodes p.tree)) h in
+      before_end (lazy_loop both.0 (any-numbered is_lazy blind-lazy NoLook first p.tree ∙ both.1))
 
   -- ---- where no node is refused, no case holds
 

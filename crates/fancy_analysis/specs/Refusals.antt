@@ -42,6 +42,6 @@ IsAnalysable p options = (error : plain_errors.CompileError) → ¬ AnalysisRefu
 -- no node of the tree is refused, no loop is lazy where the longest match may be asked for, and no group without a name
 -- is referred to where such groups are left out
 pub record HasNoRefusedNode (p : ParsedTree) (options : AnalysisOptions) : Type 0 where
-  pub nodes : list_any (is_refused (first_number options) (last_number p options)) (nodes p.tree) ≡ false
   pub lazy : (options.leftmost_longest && list_any is_lazy (nodes p.tree)) ≡ false
+  pub nodes : list_any (is_refused (first_number options) (last_number p options)) (nodes p.tree) ≡ false
   pub names : IsTrue (p.numbered_groups_ignored && p.numeric_capture_group_references) → ¬ (p.named_groups ≡ []) → ⊥

@@ -34,18 +34,6 @@ use Rattle.fancy_compile.proofs.Written.{wrote_node, rejected_here, other_absent
 
 -- ---- whether an absent node stands below a node
 
--- the nodes of these, and below them
-abbrev pub any_below : List Info → Bool
-any_below is = list_any is_absent (nodes_of_each (trees (map info_tree is)))
-
-pub any_more : (l : List Info) (i : ℕ) (x : Info) → i < length l → x ≡ get_or l i x
-    → any_below (drop i l) ≡ (list_any is_absent (nodes (info_tree x)) || any_below (drop (i + 1) l))
-any_more l i x lt at = ap any_below (rest_at l i x lt at) ∙ list_any-append is_absent (nodes (info_tree x))
-    (nodes_of_each (trees (map info_tree (drop (i + 1) l))))
-
-pub any_done : (l : List Info) (i : ℕ) → length l ≤ i → any_below (drop i l) ≡ false
-any_done l i end = ap any_below (drop_all i l end)
-
 module _ (es : Trees) (n : ℕ) (w : Within) where
   absent_is : (a : Absent) → is_absent (absent_over a es) ≡ true
   absent_is (code_absent.Repeater' b e) = refl
@@ -53,28 +41,9 @@ module _ (es : Trees) (n : ℕ) (w : Within) where
   absent_is (code_absent.Stopper' b e) = refl
   absent_is code_absent.Clear = refl
 
-  over_absent : (e : Expr) → is_absent (node_over e n w es) ≡ is_absent_expr e
+  pub over_absent : (e : Expr) → is_absent (node_over e n w es) ≡ is_absent_expr e
   over_absent (code.Absent a) = absent_is a
   over_absent e = refl
-
-pub any_of_info : (a : Analysis) (i : Info) → IsKnown a i → list_any is_absent (nodes (info_tree i)) ≡
-    (is_absent_expr (info_facts i).expr || any_below (info_children i))
-any_of_info a i k =
-    ap (list_any is_absent) (nodes_of_info a i k)
-    ∙ ap (λ b. b || any_below (info_children i))
-    (ap is_absent (tree_out i) ∙ over_absent (trees (map info_tree (info_children i))) (out-Info i).start_group (info_within i) (out-Info i).expr.now)
-
-module _ (a : Analysis) (i : Info) (k : IsKnown a i) (l : List Info) (is : l ≡ info_children i) (n : ℕ) (so_far : any_below l ≡ any_below (drop n l)) where
-  pub found_below : (x : Info) → n < length l → x ≡ get_or l n x → list_any is_absent (nodes (info_tree x)) ≡ true
-      → true ≡ list_any is_absent (nodes (info_tree i))
-  found_below x lt at h =
-      let here : any_below (info_children i) ≡ true = ap any_below (sym is) ∙ so_far ∙ any_more l n x lt at ∙ ap (λ b. b || any_below (drop (n + 1) l)) h in
-      sym (any_of_info a i k ∙ ap (λ b. is_absent_expr (info_facts i).expr || b) here ∙ or-true (is_absent_expr (info_facts i).expr))
-
-  pub none_found : is_absent_expr (info_facts i).expr ≡ false → length l ≤ n → false ≡ list_any is_absent (nodes (info_tree i))
-  none_found plainly end =
-      let here : any_below (info_children i) ≡ false = ap any_below (sym is) ∙ so_far ∙ any_done l n end in
-      sym (any_of_info a i k ∙ ap (λ b. b || any_below (info_children i)) plainly ∙ here)
 
 -- ---- the kinds of absent nodes
 

@@ -288,6 +288,11 @@ abbrev pub is_repeater : Absent → Bool
 is_repeater (code_absent.Repeater' b e) = true
 is_repeater a = false
 
+-- the expression is a `\K`
+abbrev pub is_keep_out_expr : Expr → Bool
+is_keep_out_expr code.KeepOut = true
+is_keep_out_expr e = false
+
 abbrev pub is_absent_expr : Expr → Bool
 is_absent_expr (code.Absent a) = true
 is_absent_expr e = false

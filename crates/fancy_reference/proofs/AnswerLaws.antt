@@ -77,6 +77,7 @@ search_is e o text a c r h = λ i. record {
   anchored = h.anchored i;
   not_empty = h.not_empty i;
   end_text = h.end_text i;
+  leftmost_longest = h.first_way i;
 }
 
 pub answer_is : (q : Search) (found : Option MatchState) → slice_get (filter_map (attempt q) (starts q)) 0 ≡ found →

@@ -167,7 +167,12 @@ may_run s t compiled text fits from =
 
 -- from the start, with no option set
 pub defaults_fit : (o : SearchOptions) (text : List ℕ) →
-    o.analysis ≡ record { explicit_capture_group_0 = false; find_not_empty = false; disallow_empty_match_at_eof_after_newline = false } →
+    o.analysis ≡ record {
+      explicit_capture_group_0 = false;
+      find_not_empty = false;
+      disallow_empty_match_at_eof_after_newline = false;
+      leftmost_longest = false;
+    } →
     (o.compilation).disallow_empty_match_at_eof_after_newline ≡ false → (o.run).pos ≡ 0 → (o.run).not_empty ≡ false → IsUtf8 text →
     search_fits o text ≡ true
 defaults_fit o text as_analysed as_compiled at empty utf8 =
