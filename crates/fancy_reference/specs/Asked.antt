@@ -1,5 +1,5 @@
 -- The search that the options ask for, in the words of the definitions.
-use Rattle.std.specs.Prelude.{◌≡◌, ℕ, false, List, ◌||◌}
+use Rattle.std.specs.Prelude.{◌≡◌, ℕ, List, ◌||◌}
 use Rattle.fancy_meaning.specs.Tree.{Tree}
 use Rattle.fancy_meaning.specs.Answer.{Search}
 use Rattle.fancy_meaning.specs.Options.{AnalysisOptions, CompileOptions, RunOptions}
@@ -13,7 +13,7 @@ asked e o text = record {
   anchored = o.anchored;
   not_empty = o.not_empty;
   end_text = o.end_text;
-  leftmost_longest = false;
+  leftmost_longest = o.leftmost_longest;
 }
 
 -- an analysis, a compilation and a run with these options ask for the same
@@ -25,4 +25,4 @@ pub record IsAsked (o : SearchOptions) (a : AnalysisOptions) (c : CompileOptions
   pub pos : r.pos ≡ o.pos
   pub continued : r.continued ≡ o.continued
   pub not_empty : r.not_empty ≡ o.not_empty
-  pub first_way : r.leftmost_longest ≡ false
+  pub leftmost_longest : r.leftmost_longest ≡ o.leftmost_longest
