@@ -4,7 +4,7 @@ ghost use Rattle.std.specs.Prelude.{◌≡◌, IsTrue, IsUtf8, IfOk, IfErr, fals
 ghost use Rattle.fancy_meaning.specs.Places.{is_place};
 ghost use Rattle.fancy_meaning.specs.Machine as machine;
 ghost use Rattle.fancy_meaning.specs.Fits.{run_fits};
-ghost use Rattle.fancy_vm.specs.Means.{IsMeaning, IsMeaningPair, Means, MeansPair, numbers_of};
+ghost use Rattle.fancy_vm.specs.Means.{IsMeaning, IsMeaningPair, numbers_of};
 ghost use Rattle.fancy_vm.specs.Outcomes.{RunAnswers, RunAnswersPair, Finds, IsSoundMachine, config_of, plain_task};
 ghost use Rattle.fancy_vm.specs.Programs.{IsUnused, allocator_of, default_at, default_task, options_of, prog_of, task_of};
 ghost use Rattle.fancy_state.specs.Refused.{IsMemory};
@@ -108,8 +108,6 @@ pub fn run(
 ) -> Result<Option<Vec<usize>>, Error>
     requires { IsTrue (run_fits (task_of prog.now text.now options.now)) }
     ensures machine { RunAnswers (machine.run (task_of prog.now text.now options.now)) result }
-    ensures meaning { IfOk result
-        (λ found. Means (prog_of prog.now) text.now (options_of options.now) (numbers_of found)) }
     ensures headline { IfOk result (λ found.
         IsMeaning (prog_of prog.now) text.now (options_of options.now) (numbers_of found)) }
 {
@@ -136,8 +134,6 @@ pub fn run_spans(
 ) -> Result<Option<(usize, usize)>, Error>
     requires { IsTrue (run_fits (task_of prog.now text.now options.now)) }
     ensures machine { RunAnswersPair (machine.run (task_of prog.now text.now options.now)) result }
-    ensures meaning { IfOk result
-        (λ found. MeansPair (prog_of prog.now) text.now (options_of options.now) found) }
     ensures headline { IfOk result
         (IsMeaningPair (prog_of prog.now) text.now (options_of options.now)) }
 {
@@ -163,8 +159,6 @@ pub fn run_default(
 ) -> Result<Option<Vec<usize>>, Error>
     requires { IsTrue (run_fits (default_task prog.now text.now pos)) }
     ensures machine { RunAnswers (machine.run (default_task prog.now text.now pos)) result }
-    ensures meaning { IfOk result
-        (λ found. Means (prog_of prog.now) text.now (default_at pos) (numbers_of found)) }
     ensures headline { IfOk result
         (λ found. IsMeaning (prog_of prog.now) text.now (default_at pos) (numbers_of found)) }
 {

@@ -2,20 +2,14 @@ use Rattle.std.proofs.Common.{◌<◌, length, arith}
 use Rattle.fancy_meaning.specs.Numbers.{usize_max}
 use Rattle.fancy_vm.specs.Programs.{prog_of, options_of, task_of}
 use Rattle.fancy_vm.proofs.FitsLaws.{run_place}
-use Rattle.fancy_vm.proofs.MeaningLaws.{run_is_meaning, run_means}
+use Rattle.fancy_vm.proofs.MeaningLaws.{run_means}
 use Rattle.fancy_vm.proofs.runs.run.Goals as goal
 
 pub answer-answer-requires-clause-place : goal.answer-answer-requires-clause-place
 answer-answer-requires-clause-place c = run_place (task_of c.args.prog.now c.args.text.now c.args.options.now) c.requires
 
-pub returns-clause-meaning : goal.returns-clause-meaning
-returns-clause-meaning c =
-    let small : length c.args.text.now < usize_max = omega arith in
-    run_means (prog_of c.args.prog.now) c.args.text.now
-    (options_of c.args.options.now) c.utf8.text small c.answer-answer.result c.requires c.answer-answer.ensures
-
 pub returns-clause-headline : goal.returns-clause-headline
 returns-clause-headline c =
     let small : length c.args.text.now < usize_max = omega arith in
-    run_is_meaning (prog_of c.args.prog.now) c.args.text.now
+    run_means (prog_of c.args.prog.now) c.args.text.now
     (options_of c.args.options.now) c.utf8.text small c.answer-answer.result c.requires c.answer-answer.ensures
