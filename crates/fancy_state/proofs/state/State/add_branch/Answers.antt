@@ -1,21 +1,8 @@
 use Rattle.std.proofs.Common.{List, ◌∷◌, subst, sym, length, reverse, arith}
-use Rattle.std.proofs.lemmas.List.{length-reverse}
-use Rattle.std.proofs.lemmas.Result.{err_from_is_err_and}
 use Rattle.fancy_state.specs.OldValues.{values_of, IsSound}
 use Rattle.fancy_state.specs.declared.state.Branch.{Branch}
-use Rattle.fancy_state.proofs.HeldLaws.{length-held, held_now, falls_now, reversed}
-use Rattle.fancy_state.proofs.state.State.push.Goals as goal
-
-pub returns-then-len-self-clause-refused : goal.returns-then-len-self-clause-refused
-returns-then-len-self-clause-refused c = rw (← c.self.view_is) (rw (length-held, length-reverse) (omega (arith, c.self.inside.branches.ok.0)))
-
-pub returns-in_err-push-clause-refused : goal.returns-in_err-push-clause-refused
-returns-in_err-push-clause-refused c =
-    let p = err_from_is_err_and c.from_residual.result c.from_residual.ensures.1 in
-    rw (p.1, p.2, ← c.self.view_is) (rw (length-held, length-reverse) (omega (arith, c.self.inside.branches.ok.0)))
-
-pub returns-clause-room : goal.returns-clause-room
-returns-clause-room c = rw (← c.self.view_is) (rw (length-held, length-reverse) (omega (arith, c.self.inside.branches.ok.0)))
+use Rattle.fancy_state.proofs.HeldLaws.{held_now, falls_now, reversed}
+use Rattle.fancy_state.proofs.state.State.add_branch.Goals as goal
 
 pub returns-clause-ok : goal.returns-clause-ok
 returns-clause-ok c =

@@ -1,6 +1,6 @@
 use Rattle.std.proofs.Common.{reverse, arith}
 use Rattle.fancy_state.proofs.StateLaws.{slot_sound, slot_held, slot_less, slot_there, mark_inside}
-use Rattle.fancy_state.proofs.state.State.save.Goals as goal
+use Rattle.fancy_state.proofs.state.State.set_slot.Goals as goal
 
 pub set-requires-clause-cell : goal.set-requires-clause-cell
 set-requires-clause-cell c =

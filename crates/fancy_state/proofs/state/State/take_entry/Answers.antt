@@ -1,7 +1,7 @@
 use Rattle.std.proofs.Common.{◌≡◌, ◌<◌, ◌≤◌, ◌+◌, ◌-◌, length, reverse, arith, ap, ◌∙◌, refl}
 use Rattle.fancy_state.specs.OldValues.{values_of}
 use Rattle.fancy_state.proofs.StateLaws.{slot_there, stack_some, count_sound, popped_held}
-use Rattle.fancy_state.proofs.state.State.stack_pop.Goals as goal
+use Rattle.fancy_state.proofs.state.State.take_entry.Goals as goal
 
 pub invariant_of-self-2 : goal.invariant_of-self-2
 invariant_of-self-2 c =
