@@ -8,7 +8,9 @@ use Rattle.fancy_points.specs.Points.{Loop, Close}
 use Rattle.fancy_points.specs.Points as points
 use Rattle.fancy_plain.specs.declared.search.Lead.TheVariants as lead
 use Rattle.fancy_plain.specs.Paths.{HasTurns, HasOpened, EndsOpened, EndsTurns, IsTurn, IsOpened, IsStand, closed_after, turn_of}
-use Rattle.fancy_plain.specs.Searches.{IsHere, IsSearch, Leading, Leads, leading_of, next_of}
+use Rattle.fancy_plain.specs.Searches.{HaveFailed, IsHere, IsSearch, Leading, Leads, TurnsBy, leading_of, next_of}
+use Rattle.fancy_plain.specs.declared.search.Turning.{Turning}
+use Rattle.fancy_plain.specs.declared.search.Turning.TheVariants as turning
 use Rattle.fancy_plain.specs.Views.{point_of}
 use Rattle.fancy_plain.specs.declared.point.Point.{Point}
 use Rattle.fancy_plain.specs.declared.point.Point.TheVariants as point
@@ -303,6 +305,32 @@ module _ (l : Loop) (after : ℕ) (s : plain.Stand) (t : plain.Turn) (ts : List 
       go false false true = cond-true (f.failed (plain.pair_of s)) _ _ w
       go false false false = cond-true (f.failed (plain.pair_of s)) _ _ w
 
+-- ---- the other way on from a loop's head
+
+-- the way that is tried second
+pub one_other : (l : plain.Lead) (first other on off : plain.Stand) → l ≡ plain.Tries true first (other ∷ []) →
+    l ≡ plain.Tries true on (off ∷ []) → other ≡ off
+one_other l first other on off e h = cc
+
+-- inside no loop there is none
+pub no_other : (l : Loop) (after : ℕ) (s first other : plain.Stand) (ts : List plain.Turn) → ts ≡ [] →
+    ¬ (plain.head_lead l after s ts ≡ plain.Tries true first (other ∷ []))
+no_other l after s first other [] none e = cc
+no_other l after s first other (t ∷ ts) none e = cc
+
+-- nor where there is one way on alone
+pub lone_way : (l : Loop) (after place : ℕ) (s first other : plain.Stand) (t : plain.Turn) (around ts : List plain.Turn) (r : Turning) →
+    place ≡ s.place → ts ≡ t ∷ around → TurnsBy r l place t → ¬ (r ≡ turning.InOrOut) → ¬ (r ≡ turning.OutOrIn) →
+    ¬ (plain.head_lead l after s ts ≡ plain.Tries true first (other ∷ []))
+lone_way l after place s first other t around ts turning.Out here is by a b e =
+    let one = head_out l after s t around (subst (λ i. plain.is_over l i t ≡ true) here by) in
+    let e' = ap (plain.head_lead l after s) (sym is) ∙ e in cc
+lone_way l after place s first other t around ts turning.In here is by a b e =
+    let one = head_in l after s t around (subst (λ i. plain.is_over l i t ≡ false) here by.0, by.1) in
+    let e' = ap (plain.head_lead l after s) (sym is) ∙ e in cc
+lone_way l after place s first other t around ts turning.InOrOut here is by a b e = a refl
+lone_way l after place s first other t around ts turning.OutOrIn here is by a b e = b refl
+
 pub turns_none : (entries : List Entry) (link : ℕ) (turns : List plain.Turn) → EndsTurns entries link turns None → turns ≡ []
 turns_none entries link [] h = refl
 turns_none entries link (t ∷ ts) h = absurd h
@@ -447,11 +475,23 @@ module _ (task : Task) (p : Point) (here : Stand) (s : plain.Stand) (f : plain.S
       subst (λ o. Leads (leading_of task) s here f.failed (plain.next_by (leading_of task s) o s f) result m)
       (sym (plain_there task p here s at there)) h
 
+-- what has failed is the same where the pairs are
+pub failed_by : (m n : Memo) (failed : plain.Pair → Bool) → n.failed ≡ m.failed → HaveFailed m failed → HaveFailed n failed
+failed_by m n failed e h p = ap (λ x. has_pair x (key_of p)) e ∙ h p
+
 -- past the last point there is none
+none_there : (task : Task) (here : Stand) (s : plain.Stand) → here.at ≡ s.at → length (task.points).now ≤ here.at →
+    slice_get (map point_of (task.points).now) s.at ≡ None
+none_there task here s at le =
+    slice_get-map point_of (task.points).now s.at
+    ∙ ap (option_map point_of) (slice_get_past (task.points).now s.at (omega (arith, le, at)))
+
+pub lost_past : (task : Task) (here : Stand) (s : plain.Stand) → here.at ≡ s.at → length (task.points).now ≤ here.at →
+    leading_of task s ≡ plain.Lost
+lost_past task here s at le = ap (λ o. plain.lead_at (task.text).now task.unicode o s) (none_there task here s at le)
+
 pub nothing_there : (task : Task) (here : Stand) (s : plain.Stand) (f : plain.Search) → here.at ≡ s.at →
     length (task.points).now ≤ here.at →
     next_of task (plain.TakesUp s f) ≡ plain.TakesBack (record f { visits = f.visits + 1 })
 nothing_there task here s f at le =
-    ap (λ o. plain.next_by (plain.lead_at (task.text).now task.unicode o s) o s f)
-    (slice_get-map point_of (task.points).now s.at
-    ∙ ap (option_map point_of) (slice_get_past (task.points).now s.at (omega (arith, le, at))))
+    ap (λ o. plain.next_by (plain.lead_at (task.text).now task.unicode o s) o s f) (none_there task here s at le)
