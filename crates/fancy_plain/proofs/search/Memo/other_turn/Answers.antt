@@ -5,7 +5,8 @@ use Rattle.fancy_plain.specs.Paths.{turn_of}
 use Rattle.fancy_plain.specs.Views.{loop_of}
 use Rattle.fancy_plain.specs.Searches.{IsHere, Leads}
 use Rattle.fancy_plain.specs.declared.log.Stand.{Stand}
-use Rattle.fancy_plain.proofs.SearchLaws.{head_in_or_out, head_out_or_in, here_out, lone_way, no_other, off, on, one_other, turns_none, turns_open}
+use Rattle.fancy_plain.specs.declared.search.Turning.TheVariants as turning
+use Rattle.fancy_plain.proofs.SearchLaws.{head_by, here_out, lone_way, no_other, off, on, one_other, turns_none, turns_open}
 use Rattle.fancy_plain.proofs.search.Memo.other_turn.Goals as goal
 
 pub returns-in_default : goal.returns-in_default
@@ -21,12 +22,7 @@ returns-in-InOrOut c = λ leading s first other f h here e.
     let around = ends.0 in
     let l = loop_of c.args.turns in
     let there = off l c.args.after s t around in
-    let led = ap (plain.head_lead l c.args.after s) ends.1.0
-    ∙ head_in_or_out l c.args.after s t around (
-      subst (λ i. plain.is_over (loop_of c.args.turns) i (turn_of c.in-Some.turn) ≡ false) here.place c.in-InOrOut.ensures.0,
-      c.in-InOrOut.ensures.1,
-      c.in-InOrOut.ensures.2,
-    ) in (
+    let led = head_by l c.args.after s t around c.args.stand.place s.turns turning.InOrOut here.place ends.1.0 c.in-InOrOut.ensures in (
       f,
       (
         there,
@@ -46,12 +42,7 @@ returns-in-OutOrIn c = λ leading s first other f h here e.
     (c.in-Some.ensures.turns s.turns here.turns) in
     let around = ends.0 in
     let l = loop_of c.args.turns in
-    let led = ap (plain.head_lead l c.args.after s) ends.1.0
-    ∙ head_out_or_in l c.args.after s t around (
-      subst (λ i. plain.is_over (loop_of c.args.turns) i (turn_of c.in-Some.turn) ≡ false) here.place c.in-OutOrIn.ensures.0,
-      c.in-OutOrIn.ensures.1,
-      c.in-OutOrIn.ensures.2,
-    ) in
+    let led = head_by l c.args.after s t around c.args.stand.place s.turns turning.OutOrIn here.place ends.1.0 c.in-OutOrIn.ensures in
     subst (λ o. Leads leading s c.args.stand f.failed (TakesUp o f) c.turn_in.result c.turn_in.new.self)
     (sym (one_other _ first other _ (on l c.args.after s t around) e led))
     (c.turn_in.ensures leading s f around h here (omega (arith, ends.1.1, here.turns_link)) ends.1.2)
