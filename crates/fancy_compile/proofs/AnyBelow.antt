@@ -13,7 +13,8 @@ use Rattle.fancy_info.specs.declared.info.Info.TheViews.{out-Info}
 use Rattle.fancy_info.specs.Infos.{node_over, info_tree, info_within, info_children, info_facts}
 use Rattle.fancy_info.proofs.Unfolded.{tree_out}
 use Rattle.fancy_compile.specs.Nodes.{IsKnown}
-use Rattle.fancy_compile.proofs.Infos.{nodes_of_info, rest_at}
+use Rattle.fancy_info.proofs.Children.{rest_at}
+use Rattle.fancy_compile.proofs.Infos.{nodes_of_info}
 
 module _ (test : Tree → Bool) where
   -- the nodes of these, and below them

@@ -22,7 +22,7 @@ use Rattle.fancy_expr.specs.declared.error.Error.{Error}
 use Rattle.fancy_plain.specs.ClassTexts.{HasClass, itself, below, AreClasses, IsRefusal, texts_in}
 use Rattle.fancy_plain.specs.Tables.{HaveClasses, IsRefusedFor}
 use Rattle.fancy_compile.specs.Batches.{Collects}
-use Rattle.fancy_compile.proofs.Infos.{only_one, tree_by}
+use Rattle.fancy_info.proofs.Children.{only_one, tree_by}
 use Rattle.fancy_compile.proofs.Collected.{chars_of}
 use Rattle.fancy_compile.proofs.EasyClasses.{literal_classes}
 

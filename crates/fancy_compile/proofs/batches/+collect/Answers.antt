@@ -2,7 +2,7 @@ use Rattle.std.proofs.Common.{IfOk, true, map, sym, ap, ◌∙◌, subst, refl, 
 use Rattle.fancy_info.specs.Infos.{info_tree, info_children}
 use Rattle.fancy_meaning.specs.Batches.{all_joined, literal_chars}
 use Rattle.fancy_compile.specs.Batches.{Collects}
-use Rattle.fancy_compile.proofs.Infos.{tree_by}
+use Rattle.fancy_info.proofs.Children.{tree_by}
 use Rattle.fancy_compile.proofs.Collected.{each_literal_of, chars_of, more_chars, other_found}
 use Rattle.fancy_compile.proofs.batches.+collect.Goals as goal
 

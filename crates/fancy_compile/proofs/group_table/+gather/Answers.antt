@@ -2,10 +2,11 @@ use Rattle.std.proofs.Common.{◌<◌, ◌++◌, length, map, drop, ◌+◌, sym
 use Rattle.fancy_info.specs.Infos.{IsAnalysed, info_tree}
 use Rattle.fancy_expr.specs.Each.{Each}
 use Rattle.fancy_plain.specs.Tables.{AreFine}
-use Rattle.fancy_compile.specs.Nodes.{node_count, total}
+use Rattle.fancy_info.specs.NodeCounts.{node_count, node_counts}
 use Rattle.fancy_compile.specs.GroupTables.{is_group, own_trees, trees_of, group_trees}
 use Rattle.fancy_info.specs.Infos.{info_facts, info_children}
-use Rattle.fancy_compile.proofs.Infos.{fine_at, fine_below, node_count-below, child_count, each_at, known_child}
+use Rattle.fancy_info.proofs.Children.{node_count-below, child_count, each_at}
+use Rattle.fancy_compile.proofs.Infos.{fine_at, fine_below, known_child}
 use Rattle.fancy_compile.proofs.GroupTable.{each_group_trees, groups_of_info, each_rest}
 use Rattle.fancy_compile.proofs.group_table.+gather.Goals as goal
 
@@ -30,7 +31,7 @@ gather-requires t c =
       omega (
         arith,
         node_count-below c.args.info.now,
-        ap (λ l. total (map node_count l)) c.children-children.ensures,
+        ap node_counts c.children-children.ensures,
         child_count c.children-children.result.now c.loop-part.part-index c.part-item.result lt c.part-item.is,
       ),
       (
@@ -64,7 +65,7 @@ loop-part-preserved t c =
             arith,
             le,
             node_count-below c.args.info.now,
-            ap (λ l. total (map node_count l)) c.children-children.ensures,
+            ap node_counts c.children-children.ensures,
             child_count children n x lt c.part-item.is,
           ))
           (c.loop-part.invariant.known a most k fine le all);

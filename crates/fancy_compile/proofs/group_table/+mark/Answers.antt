@@ -3,9 +3,10 @@ use Rattle.fancy_meaning.specs.Marks.{marked_groups}
 use Rattle.fancy_meaning.specs.Sizes.{Size}
 use Rattle.fancy_info.specs.Infos.{IsAnalysed, info_tree, info_facts}
 use Rattle.fancy_expr.specs.Each.{Each}
-use Rattle.fancy_compile.specs.Nodes.{node_count, total}
+use Rattle.fancy_info.specs.NodeCounts.{node_count, node_counts}
 use Rattle.fancy_compile.specs.GroupTables.{MarksAll, is_group, is_concat}
-use Rattle.fancy_compile.proofs.Infos.{node_count-below, child_count, each_at, known_child, size_known}
+use Rattle.fancy_info.proofs.Children.{node_count-below, child_count, each_at}
+use Rattle.fancy_compile.proofs.Infos.{known_child, size_known}
 use Rattle.fancy_compile.proofs.GroupTable.{only_body, body_known, body_smaller, marks_then, marks_none, starts_of_group, starts_of_concat, no_starts, left_starts, left_more, left_last, left_done}
 use Rattle.fancy_compile.proofs.group_table.+mark.Goals as goal
 
@@ -41,7 +42,7 @@ mark-requires-in-loop-part t c =
       omega (
         arith,
         node_count-below c.args.info.now,
-        ap (λ l. total (map node_count l)) c.children-children.ensures,
+        ap node_counts c.children-children.ensures,
         child_count c.children-children.result.now c.loop-part.part-index c.part-item.result lt c.part-item.is,
       ),
       (

@@ -1,8 +1,10 @@
 use Rattle.std.proofs.Common.{◌+◌, ◌||◌, drop, ◌<◌, length, map, sym, ap, ◌∙◌, subst, arith}
 use Rattle.fancy_info.specs.Infos.{IsAnalysed, info_children}
 use Rattle.fancy_expr.specs.Each.{Each}
-use Rattle.fancy_compile.specs.Nodes.{node_count, total, is_keep_out_expr}
-use Rattle.fancy_compile.proofs.Infos.{node_count-below, child_count, each_at, known_child}
+use Rattle.fancy_info.specs.NodeCounts.{node_count, node_counts}
+use Rattle.fancy_compile.specs.Nodes.{is_keep_out_expr}
+use Rattle.fancy_info.proofs.Children.{node_count-below, child_count, each_at}
+use Rattle.fancy_compile.proofs.Infos.{known_child}
 use Rattle.fancy_compile.proofs.AnyBelow.{any_below, any_more, any_of_info, found_below, none_found}
 use Rattle.fancy_compile.proofs.KeepOuts.{over_keep_out}
 use Rattle.fancy_meaning.specs.Nodes.{is_keep_out}
@@ -26,7 +28,7 @@ has_keep_out-requires t c =
       omega (
         arith,
         node_count-below c.args.info.now,
-        ap (λ l. total (map node_count l)) c.children-children.ensures,
+        ap node_counts c.children-children.ensures,
         child_count c.children-children.result.now c.loop-child.child-index c.child-item.result lt c.child-item.is,
       ),
       (
