@@ -43,8 +43,7 @@ fn line(alloc: Global, insns: &[Insn]) -> Result<String, AllocError> {
 pub fn layout(alloc: Global, key: &str) -> Result<String, AllocError> {
     let (tree, letters) = key.split_once(" | ").unwrap_or((key, ""));
     match program(alloc, tree, letters) {
-        Ok(prog) => line(alloc, prog.body())?
-            .replace(alloc, "\r\n", "\\r\\n"),
+        Ok(prog) => line(alloc, prog.body())?.replace(alloc, "\r\n", "\\r\\n"),
         Err(error) => format!(in alloc; "{error:?}"),
     }
 }
