@@ -3,7 +3,6 @@
 from dataclasses import dataclass
 
 UNBOUNDED = 2**64 - 1  # as the greatest size: no bound
-MOST_CALLS = 19
 
 WORD_ASSERTIONS = {
     "LeftWordBoundary",
@@ -17,7 +16,6 @@ ALWAYS_HARD = {
     "look", "ref", "reflevel", "atom", "keep", "cont", "has", "haslevel", "verb", "if", "call",
     "absent", "absexp", "absstop", "absclear", "newline", "bytes",
 }
-ABSENT = {"absent", "absexp", "absstop", "absclear"}
 NOT_YET = "FeatureNotYetSupported"
 
 
@@ -101,8 +99,6 @@ class Analysis:
         self.number(tree, self.first, "")
         self.end = tree.end_group
         self.sizes()
-        for node in tree.walk():
-            node.at_start = False
         self.mark(tree)
         self.harden(tree)
         if options.end_text and tree.size[0] == 0:

@@ -1,7 +1,9 @@
 """The pattern text of nodes, and the program of a tree as the engine lists it."""
 
-from .analysis import ABSENT, MOST_CALLS, NOT_YET, UNBOUNDED, Analysis
+from .analysis import NOT_YET, UNBOUNDED, Analysis
 
+MOST_CALLS = 19
+ABSENT = {"absent", "absexp", "absstop", "absclear"}
 ESCAPED = set("\\.+*?()[]{}^$#|")
 WORD_TEXTS = {
     "StartText": "^",
