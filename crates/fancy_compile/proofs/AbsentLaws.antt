@@ -27,9 +27,10 @@ use Rattle.std.proofs.lemmas.Bool.{and_parts}
 use Rattle.std.proofs.lemmas.List.Folds.{list_any-append}
 use Rattle.fancy_info.proofs.Unfolded.{tree_out}
 use Rattle.fancy_compile.specs.Faults.{Rejects, refused, out_of_range, HasRejected}
-use Rattle.fancy_compile.specs.Drafts.{Draft, Writes, hard_code, node_code}
+use Rattle.fancy_compile.specs.Drafts.{Draft, Writes, written_code, node_code}
 use Rattle.fancy_compile.specs.Nodes.{is_repeater, is_absent_expr, IsKnown}
-use Rattle.fancy_compile.proofs.Infos.{nodes_of_info, rest_at}
+use Rattle.fancy_info.proofs.Children.{rest_at}
+use Rattle.fancy_compile.proofs.Infos.{nodes_of_info}
 use Rattle.fancy_compile.proofs.Written.{wrote_node, rejected_here, other_absent}
 
 -- ---- whether an absent node stands below a node
@@ -114,7 +115,7 @@ module _ (p : Site) (e : Tree) where
 
   module _ (call : ℕ → Bool → Code) (at_start in_hard : Bool) (s t : Draft) where
     abbrev Wrote : Type 0
-    Wrote = Writes p (hard_code p call (AbsentRepeater e) at_start in_hard) (AbsentRepeater e ∷ []) s t
+    Wrote = Writes p (written_code p call (AbsentRepeater e) at_start in_hard) (AbsentRepeater e ∷ []) s t
 
     -- by one instruction
     abbrev at_once : Code

@@ -1,5 +1,5 @@
 use Rattle.std.proofs.Common.{◌≡◌, drop}
-use Rattle.fancy_compile.specs.Nodes.{node_count}
+use Rattle.fancy_info.specs.NodeCounts.{node_count}
 use Rattle.fancy_compile.proofs.AbsentLaws.{any_below}
 use Rattle.fancy_compile.proofs.absents.+has_absent.Given as goal
 
