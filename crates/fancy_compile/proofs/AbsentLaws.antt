@@ -1,10 +1,9 @@
 -- Absent repeaters, and which nodes stand below a node.
-use Rattle.std.proofs.Common.{◌≡◌, ℕ, ◌+◌, ◌<◌, ◌≤◌, ◌&&◌, ◌||◌, Bool, true, false, not, List, [], ◌∷◌, length, map, drop, get_or, if◌then◌else◌, true≢false, refl, sym, ap, ap₂, ◌∙◌, subst}
+use Rattle.std.proofs.Common.{◌≡◌, ℕ, ◌&&◌, Bool, true, false, not, [], ◌∷◌, length, if◌then◌else◌, true≢false, refl, sym, ap, ap₂, ◌∙◌, subst}
 use Rattle.std.specs.List.{list_any}
-use Rattle.std.proofs.lemmas.List.{drop_all}
 use Rattle.fancy_meaning.specs.Tree as plain
 use Rattle.fancy_meaning.specs.Tree.{Tree, Trees, trees, Within, AbsentRepeater}
-use Rattle.fancy_meaning.specs.Nodes.{nodes, nodes_of_each, is_absent}
+use Rattle.fancy_meaning.specs.Nodes.{nodes, is_absent}
 use Rattle.fancy_meaning.specs.AnalysisRefusals as refusal
 use Rattle.fancy_meaning.specs.CompileRefusals.{absent_in_hard_repeater, absent_other}
 use Rattle.fancy_meaning.specs.Batches.{fragment, group_range, pattern_of}
@@ -12,25 +11,17 @@ use Rattle.fancy_meaning.specs.Code.{Code, nothing, one}
 use Rattle.fancy_meaning.specs.Instr.{Instr}
 use Rattle.fancy_meaning.specs.Constructs.{absent_code}
 use Rattle.fancy_meaning.specs.Hard.{is_hard}
-use Rattle.fancy_meaning.specs.Options.{Analysis}
 use Rattle.fancy_compile.specs.Sites.{Site}
 use Rattle.fancy_expr.specs.declared.expr.Absent.{Absent}
 use Rattle.fancy_expr.specs.declared.expr.Absent.TheVariants as code_absent
 use Rattle.fancy_expr.specs.declared.expr.Expr.{Expr}
 use Rattle.fancy_expr.specs.declared.expr.Expr.TheVariants as code
-use Rattle.fancy_info.specs.declared.info.Info.{Info}
-use Rattle.fancy_info.specs.declared.info.Info.TheViews.{out-Info}
 use Rattle.fancy_expr.specs.Exprs.{below}
-use Rattle.fancy_info.specs.Infos.{nth, node_over, absent_over, info_tree, info_within, info_children, info_facts}
-use Rattle.std.proofs.Math.Bool.{or-true}
+use Rattle.fancy_info.specs.Infos.{nth, node_over, absent_over}
 use Rattle.std.proofs.lemmas.Bool.{and_parts}
-use Rattle.std.proofs.lemmas.List.Folds.{list_any-append}
-use Rattle.fancy_info.proofs.Unfolded.{tree_out}
 use Rattle.fancy_compile.specs.Faults.{Rejects, refused, out_of_range, HasRejected}
 use Rattle.fancy_compile.specs.Drafts.{Draft, Writes, written_code, node_code}
-use Rattle.fancy_compile.specs.Nodes.{is_repeater, is_absent_expr, IsKnown}
-use Rattle.fancy_info.proofs.Children.{rest_at}
-use Rattle.fancy_compile.proofs.Infos.{nodes_of_info}
+use Rattle.fancy_compile.specs.Nodes.{is_repeater, is_absent_expr}
 use Rattle.fancy_compile.proofs.Written.{wrote_node, rejected_here, other_absent}
 
 -- ---- whether an absent node stands below a node

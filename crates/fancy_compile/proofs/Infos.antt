@@ -54,6 +54,14 @@ known_child a i h = record {
   easy = λ e. sym (hard_child a i h) ∙ e;
 }
 
+-- a child by its place among the children
+module _ (i : Info) (children : List Info) (same : children ≡ info_children i) (n : ℕ) (x : Info) (lt : n < length children) (is : x ≡ get_or children n x) where
+  pub part_smaller : node_count x < node_count i
+  part_smaller = omega (arith, node_count-below i, ap node_counts same, child_count children n x lt is)
+
+  pub part_known : (a : Analysis) → IsKnown a i → IsKnown a x
+  part_known a k = known_child a x (each_at (IsAnalysed a) children n x (subst (Each (IsAnalysed a)) (sym same) k.children) lt is)
+
 -- a node that is said to be easy is
 pub easy_known : (a : Analysis) (i : Info) → IsKnown a i → info_hard i ≡ false → IsEasy a i
 easy_known a i k h =

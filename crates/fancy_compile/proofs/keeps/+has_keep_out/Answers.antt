@@ -1,10 +1,7 @@
-use Rattle.std.proofs.Common.{◌+◌, ◌||◌, drop, ◌<◌, length, map, sym, ap, ◌∙◌, subst, arith}
-use Rattle.fancy_info.specs.Infos.{IsAnalysed, info_children}
-use Rattle.fancy_expr.specs.Each.{Each}
-use Rattle.fancy_info.specs.NodeCounts.{node_count, node_counts}
+use Rattle.std.proofs.Common.{◌+◌, ◌||◌, drop, ◌<◌, length, sym, ap, ◌∙◌, arith}
+use Rattle.fancy_info.specs.Infos.{info_children}
 use Rattle.fancy_compile.specs.Nodes.{is_keep_out_expr}
-use Rattle.fancy_info.proofs.Children.{node_count-below, child_count, each_at}
-use Rattle.fancy_compile.proofs.Infos.{known_child}
+use Rattle.fancy_compile.proofs.Infos.{part_known, part_smaller}
 use Rattle.fancy_compile.proofs.AnyBelow.{any_below, any_more, any_of_info, found_below, none_found}
 use Rattle.fancy_compile.proofs.KeepOuts.{over_keep_out}
 use Rattle.fancy_meaning.specs.Nodes.{is_keep_out}
@@ -23,19 +20,9 @@ loop-child-preserved t c =
 
 pub has_keep_out-requires : goal.has_keep_out-requires
 has_keep_out-requires t c =
-    let lt : c.loop-child.child-index < length c.children-children.result.now = omega arith in
-    let each = subst (Each (IsAnalysed c.requires.0)) (sym c.children-children.ensures) (c.requires.1).children in (
-      omega (
-        arith,
-        node_count-below c.args.info.now,
-        ap node_counts c.children-children.ensures,
-        child_count c.children-children.result.now c.loop-child.child-index c.child-item.result lt c.child-item.is,
-      ),
-      (
-        c.requires.0,
-        known_child c.requires.0 c.child-item.result
-            (each_at (IsAnalysed c.requires.0) c.children-children.result.now c.loop-child.child-index c.child-item.result each lt c.child-item.is),
-      ),
+    let lt : c.loop-child.child-index < length c.children-children.result.now = omega arith in (
+      omega (arith, part_smaller c.args.info.now _ c.children-children.ensures _ _ lt c.child-item.is),
+      (c.requires.0, part_known c.args.info.now _ c.children-children.ensures _ _ lt c.child-item.is c.requires.0 c.requires.1),
     )
 
 pub returns-then-has_keep_out : goal.returns-then-has_keep_out

@@ -176,14 +176,14 @@ emit_node-returns-in-Group t c = λ p call u known.
     let s = draft_of c.args.self.now in
     let t = draft_of c.emit_around.new.self in
     let inside = c.args.in_hard || is_read p.analysis.tree n in
-    let is_inside = c.is_body_hard.ensures
+    let is_inside = c.is_body_hard-is_hard.ensures
     ∙ ap (λ b. c.args.in_hard || b) (read_known p.analysis i known ∙ ap (is_read_group p.analysis.tree) tree) in
     let code : ℕ → Bool → Code = λ m b. group_code m (node_code p call (info_tree body) c.args.at_start b) in
     let wrote = c.emit_around.ensures p call u (analysed_only c.args.scope.now i body _ at c.requires refl c.child.ensures p.analysis known) in
     written_as p call c.args.at_start c.args.in_hard _ _ _ _ tree
     (wrote_node p _ (plain.Group n (info_tree body)) s t (safe_fine p (plain.Group n (info_tree body)) refl refl)
     (subst (λ b. Writes p (code n b) (info_tree body ∷ []) s t) is_inside
-    (subst (λ m. Writes p (code m c.is_body_hard.result) (info_tree body ∷ []) s t) c.start_group.ensures wrote)))
+    (subst (λ m. Writes p (code m c.is_body_hard-is_hard.result) (info_tree body ∷ []) s t) c.start_group.ensures wrote)))
 
 pub emit_node-returns-in-AtomicGroup : goal.emit_node-returns-in-AtomicGroup
 emit_node-returns-in-AtomicGroup t c = λ p call u known.
@@ -225,27 +225,27 @@ emit_node-returns-in-LookAround t c = λ p call u known.
 pub emit_node-returns-in-Conditional : goal.emit_node-returns-in-Conditional
 emit_node-returns-in-Conditional t c = λ p call u known.
     let tree = tree_by c.args.info.now _ _ (sym c.expr-expr.ensures ∙ c.in-Conditional.is)
-    (three_children c.args.scope.now c.args.info.now c.child-in-Conditional.result.now c.child-in-Conditional-2.result.now
-    c.child-in-Conditional-3.result.now _ (sym c.expr-expr.ensures ∙ c.in-Conditional.is) c.requires refl c.child-in-Conditional.ensures
-    c.child-in-Conditional-2.ensures c.child-in-Conditional-3.ensures) in
-    let each = analysed_three c.args.scope.now c.args.info.now c.child-in-Conditional.result.now c.child-in-Conditional-2.result.now
-    c.child-in-Conditional-3.result.now _ (sym c.expr-expr.ensures ∙ c.in-Conditional.is) c.requires refl c.child-in-Conditional.ensures
-    c.child-in-Conditional-2.ensures c.child-in-Conditional-3.ensures p.analysis known in
-    let e = plain.Conditional (info_tree c.child-in-Conditional.result.now) (info_tree c.child-in-Conditional-2.result.now)
-    (info_tree c.child-in-Conditional-3.result.now) in
+    (three_children c.args.scope.now c.args.info.now c.child-first.result.now c.child-second.result.now
+    c.child-third.result.now _ (sym c.expr-expr.ensures ∙ c.in-Conditional.is) c.requires refl c.child-first.ensures
+    c.child-second.ensures c.child-third.ensures) in
+    let each = analysed_three c.args.scope.now c.args.info.now c.child-first.result.now c.child-second.result.now
+    c.child-third.result.now _ (sym c.expr-expr.ensures ∙ c.in-Conditional.is) c.requires refl c.child-first.ensures
+    c.child-second.ensures c.child-third.ensures p.analysis known in
+    let e = plain.Conditional (info_tree c.child-first.result.now) (info_tree c.child-second.result.now)
+    (info_tree c.child-third.result.now) in
     written_as p call c.args.at_start c.args.in_hard _ _ _ _ tree
     (wrote_node p _ e _ _ (safe_fine p e refl refl) (c.emit_conditional.ensures p call u each.0 each.1.0 each.1.1))
 
 pub emit_node-emit_conditional-requires : goal.emit_node-emit_conditional-requires
 emit_node-emit_conditional-requires t c =
-    let each = whole_three c.args.scope.now c.args.info.now c.child-in-Conditional.result.now c.child-in-Conditional-2.result.now
-    c.child-in-Conditional-3.result.now _ (sym c.expr-expr.ensures ∙ c.in-Conditional.is) c.requires refl c.child-in-Conditional.ensures
-    c.child-in-Conditional-2.ensures c.child-in-Conditional-3.ensures in (
+    let each = whole_three c.args.scope.now c.args.info.now c.child-first.result.now c.child-second.result.now
+    c.child-third.result.now _ (sym c.expr-expr.ensures ∙ c.in-Conditional.is) c.requires refl c.child-first.ensures
+    c.child-second.ensures c.child-third.ensures in (
       omega (
         arith,
-        smaller_three c.args.scope.now c.args.info.now c.child-in-Conditional.result.now c.child-in-Conditional-2.result.now
-            c.child-in-Conditional-3.result.now _ (sym c.expr-expr.ensures ∙ c.in-Conditional.is) c.requires refl c.child-in-Conditional.ensures
-            c.child-in-Conditional-2.ensures c.child-in-Conditional-3.ensures,
+        smaller_three c.args.scope.now c.args.info.now c.child-first.result.now c.child-second.result.now
+            c.child-third.result.now _ (sym c.expr-expr.ensures ∙ c.in-Conditional.is) c.requires refl c.child-first.ensures
+            c.child-second.ensures c.child-third.ensures,
       ),
       each,
     )
