@@ -1,7 +1,9 @@
 -- A list of matches goes on: what it finds ends at or past where its search began, so each search begins further on.
-use Rattle.std.proofs.Common.{◌≡◌, ℕ, zero, suc, ◌-◌, ◌<◌, ◌≤◌, ⊎_elim, min, max, Bool, true, false, ◌&&◌, not, List, [], ◌∷◌, ◌++◌, length, nat_le, nat_lt, Option, Some, None, IfSome, IsTrue, filter_map, slice_get, map, option_map, true≢false, eq-eqb, leb-true, ◌==◌, refl, sym, ap, ap₂, ◌∙◌, subst, arith, if◌then◌else◌}
+use Rattle.std.proofs.Common.{slice_range, drop, ◌≡◌, ℕ, zero, suc, ◌-◌, ◌<◌, ◌≤◌, ⊎_elim, min, max, Bool, true, false, ◌&&◌, not, List, [], ◌∷◌, ◌++◌, length, nat_le, nat_lt, Option, Some, None, IfSome, IsTrue, filter_map, slice_get, map, option_map, true≢false, eq-eqb, leb-true, ◌==◌, refl, sym, ap, ap₂, ◌∙◌, subst, arith, if◌then◌else◌}
 use Rattle.regex_hir.specs.Text.{is_some_and}
 use Rattle.std.proofs.lemmas.Bool.{and_parts, cases_lt, cond_both}
+use Rattle.std.proofs.lemmas.List.{drop_all}
+use Rattle.std.proofs.lemmas.List.Folds.{drop_split}
 use Rattle.std.proofs.lemmas.Option.{none-some, same_Some}
 use Rattle.std.proofs.lemmas.Bool.Decides.{nat_tests}
 use Rattle.std.proofs.lemmas.Str.{len_utf8_bounds}
@@ -22,7 +24,7 @@ use Rattle.fancy_laws.proofs.Every.{Every, every_one, every_if, every_filter, ev
 use Rattle.fancy_laws.proofs.Moves.{is_place_parts, past_char_tells}
 use Rattle.fancy_laws.proofs.WaysOf.{every_place_from}
 use Rattle.fancy_vm.specs.Outcomes.{first_pair}
-use Rattle.fancy_matches.specs.Listing.{Standing, after, found_at, AreApart, IsPast, all_spans, at_start, further, is_listed, left, listed, listed_one, next_pos, options_at}
+use Rattle.fancy_matches.specs.Listing.{Standing, after, found_at, AreApart, IsPast, PiecesJoin, in_turn, part, pieces, all_spans, at_start, further, is_listed, left, listed, listed_one, next_pos, options_at}
 
 -- ---- what an answer has
 
@@ -248,29 +250,58 @@ module _ (p : Plan) (text : List ℕ) (o : RunOptions) (is : IsText text) where
       let past = ends_before_next text s (first_pair m) in omega (arith, same, past))
       (λ is_so e. let before = orderly last e in omega (arith, before, on))
 
-  listed_apart : (n : ℕ) (s : Standing) → IsOrderly s → AreApart s.last (map first_pair (listed p text o n s))
+  listed_apart : (n : ℕ) (s : Standing) → IsOrderly s → AreApart text s.last (map first_pair (listed p text o n s))
   unfolding listed
   listed_apart zero s orderly = tt
   listed_apart (suc n) s orderly =
       go (found_at p text o s) refl (λ m e. listed_apart n (after text s (first_pair m)) (orderly_after s m e orderly))
     where
       one : (m : List ℕ) (b : Bool) → is_listed s (first_pair m) ≡ b → found_at p text o s ≡ Some m →
-          AreApart (if b then Some (first_pair m).1 else s.last) (map first_pair (listed p text o n (after text s (first_pair m)))) →
-          AreApart s.last (map first_pair ((if b then m ∷ [] else []) ++ listed p text o n (after text s (first_pair m))))
+          AreApart text (if b then Some (first_pair m).1 else s.last) (map first_pair (listed p text o n (after text s (first_pair m)))) →
+          AreApart text s.last (map first_pair ((if b then m ∷ [] else []) ++ listed p text o n (after text s (first_pair m))))
       one m true e here rest =
           let whole = (found_sound s m here).whole in
-          (listed_past s (first_pair m) orderly whole.in_order e, (whole.in_order, rest))
+          (listed_past s (first_pair m) orderly whole.in_order e, (whole, rest))
       one m false e here rest = rest
 
       go : (x : Option (List ℕ)) → found_at p text o s ≡ x →
           ((m : List ℕ) → found_at p text o s ≡ Some m →
-          AreApart (after text s (first_pair m)).last (map first_pair (listed p text o n (after text s (first_pair m))))) →
-          AreApart s.last (map first_pair (listed p text o (suc n) s))
-      go None e rest = subst (λ xs. AreApart s.last (map first_pair xs)) (sym (listed_none p text o is (suc n) s e)) tt
+          AreApart text (after text s (first_pair m)).last (map first_pair (listed p text o n (after text s (first_pair m))))) →
+          AreApart text s.last (map first_pair (listed p text o (suc n) s))
+      go None e rest = subst (λ xs. AreApart text s.last (map first_pair xs)) (sym (listed_none p text o is (suc n) s e)) tt
       go (Some m) e rest =
-          subst (λ xs. AreApart s.last (map first_pair xs)) (sym (listed_some p text o is n s m e))
+          subst (λ xs. AreApart text s.last (map first_pair xs)) (sym (listed_some p text o is n s m e))
           (one m (is_listed s (first_pair m)) refl e (rest m e))
 
-  pub matches_apart : AreApart None (all_spans p text o)
+  pub matches_apart : AreApart text None (all_spans p text o)
   unfolding IsOrderly
   matches_apart = listed_apart (suc (length text) - 0) at_start (λ last e. absurd (none-some last e))
+
+-- ---- pieces and matches in turn are the text
+
+abbrev from_last : Option ℕ → ℕ
+from_last None = 0
+from_last (Some last) = last
+
+zero_least : (n : ℕ) → 0 ≤ n
+zero_least n = omega arith
+
+past_from : (last : Option ℕ) (start end : ℕ) → IsPast last (start, end) → from_last last ≤ start
+past_from None start end past = zero_least start
+past_from (Some l) start end past = past.0
+
+joins_from : (text : List ℕ) (last : Option ℕ) (spans : List Span) → from_last last ≤ length text → AreApart text last spans →
+    in_turn (pieces text (from_last last) spans) (map (part text) spans) ≡ drop (from_last last) text
+joins_from text last [] within apart =
+    ap (λ rest. slice_range text (from_last last) (length text) ++ rest) (sym (drop_all (length text) text (omega arith)))
+    ∙ sym (drop_split text (from_last last) (length text) within)
+joins_from text last ((start, end) ∷ spans) within (past, (span, apart)) =
+    let to = (is_place_parts text end span.to).0 in
+    let in_order = span.in_order in
+    let begins = past_from last start end past in
+    ap (λ rest. slice_range text (from_last last) start ++ (slice_range text start end ++ rest)) (joins_from text (Some end) spans to apart)
+    ∙ ap (λ rest. slice_range text (from_last last) start ++ rest) (sym (drop_split text start end in_order))
+    ∙ sym (drop_split text (from_last last) start begins)
+
+pub pieces_join : (p : Plan) (text : List ℕ) (o : RunOptions) → IsText text → PiecesJoin text (all_spans p text o)
+pieces_join p text o is = joins_from text None (all_spans p text o) (zero_least (length text)) (matches_apart p text o is)

@@ -1,5 +1,5 @@
 -- The list of all matches of a text: one search after the other, each from where the one before left off.
-use Rattle.std.specs.Prelude.{ℕ, zero, suc, ◌-◌, ◌≤◌, ◌<◌, Bool, true, false, ◌&&◌, not, List, [], ◌∷◌, ◌++◌, length, max, map, Option, Some, None, nat_le, nat_lt, ◌==◌, if◌then◌else◌}
+use Rattle.std.specs.Prelude.{◌≡◌, ℕ, zero, suc, ◌-◌, ◌≤◌, ◌<◌, Bool, true, false, ◌&&◌, not, List, [], ◌∷◌, ◌++◌, length, max, map, Option, Some, None, nat_le, nat_lt, ◌==◌, if◌then◌else◌, slice_range}
 use Rattle.std.specs.Option.{option_map_or}
 use Rattle.regex_hir.specs.Text.{is_none_or, is_some_and}
 use Rattle.fancy_meaning.specs.Answer.{answer, search_of}
@@ -8,6 +8,7 @@ use Rattle.fancy_meaning.specs.MatchState.{Span}
 use Rattle.fancy_meaning.specs.Moves.{past_char}
 use Rattle.fancy_meaning.specs.Options.{Plan, RunOptions}
 use Rattle.fancy_meaning.specs.Places.{is_place}
+use Rattle.fancy_meaning.specs.Premises.{IsSpan}
 use Rattle.fancy_vm.specs.Outcomes.{first_pair}
 
 -- where a list stands
@@ -95,7 +96,27 @@ abbrev pub IsPast : Option ℕ → Span → Type 0
 IsPast None (start, end) = Unit {0}
 IsPast (Some last) (start, end) = (last ≤ start) × (last < end)
 
--- the matches do not overlap, and each ends past the one before
-abbrev pub AreApart : Option ℕ → List Span → Type 0
-AreApart last [] = Unit {0}
-AreApart last (span ∷ spans) = IsPast last span × ((span.0 ≤ span.1) × AreApart (Some span.1) spans)
+-- the matches lie in the text between places, they do not overlap, and each ends past the one before
+abbrev pub AreApart : List ℕ → Option ℕ → List Span → Type 0
+AreApart text last [] = Unit {0}
+AreApart text last (span ∷ spans) = IsPast last span × (IsSpan text span × AreApart text (Some span.1) spans)
+
+-- ---- the pieces between the matches
+
+-- from where the last match ended, so far into the text
+abbrev pub pieces : List ℕ → ℕ → List Span → List (List ℕ)
+pieces text from [] = slice_range text from (length text) ∷ []
+pieces text from ((start, end) ∷ spans) = slice_range text from start ∷ pieces text end spans
+
+abbrev pub part : List ℕ → Span → List ℕ
+part text (start, end) = slice_range text start end
+
+-- a piece, a match, and so on
+abbrev pub in_turn : List (List ℕ) → List (List ℕ) → List ℕ
+in_turn [] matches = []
+in_turn (piece ∷ pieces) [] = piece ++ in_turn pieces []
+in_turn (piece ∷ pieces) (found ∷ matches) = piece ++ (found ++ in_turn pieces matches)
+
+-- pieces and matches in turn are the text
+abbrev pub PiecesJoin : List ℕ → List Span → Type 0
+PiecesJoin text spans = in_turn (pieces text 0 spans) (map (part text) spans) ≡ text
