@@ -1,7 +1,0 @@
-//! All matches of a text, by the names of fancy-regex and `regex`.
-#![tactic(auto)]
-
-pub mod found;
-pub mod iterators;
-pub mod regex;
-mod standing;
