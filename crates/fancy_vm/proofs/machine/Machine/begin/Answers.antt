@@ -1,5 +1,5 @@
 use Rattle.std.proofs.Common.{◌≡◌, ℕ, zero, suc, [], slice_index_or, refl, ap, subst, sym, arith}
-use Rattle.std.specs.Prelude.{replicate}
+use Rattle.std.specs.Prelude.{replicate, None}
 use Rattle.std.proofs.Math.Path.{fun_ext}
 use Rattle.std.proofs.lemmas.List.{length-replicate}
 use Rattle.fancy_meaning.specs.Config.{Config, Slots}
@@ -27,6 +27,6 @@ pub returns-clause-begins : goal.returns-clause-begins
 returns-clause-begins c =
     let pos : ℕ = c.args.task.now.options.now.pos in
     let at_slots : Slots → Config = λ slots.
-    record { now = record { pc = 0; ix = pos; slots = slots; marks = [] }; branches = []; start = pos; backtracks = 0 } in
+    record { now = record { pc = 0; ix = pos; slots = slots; marks = [] }; branches = []; start = pos; backtracks = 0; longest = None } in
     subst (λ (s : Held). config_at 0 pos pos 0 s ≡ machine.begin (plain_task c.args.task.now)) (sym c.requires)
     (ap at_slots (fun_ext (unset_at c.args.task.now.prog.now.parts.slots)))
