@@ -64,7 +64,7 @@ fn reported(state: &State) -> usize
 
 /// The state is longer than the one that is held, or none is.
 fn is_longer_than(held: Option<&State>, state: &State) -> bool
-    ensures { result ≡ is_longer_than (option_map (λ s. state_of s.now) held) (state_of state.now) }
+    ensures { result ≡ is_longer_than (option_map (λ s. state_of s.now) held.entry) (state_of state.now) }
 {
     match held {
         Some(held) => reported(held) < reported(state),
@@ -82,7 +82,7 @@ fn replaces(
 ) -> bool
     ensures { result ≡ (is_admitted (asked plain.Empty options.now text.now) start
         (state_of state.now)
-        && is_longer_than (option_map (λ s. state_of s.now) held) (state_of state.now)) }
+        && is_longer_than (option_map (λ s. state_of s.now) held.entry) (state_of state.now)) }
 {
     is_admitted(options, text, start, state) && is_longer_than(held, state)
 }
