@@ -14,6 +14,7 @@ fn context(letters: &str) -> AnalyzeContext {
         explicit_capture_group_0: letters.contains('E'),
         find_not_empty: letters.contains('N'),
         disallow_empty_match_at_eof_after_newline: letters.contains('T') || letters.contains('R'),
+        leftmost_longest: letters.contains('L'),
     }
 }
 
