@@ -108,5 +108,6 @@ pub extern "C" fn fancy_error_name(code: u32, name: &mut [u8]) -> usize
 pub extern "C" fn fancy_free(alloc: Global, program: &mut FancyProgram)
     ensures { program.new.handle.searcher ≡ None }
 {
-    replace(program, FancyProgram::empty(alloc)).free();
+    let held = replace(program, FancyProgram::empty(alloc));
+    held.free();
 }
