@@ -168,7 +168,8 @@ pub data Answers (s : Searcher) (text : List ℕ) (o : FancyOptions) (old : List
       Answers s text o old (written answer old) (outcome_of text answer)
 
 -- the same by a program that may hold no tree, in bytes that may be no text
-pub data Finds (text : List ℕ) (o : FancyOptions) (old : List ℕ) : Option Searcher → List ℕ → FancyOutcome → Type 0 where
+pub data Finds (text : List ℕ) (o : FancyOptions) (old : List ℕ) :
+    Option Searcher → List ℕ → FancyOutcome → Type 0 where
   no_text : {held : Option Searcher} → ¬ IsUtf8 text → Finds text o old held old (not_utf8 (utf8_valid_len text))
   no_program : IsUtf8 text → Finds text o old None old (coded no_program)
   found : {s : Searcher} {new : List ℕ} {outcome : FancyOutcome} → IsUtf8 text → Answers s text o old new outcome →

@@ -35,7 +35,8 @@ into_loose_spec 𝓤 𝓛 𝓜 𝓡 wired =
     let hs : Stays ended.signature.params ended.kept = (stay_dropped FromHandle yes, tt) in
     proved_at 𝓛 ended hs c 𝓜 𝓡 (Goes-dropped 𝓛 0 FromHandle yes (λ κs x f. refl), tt) #self fn (code.unfolded 𝓤 H 𝓜 𝓡 wired) (λ z are.
     let a : Handle.Denot = z.0.3.0 in let Post = (walk_of 𝓛 ended hs c).post z in let Run : List Val → SProp 𝓤 = λ ws. WpFn 𝓤 H 𝓣.C 𝓣.Λ fn ws Post in
-    qed 𝓛 ((‵ ftrue ⊛ ‵ (fsep (Handle.own_val a z.0.4.0) ftrue)) ∷ raw (fact 𝓤 (IsSome a.searcher)) ∷ []) ∵ move ! (1 ∷ []) $ heard ! (IsSome a.searcher) (λ is_some.
+    qed 𝓛 ((‵ ftrue ⊛ ‵ (fsep (Handle.own_val a z.0.4.0) ftrue)) ∷ raw (fact 𝓤 (IsSome a.searcher)) ∷ []) ∵ move ! (1 ∷ []) $
+    heard ! (IsSome a.searcher) (λ is_some.
     let there = what_is_there a.searcher is_some in let d : Box.Denot = record { at = a.at; alloc = a.alloc; value = there.0 } in
     split ! $ drop ! $ fsplit ! $ rewrite ! 0 (λ (m : Option R.Denot). ‵ (Handle.own_val (record a { searcher = m }) z.0.4.0)) there.1 refl $
     use1 𝓛 (‵ (Box.own_val d z.0.4.0)) (id⊢ 𝓤 _) $
@@ -44,7 +45,8 @@ into_loose_spec 𝓤 𝓛 𝓜 𝓡 wired =
     loose_in R Z LZ ghosts ! b o h d.alloc d.value $ move ! (1 ∷ []) $ drop ! $
     suffices ! (Run (w ∷ [])) (subst (λ (us : List Val). ent 𝓤 (Run (w ∷ [])) (Run us)) (sym (λ i. ws i ++ [])) (id⊢ 𝓤 (Run (w ∷ [])))) $
     enter ! 𝓣.C 𝓣.Λ fn (w ∷ []) Post $ alloc_all ! (λ l. pass_all ! refl (typed, tt) $
-    sets ! (of_opd ! (get_in ! (fld ! refl (stop !)) (sub ! 0 refl (whole !)))) refl (tt, tt) $ sets ! (of_opd ! (get_in ! (fld ! refl (stop !)) (sub ! 1 refl (whole !)))) refl fits $
+    sets ! (of_opd ! (get_in ! (fld ! refl (stop !)) (sub ! 0 refl (whole !)))) refl (tt, tt) $
+    sets ! (of_opd ! (get_in ! (fld ! refl (stop !)) (sub ! 1 refl (whole !)))) refl fits $
     sets ! (of_opd ! (get ! refl)) refl (tt, tt) $ sets ! (agg ! (and_then ! (get ! refl) (and_then ! (get ! refl) (no_more !)))) refl typed $
     returns ! (look_at ! 0 refl) $ free_all ! refl $ suffices ! _ (ends_at 𝓛 ended hs c z w made (tt, tt) (tt, tt)) $ says ! there.1 $
     nothing ! $ nothing ! $ fjoin ! $ join ! $ nothing ! $ join ! $ done !))))
