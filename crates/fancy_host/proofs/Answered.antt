@@ -8,12 +8,15 @@ use Rattle.fancy_meaning.specs.Fits.{run_fits}
 use Rattle.fancy_meaning.specs.Options as plain
 use Rattle.fancy_meaning.specs.Premises.{Input}
 use Rattle.fancy_expr.specs.declared.error.Error.{Error}
+use Rattle.fancy_expr.specs.declared.expr.ExprTree.{ExprTree}
+use Rattle.fancy_info.specs.declared.context.AnalyzeContext.{AnalyzeContext}
+use Rattle.fancy_compile.specs.declared.options.CompileOptions.{CompileOptions}
 use Rattle.fancy_vm.specs.Programs.{prog_of, options_of as run_options_of}
 use Rattle.fancy_search.specs.declared.search.Compiled.{Compiled}
-use Rattle.fancy_search.specs.Searches.{Bounds, IsCompiledFrom, Promises, program}
+use Rattle.fancy_search.specs.Searches.{Bounds, IsCompiledFrom, IsRefusedAs, Promises, input_of, program}
 use Rattle.fancy_host.specs.declared.options.FancyOptions.{FancyOptions}
 use Rattle.fancy_host.specs.declared.program.Searcher.{Searcher}
-use Rattle.fancy_host.specs.Hosted.{IsPromised, running}
+use Rattle.fancy_host.specs.Hosted.{IsPromised, analysis, asked_of, compilation, running}
 
 -- where nothing is said to be, there is nothing
 pub none_there : {X : Type 0} → (m : Option X) (b : Bool) → is_some m ≡ b → b ≡ false → m ≡ None
@@ -31,3 +34,13 @@ module _ (c : Compiled) (text : List ℕ) (o : FancyOptions) (r : plain.RunOptio
       IsPromised c text o answer
   promised_by answer promise bounds i from =
       (subst (λ x. Promises i text x answer) same (promise i from), subst (λ x. Bounds i text x answer) same (bounds i from))
+
+-- a tree with the options that a host asks for
+module _ (t : ExprTree) (o : FancyOptions) (a : AnalyzeContext) (k : CompileOptions) (as_analysed : a ≡ analysis o) (as_compiled : k ≡ compilation o) where
+  pub refused_by : (e : Error) → IsRefusedAs (input_of t a k) e → IsRefusedAs (asked_of t o) e
+  refused_by e h =
+      subst (λ x. IsRefusedAs (input_of t (analysis o) x) e) as_compiled (subst (λ x. IsRefusedAs (input_of t x k) e) as_analysed h)
+
+  pub compiled_by : (c : Compiled) → IsCompiledFrom (input_of t a k) c → IsCompiledFrom (asked_of t o) c
+  compiled_by c h =
+      subst (λ x. IsCompiledFrom (input_of t (analysis o) x) c) as_compiled (subst (λ x. IsCompiledFrom (input_of t x k) c) as_analysed h)

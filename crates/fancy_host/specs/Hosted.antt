@@ -141,7 +141,7 @@ asked_of t o = input_of t (analysis o) (compilation o)
 pub record IsMadeFrom (text : List ℕ) (o : FancyOptions) (s : Searcher) : Type 0 where
   pub tree : ExprTree
   pub read : IsRead text tree
-  pub compiled : IsCompiledFrom (asked_of tree o) s.compiled
+  pub from : IsCompiledFrom (asked_of tree o) s.compiled
 
 -- the text spells no tree, the tree that it spells is refused, or memory was
 pub data FailsToCompile (text : List ℕ) (o : FancyOptions) : Error → Type 0 where
@@ -151,7 +151,7 @@ pub data FailsToCompile (text : List ℕ) (o : FancyOptions) : Error → Type 0 
 
 -- what a program holds after a tree was to be compiled, and the outcome
 pub data Compiles (text : List ℕ) (o : FancyOptions) : Option Searcher → FancyOutcome → Type 0 where
-  no_text : ¬ IsUtf8 text → Compiles text o None (not_utf8 (utf8_valid_len text))
+  spells_no_text : ¬ IsUtf8 text → Compiles text o None (not_utf8 (utf8_valid_len text))
   fails : {e : Error} → FailsToCompile text o e → Compiles text o None (failure e)
   holds : {s : Searcher} → IsMadeFrom text o s → Compiles text o (Some s) (compiled (groups s))
 
@@ -162,15 +162,15 @@ IsPromised c text o answer =
 
 -- what a search writes, and its outcome
 pub data Answers (s : Searcher) (text : List ℕ) (o : FancyOptions) (old : List ℕ) : List ℕ → FancyOutcome → Type 0 where
-  unfit : IsFalse (run_fits (record { program = prog_of (program s.compiled); text = text; options = running o })) →
+  does_not_fit : IsFalse (run_fits (record { program = prog_of (program s.compiled); text = text; options = running o })) →
       Answers s text o old old (coded unfit)
-  answered : {answer : Result (Option (Vec ℕ Global)) Error} → IsPromised s.compiled text o answer →
+  answered : (answer : Result (Option (Vec ℕ Global)) Error) → IsPromised s.compiled text o answer →
       Answers s text o old (written answer old) (outcome_of text answer)
 
 -- the same by a program that may hold no tree, in bytes that may be no text
 pub data Finds (text : List ℕ) (o : FancyOptions) (old : List ℕ) :
     Option Searcher → List ℕ → FancyOutcome → Type 0 where
-  no_text : {held : Option Searcher} → ¬ IsUtf8 text → Finds text o old held old (not_utf8 (utf8_valid_len text))
-  no_program : IsUtf8 text → Finds text o old None old (coded no_program)
+  in_no_text : {held : Option Searcher} → ¬ IsUtf8 text → Finds text o old held old (not_utf8 (utf8_valid_len text))
+  for_no_tree : IsUtf8 text → Finds text o old None old (coded no_program)
   found : {s : Searcher} {new : List ℕ} {outcome : FancyOutcome} → IsUtf8 text → Answers s text o old new outcome →
       Finds text o old (Some s) new outcome
