@@ -1,5 +1,7 @@
 -- What the calls of a host need of each other.
-use Rattle.std.proofs.Common.{◌≡◌, ℕ, Bool, true, false, List, Option, Some, None, Result, IsFalse, refl, sym, subst}
+use Rattle.std.proofs.Common.{◌≡◌, ℕ, Bool, true, false, List, Option, Some, None, Result, IsFalse, refl, sym, ap, ◌∙◌, subst}
+use Rattle.std.specs.Prelude.{IsUtf8}
+use Rattle.std.specs.Str.Lossy.{utf8_valid_len}
 use Rattle.std.specs.Option.{is_some}
 use Rattle.std.specs.declared.vec.Vec.{Vec}
 use Rattle.std.specs.declared.alloc.Global.{Global}
@@ -16,7 +18,9 @@ use Rattle.fancy_search.specs.declared.search.Compiled.{Compiled}
 use Rattle.fancy_search.specs.Searches.{Bounds, IsCompiledFrom, IsRefusedAs, Promises, input_of, program}
 use Rattle.fancy_host.specs.declared.options.FancyOptions.{FancyOptions}
 use Rattle.fancy_host.specs.declared.program.Searcher.{Searcher}
-use Rattle.fancy_host.specs.Hosted.{IsPromised, analysis, asked_of, compilation, running}
+use Rattle.fancy_host.specs.declared.outcome.FancyOutcome.{FancyOutcome}
+use Rattle.fancy_host.specs.Codes.{no_program, unfit}
+use Rattle.fancy_host.specs.Hosted.{Answers, Compiles, FailsToCompile, Finds, IsMadeFrom, IsPromised, analysis, asked_of, coded, compilation, compiled, does_not_fit, failure, fails, for_no_tree, found, groups, holds, in_no_text, not_utf8, running, spells_no_text}
 
 -- where nothing is said to be, there is nothing
 pub none_there : {X : Type 0} → (m : Option X) (b : Bool) → is_some m ≡ b → b ≡ false → m ≡ None
@@ -44,3 +48,44 @@ module _ (t : ExprTree) (o : FancyOptions) (a : AnalyzeContext) (k : CompileOpti
   pub compiled_by : (c : Compiled) → IsCompiledFrom (input_of t a k) c → IsCompiledFrom (asked_of t o) c
   compiled_by c h =
       subst (λ x. IsCompiledFrom (input_of t (analysis o) x) c) as_compiled (subst (λ x. IsCompiledFrom (input_of t x k) c) as_analysed h)
+
+-- ---- the cases of the calls
+
+module _ (text : List ℕ) (o : FancyOptions) (outcome : FancyOutcome) where
+  pub unread_compiles : (held : Option Searcher) (byte : ℕ) → held ≡ None → ¬ IsUtf8 text → outcome ≡ not_utf8 byte → byte ≡ utf8_valid_len text →
+      Compiles text o held outcome
+  unread_compiles held byte nothing no is at =
+      subst (λ h. Compiles text o h outcome) (sym nothing) (subst (λ x. Compiles text o None x) (sym (is ∙ ap not_utf8 at)) (spells_no_text no))
+
+  pub fails_by : (read : List ℕ) (held : Option Searcher) (e : Error) → read ≡ text → held ≡ None → outcome ≡ failure e → FailsToCompile read o e →
+      Compiles text o held outcome
+  fails_by read held e same nothing is h =
+      subst (λ m. Compiles text o m outcome) (sym nothing)
+      (subst (λ x. Compiles text o None x) (sym is) (fails (subst (λ t. FailsToCompile t o e) same h)))
+
+  pub holds_by : (read : List ℕ) (held : Option Searcher) (s : Searcher) (n : ℕ) → read ≡ text → held ≡ Some s → outcome ≡ compiled n →
+      n ≡ groups s → IsMadeFrom read o s → Compiles text o held outcome
+  holds_by read held s n same there is counts h =
+      subst (λ m. Compiles text o m outcome) (sym there)
+      (subst (λ x. Compiles text o (Some s) x) (sym (is ∙ ap compiled counts)) (holds (subst (λ t. IsMadeFrom t o s) same h)))
+
+  module _ (old : List ℕ) where
+    pub unread_finds : (held : Option Searcher) (byte : ℕ) → ¬ IsUtf8 text → outcome ≡ not_utf8 byte → byte ≡ utf8_valid_len text →
+        Finds text o old held old outcome
+    unread_finds held byte no is at = subst (λ x. Finds text o old held old x) (sym (is ∙ ap not_utf8 at)) (in_no_text no)
+
+    pub no_tree_finds : (held : Option Searcher) → IsUtf8 text → held ≡ None → outcome ≡ coded no_program → Finds text o old held old outcome
+    no_tree_finds held utf8 nothing is =
+        subst (λ h. Finds text o old h old outcome) (sym nothing) (subst (λ x. Finds text o old None old x) (sym is) (for_no_tree utf8))
+
+    pub found_by : (read new : List ℕ) (held : Option Searcher) (s taken : Searcher) → read ≡ text → IsUtf8 text → held ≡ Some s → taken ≡ s →
+        Answers taken read o old new outcome → Finds text o old held new outcome
+    found_by read new held s taken same utf8 there is h =
+        subst (λ m. Finds text o old m new outcome) (sym there)
+        (found utf8 (subst (λ t. Answers s t o old new outcome) same (subst (λ x. Answers x read o old new outcome) is h)))
+
+    pub unfit_answers : (s : Searcher) (r : plain.RunOptions) → r ≡ running o →
+        run_fits (record { program = prog_of (program s.compiled); text = text; options = r }) ≡ false → outcome ≡ coded unfit →
+        Answers s text o old old outcome
+    unfit_answers s r same h is =
+        subst (λ x. Answers s text o old old x) (sym is) (does_not_fit (unfit_by s.compiled text o r same h))
