@@ -54,8 +54,8 @@ module _ (t : ExprTree) (o : FancyOptions) (a : AnalyzeContext) (k : CompileOpti
 module _ (text : List ℕ) (o : FancyOptions) (outcome : FancyOutcome) where
   pub unread_compiles : (held : Option Searcher) (byte : ℕ) → held ≡ None → ¬ IsUtf8 text → outcome ≡ not_utf8 byte → byte ≡ utf8_valid_len text →
       Compiles text o held outcome
-  unread_compiles held byte nothing no is at =
-      subst (λ h. Compiles text o h outcome) (sym nothing) (subst (λ x. Compiles text o None x) (sym (is ∙ ap not_utf8 at)) (spells_no_text no))
+  unread_compiles held byte nothing bad is at =
+      subst (λ h. Compiles text o h outcome) (sym nothing) (subst (λ x. Compiles text o None x) (sym (is ∙ ap not_utf8 at)) (spells_no_text bad))
 
   pub fails_by : (read : List ℕ) (held : Option Searcher) (e : Error) → read ≡ text → held ≡ None → outcome ≡ failure e → FailsToCompile read o e →
       Compiles text o held outcome
@@ -72,7 +72,7 @@ module _ (text : List ℕ) (o : FancyOptions) (outcome : FancyOutcome) where
   module _ (old : List ℕ) where
     pub unread_finds : (held : Option Searcher) (byte : ℕ) → ¬ IsUtf8 text → outcome ≡ not_utf8 byte → byte ≡ utf8_valid_len text →
         Finds text o old held old outcome
-    unread_finds held byte no is at = subst (λ x. Finds text o old held old x) (sym (is ∙ ap not_utf8 at)) (in_no_text no)
+    unread_finds held byte bad is at = subst (λ x. Finds text o old held old x) (sym (is ∙ ap not_utf8 at)) (in_no_text bad)
 
     pub no_tree_finds : (held : Option Searcher) → IsUtf8 text → held ≡ None → outcome ≡ coded no_program → Finds text o old held old outcome
     no_tree_finds held utf8 nothing is =

@@ -1,4 +1,5 @@
 use Rattle.std.proofs.Common.{◌∙◌, ap}
+use Rattle.fancy_host.specs.Hosted.{groups}
 use Rattle.fancy_host.proofs.Answered.{fails_by, holds_by, unread_compiles}
 use Rattle.fancy_host.proofs.fancy_compile.Goals as goal
 
@@ -11,7 +12,8 @@ returns-in-Err c =
 pub returns-in-Ok-compile : goal.returns-in-Ok-compile
 returns-in-Ok-compile c =
     holds_by c.args.tree.now c.args.options.now c.compiled.result c.in-Ok.text.now c.of.result.handle.searcher c.in-Ok-compile.searcher.value
-    c.group_count-groups.result c.in-Ok.ensures.cases.0 c.of.ensures c.compiled.ensures c.group_count-groups.ensures c.in-Ok-compile.ensures
+    c.group_count-groups.result c.in-Ok.ensures.cases.0 c.of.ensures c.compiled.ensures
+    (c.group_count-groups.ensures ∙ ap groups c.deref.ensures) c.in-Ok-compile.ensures
 
 pub returns-in-Err-compile : goal.returns-in-Err-compile
 returns-in-Err-compile c =

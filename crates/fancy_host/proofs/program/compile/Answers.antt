@@ -1,5 +1,5 @@
 use Rattle.std.proofs.lemmas.Result.{err_from_is_err_and}
-use Rattle.fancy_host.specs.Hosted.{refused, unread}
+use Rattle.fancy_host.specs.Hosted.{refused, unread, without_memory}
 use Rattle.fancy_host.proofs.Answered.{compiled_by, refused_by}
 use Rattle.fancy_host.proofs.program.compile.Goals as goal
 
@@ -16,7 +16,9 @@ returns-in_err-compiled c =
     (refused_by c.in_ok-tree.tree c.args.options.now c.analysis.result c.compilation.result c.analysis.ensures c.compilation.ensures _ c.in_err-compiled.ensures))
 
 pub returns-in_err-new : goal.returns-in_err-new
-returns-in_err-new c = ?
+returns-in_err-new c =
+    let p = err_from_is_err_and c.from_residual-in_err-new.result c.from_residual-in_err-new.ensures.1 in
+    rw (p.1, p.2) without_memory
 
 pub returns : goal.returns
 returns c =
