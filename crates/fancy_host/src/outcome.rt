@@ -115,6 +115,17 @@ pub fn write_name(code: u32, room: &mut [u8]) -> usize
     name.len()
 }
 
+/// Writes the numbers of an answer as far as there is room.
+pub fn write_answer(answer: &Result<Option<Vec<usize>>, Error>, room: &mut [usize])
+    ensures { room.new ≡ hosted.written answer.now room.old }
+{
+    match answer {
+        Ok(None) => {}
+        Ok(Some(numbers)) => write_over(numbers, room),
+        Err(_) => {}
+    }
+}
+
 /// Where a search for the next match begins: at the end of the one that was found, or, if that took nothing, past the
 /// character there.
 fn next_start(text: &[u8], numbers: &[usize]) -> usize

@@ -9,7 +9,7 @@ ghost use Rattle.fancy_host.specs.Owned.{owned, searcher_coded};
 
 use crate::loose::Loose;
 use crate::options::FancyOptions;
-use crate::outcome::{FancyOutcome, write_over};
+use crate::outcome::{FancyOutcome, write_answer};
 use fancy_expr::error::Error;
 use fancy_notation::notation::read_tree;
 use fancy_search::search::Compiled;
@@ -50,9 +50,7 @@ impl Searcher {
         let answer = self
             .compiled
             .search(alloc, text, &running, &mut self.scratch);
-        if let Ok(Some(numbers)) = &answer {
-            write_over(numbers, spans);
-        }
+        write_answer(&answer, spans);
         FancyOutcome::of_answer(text.as_bytes(), &answer)
     }
 }

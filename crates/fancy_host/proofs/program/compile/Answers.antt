@@ -1,5 +1,7 @@
+use Rattle.std.proofs.Common.{sym, ap, subst}
 use Rattle.std.proofs.lemmas.Result.{err_from_is_err_and}
-use Rattle.fancy_host.specs.Hosted.{refused, unread, without_memory}
+use Rattle.fancy_search.specs.Searches.{IsCompiledFrom}
+use Rattle.fancy_host.specs.Hosted.{asked_of, refused, unread, without_memory}
 use Rattle.fancy_host.proofs.Answered.{compiled_by, refused_by}
 use Rattle.fancy_host.proofs.program.compile.Goals as goal
 
@@ -23,4 +25,5 @@ returns-in_err-new c =
 pub returns : goal.returns
 returns c =
     let from = compiled_by c.in_ok-tree.tree c.args.options.now c.analysis.result c.compilation.result c.analysis.ensures c.compilation.ensures c.in_ok-compiled.compiled c.in_ok-compiled.ensures in
-    ?
+    let kept = ap (λ s. s.compiled) c.in_ok-new.ensures.ok in
+    record { tree = c.in_ok-tree.tree; read = c.in_ok-tree.ensures.answer; from = subst (λ x. IsCompiledFrom (asked_of c.in_ok-tree.tree c.args.options.now) x) (sym kept) from }
