@@ -1,5 +1,5 @@
 -- The sizes of groups, node by node.
-use Rattle.std.proofs.Common.{◌≡◌, ℕ, zero, suc, ◌+◌, ◌<◌, ◌≤◌, List, [], ◌∷◌, ◌++◌, length, map, take, filter_map, get_or, refl, sym, ap, ◌∙◌, subst, arith, append-nil, append_assoc}
+use Rattle.std.proofs.Common.{◌≡◌, ℕ, ◌+◌, ◌<◌, ◌≤◌, List, [], ◌∷◌, ◌++◌, length, map, take, filter_map, get_or, refl, sym, ap, ◌∙◌, append-nil, append_assoc}
 use Rattle.std.proofs.lemmas.List.{map-append, take_all, length-map}
 use Rattle.std.proofs.lemmas.List.Elements.{filter_map-append}
 use Rattle.fancy_meaning.specs.Tree as plain
@@ -12,9 +12,9 @@ use Rattle.fancy_expr.specs.declared.expr.Absent.TheVariants as code_absent
 use Rattle.fancy_expr.specs.declared.expr.Expr.{Expr}
 use Rattle.fancy_expr.specs.declared.expr.Expr.TheVariants as code
 use Rattle.fancy_info.specs.Infos.{absent_over, node_over, info_tree, info_size, info_children, info_facts, tree_over}
-use Rattle.fancy_expr.specs.Each.{Each}
 use Rattle.fancy_analysis.specs.Made.{IsSizedNode, IsSized, own_size}
 use Rattle.fancy_info.proofs.OverParts.{over-parts}
+use Rattle.fancy_info.proofs.Children.{each_at}
 use Rattle.fancy_info.proofs.Unfolded.{tree_out, each_here, each_below}
 use Rattle.fancy_expr.proofs.NodeParts.{nodes-parts}
 use Rattle.fancy_expr.proofs.Walks.{taken}
@@ -85,11 +85,6 @@ module _ (known : Known) where
       sizes_in_each (take (n + 1) is) ≡ sizes_in_each (take n is) ++ sizes_in (info_tree i)
   each-taken is n i h at = ap sizes_in_each (taken is n i h at) ∙ sizes_in_each-append (take n is) i
 
-pub each_at : {X : Type 0} (P : X → Type 0) (xs : List X) (i : ℕ) (x : X) → i < length xs → x ≡ get_or xs i x → Each P xs → P x
-each_at P [] i x h at all = absurd (omega arith)
-each_at P (y ∷ xs) zero x h at all = subst P (sym at) all.0
-each_at P (y ∷ xs) (suc i) x h at all = each_at P xs i x (omega arith) at all.1
-
 pub sized_more : (known : Known) (info : Info) (n : ℕ) (child : Info) (before old after : List Size) → n < length (info_children info) →
     child ≡ get_or (info_children info) n child → before ≡ old ++ sizes_in_each known (take n (info_children info)) →
     after ≡ before ++ sizes_in known (info_tree child) → after ≡ old ++ sizes_in_each known (take (n + 1) (info_children info))
@@ -101,7 +96,7 @@ sized_more known info n child before old after h at so_far pushed =
 
 pub child_sized : (known : Known) (info : Info) (n : ℕ) (child : Info) → n < length (info_children info) → child ≡ get_or (info_children info) n child →
     IsSized known info → IsSized known child
-child_sized known info n child h at sized = each_at (IsSized known) (info_children info) n child h at (each_below (IsSizedNode known) info sized)
+child_sized known info n child h at sized = each_at (IsSized known) (info_children info) n child (each_below (IsSizedNode known) info sized) h at
 
 pub sized_all : (known : Known) (info : Info) (n : ℕ) (old after : List Size) → length (info_children info) ≤ n → IsSized known info →
     after ≡ old ++ own_size (info_facts info).expr (info_size info) ++ sizes_in_each known (take n (info_children info)) →

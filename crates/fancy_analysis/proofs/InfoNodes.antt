@@ -10,9 +10,9 @@ use Rattle.fancy_meaning.specs.Options.{Analysis}
 use Rattle.fancy_info.specs.declared.info.Info.{Info}
 use Rattle.fancy_expr.specs.Exprs.{below}
 use Rattle.fancy_info.specs.Infos.{info_tree, info_children, info_facts, IsAnalysed, IsFound}
+use Rattle.fancy_info.proofs.Children.{each_at}
 use Rattle.fancy_info.proofs.Unfolded.{tree_out, each_here, each_below}
 use Rattle.fancy_expr.proofs.Walks.{taken}
-use Rattle.fancy_analysis.proofs.GroupSizes.{each_at}
 use Rattle.fancy_info.proofs.OverParts.{over-parts}
 use Rattle.fancy_expr.proofs.NodeParts.{nodes-parts}
 
@@ -25,7 +25,7 @@ has_parts a i h = (each_here (IsFound a) i h).node.arity
 
 pub child_analysed : (a : Analysis) (i : Info) (n : ℕ) (child : Info) → n < length (info_children i) → child ≡ get_or (info_children i) n child →
     IsAnalysed a i → IsAnalysed a child
-child_analysed a i n child h at found = each_at (IsAnalysed a) (info_children i) n child h at (each_below (IsFound a) i found)
+child_analysed a i n child h at found = each_at (IsAnalysed a) (info_children i) n child (each_below (IsFound a) i found) h at
 
 pub parts-out : (i : Info) → HasParts i → parts (info_tree i) ≡ trees (map info_tree (info_children i))
 parts-out i h =

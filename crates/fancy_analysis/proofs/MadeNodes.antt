@@ -21,7 +21,7 @@ use Rattle.fancy_info.specs.Sized.{size_of}
 use Rattle.fancy_info.specs.Infos.{analysis_options_of, nth, absent_over, node_over, info_tree, info_size, info_hard, is_read_group, facts, tree_over, IsFound, IsAnalysed}
 use Rattle.fancy_expr.specs.Each.{Each}
 use Rattle.fancy_expr.specs.Walk.{within_of}
-use Rattle.fancy_analysis.specs.Made.{nth_size, absent_size, size_over, some_true, first_true, is_varying_empty, hard_over, read_flag, tables_known, IsSizedNode, IsSized, IsMadeNode}
+use Rattle.fancy_analysis.specs.Made.{nth_size, absent_size, size_over, some_true, first_true, is_hard_by_size, hard_over, read_flag, tables_known, IsSizedNode, IsSized, IsMadeNode}
 use Rattle.fancy_info.proofs.Unfolded.{tree_roll, tree_out, each_made, each_here}
 
 -- ---- sizes
@@ -89,24 +89,24 @@ module _ (a : Analysis) where
   absent-hard code_absent.Clear es = refl
 
   list-hard : (es : Trees) (t : Tree) (s : Size) (hards : List Bool) → s ≡ size a.tree t → hards ≡ map (is_hard a) (plain.children es) →
-      (some_true hards || is_varying_empty a.options s) ≡ (any_hard a es || is_varying_empty a.options (size a.tree t))
+      (some_true hards || is_hard_by_size a.options s) ≡ (any_hard a es || is_hard_by_size a.options (size a.tree t))
   list-hard es t s hards sized below =
-      ap (λ l. some_true l || is_varying_empty a.options s) below
-      ∙ ap (λ b. b || is_varying_empty a.options s) (sym (some-hard es))
-      ∙ ap (λ x. any_hard a es || is_varying_empty a.options x) sized
+      ap (λ l. some_true l || is_hard_by_size a.options s) below
+      ∙ ap (λ b. b || is_hard_by_size a.options s) (sym (some-hard es))
+      ∙ ap (λ x. any_hard a es || is_hard_by_size a.options x) sized
 
   child-hard : (es : Trees) (t : Tree) (s : Size) (hards : List Bool) → s ≡ size a.tree t → hards ≡ map (is_hard a) (plain.children es) →
-      (first_true hards || is_varying_empty a.options s) ≡ (is_hard a (nth es 0) || is_varying_empty a.options (size a.tree t))
+      (first_true hards || is_hard_by_size a.options s) ≡ (is_hard a (nth es 0) || is_hard_by_size a.options (size a.tree t))
   child-hard es t s hards sized below =
-      ap (λ b. b || is_varying_empty a.options s) (sym (first-hard es hards below))
-      ∙ ap (λ x. is_hard a (nth es 0) || is_varying_empty a.options x) sized
+      ap (λ b. b || is_hard_by_size a.options s) (sym (first-hard es hards below))
+      ∙ ap (λ x. is_hard a (nth es 0) || is_hard_by_size a.options x) sized
 
   group-hard : (es : Trees) (n : ℕ) (s : Size) (read : Bool) (hards : List Bool) → s ≡ size a.tree (plain.Group n (nth es 0)) → read ≡ is_read a.tree n →
-      hards ≡ map (is_hard a) (plain.children es) → (read || first_true hards || is_varying_empty a.options s) ≡ is_hard a (plain.Group n (nth es 0))
+      hards ≡ map (is_hard a) (plain.children es) → (read || first_true hards || is_hard_by_size a.options s) ≡ is_hard a (plain.Group n (nth es 0))
   group-hard es n s read hards sized flagged below =
-      ap (λ b. b || first_true hards || is_varying_empty a.options s) flagged
-      ∙ ap (λ b. is_read a.tree n || b || is_varying_empty a.options s) (sym (first-hard es hards below))
-      ∙ ap (λ x. is_read a.tree n || is_hard a (nth es 0) || is_varying_empty a.options x) sized
+      ap (λ b. b || first_true hards || is_hard_by_size a.options s) flagged
+      ∙ ap (λ b. is_read a.tree n || b || is_hard_by_size a.options s) (sym (first-hard es hards below))
+      ∙ ap (λ x. is_read a.tree n || is_hard a (nth es 0) || is_hard_by_size a.options x) sized
 
   node-hard : (e : Expr) (n : ℕ) (w : plain.Within) (es : Trees) (s : Size) (read : Bool) (hards : List Bool) → s ≡ size a.tree (node_over e n w es) →
       read ≡ is_read_group a.tree (node_over e n w es) → hards ≡ map (is_hard a) (plain.children es) →

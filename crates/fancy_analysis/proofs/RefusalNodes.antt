@@ -1,17 +1,17 @@
 -- A node is refused exactly where a case of a refusal holds, or it is a call.
-use Rattle.std.proofs.Common.{◌≡◌, ℕ, suc, ◌+◌, ◌-◌, ◌<◌, ◌≤◌, Bool, true, false, not, ◌&&◌, ◌||◌, ◌==◌, nat_lt, if◌then◌else◌, List, [], ◌∷◌, length, map, Contains, IsTrue, refl, sym, ap, ◌∙◌, subst, arith}
+use Rattle.std.proofs.Common.{◌≡◌, ℕ, suc, ◌+◌, ◌-◌, ◌<◌, ◌≤◌, Bool, true, false, not, ◌&&◌, ◌||◌, ◌==◌, nat_lt, if◌then◌else◌, List, [], ◌∷◌, length, map, Contains, IsTrue, refl, sym, ap, ap₂, ◌∙◌, subst, arith}
 use Rattle.std.specs.List.{list_any}
-use Rattle.std.proofs.lemmas.Bool.{eqb-true, eq-eqb, ltb-true, ltb-false, lt-ltb}
+use Rattle.std.proofs.lemmas.Bool.{and_parts, eqb-true, eq-eqb, ltb-true, ltb-false, lt-ltb}
 use Rattle.std.proofs.lemmas.List.{length-map}
 use Rattle.fancy_analysis.specs.Reads.{is_named}
 use Rattle.fancy_analysis.proofs.ReadNodes.{read-nodes, read-numbered}
 use Rattle.std.proofs.lemmas.List.Elements.{Contains-append_right}
-use Rattle.fancy_meaning.specs.Tree.{Tree, Assert, Backref, BackrefWithLevel, BackrefExists, AstNode, UnresolvedCall, UnresolvedOther, Within, NoLook, Unresolved}
+use Rattle.fancy_meaning.specs.Tree.{Tree, Assert, Repeat, Backref, BackrefWithLevel, BackrefExists, AstNode, UnresolvedCall, UnresolvedOther, Within, NoLook, Unresolved}
 use Rattle.fancy_meaning.specs.Nodes.{nodes, group_count, is_read, read_by}
 use Rattle.fancy_meaning.specs.Numbering.{numbered_within, numbered}
 use Rattle.fancy_meaning.specs.Options.{ParsedTree, AnalysisOptions}
 use Rattle.fancy_meaning.specs.WellFormed.{refers, is_call}
-use Rattle.fancy_meaning.specs.AnalysisRefusals.{CompileError, AnalysisRefuses, RefusesBeforeEnd, is_back_to, has_level, is_no_group, before_end, never_ends, named_groups_with_numbers, reference_to_0, reference_after_call, unresolved_call, unresolved_node, reference_with_level, group_out_of_range, left_recursion, InvalidBackref, NeverEndingRecursion, ReadsAfterCall}
+use Rattle.fancy_meaning.specs.AnalysisRefusals.{CompileError, AnalysisRefuses, RefusesBeforeEnd, is_back_to, is_lazy, has_level, is_no_group, before_end, never_ends, named_groups_with_numbers, reference_to_0, reference_after_call, unresolved_call, unresolved_node, reference_with_level, lazy_loop, group_out_of_range, left_recursion, FeatureNotYetSupported, InvalidBackref, NeverEndingRecursion, ReadsAfterCall}
 use Rattle.fancy_expr.specs.Questions.{is_refused}
 use Rattle.fancy_analysis.specs.Refusals.{refusal_of, HasNoRefusedNode, IsAnalysable}
 use Rattle.fancy_meaning.specs.Recursion.{IsLeftRecursive, CanEnd}
@@ -48,6 +48,11 @@ any-numbered f blind w n t =
 blind-back : (w : Within) (n : ℕ) (e : Tree) → is_back_to 0 (numbered_within w n e) ≡ is_back_to 0 e
 blind-back w n (Assert old a) = refl
 blind-back w n e = refl
+
+blind-lazy : (w : Within) (n : ℕ) (e : Tree) → is_lazy (numbered_within w n e) ≡ is_lazy e
+blind-lazy w n (Assert old a) = refl
+blind-lazy w n (Repeat lo hi greedy e) = refl
+blind-lazy w n e = refl
 
 blind-level : (w : Within) (n : ℕ) (e : Tree) → has_level (numbered_within w n e) ≡ has_level e
 blind-level w n (Assert old a) = refl
@@ -149,6 +154,13 @@ module _ (p : ParsedTree) (options : AnalysisOptions) where
   refused_for_a_case counted (AstNode UnresolvedOther) there h = before_end (unresolved_node (unresolved_there UnresolvedOther there refl))
   refused_for_a_case counted x there h = absurd (false_true h)
 
+  -- a lazy loop is refused where the longest match may be asked for
+  pub lazy_refused : (options.leftmost_longest && list_any is_lazy (nodes p.tree)) ≡ true → AnalysisRefuses p options FeatureNotYetSupported
+  unfolding numbered
+  lazy_refused h =
+      let both = and_parts options.leftmost_longest (list_any is_lazy (nodes p.tree)) h in
+      before_end (lazy_loop both.0 (any-numbered is_lazy blind-lazy NoLook first p.tree ∙ both.1))
+
   -- ---- where no node is refused, no case holds
 
   back_refused : (x : Tree) → is_back_to 0 x ≡ true → is_refused first last x ≡ true
@@ -186,6 +198,9 @@ module _ (p : ParsedTree) (options : AnalysisOptions) where
     not_before_end _ (unresolved_call there) = not_unresolved UnresolvedCall there
     not_before_end _ (unresolved_node there) = not_unresolved UnresolvedOther there
     not_before_end _ (reference_with_level h) = implied has_level (is_refused first last) level_refused (nodes whole) none_whole h
+    not_before_end _ (lazy_loop on h) =
+        true_false
+        (sym (ap₂ (λ u v. u && v) on (sym (any-numbered is_lazy blind-lazy NoLook first p.tree) ∙ h)) ∙ quiet.lazy)
     not_before_end _ (group_out_of_range g h out) =
         let same : p.total_groups ≡ group_count whole = counted ∙ sym (count-numbered NoLook first p.tree) in
         implied (refers g) (is_refused first last) (named_refused g (ap (λ n. nat_lt g first || nat_lt (first + n - 1) g) same ∙ out))

@@ -60,8 +60,8 @@ abbrev pub first_true : List Bool → Bool
 first_true [] = false
 first_true (b ∷ bs) = b
 
-abbrev pub is_varying_empty : AnalysisOptions → Size → Bool
-is_varying_empty options s = options.find_not_empty && s.least == 0 && not s.is_const
+abbrev pub is_hard_by_size : AnalysisOptions → Size → Bool
+is_hard_by_size options s = (options.leftmost_longest || (options.find_not_empty && s.least == 0)) && not s.is_const
 
 -- a node's hardness by that of its children
 abbrev pub hard_over : AnalysisOptions → Expr → plain.Within → Size → Bool → List Bool → Bool
@@ -72,10 +72,10 @@ hard_over options (code.Delegate inner casei) w s read hards = false
 hard_over options (code.DefineGroup' b e) w s read hards = false
 hard_over options (code.Assertion x) w s read hards =
     is_hard_assertion (record { tree = plain.Empty; options = options }) w (assertion_of x)
-hard_over options (code.Concat' shape es) w s read hards = some_true hards || is_varying_empty options s
-hard_over options (code.Alt' shape es) w s read hards = some_true hards || is_varying_empty options s
-hard_over options (code.Group' b e) w s read hards = read || first_true hards || is_varying_empty options s
-hard_over options (code.Repeat' b e lo hi greedy) w s read hards = first_true hards || is_varying_empty options s
+hard_over options (code.Concat' shape es) w s read hards = some_true hards || is_hard_by_size options s
+hard_over options (code.Alt' shape es) w s read hards = some_true hards || is_hard_by_size options s
+hard_over options (code.Group' b e) w s read hards = read || first_true hards || is_hard_by_size options s
+hard_over options (code.Repeat' b e lo hi greedy) w s read hards = first_true hards || is_hard_by_size options s
 hard_over options e w s read hards = true
 
 -- the flag of a group among those that say which are read

@@ -7,7 +7,7 @@ use Rattle.fancy_meaning.specs.Options.{ParsedTree, AnalysisOptions}
 use Rattle.fancy_meaning.specs.Nodes.{nodes}
 use Rattle.fancy_expr.specs.Questions.{is_refused}
 use Rattle.fancy_meaning.specs.AnalysisRefusals as plain_errors
-use Rattle.fancy_meaning.specs.AnalysisRefusals.{AnalysisRefuses}
+use Rattle.fancy_meaning.specs.AnalysisRefusals.{AnalysisRefuses, is_lazy}
 use Rattle.fancy_info.specs.declared.context.AnalyzeContext.{AnalyzeContext}
 use Rattle.fancy_expr.specs.declared.expr.ExprTree.{ExprTree}
 use Rattle.fancy_info.specs.Infos.{first_number}
@@ -39,7 +39,9 @@ has_named_and_numbered t =
 abbrev pub IsAnalysable : ParsedTree → AnalysisOptions → Type 0
 IsAnalysable p options = (error : plain_errors.CompileError) → ¬ AnalysisRefuses p options error
 
--- no node of the tree is refused, and no group without a name is referred to where such groups are left out
+-- no node of the tree is refused, no loop is lazy where the longest match may be asked for, and no group without a name
+-- is referred to where such groups are left out
 pub record HasNoRefusedNode (p : ParsedTree) (options : AnalysisOptions) : Type 0 where
+  pub lazy : (options.leftmost_longest && list_any is_lazy (nodes p.tree)) ≡ false
   pub nodes : list_any (is_refused (first_number options) (last_number p options)) (nodes p.tree) ≡ false
   pub names : IsTrue (p.numbered_groups_ignored && p.numeric_capture_group_references) → ¬ (p.named_groups ≡ []) → ⊥

@@ -11,7 +11,7 @@ ghost use Rattle.fancy_analysis.specs.Made.{
   absent_size,
   first_true,
   hard_over,
-  is_varying_empty,
+  is_hard_by_size,
   nth_size,
   read_flag,
   size_over,
@@ -205,10 +205,10 @@ fn is_hard_assertion(assertion: Assertion, within: Within, context: AnalyzeConte
     }
 }
 
-fn is_varying_empty(size: Size, context: AnalyzeContext) -> bool
-    ensures { result ≡ is_varying_empty (analysis_options_of context) (size_of size) }
+fn is_hard_by_size(size: Size, context: AnalyzeContext) -> bool
+    ensures { result ≡ is_hard_by_size (analysis_options_of context) (size_of size) }
 {
-    context.find_not_empty && size.least == 0 && !size.is_const
+    (context.leftmost_longest || (context.find_not_empty && size.least == 0)) && !size.is_const
 }
 
 fn node_is_hard(
@@ -230,10 +230,10 @@ fn node_is_hard(
         Expr::Delegate { .. } => false,
         Expr::DefineGroup { .. } => false,
         Expr::Assertion(assertion) => is_hard_assertion(*assertion, within, context),
-        Expr::Concat(_) => has_hard(children) || is_varying_empty(size, context),
-        Expr::Alt(_) => has_hard(children) || is_varying_empty(size, context),
-        Expr::Group(_) => is_read || first_is_hard(children) || is_varying_empty(size, context),
-        Expr::Repeat { .. } => first_is_hard(children) || is_varying_empty(size, context),
+        Expr::Concat(_) => has_hard(children) || is_hard_by_size(size, context),
+        Expr::Alt(_) => has_hard(children) || is_hard_by_size(size, context),
+        Expr::Group(_) => is_read || first_is_hard(children) || is_hard_by_size(size, context),
+        Expr::Repeat { .. } => first_is_hard(children) || is_hard_by_size(size, context),
         _ => true,
     }
 }

@@ -1,7 +1,9 @@
 //! Refusals: those that one node causes, those of the tree's fields, and those about calls.
 
-ghost use Rattle.std.specs.Prelude.{◌≡◌, ◌≤◌, ◌+◌, ◌-◌, ℕ, MatchOption, MatchResult, false, if◌then◌else◌};
-ghost use Rattle.fancy_meaning.specs.AnalysisRefusals.{AnalysisRefuses};
+ghost use Rattle.std.specs.Prelude.{◌≡◌, ◌≤◌, ◌+◌, ◌-◌, ℕ, MatchOption, MatchResult, false, ◌&&◌, if◌then◌else◌};
+ghost use Rattle.fancy_meaning.specs.AnalysisRefusals.{AnalysisRefuses, is_lazy};
+ghost use Rattle.fancy_meaning.specs.Nodes.{nodes};
+ghost use Rattle.std.specs.List.{list_any};
 ghost use Rattle.fancy_meaning.specs.Options.{AnalysisOptions, analysis_of};
 ghost use Rattle.fancy_meaning.specs.WellFormed.{most_groups};
 ghost use Rattle.fancy_info.specs.Infos.{analysis_options_of};
@@ -72,6 +74,13 @@ fn has_named_and_numbered(tree: &ExprTree) -> bool
         && !tree.named_groups.is_empty()
 }
 
+/// A loop is lazy where the longest match may be asked for.
+fn has_lazy(tree: &ExprTree, context: AnalyzeContext) -> bool
+    ensures { result ≡ (context.leftmost_longest && list_any is_lazy (nodes (tree_of tree.now.expr))) }
+{
+    context.leftmost_longest && has_node(&tree.expr, Question::IsLazy)
+}
+
 /// Why a tree is refused for a node of it, or for the names of its groups, if it is.
 pub fn refusal(tree: &ExprTree, context: AnalyzeContext) -> Option<CompileError>
     requires { IsWellFormedTree tree.now }
@@ -83,6 +92,9 @@ pub fn refusal(tree: &ExprTree, context: AnalyzeContext) -> Option<CompileError>
 {
     if has_named_and_numbered(tree) {
         return Some(CompileError::NamedBackrefOnly);
+    }
+    if has_lazy(tree, context) {
+        return Some(CompileError::FeatureNotYetSupported);
     }
     let first = first_group(context);
     let last = last_group(tree, context);

@@ -8,18 +8,24 @@ use fancy_regex_engine::expr::read_tree;
 use fancy_regex_engine::vm::{Insn, Prog};
 use std::alloc::{AllocError, Global};
 
+/// How the letters say that a tree is analysed.
+fn context(letters: &str) -> AnalyzeContext {
+    AnalyzeContext {
+        explicit_capture_group_0: letters.contains('E'),
+        find_not_empty: letters.contains('N'),
+        disallow_empty_match_at_eof_after_newline: letters.contains('T') || letters.contains('R'),
+    }
+}
+
 /// The program of the tree, compiled anchored where there is no `S`.
 fn program(alloc: Global, tree: &str, letters: &str) -> Result<Prog, Error> {
     let tree = read_tree(alloc, tree)?;
-    let context = AnalyzeContext {
-        explicit_capture_group_0: letters.contains('E'),
-        ..AnalyzeContext::default()
-    };
     let options = CompileOptions {
         anchored: !letters.contains('S'),
+        disallow_empty_match_at_eof_after_newline: letters.contains('R'),
         ..CompileOptions::default()
     };
-    compiled(alloc, &tree, context, options)
+    compiled(alloc, &tree, context(letters), options)
 }
 
 fn line(alloc: Global, insns: &[Insn]) -> Result<String, AllocError> {
@@ -33,11 +39,11 @@ fn line(alloc: Global, insns: &[Insn]) -> Result<String, AllocError> {
     Ok(line)
 }
 
-/// The instructions of the program of TREE, in which group 0 is the tree's own where `E` follows, compiled not anchored where `S` follows.
+/// The instructions of the program of TREE, with the options of the letters after it; ends of lines are `\n` and `\r`.
 pub fn layout(alloc: Global, key: &str) -> Result<String, AllocError> {
     let (tree, letters) = key.split_once(" | ").unwrap_or((key, ""));
     match program(alloc, tree, letters) {
-        Ok(prog) => line(alloc, prog.body()),
+        Ok(prog) => line(alloc, prog.body())?.replace(alloc, "\r\n", "\\r\\n"),
         Err(error) => format!(in alloc; "{error:?}"),
     }
 }

@@ -26,9 +26,11 @@ struct Engine {
 impl Table for Engine {
     fn outcome(&mut self, alloc: Global, table: &str, key: &str) -> Result<String, AllocError> {
         match table {
-            "answers" | "everyday" => searches::compared(alloc, key, &mut self.scratch),
-            "long_texts" => searches::answered(alloc, key),
-            "layouts" => layouts::layout(alloc, key),
+            "answers" | "everyday" | "easy_answers" => {
+                searches::compared(alloc, key, &mut self.scratch)
+            }
+            "long_texts" | "easy_long_texts" => searches::answered(alloc, key),
+            "layouts" | "compared_layouts" => layouts::layout(alloc, key),
             "misuses" => misuses::said(alloc, key),
             "writers" => misuses::closed(alloc, key),
             "programs" => programs::ran(alloc, key, &mut self.scratch),
@@ -38,11 +40,14 @@ impl Table for Engine {
     }
 }
 
-const TABLES: [&str; 9] = [
+const TABLES: [&str; 12] = [
     "answers",
     "everyday",
+    "easy_answers",
     "long_texts",
+    "easy_long_texts",
     "layouts",
+    "compared_layouts",
     "misuses",
     "writers",
     "programs",

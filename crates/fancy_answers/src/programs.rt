@@ -16,6 +16,8 @@ fn parts(numbers: &str, end_text: bool) -> ProgParts {
         slots,
         explicit_group_0: false,
         find_not_empty: false,
+        leftmost_longest: false,
+        keeps_start: false,
         end_text,
         unicode: true,
     }

@@ -112,6 +112,7 @@ analysis a = record {
   explicit_capture_group_0 = false;
   find_not_empty = a.not_empty;
   disallow_empty_match_at_eof_after_newline = a.end_text;
+  leftmost_longest = false;
 }
 
 abbrev pub compilation : Arguments → CompileOptions
@@ -130,6 +131,7 @@ running a = record {
   anchored = a.anchored;
   continued = not a.not_continued;
   not_empty = a.not_empty;
+  leftmost_longest = false;
   backtrack_limit = unwrap_or a.backtracks 1_000_000;
   step_limit = unwrap_or a.steps (2 ^ 64 - 1);
 }

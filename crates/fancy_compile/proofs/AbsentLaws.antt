@@ -1,10 +1,9 @@
 -- Absent repeaters, and which nodes stand below a node.
-use Rattle.std.proofs.Common.{◌≡◌, ℕ, ◌+◌, ◌<◌, ◌≤◌, ◌&&◌, ◌||◌, Bool, true, false, not, List, [], ◌∷◌, length, map, drop, get_or, if◌then◌else◌, true≢false, refl, sym, ap, ap₂, ◌∙◌, subst}
+use Rattle.std.proofs.Common.{◌≡◌, ℕ, ◌&&◌, Bool, true, false, not, [], ◌∷◌, length, if◌then◌else◌, true≢false, refl, sym, ap, ap₂, ◌∙◌, subst}
 use Rattle.std.specs.List.{list_any}
-use Rattle.std.proofs.lemmas.List.{drop_all}
 use Rattle.fancy_meaning.specs.Tree as plain
 use Rattle.fancy_meaning.specs.Tree.{Tree, Trees, trees, Within, AbsentRepeater}
-use Rattle.fancy_meaning.specs.Nodes.{nodes, nodes_of_each, is_absent}
+use Rattle.fancy_meaning.specs.Nodes.{nodes, is_absent}
 use Rattle.fancy_meaning.specs.AnalysisRefusals as refusal
 use Rattle.fancy_meaning.specs.CompileRefusals.{absent_in_hard_repeater, absent_other}
 use Rattle.fancy_meaning.specs.Batches.{fragment, group_range, pattern_of}
@@ -12,39 +11,20 @@ use Rattle.fancy_meaning.specs.Code.{Code, nothing, one}
 use Rattle.fancy_meaning.specs.Instr.{Instr}
 use Rattle.fancy_meaning.specs.Constructs.{absent_code}
 use Rattle.fancy_meaning.specs.Hard.{is_hard}
-use Rattle.fancy_meaning.specs.Options.{Analysis}
 use Rattle.fancy_compile.specs.Sites.{Site}
 use Rattle.fancy_expr.specs.declared.expr.Absent.{Absent}
 use Rattle.fancy_expr.specs.declared.expr.Absent.TheVariants as code_absent
 use Rattle.fancy_expr.specs.declared.expr.Expr.{Expr}
 use Rattle.fancy_expr.specs.declared.expr.Expr.TheVariants as code
-use Rattle.fancy_info.specs.declared.info.Info.{Info}
-use Rattle.fancy_info.specs.declared.info.Info.TheViews.{out-Info}
 use Rattle.fancy_expr.specs.Exprs.{below}
-use Rattle.fancy_info.specs.Infos.{nth, node_over, absent_over, info_tree, info_within, info_children, info_facts}
-use Rattle.std.proofs.Math.Bool.{or-true}
+use Rattle.fancy_info.specs.Infos.{nth, node_over, absent_over}
 use Rattle.std.proofs.lemmas.Bool.{and_parts}
-use Rattle.std.proofs.lemmas.List.Folds.{list_any-append}
-use Rattle.fancy_info.proofs.Unfolded.{tree_out}
 use Rattle.fancy_compile.specs.Faults.{Rejects, refused, out_of_range, HasRejected}
-use Rattle.fancy_compile.specs.Drafts.{Draft, Writes, hard_code, node_code}
-use Rattle.fancy_compile.specs.Nodes.{is_repeater, is_absent_expr, IsKnown}
-use Rattle.fancy_compile.proofs.Infos.{nodes_of_info, rest_at}
+use Rattle.fancy_compile.specs.Drafts.{Draft, Writes, written_code, node_code}
+use Rattle.fancy_compile.specs.Nodes.{is_repeater, is_absent_expr}
 use Rattle.fancy_compile.proofs.Written.{wrote_node, rejected_here, other_absent}
 
 -- ---- whether an absent node stands below a node
-
--- the nodes of these, and below them
-abbrev pub any_below : List Info → Bool
-any_below is = list_any is_absent (nodes_of_each (trees (map info_tree is)))
-
-pub any_more : (l : List Info) (i : ℕ) (x : Info) → i < length l → x ≡ get_or l i x
-    → any_below (drop i l) ≡ (list_any is_absent (nodes (info_tree x)) || any_below (drop (i + 1) l))
-any_more l i x lt at = ap any_below (rest_at l i x lt at) ∙ list_any-append is_absent (nodes (info_tree x))
-    (nodes_of_each (trees (map info_tree (drop (i + 1) l))))
-
-pub any_done : (l : List Info) (i : ℕ) → length l ≤ i → any_below (drop i l) ≡ false
-any_done l i end = ap any_below (drop_all i l end)
 
 module _ (es : Trees) (n : ℕ) (w : Within) where
   absent_is : (a : Absent) → is_absent (absent_over a es) ≡ true
@@ -53,28 +33,9 @@ module _ (es : Trees) (n : ℕ) (w : Within) where
   absent_is (code_absent.Stopper' b e) = refl
   absent_is code_absent.Clear = refl
 
-  over_absent : (e : Expr) → is_absent (node_over e n w es) ≡ is_absent_expr e
+  pub over_absent : (e : Expr) → is_absent (node_over e n w es) ≡ is_absent_expr e
   over_absent (code.Absent a) = absent_is a
   over_absent e = refl
-
-pub any_of_info : (a : Analysis) (i : Info) → IsKnown a i → list_any is_absent (nodes (info_tree i)) ≡
-    (is_absent_expr (info_facts i).expr || any_below (info_children i))
-any_of_info a i k =
-    ap (list_any is_absent) (nodes_of_info a i k)
-    ∙ ap (λ b. b || any_below (info_children i))
-    (ap is_absent (tree_out i) ∙ over_absent (trees (map info_tree (info_children i))) (out-Info i).start_group (info_within i) (out-Info i).expr.now)
-
-module _ (a : Analysis) (i : Info) (k : IsKnown a i) (l : List Info) (is : l ≡ info_children i) (n : ℕ) (so_far : any_below l ≡ any_below (drop n l)) where
-  pub found_below : (x : Info) → n < length l → x ≡ get_or l n x → list_any is_absent (nodes (info_tree x)) ≡ true
-      → true ≡ list_any is_absent (nodes (info_tree i))
-  found_below x lt at h =
-      let here : any_below (info_children i) ≡ true = ap any_below (sym is) ∙ so_far ∙ any_more l n x lt at ∙ ap (λ b. b || any_below (drop (n + 1) l)) h in
-      sym (any_of_info a i k ∙ ap (λ b. is_absent_expr (info_facts i).expr || b) here ∙ or-true (is_absent_expr (info_facts i).expr))
-
-  pub none_found : is_absent_expr (info_facts i).expr ≡ false → length l ≤ n → false ≡ list_any is_absent (nodes (info_tree i))
-  none_found plainly end =
-      let here : any_below (info_children i) ≡ false = ap any_below (sym is) ∙ so_far ∙ any_done l n end in
-      sym (any_of_info a i k ∙ ap (λ b. b || any_below (info_children i)) plainly ∙ here)
 
 -- ---- the kinds of absent nodes
 
@@ -114,7 +75,7 @@ module _ (p : Site) (e : Tree) where
 
   module _ (call : ℕ → Bool → Code) (at_start in_hard : Bool) (s t : Draft) where
     abbrev Wrote : Type 0
-    Wrote = Writes p (hard_code p call (AbsentRepeater e) at_start in_hard) (AbsentRepeater e ∷ []) s t
+    Wrote = Writes p (written_code p call (AbsentRepeater e) at_start in_hard) (AbsentRepeater e ∷ []) s t
 
     -- by one instruction
     abbrev at_once : Code

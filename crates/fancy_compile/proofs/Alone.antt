@@ -21,7 +21,7 @@ use Rattle.fancy_compile.specs.Faults.{itself, Rejects, too_big, refused, out_of
 use Rattle.fancy_expr.specs.declared.expr.Expr.{Expr}
 use Rattle.fancy_info.specs.Infos.{node_over, is_look}
 use Rattle.fancy_compile.specs.Kinds.{is_out_of_range}
-use Rattle.fancy_compile.specs.Drafts.{Draft, Breaks, Writes, hard_code}
+use Rattle.fancy_compile.specs.Drafts.{Draft, Breaks, Writes, written_code}
 use Rattle.fancy_compile.specs.Nodes.{assertion_inside}
 use Rattle.fancy_compile.proofs.Written.{wrote_node, safe_fine, rejected_here}
 
@@ -33,7 +33,7 @@ bytes_more l i b d h at =
 
 module _ (p : Site) (call : ℕ → Bool → Code) (at_start in_hard : Bool) (s t : Draft) where
   abbrev Written : Tree → Type 0
-  Written e = Writes p (hard_code p call e at_start in_hard) (e ∷ []) s t
+  Written e = Writes p (written_code p call e at_start in_hard) (e ∷ []) s t
 
   pub wrote_literal : (c : ℕ) (casei : Bool) → Writes p (one (literal_instr p.unicode ((c, casei) ∷ []))) [] s t → Written (plain.Literal c casei)
   wrote_literal c casei h = wrote_node p _ (plain.Literal c casei) s t (safe_fine p (plain.Literal c casei) refl refl) h
@@ -108,7 +108,7 @@ inside_is plain.InLookBehind a = refl
 
 pub wrote_assertion : (p : Site) (call : ℕ → Bool → Code) (at_start in_hard : Bool) (s t : Draft) (w : plain.Within) (a : plain.Assertion) (in_look : Bool)
     → in_look ≡ is_look w → Writes p (one (Instr.Assert (assertion_inside in_look a))) [] s t
-    → Writes p (hard_code p call (plain.Assert w a) at_start in_hard) (plain.Assert w a ∷ []) s t
+    → Writes p (written_code p call (plain.Assert w a) at_start in_hard) (plain.Assert w a ∷ []) s t
 wrote_assertion p call at_start in_hard s t w a in_look is h =
     wrote_node p _ (plain.Assert w a) s t (safe_fine p (plain.Assert w a) refl refl)
     (subst (λ b. Writes p (one (Instr.Assert b)) [] s t) (ap (λ l. assertion_inside l a) is ∙ inside_is w a) h)

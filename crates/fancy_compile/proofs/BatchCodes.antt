@@ -1,6 +1,6 @@
 -- The code of neighbouring easy nodes, by what they are.
 use Rattle.std.proofs.Common.{◌≡◌, ℕ, Bool, true, false, ◌==◌, List, [], ◌∷◌, ◌++◌, length, map, get_or, Option, Some, None, if◌then◌else◌, inr, true≢false, refl, sym, ap, ◌∙◌, subst, arith, eq-eqb, eqb-true}
-use Rattle.std.specs.Prelude.{IsTrue}
+use Rattle.std.specs.Prelude.{IsTrue, Result, Ok, Err, IsErr, IsErrAnd}
 use Rattle.std.proofs.lemmas.List.{length-map}
 use Rattle.fancy_meaning.specs.Tree.{Tree, Trees, Within, trees, Any, Delegate}
 use Rattle.fancy_meaning.specs.Batches.{batch, batch_code, delegate_code, fragment, group_range, literal_instr, pattern_of}
@@ -22,11 +22,18 @@ use Rattle.fancy_expr.specs.declared.error.Error.{Error}
 use Rattle.fancy_plain.specs.ClassTexts.{HasClass, itself, below, AreClasses, IsRefusal, texts_in}
 use Rattle.fancy_plain.specs.Tables.{HaveClasses, IsRefusedFor}
 use Rattle.fancy_compile.specs.Batches.{Collects}
-use Rattle.fancy_compile.proofs.Infos.{only_one, tree_by}
+use Rattle.fancy_compile.specs.Neighbours.{IsMadeOf}
+use Rattle.fancy_info.proofs.Children.{only_one, tree_by}
 use Rattle.fancy_compile.proofs.Collected.{chars_of}
 use Rattle.fancy_compile.proofs.EasyClasses.{literal_classes}
 
 module _ (unicode : Bool) where
+  -- an error that goes on is that of the nodes
+  pub fault_made : {A : Type 0} (is : List Info) (Good : A → Type 0) (r : Result A Error) (d : Error) → IsErr r × IsErrAnd r (λ e. e ≡ d)
+      → IsRefusedFor unicode is d → IsMadeOf unicode is Good r
+  fault_made is Good (Ok x) d h g = absurd (true≢false (sym h.0))
+  fault_made is Good (Err e) d h g = record { value = tt; classes = tt; refused = subst (IsRefusedFor unicode is) (sym h.1) g }
+
   pub named : (es : List Tree) → ¬ (pattern_of unicode es ≡ []) →
       one (Instr.Delegate (pattern_of unicode es) (fragment unicode es) (group_range es)) ≡ delegate_code unicode es
   named es some = by_name (pattern_of unicode es) refl

@@ -27,8 +27,9 @@ use Rattle.fancy_compile.specs.declared.calls.OpenCall.TheViews.{roll-OpenCall}
 use Rattle.fancy_compile.specs.OpenDepths.{depths_in, depths_of}
 use Rattle.fancy_compile.specs.Sites.{Site, under_call}
 use Rattle.fancy_compile.specs.Faults.{IsBelow, itself, below, through, Rejects, MayReject, rejected, too_big, refused, out_of_range, IsCompilable, IsRejected, HasRejected}
-use Rattle.fancy_compile.specs.Drafts.{Draft, Breaks, Turns, Adds, Writes, code_in, is_easy, hard_code}
-use Rattle.fancy_compile.specs.Nodes.{IsScopeOf, IsScopeAt, work, work_by, node_count}
+use Rattle.fancy_compile.specs.Drafts.{Draft, Breaks, Turns, Adds, Writes, code_in, is_easy, written_code}
+use Rattle.fancy_info.specs.NodeCounts.{node_count}
+use Rattle.fancy_compile.specs.Nodes.{IsScopeOf, IsScopeAt, work, work_by}
 use Rattle.fancy_compile.proofs.Writing.{adds_to}
 use Rattle.fancy_compile.proofs.Written.{rejected_here, safe_fine}
 use Rattle.fancy_compile.proofs.OpenDepths.{depth_by, depth_rolled}
@@ -65,7 +66,7 @@ module _ (p : Site) (g : ℕ) (b : Tree) (at : target p.analysis.tree g ≡ Some
       ∙ ap fail_code at
 
   pub wrote_full : (call : ℕ → Bool → Code) (n : ℕ) (at_start in_hard : Bool) (s t : Draft) → call ≡ called_code p.plan (is_easy p.analysis) n p.depths
-      → call_depth ≤ p.depths g → Writes p (one Instr.Fail) [] s t → Writes p (hard_code p call (SubroutineCall g) at_start in_hard) (SubroutineCall g ∷ []) s t
+      → call_depth ≤ p.depths g → Writes p (one Instr.Fail) [] s t → Writes p (written_code p call (SubroutineCall g) at_start in_hard) (SubroutineCall g ∷ []) s t
   wrote_full call n at_start in_hard s t is full h =
       subst (λ k. Adds p (k (length s.instrs) s.fresh) (SubroutineCall g ∷ []) s t) (sym (ap (λ f. f g in_hard) is ∙ full_code n in_hard full))
       (adds_to p (one Instr.Fail (length s.instrs) s.fresh) (one Instr.Fail (length s.instrs) s.fresh) [] (SubroutineCall g ∷ []) s t t (omega arith) (λ x. x)
@@ -126,7 +127,7 @@ module _ (p : Site) (g : ℕ) (b : Tree) (at : target p.analysis.tree g ≡ Some
 
     pub wrote_open : (call : ℕ → Bool → Code) (n : ℕ) (at_start in_hard : Bool) (s t : Draft) → call ≡ called_code p.plan (is_easy p.analysis) (suc n) p.depths
         → Writes inside (target_code p.plan (is_easy p.analysis) g (inner_call n) in_hard (Some b)) (b ∷ []) s t
-        → Writes p (hard_code p call (SubroutineCall g) at_start in_hard) (SubroutineCall g ∷ []) s t
+        → Writes p (written_code p call (SubroutineCall g) at_start in_hard) (SubroutineCall g ∷ []) s t
     wrote_open call n at_start in_hard s t is h =
         subst (λ k. Adds p (k (length s.instrs) s.fresh) (SubroutineCall g ∷ []) s t) (sym (ap (λ f. f g in_hard) is ∙ called_open n in_hard))
         (open_adds (target_code p.plan (is_easy p.analysis) g (inner_call n) in_hard (Some b) (length s.instrs) s.fresh) s t h)
@@ -151,9 +152,9 @@ module _ (p : Site) (in_hard : Bool) (inner : ℕ → Bool → Code) (b : Tree) 
   code_of_zero g is = ap (λ n. target_code p.plan (is_easy p.analysis) n inner in_hard (Some b)) is
 
   pub code_of_group : (g : ℕ) (starts : Bool) → ¬ (g ≡ 0) → starts ≡ list_any (nat_eq g) (marked_groups p.analysis.tree p.analysis.tree)
-      → target_code p.plan (is_easy p.analysis) g inner in_hard (Some b) ≡ hard_code p inner (Group g b) starts in_hard
+      → target_code p.plan (is_easy p.analysis) g inner in_hard (Some b) ≡ written_code p inner (Group g b) starts in_hard
   code_of_group zero starts h is = absurd (h refl)
-  code_of_group (suc g) starts h is = ap (λ m. hard_code p inner (Group (suc g) b) m in_hard) (sym is)
+  code_of_group (suc g) starts h is = ap (λ m. written_code p inner (Group (suc g) b) m in_hard) (sym is)
 
 -- a group that is written out anew, as its body
 module _ (p : Site) (g : ℕ) (b : Tree) where
@@ -247,6 +248,6 @@ module _ (p : Site) (call : ℕ → Bool → Code) (scope : Scope) (u : IsScopeA
 
   pub wrote_called : (at_start in_hard : Bool) (s t : Draft)
       → Writes (under_call g p) (target_code p.plan (is_easy p.analysis) g inner_code in_hard (Some b)) (b ∷ []) s t
-      → Writes p (hard_code p call (SubroutineCall g) at_start in_hard) (SubroutineCall g ∷ []) s t
+      → Writes p (written_code p call (SubroutineCall g) at_start in_hard) (SubroutineCall g ∷ []) s t
   wrote_called at_start in_hard s t h =
       wrote_open p g b at free call left at_start in_hard s t (u.calls ∙ ap (λ n. called_code p.plan (is_easy p.analysis) n p.depths) budget_is) h

@@ -19,9 +19,10 @@ use Rattle.fancy_expr.specs.Each.{Each}
 use Rattle.fancy_info.proofs.GroupNumbers.{numbers}
 use Rattle.fancy_compile.specs.declared.scope.Scope.{Scope}
 use Rattle.fancy_compile.specs.declared.group_table.GroupTable.{GroupTable}
-use Rattle.fancy_compile.specs.Nodes.{AreNumbered, IsEntry, IsScopeOf, group_node, has_target, node_count}
+use Rattle.fancy_info.specs.NodeCounts.{node_count}
+use Rattle.fancy_compile.specs.Nodes.{AreNumbered, IsEntry, IsScopeOf, group_node, has_target}
 use Rattle.fancy_compile.specs.GroupTables.{IsTable, group_trees}
-use Rattle.fancy_compile.proofs.Infos.{each_at}
+use Rattle.fancy_info.proofs.Children.{each_at}
 use Rattle.fancy_compile.proofs.GroupTable.{number_at, target_below, target_past, target_at}
 use Rattle.fancy_compile.proofs.Roots.{root_fine, root_known}
 

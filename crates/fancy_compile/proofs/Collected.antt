@@ -9,7 +9,7 @@ use Rattle.fancy_info.specs.declared.info.Info.{Info}
 use Rattle.fancy_info.specs.Infos.{info_tree}
 use Rattle.fancy_headline.proofs.Literals.{Chars}
 use Rattle.fancy_compile.specs.Batches.{Collects}
-use Rattle.fancy_compile.proofs.Infos.{rest_at}
+use Rattle.fancy_info.proofs.Children.{rest_at}
 
 -- those of neighbours
 abbrev pub chars_of : List Info → Option Chars

@@ -9,7 +9,8 @@ use Rattle.fancy_meaning.specs.Options.{Plan}
 use Rattle.fancy_meaning.specs.AnalysisRefusals as refusal
 use Rattle.fancy_meaning.specs.CompileRefusals.{IsWritten, root, part, callee, IsAmong, written_parts, CompileRefuses, refused_node, too_long, bytes_mode}
 use Rattle.fancy_meaning.specs.Layout.{program_code, first_fresh, layout}
-use Rattle.fancy_meaning.specs.Nodes.{group_count, target}
+use Rattle.std.specs.List.{list_any}
+use Rattle.fancy_meaning.specs.Nodes.{nodes, group_count, target, is_keep_out}
 use Rattle.fancy_meaning.specs.OpenCalls.{Depths, opened, no_calls, call_depth}
 use Rattle.fancy_compile.specs.Sites.{top}
 use Rattle.std.proofs.lemmas.Bool.{cond-false}
@@ -129,26 +130,36 @@ module _ (p : Plan) where
 
   -- ---- the program
 
-  abbrev pub made : List Instr → ℕ → ℕ → ℕ → Bool → Bool → Prog
-  made body max_size total slots explicit not_empty = record {
+  abbrev pub made : List Instr → ℕ → ℕ → ℕ → Bool → Bool → Bool → Bool → Prog
+  made body max_size total slots explicit not_empty longest keeps = record {
     body = body;
     max_size = max_size;
     total_groups = total;
     slots = slots;
     explicit_group_0 = explicit;
     find_not_empty = not_empty;
+    leftmost_longest = longest;
+    keeps_start = keeps;
     end_text = p.end_text;
     unicode = p.unicode;
   }
 
-  pub same_program : (body : List Instr) (max_size total slots : ℕ) (explicit not_empty : Bool) → body ≡ whole_code.instrs → max_size ≡ (size whole whole).most
-      → total ≡ group_count whole → slots ≡ max 2 whole_code.fresh → explicit ≡ (p.analysis.options).explicit_capture_group_0
-      → not_empty ≡ (p.analysis.options).find_not_empty → made body max_size total slots explicit not_empty ≡ layout p
+  pub same_program : (body : List Instr) (max_size total slots : ℕ) (explicit not_empty longest keeps : Bool) → body ≡ whole_code.instrs
+      → max_size ≡ (size whole whole).most → total ≡ group_count whole → slots ≡ max 2 whole_code.fresh
+      → explicit ≡ (p.analysis.options).explicit_capture_group_0 → not_empty ≡ (p.analysis.options).find_not_empty
+      → longest ≡ (p.analysis.options).leftmost_longest → keeps ≡ list_any is_keep_out (nodes whole)
+      → made body max_size total slots explicit not_empty longest keeps ≡ layout p
   unfolding layout
-  same_program body max_size total slots explicit not_empty b m g s e n =
-      ap (λ x. made x max_size total slots explicit not_empty) b
-      ∙ ap (λ x. made whole_code.instrs x total slots explicit not_empty) m
-      ∙ ap (λ x. made whole_code.instrs (size whole whole).most x slots explicit not_empty) g
-      ∙ ap (λ x. made whole_code.instrs (size whole whole).most (group_count whole) x explicit not_empty) s
-      ∙ ap (λ x. made whole_code.instrs (size whole whole).most (group_count whole) (max 2 whole_code.fresh) x not_empty) e
-      ∙ ap (λ x. made whole_code.instrs (size whole whole).most (group_count whole) (max 2 whole_code.fresh) (p.analysis.options).explicit_capture_group_0 x) n
+  same_program body max_size total slots explicit not_empty longest keeps b m g s e n l k =
+      let options = p.analysis.options in
+      let most = (size whole whole).most in
+      let fresh = max 2 whole_code.fresh in
+      ap (λ x. made x max_size total slots explicit not_empty longest keeps) b
+      ∙ ap (λ x. made whole_code.instrs x total slots explicit not_empty longest keeps) m
+      ∙ ap (λ x. made whole_code.instrs most x slots explicit not_empty longest keeps) g
+      ∙ ap (λ x. made whole_code.instrs most (group_count whole) x explicit not_empty longest keeps) s
+      ∙ ap (λ x. made whole_code.instrs most (group_count whole) fresh x not_empty longest keeps) e
+      ∙ ap (λ x. made whole_code.instrs most (group_count whole) fresh options.explicit_capture_group_0 x longest keeps) n
+      ∙ ap (λ x. made whole_code.instrs most (group_count whole) fresh options.explicit_capture_group_0 options.find_not_empty x keeps) l
+      ∙ ap
+      (λ x. made whole_code.instrs most (group_count whole) fresh options.explicit_capture_group_0 options.find_not_empty options.leftmost_longest x) k

@@ -17,7 +17,7 @@ use Rattle.fancy_meaning.specs.Layout.{Part, concat_code, each_part, in_context,
 use Rattle.fancy_info.specs.declared.info.Info.{Info}
 use Rattle.fancy_info.specs.Infos.{info_tree, info_size, IsAnalysed}
 use Rattle.fancy_expr.specs.Each.{Each}
-use Rattle.fancy_compile.specs.Drafts.{is_easy, hard_code, node_code}
+use Rattle.fancy_compile.specs.Drafts.{is_easy, written_code, node_code}
 use Rattle.fancy_compile.specs.Nodes.{back_start, codes_in_turn, codes_of_branches, codes_of_none, front_count, is_back, is_front}
 use Rattle.fancy_compile.proofs.Infos.{hard_child, known_child, size_known}
 use Rattle.fancy_compile.proofs.Slices.{back_turned, each_by, each_drop, each_reverse, each_take, map-reverse}
@@ -220,7 +220,7 @@ module _ (p : Site) (call : ℕ → Bool → Code) where
     abbrev of_lists : List Tree → List Code → List Tree → Code
     of_lists front codes back = batch p.unicode front >> in_turn codes >> batch p.unicode back
 
-    pub concat_by : hard_code p call (Concat (trees child_trees)) at_start in_hard ≡
+    pub concat_by : written_code p call (Concat (trees child_trees)) at_start in_hard ≡
         (batch p.unicode (map info_tree (take n is)) >> in_turn (codes_in_turn p call is_first (map info_tree (take m rest)))
         >> batch p.unicode (map info_tree (drop m rest)))
     concat_by =
@@ -237,17 +237,17 @@ module _ (p : Site) (call : ℕ → Bool → Code) where
         ap (λ l. map info_tree (take n is) ++ l) (sym (map-append info_tree (take m rest) (drop m rest)) ∙ ap (map info_tree) (take-append-drop m rest))
         ∙ sym (map-append info_tree (take n is) rest) ∙ ap (map info_tree) (take-append-drop n is)
 
-  pub alt_by : (at_start in_hard : Bool) (es : List Tree) → hard_code p call (Alt (trees es)) at_start in_hard ≡ branches
+  pub alt_by : (at_start in_hard : Bool) (es : List Tree) → written_code p call (Alt (trees es)) at_start in_hard ≡ branches
       (codes_of_branches p call false in_hard es)
   alt_by at_start in_hard es = ap branches (branch_codes in_hard es)
 
   -- ---- look-around, of an alternation too
 
-  pub ahead_by : (at_start in_hard : Bool) (e : Tree) → hard_code p call (LookAround LookAhead e) at_start in_hard ≡ look_code (node_code p call e false false)
+  pub ahead_by : (at_start in_hard : Bool) (e : Tree) → written_code p call (LookAround LookAhead e) at_start in_hard ≡ look_code (node_code p call e false false)
   ahead_by at_start in_hard (Alt es) = refl
   ahead_by at_start in_hard e = refl
 
-  pub negative_by : (at_start in_hard : Bool) (e : Tree) → hard_code p call (LookAround LookAheadNeg e) at_start in_hard ≡ negative_look_code
+  pub negative_by : (at_start in_hard : Bool) (e : Tree) → written_code p call (LookAround LookAheadNeg e) at_start in_hard ≡ negative_look_code
       (node_code p call e false false)
   negative_by at_start in_hard (Alt es) = refl
   negative_by at_start in_hard e = refl
@@ -269,14 +269,14 @@ module _ (p : Site) (call : ℕ → Bool → Code) where
   in_parts all look (Alt es) = all (map (behind_code look) (map (body_code p.plan) (each_part p.plan (is_easy p.analysis) call false es)))
   in_parts all look e = all []
 
-  pub behind_by : (at_start in_hard : Bool) (e : Tree) → const e ≡ true → hard_code p call (LookAround LookBehind e) at_start in_hard ≡ look_code
+  pub behind_by : (at_start in_hard : Bool) (e : Tree) → const e ≡ true → written_code p call (LookAround LookBehind e) at_start in_hard ≡ look_code
       (one (Instr.GoBack (least e)) >> node_code p call e false false)
   behind_by at_start in_hard (Alt es) h = behind_if (const (Alt es)) look_code (least (Alt es)) (node_code p call (Alt es) false false)
       (in_parts branches look_code (Alt es)) h
   behind_by at_start in_hard e h = behind_if (const e) look_code (least e) (node_code p call e false false) (branches []) h
 
   pub not_behind_by : (at_start in_hard : Bool) (e : Tree) → const e ≡ true
-      → hard_code p call (LookAround LookBehindNeg e) at_start in_hard ≡ negative_look_code (one (Instr.GoBack (least e)) >> node_code p call e false false)
+      → written_code p call (LookAround LookBehindNeg e) at_start in_hard ≡ negative_look_code (one (Instr.GoBack (least e)) >> node_code p call e false false)
   not_behind_by at_start in_hard (Alt es) h = behind_if (const (Alt es)) negative_look_code (least (Alt es)) (node_code p call (Alt es) false false)
       (in_parts in_turn negative_look_code (Alt es)) h
   not_behind_by at_start in_hard e h = behind_if (const e) negative_look_code (least e) (node_code p call e false false) (in_turn []) h
@@ -309,13 +309,13 @@ module _ (p : Site) (call : ℕ → Bool → Code) where
       ∙ ap (λ l. negative_look_code (one (Instr.GoBack (least e)) >> node_code p call e false false) ∷ l) (none_behind es both.1)
 
   pub behind_alt_by : (at_start in_hard : Bool) (es : List Tree) → const (Alt (trees es)) ≡ false → AllConst es
-      → hard_code p call (LookAround LookBehind (Alt (trees es))) at_start in_hard ≡ branches (codes_of_branches p call true false es)
+      → written_code p call (LookAround LookBehind (Alt (trees es))) at_start in_hard ≡ branches (codes_of_branches p call true false es)
   behind_alt_by at_start in_hard es varies h =
       else_code (const (Alt (trees es))) (behind_code look_code (size p.analysis.tree (Alt (trees es)), node_code p call (Alt (trees es)) false false))
       (in_parts branches look_code (Alt (trees es))) varies ∙ ap branches (behind_branches es h)
 
   pub not_behind_alt_by : (at_start in_hard : Bool) (es : List Tree) → const (Alt (trees es)) ≡ false → AllConst es
-      → hard_code p call (LookAround LookBehindNeg (Alt (trees es))) at_start in_hard ≡ in_turn (codes_of_none p call es)
+      → written_code p call (LookAround LookBehindNeg (Alt (trees es))) at_start in_hard ≡ in_turn (codes_of_none p call es)
   not_behind_alt_by at_start in_hard es varies h =
       else_code (const (Alt (trees es)))
       (behind_code negative_look_code (size p.analysis.tree (Alt (trees es)), node_code p call (Alt (trees es)) false false))

@@ -10,7 +10,7 @@ use Rattle.fancy_info.specs.Infos.{info_tree}
 use Rattle.fancy_plain.specs.ClassTexts.{AreClasses, texts_in}
 use Rattle.fancy_plain.specs.Tables.{HaveClasses}
 use Rattle.fancy_fragments.specs.declared.delegate.Delegate.{Delegate}
-use Rattle.fancy_compile.specs.SharedDelegates.{IsNamed, IsNamedAlike, AreNamedAlike, IsDelegateOf}
+use Rattle.fancy_compile.specs.SharedDelegates.{IsNamed, IsNamedAlike, AreNamedAlike, IsDelegateOf, delegate_of}
 
 pub named_more : {Z : Type 0} (ds : List (Rc Delegate Z)) (d : Rc Delegate Z) → AreNamedAlike ds → IsNamedAlike d → AreNamedAlike (ds ++ d ∷ [])
 named_more [] d h g zero x e = subst IsNamedAlike (ap (λ o. unwrap_or o d) e) g
@@ -20,7 +20,7 @@ named_more (c ∷ ds) d h g (suc k) x e = named_more ds d (λ j. h (suc j)) g k 
 
 module _ (unicode : Bool) (is : List Info) where
   pub named_built : (i : Instr)
-      → i ≡ Instr.Delegate (pattern_of unicode (map info_tree is)) (fragment unicode (map info_tree is)) (group_range (map info_tree is))
+      → i ≡ delegate_of unicode (map info_tree is)
       → HaveClasses unicode is → IsNamed i
   named_built i e g = subst IsNamed (sym e) (refl, refl, g)
 

@@ -1,14 +1,15 @@
 -- From the writing of a whole program to what compiling answers.
 use Rattle.std.proofs.Common.{true, ◌≡◌, ℕ, ◌+◌, ◌*◌, max, Bool, if◌then◌else◌, List, [], ◌∷◌, None, ap, ◌∙◌, subst}
+use Rattle.std.specs.List.{list_any}
 use Rattle.fancy_meaning.specs.Tree.{Tree}
-use Rattle.fancy_meaning.specs.Nodes.{group_count}
+use Rattle.fancy_meaning.specs.Nodes.{nodes, group_count, is_keep_out}
 use Rattle.fancy_meaning.specs.Instr.{Instr}
 use Rattle.fancy_meaning.specs.Options.{AnalysisOptions, Plan}
 use Rattle.fancy_meaning.specs.Sizes.{Size, size}
 use Rattle.fancy_meaning.specs.Layout.{program_code, first_fresh, layout}
 use Rattle.fancy_meaning.specs.Premises.{Analysed, analysis}
 use Rattle.fancy_info.specs.declared.info.Info.{Info}
-use Rattle.fancy_info.specs.Infos.{IsRoot, info_size, info_facts}
+use Rattle.fancy_info.specs.Infos.{IsRoot, info_tree, info_size, info_facts}
 use Rattle.fancy_compile.specs.declared.options.CompileOptions.{CompileOptions}
 use Rattle.fancy_compile.specs.declared.scope.Scope.{Scope}
 use Rattle.fancy_compile.specs.GroupTables.{IsTable}
@@ -73,13 +74,17 @@ module _ (a : Analysed) (i : Info) (o : CompileOptions) (m : MayCompile a i o) w
         (subst (λ l. Writes (top p) (program_code p (is_easy p.analysis)) (whole ∷ []) (draft l fresh) t) none h)
 
     -- the parts are those of the layout
-    pub finish_compiles : (not_empty : Bool) → not_empty ≡ ((info_facts i).options).find_not_empty → (most slots : ℕ) (t : Draft) → most ≡ (info_size i).most
+    pub finish_compiles : (not_empty longest keeps : Bool) → not_empty ≡ ((info_facts i).options).find_not_empty
+        → longest ≡ ((info_facts i).options).leftmost_longest → keeps ≡ list_any is_keep_out (nodes (info_tree i))
+        → (most slots : ℕ) (t : Draft) → most ≡ (info_size i).most
         → Extends (whole_code p) (start p (first_fresh p)) t → slots ≡ max 2 t.fresh
-        → made p t.instrs most total slots explicit not_empty ≡ layout p
-    finish_compiles not_empty not_empty_read most slots t size_is e room =
-        same_program p t.instrs most total slots explicit not_empty e.instrs
+        → made p t.instrs most total slots explicit not_empty longest keeps ≡ layout p
+    finish_compiles not_empty longest keeps not_empty_read longest_read keeps_read most slots t size_is e room =
+        same_program p t.instrs most total slots explicit not_empty longest keeps e.instrs
         (size_is ∙ ap (λ (s : Size). s.most) (size_known i (analysis a) (root_known a i m.root) ∙ ap (size whole) (m.root).tree))
         total_is (room ∙ ap (max 2) e.fresh) explicit_is (not_empty_read ∙ ap (λ (x : AnalysisOptions). x.find_not_empty) ((m.root).node).options)
+        (longest_read ∙ ap (λ (x : AnalysisOptions). x.leftmost_longest) ((m.root).node).options)
+        (keeps_read ∙ ap (λ e'. list_any is_keep_out (nodes e')) (m.root).tree)
 
 -- the machine takes the program
 pub fits : (a : Analysed) (o : CompileOptions) → ((error : CompileError) → ¬ AnalysisRefuses a.parsed a.options error)

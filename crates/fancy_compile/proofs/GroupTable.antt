@@ -18,9 +18,11 @@ use Rattle.fancy_info.specs.declared.info.Info.TheViews.{out-Info}
 use Rattle.fancy_expr.specs.Exprs.{below}
 use Rattle.fancy_info.specs.Infos.{node_over, absent_over, info_tree, info_within, info_children, info_facts, IsAnalysed}
 use Rattle.fancy_info.proofs.Unfolded.{tree_out}
-use Rattle.fancy_compile.specs.Nodes.{AreNumbered, IsKnown, group_node, node_count}
+use Rattle.fancy_info.specs.NodeCounts.{node_count}
+use Rattle.fancy_compile.specs.Nodes.{AreNumbered, IsKnown, group_node}
 use Rattle.fancy_compile.specs.GroupTables.{is_group, is_concat, group_trees, own_trees, MarksAll}
-use Rattle.fancy_compile.proofs.Infos.{nodes_of_info, rest_at, only_one, known_child, each_at, node_count-below, child_count}
+use Rattle.fancy_info.proofs.Children.{rest_at, only_one, each_at, node_count-below, child_count}
+use Rattle.fancy_compile.proofs.Infos.{nodes_of_info, known_child}
 
 -- ---- a node's groups
 

@@ -16,6 +16,7 @@ use Rattle.fancy_expr.specs.declared.expr.Expr.{Expr}
 use Rattle.fancy_expr.specs.Exprs.{below}
 use Rattle.fancy_info.specs.Infos.{info_tree, info_children, info_facts, info_hard, info_size, info_within, node_over, is_read_group, EachNode, IsFound, IsAnalysed}
 use Rattle.fancy_expr.specs.Each.{Each}
+use Rattle.fancy_info.proofs.Children.{each_at, only_one, node_count-below, child_count}
 use Rattle.fancy_info.proofs.Unfolded.{tree_out, each_here, each_below, each_made}
 use Rattle.fancy_info.proofs.OverParts.{over-parts}
 use Rattle.fancy_expr.proofs.NodeParts.{nodes-parts}
@@ -24,22 +25,10 @@ use Rattle.fancy_plain.specs.Neighbours.{IsEasy}
 use Rattle.fancy_plain.specs.Tables.{AreFine}
 use Rattle.fancy_fragments.specs.Nodes.{AreEasyNeighbours}
 use Rattle.fancy_compile.specs.declared.scope.Scope.{Scope}
-use Rattle.fancy_compile.specs.Nodes.{total, size_step, node_count, IsWhole, AreWhole, IsFineTree, IsKnown}
+use Rattle.fancy_info.specs.NodeCounts.{node_count, node_counts}
+use Rattle.fancy_compile.specs.Nodes.{IsWhole, AreWhole, IsFineTree, IsKnown}
 
 -- ---- lists
-
-pub each_at : {X : Type 0} (P : X → Type 0) (l : List X) (i : ℕ) (x : X) → Each P l → i < length l → x ≡ get_or l i x → P x
-each_at P [] i x h lt e = absurd (omega arith)
-each_at P (y ∷ l) zero x h lt e = subst P (sym e) h.0
-each_at P (y ∷ l) (suc i) x h lt e = each_at P l i x h.1 (omega arith) e
-
-pub rest_at : {X : Type 0} (l : List X) (i : ℕ) (x : X) → i < length l → x ≡ get_or l i x → drop i l ≡ x ∷ drop (i + 1) l
-rest_at l i x h at = drop-cons l i x h ∙ ap (λ y. y ∷ drop (suc i) l) (sym at) ∙ ap (λ k. x ∷ drop k l) (sym (add-one i))
-
-pub only_one : (l : List Info) (d : Info) → length l ≡ 1 → d ≡ get_or l 0 d → l ≡ d ∷ []
-only_one [] d n e = absurd (omega arith)
-only_one (x ∷ []) d n e = ap (λ y. y ∷ []) (sym e)
-only_one (x ∷ y ∷ l) d n e = absurd (omega arith)
 
 pub only_three : (l : List Info) (c d e : Info) → length l ≡ 3 → c ≡ get_or l 0 c → d ≡ get_or l 1 d → e ≡ get_or l 2 e → l ≡ c ∷ d ∷ e ∷ []
 only_three [] c d e n p q r = absurd (omega arith)
@@ -51,16 +40,6 @@ only_three (x ∷ y ∷ z ∷ w ∷ l) c d e n p q r = absurd (omega arith)
 pub children_trees : (es : List Tree) → children (trees es) ≡ es
 children_trees [] = refl
 children_trees (e ∷ es) = ap (λ l. e ∷ l) (children_trees es)
-
--- ---- how many nodes there are
-
-pub node_count-below : (i : Info) → node_count i ≡ suc (total (map node_count (info_children i)))
-node_count-below i = fold_out-Info ℕ size_step i
-
-pub child_count : (l : List Info) (i : ℕ) (x : Info) → i < length l → x ≡ get_or l i x → node_count x ≤ total (map node_count l)
-child_count [] i x h e = absurd (omega arith)
-child_count (y ∷ l) zero x h e = omega (arith, ap node_count e)
-child_count (y ∷ l) (suc i) x h e = omega (arith, child_count l i x (omega arith) e)
 
 -- ---- what is known
 
@@ -74,6 +53,14 @@ known_child a i h = record {
   children = each_below (IsFound a) i h;
   easy = λ e. sym (hard_child a i h) ∙ e;
 }
+
+-- a child by its place among the children
+module _ (i : Info) (children : List Info) (same : children ≡ info_children i) (n : ℕ) (x : Info) (lt : n < length children) (is : x ≡ get_or children n x) where
+  pub part_smaller : node_count x < node_count i
+  part_smaller = omega (arith, node_count-below i, ap node_counts same, child_count children n x lt is)
+
+  pub part_known : (a : Analysis) → IsKnown a i → IsKnown a x
+  part_known a k = known_child a x (each_at (IsAnalysed a) children n x (subst (Each (IsAnalysed a)) (sym same) k.children) lt is)
 
 -- a node that is said to be easy is
 pub easy_known : (a : Analysis) (i : Info) → IsKnown a i → info_hard i ≡ false → IsEasy a i
@@ -147,13 +134,6 @@ module _ (scope : Scope) where
   }
 
 module _ (info : Info) where
-  -- the tree by this expression and these children
-  pub tree_by : (e : Expr) (l : List Info) → (out-Info info).expr.now ≡ e → info_children info ≡ l
-      → info_tree info ≡ node_over e (out-Info info).start_group (info_within info) (trees (map info_tree l))
-  tree_by e l at kids =
-      tree_out info ∙ ap (λ x. node_over x (out-Info info).start_group (info_within info) (trees (map info_tree (info_children info)))) at
-      ∙ ap (λ m. node_over e (out-Info info).start_group (info_within info) (trees (map info_tree m))) kids
-
   pub size_known : (a : Analysis) → IsKnown a info → info_size info ≡ size a.tree (info_tree info)
   size_known a k = k.node.size ∙ ap (size a.tree) (sym (tree_out info))
 
@@ -189,7 +169,7 @@ module _ (scope : Scope) (info : Info) where
     three_children = only_three (info_children info) c d x has_three c_at d_at x_at
 
     pub smaller_three : node_count c + node_count d + node_count x < node_count info
-    smaller_three = omega (arith, node_count-below info, ap (λ l. total (map node_count l)) three_children)
+    smaller_three = omega (arith, node_count-below info, ap node_counts three_children)
 
     pub whole_three : IsWhole scope c × (IsWhole scope d × IsWhole scope x)
     whole_three = (

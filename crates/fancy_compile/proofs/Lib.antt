@@ -10,7 +10,9 @@ pub mod Neighbours
 pub mod LoopForms
 pub mod Closings
 pub mod Lookbehinds
+pub mod AnyBelow
 pub mod AbsentLaws
+pub mod KeepOuts
 pub mod OpenDepths
 pub mod CallLaws
 pub mod GroupTable

@@ -17,10 +17,11 @@ use Rattle.fancy_info.specs.declared.info.Info.TheViews.{out-Info}
 use Rattle.fancy_info.specs.Infos.{node_over, absent_over, info_tree, info_size, info_within, info_children, info_facts, IsAnalysed}
 use Rattle.fancy_expr.specs.Each.{Each}
 use Rattle.fancy_info.proofs.Unfolded.{tree_out}
-use Rattle.fancy_compile.specs.Arounds.{around_code, behind, not_behind}
+use Rattle.fancy_compile.specs.declared.around.Around.TheVariants as around
+use Rattle.fancy_compile.specs.Arounds.{around_code, behind, behind_kind, not_behind}
 use Rattle.fancy_compile.specs.Faults.{Rejects, refused, out_of_range, HasRejected}
-use Rattle.fancy_compile.specs.Drafts.{Draft, Writes, hard_code, node_code}
-use Rattle.fancy_compile.specs.Nodes.{is_alt, has_const_branches, IsKnown, codes_of_branches, codes_of_none}
+use Rattle.fancy_compile.specs.Drafts.{Draft, Writes, written_code, node_code}
+use Rattle.fancy_compile.specs.Nodes.{is_alt, has_const_branches, look_behind, IsKnown, codes_of_branches, codes_of_none}
 use Rattle.fancy_compile.proofs.Concat.{AllConst, behind_by, not_behind_by, behind_alt_by, not_behind_alt_by}
 use Rattle.fancy_compile.proofs.Infos.{known_child, size_known, children_trees}
 use Rattle.fancy_compile.proofs.Written.{IsFine, wrote_node, safe_fine, rejected_here}
@@ -109,12 +110,16 @@ module _ (p : Site) where
   behind_fine look e h x (refused (variable_lookbehind v)) = h v
   behind_fine look e h x (out_of_range i) = true≢false (sym i)
 
-  pub variable_refused : (look : Look) (e : Tree) → is_behind look ≡ true → (size p.analysis.tree e).is_const ≡ false
-      → Failing (λ b. (size p.analysis.tree b).is_const) (branches_of e) → HasRejected p (LookAround look e ∷ []) refusal.VariableLookBehindRequiresFeature
-  variable_refused look e behind varies f =
-      rejected_here p (LookAround look e) refusal.VariableLookBehindRequiresFeature
+  is_lookbehind : (negative : Bool) → is_behind (look_behind negative) ≡ true
+  is_lookbehind true = refl
+  is_lookbehind false = refl
+
+  pub variable_refused : (negative : Bool) (e : Tree) → (size p.analysis.tree e).is_const ≡ false → Failing (λ b. (size p.analysis.tree b).is_const) (branches_of e)
+      → HasRejected p (LookAround (look_behind negative) e ∷ []) refusal.VariableLookBehindRequiresFeature
+  variable_refused negative e varies f =
+      rejected_here p (LookAround (look_behind negative) e) refusal.VariableLookBehindRequiresFeature
       (refused (variable_lookbehind (record {
-        is_lookbehind = behind;
+        is_lookbehind = is_lookbehind negative;
         body_varies = λ c. true≢false (sym c ∙ varies);
         branch = f.branch;
         is_branch = f.among;
@@ -123,24 +128,21 @@ module _ (p : Site) where
 
   module _ (call : ℕ → Bool → Code) (at_start in_hard : Bool) (s t : Draft) where
     abbrev Wrote : Look → Tree → Type 0
-    Wrote look e = Writes p (hard_code p call (LookAround look e) at_start in_hard) (LookAround look e ∷ []) s t
+    Wrote look e = Writes p (written_code p call (LookAround look e) at_start in_hard) (LookAround look e ∷ []) s t
 
     constant_fine : (look : Look) (e : Tree) → (size p.analysis.tree e).is_const ≡ true → IsFine p (LookAround look e)
     constant_fine look e h = (behind_fine look e (λ v. v.body_varies h), refl)
 
-    pub wrote_behind : (e : Tree) (n : ℕ) → (size p.analysis.tree e).is_const ≡ true → n ≡ (size p.analysis.tree e).least
-        → Writes p (around_code (behind n) (node_code p call e false false)) (e ∷ []) s t → Wrote LookBehind e
-    wrote_behind e n const is h =
-        wrote_node p _ (LookAround LookBehind e) s t (constant_fine LookBehind e const)
-        (subst (λ k. Writes p k (e ∷ []) s t) (ap (λ m. around_code (behind m) (node_code p call e false false)) is
-        ∙ sym (behind_by p call at_start in_hard e const)) h)
-
-    pub wrote_not_behind : (e : Tree) (n : ℕ) → (size p.analysis.tree e).is_const ≡ true → n ≡ (size p.analysis.tree e).least
-        → Writes p (around_code (not_behind n) (node_code p call e false false)) (e ∷ []) s t → Wrote LookBehindNeg e
-    wrote_not_behind e n const is h =
+    pub wrote_behind : (negative : Bool) (e : Tree) (n : ℕ) → (size p.analysis.tree e).is_const ≡ true → n ≡ (size p.analysis.tree e).least
+        → Writes p (around_code (around.Look (behind_kind negative n)) (node_code p call e false false)) (e ∷ []) s t → Wrote (look_behind negative) e
+    wrote_behind true e n const is h =
         wrote_node p _ (LookAround LookBehindNeg e) s t (constant_fine LookBehindNeg e const)
         (subst (λ k. Writes p k (e ∷ []) s t) (ap (λ m. around_code (not_behind m) (node_code p call e false false)) is
         ∙ sym (not_behind_by p call at_start in_hard e const)) h)
+    wrote_behind false e n const is h =
+        wrote_node p _ (LookAround LookBehind e) s t (constant_fine LookBehind e const)
+        (subst (λ k. Writes p k (e ∷ []) s t) (ap (λ m. around_code (behind m) (node_code p call e false false)) is
+        ∙ sym (behind_by p call at_start in_hard e const)) h)
 
     -- over branches
     branches_fine : (look : Look) (es : List Tree) → AllConst p call es → IsFine p (LookAround look (Alt (trees es)))

@@ -11,7 +11,7 @@ use Rattle.fancy_expr.specs.Views.{bound_of}
 use Rattle.fancy_compile.specs.declared.loops.LoopKind.{LoopKind}
 use Rattle.fancy_compile.specs.declared.loops.LoopKind.TheVariants as kind
 use Rattle.fancy_compile.specs.Arounds.{kind_form}
-use Rattle.fancy_compile.specs.Drafts.{Draft, Writes, hard_code, node_code}
+use Rattle.fancy_compile.specs.Drafts.{Draft, Writes, written_code, node_code}
 use Rattle.fancy_compile.proofs.Writing.{wrote_nothing}
 use Rattle.fancy_compile.proofs.Written.{wrote_node, safe_fine}
 
@@ -87,7 +87,7 @@ module _ (p : Site) (call : ℕ → Bool → Code) (at_start in_hard : Bool) (lo
   body f = node_code p call e false (in_hard || not (is_at_most_once f))
 
   abbrev Wrote : Option ℕ → Type 0
-  Wrote hi = Writes p (hard_code p call (Repeat lo hi greedy e) at_start in_hard) (Repeat lo hi greedy e ∷ []) s t
+  Wrote hi = Writes p (written_code p call (Repeat lo hi greedy e) at_start in_hard) (Repeat lo hi greedy e ∷ []) s t
 
   pub wrote_repeat : (hi : Option ℕ) (k : LoopKind) → kind_form k ≡ form hi
       → Writes p (repeat_code greedy (body (kind_form k)) (kind_form k)) (e ∷ []) s t → Wrote hi
@@ -101,8 +101,8 @@ module _ (p : Site) (call : ℕ → Bool → Code) (at_start in_hard : Bool) (lo
 
 -- a loop that is never entered
 pub wrote_never : (p : Site) (call : ℕ → Bool → Code) (at_start in_hard : Bool) (lo : ℕ) (greedy : Bool) (e : Tree) (s : Draft) (hi : Option ℕ)
-    → Never ≡ loop_form lo hi ((size p.analysis.tree e).least == 0) → Writes p (hard_code p call (Repeat lo hi greedy e) at_start in_hard)
+    → Never ≡ loop_form lo hi ((size p.analysis.tree e).least == 0) → Writes p (written_code p call (Repeat lo hi greedy e) at_start in_hard)
     (Repeat lo hi greedy e ∷ []) s s
 wrote_never p call at_start in_hard lo greedy e s hi is =
-    subst (λ b. Writes p (hard_code p call (Repeat lo b greedy e) at_start in_hard) (Repeat lo b greedy e ∷ []) s s) (sym (never_is lo hi _ is))
+    subst (λ b. Writes p (written_code p call (Repeat lo b greedy e) at_start in_hard) (Repeat lo b greedy e ∷ []) s s) (sym (never_is lo hi _ is))
     (wrote_node p _ (Repeat lo (Some 0) greedy e) s s (safe_fine p (Repeat lo (Some 0) greedy e) refl refl) (wrote_nothing p s))

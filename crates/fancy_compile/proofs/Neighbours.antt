@@ -12,12 +12,13 @@ use Rattle.fancy_meaning.specs.Sizes.{Size, size}
 use Rattle.fancy_info.specs.declared.info.Info.{Info}
 use Rattle.fancy_info.specs.Infos.{info_tree, info_hard, info_size, IsAnalysed}
 use Rattle.fancy_compile.specs.Arounds.{around_code, not_behind}
-use Rattle.fancy_compile.specs.Drafts.{Draft, Writes, code_in, hard_code, node_code, with_patch, with_jumps}
+use Rattle.fancy_compile.specs.Drafts.{Draft, Writes, code_in, written_code, node_code, with_patch, with_jumps}
 use Rattle.fancy_compile.specs.Nodes.{IsKnown, back_of, codes_in_turn, codes_of_branches, codes_of_none, branch_over, front_of, middle_of}
 use Rattle.fancy_compile.proofs.Writing.{wrote_nothing, wrote_then, without_nothing}
 use Rattle.fancy_compile.proofs.Patches.{wrote_both, patched_length, with_jumps_last}
 use Rattle.fancy_compile.proofs.Written.{wrote_node, safe_fine}
-use Rattle.fancy_compile.proofs.Infos.{hard_child, rest_at, children_trees, size_known}
+use Rattle.fancy_info.proofs.Children.{rest_at}
+use Rattle.fancy_compile.proofs.Infos.{hard_child, children_trees, size_known}
 use Rattle.fancy_compile.proofs.Concat.{alt_by, concat_by, concat_parts, is_first}
 
 branches_more : (c : Code) (cs : List Code) → 0 < length cs → branches (c ∷ cs) ≡ branch c (branches cs)
@@ -133,12 +134,12 @@ module _ (p : Site) (call : ℕ → Bool → Code) where
 
     pub wrote_three : front ≡ front_of is → middle ≡ middle_of in_hard is → back ≡ back_of in_hard is → first ≡ is_first p call at_start in_hard is each
         → Batches front s t → LeftInTurn first middle t u → Batches back u v
-        → Writes p (hard_code p call (Concat (trees (map info_tree is))) at_start in_hard) (map info_tree is) s v
+        → Writes p (written_code p call (Concat (trees (map info_tree is))) at_start in_hard) (map info_tree is) s v
     wrote_three front_is middle_is back_is first_is a b c =
         let begins = batch p.unicode (map info_tree (front_of is)) in
         let goes = in_turn (codes_in_turn p call (is_first p call at_start in_hard is each) (map info_tree (middle_of in_hard is))) in
         let ends = batch p.unicode (map info_tree (back_of in_hard is)) in
-        subst (λ ds. Writes p (hard_code p call (Concat (trees (map info_tree is))) at_start in_hard) ds s v)
+        subst (λ ds. Writes p (written_code p call (Concat (trees (map info_tree is))) at_start in_hard) ds s v)
         (concat_parts p call at_start in_hard is each)
         (subst (λ k. Writes p k three s v) (sym (concat_by p call at_start in_hard is each))
         (wrote_then p begins (goes >> ends) _ _ s t v (subst (λ l. Batches l s t) front_is a)
@@ -147,14 +148,14 @@ module _ (p : Site) (call : ℕ → Bool → Code) where
         (subst (λ l. Batches l u v) back_is c))))
 
   module _ (es : List Tree) (at_start in_hard : Bool) (s t : Draft) where
-    pub wrote_concat : Writes p (hard_code p call (Concat (trees es)) at_start in_hard) es s t
-        → Writes p (hard_code p call (Concat (trees es)) at_start in_hard) (Concat (trees es) ∷ []) s t
+    pub wrote_concat : Writes p (written_code p call (Concat (trees es)) at_start in_hard) es s t
+        → Writes p (written_code p call (Concat (trees es)) at_start in_hard) (Concat (trees es) ∷ []) s t
     wrote_concat h =
         wrote_node p _ (Concat (trees es)) s t (safe_fine p (Concat (trees es)) refl refl)
-        (subst (λ ds. Writes p (hard_code p call (Concat (trees es)) at_start in_hard) ds s t) (sym (children_trees es)) h)
+        (subst (λ ds. Writes p (written_code p call (Concat (trees es)) at_start in_hard) ds s t) (sym (children_trees es)) h)
 
     pub wrote_alt : Writes p (branches (codes_of_branches p call false in_hard es)) es s t
-        → Writes p (hard_code p call (Alt (trees es)) at_start in_hard) (Alt (trees es) ∷ []) s t
+        → Writes p (written_code p call (Alt (trees es)) at_start in_hard) (Alt (trees es) ∷ []) s t
     wrote_alt h =
         subst (λ k. Writes p k (Alt (trees es) ∷ []) s t) (sym (alt_by p call at_start in_hard es))
         (wrote_node p _ (Alt (trees es)) s t (safe_fine p (Alt (trees es)) refl refl)

@@ -14,7 +14,8 @@ use Rattle.fancy_plain.specs.Neighbours.{IsEasy}
 use Rattle.fancy_plain.specs.Tables.{AreFine}
 use Rattle.fancy_fragments.specs.Nodes.{AreEasyNeighbours}
 use Rattle.fancy_compile.specs.declared.scope.Scope.{Scope}
-use Rattle.fancy_compile.specs.Nodes.{AreWhole, back_start, front_count, is_back, is_front, node_count, total}
+use Rattle.fancy_info.specs.NodeCounts.{node_count, node_counts}
+use Rattle.fancy_compile.specs.Nodes.{AreWhole, back_start, front_count, is_back, is_front}
 use Rattle.fancy_compile.proofs.Infos.{hard_child}
 
 -- ---- of each
@@ -94,18 +95,18 @@ turn_drop w zero first l h = (first, h)
 turn_drop w (suc n) first [] h = (first, tt)
 turn_drop w (suc n) first (x ∷ l) h = turn_drop w n (out-Info x).end_group l h.2
 
-total_take : (n : ℕ) (l : List Info) → total (map node_count (take n l)) ≤ total (map node_count l)
+total_take : (n : ℕ) (l : List Info) → node_counts (take n l) ≤ node_counts l
 total_take zero l = omega arith
 total_take (suc n) [] = omega arith
 total_take (suc n) (x ∷ l) = omega (arith, total_take n l)
 
-total_drop : (n : ℕ) (l : List Info) → total (map node_count (drop n l)) ≤ total (map node_count l)
+total_drop : (n : ℕ) (l : List Info) → node_counts (drop n l) ≤ node_counts l
 total_drop zero l = omega arith
 total_drop (suc n) [] = omega arith
 total_drop (suc n) (x ∷ l) = omega (arith, total_drop n l)
 
 -- the middle of neighbours is smaller
-pub total_middle : (n m : ℕ) (l : List Info) → total (map node_count (take m (drop n l))) ≤ total (map node_count l)
+pub total_middle : (n m : ℕ) (l : List Info) → node_counts (take m (drop n l)) ≤ node_counts l
 total_middle n m l = omega (arith, total_take m (drop n l), total_drop n l)
 
 module _ (scope : Scope) where

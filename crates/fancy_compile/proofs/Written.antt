@@ -1,8 +1,8 @@
 -- A node by what is written with it.
-use Rattle.std.proofs.Common.{◌≡◌, ℕ, inl, inr, Bool, true, false, not, [], ◌∷◌, Some, true≢false, refl, sym, ap, ◌∙◌, arith}
+use Rattle.std.proofs.Common.{◌≡◌, ℕ, inl, inr, Bool, true, false, not, [], ◌∷◌, Some, true≢false, refl, sym, ap, ◌∙◌, subst, arith}
 use Rattle.fancy_meaning.specs.Tree as plain
 use Rattle.fancy_meaning.specs.Tree.{Tree, Trees, none, more, trees, children}
-use Rattle.fancy_meaning.specs.Code.{Laid}
+use Rattle.fancy_meaning.specs.Code.{Code, Laid}
 use Rattle.fancy_compile.specs.Sites.{Site}
 use Rattle.fancy_meaning.specs.AnalysisRefusals as refusal
 use Rattle.fancy_meaning.specs.CompileRefusals.{is_behind, IsAmong, here, there, written_parts, existence_with_level, control_verb, absent_in_hard_repeater, absent_other, variable_lookbehind, missing_group, no_class}
@@ -10,7 +10,7 @@ use Rattle.fancy_meaning.specs.Nodes.{is_absent}
 use Rattle.fancy_meaning.specs.WellFormed.{is_call}
 use Rattle.fancy_compile.specs.Kinds.{is_out_of_range}
 use Rattle.fancy_compile.specs.Faults.{itself, below, through, Rejects, rejected, refused, out_of_range, IsCompilable, AreCompilable, IsRejected, HasRejected}
-use Rattle.fancy_compile.specs.Drafts.{Draft, Adds}
+use Rattle.fancy_compile.specs.Drafts.{Draft, Adds, Writes, written_code}
 use Rattle.fancy_compile.proofs.Writing.{adds_to}
 
 module _ (p : Site) where
@@ -39,6 +39,11 @@ module _ (p : Site) where
   wrote_node a e s t fine h =
       adds_to p a a (children (written_parts e)) (e ∷ []) s t t (omega arith) (λ x. x)
       (λ a. (accepted_node e fine a, tt)) (λ x r. inl (rejected_among e (written_parts e) (λ c i. i) x r)) h refl refl
+
+  -- a node that is this one is written as this one
+  pub written_as : (call : ℕ → Bool → Code) (at_start in_hard : Bool) (d e : Tree) (s t : Draft) → d ≡ e
+      → Writes p (written_code p call e at_start in_hard) (e ∷ []) s t → Writes p (written_code p call d at_start in_hard) (d ∷ []) s t
+  written_as call at_start in_hard d e s t is h = subst (λ x. Writes p (written_code p call x at_start in_hard) (x ∷ []) s t) (sym is) h
 
   pub rejected_here : (e : Tree) (x : refusal.CompileError) → Rejects p e x → HasRejected p (e ∷ []) x
   rejected_here e x r = inl (record { node = e; is_below = itself; rejects = rejected r })

@@ -1,5 +1,5 @@
 -- What is written around a node's code.
-use Rattle.std.specs.Prelude.{◌≡◌, ℕ, List, [], length, Option, Some, None}
+use Rattle.std.specs.Prelude.{◌≡◌, ℕ, Bool, true, false, List, [], length, Option, Some, None}
 use Rattle.fancy_meaning.specs.Tree.{Tree}
 use Rattle.fancy_meaning.specs.Instr.{Instr}
 use Rattle.fancy_meaning.specs.Code.{Code, nothing, one, ◌>>◌}
@@ -50,6 +50,11 @@ behind n = around.Look (look.Behind n)
 
 abbrev pub not_behind : ℕ → Around
 not_behind n = around.Look (look.NotBehind n)
+
+-- so many characters back, there is the body, or there is not
+abbrev pub behind_kind : (negative : Bool) → ℕ → LookKind
+behind_kind true n = look.NotBehind n
+behind_kind false n = look.Behind n
 
 -- ---- what is written before the body, where an instruction that knows the place after it is not known yet
 

@@ -81,13 +81,13 @@ abbrev pub is_easy : Analysis → Tree → Bool
 is_easy a e = not (is_hard a e)
 
 -- a node's code where it is written out
-abbrev pub hard_code : Site → (ℕ → Bool → Code) → Tree → (at_start in_hard : Bool) → Code
-hard_code p call e at_start in_hard = written p.plan (is_easy p.analysis) call e at_start in_hard
+abbrev pub written_code : Site → (ℕ → Bool → Code) → Tree → (at_start in_hard : Bool) → Code
+written_code p call e at_start in_hard = written p.plan (is_easy p.analysis) call e at_start in_hard
 
 -- a node's code in a context, where the node is easy or not
 abbrev pub code_in : Site → (ℕ → Bool → Code) → (easy : Bool) → Tree → (at_start in_hard : Bool) → Code
 code_in p call easy e at_start in_hard =
-    if easy && not in_hard then batch p.unicode (e ∷ []) else hard_code p call e at_start in_hard
+    if easy && not in_hard then batch p.unicode (e ∷ []) else written_code p call e at_start in_hard
 
 abbrev pub node_code : Site → (ℕ → Bool → Code) → Tree → (at_start in_hard : Bool) → Code
 node_code p call e at_start in_hard = code_in p call (is_easy p.analysis e) e at_start in_hard

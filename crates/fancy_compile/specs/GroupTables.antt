@@ -12,7 +12,8 @@ use Rattle.fancy_info.specs.declared.info.Info.{Info}
 use Rattle.fancy_info.specs.Infos.{info_tree, info_facts}
 use Rattle.fancy_expr.specs.Each.{Each}
 use Rattle.fancy_compile.specs.declared.group_table.GroupTable.{GroupTable}
-use Rattle.fancy_compile.specs.Nodes.{group_node, node_count, IsKnown, IsEntry, IsFineTree}
+use Rattle.fancy_info.specs.NodeCounts.{node_count}
+use Rattle.fancy_compile.specs.Nodes.{group_node, IsKnown, IsEntry, IsFineTree}
 
 abbrev pub is_group : Expr → Bool
 is_group (code.Group' b e) = true

@@ -3,6 +3,7 @@ pub mod Sites
 pub mod OpenDepths
 pub mod Faults
 pub mod Drafts
+pub mod Neighbours
 pub mod Batches
 pub mod Arounds
 pub mod Nodes

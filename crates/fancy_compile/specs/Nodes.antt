@@ -22,26 +22,14 @@ use Rattle.fancy_meaning.specs.Sizes.{size}
 use Rattle.fancy_meaning.specs.Options.{Analysis}
 use Rattle.fancy_compile.specs.Sites.{Site}
 use Rattle.fancy_info.specs.declared.info.Info.{Info}
-use Rattle.fancy_info.specs.declared.info.Info.TheOpen.{Info-F}
-use Rattle.fancy_info.specs.declared.info.Info.TheFolds.{fold-Info}
 use Rattle.fancy_info.specs.Infos.{node_over, info_tree, info_facts, info_size, info_hard, info_children, AreInTurn, IsNode, IsAnalysed}
+use Rattle.fancy_info.specs.NodeCounts.{node_count, node_counts}
 use Rattle.fancy_expr.specs.Each.{Each}
 use Rattle.fancy_compile.specs.declared.scope.Scope.{Scope}
 use Rattle.fancy_compile.specs.declared.group_table.GroupTable.{GroupTable}
 use Rattle.fancy_compile.specs.OpenDepths.{depths_of}
 use Rattle.fancy_compile.specs.Arounds.{around_code, behind, not_behind}
-use Rattle.fancy_compile.specs.Drafts.{Draft, Writes, code_in, hard_code, is_easy, node_code}
-
-abbrev pub total : List ℕ → ℕ
-total [] = 0
-total (n ∷ ns) = n + total ns
-
-abbrev pub size_step : Info-F ℕ → ℕ
-size_step i = suc (total i.children.items)
-
--- how many nodes there are
-abbrev pub node_count : Info → ℕ
-node_count = fold-Info ℕ size_step
+use Rattle.fancy_compile.specs.Drafts.{Draft, Writes, code_in, written_code, is_easy, node_code}
 
 -- what was found of a node, but that the whole tree may be hard for its own reason
 pub record IsKnown (a : Analysis) (i : Info) : Type 0 where
@@ -97,7 +85,7 @@ pub record AreWhole (scope : Scope) (is : List Info) : Type 0 where
   pub analysis : Analysis
   pub of_tree : IsScopeOf analysis scope
   pub each : Each (IsAnalysed analysis) is
-  pub small : total (map node_count is) ≤ node_count scope.root.now
+  pub small : node_counts is ≤ node_count scope.root.now
   pub fine : AreFine (map info_tree is)
   pub within : plain.Within
   pub first : ℕ
@@ -119,7 +107,7 @@ WritesOut scope i at_start in_hard s t =
     (p : Site) (call : ℕ → Bool → Code)
     → IsScopeAt p call scope
     → IsKnown p.analysis i
-    → Writes p (hard_code p call (info_tree i) at_start in_hard) (info_tree i ∷ []) s t
+    → Writes p (written_code p call (info_tree i) at_start in_hard) (info_tree i ∷ []) s t
 
 -- the node is written in its context
 abbrev pub WritesNode : Scope → Info → (at_start in_hard : Bool) → Draft → Draft → Type 0
@@ -134,14 +122,14 @@ abbrev pub WritesTree : Scope → Tree → Draft → Draft → Type 0
 WritesTree scope e s t =
     (p : Site) (call : ℕ → Bool → Code) (at_start in_hard : Bool)
     → p.unicode ≡ scope.unicode
-    → Writes p (hard_code p call e at_start in_hard) (e ∷ []) s t
+    → Writes p (written_code p call e at_start in_hard) (e ∷ []) s t
 
 -- a node of this expression, over any children
 abbrev pub WritesLeaf : Scope → Expr → Bool → Draft → Draft → Type 0
 WritesLeaf scope e at_start s t =
     (p : Site) (call : ℕ → Bool → Code) (in_hard : Bool) (start : ℕ) (w : plain.Within) (es : Trees)
     → p.unicode ≡ scope.unicode
-    → Writes p (hard_code p call (node_over e start w es) at_start in_hard) (node_over e start w es ∷ []) s t
+    → Writes p (written_code p call (node_over e start w es) at_start in_hard) (node_over e start w es ∷ []) s t
 
 -- the assertion of a node, which may stand in a look-around
 abbrev pub assertion_inside : (in_look : Bool) → plain.Assertion → plain.Assertion
@@ -207,7 +195,7 @@ WritesConcat scope is at_start in_hard s t =
     (p : Site) (call : ℕ → Bool → Code)
     → IsScopeAt p call scope
     → Each (IsAnalysed p.analysis) is
-    → Writes p (hard_code p call (plain.Concat (trees (map info_tree is))) at_start in_hard) (map info_tree is) s t
+    → Writes p (written_code p call (plain.Concat (trees (map info_tree is))) at_start in_hard) (map info_tree is) s t
 
 abbrev pub WritesInTurn : Scope → List Info → Bool → Draft → Draft → Type 0
 WritesInTurn scope is at_start s t =
@@ -263,7 +251,7 @@ WritesParent made scope i in_hard s t =
     (p : Site) (call : ℕ → Bool → Code) (at_start : Bool)
     → IsScopeAt p call scope
     → IsAnalysed p.analysis i
-    → Writes p (hard_code p call (made (info_tree i)) at_start in_hard) (made (info_tree i) ∷ []) s t
+    → Writes p (written_code p call (made (info_tree i)) at_start in_hard) (made (info_tree i) ∷ []) s t
 
 -- in whichever context it stands
 abbrev pub WritesLook : plain.Look → Scope → Info → Draft → Draft → Type 0
@@ -272,7 +260,11 @@ WritesLook look scope i s t = (in_hard : Bool) → WritesParent (λ e. plain.Loo
 abbrev pub WritesRepeat : ℕ → Option ℕ → Bool → Scope → Info → (in_hard : Bool) → Draft → Draft → Type 0
 WritesRepeat lo hi greedy = WritesParent (λ e. plain.Repeat lo hi greedy e)
 
--- ---- lookbehind over branches
+-- ---- lookbehinds
+
+abbrev pub look_behind : (negative : Bool) → plain.Look
+look_behind true = plain.LookBehindNeg
+look_behind false = plain.LookBehind
 
 abbrev pub is_alt : Expr → Bool
 is_alt (code.Alt' shape es) = true
@@ -287,6 +279,11 @@ has_const_branches i = is_alt (info_facts i).expr && list_all (λ b. (info_size 
 abbrev pub is_repeater : Absent → Bool
 is_repeater (code_absent.Repeater' b e) = true
 is_repeater a = false
+
+-- the expression is a `\K`
+abbrev pub is_keep_out_expr : Expr → Bool
+is_keep_out_expr code.KeepOut = true
+is_keep_out_expr e = false
 
 abbrev pub is_absent_expr : Expr → Bool
 is_absent_expr (code.Absent a) = true
@@ -305,7 +302,7 @@ abbrev pub WritesCall : Scope → ℕ → (in_hard : Bool) → Draft → Draft �
 WritesCall scope g in_hard s t =
     (p : Site) (call : ℕ → Bool → Code) (at_start : Bool)
     → IsScopeAt p call scope
-    → Writes p (hard_code p call (plain.SubroutineCall g) at_start in_hard) (plain.SubroutineCall g ∷ []) s t
+    → Writes p (written_code p call (plain.SubroutineCall g) at_start in_hard) (plain.SubroutineCall g ∷ []) s t
 
 -- there is something that a call of the number calls
 abbrev pub has_target : GroupTable → ℕ → Bool

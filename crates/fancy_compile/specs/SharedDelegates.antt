@@ -3,7 +3,7 @@ use Rattle.std.specs.Prelude.{◌≡◌, ℕ, Bool, List, map}
 use Rattle.std.specs.List.{slice_get}
 use Rattle.std.specs.Option.{ForSome}
 use Rattle.std.specs.declared.rc.Rc.{Rc}
-use Rattle.fancy_meaning.specs.Tree.{trees}
+use Rattle.fancy_meaning.specs.Tree.{Tree, trees}
 use Rattle.fancy_meaning.specs.Batches.{fragment, group_range, pattern_of}
 use Rattle.fancy_meaning.specs.Instr.{Instr}
 use Rattle.fancy_info.specs.declared.info.Info.{Info}
@@ -27,8 +27,11 @@ IsNamedAlike d = IsNamed (delegate_instr d.value)
 abbrev pub AreNamedAlike : {Z : Type 0} → List (Rc Delegate Z) → Type 0
 AreNamedAlike ds = (place : ℕ) → ForSome (slice_get ds place) IsNamedAlike
 
+-- the delegate of these nodes
+abbrev pub delegate_of : Bool → List Tree → Instr
+delegate_of unicode es = Instr.Delegate (pattern_of unicode es) (fragment unicode es) (group_range es)
+
 -- the delegate of these nodes, whose class texts are classes
 pub record IsDelegateOf (unicode : Bool) (is : List Info) (i : Instr) : Type 0 where
-  pub instr : i
-      ≡ Instr.Delegate (pattern_of unicode (map info_tree is)) (fragment unicode (map info_tree is)) (group_range (map info_tree is))
+  pub instr : i ≡ delegate_of unicode (map info_tree is)
   pub classes : HaveClasses unicode is

@@ -1,15 +1,14 @@
 //! Batches: neighbouring easy nodes as one instruction.
 
-ghost use Rattle.fancy_compile.specs.Batches.{Collects, WritesBatch, WritesRepeater, code_of};
+ghost use Rattle.fancy_compile.specs.Batches.{Collects, IsInsnOf, WritesBatch, WritesRepeater, easy_repeater};
 ghost use Rattle.fancy_compile.specs.Drafts.{draft_of};
+ghost use Rattle.fancy_compile.specs.Neighbours.{IsMadeOf};
 ghost use Rattle.fancy_fragments.specs.Nodes.{AreEasyNeighbours};
 ghost use Rattle.fancy_info.specs.Infos.{info_tree};
-ghost use Rattle.fancy_meaning.specs.Batches.{all_joined, batch, batch_code, delegate_code, fragment, group_range, literal_chars, literal_instr, pattern_of};
-ghost use Rattle.fancy_meaning.specs.Instr.{Instr};
-ghost use Rattle.fancy_plain.specs.Tables.{HaveClasses, IsRefusedFor};
+ghost use Rattle.fancy_meaning.specs.Batches.{all_joined, batch, batch_code, delegate_code, literal_chars, literal_instr};
 ghost use Rattle.fancy_vm.specs.Insns.{insn_of};
 ghost use Rattle.std.specs.List.{list_any};
-ghost use Rattle.std.specs.Prelude.{IfErr, IfOk, None, [], map, ◌∷◌, ◌≡◌};
+ghost use Rattle.std.specs.Prelude.{IfOk, None, [], map, ◌∷◌, ◌≡◌};
 
 use crate::classes::SharedClasses;
 use crate::compiler::Compiler;
@@ -25,10 +24,10 @@ use fancy_info::info::Info;
 use fancy_vm::vm::Insn;
 use std::alloc::{AllocError, Global};
 
-/// Whether the node has another part than literals. The characters of those before it are put behind `chars`, each with
-/// whether it is folded.
+/// Puts the characters of the node's literals behind `chars`, each with whether it is folded, as far as the first part that is
+/// another; and says whether there is such a part.
 #[cycle(collect)]
-fn has_other(info: &Info, chars: &mut Vec<(char, bool)>) -> Result<bool, AllocError>
+fn collect_chars(info: &Info, chars: &mut Vec<(char, bool)>) -> Result<bool, AllocError>
     ensures { IfOk result (Collects (literal_chars (info_tree info.now))
         chars.old.items chars.new.items) }
 {
@@ -37,19 +36,19 @@ fn has_other(info: &Info, chars: &mut Vec<(char, bool)>) -> Result<bool, AllocEr
             chars.push((first_char(val), *casei))?;
             Ok(false)
         }
-        Expr::Concat(_) => have_other(info.children(), chars),
+        Expr::Concat(_) => collect_each(info.children(), chars),
         _ => Ok(true),
     }
 }
 
 /// The same of neighbours.
 #[cycle(collect)]
-fn have_other(infos: &[Info], chars: &mut Vec<(char, bool)>) -> Result<bool, AllocError>
+fn collect_each(infos: &[Info], chars: &mut Vec<(char, bool)>) -> Result<bool, AllocError>
     ensures { IfOk result (Collects (all_joined (map literal_chars (map info_tree infos.now)))
         chars.old.items chars.new.items) }
 {
     for info in infos {
-        if has_other(info, chars)? {
+        if collect_chars(info, chars)? {
             return Ok(true);
         }
     }
@@ -85,10 +84,8 @@ fn delegate_insn(
     unicode: bool,
 ) -> Result<Option<Insn>, Error>
     requires { AreEasyNeighbours infos.now }
-    ensures insn { IfOk result (λ i. code_of i
-        ≡ delegate_code unicode (map info_tree infos.now)) }
-    ensures classes { IfOk result (λ i. HaveClasses unicode infos.now) }
-    ensures refused { IfErr result (IsRefusedFor unicode infos.now) }
+    ensures { IsInsnOf unicode infos.now
+        (delegate_code unicode (map info_tree infos.now)) result }
 {
     let text = pattern_text(alloc, infos)?;
     if text.is_empty() {
@@ -107,10 +104,8 @@ fn other_insn(
     unicode: bool,
 ) -> Result<Option<Insn>, Error>
     requires { AreEasyNeighbours infos.now }
-    ensures insn { IfOk result (λ i. code_of i
-        ≡ batch_code unicode None (map info_tree infos.now)) }
-    ensures classes { IfOk result (λ i. HaveClasses unicode infos.now) }
-    ensures refused { IfErr result (IsRefusedFor unicode infos.now) }
+    ensures { IsInsnOf unicode infos.now
+        (batch_code unicode None (map info_tree infos.now)) result }
 {
     if infos.len() == 1 {
         match infos[0].expr() {
@@ -134,15 +129,13 @@ fn batch_insn(
     unicode: bool,
 ) -> Result<Option<Insn>, Error>
     requires { AreEasyNeighbours infos.now }
-    ensures insn { IfOk result (λ i. code_of i ≡ batch unicode (map info_tree infos.now)) }
-    ensures classes { IfOk result (λ i. HaveClasses unicode infos.now) }
-    ensures refused { IfErr result (IsRefusedFor unicode infos.now) }
+    ensures { IsInsnOf unicode infos.now (batch unicode (map info_tree infos.now)) result }
 {
     if infos.is_empty() {
         return Ok(None);
     }
     let mut chars = Vec::new(alloc);
-    if have_other(infos, &mut chars)? {
+    if collect_each(infos, &mut chars)? {
         return other_insn(classes, delegates, alloc, infos, unicode);
     }
     Ok(Some(chars_insn(alloc, chars, unicode)?))
@@ -156,12 +149,8 @@ fn repeater_insn(
     unicode: bool,
 ) -> Result<Insn, Error>
     requires { AreEasyNeighbours (body.now ∷ []) }
-    ensures insn { IfOk result (λ i. insn_of i
-        ≡ Instr.AbsentRepeater (pattern_of unicode (info_tree body.now ∷ []))
-        (fragment unicode (info_tree body.now ∷ []))
-        (group_range (info_tree body.now ∷ []))) }
-    ensures classes { IfOk result (λ i. HaveClasses unicode (body.now ∷ [])) }
-    ensures refused { IfErr result (IsRefusedFor unicode (body.now ∷ [])) }
+    ensures { IsMadeOf unicode (body.now ∷ [])
+        (λ i. insn_of i ≡ easy_repeater unicode (info_tree body.now)) result }
 {
     let infos = std::slice::from_ref(body);
     let text = pattern_text(alloc, infos)?;
@@ -175,14 +164,14 @@ impl Compiler {
         requires { AreEasyNeighbours infos.now }
         ensures { WritesBatch scope.now infos.now (draft_of self.old) (draft_of self.new) }
     {
-        let made = batch_insn(
+        let insn = batch_insn(
             &mut self.classes,
             &mut self.delegates,
             scope.alloc,
             infos,
             scope.unicode,
         );
-        match made {
+        match insn {
             Ok(Some(insn)) => self.push(insn),
             Ok(None) => {}
             Err(error) => self.fail(error),

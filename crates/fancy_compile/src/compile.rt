@@ -16,6 +16,7 @@ use crate::classes::SharedClasses;
 use crate::compiler::Compiler;
 use crate::delegates::SharedDelegates;
 use crate::group_table::GroupTable;
+use crate::keeps::has_keep_out;
 pub use crate::options::{BytesMode, CompileOptions};
 use crate::scope::Scope;
 use fancy_expr::error::{CompileError, Error};
@@ -149,6 +150,8 @@ impl Compiler {
             slots: slots.max(2),
             explicit_group_0: info.explicit_capture_group_0(),
             find_not_empty: info.find_not_empty(),
+            leftmost_longest: info.leftmost_longest(),
+            keeps_start: has_keep_out(info),
             end_text: options.disallow_empty_match_at_eof_after_newline,
             unicode: options.unicode,
         };

@@ -1,14 +1,13 @@
 //! Delegates: equal ones are built once.
 
-ghost use Rattle.std.specs.Prelude.{◌≡◌, IfErr, IfOk, IfSome, map};
-ghost use Rattle.fancy_meaning.specs.Batches.{fragment, group_range, pattern_of};
-ghost use Rattle.fancy_meaning.specs.Instr as plain;
-ghost use Rattle.fancy_info.specs.Infos.{info_tree};
+ghost use Rattle.std.specs.List.{slice_get};
+ghost use Rattle.std.specs.Prelude.{◌≡◌, IfErr, IfSome, map, option_map};
+ghost use Rattle.fancy_info.specs.Infos.{info_facts, info_tree};
 ghost use Rattle.fancy_plain.specs.Searches.{IsMemory};
-ghost use Rattle.fancy_plain.specs.Tables.{HaveClasses, IsRefusedFor};
 ghost use Rattle.fancy_fragments.specs.Delegates.{delegate_instr};
 ghost use Rattle.fancy_fragments.specs.Nodes.{AreEasyNeighbours};
-ghost use Rattle.fancy_compile.specs.SharedDelegates.{AreNamedAlike, IsDelegateOf};
+ghost use Rattle.fancy_compile.specs.Neighbours.{IsMadeOf};
+ghost use Rattle.fancy_compile.specs.SharedDelegates.{AreNamedAlike, IsDelegateOf, delegate_of};
 
 use fancy_expr::error::Error;
 use fancy_fragments::delegate::Delegate;
@@ -17,25 +16,39 @@ use std::alloc::Global;
 use std::collections::BTreeMap;
 use std::rc::Rc;
 
+/// What equal delegates have alike: the pattern text, and the number at which their groups begin.
+type Key = (String, Option<usize>);
+
 /// The delegates of a program, each built once.
 #[derive(Drop)]
 pub struct SharedDelegates {
-    built: Vec<Rc<Delegate>>,
-    /// Where those with this pattern text stand among them.
-    places: BTreeMap<String, Vec<usize>>,
-    ghost known: { AreNamedAlike built.items },
+    delegates: Vec<Rc<Delegate>>,
+    /// Where those of this key stand among them.
+    places: BTreeMap<Key, Vec<usize>>,
+    ghost known: { AreNamedAlike delegates.items },
 }
 
-/// One more place of this text.
+/// The number at which the groups of neighbours begin.
+fn first_number(infos: &[Info]) -> Option<usize>
+    ensures { result
+        ≡ option_map (λ i. (info_facts i).start_group) (slice_get infos.now 0) }
+{
+    match infos.first() {
+        Some(info) => Some(info.start_group()),
+        None => None,
+    }
+}
+
+/// One more place of this key.
 fn add_place(
-    places: &mut BTreeMap<String, Vec<usize>>,
+    places: &mut BTreeMap<Key, Vec<usize>>,
     alloc: Global,
-    text: String,
+    key: Key,
     place: usize,
 ) -> Result<(), Error>
     ensures { IfErr result IsMemory }
 {
-    match places.get_mut(text.as_str()) {
+    match places.get_mut(&key) {
         Some(others) => {
             others.push(place)?;
             return Ok(());
@@ -44,7 +57,7 @@ fn add_place(
     }
     let mut first = Vec::new(alloc);
     first.push(place)?;
-    places.insert(text, first)?;
+    places.insert(key, first)?;
     Ok(())
 }
 
@@ -52,19 +65,19 @@ impl SharedDelegates {
     /// None yet.
     pub fn new(alloc: Global) -> SharedDelegates {
         SharedDelegates {
-            built: Vec::new(alloc),
+            delegates: Vec::new(alloc),
             places: BTreeMap::new(alloc),
         }
     }
 
     /// The delegate of these nodes, if it was built.
-    fn find(&self, infos: &[Info], text: &str, unicode: bool) -> Option<&Rc<Delegate>>
+    fn find(&self, infos: &[Info], key: &Key, unicode: bool) -> Option<&Rc<Delegate>>
         requires { AreEasyNeighbours infos.now }
         ensures { IfSome result (λ d. IsDelegateOf unicode infos.now
             (delegate_instr d.now.value)) }
     {
-        for place in self.places.get(text)? {
-            let delegate = self.built.get(*place)?;
+        for place in self.places.get(key)? {
+            let delegate = self.delegates.get(*place)?;
             if delegate.fragment().is_of(infos, unicode) {
                 return Some(delegate);
             }
@@ -81,21 +94,18 @@ impl SharedDelegates {
         unicode: bool,
     ) -> Result<Rc<Delegate>, Error>
         requires { AreEasyNeighbours infos.now }
-        ensures delegate { IfOk result (λ d. delegate_instr d.value
-            ≡ plain.Instr.Delegate (pattern_of unicode (map info_tree infos.now))
-            (fragment unicode (map info_tree infos.now))
-            (group_range (map info_tree infos.now))) }
-        ensures classes { IfOk result (λ d. HaveClasses unicode infos.now) }
-        ensures refused { IfErr result (IsRefusedFor unicode infos.now) }
+        ensures { IsMadeOf unicode infos.now
+            (λ d. delegate_instr d.value ≡ delegate_of unicode (map info_tree infos.now)) result }
     {
-        match self.find(infos, text.as_str(), unicode) {
+        let key = (text, first_number(infos));
+        match self.find(infos, &key, unicode) {
             Some(delegate) => return Ok(Rc::clone(delegate)?),
             None => {}
         }
         let delegate = Delegate::build(alloc, infos, unicode)?;
         let shared = Rc::new(alloc, delegate)?;
-        add_place(&mut self.places, alloc, text, self.built.len())?;
-        self.built.push(Rc::clone(&shared)?)?;
+        add_place(&mut self.places, alloc, key, self.delegates.len())?;
+        self.delegates.push(Rc::clone(&shared)?)?;
         Ok(shared)
     }
 }

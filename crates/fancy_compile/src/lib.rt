@@ -14,6 +14,7 @@ mod conditionals;
 mod delegates;
 mod group_table;
 mod groups;
+mod keeps;
 mod leaves;
 mod looks;
 mod loops;

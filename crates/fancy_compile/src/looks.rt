@@ -2,12 +2,11 @@
 
 ghost use Rattle.fancy_compile.specs.declared.around.Around.TheVariants as around;
 ghost use Rattle.fancy_info.specs.Infos.{info_size};
-ghost use Rattle.fancy_compile.specs.Arounds.{Ends, look_opening, not_ahead, not_behind};
+ghost use Rattle.fancy_compile.specs.Arounds.{Ends, behind_kind, look_opening, not_ahead, not_behind};
 ghost use Rattle.fancy_compile.specs.Drafts.{Writes, draft_of};
-ghost use Rattle.fancy_compile.specs.Nodes.{AreWhole, IsWhole, WritesLook, WritesNoneBehind, has_const_branches, is_alt};
+ghost use Rattle.fancy_compile.specs.Nodes.{AreWhole, IsWhole, WritesLook, WritesNoneBehind, has_const_branches, is_alt, look_behind};
 ghost use Rattle.fancy_compile.specs.Sites.{Site};
 ghost use Rattle.fancy_expr.specs.Views.{look_of};
-ghost use Rattle.fancy_meaning.specs.Tree.{LookBehind, LookBehindNeg};
 ghost use Rattle.std.specs.List.{list_all};
 ghost use Rattle.std.specs.Prelude.{ℕ, [], ◌≡◌};
 
@@ -26,6 +25,17 @@ pub enum LookKind {
     NotAhead,
     Behind(usize),
     NotBehind(usize),
+}
+
+/// So many characters back, there is the body, or with `negative` there is not.
+fn behind_kind(negative: bool, count: usize) -> LookKind
+    ensures { result ≡ behind_kind negative count }
+{
+    if negative {
+        LookKind::NotBehind(count)
+    } else {
+        LookKind::Behind(count)
+    }
 }
 
 fn is_alt(expr: &Expr) -> bool
@@ -73,56 +83,32 @@ impl Compiler {
                 false,
                 false,
             ),
-            LookAround::LookBehind => self.emit_behind(scope, body),
-            LookAround::LookBehindNeg => self.emit_not_behind(scope, body),
+            LookAround::LookBehind => self.emit_behind(scope, false, body),
+            LookAround::LookBehindNeg => self.emit_behind(scope, true, body),
         }
     }
 
-    /// A lookbehind.
+    /// A lookbehind, negative or not.
     #[cycle(emit)]
-    fn emit_behind(&mut self, scope: &Scope, body: &Info)
+    fn emit_behind(&mut self, scope: &Scope, negative: bool, body: &Info)
         requires { IsWhole scope.now body.now }
-        ensures { WritesLook LookBehind scope.now body.now (draft_of self.old) (draft_of self.new) }
-    {
-        if body.const_size() {
-            self.emit_around(
-                scope,
-                Around::Look(LookKind::Behind(body.min_size())),
-                body,
-                false,
-                false,
-            );
-            return;
-        }
-        if has_const_branches(body) {
-            self.emit_branches(scope, body.children(), true, false);
-            return;
-        }
-        self.refuse(CompileError::VariableLookBehindRequiresFeature);
-    }
-
-    /// A negative lookbehind.
-    #[cycle(emit)]
-    fn emit_not_behind(&mut self, scope: &Scope, body: &Info)
-        requires { IsWhole scope.now body.now }
-        ensures { WritesLook LookBehindNeg scope.now body.now
+        ensures { WritesLook (look_behind negative) scope.now body.now
             (draft_of self.old) (draft_of self.new) }
     {
         if body.const_size() {
-            self.emit_around(
-                scope,
-                Around::Look(LookKind::NotBehind(body.min_size())),
-                body,
-                false,
-                false,
-            );
+            let kind = behind_kind(negative, body.min_size());
+            self.emit_around(scope, Around::Look(kind), body, false, false);
             return;
         }
-        if has_const_branches(body) {
+        if !has_const_branches(body) {
+            self.refuse(CompileError::VariableLookBehindRequiresFeature);
+            return;
+        }
+        if negative {
             self.emit_none_behind(scope, body.children());
-            return;
+        } else {
+            self.emit_branches(scope, body.children(), true, false);
         }
-        self.refuse(CompileError::VariableLookBehindRequiresFeature);
     }
 
     /// Negative lookbehinds of nodes, one after the other.

@@ -66,13 +66,9 @@ impl Compiler {
             Expr::Concat(_) => self.emit_concat(scope, info.children(), at_start, in_hard),
             Expr::Alt(_) => self.emit_branches(scope, info.children(), false, in_hard),
             Expr::Group(_) => {
-                self.emit_around(
-                    scope,
-                    Around::Group(info.start_group()),
-                    child(info, 0),
-                    at_start,
-                    is_body_hard(info, in_hard),
-                )
+                let around = Around::Group(info.start_group());
+                let is_hard = is_body_hard(info, in_hard);
+                self.emit_around(scope, around, child(info, 0), at_start, is_hard)
             }
             Expr::AtomicGroup(_) => {
                 self.emit_around(scope, Around::Atomic, child(info, 0), false, false)
@@ -82,13 +78,10 @@ impl Compiler {
             }
             Expr::LookAround(_, look) => self.emit_look(scope, *look, child(info, 0)),
             Expr::Conditional { .. } => {
-                self.emit_conditional(
-                    scope,
-                    child(info, 0),
-                    child(info, 1),
-                    child(info, 2),
-                    in_hard,
-                )
+                let first = child(info, 0);
+                let second = child(info, 1);
+                let third = child(info, 2);
+                self.emit_conditional(scope, first, second, third, in_hard)
             }
             Expr::Absent(absent) => {
                 if is_repeater(absent) {

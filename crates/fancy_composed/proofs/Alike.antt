@@ -1,6 +1,7 @@
 -- Lists of states that differ at most by repeats.
 use Rattle.std.proofs.Common.{◌≡◌, suc, ◌⊎◌, Bool, true, false, cond, List, [], ◌∷◌, ◌++◌, map, flat_map, find, is_some, Contains, Option, Some, None, refl, sym, ap, ap₂, ◌∙◌, subst, inl, inr, ⊎_elim, arith}
 use Rattle.fancy_meaning.specs.MatchState.{MatchState, Ways}
+use Rattle.fancy_laws.proofs.Every.{Every, no_item, item}
 
 -- one of the list
 pub data Among (x : MatchState) : List MatchState → Type 0 where
@@ -28,6 +29,11 @@ among_back (y ∷ xs) ys m = further (among_back xs ys m)
 pub among_one : {x y : MatchState} → Among x (y ∷ []) → x ≡ y
 among_one at_head = refl
 among_one (further m) = elim m [ ]
+
+-- what holds of each one
+pub every_among : {P : MatchState → Type 0} (xs : List MatchState) → ((x : MatchState) → Among x xs → P x) → Every P xs
+every_among [] k = no_item
+every_among (x ∷ xs) k = item (k x at_head) (every_among xs (λ y m. k y (further m)))
 
 -- where a state of a bound list comes from
 pub among_bound : {x : MatchState} (f : Ways) (xs : List MatchState) → Among x (flat_map f xs) →

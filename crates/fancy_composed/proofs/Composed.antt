@@ -1,5 +1,5 @@
 -- The composed theorem.
-use Rattle.std.proofs.Common.{◌≡◌, ℕ, ◌+◌, ◌≤◌, Bool, true, false, ◌&&◌, if◌then◌else◌, [], length, refl, sym, ap, ◌∙◌, subst, arith, true≢false}
+use Rattle.std.proofs.Common.{◌≡◌, ◌+◌, ◌≤◌, Bool, true, false, ◌&&◌, if◌then◌else◌, [], length, refl, sym, ap, ◌∙◌, subst, arith, true≢false}
 use Rattle.fancy_meaning.specs.Tree.{Tree}
 use Rattle.fancy_meaning.specs.Nodes.{group_count}
 use Rattle.fancy_meaning.specs.OpenCalls.{Depths, free_calls}
@@ -13,7 +13,7 @@ use Rattle.fancy_meaning.specs.Marks.{has_marked_continue}
 use Rattle.fancy_meaning.specs.CompileRefusals.{IsWritten, root}
 use Rattle.fancy_meaning.specs.Premises.{Input, plan, IsAccepted}
 use Rattle.fancy_meaning.specs.Theorems.{Serves, may_give_up, code_of_node, AllServe, ComposedTheorem}
-use Rattle.fancy_composed.proofs.Courses.{To, to_same, to_eq, after, Ground, config, here}
+use Rattle.fancy_composed.proofs.Courses.{Tally, tally_of, To, to_same, to_eq, after, Ground, config, here}
 use Rattle.fancy_composed.proofs.Parts.{whole, first, flag_is}
 use Rattle.fancy_composed.proofs.Tests.{MayStop}
 use Rattle.fancy_composed.proofs.Branches.{never}
@@ -60,8 +60,8 @@ module _ (i : Input) (accepted : IsAccepted i (length (undelegated_layout (plan 
       let fits = at.program in
       let is_text = at.text in
       let goes_on = at.goes_on in
-      let bottom : ℕ → _ = λ count. after t (fail_to t c.branches (config 0 0 (λ k. 0) [] [] c.start count)) in
-      let falls : (count : ℕ) → To (after t (fail_to t c.branches (config 0 0 (λ k. 0) [] [] c.start count))) (bottom count) =
+      let bottom : Tally → _ = λ count. after t (fail_to t c.branches (config 0 0 (λ k. 0) [] [] c.start count)) in
+      let falls : (count : Tally) → To (after t (fail_to t c.branches (config 0 0 (λ k. 0) [] [] c.start count))) (bottom count) =
       λ count. to_same in
       let w : Ground = ground i (length (undelegated_layout (plan i)).body) accepted t is_text fits c.start c.branches bottom falls in
       let r : Ready w = ready i (length (undelegated_layout (plan i)).body) accepted t is_text fits c.start c.branches bottom falls in
@@ -74,10 +74,10 @@ module _ (i : Input) (accepted : IsAccepted i (length (undelegated_layout (plan 
       works.part c.pc (c.pc + length laid.instrs) fresh refl
       (subst (λ n. n ≤ fresh) (sym (first_slot w accepted.implicit_group_0)) at.slots_are_fresh) at.code_is_there in (
         works.handed s,
-        handed_by w (λ count. to_same) c.pc c.ix c.slots c.marks c.backtracks (c.pc + length laid.instrs) fresh laid.fresh
+        handed_by w (λ count. to_same) c.pc c.ix c.slots c.marks (tally_of c) (c.pc + length laid.instrs) fresh laid.fresh
             (Goes c)
-            (to_eq (λ n. ap (λ x. exec t n (here w c.pc x c.slots c.marks [] c.backtracks)) (at.stands).place))
-            (part.hands s c.slots c.marks [] c.backtracks at.sound (stands_here w (λ count. to_same) s c at.stands)),
+            (to_eq (λ n. ap (λ x. exec t n (here w c.pc x c.slots c.marks [] (tally_of c))) (at.stands).place))
+            (part.hands s c.slots c.marks [] (tally_of c) at.sound (stands_here w (λ count. to_same) s c at.stands)),
         alike_thins (whole_key tree) (works.handed s) _ (works.alike s at.sound),
       )
 

@@ -1,5 +1,5 @@
 -- What the machine comes to, by how many instructions are left.
-use Rattle.std.proofs.Common.{◌≡◌, ℕ, suc, ◌+◌, true, false, if◌then◌else◌, nat_lt, List, [], ◌∷◌, ◌++◌, length, Some, refl, sym, ap, ◌∙◌, subst, arith}
+use Rattle.std.proofs.Common.{◌≡◌, ℕ, suc, ◌+◌, true, false, if◌then◌else◌, nat_lt, List, [], ◌∷◌, ◌++◌, length, Option, Some, refl, sym, ap, ◌∙◌, subst, arith}
 use Rattle.std.specs.Prelude.{slice_get}
 use Rattle.std.proofs.Math.Nat.{zero-add, add_assoc}
 use Rattle.fancy_meaning.specs.Options.{Plan}
@@ -50,10 +50,27 @@ to_trans {o} {p} {q} f g = record {
 abbrev pub after : Task → Next → Course
 after t next n = then_on t (exec t n) next
 
+-- what a run carries along: how many backtracks were made, and the numbers of the longest match so far
+pub record Tally : Type 0 where
+  pub backtracks : ℕ
+  pub longest : Option (List ℕ)
+
+abbrev pub tally_of : Config → Tally
+tally_of c = record { backtracks = c.backtracks; longest = c.longest }
+
+abbrev pub once_more : Tally → Tally
+once_more count = record { backtracks = count.backtracks + 1; longest = count.longest }
+
 -- a configuration with these branches
-abbrev pub config : ℕ → ℕ → Slots → List ℕ → List Branch → ℕ → ℕ → Config
+abbrev pub config : ℕ → ℕ → Slots → List ℕ → List Branch → ℕ → Tally → Config
 config pc ix slots marks bs start count =
-    record { now = record { pc = pc; ix = ix; slots = slots; marks = marks }; branches = bs; start = start; backtracks = count }
+    record {
+      now = record { pc = pc; ix = ix; slots = slots; marks = marks };
+      branches = bs;
+      start = start;
+      backtracks = count.backtracks;
+      longest = count.longest;
+    }
 
 -- one instruction
 pub task_step : (t : Task) (i : Instr) (c : Config) → slice_get (t.program).body c.pc ≡ Some i →
@@ -74,60 +91,60 @@ pub record Ground : Type 0 where
   pub fits : IsProgramFor plan task.program
   pub start : ℕ
   pub base : List Branch
-  pub bottom : ℕ → Course
-  pub falls : (count : ℕ) → To (after task (fail_to task base (config 0 0 (λ s. 0) [] [] start count))) (bottom count)
+  pub bottom : Tally → Course
+  pub falls : (count : Tally) → To (after task (fail_to task base (config 0 0 (λ s. 0) [] [] start count))) (bottom count)
 
 module _ (w : Ground) where
   -- the machine from here, with these branches above the base
-  abbrev pub here : ℕ → ℕ → Slots → List ℕ → List Branch → ℕ → Config
+  abbrev pub here : ℕ → ℕ → Slots → List ℕ → List Branch → Tally → Config
   here pc ix slots marks bs count = config pc ix slots marks (bs ++ w.base) w.start count
 
-  abbrev pub go : ℕ → ℕ → Slots → List ℕ → List Branch → ℕ → Course
+  abbrev pub go : ℕ → ℕ → Slots → List ℕ → List Branch → Tally → Course
   go pc ix slots marks bs count n = exec w.task n (here pc ix slots marks bs count)
 
   -- what a failure does
-  abbrev pub resume : List Branch → ℕ → Course
+  abbrev pub resume : List Branch → Tally → Course
   resume [] count = w.bottom count
   resume (b ∷ bs) count = after w.task (fail_to w.task (b ∷ (bs ++ w.base)) (config 0 0 (λ s. 0) [] [] w.start count))
 
   fall_any : (c : Config) (bs : List Branch) → c.start ≡ w.start →
-      fail_to w.task bs c ≡ fail_to w.task bs (config 0 0 (λ s. 0) [] [] w.start c.backtracks)
+      fail_to w.task bs c ≡ fail_to w.task bs (config 0 0 (λ s. 0) [] [] w.start (tally_of c))
   fall_any c [] e = refl
   fall_any c (b ∷ bs) e =
       ap
       (λ v.
       if nat_lt c.backtracks (w.task).backtrack_limit then Goes
-      (record { now = b; branches = bs; start = v; backtracks = c.backtracks + 1 }) else Ends BacktrackLimitExceeded) e
+      (record { now = b; branches = bs; start = v; backtracks = c.backtracks + 1; longest = c.longest }) else Ends BacktrackLimitExceeded) e
 
   pub failed : (bs : List Branch) (c : Config) → c.start ≡ w.start →
-      To (after w.task (fail_to w.task (bs ++ w.base) c)) (resume bs c.backtracks)
+      To (after w.task (fail_to w.task (bs ++ w.base) c)) (resume bs (tally_of c))
   failed [] c e =
-      to_trans (to_eq (λ n. ap (λ x. then_on w.task (exec w.task n) x) (fall_any c w.base e))) (w.falls c.backtracks)
+      to_trans (to_eq (λ n. ap (λ x. then_on w.task (exec w.task n) x) (fall_any c w.base e))) (w.falls (tally_of c))
   failed (b ∷ bs) c e = to_eq (λ n. ap (λ x. then_on w.task (exec w.task n) x) (fall_any c (b ∷ (bs ++ w.base)) e))
 
-  pub resumed : (b : Branch) (bs : List Branch) (count : ℕ) →
-      To (resume (b ∷ bs) count) (go b.pc b.ix b.slots b.marks bs (count + 1))
+  pub resumed : (b : Branch) (bs : List Branch) (count : Tally) →
+      To (resume (b ∷ bs) count) (go b.pc b.ix b.slots b.marks bs (once_more count))
   resumed b bs count =
       to_now
       (λ n.
-      elim (nat_lt count (w.task).backtrack_limit) as
+      elim (nat_lt count.backtracks (w.task).backtrack_limit) as
       (λ v.
       Meets
       (then_on w.task (exec w.task n)
-      (if v then Goes (here b.pc b.ix b.slots b.marks bs (count + 1)) else Ends BacktrackLimitExceeded))
-      (go b.pc b.ix b.slots b.marks bs (count + 1) n)) [
+      (if v then Goes (here b.pc b.ix b.slots b.marks bs (once_more count)) else Ends BacktrackLimitExceeded))
+      (go b.pc b.ix b.slots b.marks bs (once_more count) n)) [
         | true ↦ same refl
         | false ↦ limit tt
       ])
 
   -- one instruction
-  pub step_at_pc : (i : Instr) (pc ix : ℕ) (slots : Slots) (marks : List ℕ) (bs : List Branch) (count : ℕ) →
+  pub step_at_pc : (i : Instr) (pc ix : ℕ) (slots : Slots) (marks : List ℕ) (bs : List Branch) (count : Tally) →
       slice_get ((w.task).program).body pc ≡ Some i →
       To (go pc ix slots marks bs count) (after w.task (step w.task i (here pc ix slots marks bs count)))
   step_at_pc i pc ix slots marks bs count h = task_step w.task i (here pc ix slots marks bs count) h
 
   -- a branch at y, and on from x
-  pub pushed : (z y x ix jx : ℕ) (slots r : Slots) (marks : List ℕ) (bs : List Branch) (count : ℕ) → To
+  pub pushed : (z y x ix jx : ℕ) (slots r : Slots) (marks : List ℕ) (bs : List Branch) (count : Tally) → To
       (after w.task (push y (here z ix slots marks bs count) (here x jx r marks bs count)))
       (go x jx r marks (record { pc = y; ix = ix; slots = slots; marks = marks } ∷ bs) count)
   pushed z y x ix jx slots r marks bs count =

@@ -1,5 +1,5 @@
 -- A part of a program that hands a list of states.
-use Rattle.std.proofs.Common.{◌≡◌, ℕ, ◌+◌, ◌-◌, ◌≤◌, Bool, true, false, if◌then◌else◌, List, [], ◌∷◌, ◌++◌, length, map, flat_map, take, Some, refl, sym, ap, ap₂, drop, ◌∙◌, subst, arith, append_assoc, length-append}
+use Rattle.std.proofs.Common.{◌≡◌, ℕ, ◌+◌, ◌-◌, ◌≤◌, Bool, true, false, if◌then◌else◌, List, [], ◌∷◌, ◌++◌, length, map, flat_map, take, Option, Some, refl, sym, ap, ap₂, drop, ◌∙◌, subst, arith, append_assoc, length-append}
 use Rattle.std.specs.Prelude.{slice_get}
 use Rattle.std.proofs.Math.Seq.{drop-append_seam}
 use Rattle.std.proofs.lemmas.Bool.{ne_eqb, eq-eqb}
@@ -10,7 +10,7 @@ use Rattle.fancy_meaning.specs.Constructs.{split}
 use Rattle.fancy_meaning.specs.Config.{Slots, Branch, Config, Next, goes_to, below_pc, push}
 use Rattle.fancy_meaning.specs.Machine.{exec, step, fail_below, choose, then_on}
 use Rattle.fancy_composed.proofs.Alike.{Among, at_head, further}
-use Rattle.fancy_composed.proofs.Courses.{Course, To, to_same, to_eq, to_trans, after, Ground, here, go, resume, failed, resumed, step_at_pc, pushed}
+use Rattle.fancy_composed.proofs.Courses.{Course, Tally, once_more, To, to_same, to_eq, to_trans, after, Ground, here, go, resume, failed, resumed, step_at_pc, pushed}
 
 -- branches that go no further than a place of the program
 abbrev pub Within : ℕ → List Branch → Type 0
@@ -39,51 +39,51 @@ module _ (w : Ground) where
   -- From a course the machine comes to b with the first of these states, and with the next whenever it is failed back
   -- above these branches; after the last it fails into them. P says what holds of a state and the slots there.
   pub data Hands (b : ℕ) (P : MatchState → Slots → Type 0) (marks : List ℕ) (bs : List Branch)
-      : List MatchState → Course → Type 0 where
-    none : {o : Course} (count : ℕ) → To o (resume w bs count) → Hands b P marks bs [] o
-    way : {o : Course} {h : MatchState} {hs : List MatchState} (slots : Slots) (over : List Branch) (count : ℕ) → P h slots →
+      : Option (List ℕ) → List MatchState → Course → Type 0 where
+    none : {o : Course} (count : Tally) → To o (resume w bs count) → Hands b P marks bs count.longest [] o
+    way : {o : Course} {h : MatchState} {hs : List MatchState} (slots : Slots) (over : List Branch) (count : Tally) → P h slots →
         Within b over → To o (go w b h.place slots marks (over ++ bs) count) →
-        ((c : ℕ) → Hands b P marks bs hs (resume w (over ++ bs) c)) → Hands b P marks bs (h ∷ hs) o
+        ((c : Tally) → Hands b P marks bs c.longest hs (resume w (over ++ bs) c)) → Hands b P marks bs count.longest (h ∷ hs) o
 
-  pub from : {b : ℕ} {P : MatchState → Slots → Type 0} {marks : List ℕ} {bs : List Branch} {hs : List MatchState} {o p : Course} →
-      To o p → Hands b P marks bs hs p → Hands b P marks bs hs o
+  pub from : {b : ℕ} {P : MatchState → Slots → Type 0} {marks : List ℕ} {bs : List Branch} {hs : List MatchState} {best : Option (List ℕ)} {o p : Course} →
+      To o p → Hands b P marks bs best hs p → Hands b P marks bs best hs o
   from t (none count u) = none count (to_trans t u)
   from t (way slots over count p fits u next) = way slots over count p fits (to_trans t u) next
 
   pub one : {b : ℕ} {P : MatchState → Slots → Type 0} {marks : List ℕ} {bs : List Branch} {h : MatchState} {o : Course}
-      (slots : Slots) (count : ℕ) → P h slots → To o (go w b h.place slots marks bs count) → Hands b P marks bs (h ∷ []) o
+      (slots : Slots) (count : Tally) → P h slots → To o (go w b h.place slots marks bs count) → Hands b P marks bs count.longest (h ∷ []) o
   one slots count p t = way slots [] count p tt t (λ c. none c to_same)
 
-  pub weaken : {b : ℕ} {P Q : MatchState → Slots → Type 0} {marks : List ℕ} {bs : List Branch} {hs : List MatchState} {o : Course} →
-      ((h : MatchState) (slots : Slots) → P h slots → Q h slots) → Hands b P marks bs hs o → Hands b Q marks bs hs o
+  pub weaken : {b : ℕ} {P Q : MatchState → Slots → Type 0} {marks : List ℕ} {bs : List Branch} {hs : List MatchState} {best : Option (List ℕ)} {o : Course} →
+      ((h : MatchState) (slots : Slots) → P h slots → Q h slots) → Hands b P marks bs best hs o → Hands b Q marks bs best hs o
   weaken f (none count t) = none count t
   weaken f (way {h = h} slots over count p fits t next) = way slots over count (f h slots p) fits t (λ c. weaken f (next c))
 
   -- with what is known of each state of the list
-  pub known : {b : ℕ} {P : MatchState → Slots → Type 0} {marks : List ℕ} {bs : List Branch} {hs : List MatchState} {o : Course}
-      (R : MatchState → Type 0) → ((h : MatchState) → Among h hs → R h) → Hands b P marks bs hs o →
-      Hands b (λ h r. P h r × R h) marks bs hs o
+  pub known : {b : ℕ} {P : MatchState → Slots → Type 0} {marks : List ℕ} {bs : List Branch} {hs : List MatchState} {best : Option (List ℕ)} {o : Course}
+      (R : MatchState → Type 0) → ((h : MatchState) → Among h hs → R h) → Hands b P marks bs best hs o →
+      Hands b (λ h r. P h r × R h) marks bs best hs o
   known R f (none count t) = none count t
   known R f (way {h = h} slots over count p fits t next) =
       way slots over count (p, f h at_head) fits t (λ c. known R (λ k m. f k (further m)) (next c))
 
   -- one list, and then another where the first is at its end
-  pub append : {b : ℕ} {P : MatchState → Slots → Type 0} {marks : List ℕ} {bs : List Branch} (over : List Branch) {o : Course}
-      (hs ks : List MatchState) → Within b over → Hands b P marks (over ++ bs) hs o →
-      ((c : ℕ) → Hands b P marks bs ks (resume w (over ++ bs) c)) → Hands b P marks bs (hs ++ ks) o
+  pub append : {b : ℕ} {P : MatchState → Slots → Type 0} {marks : List ℕ} {bs : List Branch} (over : List Branch) {best : Option (List ℕ)} {o : Course}
+      (hs ks : List MatchState) → Within b over → Hands b P marks (over ++ bs) best hs o →
+      ((c : Tally) → Hands b P marks bs c.longest ks (resume w (over ++ bs) c)) → Hands b P marks bs best (hs ++ ks) o
   append over hs ks fits (none count t) k = from t (k count)
   append {b} {P} {marks} {bs} over {o} hs ks fits (way {h = h} {hs = rest} slots more count p into t next) k =
       let e = append_assoc more over bs in
       way slots (more ++ over) count p (Within-append b more over into fits)
       (subst (λ l. To o (go w b h.place slots marks l count)) (sym e) t)
-      (λ c. subst (λ l. Hands b P marks bs (rest ++ ks) (resume w l c)) (sym e) (append over rest ks fits (next c) k))
+      (λ c. subst (λ l. Hands b P marks bs c.longest (rest ++ ks) (resume w l c)) (sym e) (append over rest ks fits (next c) k))
 
   -- each state led on
-  pub bind : {a b : ℕ} {P Q : MatchState → Slots → Type 0} {marks : List ℕ} {bs : List Branch} {o : Course}
+  pub bind : {a b : ℕ} {P Q : MatchState → Slots → Type 0} {marks : List ℕ} {bs : List Branch} {best : Option (List ℕ)} {o : Course}
       (f : MatchState → List MatchState) (hs : List MatchState) → a ≤ b →
-      ((h : MatchState) (slots : Slots) (cs : List Branch) (count : ℕ) → P h slots →
-      Hands b Q marks cs (f h) (go w a h.place slots marks cs count)) →
-      Hands a P marks bs hs o → Hands b Q marks bs (flat_map f hs) o
+      ((h : MatchState) (slots : Slots) (cs : List Branch) (count : Tally) → P h slots →
+      Hands b Q marks cs count.longest (f h) (go w a h.place slots marks cs count)) →
+      Hands a P marks bs best hs o → Hands b Q marks bs best (flat_map f hs) o
   bind f hs le k (none count t) = none count t
   bind {a} {b} {bs = bs} f hs le k (way {h = h} {hs = rest} slots over count p fits t next) =
       from t
@@ -91,22 +91,22 @@ module _ (w : Ground) where
       (λ c. bind f rest le k (next c)))
 
   -- each state led on to one
-  pub mapped : {a b : ℕ} {P Q : MatchState → Slots → Type 0} {marks : List ℕ} {bs : List Branch} {o : Course}
+  pub mapped : {a b : ℕ} {P Q : MatchState → Slots → Type 0} {marks : List ℕ} {bs : List Branch} {best : Option (List ℕ)} {o : Course}
       (f : MatchState → MatchState) (turn : MatchState → Slots → Slots) (hs : List MatchState) → a ≤ b →
-      ((h : MatchState) (slots : Slots) (cs : List Branch) (count : ℕ) → P h slots →
+      ((h : MatchState) (slots : Slots) (cs : List Branch) (count : Tally) → P h slots →
       Q (f h) (turn h slots) × To (go w a h.place slots marks cs count) (go w b (f h).place (turn h slots) marks cs count)) →
-      Hands a P marks bs hs o → Hands b Q marks bs (map f hs) o
+      Hands a P marks bs best hs o → Hands b Q marks bs best (map f hs) o
   mapped f turn hs le k (none count t) = none count t
   mapped {a} {b} {bs = bs} f turn hs le k (way {h = h} {hs = rest} slots over count p fits t next) =
       let q = k h slots (over ++ bs) count p in
       way (turn h slots) over count q.0 (Within-more a b over le fits) (to_trans t q.1) (λ c. mapped f turn rest le k (next c))
 
   -- the same states, further on
-  pub lead : {a b : ℕ} {P : MatchState → Slots → Type 0} {marks : List ℕ} {bs : List Branch} {hs : List MatchState} {o : Course} →
+  pub lead : {a b : ℕ} {P : MatchState → Slots → Type 0} {marks : List ℕ} {bs : List Branch} {hs : List MatchState} {best : Option (List ℕ)} {o : Course} →
       a ≤ b →
-      ((h : MatchState) (slots : Slots) (cs : List Branch) (count : ℕ) → P h slots →
+      ((h : MatchState) (slots : Slots) (cs : List Branch) (count : Tally) → P h slots →
       To (go w a h.place slots marks cs count) (go w b h.place slots marks cs count)) →
-      Hands a P marks bs hs o → Hands b P marks bs hs o
+      Hands a P marks bs best hs o → Hands b P marks bs best hs o
   lead le k (none count t) = none count t
   lead {a} {b} {bs = bs} le k (way {h = h} slots over count p fits t next) =
       way slots over count p (Within-more a b over le fits) (to_trans t (k h slots (over ++ bs) count p))
@@ -123,7 +123,7 @@ module _ (w : Ground) where
       ap (λ l. drop (length l - length (bs ++ w.base)) l) (append_assoc over bs w.base) ∙ keep_own over (bs ++ w.base)
 
   -- the end of an atomic part drops the branches that it held
-  pub cut_back : (a b : ℕ) (ix : ℕ) (slots : Slots) (marks : List ℕ) (over bs : List Branch) (count : ℕ) →
+  pub cut_back : (a b : ℕ) (ix : ℕ) (slots : Slots) (marks : List ℕ) (over bs : List Branch) (count : Tally) →
       slice_get ((w.task).program).body a ≡ Some EndAtomic → a + 1 ≡ b →
       To (go w a ix slots (length (bs ++ w.base) ∷ marks) (over ++ bs) count) (go w b ix slots marks bs count)
   cut_back a b ix slots marks over bs count at e =
@@ -137,14 +137,15 @@ module _ (w : Ground) where
         now = record { pc = x; ix = ix; slots = slots; marks = marks };
         branches = l;
         start = w.start;
-        backtracks = count;
+        backtracks = count.backtracks;
+        longest = count.longest;
       })) e
       (keep_held over bs)))
 
   -- the first state alone
-  pub cut : {a b : ℕ} {P : MatchState → Slots → Type 0} {marks : List ℕ} {bs : List Branch} {hs : List MatchState} {o : Course} →
-      slice_get ((w.task).program).body a ≡ Some EndAtomic → a + 1 ≡ b → Hands a P (length (bs ++ w.base) ∷ marks) bs hs o →
-      Hands b P marks bs (take 1 hs) o
+  pub cut : {a b : ℕ} {P : MatchState → Slots → Type 0} {marks : List ℕ} {bs : List Branch} {hs : List MatchState} {best : Option (List ℕ)} {o : Course} →
+      slice_get ((w.task).program).body a ≡ Some EndAtomic → a + 1 ≡ b → Hands a P (length (bs ++ w.base) ∷ marks) bs best hs o →
+      Hands b P marks bs best (take 1 hs) o
   cut at e (none count t) = none count t
   cut {a} {b} {marks = marks} {bs = bs} at e (way {h = h} slots over count p fits t next) =
       one slots count p (to_trans t (cut_back a b h.place slots marks over bs count at e))
@@ -158,12 +159,12 @@ module _ (w : Ground) where
       ∙ below_own b over x bs e fits.1
 
   -- one state where there is none
-  pub turned : {a b : ℕ} {P Q : MatchState → Slots → Type 0} {marks : List ℕ} {bs : List Branch} {hs : List MatchState} {o : Course}
+  pub turned : {a b : ℕ} {P Q : MatchState → Slots → Type 0} {marks : List ℕ} {bs : List Branch} {hs : List MatchState} {best : Option (List ℕ)} {o : Course}
       (s : MatchState) (slots : Slots) → slice_get ((w.task).program).body a ≡ Some FailNegativeLookAround → a + 1 ≡ b →
-      Q s slots → Hands a P marks (record { pc = b; ix = s.place; slots = slots; marks = marks } ∷ bs) hs o →
-      Hands b Q marks bs (where_none hs s) o
+      Q s slots → Hands a P marks (record { pc = b; ix = s.place; slots = slots; marks = marks } ∷ bs) best hs o →
+      Hands b Q marks bs best (where_none hs s) o
   turned {b = b} {marks = marks} {bs = bs} s slots at e q (none count t) =
-      one slots (count + 1) q (to_trans t (resumed w (record { pc = b; ix = s.place; slots = slots; marks = marks }) bs count))
+      one slots (once_more count) q (to_trans t (resumed w (record { pc = b; ix = s.place; slots = slots; marks = marks }) bs count))
   turned {a} {b} {marks = marks} {bs = bs} s slots at e q (way {h = h} r over count p fits t next) =
       let x : Branch = record { pc = b; ix = s.place; slots = slots; marks = marks } in
       let c : Config = here w a h.place r marks (over ++ x ∷ bs) count in
@@ -190,32 +191,32 @@ module _ (w : Ground) where
   -- two lists, in either order
   pub forked :
       (greedy : Bool) {c : ℕ} {P : MatchState → Slots → Type 0} {marks : List ℕ} {bs : List Branch} {hs ks : List MatchState}
-      (x y z ix : ℕ) (slots : Slots) (count : ℕ) → y ≤ c → z ≤ c →
-      ((cs : List Branch) (n : ℕ) → Hands c P marks cs hs (go w y ix slots marks cs n)) →
-      ((cs : List Branch) (n : ℕ) → Hands c P marks cs ks (go w z ix slots marks cs n)) →
-      Hands c P marks bs (prefer greedy hs ks) (after w.task (fork greedy y z (here w x ix slots marks bs count)))
+      (x y z ix : ℕ) (slots : Slots) (count : Tally) → y ≤ c → z ≤ c →
+      ((cs : List Branch) (n : Tally) → Hands c P marks cs n.longest hs (go w y ix slots marks cs n)) →
+      ((cs : List Branch) (n : Tally) → Hands c P marks cs n.longest ks (go w z ix slots marks cs n)) →
+      Hands c P marks bs count.longest (prefer greedy hs ks) (after w.task (fork greedy y z (here w x ix slots marks bs count)))
   forked true {marks = marks} {bs = bs} {hs = hs} {ks = ks} x y z ix slots count ly lz p q =
       let b : Branch = record { pc = z; ix = ix; slots = slots; marks = marks } in
       from (pushed w x z y ix ix slots slots marks bs count)
-      (append (b ∷ []) hs ks (lz, tt) (p (b ∷ bs) count) (λ n. from (resumed w b bs n) (q bs (n + 1))))
+      (append (b ∷ []) hs ks (lz, tt) (p (b ∷ bs) count) (λ n. from (resumed w b bs n) (q bs (once_more n))))
   forked false {marks = marks} {bs = bs} {hs = hs} {ks = ks} x y z ix slots count ly lz p q =
       let b : Branch = record { pc = y; ix = ix; slots = slots; marks = marks } in
       from (pushed w x y z ix ix slots slots marks bs count)
-      (append (b ∷ []) ks hs (ly, tt) (q (b ∷ bs) count) (λ n. from (resumed w b bs n) (p bs (n + 1))))
+      (append (b ∷ []) ks hs (ly, tt) (q (b ∷ bs) count) (λ n. from (resumed w b bs n) (p bs (once_more n))))
 
   -- from the first of these states, and else from another
-  pub chosen : {b c : ℕ} {P Q : MatchState → Slots → Type 0} {marks : List ℕ} {bs : List Branch} {hs : List MatchState} {o : Course}
+  pub chosen : {b c : ℕ} {P Q : MatchState → Slots → Type 0} {marks : List ℕ} {bs : List Branch} {hs : List MatchState} {best : Option (List ℕ)} {o : Course}
       (x y z : ℕ) (s : MatchState) (slots : Slots) (f g : MatchState → List MatchState) →
       slice_get ((w.task).program).body b ≡ Some EndAtomic → b + 1 ≡ x → slice_get ((w.task).program).body y ≡ Some EndAtomic →
       y + 1 ≡ z →
-      ((h : MatchState) (r : Slots) (count : ℕ) → P h r → Hands c Q marks bs (f h) (go w x h.place r marks bs count)) →
-      ((count : ℕ) → Hands c Q marks bs (g s) (go w z s.place slots marks bs count)) → Hands b P (length (bs ++ w.base) ∷ marks)
-      (record { pc = y; ix = s.place; slots = slots; marks = length (bs ++ w.base) ∷ marks } ∷ bs) hs o →
-      Hands c Q marks bs (from_first hs f (g s)) o
+      ((h : MatchState) (r : Slots) (count : Tally) → P h r → Hands c Q marks bs count.longest (f h) (go w x h.place r marks bs count)) →
+      ((count : Tally) → Hands c Q marks bs count.longest (g s) (go w z s.place slots marks bs count)) → Hands b P (length (bs ++ w.base) ∷ marks)
+      (record { pc = y; ix = s.place; slots = slots; marks = length (bs ++ w.base) ∷ marks } ∷ bs) best hs o →
+      Hands c Q marks bs best (from_first hs f (g s)) o
   chosen {marks = marks} {bs = bs} x y z s slots f g end ex end' ez onward other (none count t) =
       let k : Branch = record { pc = y; ix = s.place; slots = slots; marks = length (bs ++ w.base) ∷ marks } in
-      from (to_trans t (to_trans (resumed w k bs count) (cut_back y z s.place slots marks [] bs (count + 1) end' ez)))
-      (other (count + 1))
+      from (to_trans t (to_trans (resumed w k bs count) (cut_back y z s.place slots marks [] bs (once_more count) end' ez)))
+      (other (once_more count))
   chosen {b} {marks = marks} {bs = bs} x y z s slots f g end ex end' ez onward other (way {h = h} r over count p fits t next) =
       let k : Branch = record { pc = y; ix = s.place; slots = slots; marks = length (bs ++ w.base) ∷ marks } in
       let e : over ++ k ∷ bs ≡ (over ++ k ∷ []) ++ bs = sym (append_assoc over (k ∷ []) bs) in

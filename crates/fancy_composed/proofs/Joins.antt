@@ -11,7 +11,7 @@ use Rattle.fancy_meaning.specs.Instr.{Split, Jmp, Save, Restore, SaveCaptureGrou
 use Rattle.fancy_meaning.specs.Config.{Slots, Branch, Config, Goes, forward, at_ix}
 use Rattle.fancy_meaning.specs.Machine.{goes_from, fail}
 use Rattle.fancy_meaning.specs.Constructs.{split}
-use Rattle.fancy_composed.proofs.Courses.{To, to_same, to_eq, to_trans, after, Ground, here, go, failed, step_at_pc, pushed}
+use Rattle.fancy_composed.proofs.Courses.{Tally, To, to_same, to_eq, to_trans, after, Ground, here, go, failed, step_at_pc, pushed}
 use Rattle.fancy_composed.proofs.Alike.{Among}
 use Rattle.fancy_composed.proofs.Hands.{Hands, none, from, weaken, known, append, mapped, lead, cut, turned, forked, fork_split, chosen, from_first, where_none}
 use Rattle.fancy_composed.proofs.Parts.{put_same, put_other, outside_state, outside_not, at_place, Sound, flag, first, body, flag_is, Stands, After, Part, after_trans, after_move, stands_put, stands_moved, part_wider, outside_more, whole}
@@ -61,7 +61,7 @@ module _ (w : Ground) where
         (turned w s slots turn e (after_move w n m s slots st) (p.hands s slots marks (x ∷ bs) count ok st));
   }
 
-  restored : (a b c n m : ℕ) (s h : MatchState) (slots r : Slots) (marks : List ℕ) (cs : List Branch) (count : ℕ) → Sound w s →
+  restored : (a b c n m : ℕ) (s h : MatchState) (slots r : Slots) (marks : List ℕ) (cs : List Branch) (count : Tally) → Sound w s →
       first w ≤ n → n < m → slice_get (body w) b ≡ Some (Restore n) → b + 1 ≡ c → After w (n + 1) m (put n s.place slots) h r →
       After w n m slots (moved_to s.place h) r × To (go w b h.place r marks cs count) (go w c s.place r marks cs count)
   restored a b c n m s h slots r marks cs count ok fresh lt at e af =
@@ -101,8 +101,8 @@ module _ (w : Ground) where
         (goes s slots marks bs count so st (back_by (w.task).text i s.place) refl);
   }
     where
-      goes : (s : MatchState) (slots : Slots) (marks : List ℕ) (bs : List Branch) (count : ℕ) → Sound w s → Stands w s slots →
-          (o : Option ℕ) → back_by (w.task).text i s.place ≡ o → Hands w b (After w n m slots) marks bs
+      goes : (s : MatchState) (slots : Slots) (marks : List ℕ) (bs : List Branch) (count : Tally) → Sound w s → Stands w s slots →
+          (o : Option ℕ) → back_by (w.task).text i s.place ≡ o → Hands w b (After w n m slots) marks bs count.longest
           (flat_map f (at_place s o)) (after w.task (goes_from w.task (here w a s.place slots marks bs count) o))
       goes s slots marks bs count so st None e = none count (failed w bs (here w a s.place slots marks bs count) refl)
       goes s slots marks bs count so st (Some j) e =

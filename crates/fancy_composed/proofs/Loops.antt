@@ -10,7 +10,7 @@ use Rattle.fancy_meaning.specs.Instr.{Instr, Jmp, RepeatEpsilon}
 use Rattle.fancy_meaning.specs.Instr as instr
 use Rattle.fancy_meaning.specs.Config.{Slots, Branch, Next}
 use Rattle.fancy_meaning.specs.Machine.{choose}
-use Rattle.fancy_composed.proofs.Courses.{To, to_same, to_eq, to_trans, after, Ground, here, go, step_at_pc}
+use Rattle.fancy_composed.proofs.Courses.{Tally, To, to_same, to_eq, to_trans, after, Ground, here, go, step_at_pc}
 use Rattle.fancy_composed.proofs.Alike.{Among}
 use Rattle.fancy_composed.proofs.Hands.{Hands, from, one, weaken, known, bind, forked, fork, fork_choose}
 use Rattle.fancy_composed.proofs.Parts.{sound_within, put_same, put_other, Sound, Keeps, first, body, Stands, After, Part, after_trans, after_move, after_put}
@@ -27,11 +27,11 @@ module _ (w : Ground) (a b c n k m : ℕ) (f : Ways) (fresh : first w ≤ n) (lk
     (jump : slice_get (body w) b ≡ Some (Jmp a)) (e : b + 1 ≡ c) (ord : a + 1 ≤ b) (keeps : Keeps w f)
     (p : Part w (a + 1) b k m f) where
   -- an iteration, and what comes after it
-  iterate : (g : Ways) (s : MatchState) (slots slots1 : Slots) (marks : List ℕ) (bs : List Branch) (count : ℕ) → Sound w s →
+  iterate : (g : Ways) (s : MatchState) (slots slots1 : Slots) (marks : List ℕ) (bs : List Branch) (count : Tally) → Sound w s →
       After w n m slots s slots1 →
-      ((h : MatchState) (r : Slots) (cs : List Branch) (i : ℕ) → Sound w h → Among h (f s) → After w k m slots1 h r →
-      Hands w c (After w n m r) marks cs (g h) (go w a h.place r marks cs i)) →
-      Hands w c (After w n m slots) marks bs (flat_map g (f s)) (go w (a + 1) s.place slots1 marks bs count)
+      ((h : MatchState) (r : Slots) (cs : List Branch) (i : Tally) → Sound w h → Among h (f s) → After w k m slots1 h r →
+      Hands w c (After w n m r) marks cs i.longest (g h) (go w a h.place r marks cs i)) →
+      Hands w c (After w n m slots) marks bs count.longest (flat_map g (f s)) (go w (a + 1) s.place slots1 marks bs count)
   iterate g s slots slots1 marks bs count ok af next =
       bind w g (f s) (omega arith)
       (λ h r cs i ag.
@@ -52,13 +52,13 @@ module _ (w : Ground) (a b c n k m : ℕ) (f : Ways) (fresh : first w ≤ n) (lk
   -- ---- a count up to a bound, which is the largest number where there is none
   module _ (greedy : Bool) (lo : ℕ) (hi : Option ℕ)
       (at : slice_get (body w) a ≡ Some (instr.Instr.Repeat greedy lo hi c n)) where
-    leaves : (s : MatchState) (slots : Slots) (marks : List ℕ) (bs : List Branch) (count : ℕ) → slots n ≡ unwrap_or hi usize_max →
+    leaves : (s : MatchState) (slots : Slots) (marks : List ℕ) (bs : List Branch) (count : Tally) → slots n ≡ unwrap_or hi usize_max →
         To (go w a s.place slots marks bs count) (go w c s.place slots marks bs count)
     leaves s slots marks bs count h =
         to_trans (step_at_pc w (instr.Instr.Repeat greedy lo hi c n) a s.place slots marks bs count at)
         (to_true w (slots n == unwrap_or hi usize_max) _ _ (eq-eqb (slots n) (unwrap_or hi usize_max) h))
 
-    enters : (s : MatchState) (slots : Slots) (marks : List ℕ) (bs : List Branch) (count : ℕ) → slots n ≢ unwrap_or hi usize_max →
+    enters : (s : MatchState) (slots : Slots) (marks : List ℕ) (bs : List Branch) (count : Tally) → slots n ≢ unwrap_or hi usize_max →
         slots n < lo → slots n < usize_max →
         To (go w a s.place slots marks bs count) (go w (a + 1) s.place (put n (suc (slots n)) slots) marks bs count)
     enters s slots marks bs count h l lt =
@@ -67,7 +67,7 @@ module _ (w : Ground) (a b c n k m : ℕ) (f : Ways) (fresh : first w ≤ n) (lk
         (to_trans (to_false w (nat_le lo (slots n)) _ _ (lt-leb lo (slots n) l))
         (to_eq (λ j. ap (λ x. go w (a + 1) s.place (put n x slots) marks bs count j) (counted slots lt)))))
 
-    chooses : (s : MatchState) (slots : Slots) (marks : List ℕ) (bs : List Branch) (count : ℕ) → slots n ≢ unwrap_or hi usize_max →
+    chooses : (s : MatchState) (slots : Slots) (marks : List ℕ) (bs : List Branch) (count : Tally) → slots n ≢ unwrap_or hi usize_max →
         lo ≤ slots n → slots n < usize_max → To (go w a s.place slots marks bs count)
         (after w.task (fork w greedy (a + 1) c (here w a s.place (put n (suc (slots n)) slots) marks bs count)))
     chooses s slots marks bs count h l lt =
@@ -86,9 +86,9 @@ module _ (w : Ground) (a b c n k m : ℕ) (f : Ways) (fresh : first w ≤ n) (lk
 
     -- at most so many more
     may : (greatest : ℕ) → hi ≡ Some greatest → greatest < usize_max →
-        (left : ℕ) (s : MatchState) (slots : Slots) (marks : List ℕ) (bs : List Branch) (count : ℕ) →
+        (left : ℕ) (s : MatchState) (slots : Slots) (marks : List ℕ) (bs : List Branch) (count : Tally) →
         slots n + left ≡ greatest → lo ≤ slots n → Sound w s → Stands w s slots →
-        Hands w c (After w n m slots) marks bs (at_most left greedy f s) (go w a s.place slots marks bs count)
+        Hands w c (After w n m slots) marks bs count.longest (at_most left greedy f s) (go w a s.place slots marks bs count)
     may greatest is below zero s slots marks bs count el le ok st =
         from w (leaves s slots marks bs count (sum is)) (one w slots count (after_move w n m s slots st) to_same)
       where
@@ -106,8 +106,8 @@ module _ (w : Ground) (a b c n k m : ℕ) (f : Ways) (fresh : first w ≤ n) (lk
         (λ cs j. one w (more slots) j af to_same))
 
     pub must : (greatest : ℕ) → hi ≡ Some greatest → greatest < usize_max → lo ≤ greatest →
-        (need : ℕ) (s : MatchState) (slots : Slots) (marks : List ℕ) (bs : List Branch) (count : ℕ) → slots n + need ≡ lo →
-        Sound w s → Stands w s slots → Hands w c (After w n m slots) marks bs
+        (need : ℕ) (s : MatchState) (slots : Slots) (marks : List ℕ) (bs : List Branch) (count : Tally) → slots n + need ≡ lo →
+        Sound w s → Stands w s slots → Hands w c (After w n m slots) marks bs count.longest
         (required need f (at_most (greatest - lo) greedy f) s) (go w a s.place slots marks bs count)
     must greatest is below le zero s slots marks bs count el ok st =
         may greatest is below (greatest - lo) s slots marks bs count (omega arith) (omega arith) ok st
@@ -124,9 +124,9 @@ module _ (w : Ground) (a b c n k m : ℕ) (f : Ways) (fresh : first w ≤ n) (lk
       not_top : (x : ℕ) → x < usize_max → x ≢ unwrap_or hi usize_max
       not_top x lt q = let top : unwrap_or hi usize_max ≡ usize_max = ap (λ o. unwrap_or o usize_max) open' in omega (arith, top)
 
-      free : (fuel : ℕ) (s : MatchState) (slots : Slots) (marks : List ℕ) (bs : List Branch) (count : ℕ) →
+      free : (fuel : ℕ) (s : MatchState) (slots : Slots) (marks : List ℕ) (bs : List Branch) (count : Tally) →
           length (w.task).text < s.place + fuel → slots n ≤ s.place → lo ≤ slots n → Sound w s → Stands w s slots →
-          Hands w c (After w n m slots) marks bs (unbounded fuel greedy f s) (go w a s.place slots marks bs count)
+          Hands w c (After w n m slots) marks bs count.longest (unbounded fuel greedy f s) (go w a s.place slots marks bs count)
       free zero s slots marks bs count left le may' ok st = let q = sound_within w s ok in absurd (omega arith)
       free (suc fuel) s slots marks bs count left le may' ok st =
           let at_most_length = sound_within w s ok in
@@ -139,13 +139,13 @@ module _ (w : Ground) (a b c n k m : ℕ) (f : Ways) (fresh : first w ≤ n) (lk
           let far = moves s h ok m' in
           subst
           (λ v.
-          Hands w c (After w n m r) marks ds (if v then h ∷ [] else unbounded fuel greedy f h) (go w a h.place r marks ds i))
+          Hands w c (After w n m r) marks ds i.longest (if v then h ∷ [] else unbounded fuel greedy f h) (go w a h.place r marks ds i))
           (sym (ne_eqb h.place s.place (λ x. omega arith)))
           (free fuel h r marks ds i (omega arith) (omega arith) (omega arith) so ag.stands)))
           (λ cs j. one w (more slots) j af to_same))
 
-      pub must_free : (need : ℕ) (s : MatchState) (slots : Slots) (marks : List ℕ) (bs : List Branch) (count : ℕ) →
-          slots n + need ≡ lo → slots n ≤ s.place → Sound w s → Stands w s slots → Hands w c (After w n m slots) marks bs
+      pub must_free : (need : ℕ) (s : MatchState) (slots : Slots) (marks : List ℕ) (bs : List Branch) (count : Tally) →
+          slots n + need ≡ lo → slots n ≤ s.place → Sound w s → Stands w s slots → Hands w c (After w n m slots) marks bs count.longest
           (required need f (λ t. unbounded (suc (length (w.task).text) - t.place) greedy f t) s)
           (go w a s.place slots marks bs count)
       must_free zero s slots marks bs count el le ok st =
@@ -164,14 +164,14 @@ module _ (w : Ground) (a b c n k m : ℕ) (f : Ways) (fresh : first w ≤ n) (lk
   -- ---- with a check that the last iteration moved
   module _ (greedy : Bool) (lo : ℕ) (lk' : n + 1 < k) (at : slice_get (body w) a ≡ Some (RepeatEpsilon greedy lo c n (n + 1)))
       (small : lo < usize_max) (fits : length (w.task).text < usize_max) where
-    stops : (s : MatchState) (slots : Slots) (marks : List ℕ) (bs : List Branch) (count : ℕ) →
+    stops : (s : MatchState) (slots : Slots) (marks : List ℕ) (bs : List Branch) (count : Tally) →
         (nat_lt lo (slots n) && slots (n + 1) == s.place) ≡ true →
         To (go w a s.place slots marks bs count) (go w c s.place slots marks bs count)
     stops s slots marks bs count h =
         to_trans (step_at_pc w (RepeatEpsilon greedy lo c n (n + 1)) a s.place slots marks bs count at)
         (to_true w (nat_lt lo (slots n) && slots (n + 1) == s.place) _ _ h)
 
-    goes_on : (s : MatchState) (slots : Slots) (marks : List ℕ) (bs : List Branch) (count : ℕ) → slots n < lo →
+    goes_on : (s : MatchState) (slots : Slots) (marks : List ℕ) (bs : List Branch) (count : Tally) → slots n < lo →
         slots n < usize_max → To (go w a s.place slots marks bs count) (go w (a + 1) s.place (more slots) marks bs count)
     goes_on s slots marks bs count l lt =
         to_trans (step_at_pc w (RepeatEpsilon greedy lo c n (n + 1)) a s.place slots marks bs count at)
@@ -185,7 +185,7 @@ module _ (w : Ground) (a b c n k m : ℕ) (f : Ways) (fresh : first w ≤ n) (lk
     abbrev checked : ℕ → ℕ → Slots → Slots
     checked i x slots = put (n + 1) i (put n x slots)
 
-    selects : (s : MatchState) (slots : Slots) (marks : List ℕ) (bs : List Branch) (count : ℕ) →
+    selects : (s : MatchState) (slots : Slots) (marks : List ℕ) (bs : List Branch) (count : Tally) →
         (nat_lt lo (slots n) && slots (n + 1) == s.place) ≡ false → lo ≤ slots n → To (go w a s.place slots marks bs count)
         (after w.task
         (fork w greedy (a + 1) c (here w a s.place (checked s.place (min (slots n + 1) usize_max) slots) marks bs count)))
@@ -204,10 +204,10 @@ module _ (w : Ground) (a b c n k m : ℕ) (f : Ways) (fresh : first w ≤ n) (lk
         (after_put w n m n x s slots slots fresh (omega arith) (omega arith) (after_move w n m s slots st))
 
     -- so many iterations may still move
-    fresh_turns : (fuel : ℕ) (s : MatchState) (slots : Slots) (marks : List ℕ) (bs : List Branch) (count : ℕ) →
+    fresh_turns : (fuel : ℕ) (s : MatchState) (slots : Slots) (marks : List ℕ) (bs : List Branch) (count : Tally) →
         length (w.task).text < s.place + fuel → lo ≤ slots n → (nat_lt lo (slots n) && slots (n + 1) == s.place) ≡ false →
         Sound w s → Stands w s slots →
-        Hands w c (After w n m slots) marks bs (unbounded fuel greedy f s) (go w a s.place slots marks bs count)
+        Hands w c (After w n m slots) marks bs count.longest (unbounded fuel greedy f s) (go w a s.place slots marks bs count)
     fresh_turns zero s slots marks bs count left le test ok st = let q = sound_within w s ok in absurd (omega arith)
     fresh_turns (suc fuel) s slots marks bs count left le test ok st =
         let x = min (slots n + 1) usize_max in
@@ -227,8 +227,8 @@ module _ (w : Ground) (a b c n k m : ℕ) (f : Ways) (fresh : first w ≤ n) (lk
         let on = (keeps s h ok m').1 in
         let Goal : Bool → Type 0 =
         λ v.
-        Hands w c (After w n m r) marks ds (if v then h ∷ [] else unbounded fuel greedy f h) (go w a h.place r marks ds i) in
-        ⊎_elim {C = Hands w c (After w n m r) marks ds (if_moved s (unbounded fuel greedy f) h) (go w a h.place r marks ds i)}
+        Hands w c (After w n m r) marks ds i.longest (if v then h ∷ [] else unbounded fuel greedy f h) (go w a h.place r marks ds i) in
+        ⊎_elim {C = Hands w c (After w n m r) marks ds i.longest (if_moved s (unbounded fuel greedy f) h) (go w a h.place r marks ds i)}
         (λ t.
         subst Goal (sym t.0)
         (from w (stops h r marks ds i (is ∙ eq-eqb s.place h.place (sym t.1)))
@@ -240,8 +240,8 @@ module _ (w : Ground) (a b c n k m : ℕ) (f : Ways) (fresh : first w ≤ n) (lk
         (eqb_tells h.place s.place)))
         (λ cs j. one w slots1 j af to_same))
 
-    pub must_checked : (need : ℕ) (s : MatchState) (slots : Slots) (marks : List ℕ) (bs : List Branch) (count : ℕ) →
-        slots n + need ≡ lo → Sound w s → Stands w s slots → Hands w c (After w n m slots) marks bs
+    pub must_checked : (need : ℕ) (s : MatchState) (slots : Slots) (marks : List ℕ) (bs : List Branch) (count : Tally) →
+        slots n + need ≡ lo → Sound w s → Stands w s slots → Hands w c (After w n m slots) marks bs count.longest
         (required need f (λ t. unbounded (suc (length (w.task).text) - t.place) greedy f t) s)
         (go w a s.place slots marks bs count)
     must_checked zero s slots marks bs count el ok st =

@@ -18,7 +18,7 @@ use Rattle.fancy_meaning.specs.Machine.{flag_slot, goes_from, step}
 use Rattle.fancy_meaning.specs.Keys.{bit}
 use Rattle.fancy_meaning.specs.Hands.{HasAt, start_number, end_number, IsOutsideState}
 use Rattle.fancy_meaning.specs.Premises.{IsSoundState}
-use Rattle.fancy_composed.proofs.Courses.{to_same, to_eq, to_trans, after, Ground, here, go, failed, step_at_pc}
+use Rattle.fancy_composed.proofs.Courses.{Tally, to_same, to_eq, to_trans, after, Ground, here, go, failed, step_at_pc}
 use Rattle.fancy_composed.proofs.Alike.{Among, Alike}
 use Rattle.fancy_composed.proofs.Hands.{Hands, none, from, one, weaken, known, bind}
 
@@ -105,8 +105,8 @@ module _ (w : Ground) where
 
   -- from a to b a part hands what f gives, with fresh slots from n to m
   pub record Part (a b n m : ℕ) (f : Ways) : Type 0 where
-    pub hands : (s : MatchState) (slots : Slots) (marks : List ℕ) (bs : List Branch) (count : ℕ) → Sound s → Stands s slots →
-        Hands w b (After n m slots) marks bs (f s) (go w a s.place slots marks bs count)
+    pub hands : (s : MatchState) (slots : Slots) (marks : List ℕ) (bs : List Branch) (count : Tally) → Sound s → Stands s slots →
+        Hands w b (After n m slots) marks bs count.longest (f s) (go w a s.place slots marks bs count)
 
   -- code that hands ways wherever it stands, up to repeats
   pub record Works (code : Code) (f : Ways) : Type 0 where
@@ -181,8 +181,8 @@ module _ (w : Ground) where
         (known w Sound (λ h m'. ok s h so m') (p.hands s slots marks bs count so st));
   }
 
-  at_option : (a n m : ℕ) (s : MatchState) (slots : Slots) (marks : List ℕ) (bs : List Branch) (count : ℕ) (o : Option ℕ) →
-      Stands s slots → Hands w (a + 1) (After n m slots) marks bs (at_place s o)
+  at_option : (a n m : ℕ) (s : MatchState) (slots : Slots) (marks : List ℕ) (bs : List Branch) (count : Tally) (o : Option ℕ) →
+      Stands s slots → Hands w (a + 1) (After n m slots) marks bs count.longest (at_place s o)
       (after w.task (goes_from w.task (here w a s.place slots marks bs count) o))
   at_option a n m s slots marks bs count None st = none count (failed w bs (here w a s.place slots marks bs count) refl)
   at_option a n m s slots marks bs count (Some p) st =
@@ -190,12 +190,12 @@ module _ (w : Ground) where
 
   -- an instruction that moves on or fails
   pub part_moves : (a b n m : ℕ) (i : Instr) (f : MatchState → Option ℕ) → slice_get body a ≡ Some i → a + 1 ≡ b →
-      ((s : MatchState) (slots : Slots) (marks : List ℕ) (bs : List Branch) (count : ℕ) → Sound s → Stands s slots →
+      ((s : MatchState) (slots : Slots) (marks : List ℕ) (bs : List Branch) (count : Tally) → Sound s → Stands s slots →
       step w.task i (here w a s.place slots marks bs count) ≡ goes_from w.task (here w a s.place slots marks bs count) (f s)) →
       Part a b n m (λ s. at_place s (f s))
   part_moves a b n m i f at e does = record {
     hands = λ s slots marks bs count ok st.
-        subst (λ c. Hands w c (After n m slots) marks bs (at_place s (f s)) (go w a s.place slots marks bs count)) e
+        subst (λ c. Hands w c (After n m slots) marks bs count.longest (at_place s (f s)) (go w a s.place slots marks bs count)) e
         (from w
         (to_trans (step_at_pc w i a s.place slots marks bs count at)
         (to_eq (λ k. ap (λ x. after w.task x k) (does s slots marks bs count ok st))))

@@ -9,7 +9,7 @@ use Rattle.fancy_meaning.specs.Constructs.{split}
 use Rattle.fancy_meaning.specs.Instr.{Instr, Jmp, Save0, RepeatEpsilon}
 use Rattle.fancy_meaning.specs.Instr as instr
 use Rattle.fancy_meaning.specs.Config.{Slots, Branch}
-use Rattle.fancy_composed.proofs.Courses.{To, to_same, to_eq, to_trans, after, Ground, here, go, step_at_pc}
+use Rattle.fancy_composed.proofs.Courses.{Tally, To, to_same, to_eq, to_trans, after, Ground, here, go, step_at_pc}
 use Rattle.fancy_composed.proofs.Alike.{Among}
 use Rattle.fancy_composed.proofs.Hands.{Hands, from, one, weaken, known, bind, forked, fork_split}
 use Rattle.fancy_composed.proofs.Parts.{sound_within, put_same, Sound, Keeps, first, body, Stands, After, Part, after_trans, after_move, after_put, stands_put}
@@ -22,11 +22,11 @@ Moves w f = (s t : MatchState) → Sound w s → Among t (f s) → s.place < t.p
 -- the choice is at x; the body is from y to z, and from z the machine comes back to x
 module _ (w : Ground) (x y z c n m : ℕ) (f : Ways) (greedy : Bool) (at : slice_get (body w) x ≡ Some (split greedy y c))
     (ly : y ≤ c) (lz : z ≤ c)
-    (back : (h : MatchState) (r : Slots) (marks : List ℕ) (cs : List Branch) (i : ℕ) → To (go w z h.place r marks cs i) (go w x h.place r marks cs i))
+    (back : (h : MatchState) (r : Slots) (marks : List ℕ) (cs : List Branch) (i : Tally) → To (go w z h.place r marks cs i) (go w x h.place r marks cs i))
     (keeps : Keeps w f) (moves : Moves w f) (p : Part w y z n m f) where
-  plain : (fuel : ℕ) (s : MatchState) (slots : Slots) (marks : List ℕ) (bs : List Branch) (count : ℕ) →
+  plain : (fuel : ℕ) (s : MatchState) (slots : Slots) (marks : List ℕ) (bs : List Branch) (count : Tally) →
       length (w.task).text < s.place + fuel → Sound w s → Stands w s slots →
-      Hands w c (After w n m slots) marks bs (unbounded fuel greedy f s) (go w x s.place slots marks bs count)
+      Hands w c (After w n m slots) marks bs count.longest (unbounded fuel greedy f s) (go w x s.place slots marks bs count)
   plain zero s slots marks bs count left ok st = let q = sound_within w s ok in absurd (omega arith)
   plain (suc fuel) s slots marks bs count left ok st =
       from w
@@ -38,7 +38,7 @@ module _ (w : Ground) (x y z c n m : ℕ) (f : Ways) (greedy : Bool) (at : slice
       let far = moves s h ok q.1 in
       from w (back h r marks ds k)
       (subst
-      (λ v. Hands w c (After w n m slots) marks ds (if v then h ∷ [] else unbounded fuel greedy f h) (go w x h.place r marks ds k))
+      (λ v. Hands w c (After w n m slots) marks ds k.longest (if v then h ∷ [] else unbounded fuel greedy f h) (go w x h.place r marks ds k))
       (sym (ne_eqb h.place s.place (λ e. omega arith)))
       (weaken w
       (λ u t ag. after_trans w n m n m n m h u slots r t (omega arith) (omega arith) (omega arith) (omega arith) q.0 ag)
@@ -79,8 +79,8 @@ module _ (w : Ground) (greedy : Bool) where
 
   -- a loop that begins with its count at 0
   begins : (a c n m : ℕ) (g : Ways) → first w ≤ n → n < m → slice_get (body w) a ≡ Some (Save0 n) →
-      ((s : MatchState) (slots : Slots) (marks : List ℕ) (bs : List Branch) (count : ℕ) → slots n ≡ 0 → Sound w s →
-      Stands w s slots → Hands w c (After w n m slots) marks bs (g s) (go w (a + 1) s.place slots marks bs count)) →
+      ((s : MatchState) (slots : Slots) (marks : List ℕ) (bs : List Branch) (count : Tally) → slots n ≡ 0 → Sound w s →
+      Stands w s slots → Hands w c (After w n m slots) marks bs count.longest (g s) (go w (a + 1) s.place slots marks bs count)) →
       Part w a c n m g
   begins a c n m g fresh lt save next = record {
     hands = λ s slots marks bs count ok st.

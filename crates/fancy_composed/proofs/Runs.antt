@@ -1,10 +1,9 @@
 -- What a course says of a run with a given step limit.
 use Rattle.std.proofs.Common.{◌≡◌, ◌≢◌, ◌⊎◌, inl, inr, ⊎_elim, ℕ, zero, suc, ◌+◌, ◌-◌, ◌≤◌, List, Option, Some, None, refl, sym, ap, ◌∙◌, subst, arith}
 use Rattle.std.specs.Prelude.{slice_get}
-use Rattle.fancy_meaning.specs.Config.{Config, Outcome, Match, NoMatch, BacktrackLimitExceeded, StackOverflow, StepLimitExceeded, Next, Goes, Ends}
+use Rattle.fancy_meaning.specs.Config.{Config, Outcome, Match, NoMatch, BacktrackLimitExceeded, StackOverflow, StepLimitExceeded, outcome_of, Next, Goes, Ends}
 use Rattle.fancy_meaning.specs.Machine.{Task, step_at, exec, then_on}
 use Rattle.fancy_meaning.specs.Hands.{IsLimit, IsBranchLimit}
-use Rattle.fancy_meaning.specs.Theorems.{outcome_of}
 use Rattle.fancy_composed.proofs.Courses.{Meets, limit, same, To}
 
 is_limit : (r : Outcome) → IsBranchLimit r → IsLimit r

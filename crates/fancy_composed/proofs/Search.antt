@@ -1,52 +1,45 @@
 -- The search for the first start that has an admitted way.
-use Rattle.std.proofs.Common.{◌≡◌, ◌≢◌, ⊎_elim, ℕ, zero, suc, ◌+◌, ◌*◌, ◌<◌, ◌≤◌, ◌-◌, Bool, true, false, ◌||◌, nat_lt, if◌then◌else◌, cond, List, [], ◌∷◌, length, filter, filter_map, find, Option, Some, None, option_and_then, option_map, refl, sym, ap, ap₂, ◌∙◌, arith, true≢false}
+use Rattle.std.proofs.Common.{◌≡◌, ◌≢◌, ⊎_elim, ℕ, zero, suc, ◌+◌, ◌*◌, ◌<◌, ◌≤◌, ◌-◌, Bool, true, false, not, ◌&&◌, ◌||◌, ◌==◌, nat_lt, nat_le, Contains, eqb-true, if◌then◌else◌, cond, List, [], ◌∷◌, length, filter, filter_map, Option, Some, None, option_and_then, option_map, refl, sym, ap, ap₂, ◌∙◌, arith, true≢false}
 use Rattle.std.specs.Prelude.{slice_get}
-use Rattle.std.specs.List.{cons_option}
-use Rattle.std.proofs.lemmas.Bool.{cases_lt}
+use Rattle.std.specs.List.{cons_option, list_any}
+use Rattle.std.proofs.lemmas.Bool.{cases_lt, and_parts, not-true}
 use Rattle.std.proofs.lemmas.Str.{len_utf8_bounds}
 use Rattle.std.specs.Char.{len_utf8}
 use Rattle.regex_hir.specs.Text.{char_at}
 use Rattle.regex_hir.proofs.TextLemmas.{char_at_past}
 use Rattle.fancy_meaning.specs.Tree.{Tree}
-use Rattle.fancy_meaning.specs.Nodes.{group_count}
-use Rattle.fancy_meaning.specs.Places.{is_place, places_from, range_from}
+use Rattle.fancy_meaning.specs.Nodes.{nodes, group_count, is_keep_out}
+use Rattle.fancy_meaning.specs.Places.{is_place, places_from, range_from, chars_between}
 use Rattle.fancy_meaning.specs.MatchState.{MatchState, Ways, put, first_state}
-use Rattle.fancy_meaning.specs.Answer.{Search, search_of, as_numbers, is_admitted, attempt, starts, answer}
+use Rattle.fancy_meaning.specs.Answer.{Search, search_of, as_numbers, is_admitted, reported, chosen, ways_from, attempt, starts, answer}
 use Rattle.fancy_meaning.specs.Numbers.{usize_max}
+use Rattle.fancy_meaning.specs.Sizes.{size}
 use Rattle.fancy_meaning.specs.Options.{RunOptions}
 use Rattle.fancy_meaning.specs.Instr.{Instr, Save, Jmp, SplitUnanchored}
 use Rattle.fancy_meaning.specs.Layout.{program}
-use Rattle.fancy_meaning.specs.Config.{Slots, Branch, Config, Outcome, NoMatch, BacktrackLimitExceeded, Goes, Ends, push}
+use Rattle.fancy_meaning.specs.Config.{Slots, Branch, Config, Outcome, NoMatch, BacktrackLimitExceeded, outcome_of, Goes, Ends, push}
 use Rattle.fancy_meaning.specs.Machine.{Task, exec, fail_to, then_on, goes_from, is_search, begin, run}
 use Rattle.fancy_meaning.specs.Premises.{Input, plan, IsAccepted, IsFit, Analysed}
-use Rattle.fancy_meaning.specs.Theorems.{IsProgramFor, outcome_of, Answers, HasEnough}
-use Rattle.fancy_composed.proofs.Courses.{Course, Meets, limit, same, To, to_now, to_same, to_eq, to_trans, after, Ground, config, task_step, step_at_pc}
+use Rattle.fancy_meaning.specs.Theorems.{IsProgramFor, Answers, HasEnough}
+use Rattle.fancy_composed.proofs.Courses.{Course, Meets, limit, same, Tally, tally_of, once_more, To, to_now, to_same, to_eq, to_trans, after, Ground, config, task_step, step_at_pc}
 use Rattle.fancy_composed.proofs.Runs.{limit_or_answer, enough_steps}
 use Rattle.fancy_meaning.specs.Marks.{has_marked_continue}
-use Rattle.fancy_composed.proofs.Alike.{or_first}
+use Rattle.fancy_composed.proofs.Alike.{Among, every_among, or_first}
 use Rattle.fancy_composed.proofs.Parts.{Works, place_within, flag, flag_is, put_same, put_other, Stands}
 use Rattle.fancy_composed.proofs.Places.{char_stands, places_on, places_at_end}
 use Rattle.fancy_composed.proofs.Tests.{MayStop}
 use Rattle.fancy_composed.proofs.Accepted.{ground}
 use Rattle.fancy_composed.proofs.Composed.{first_slot}
-use Rattle.fancy_composed.proofs.Attempts.{or_else, found}
+use Rattle.fancy_composed.proofs.Attempts.{or_else, find_is, found}
 use Rattle.fancy_composed.proofs.Programs.{Attempt, anchored_attempt, Searching, search_stands}
 use Rattle.fancy_composed.proofs.Programs as programs
 use Rattle.fancy_laws.proofs.Characters.{char_ends_at_place}
 use Rattle.fancy_laws.proofs.SizedWays.{first_is_sound}
 use Rattle.fancy_laws.proofs.Continues.{continued_ways}
+use Rattle.fancy_laws.proofs.Chosen.{same_chosen}
+use Rattle.fancy_laws.proofs.LongestWays.{way_is_small, none_is_longer}
 
 -- ---- lists
-
-pub find_is : (p : MatchState → Bool) (hs : List MatchState) → slice_get (filter p hs) 0 ≡ find p hs
-find_is p [] = refl
-find_is p (h ∷ hs) =
-    let rest = find_is p hs in
-    elim (p h) as
-    (λ v. slice_get (cond v (h ∷ filter p hs) (filter p hs)) 0 ≡ cond v (Some h) (find p hs)) [
-      | true ↦ refl
-      | false ↦ rest
-    ]
 
 -- the first start that has one
 first_of : (ℕ → Option MatchState) → List ℕ → Option MatchState
@@ -65,7 +58,7 @@ first_is f (i ∷ is) = by_first (f i) (first_is f is)
 
 -- a failure takes the last branch
 resumes : (t : Task) (b : Branch) (bs : List Branch) (c : Config) →
-    To (after t (fail_to t (b ∷ bs) c)) (λ n. exec t n (config b.pc b.ix b.slots b.marks bs c.start (c.backtracks + 1)))
+    To (after t (fail_to t (b ∷ bs) c)) (λ n. exec t n (config b.pc b.ix b.slots b.marks bs c.start (once_more (tally_of c))))
 resumes t b bs c =
     to_now
     (λ n.
@@ -73,11 +66,25 @@ resumes t b bs c =
     (λ v.
     Meets
     (then_on t (exec t n)
-    (if v then Goes (config b.pc b.ix b.slots b.marks bs c.start (c.backtracks + 1)) else Ends BacktrackLimitExceeded))
-    (exec t n (config b.pc b.ix b.slots b.marks bs c.start (c.backtracks + 1)))) [
+    (if v then Goes (config b.pc b.ix b.slots b.marks bs c.start (once_more (tally_of c))) else Ends BacktrackLimitExceeded))
+    (exec t n (config b.pc b.ix b.slots b.marks bs c.start (once_more (tally_of c))))) [
       | true ↦ same refl
       | false ↦ limit tt
     ])
+
+-- nothing is held yet
+abbrev pub none_held : ℕ → Tally
+none_held count = record { backtracks = count; longest = None }
+
+-- what is held is answered, and else nothing matched
+held_or_none : (other : Course) (longest : Option (List ℕ)) → To (λ n. NoMatch) other →
+    To (λ n. outcome_of longest) (or_else longest other)
+held_or_none other None t = t
+held_or_none other (Some numbers) t = to_same
+
+none_chosen : (longest : Bool) → chosen longest [] ≡ None
+none_chosen true = refl
+none_chosen false = refl
 
 -- the program, where `easy` tells which nodes are left to a plain search
 module _ (i : Input) (text : List ℕ) (o : RunOptions) (easy : Tree → Bool) (accepted : IsAccepted i (length (program (plan i) easy).body))
@@ -108,25 +115,36 @@ module _ (i : Input) (text : List ℕ) (o : RunOptions) (easy : Tree → Bool) (
   abbrev Stops : List Branch → Course → Type 0
   Stops base other =
       has_marked_continue tree tree ≡ true → is_search (slice_get (program (plan i) easy).body 0) ≡ true →
-      o.anchored ≡ false → (1 ≤ length base) × (length base ≡ 1 → (count : ℕ) → To (λ n. NoMatch) other)
+      o.anchored ≡ false → (1 ≤ length base) × (length base ≡ 1 → To (λ n. NoMatch) other)
 
-  -- the code of the root hands a list in which the last test finds first what it finds in the ways
+  -- what falling into these branches leads to, where nothing is held
+  abbrev Falls : ℕ → List Branch → Course → Type 0
+  Falls start base other = (count : Tally) →
+      To (after task (fail_to task base (config 0 0 (λ s. 0) [] [] start count))) (or_else count.longest other)
+
+  -- The code of the root hands a list of ways from which the same is chosen as from all ways.
   abbrev pub RootHands : Type 0
   RootHands = (start : ℕ) (base : List Branch) (other : Course)
-      (falls : (count : ℕ) → To (after task (fail_to task base (config 0 0 (λ s. 0) [] [] start count))) other) →
-      is_place text start ≡ true →
-      let w = ground i (length (program (plan i) easy).body) accepted task fit.is_text fits start base (λ n. other) falls in
+      (falls : Falls start base other) → is_place text start ≡ true →
+      let w = ground i (length (program (plan i) easy).body) accepted task fit.is_text fits start base
+      (λ count. or_else count.longest other) falls in
       (has_marked_continue tree tree ≡ true → MayStop w) →
-      (handed : Ways) × Works w (programs.root (plan i) easy) handed × (find (is_admitted q start) (handed (first_state start)) ≡ attempt q start)
+      (handed : Ways) × Works w (programs.root (plan i) easy) handed
+      × (chosen q.leftmost_longest (filter (is_admitted q start) (handed (first_state start))) ≡ attempt q start)
+      × ((s : MatchState) → Among s (handed (first_state start)) → Contains (ways_from q start) s)
 
   module _ (roots : RootHands) where
     -- one start, and what comes where it has no admitted way
     attempted : (a start : ℕ) → Attempt (plan i) easy a → is_place text start ≡ true → (base : List Branch) (other : Course) →
-        ((count : ℕ) → To (after task (fail_to task base (config 0 0 (λ s. 0) [] [] start count))) other) → Stops base other →
-        (count : ℕ) → To (λ n. exec task n (config a start no_slots [] base start count)) (or_else groups (attempt q start) other)
+        Falls start base other → Stops base other →
+        (count : ℕ) → To (λ n. exec task n (config a start no_slots [] base start (none_held count)))
+        (or_else (option_map (as_numbers groups) (attempt q start)) other)
     attempted a start at place base other falls stops count =
-        let w : Ground = ground i (length (program (plan i) easy).body) accepted task fit.is_text fits start base (λ n. other) falls in
-        let stop : has_marked_continue tree tree ≡ true → MayStop w = λ b search anchored. stops b search anchored in
+        let w : Ground =
+        ground i (length (program (plan i) easy).body) accepted task fit.is_text fits start base
+        (λ k. or_else k.longest other) falls in
+        let stop : has_marked_continue tree tree ≡ true → MayStop w =
+        λ b search anchored. let s = stops b search anchored in (s.0, λ one k. held_or_none other k.longest (s.1 one)) in
         let root = roots start base other falls place stop in
         let works = root.1 in
         let fresh = programs.fresh (plan i) easy in
@@ -142,21 +160,39 @@ module _ (i : Input) (text : List ℕ) (o : RunOptions) (easy : Tree → Bool) (
           ends = λ g lo hi. put_other no_slots 0 (2 * g + 1) start (λ x. omega arith);
           flagged = λ e. put_other no_slots 0 (flag w) start (λ x. omega (arith, flag_is w, x));
         } in
-        to_trans (step_at_pc w (Save 0) a start no_slots [] [] count at.start)
+        let alike = works.alike s so in
+        let there : (u : MatchState) → Among u (works.handed s) → Contains (ways_from q start) u =
+        λ u among. root.3 u (alike.members u among) in
+        let same : (p : MatchState → Bool) → slice_get (filter p (works.handed s)) 0 ≡ slice_get (filter p (root.0 s)) 0 =
+        λ p. find_is p (works.handed s) ∙ alike.tests p ∙ sym (find_is p (root.0 s)) in
+        to_trans (step_at_pc w (Save 0) a start no_slots [] [] (none_held count) at.start)
         (to_trans
-        (found w (plan i).end_text refl m fresh laid.fresh slots other at.end at.ends (λ n. to_same)
-        (part.hands s slots [] [] count so st))
+        (found w m fresh laid.fresh slots other
+        (every_among (works.handed s) (λ u among. way_is_small q.setting analysed fit.is_text start place u (there u among)))
+        (λ u t among among' top. tops u t (there u among) (there t among') top)
+        at.end at.ends (λ k. to_same) (part.hands s slots [] [] (none_held count) so st))
         (to_eq
         (λ n.
-        ap (λ x. or_else groups x other n)
-        ((works.alike s so).tests (is_admitted q start) ∙ root.2))))
+        ap (λ x. or_else (option_map (as_numbers groups) x) other n)
+        (same_chosen o.leftmost_longest (is_admitted q start) (works.handed s) (root.0 s) (same (is_admitted q start))
+        (λ on k. same (λ u. is_admitted q start u && nat_le k (reported u))) ∙ root.2))))
+      where
+        tops : (u t : MatchState) → Contains (ways_from q start) u → Contains (ways_from q start) t →
+            (not (list_any is_keep_out (nodes tree)) && chars_between text start u.place == (size tree tree).most) ≡ true →
+            reported t ≤ reported u
+        tops u t cu ct top =
+            let parts =
+            and_parts (not (list_any is_keep_out (nodes tree))) (chars_between text start u.place == (size tree tree).most) top in
+            none_is_longer q.setting analysed fit.is_text start place (not-true (list_any is_keep_out (nodes tree)) parts.0) u t cu ct
+            (eqb-true (chars_between text start u.place) (size tree tree).most parts.1)
 
     -- ---- no start after the first one, where the tree begins with a `\G`
 
     no_attempt : has_marked_continue tree tree ≡ true → (start : ℕ) → is_place text start ≡ true → start ≢ o.pos →
         attempt q start ≡ None
     no_attempt b start place ne =
-        ap (λ hs. slice_get (filter (is_admitted q start) hs) 0) (continued_ways q analysed start refl fit.is_text place b ne)
+        ap (λ hs. chosen q.leftmost_longest (filter (is_admitted q start) hs)) (continued_ways q analysed start refl fit.is_text place b ne)
+        ∙ none_chosen q.leftmost_longest
 
     none_in : has_marked_continue tree tree ≡ true → (n k : ℕ) → o.pos < k →
         first_of (attempt q) (filter (is_place text) (range_from k n)) ≡ None
@@ -179,13 +215,25 @@ module _ (i : Input) (text : List ℕ) (o : RunOptions) (easy : Tree → Bool) (
     abbrev result : Option MatchState → Outcome
     result s = outcome_of (option_map (as_numbers groups) s)
 
-    or_result : (s u : Option MatchState) (n : ℕ) → or_else groups s (λ k. result u) n ≡ result (or_first s u)
+    or_result : (s u : Option MatchState) (n : ℕ) →
+        or_else (option_map (as_numbers groups) s) (λ k. result u) n ≡ result (or_first s u)
     or_result None u n = refl
     or_result (Some s) u n = refl
 
+    -- at the next start the match that is held is answered
+    next_or_held : Searching (plan i) easy accepted.implicit_group_0 → (start before : ℕ) (other : Course) (count : ℕ)
+        (longest : Option (List ℕ)) → To (λ n. exec task n (config 0 start no_slots [] [] before (none_held count))) other →
+        To (λ n. exec task n (config 0 start no_slots [] [] before (record { backtracks = count; longest = longest })))
+        (or_else longest other)
+    next_or_held at start before other count None next = next
+    next_or_held at start before other count (Some numbers) next =
+        to_trans
+        (task_step task (SplitUnanchored 3 1)
+        (config 0 start no_slots [] [] before (record { backtracks = count; longest = Some numbers })) at.split) to_same
+
     searched : Searching (plan i) easy accepted.implicit_group_0 → o.anchored ≡ false → (fuel start before count : ℕ) →
         is_place text start ≡ true → o.pos ≤ start → length text < start + fuel → To
-        (λ n. exec task n (config 0 start no_slots [] [] before count))
+        (λ n. exec task n (config 0 start no_slots [] [] before (none_held count)))
         (λ n. result (first_of (attempt q) (places_from text start)))
     unfolding first_of
     searched at many zero start before count place from left = let within = place_within text start place in absurd (omega arith)
@@ -193,7 +241,7 @@ module _ (i : Input) (text : List ℕ) (o : RunOptions) (easy : Tree → Bool) (
         to_trans (task_step task (SplitUnanchored 3 1) c at.split)
         (to_trans (to_eq (λ n. ap (λ v. after task (if v then Goes begun else push 1 c begun) n) many))
         (⊎_elim
-        {C = To (λ n. exec task n (config 3 start no_slots [] (again ∷ []) start count))
+        {C = To (λ n. exec task n (config 3 start no_slots [] (again ∷ []) start (none_held count)))
         (λ n. result (first_of (attempt q) (places_from text start)))}
         (λ lt.
         let d = char_stands text fit.is_text.utf8 start place lt in
@@ -206,18 +254,18 @@ module _ (i : Input) (text : List ℕ) (o : RunOptions) (easy : Tree → Bool) (
         (cases_lt start (length text))))
       where
         c : Config
-        c = config 0 start no_slots [] [] before count
+        c = config 0 start no_slots [] [] before (none_held count)
 
         begun : Config
-        begun = config 3 start no_slots [] [] start count
+        begun = config 3 start no_slots [] [] start (none_held count)
 
         again : Branch
         again = record { pc = 1; ix = start; slots = no_slots; marks = [] }
 
         further : (d : ℕ) → char_at text start ≡ Some d →
-            ((k : ℕ) → To (λ n. exec task n (config 0 (start + len_utf8 d) no_slots [] [] start k))
+            ((k : ℕ) → To (λ n. exec task n (config 0 (start + len_utf8 d) no_slots [] [] start (none_held k)))
             (λ n. result (first_of (attempt q) (places_from text (start + len_utf8 d))))) →
-            To (λ n. exec task n (config 3 start no_slots [] (again ∷ []) start count))
+            To (λ n. exec task n (config 3 start no_slots [] (again ∷ []) start (none_held count)))
             (λ n. result (first_of (attempt q) (places_from text start)))
         further d stands next =
             let j = start + len_utf8 d in
@@ -225,31 +273,34 @@ module _ (i : Input) (text : List ℕ) (o : RunOptions) (easy : Tree → Bool) (
             let others = first_of (attempt q) (places_from text j) in
             to_trans (attempted 3 start at.attempt place (again ∷ []) (λ n. result others)
             (λ k.
-            let at_any : Config = config 1 start no_slots [] [] start (k + 1) in
+            let at_any : Config = config 1 start no_slots [] [] start (once_more k) in
             to_trans (resumes task again [] (config 0 0 (λ s. 0) [] [] start k))
             (to_trans (task_step task Instr.Any at_any at.any)
             (to_trans (to_eq (λ n. ap (λ x. after task (goes_from task at_any (option_and_then (λ e. Some (start + len_utf8 e)) x)) n) stands))
-            (to_trans (task_step task (Jmp 0) (config 2 j no_slots [] [] start (k + 1)) at.back) (next (k + 1))))))
-            (λ b search anchored. (omega arith, λ one k. to_eq (λ n. sym (ap result (none_later b j (omega arith))))))
+            (to_trans (task_step task (Jmp 0) (config 2 j no_slots [] [] start (once_more k)) at.back)
+            (next_or_held at j start (λ n. result others) (k.backtracks + 1) k.longest (next (k.backtracks + 1)))))))
+            (λ b search anchored. (omega arith, λ one. to_eq (λ n. sym (ap result (none_later b j (omega arith))))))
             count)
             (to_eq
             (λ n. or_result (attempt q start) others n
             ∙ ap (λ l. result (first_of (attempt q) l)) (sym (places_on text fit.is_text.utf8 start d place stands))))
 
-        last : length text ≤ start → To (λ n. exec task n (config 3 start no_slots [] (again ∷ []) start count))
+        last : length text ≤ start → To (λ n. exec task n (config 3 start no_slots [] (again ∷ []) start (none_held count)))
             (λ n. result (first_of (attempt q) (places_from text start)))
         last ge =
             let within = place_within text start place in
             to_trans (attempted 3 start at.attempt place (again ∷ []) (λ n. NoMatch)
             (λ k.
-            let at_any : Config = config 1 start no_slots [] [] start (k + 1) in
+            let at_any : Config = config 1 start no_slots [] [] start (once_more k) in
             to_trans (resumes task again [] (config 0 0 (λ s. 0) [] [] start k))
             (to_trans (task_step task Instr.Any at_any at.any)
+            (to_trans
             (to_eq
             (λ n.
             ap (λ x. after task (goes_from task at_any (option_and_then (λ e. Some (start + len_utf8 e)) x)) n)
-            (char_at_past text start ge)))))
-            (λ b search anchored. (omega arith, λ one k. to_same))
+            (char_at_past text start ge)))
+            (held_or_none (λ n. NoMatch) k.longest to_same))))
+            (λ b search anchored. (omega arith, λ one. to_same))
             count)
             (to_eq
             (λ n. or_result (attempt q start) None n
@@ -261,7 +312,7 @@ module _ (i : Input) (text : List ℕ) (o : RunOptions) (easy : Tree → Bool) (
 
     -- what the course from the beginning comes to is the answer
     finished : (is : List ℕ) → starts q ≡ is →
-        To (λ n. exec task n (config 0 o.pos no_slots [] [] o.pos 0)) (λ n. result (first_of (attempt q) is)) → LeadsToAnswer
+        To (λ n. exec task n (config 0 o.pos no_slots [] [] o.pos (none_held 0))) (λ n. result (first_of (attempt q) is)) → LeadsToAnswer
     unfolding answer
     finished is e t = to_trans t (to_eq (λ n. same_answer))
       where
@@ -270,10 +321,11 @@ module _ (i : Input) (text : List ℕ) (o : RunOptions) (easy : Tree → Bool) (
 
     -- an attempt from the first start alone
     alone : (a : ℕ) → Attempt (plan i) easy a → ((base : List Branch) (other : Course) → Stops base other) →
-        To (λ n. exec task n (config a o.pos no_slots [] [] o.pos 0)) (λ n. result (first_of (attempt q) (o.pos ∷ [])))
+        To (λ n. exec task n (config a o.pos no_slots [] [] o.pos (none_held 0))) (λ n. result (first_of (attempt q) (o.pos ∷ [])))
     unfolding first_of
     alone a at stops =
-        to_trans (attempted a o.pos at fit.pos [] (λ n. NoMatch) (λ k. to_same) (stops [] (λ n. NoMatch)) 0)
+        to_trans
+        (attempted a o.pos at fit.pos [] (λ n. NoMatch) (λ k. held_or_none (λ n. NoMatch) k.longest to_same) (stops [] (λ n. NoMatch)) 0)
         (to_eq (λ n. or_result (attempt q o.pos) None n))
 
     leads_to_answer : LeadsToAnswer
@@ -286,8 +338,8 @@ module _ (i : Input) (text : List ℕ) (o : RunOptions) (easy : Tree → Bool) (
             (alone 0 at (λ base other b search anchored. absurd (true≢false (sym search ∙ ap is_search at.start))))
         by_options false true is_v is_u =
             let at = search_stands (plan i) easy accepted.implicit_group_0 is_v in
-            let c : Config = config 0 o.pos no_slots [] [] o.pos 0 in
-            let begun : Config = config 3 o.pos no_slots [] [] o.pos 0 in
+            let c : Config = config 0 o.pos no_slots [] [] o.pos (none_held 0) in
+            let begun : Config = config 3 o.pos no_slots [] [] o.pos (none_held 0) in
             finished (o.pos ∷ []) (ap₂ (λ x y. if x || y then o.pos ∷ [] else places_from text o.pos) is_v is_u)
             (to_trans (task_step task (SplitUnanchored 3 1) c at.split)
             (to_trans (to_eq (λ n. ap (λ x. after task (if x then Goes begun else push 1 c begun) n) is_u))

@@ -1,16 +1,16 @@
 -- Code that works serves wherever it stands.
-use Rattle.std.proofs.Common.{◌≡◌, ◌⊎◌, inl, inr, ℕ, List, [], ◌++◌, refl}
+use Rattle.std.proofs.Common.{◌≡◌, ◌⊎◌, inl, inr, ℕ, List, [], ◌++◌, Option, refl}
 use Rattle.fancy_meaning.specs.MatchState.{MatchState}
 use Rattle.fancy_meaning.specs.Config.{Slots, Branch, Config, Outcome, Next, Goes}
 use Rattle.fancy_meaning.specs.Machine.{fail_to}
 use Rattle.fancy_meaning.specs.Hands.{IsBranchLimit, Leads, Stretch, no_more, next_way}
 use Rattle.fancy_meaning.specs.Hands as handing
-use Rattle.fancy_composed.proofs.Courses.{Course, Meets, limit, same, To, to_trans, after, Ground, config, here, failed}
+use Rattle.fancy_composed.proofs.Courses.{Course, Meets, limit, same, Tally, tally_of, To, to_trans, after, Ground, config, here, failed}
 use Rattle.fancy_composed.proofs.Hands.{Hands, none, way}
 use Rattle.fancy_composed.proofs.Parts.{Stands, After}
 
 module _ (w : Ground)
-    (reaches : (count : ℕ) → To (w.bottom count) (after w.task (fail_to w.task w.base (config 0 0 (λ s. 0) [] [] w.start count)))) where
+    (reaches : (count : Tally) → To (w.bottom count) (after w.task (fail_to w.task w.base (config 0 0 (λ s. 0) [] [] w.start count)))) where
   leads : (from to : Next) → To (after w.task from) (after w.task to) → Leads w.task from to
   leads from to t = record { instructions = t.steps; by = λ n. met (t.by n) }
     where
@@ -19,7 +19,7 @@ module _ (w : Ground)
       met (same e) = inr e
 
   -- the stretch of a part that begins with these slots and marks, above the base
-  abbrev pub stretch : ℕ → ℕ → Slots → List ℕ → ℕ → ℕ → ℕ → ℕ → Stretch
+  abbrev pub stretch : ℕ → ℕ → Slots → List ℕ → Tally → ℕ → ℕ → ℕ → Stretch
   stretch pc ix slots marks count b n m = record {
     entry = here w pc ix slots marks [] count;
     exit = b;
@@ -27,7 +27,7 @@ module _ (w : Ground)
     taken_to = m;
   }
 
-  stands_there : (s : MatchState) (pc ix : ℕ) (slots : Slots) (marks : List ℕ) (bs : List Branch) (count : ℕ) → ix ≡ s.place →
+  stands_there : (s : MatchState) (pc ix : ℕ) (slots : Slots) (marks : List ℕ) (bs : List Branch) (count : Tally) → ix ≡ s.place →
       Stands w s slots → handing.Stands w.task (here w pc ix slots marks bs count) s
   stands_there s pc ix slots marks bs count e st = record {
     place = e;
@@ -40,15 +40,16 @@ module _ (w : Ground)
   pub stands_here : (s : MatchState) (c : Config) → handing.Stands w.task c s → Stands w s c.slots
   stands_here s c st = record { kept = st.kept; starts = st.starts; ends = st.ends; flagged = st.flag }
 
-  pub handed_by : (pc ix : ℕ) (slots : Slots) (marks : List ℕ) (count b n m : ℕ) {hs : List MatchState} {o : Course}
-      (next : Next) → To (after w.task next) o → Hands w b (After w n m slots) marks [] hs o →
-      handing.Hands w.task (stretch pc ix slots marks count b n m) next hs
+  pub handed_by : (pc ix : ℕ) (slots : Slots) (marks : List ℕ) (count : Tally) (b n m : ℕ) {hs : List MatchState}
+      {best : Option (List ℕ)} {o : Course}
+      (next : Next) → To (after w.task next) o → Hands w b (After w n m slots) marks [] best hs o →
+      handing.Hands w.task (stretch pc ix slots marks count b n m) best next hs
   handed_by pc ix slots marks count b n m next t (none k u) =
-      no_more (config 0 0 (λ s. 0) [] [] w.start k) refl
+      no_more (config 0 0 (λ s. 0) [] [] w.start k) refl refl
       (leads next (fail_to w.task w.base (config 0 0 (λ s. 0) [] [] w.start k)) (to_trans t (to_trans u (reaches k))))
   handed_by pc ix slots marks count b n m next t (way {h = h} r over k p fits u more) =
       let c : Config = here w b h.place r marks (over ++ []) k in
-      next_way c (over ++ []) (leads next (Goes c) (to_trans t u))
+      next_way c (over ++ []) refl (leads next (Goes c) (to_trans t u))
       (record {
         at_exit = refl;
         branches = refl;
@@ -59,4 +60,4 @@ module _ (w : Ground)
       })
       (λ d e.
       handed_by pc ix slots marks count b n m (fail_to w.task ((over ++ []) ++ w.base) d) (failed w (over ++ []) d e)
-      (more d.backtracks))
+      (more (tally_of d)))

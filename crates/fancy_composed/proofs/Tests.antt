@@ -11,10 +11,10 @@ use Rattle.fancy_meaning.specs.Numbers.{usize_max}
 use Rattle.fancy_meaning.specs.Instr.{Instr}
 use Rattle.fancy_meaning.specs.Code as code
 use Rattle.fancy_meaning.specs.Keys.{bit}
-use Rattle.fancy_meaning.specs.Config.{forward, with_slot, Slots, Branch, Config, NoMatch, Goes, Ends}
+use Rattle.fancy_meaning.specs.Config.{forward, with_slot, Slots, Branch, Config, outcome_of, Goes, Ends}
 use Rattle.fancy_meaning.specs.Machine.{flagged, step, fail, fail_to, is_search, gives_up, goes_if}
 use Rattle.fancy_meaning.specs.Hands.{end_number, IsOutsideState}
-use Rattle.fancy_composed.proofs.Courses.{To, to_same, to_eq, to_trans, after, Ground, here, go, resume, failed, step_at_pc}
+use Rattle.fancy_composed.proofs.Courses.{Tally, tally_of, To, to_same, to_eq, to_trans, after, Ground, here, go, resume, failed, step_at_pc}
 use Rattle.fancy_composed.proofs.Alike.{alike_same}
 use Rattle.fancy_composed.proofs.Hands.{Hands, none, from, one}
 use Rattle.fancy_composed.proofs.Parts.{put_same, put_other, place_within, both_left, both_right, Sound, setting, flag, flag_is, first, body, whole, outside_state, Stands, After, Works, after_move}
@@ -25,7 +25,7 @@ module _ (w : Ground) where
   pub works_turns : (i : Instr) (test : MatchState → Bool) (turn : MatchState → MatchState)
       (turned : MatchState → Slots → Slots) → ((s : MatchState) → (turn s).place ≡ s.place) →
       ((s : MatchState) (slots : Slots) (n : ℕ) → first w ≤ n → Stands w s slots → After w n n slots (turn s) (turned s slots)) →
-      ((s : MatchState) (slots : Slots) (a : ℕ) (marks : List ℕ) (bs : List Branch) (count : ℕ) → Sound w s → Stands w s slots →
+      ((s : MatchState) (slots : Slots) (a : ℕ) (marks : List ℕ) (bs : List Branch) (count : Tally) → Sound w s → Stands w s slots →
       step w.task i (here w a s.place slots marks bs count) ≡
       (if test s then Goes (here w (a + 1) s.place (turned s slots) marks bs count) else fail w.task
       (here w a s.place slots marks bs count))) →
@@ -37,12 +37,12 @@ module _ (w : Ground) where
     part = λ a b n e fresh h. record {
       hands = λ s slots marks bs count ok st.
           subst
-          (λ c. Hands w c (After w n n slots) marks bs (if test s then turn s ∷ [] else []) (go w a s.place slots marks bs count)) e
+          (λ c. Hands w c (After w n n slots) marks bs count.longest (if test s then turn s ∷ [] else []) (go w a s.place slots marks bs count)) e
           (from w
           (to_trans (step_at_pc w i a s.place slots marks bs count h.0)
           (to_eq (λ k. ap (λ x. after w.task x k) (does s slots a marks bs count ok st))))
           (elim (test s) as
-          (λ v. Hands w (a + 1) (After w n n slots) marks bs (if v then turn s ∷ [] else [])
+          (λ v. Hands w (a + 1) (After w n n slots) marks bs count.longest (if v then turn s ∷ [] else [])
           (after w.task (if v then Goes (here w (a + 1) s.place (turned s slots) marks bs count) else fail w.task
           (here w a s.place slots marks bs count)))) [
             | true ↦ one w (turned s slots) count (stands s slots n fresh st)
@@ -54,7 +54,7 @@ module _ (w : Ground) where
 
   -- one that only tests
   pub works_tests : (i : Instr) (test : MatchState → Bool) →
-      ((s : MatchState) (slots : Slots) (a : ℕ) (marks : List ℕ) (bs : List Branch) (count : ℕ) → Sound w s → Stands w s slots →
+      ((s : MatchState) (slots : Slots) (a : ℕ) (marks : List ℕ) (bs : List Branch) (count : Tally) → Sound w s → Stands w s slots →
       step w.task i (here w a s.place slots marks bs count) ≡ goes_if w.task (test s)
       (here w a s.place slots marks bs count)) →
       Works w (code.one i) (stays_if test)
@@ -110,7 +110,7 @@ module _ (w : Ground) where
   met_other false true is slots k lo = refl
   met_other false false is slots k lo = refl
 
-  met_config : (v : Bool) (pc ix : ℕ) (slots : Slots) (marks : List ℕ) (bs : List Branch) (count : ℕ) → forward
+  met_config : (v : Bool) (pc ix : ℕ) (slots : Slots) (marks : List ℕ) (bs : List Branch) (count : Tally) → forward
       (if v then with_slot (flag w) 1 (here w pc ix slots marks bs count) else here w pc ix slots marks bs count) ≡ here w
       (pc + 1) ix (met_slots v slots) marks bs count
   met_config true pc ix slots marks bs count = refl
@@ -161,7 +161,7 @@ module _ (w : Ground) where
   abbrev pub MayStop : Type 0
   MayStop =
       is_search (slice_get (body w) 0) ≡ true → (w.task).anchored ≡ false →
-      (1 ≤ length w.base) × (length w.base ≡ 1 → (count : ℕ) → To (λ n. NoMatch) (w.bottom count))
+      (1 ≤ length w.base) × (length w.base ≡ 1 → (count : Tally) → To (λ n. outcome_of count.longest) (w.bottom count))
 
   pub works_continues : (at_start : Bool) → (at_start ≡ true → MayStop) → Works w
       (code.one (Instr.ContinueFromPreviousMatchEnd at_start)) (stays_if (λ s. (w.task).continued && s.place == (w.task).pos))
@@ -176,7 +176,7 @@ module _ (w : Ground) where
       swapped false false = refl
 
       stops : (c : Config) → gives_up w.task at_start c ≡ true →
-          ((1 ≤ length w.base) × (length w.base ≡ 1 → (count : ℕ) → To (λ n. NoMatch) (w.bottom count))) ×
+          ((1 ≤ length w.base) × (length w.base ≡ 1 → (count : Tally) → To (λ n. outcome_of count.longest) (w.bottom count))) ×
           (length c.branches ≡ 1)
       stops c h =
           let searches = is_search (slice_get (body w) 0) in
@@ -188,15 +188,15 @@ module _ (w : Ground) where
                 (both_right (at_start && searches && not (w.task).anchored) (length c.branches == 1) h),
           )
 
-      gives : (bs : List Branch) (count : ℕ) (c : Config) (v : Bool) → c.branches ≡ bs ++ w.base → c.start ≡ w.start →
-          c.backtracks ≡ count → gives_up w.task at_start c ≡ v →
-          To (after w.task (if v then Ends NoMatch else fail w.task c)) (resume w bs count)
+      gives : (bs : List Branch) (count : Tally) (c : Config) (v : Bool) → c.branches ≡ bs ++ w.base → c.start ≡ w.start →
+          tally_of c ≡ count → gives_up w.task at_start c ≡ v →
+          To (after w.task (if v then Ends (outcome_of c.longest) else fail w.task c)) (resume w bs count)
       gives bs count c false e f g h =
           to_trans (to_eq (λ n. ap (λ l. after w.task (fail_to w.task l c) n) e))
           (subst (λ x. To (after w.task (fail_to w.task (bs ++ w.base) c)) (resume w bs x)) g (failed w bs c f))
       gives [] count c true e f g h =
           let m = stops c h in
-          m.0.1 (ap length (sym e) ∙ m.1) count
+          subst (λ x. To (λ n. outcome_of c.longest) (w.bottom x)) g (m.0.1 (ap length (sym e) ∙ m.1) (tally_of c))
       gives (b ∷ bs) count c true e f g h =
           let m = stops c h in
           let l : length ((b ∷ bs) ++ w.base) ≡ 1 = ap length (sym e) ∙ m.1 in
@@ -212,13 +212,13 @@ module _ (w : Ground) where
           hands = λ s slots marks bs count ok st.
               subst
               (λ c.
-              Hands w c (After w n n slots) marks bs (if s.place == (w.task).pos && (w.task).continued then s ∷ [] else [])
+              Hands w c (After w n n slots) marks bs count.longest (if s.place == (w.task).pos && (w.task).continued then s ∷ [] else [])
               (go w a s.place slots marks bs count)) e
               (from w (step_at_pc w (Instr.ContinueFromPreviousMatchEnd at_start) a s.place slots marks bs count h.0)
               (elim (s.place == (w.task).pos && (w.task).continued) as
-              (λ v. Hands w (a + 1) (After w n n slots) marks bs (if v then s ∷ [] else [])
+              (λ v. Hands w (a + 1) (After w n n slots) marks bs count.longest (if v then s ∷ [] else [])
               (after w.task (if v then Goes (here w (a + 1) s.place slots marks bs count) else
-              (if gives_up w.task at_start (here w a s.place slots marks bs count) then Ends NoMatch else fail w.task
+              (if gives_up w.task at_start (here w a s.place slots marks bs count) then Ends (outcome_of count.longest) else fail w.task
               (here w a s.place slots marks bs count))))) [
                 | true ↦ one w slots count (after_move w n n s slots st) to_same
                 | false ↦ none count

@@ -10,7 +10,7 @@ use Rattle.fancy_meaning.specs.Code.{Code, nothing, one, ◌>>◌, branch}
 use Rattle.fancy_meaning.specs.Constructs.{group_code, atomic_code, conditional_code, look_code, negative_look_code}
 use Rattle.fancy_meaning.specs.Machine.{step, goes_from}
 use Rattle.fancy_meaning.specs.Hands.{HasAt}
-use Rattle.fancy_composed.proofs.Courses.{Ground, here}
+use Rattle.fancy_composed.proofs.Courses.{Tally, Ground, here}
 use Rattle.fancy_composed.proofs.Alike.{Among, Alike, alike_same, alike_eq, alike_trans, alike_append, alike_bind, alike_map, alike_head, head_of, at_head}
 use Rattle.fancy_composed.proofs.Hands.{from_first, where_none, lead}
 use Rattle.fancy_composed.proofs.Parts.{at_place, Sound, body, whole, Stands, Part, Works, Keeps, handed_keeps, part_stays, part_next, part_moves}
@@ -83,7 +83,7 @@ module _ (w : Ground) where
 
   -- an instruction that moves on or fails
   pub works_moves : (i : Instr) (f : MatchState → Option ℕ) →
-      ((s : MatchState) (slots : _) (a : ℕ) (marks : List ℕ) (bs : List _) (count : ℕ) → Sound w s → Stands w s slots →
+      ((s : MatchState) (slots : _) (a : ℕ) (marks : List ℕ) (bs : List _) (count : Tally) → Sound w s → Stands w s slots →
       step w.task i (here w a s.place slots marks bs count) ≡ goes_from w.task (here w a s.place slots marks bs count) (f s)) →
       Works w (one i) (λ s. at_place s (f s))
   works_moves i f does = record {

@@ -1,16 +1,17 @@
--- The last test of an attempt, whether a way is admitted, finds the same first way in a list that serves by the easy key
+-- The last test of an attempt, whether a way is admitted, leaves the same chosen way of a list that serves by the easy key
 -- from the attempt's start.
-use Rattle.std.proofs.Common.{◌≡◌, ◌≢◌, ◌⊎◌, inl, inr, ℕ, ◌<◌, ◌≤◌, Bool, true, false, not, ◌&&◌, if◌then◌else◌, ◌==◌, List, [], ◌∷◌, length, filter, Some, slice_get, refl, sym, ap, ap₂, ◌∙◌, arith, eq-eqb, ne_eqb}
+use Rattle.std.proofs.Common.{◌≡◌, ◌≢◌, ◌⊎◌, inl, inr, ℕ, ◌<◌, ◌≤◌, ◌-◌, nat_le, Bool, true, false, not, ◌&&◌, if◌then◌else◌, ◌==◌, List, [], ◌∷◌, length, filter, Some, slice_get, refl, sym, ap, ap₂, ◌∙◌, arith, eq-eqb, ne_eqb}
 use Rattle.std.proofs.lemmas.Bool.{and_right, cases_order}
 use Rattle.regex_hir.specs.Text.{is_some_and, byte_before}
 use Rattle.fancy_meaning.specs.MatchState.{MatchState}
-use Rattle.fancy_meaning.specs.Answer.{Search, search_of, is_empty_at_end, is_admitted}
+use Rattle.fancy_meaning.specs.Answer.{Search, search_of, is_empty_at_end, is_admitted, reported, chosen}
 use Rattle.fancy_meaning.specs.Options.{Plan, RunOptions}
 use Rattle.fancy_meaning.specs.Keys.{easy_key}
 use Rattle.fancy_laws.proofs.Every.{Every, no_item, item, every_weaker}
+use Rattle.fancy_laws.proofs.Chosen.{same_chosen}
 use Rattle.fancy_delegation.proofs.FindsAlike.{find_first}
 use Rattle.fancy_delegation.proofs.Reduced.{Same}
-use Rattle.fancy_delegation.proofs.KeyParts.{moved_from, easy_key_tells}
+use Rattle.fancy_delegation.proofs.KeyParts.{moved_from, moved_by_end, place_by_end, easy_key_tells}
 use Rattle.fancy_delegation.proofs.IsThinned.{IsThinned, thinned_every}
 
 first_that_passes : {A : Type 0} (test : A → Bool) (xs : List A) → slice_get (filter test xs) 0 ≡ find_first test xs
@@ -58,7 +59,7 @@ module _ (p : Plan) (text : List ℕ) (o : RunOptions) (start : ℕ) where
   admits_by_key : (s t : MatchState) → Same (easy_key p start) s t → admits s ≡ admits t
   admits_by_key s t e =
       let both = easy_key_tells p start s t e in
-      ap₂ (λ v w. not (q.not_empty && not v) && not w) both.0 (flags q.end_text refl (both.1).flag)
+      ap₂ (λ v w. not (q.not_empty && not v) && not w) (moved_by_end p start s t both.0) (flags q.end_text refl (both.1).flag)
     where
       flags : (v : Bool) → q.end_text ≡ v → (q.end_text && s.text_end) ≡ (q.end_text && t.text_end) →
           (q.end_text && ends_after_newline && not s.text_end) ≡ (q.end_text && ends_after_newline && not t.text_end)
@@ -96,8 +97,22 @@ module _ (p : Plan) (text : List ℕ) (o : RunOptions) (start : ℕ) where
         here (inr (inl lt)) = away (λ e. omega (arith, lt, e))
         here (inr (inr lt)) = away (λ e. omega (arith, lt, e))
 
-    pub same_admitted : {hs qs : List MatchState} → Every IsWithin qs → IsThinned (Same (easy_key p start)) hs qs →
-        slice_get (filter (is_admitted q start) hs) 0 ≡ slice_get (filter (is_admitted q start) qs) 0
-    same_admitted within h =
-        same_first (is_admitted q start) admits admits_by_key
-        (every_weaker (λ s w. ap₂ (λ v u. not v && not (q.end_text && u && not s.text_end)) (took s o.not_empty refl) (at_end s w)) within) h
+    admitted_is : (s : MatchState) → IsWithin s → is_admitted q start s ≡ admits s
+    admitted_is s w = ap₂ (λ v u. not v && not (q.end_text && u && not s.text_end)) (took s o.not_empty refl) (at_end s w)
+
+    -- where the longest match is asked for the key tells how long a state's is
+    as_long : p.analysis.leftmost_longest ≡ true → (s t : MatchState) → Same (easy_key p start) s t → reported s ≡ reported t
+    as_long on s t e =
+        let both = easy_key_tells p start s t e in
+        ap₂ (λ i j. i - j) (place_by_end p on start s t both.0) (both.1).kept
+
+    pub same_admitted : (o.leftmost_longest ≡ true → p.analysis.leftmost_longest ≡ true) → {hs qs : List MatchState} →
+        Every IsWithin qs → IsThinned (Same (easy_key p start)) hs qs →
+        chosen o.leftmost_longest (filter (is_admitted q start) hs) ≡ chosen o.leftmost_longest (filter (is_admitted q start) qs)
+    same_admitted longest {hs} {qs} within h =
+        same_chosen o.leftmost_longest (is_admitted q start) hs qs
+        (same_first (is_admitted q start) admits admits_by_key (every_weaker admitted_is within) h)
+        (λ on k.
+        same_first (λ s. is_admitted q start s && nat_le k (reported s)) (λ s. admits s && nat_le k (reported s))
+        (λ s t e. ap₂ (λ v n. v && nat_le k n) (admits_by_key s t e) (as_long (longest on) s t e))
+        (every_weaker (λ s w. ap (λ v. v && nat_le k (reported s)) (admitted_is s w)) within) h)

@@ -19,48 +19,67 @@ use Rattle.fancy_delegation.proofs.Evenly.{Evenly, exactly, at_least_one, evenly
 abbrev pub TakesEvenly : Analysis → Tree → Type 0
 TakesEvenly a e = ((size a.tree e).is_const ≡ true) ⊎ (0 < (size a.tree e).least)
 
-not_empty : (a : Analysis) (e : Tree) → a.find_not_empty ≡ true → is_hard_by_size a e ≡ false → TakesEvenly a e
-not_empty a e asked h = ⊎_elim
-    (λ some. ⊎_elim (λ not_asked. cc)
-    (λ least. inr (positive (size a.tree e).least (eqb-false (size a.tree e).least 0 least)))
-    (and_cases a.find_not_empty ((size a.tree e).least == 0) some))
+-- an easy node takes as much each time, or is not hard by its size
+by_size : (a : Analysis) (e : Tree) → IsEasy a e → ((size a.tree e).is_const ≡ true) ⊎ (is_hard_by_size a e ≡ false)
+by_size a Empty h = inl refl
+by_size a (Any newline crlf) h = inl refl
+by_size a (Assert within x) h = inl refl
+by_size a (Literal c casei) h = inl refl
+by_size a (Delegate inner casei) h = inl refl
+by_size a (DefineGroup e) h = inl refl
+by_size a KeepOut h = cc
+by_size a ContinueFromPreviousMatchEnd h = cc
+by_size a AbsentClear h = cc
+by_size a (GeneralNewline unicode) h = cc
+by_size a (LiteralBytes cs) h = cc
+by_size a (Backref g casei) h = cc
+by_size a (BackrefWithLevel g level casei) h = cc
+by_size a (BackrefExists g level) h = cc
+by_size a (Control verb) h = cc
+by_size a (SubroutineCall g) h = cc
+by_size a (AstNode node) h = cc
+by_size a (AbsentStopper e) h = cc
+by_size a (AbsentExpression x e) h = cc
+by_size a (LookAround look e) h = cc
+by_size a (AtomicGroup e) h = cc
+by_size a (AbsentRepeater e) h = cc
+by_size a (Conditional c t f) h = cc
+by_size a (Group g e) h =
+    inr (or_parts (is_read a.tree g || is_hard a e) (is_hard_by_size a (Group g e)) h).1
+by_size a (Repeat lo hi greedy e) h =
+    inr (or_parts (is_hard a e) (is_hard_by_size a (Repeat lo hi greedy e)) h).1
+by_size a (Concat es) h = inr (or_parts (any_hard a es) (is_hard_by_size a (Concat es)) h).1
+by_size a (Alt es) h = inr (or_parts (any_hard a es) (is_hard_by_size a (Alt es)) h).1
+
+-- what is not hard by its size takes as much each time, or none of both is asked for
+by_options : (a : Analysis) (e : Tree) → is_hard_by_size a e ≡ false → ((size a.tree e).is_const ≡ true)
+    ⊎ ((a.leftmost_longest ≡ false) × ((a.find_not_empty && (size a.tree e).least == 0) ≡ false))
+by_options a e h = ⊎_elim
+    {C = ((size a.tree e).is_const ≡ true)
+    ⊎ ((a.leftmost_longest ≡ false) × ((a.find_not_empty && (size a.tree e).least == 0) ≡ false))}
+    (λ none. inr (or_parts a.leftmost_longest (a.find_not_empty && (size a.tree e).least == 0) none))
     (λ const. inl (not-false (size a.tree e).is_const const))
-    (and_cases (a.find_not_empty && (size a.tree e).least == 0) (not (size a.tree e).is_const) h)
+    (and_cases (a.leftmost_longest || (a.find_not_empty && (size a.tree e).least == 0)) (not (size a.tree e).is_const) h)
+
+-- where the longest match is asked for, an easy node takes as much each time
+pub easy_is_const : (a : Analysis) (e : Tree) → IsEasy a e → a.leftmost_longest ≡ true → (size a.tree e).is_const ≡ true
+easy_is_const a e h on = ⊎_elim {C = (size a.tree e).is_const ≡ true} (λ const. const)
+    (λ not_hard.
+    ⊎_elim {C = (size a.tree e).is_const ≡ true} (λ const. const)
+    (λ none. let off = none.0 in cc) (by_options a e not_hard)) (by_size a e h)
+
+pub easy_takes_evenly : (a : Analysis) (e : Tree) → IsEasy a e → a.find_not_empty ≡ true → TakesEvenly a e
+easy_takes_evenly a e h asked = ⊎_elim {C = TakesEvenly a e} inl
+    (λ not_hard.
+    ⊎_elim {C = TakesEvenly a e} inl
+    (λ none.
+    ⊎_elim {C = TakesEvenly a e} (λ not_asked. cc)
+    (λ least. inr (positive (size a.tree e).least (eqb-false (size a.tree e).least 0 least)))
+    (and_cases a.find_not_empty ((size a.tree e).least == 0) none.1)) (by_options a e not_hard)) (by_size a e h)
   where
     positive : (n : ℕ) → (n ≡ 0 → ⊥) → 0 < n
     positive zero k = absurd (k refl)
     positive (suc n) k = omega arith
-
-pub easy_takes_evenly : (a : Analysis) (e : Tree) → IsEasy a e → a.find_not_empty ≡ true → TakesEvenly a e
-easy_takes_evenly a Empty h asked = inl refl
-easy_takes_evenly a (Any newline crlf) h asked = inl refl
-easy_takes_evenly a (Assert within x) h asked = inl refl
-easy_takes_evenly a (Literal c casei) h asked = inl refl
-easy_takes_evenly a (Delegate inner casei) h asked = inl refl
-easy_takes_evenly a (DefineGroup e) h asked = inl refl
-easy_takes_evenly a KeepOut h asked = cc
-easy_takes_evenly a ContinueFromPreviousMatchEnd h asked = cc
-easy_takes_evenly a AbsentClear h asked = cc
-easy_takes_evenly a (GeneralNewline unicode) h asked = cc
-easy_takes_evenly a (LiteralBytes cs) h asked = cc
-easy_takes_evenly a (Backref g casei) h asked = cc
-easy_takes_evenly a (BackrefWithLevel g level casei) h asked = cc
-easy_takes_evenly a (BackrefExists g level) h asked = cc
-easy_takes_evenly a (Control verb) h asked = cc
-easy_takes_evenly a (SubroutineCall g) h asked = cc
-easy_takes_evenly a (AstNode node) h asked = cc
-easy_takes_evenly a (AbsentStopper e) h asked = cc
-easy_takes_evenly a (AbsentExpression x e) h asked = cc
-easy_takes_evenly a (LookAround look e) h asked = cc
-easy_takes_evenly a (AtomicGroup e) h asked = cc
-easy_takes_evenly a (AbsentRepeater e) h asked = cc
-easy_takes_evenly a (Conditional c t f) h asked = cc
-easy_takes_evenly a (Group g e) h asked =
-    not_empty a (Group g e) asked (or_parts (is_read a.tree g || is_hard a e) (is_hard_by_size a (Group g e)) h).1
-easy_takes_evenly a (Repeat lo hi greedy e) h asked =
-    not_empty a (Repeat lo hi greedy e) asked (or_parts (is_hard a e) (is_hard_by_size a (Repeat lo hi greedy e)) h).1
-easy_takes_evenly a (Concat es) h asked = not_empty a (Concat es) asked (or_parts (any_hard a es) (is_hard_by_size a (Concat es)) h).1
-easy_takes_evenly a (Alt es) h asked = not_empty a (Alt es) asked (or_parts (any_hard a es) (is_hard_by_size a (Alt es)) h).1
 
 module _ (size_law : SizeLaw) where
   module _ (q : Setting) (a : Analysed) (is_text : IsText q.text) (e : Tree) (depths : Depths) (there : IsIn e (nodes (tree_of a))) where

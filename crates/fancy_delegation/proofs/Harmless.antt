@@ -17,7 +17,7 @@ use Rattle.fancy_meaning.specs.CompileRefusals.{IsWritten}
 use Rattle.fancy_meaning.specs.Marks.{has_marked_continue}
 use Rattle.fancy_meaning.specs.Premises.{Input, plan, IsAccepted, IsText}
 use Rattle.fancy_meaning.specs.Theorems.{IsProgramFor, Serves, may_give_up, code_of_root, code_of_node, AllServe, DelegationIsHarmless}
-use Rattle.fancy_composed.proofs.Courses.{Course, To, to_same, to_eq, after, Ground, config, here}
+use Rattle.fancy_composed.proofs.Courses.{Tally, tally_of, Course, To, to_same, to_eq, after, Ground, config, here}
 use Rattle.fancy_composed.proofs.Parts.{setting, Works}
 use Rattle.fancy_composed.proofs.Tests.{MayStop}
 use Rattle.std.proofs.lemmas.Bool.{or_left, or_right}
@@ -38,8 +38,8 @@ use Rattle.fancy_delegation.proofs.OnMachine.{analysed_of, w, setup}
 abbrev OnEveryGround : ((i : Input) → IsAccepted i (length (layout (plan i)).body) → Ground → Type 0) → Type 0
 OnEveryGround P =
     (i : Input) (accepted : IsAccepted i (length (layout (plan i)).body)) (task : Task) (is_text : IsText task.text)
-    (fits : IsProgramFor (plan i) task.program) (start : ℕ) (base : List Branch) (bottom : ℕ → Course)
-    (falls : (count : ℕ) → To (after task (fail_to task base (config 0 0 (λ s. 0) [] [] start count))) (bottom count)) →
+    (fits : IsProgramFor (plan i) task.program) (start : ℕ) (base : List Branch) (bottom : Tally → Course)
+    (falls : (count : Tally) → To (after task (fail_to task base (config 0 0 (λ s. 0) [] [] start count))) (bottom count)) →
     P i accepted (w i (length (layout (plan i)).body) accepted task is_text fits start base bottom falls)
 
 -- a batch hands the first way of its nodes, one after the other
@@ -79,7 +79,7 @@ module _ (batches : BatchesWork) (repeaters : EasyRepeatersWork) (i : Input) (ac
   easy = is_easy (analysed_of i (length (layout (plan i)).body) accepted)
 
   -- where a failure leads to from a configuration
-  abbrev bottom : Task → Config → ℕ → Course
+  abbrev bottom : Task → Config → Tally → Course
   bottom t c count = after t (fail_to t c.branches (config 0 0 (λ k. 0) [] [] c.start count))
 
   abbrev above : (t : Task) → IsText t.text → IsProgramFor (plan i) t.program → Config → Ground
@@ -111,9 +111,9 @@ module _ (batches : BatchesWork) (repeaters : EasyRepeatersWork) (i : Input) (ac
       works.part c.pc (c.pc + length laid.instrs) fresh refl
       (subst (λ n. n ≤ fresh) (sym (first_slot g accepted.implicit_group_0)) at.slots_are_fresh) at.code_is_there in (
         works.handed s,
-        handed_by g (λ count. to_same) c.pc c.ix c.slots c.marks c.backtracks (c.pc + length laid.instrs) fresh laid.fresh (Goes c)
-            (to_eq (λ n. ap (λ x. exec t n (here g c.pc x c.slots c.marks [] c.backtracks)) (at.stands).place))
-            (part.hands s c.slots c.marks [] c.backtracks at.sound (stands_here g (λ count. to_same) s c at.stands)),
+        handed_by g (λ count. to_same) c.pc c.ix c.slots c.marks (tally_of c) (c.pc + length laid.instrs) fresh laid.fresh (Goes c)
+            (to_eq (λ n. ap (λ x. exec t n (here g c.pc x c.slots c.marks [] (tally_of c))) (at.stands).place))
+            (part.hands s c.slots c.marks [] (tally_of c) at.sound (stands_here g (λ count. to_same) s c at.stands)),
         serves_by (context_key (plan i) in_hard from) (works.handed s) (h.handed s) (f (setting g) s)
             (λ p. sym (find_is p (works.handed s)) ∙ (works.alike s at.sound).tests p ∙ find_is p (h.handed s)) ((h.thins).by s from at.sound le'),
       )

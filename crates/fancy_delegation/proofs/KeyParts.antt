@@ -1,9 +1,9 @@
 -- What two states of one key have in common.
-use Rattle.std.proofs.Common.{◌≡◌, ℕ, Bool, true, false, not, ◌&&◌, if◌then◌else◌, ◌==◌, List, [], ◌∷◌, ◌++◌, Option, Some, None, refl, ap, ap₂}
+use Rattle.std.proofs.Common.{◌≡◌, ℕ, Bool, true, false, not, ◌&&◌, if◌then◌else◌, ◌==◌, List, [], ◌∷◌, ◌++◌, Option, Some, None, refl, sym, ap, ap₂, ◌∙◌}
 use Rattle.fancy_meaning.specs.Nodes.{read_groups}
 use Rattle.fancy_meaning.specs.MatchState.{MatchState, Span, moved_to, with_span}
 use Rattle.fancy_meaning.specs.Options.{Plan}
-use Rattle.fancy_meaning.specs.Keys.{bit, span_key, spans_key, key_with, key, easy_key}
+use Rattle.fancy_meaning.specs.Keys.{bit, span_key, spans_key, key_with, key, easy_end, easy_key}
 use Rattle.fancy_delegation.proofs.Items.{IsIn, first, later}
 use Rattle.fancy_delegation.proofs.Reduced.{Same}
 use Rattle.fancy_delegation.proofs.Alike.{GoesAlong}
@@ -78,21 +78,45 @@ module _ (p : Plan) where
   abbrev pub moved_from : ℕ → MatchState → Bool
   moved_from from s = p.analysis.find_not_empty && not (s.place == from)
 
-  pub easy_key_tells : (from : ℕ) (s t : MatchState) → Same (easy_key p from) s t → (moved_from from s ≡ moved_from from t) × Agree p s t
-  unfolding easy_key
-  easy_key_tells from s t e =
-      let both = tells (bit (moved_from from s)) (bit (moved_from from t)) s t e in
-      (bit_tells (moved_from from s) (moved_from from t) both.0, both.1)
+  -- what counts of the end in an easy context, by whether the longest match is asked for
+  abbrev end_by : Bool → ℕ → MatchState → ℕ
+  end_by longest from s = if longest then s.place else bit (moved_from from s)
 
-  pub easy_key_gives : (from : ℕ) (s t : MatchState) → moved_from from s ≡ moved_from from t → Agree p s t → Same (easy_key p from) s t
+  -- it tells whether the state is at another place, and the place where the longest match is asked for
+  pub moved_by_end : (from : ℕ) (s t : MatchState) → easy_end p from s ≡ easy_end p from t → moved_from from s ≡ moved_from from t
+  moved_by_end from s t e = by_option p.analysis.leftmost_longest e
+    where
+      by_option : (v : Bool) → end_by v from s ≡ end_by v from t → moved_from from s ≡ moved_from from t
+      by_option true same = ap (λ i. p.analysis.find_not_empty && not (i == from)) same
+      by_option false same = bit_tells (moved_from from s) (moved_from from t) same
+
+  pub place_by_end : p.analysis.leftmost_longest ≡ true → (from : ℕ) (s t : MatchState) → easy_end p from s ≡ easy_end p from t →
+      s.place ≡ t.place
+  place_by_end on from s t e = sym (ap (λ v. end_by v from s) on) ∙ e ∙ ap (λ v. end_by v from t) on
+
+  -- the end counts alike where both are given
+  pub end_by_parts : (from : ℕ) (s t : MatchState) → (p.analysis.leftmost_longest ≡ true → s.place ≡ t.place) →
+      moved_from from s ≡ moved_from from t → easy_end p from s ≡ easy_end p from t
+  end_by_parts from s t places moves = by_option p.analysis.leftmost_longest places
+    where
+      by_option : (v : Bool) → (v ≡ true → s.place ≡ t.place) → end_by v from s ≡ end_by v from t
+      by_option true same = same refl
+      by_option false same = ap bit moves
+
+  pub easy_key_tells : (from : ℕ) (s t : MatchState) → Same (easy_key p from) s t → (easy_end p from s ≡ easy_end p from t) × Agree p s t
   unfolding easy_key
-  easy_key_gives from s t e a = gives (bit (moved_from from s)) (bit (moved_from from t)) s t (ap bit e) a
+  easy_key_tells from s t e = tells (easy_end p from s) (easy_end p from t) s t e
+
+  pub easy_key_gives : (from : ℕ) (s t : MatchState) → easy_end p from s ≡ easy_end p from t → Agree p s t → Same (easy_key p from) s t
+  unfolding easy_key
+  easy_key_gives from s t e a = gives (easy_end p from s) (easy_end p from t) s t e a
 
   -- the key tells more than the easy key
   pub easy_is_coarser : (from : ℕ) (s t : MatchState) → Same (key p) s t → Same (easy_key p from) s t
   easy_is_coarser from s t e =
       let both = key_tells s t e in
-      easy_key_gives from s t (ap (λ i. p.analysis.find_not_empty && not (i == from)) both.0) both.1
+      easy_key_gives from s t
+      (end_by_parts from s t (λ on. both.0) (ap (λ i. p.analysis.find_not_empty && not (i == from)) both.0)) both.1
 
   -- a span that is set alike in both
   pub agree_with_span : (g : ℕ) (span span' : Span) (s t : MatchState) → span ≡ span' → Agree p s t →

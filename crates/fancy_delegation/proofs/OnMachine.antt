@@ -17,7 +17,7 @@ use Rattle.fancy_meaning.specs.Theorems.{IsProgramFor}
 use Rattle.fancy_meaning.specs.CompileRefusals.{IsWritten}
 use Rattle.fancy_meaning.specs.Premises.{Analysed, Input, plan, tree_of, IsAccepted, IsText}
 use Rattle.fancy_meaning.specs.Marks.{has_marked_continue}
-use Rattle.fancy_composed.proofs.Courses.{Course, To, after, Ground, config}
+use Rattle.fancy_composed.proofs.Courses.{Tally, Course, To, after, Ground, config}
 use Rattle.fancy_composed.proofs.Alike.{Among, at_head, further}
 use Rattle.fancy_composed.proofs.Parts.{setting, Works, Keeps}
 use Rattle.fancy_composed.proofs.Works.{works_as, works_nothing, works_fails, works_next, works_branch, works_group, works_atomic, works_unless, works_look, works_conditional}
@@ -48,8 +48,8 @@ analysed_of i instructions accepted = record { parsed = i.parsed; options = i.an
 
 module _ (i : Input) (instructions : ℕ) (accepted : IsAccepted i instructions) (task : Task)
     (is_text : IsText task.text) (fits : IsProgramFor (plan i) task.program) (start : ℕ) (base : List Branch)
-    (bottom : ℕ → Course)
-    (falls : (count : ℕ) → To (after task (fail_to task base (config 0 0 (λ s. 0) [] [] start count))) (bottom count)) where
+    (bottom : Tally → Course)
+    (falls : (count : Tally) → To (after task (fail_to task base (config 0 0 (λ s. 0) [] [] start count))) (bottom count)) where
   abbrev pub w : Ground
   w = ground i instructions accepted task is_text fits start base bottom falls
 

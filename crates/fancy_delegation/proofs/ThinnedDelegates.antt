@@ -16,12 +16,12 @@ use Rattle.fancy_delegation.proofs.Items.{IsIn, every_is_in}
 use Rattle.fancy_delegation.proofs.Reduced.{Same}
 use Rattle.fancy_delegation.proofs.Respect.{ways_alike}
 use Rattle.fancy_delegation.proofs.Kept.{EachKept}
-use Rattle.fancy_delegation.proofs.KeyParts.{Agree, key_gives, easy_key_gives}
+use Rattle.fancy_delegation.proofs.KeyParts.{Agree, key_gives, end_by_parts, easy_key_gives}
 use Rattle.fancy_delegation.proofs.EasyNodes.{IsEasy}
 use Rattle.fancy_delegation.proofs.EasyKeeps.{SameEndText, easy_agrees}
 use Rattle.fancy_delegation.proofs.Evenly.{TakesExactly, Evenly, exactly, exactly_next, evenly_next, one_end, evenly_agree, ways_keep_sound, const_takes}
 use Rattle.fancy_delegation.proofs.Counting.{no_chars}
-use Rattle.fancy_delegation.proofs.EasyAgrees.{easy_takes_evenly, node_evenly}
+use Rattle.fancy_delegation.proofs.EasyAgrees.{easy_is_const, easy_takes_evenly, node_evenly}
 use Rattle.fancy_delegation.proofs.IsThinned.{first_is_thinned}
 use Rattle.fancy_delegation.proofs.Thinned.{IsPart, Thins, part_in_order}
 
@@ -74,6 +74,10 @@ module _ (size_law : SizeLaw) (a : Analysed) (o : CompileOptions) (q : Setting) 
             (const_takes size_law q a is_text e depths h.there c) rest.1,
       )
 
+  -- where the longest match is asked for, each node takes as much each time
+  const_where_longest : (a.options).leftmost_longest ≡ true → {es : List Tree} → Every (IsDelegated a) es → Every (IsConst a) es
+  const_where_longest on h = every_weaker (λ e d. easy_is_const (analysis a) e d.easy on) h
+
   batch_evenly : (a.options).find_not_empty ≡ true → {es : List Tree} → Every (IsDelegated a) es → Evenly q (tree_of a) (batch_ways q a depths es)
   batch_evenly asked no_item = exactly 0 (λ s ok. item (no_chars q.text s.place s.place (omega arith)) no_item)
   batch_evenly asked (item {x = e} {xs = es} h hs) =
@@ -100,10 +104,19 @@ module _ (size_law : SizeLaw) (a : Analysed) (o : CompileOptions) (q : Setting) 
       in_common : (s t u : MatchState) → IsIn t (batch_ways q a depths es s) → IsIn u (batch_ways q a depths es s) → Agree (plan_for a o) t u
       in_common s t u i j = agree_both (plan_for a o) s t u (every_is_in (batch_agrees h s) i) (every_is_in (batch_agrees h s) j)
 
+      one_place : Every (IsConst a) es → (s : MatchState) → IsSoundState q (tree_of a) s → (t u : MatchState) →
+          IsIn t (batch_ways q a depths es s) → IsIn u (batch_ways q a depths es s) → t.place ≡ u.place
+      one_place const s ok t u i j =
+          let takes = batch_exactly h const in
+          one_end q (tree_of a) takes.0 (batch_ways q a depths es) (part_of_batch h).sound takes.1 s t u ok i j
+
       one_easy_key : (s : MatchState) (from : ℕ) → IsSoundState q (tree_of a) s → from ≤ s.place → (t u : MatchState) →
           IsIn t (batch_ways q a depths es s) → IsIn u (batch_ways q a depths es s) →
           Same (easy_key (plan_for a o) from) t u
-      one_easy_key s from ok le t u i j = easy_key_gives (plan_for a o) from t u (here (a.options).find_not_empty refl) (in_common s t u i j)
+      one_easy_key s from ok le t u i j =
+          easy_key_gives (plan_for a o) from t u
+          (end_by_parts (plan_for a o) from t u (λ on. one_place (const_where_longest on h) s ok t u i j)
+          (here (a.options).find_not_empty refl)) (in_common s t u i j)
         where
           here : (v : Bool) → (a.options).find_not_empty ≡ v → ((a.options).find_not_empty && not (t.place == from))
               ≡ ((a.options).find_not_empty && not (u.place == from))
@@ -116,10 +129,7 @@ module _ (size_law : SizeLaw) (a : Analysed) (o : CompileOptions) (q : Setting) 
       one_key : Every (IsConst a) es → (s : MatchState) → IsSoundState q (tree_of a) s → (t u : MatchState) →
           IsIn t (batch_ways q a depths es s) → IsIn u (batch_ways q a depths es s) → Same (key (plan_for a o)) t u
       one_key const s ok t u i j =
-          let takes = batch_exactly h const in
-          key_gives (plan_for a o) t u
-          (one_end q (tree_of a) takes.0 (batch_ways q a depths es) (part_of_batch h).sound takes.1 s t u ok i j)
-          (in_common s t u i j)
+          key_gives (plan_for a o) t u (one_place const s ok t u i j) (in_common s t u i j)
 
       -- in an easy context
       pub thins_batch : Thins (plan_for a o) q false (first_of_batch q a depths es) (batch_ways q a depths es)

@@ -4,6 +4,7 @@ ghost use Rattle.std.specs.Prelude.{◌≡◌, MatchOption, false, true, Contain
 ghost use Rattle.std.specs.List.{list_any};
 ghost use Rattle.fancy_meaning.specs.Tree as plain;
 ghost use Rattle.fancy_meaning.specs.WellFormed.{refers, is_call, is_any_call};
+ghost use Rattle.fancy_meaning.specs.AnalysisRefusals.{is_lazy};
 ghost use Rattle.fancy_expr.specs.Views.{tree_of, unresolved_of};
 ghost use Rattle.fancy_expr.specs.Exprs.{exprs};
 ghost use Rattle.fancy_expr.specs.Questions.{asks, is_unlisted, is_refused};
@@ -16,6 +17,8 @@ use std::collections::BTreeSet;
 #[derive(Clone, Copy)]
 pub enum Question<'a> {
     IsCall,
+    /// A loop that stops first.
+    IsLazy,
     /// A call, or a node that stands for one.
     IsAnyCall,
     /// It refers back to this group, or asks for it.
@@ -37,6 +40,7 @@ fn asks(question: Question, expr: &Expr) -> bool
 {
     match question {
         Question::IsCall => is_call(expr),
+        Question::IsLazy => is_lazy(expr),
         Question::IsAnyCall => is_any_call(expr),
         Question::Refers(group) => refers(expr, group),
         Question::IsUnlisted { listed, groups } => is_unlisted(expr, listed, groups),
@@ -49,6 +53,16 @@ fn is_call(expr: &Expr) -> bool
 {
     match expr {
         Expr::SubroutineCall(_) => true,
+        Expr::Absent(_) => false,
+        _ => false,
+    }
+}
+
+fn is_lazy(expr: &Expr) -> bool
+    ensures { result ≡ is_lazy (tree_of expr.now) }
+{
+    match expr {
+        Expr::Repeat { greedy, .. } => !*greedy,
         Expr::Absent(_) => false,
         _ => false,
     }

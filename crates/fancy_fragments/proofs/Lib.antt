@@ -7,4 +7,4 @@ pub mod FragmentNodes
 pub mod PatternTexts
 pub mod GroupRanges
 pub mod DelegateParts
-pub mod SameNodes
+pub mod SameTrees

@@ -7,8 +7,7 @@ ghost use Rattle.fancy_expr.specs.Exprs.{below};
 ghost use Rattle.fancy_expr.specs.Views.{tree_of};
 ghost use Rattle.fancy_expr.specs.Walk.{within_of};
 ghost use Rattle.fancy_info.specs.Infos.{info_expr, info_tree, node_over};
-ghost use Rattle.fancy_fragments.specs.Nodes.{AreEasyNeighbours};
-ghost use Rattle.fancy_fragments.specs.Same.{BeginAt};
+ghost use Rattle.fancy_fragments.specs.Nodes.{AreEasyNeighbours, BeginAt};
 
 use crate::fragment::Fragment;
 use fancy_expr::expr::Expr;

@@ -1,9 +1,8 @@
 -- A run of the program with delegates answers what the tree means, and ends.
-use Rattle.std.proofs.Common.{ℕ, Bool, false, not, List, sym, ◌∙◌, arith, length}
+use Rattle.std.proofs.Common.{ℕ, Bool, false, not, List, arith, length}
 use Rattle.fancy_meaning.specs.Tree.{Tree}
 use Rattle.fancy_meaning.specs.OpenCalls.{no_calls}
 use Rattle.fancy_meaning.specs.MatchState.{first_state}
-use Rattle.fancy_meaning.specs.Answer.{is_admitted}
 use Rattle.fancy_meaning.specs.Options.{RunOptions}
 use Rattle.fancy_meaning.specs.Hard.{is_hard}
 use Rattle.fancy_meaning.specs.Layout.{layout, program}
@@ -11,10 +10,13 @@ use Rattle.fancy_meaning.specs.CompileRefusals.{root}
 use Rattle.fancy_meaning.specs.Premises.{Input, plan, IsAccepted, IsFit}
 use Rattle.fancy_meaning.specs.Theorems.{DelegationIsHarmless, Headline, RunsEnd}
 use Rattle.fancy_laws.proofs.SizedWays.{first_is_sound}
+use Rattle.fancy_composed.proofs.Alike.{contains}
+use Rattle.fancy_composed.proofs.Attempts.{or_else}
 use Rattle.fancy_composed.proofs.Parts.{place_within}
-use Rattle.fancy_composed.proofs.Search.{task, q, fits, find_is, RootHands, answers, has_enough}
+use Rattle.fancy_composed.proofs.Search.{task, q, fits, RootHands, answers, has_enough}
 use Rattle.fancy_laws.proofs.Every.{every_weaker}
 use Rattle.fancy_delegation.proofs.Admitted.{same_admitted}
+use Rattle.fancy_delegation.proofs.Items.{every_is_in, is_in_contained, contained_is_in}
 use Rattle.fancy_delegation.proofs.Delegated.{part_of}
 use Rattle.fancy_delegation.proofs.DelegatedCalls.{whole_thins}
 use Rattle.fancy_delegation.proofs.OnMachine.{setup}
@@ -30,26 +32,26 @@ easy i e = not (is_hard (plan i).analysis e)
 
 module _ (i : Input) (text : List ℕ) (o : RunOptions) (accepted : IsAccepted i (length (program (plan i) (easy i)).body))
     (fit : IsFit i text o) where
-  -- the whole tree hands a list in which the last test finds first what it finds in the ways
+  -- the whole tree hands a list of ways from which the same is chosen as from all
   roots_hand : RootHands i text o (easy i) accepted fit
   unfolding layout
   roots_hand start base other falls place stop =
       let t = task i text o (easy i) accepted fit in
       let search = q i text o (easy i) accepted fit in
       let ok = fits i text o (easy i) accepted fit in
-      let given = setup i (length (program (plan i) (easy i)).body) accepted t fit.is_text ok start base (λ n. other) falls stop
-      (batches_work i accepted t fit.is_text ok start base (λ n. other) falls)
-      (easy_repeaters_work i accepted t fit.is_text ok start base (λ n. other) falls) in
+      let given = setup i (length (program (plan i) (easy i)).body) accepted t fit.is_text ok start base (λ count. or_else count.longest other) falls stop
+      (batches_work i accepted t fit.is_text ok start base (λ count. or_else count.longest other) falls)
+      (easy_repeaters_work i accepted t fit.is_text ok start base (λ count. or_else count.longest other) falls) in
       let h = whole_thins given no_calls false in
       let s = first_state start in
       let so = first_is_sound search.setting (plan i).analysis.tree start place in
       let onward = (part_of given no_calls (plan i).analysis.tree root).sound s so in (
         h.handed,
         h.works,
-        sym (find_is (is_admitted search start) (h.handed s))
-            ∙ same_admitted (plan i) text o start fit.not_empty
+        same_admitted (plan i) text o start fit.not_empty fit.longest
             (every_weaker (λ u on. record { from_start = on.on; in_text = place_within text u.place (on.sound).place }) onward)
             ((h.thins).by s start so (omega arith)),
+        λ u among. contained_is_in (every_is_in ((h.thins).by s start so (omega arith)).among (is_in_contained (h.handed s) u (contains among))),
       )
 
 pub headline : Headline

@@ -1,9 +1,9 @@
 -- What passes no limit: enough instructions are enough, enough backtracks are enough, and one branch at most is held.
-use Rattle.std.proofs.Common.{◌≡◌, ◌≢◌, ℕ, zero, suc, ◌+◌, ◌≤◌, Bool, true, false, ◌&&◌, ◌==◌, not, nat_lt, if◌then◌else◌, List, [], ◌∷◌, length, Some, refl, sym, ap, ◌∙◌, subst, arith, lt-ltb}
+use Rattle.std.proofs.Common.{◌≡◌, ◌≢◌, ℕ, zero, suc, ◌+◌, ◌≤◌, Bool, true, false, ◌&&◌, ◌==◌, not, nat_lt, if◌then◌else◌, List, [], ◌∷◌, length, Option, Some, None, refl, sym, ap, ◌∙◌, subst, arith, lt-ltb}
 use Rattle.std.specs.Prelude.{slice_get}
 use Rattle.fancy_meaning.specs.Instr.{Instr, Save, End, RejectEmptyMatchAtEOFFollowingNewline}
-use Rattle.fancy_meaning.specs.Config.{Branch, Config, Outcome, Match, NoMatch, BacktrackLimitExceeded, StackOverflow, StepLimitExceeded, Next, Goes, Ends}
-use Rattle.fancy_meaning.specs.Machine.{Task, fail, fail_to, goes_if, is_rejected, numbers_of, step, step_at, exec, then_on, after_steps}
+use Rattle.fancy_meaning.specs.Config.{Branch, Config, Outcome, outcome_of, longer, Match, NoMatch, BacktrackLimitExceeded, StackOverflow, StepLimitExceeded, Next, Goes, Ends}
+use Rattle.fancy_meaning.specs.Machine.{Task, fail, fail_to, goes_if, is_rejected, is_longest, numbers_of, step, step_at, exec, then_on, after_steps}
 use Rattle.fancy_meaning.specs.Hands.{HasAt, outcome_after}
 use Rattle.fancy_composed.proofs.Attempts.{EndsAt}
 use Rattle.fancy_headline.proofs.Plain.{GoesOrFails, goes, fails, AtMostOne, no_instr, one_instr}
@@ -44,9 +44,14 @@ module _ (t : Task) where
   no_match_bounded count starts k =
       record { steps = λ n le e. cc; backtracks = λ le n e. cc; room = λ n e. cc; branches = nothing_held NoMatch }
 
-  match_bounded : (count starts k : ℕ) (numbers : List ℕ) → IsBounded count starts k (Ends (Match numbers))
+  pub match_bounded : (count starts k : ℕ) (numbers : List ℕ) → IsBounded count starts k (Ends (Match numbers))
   match_bounded count starts k numbers =
       record { steps = λ n le e. cc; backtracks = λ le n e. cc; room = λ n e. cc; branches = nothing_held (Match numbers) }
+
+  -- what is held is answered, or that there is none
+  pub answer_bounded : (count starts k : ℕ) (longest : Option (List ℕ)) → IsBounded count starts k (Ends (outcome_of longest))
+  answer_bounded count starts k None = no_match_bounded count starts k
+  answer_bounded count starts k (Some numbers) = match_bounded count starts k numbers
 
   -- one instruction
   pub step_bounded : {count starts k : ℕ} (i : Instr) (c : Config) → slice_get (t.program).body c.pc ≡ Some i →
@@ -83,12 +88,12 @@ module _ (t : Task) where
 
   -- without branches it ends
   pub none_left : (count starts k : ℕ) → FailsBounded [] count starts k
-  none_left count starts k d e = no_match_bounded count starts k
+  none_left count starts k d e = answer_bounded count starts k d.longest
 
   -- the last branch, with one backtrack more
   pub one_left : (b : Branch) (count starts k : ℕ) →
-      ((first : ℕ) → IsBounded (count + 1) starts k
-      (Goes (record { now = b; branches = []; start = first; backtracks = count + 1 }))) →
+      ((first : ℕ) (longest : Option (List ℕ)) → IsBounded (count + 1) starts k
+      (Goes (record { now = b; branches = []; start = first; backtracks = count + 1; longest = longest }))) →
       FailsBounded (b ∷ []) count (suc starts) k
   one_left b count starts k on d e =
       subst
@@ -103,26 +108,26 @@ module _ (t : Task) where
       })
     where
       next : ℕ → Config
-      next m = record { now = b; branches = []; start = d.start; backtracks = m + 1 }
+      next m = record { now = b; branches = []; start = d.start; backtracks = m + 1; longest = d.longest }
 
       onward : Bool → Next
       onward v = if v then Goes (next count) else Ends BacktrackLimitExceeded
 
       steps : (n : ℕ) → k ≤ n → (v : Bool) → outcome_after t n (onward v) ≢ StepLimitExceeded
-      steps n le true = (on d.start).steps n le
+      steps n le true = (on d.start d.longest).steps n le
       steps n le false = λ q. cc
 
       backtracks : count + suc starts ≤ t.backtrack_limit → (n : ℕ) (v : Bool) → v ≡ true →
           outcome_after t n (onward v) ≢ BacktrackLimitExceeded
-      backtracks le n true q = (on d.start).backtracks (omega (arith, le)) n
+      backtracks le n true q = (on d.start d.longest).backtracks (omega (arith, le)) n
       backtracks le n false q = cc
 
       room : (n : ℕ) (v : Bool) → outcome_after t n (onward v) ≢ StackOverflow
-      room n true = (on d.start).room n
+      room n true = (on d.start d.longest).room n
       room n false = λ q. cc
 
       branches : (v : Bool) (n : ℕ) (c : Config) → after_steps t n (onward v) ≡ Goes c → length c.branches ≤ 1
-      branches true = (on d.start).branches
+      branches true = (on d.start d.longest).branches
       branches false = nothing_held BacktrackLimitExceeded
 
   -- ---- an attempt
@@ -149,11 +154,19 @@ module _ (t : Task) where
     stands pc i c at is = ap (slice_get (t.program).body) is.pc ∙ at
 
     at_end : (pc : ℕ) → slice_get (t.program).body pc ≡ Some End → BoundedAt pc (suc k)
-    at_end pc at c is = step_bounded End c (stands pc End c at is) (few_here pc c is) (by_test (t.not_empty && c.ix == c.start))
+    at_end pc at c is = step_bounded End c (stands pc End c at is) (few_here pc c is) (by_test (t.not_empty && c.ix == c.start) t.leftmost_longest (is_longest t c))
       where
-        by_test : (v : Bool) → IsBounded count starts k (if v then fail t c else Ends (Match (numbers_of t c)))
-        by_test true = fail_here pc c is
-        by_test false = match_bounded count starts k (numbers_of t c)
+        held : Config
+        held = record c { longest = Some (longer c.longest (numbers_of t c)) }
+
+        by_test : (v u w : Bool) → IsBounded count starts k
+            (if v then fail t c
+            else (if u then (if w then Ends (Match (longer c.longest (numbers_of t c))) else fail t held)
+            else Ends (Match (numbers_of t c))))
+        by_test true u w = fail_here pc c is
+        by_test false true true = match_bounded count starts k (longer c.longest (numbers_of t c))
+        by_test false true false = fail_here pc held (record { pc = is.pc; branches = is.branches; backtracks = is.backtracks })
+        by_test false false w = match_bounded count starts k (numbers_of t c)
 
     at_reject : (pc m : ℕ) → k ≤ m → slice_get (t.program).body pc ≡ Some RejectEmptyMatchAtEOFFollowingNewline →
         BoundedAt (pc + 1) m → BoundedAt pc (suc m)

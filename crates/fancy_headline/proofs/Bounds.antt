@@ -16,12 +16,12 @@ use Rattle.fancy_meaning.specs.Batches.{batch}
 use Rattle.fancy_meaning.specs.Code.{Code}
 use Rattle.fancy_meaning.specs.Layout.{layout, program, called_code, written}
 use Rattle.fancy_meaning.specs.Config.{Slots, Branch, Config, Goes, push}
-use Rattle.fancy_meaning.specs.Machine.{Task, goes_from, run, begin}
+use Rattle.fancy_meaning.specs.Machine.{Task, goes_from, tries_next, run, begin}
 use Rattle.fancy_meaning.specs.Premises.{Input, plan, IsAccepted, IsFit}
 use Rattle.fancy_meaning.specs.Theorems.{BranchBound, BacktrackBound, InstructionBound}
 use Rattle.fancy_meaning.specs.Answer.{search_of, starts}
 use Rattle.fancy_meaning.specs.Numbers.{usize_max}
-use Rattle.fancy_composed.proofs.Courses.{config}
+use Rattle.fancy_composed.proofs.Courses.{Tally, config}
 use Rattle.fancy_composed.proofs.Parts.{place_within}
 use Rattle.fancy_composed.proofs.Places.{char_stands, places_on, places_at_end}
 use Rattle.fancy_composed.proofs.Programs.{Attempt, anchored_attempt, Searching, search_stands}
@@ -29,7 +29,7 @@ use Rattle.fancy_composed.proofs.Programs as programs
 use Rattle.fancy_laws.proofs.Characters.{char_ends_at_place}
 use Rattle.fancy_headline.proofs.Answered.{easy}
 use Rattle.fancy_headline.proofs.Plain.{AtMostOne, batch_plain}
-use Rattle.fancy_headline.proofs.Bounded.{IsBounded, bounded_more, no_match_bounded, step_bounded, FailsBounded, none_left, one_left, IsAt, attempt_bounded}
+use Rattle.fancy_headline.proofs.Bounded.{IsBounded, bounded_more, match_bounded, answer_bounded, step_bounded, FailsBounded, none_left, one_left, IsAt, attempt_bounded}
 
 module _ (i : Input) (text : List ℕ) (o : RunOptions) (accepted : IsAccepted i (length (program (plan i) (easy i)).body))
     (fit : IsFit i text o)
@@ -70,6 +70,12 @@ module _ (i : Input) (text : List ℕ) (o : RunOptions) (accepted : IsAccepted i
 
   -- ---- the search
 
+  abbrev Held : Type 0
+  Held = Option (List ℕ)
+
+  abbrev tally : ℕ → Held → Tally
+  tally count longest = record { backtracks = count; longest = longest }
+
   abbrev no_slots : Slots
   no_slots = λ k. usize_max
 
@@ -84,73 +90,84 @@ module _ (i : Input) (text : List ℕ) (o : RunOptions) (accepted : IsAccepted i
 
     -- it takes a character, and the search begins anew
     goes_again : (start count starts k c : ℕ) → char_at text start ≡ Some c →
-        ((first : ℕ) →
-        IsBounded task count starts k (Goes (config 0 (start + len_utf8 c) no_slots [] [] first count))) →
-        (first : ℕ) → IsBounded task count starts (suc (suc k)) (Goes (config 1 start no_slots [] [] first count))
-    goes_again start count starts k c stands on first =
-        let d : Config = config 1 start no_slots [] [] first count in
+        ((first : ℕ) (longest : Held) →
+        IsBounded task count starts k (Goes (config 0 (start + len_utf8 c) no_slots [] [] first (tally count longest)))) →
+        (first : ℕ) (longest : Held) →
+        IsBounded task count starts (suc (suc k)) (Goes (config 1 start no_slots [] [] first (tally count longest)))
+    goes_again start count starts k c stands on first longest =
+        let d : Config = config 1 start no_slots [] [] first (tally count longest) in
         step_bounded task Instr.Any d at.any (omega arith)
         (subst (λ v. IsBounded task count starts (suc k) (goes_from task d (past start v))) (sym stands)
-        (step_bounded task (Jmp 0) (config 2 (start + len_utf8 c) no_slots [] [] first count) at.back (omega arith) (on first)))
+        (step_bounded task (Jmp 0) (config 2 (start + len_utf8 c) no_slots [] [] first (tally count longest)) at.back (omega arith)
+        (on first longest)))
 
     -- or the text is at its end
     ends_there : (start count starts : ℕ) → char_at text start ≡ None →
-        (first : ℕ) → IsBounded task count starts (suc 0) (Goes (config 1 start no_slots [] [] first count))
-    ends_there start count starts stands first =
-        let d : Config = config 1 start no_slots [] [] first count in
+        (first : ℕ) (longest : Held) → IsBounded task count starts (suc 0) (Goes (config 1 start no_slots [] [] first (tally count longest)))
+    ends_there start count starts stands first longest =
+        let d : Config = config 1 start no_slots [] [] first (tally count longest) in
         step_bounded task Instr.Any d at.any (omega arith)
         (subst (λ v. IsBounded task count starts 0 (goes_from task d (past start v))) (sym stands)
-        (no_match_bounded task count starts 0))
+        (answer_bounded task count starts 0 longest))
 
     -- one start, from what comes after it
-    begun : o.anchored ≡ false → (start before count starts k : ℕ) →
-        ((first : ℕ) → IsBounded task (count + 1) starts k (Goes (config 1 start no_slots [] [] first (count + 1)))) →
+    begun : o.anchored ≡ false → (start before count starts k : ℕ) (longest : Held) →
+        ((first : ℕ) (held : Held) →
+        IsBounded task (count + 1) starts k (Goes (config 1 start no_slots [] [] first (tally (count + 1) held)))) →
         IsBounded task count (suc starts) (suc (suc (suc (suc (suc (suc k))))))
-        (Goes (config 0 start no_slots [] [] before count))
-    begun many start before count starts k next =
-        let c : Config = config 0 start no_slots [] [] before count in
-        let d : Config = config 3 start no_slots [] [] start count in
-        let failing = one_left task (again start) count starts k next in
-        step_bounded task (SplitUnanchored 3 1) c at.split (omega arith)
-        (subst
-        (λ v. IsBounded task count (suc starts) (suc (suc (suc (suc (suc k))))) (if v then Goes d else push 1 c d))
-        (sym many)
-        (attempted 3 at.attempt (again start ∷ []) (omega arith) count (suc starts) k failing
-        (config 3 start no_slots [] (again start ∷ []) start count)
-        (record { pc = refl; branches = refl; backtracks = refl })))
+        (Goes (config 0 start no_slots [] [] before (tally count longest)))
+    begun many start before count starts k longest next =
+        step_bounded task (SplitUnanchored 3 1) (c longest) at.split (omega arith) (by_held longest)
+      where
+        c : Held → Config
+        c held = config 0 start no_slots [] [] before (tally count held)
+
+        by_held : (held : Held) →
+            IsBounded task count (suc starts) (suc (suc (suc (suc (suc k))))) (tries_next task 3 1 held (c held))
+        by_held (Some numbers) = match_bounded task count (suc starts) (suc (suc (suc (suc (suc k))))) numbers
+        by_held None =
+            let d : Config = config 3 start no_slots [] [] start (tally count None) in
+            let failing = one_left task (again start) count starts k next in
+            subst
+            (λ v. IsBounded task count (suc starts) (suc (suc (suc (suc (suc k))))) (if v then Goes d else push 1 (c None) d))
+            (sym many)
+            (attempted 3 at.attempt (again start ∷ []) (omega arith) count (suc starts) k failing
+            (config 3 start no_slots [] (again start ∷ []) start (tally count None))
+            (record { pc = refl; branches = refl; backtracks = refl }))
 
     -- all starts from one on
-    abbrev AllBounded : ℕ → ℕ → ℕ → List ℕ → Type 0
-    AllBounded start before count is =
-        IsBounded task count (length is) (8 * length is) (Goes (config 0 start no_slots [] [] before count))
+    abbrev AllBounded : ℕ → ℕ → ℕ → Held → List ℕ → Type 0
+    AllBounded start before count longest is =
+        IsBounded task count (length is) (8 * length is) (Goes (config 0 start no_slots [] [] before (tally count longest)))
 
-    searched : o.anchored ≡ false → (fuel start before count : ℕ) → is_place text start ≡ true → length text < start + fuel →
-        AllBounded start before count (places_from text start)
-    searched many zero start before count place left =
+    searched : o.anchored ≡ false → (fuel start before count : ℕ) (longest : Held) → is_place text start ≡ true →
+        length text < start + fuel →
+        AllBounded start before count longest (places_from text start)
+    searched many zero start before count longest place left =
         let within = place_within text start place in absurd (omega (arith, within, left))
-    searched many (suc fuel) start before count place left =
-        ⊎_elim {C = AllBounded start before count (places_from text start)}
+    searched many (suc fuel) start before count longest place left =
+        ⊎_elim {C = AllBounded start before count longest (places_from text start)}
         (λ lt.
         let d = char_stands text fit.is_text.utf8 start place lt in
         let j = start + len_utf8 d.0 in
         let some = len_utf8_bounds d.0 in
-        subst (AllBounded start before count) (sym (places_on text fit.is_text.utf8 start d.0 place d.1))
+        subst (AllBounded start before count longest) (sym (places_on text fit.is_text.utf8 start d.0 place d.1))
         (further (length (places_from text j))
-        (begun many start before count (length (places_from text j)) (suc (suc (8 * length (places_from text j))))
+        (begun many start before count (length (places_from text j)) (suc (suc (8 * length (places_from text j)))) longest
         (goes_again start (count + 1) (length (places_from text j)) (8 * length (places_from text j)) d.0 d.1
-        (λ first.
-        searched many fuel j first (count + 1) (char_ends_at_place text fit.is_text.utf8 start d.0 place d.1)
+        (λ first held.
+        searched many fuel j first (count + 1) held (char_ends_at_place text fit.is_text.utf8 start d.0 place d.1)
         (omega (arith, some, left)))))))
         (λ ge.
         let within = place_within text start place in
-        subst (AllBounded start before count) (sym (places_at_end text start (omega (arith, within, ge)) place))
+        subst (AllBounded start before count longest) (sym (places_at_end text start (omega (arith, within, ge)) place))
         (bounded_more task (omega arith)
-        (begun many start before count 0 (suc 0) (ends_there start (count + 1) 0 (char_at_past text start ge)))))
+        (begun many start before count 0 (suc 0) longest (ends_there start (count + 1) 0 (char_at_past text start ge)))))
         (cases_lt start (length text))
       where
         further : (m : ℕ) → IsBounded task count (suc m) (suc (suc (suc (suc (suc (suc (suc (suc (8 * m)))))))))
-            (Goes (config 0 start no_slots [] [] before count)) →
-            IsBounded task count (suc m) (8 * suc m) (Goes (config 0 start no_slots [] [] before count))
+            (Goes (config 0 start no_slots [] [] before (tally count longest))) →
+            IsBounded task count (suc m) (8 * suc m) (Goes (config 0 start no_slots [] [] before (tally count longest)))
         further m b = bounded_more task (omega arith) b
 
   -- ---- the whole run
@@ -171,7 +188,7 @@ module _ (i : Input) (text : List ℕ) (o : RunOptions) (accepted : IsAccepted i
           (alone 0 1 (anchored_attempt (plan i) (easy i) accepted.implicit_group_0 is_v) (begin task) refl refl refl))
       by_options false true is_v is_u =
           let at = search_stands (plan i) (easy i) accepted.implicit_group_0 is_v in
-          let d : Config = config 3 o.pos no_slots [] [] o.pos 0 in
+          let d : Config = config 3 o.pos no_slots [] [] o.pos (tally 0 None) in
           subst RunBounded (sym (ap₂ (λ x y. if x || y then o.pos ∷ [] else places_from text o.pos) is_v is_u))
           (bounded_more task (omega arith)
           (step_bounded task (SplitUnanchored 3 1) (begin task) at.split (omega arith)
@@ -180,7 +197,7 @@ module _ (i : Input) (text : List ℕ) (o : RunOptions) (accepted : IsAccepted i
       by_options false false is_v is_u =
           subst RunBounded (sym (ap₂ (λ x y. if x || y then o.pos ∷ [] else places_from text o.pos) is_v is_u))
           (searched (search_stands (plan i) (easy i) accepted.implicit_group_0 is_v) is_u
-          (suc (length text)) o.pos o.pos 0 fit.pos (omega arith))
+          (suc (length text)) o.pos o.pos 0 None fit.pos (omega arith))
 
 pub branch_bound : BranchBound
 unfolding layout run

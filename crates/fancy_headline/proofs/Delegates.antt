@@ -19,7 +19,7 @@ use Rattle.fancy_delegation.proofs.Kept.{IsKept, EachKept, relates_kept}
 use Rattle.fancy_delegation.proofs.Pairwise.{Pairwise, neither, both}
 use Rattle.fancy_delegation.proofs.EasyKeeps.{other_span}
 use Rattle.fancy_delegation.proofs.Fragments.{laid_over, IsOver, over_first_state, fragment_ways, fragment_over}
-use Rattle.fancy_composed.proofs.Courses.{Ground, to_eq, here, go, after, failed, step_at_pc}
+use Rattle.fancy_composed.proofs.Courses.{Tally, Ground, to_eq, here, go, after, failed, step_at_pc}
 use Rattle.fancy_composed.proofs.Hands.{Hands, none, one, from}
 use Rattle.fancy_composed.proofs.Parts.{setting, flag, flag_is, whole, Stands, After, Works}
 use Rattle.fancy_composed.proofs.Alike.{alike_same}
@@ -147,11 +147,11 @@ module _ (w : Ground) where
   }
 
   -- from the first way of the nodes from empty captures, if there is one
-  first_handed : (a b n : ℕ) (s : MatchState) (slots : Slots) (marks : List ℕ) (bs : List Branch) (count : ℕ) → a + 1 ≡ b →
+  first_handed : (a b n : ℕ) (s : MatchState) (slots : Slots) (marks : List ℕ) (bs : List Branch) (count : Tally) → a + 1 ≡ b →
       Stands w s slots →
       {hs ks : List MatchState} → Pairwise (IsOver s.captures) hs ks → Every (IsSteady (w.plan).end_text s) hs →
       Every (SameUnused (group_count (whole w)) (first_state s.place)) ks →
-      Hands w b (After w n n slots) marks bs (take 1 hs)
+      Hands w b (After w n n slots) marks bs count.longest (take 1 hs)
       (after w.task (takes_way w.task (here w a s.place slots marks bs count) (slice_get ks 0)))
   first_handed a b n s slots marks bs count e st neither no_item no_item =
       none count (failed w bs (here w a s.place slots marks bs count) refl)

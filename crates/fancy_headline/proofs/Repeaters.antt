@@ -19,7 +19,7 @@ use Rattle.fancy_laws.proofs.Every.{no_item, item}
 use Rattle.fancy_delegation.proofs.EasyNodes.{IsEasy}
 use Rattle.fancy_delegation.proofs.Alike.{pairs_head}
 use Rattle.fancy_delegation.proofs.Fragments.{over_first_state, fragment_over}
-use Rattle.fancy_composed.proofs.Courses.{Ground, to_eq, to_trans, here, go, after, resumed, pushed, step_at_pc}
+use Rattle.fancy_composed.proofs.Courses.{Tally, once_more, Ground, to_eq, to_trans, here, go, after, resumed, pushed, step_at_pc}
 use Rattle.fancy_composed.proofs.Hands.{Hands, one, from, append}
 use Rattle.fancy_composed.proofs.Parts.{Sound, setting, body, sound_within, Stands, After, after_move, stands_moved, Works}
 use Rattle.fancy_composed.proofs.Alike.{alike_same}
@@ -57,11 +57,11 @@ module _ (w : Ground) (e : Tree) (easy : IsEasy (w.plan).analysis e) (meant : �
       ∙ ap (λ l. is_some (slice_get l 0)) (flat_map_single (λ t. t) (x s) ∙ map-id (x s))
 
   module _ (a b n : ℕ) (at : slice_get (body w) a ≡ Some instr) (end : a + 1 ≡ b) (marks : List ℕ) where
-    abbrev Handed : MatchState → Slots → List Branch → ℕ → List MatchState → Type 0
-    Handed s slots bs count hs = Hands w b (After w n n slots) marks bs hs (go w a s.place slots marks bs count)
+    abbrev Handed : MatchState → Slots → List Branch → Tally → List MatchState → Type 0
+    Handed s slots bs count hs = Hands w b (After w n n slots) marks bs count.longest hs (go w a s.place slots marks bs count)
 
     -- it stops here
-    stops : (s : MatchState) (slots : Slots) (bs : List Branch) (count : ℕ) → Stands w s slots →
+    stops : (s : MatchState) (slots : Slots) (bs : List Branch) (count : Tally) → Stands w s slots →
         is_left s.place ≡ true → Handed s slots bs count (s ∷ [])
     stops s slots bs count st q =
         one w slots count (after_move w n n s slots st)
@@ -71,7 +71,7 @@ module _ (w : Ground) (e : Tree) (easy : IsEasy (w.plan).analysis e) (meant : �
         (to_eq (λ m. ap (λ c. go w c s.place slots marks bs count m) end))))
 
     -- or goes on from the next place, and stops here after that
-    goes_on : (s : MatchState) (slots : Slots) (bs : List Branch) (count j : ℕ) (hs : List MatchState) → Stands w s slots →
+    goes_on : (s : MatchState) (slots : Slots) (bs : List Branch) (count : Tally) (j : ℕ) (hs : List MatchState) → Stands w s slots →
         is_left s.place ≡ false → past_char text (λ d. true) s.place ≡ Some j →
         ((cs : List Branch) → Handed (moved_to j s) slots cs count hs) → Handed s slots bs count (hs ++ s ∷ [])
     goes_on s slots bs count j hs st q next more =
@@ -82,17 +82,17 @@ module _ (w : Ground) (e : Tree) (easy : IsEasy (w.plan).analysis e) (meant : �
         (pushed w a (a + 1) a s.place j slots slots marks bs count)))
         (append w (k ∷ []) hs (s ∷ []) (omega (arith, end), tt) (more (k ∷ bs))
         (λ c.
-        one w slots (c + 1) (after_move w n n s slots st)
-        (to_trans (resumed w k bs c) (to_eq (λ m. ap (λ y. go w y s.place slots marks bs (c + 1) m) end)))))
+        one w slots (once_more c) (after_move w n n s slots st)
+        (to_trans (resumed w k bs c) (to_eq (λ m. ap (λ y. go w y s.place slots marks bs (once_more c) m) end)))))
 
     -- with fewer bytes left, it hands all of its ways
-    abbrev Onward : ℕ → Slots → ℕ → Type 0
+    abbrev Onward : ℕ → Slots → Tally → Type 0
     Onward fuel slots count =
         (t : MatchState)
         (cs : List Branch) → length text < t.place + fuel → Sound w t → Stands w t slots → Handed t slots cs count
         (absent (setting w) x t)
 
-    handed : (fuel : ℕ) (s : MatchState) (slots : Slots) (bs : List Branch) (count : ℕ) → length text < s.place + fuel →
+    handed : (fuel : ℕ) (s : MatchState) (slots : Slots) (bs : List Branch) (count : Tally) → length text < s.place + fuel →
         Sound w s → Stands w s slots →
         Handed s slots bs count (absent (setting w) x s)
     handed zero s slots bs count le ok st = let within = sound_within w s ok in absurd (omega arith)

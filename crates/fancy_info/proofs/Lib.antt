@@ -1,3 +1,4 @@
 pub mod Unfolded
 pub mod OverParts
 pub mod GroupNumbers
+pub mod Children

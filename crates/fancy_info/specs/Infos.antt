@@ -27,6 +27,7 @@ analysis_options_of c = record {
   explicit_capture_group_0 = c.explicit_capture_group_0;
   find_not_empty = c.find_not_empty;
   end_text = c.disallow_empty_match_at_eof_after_newline;
+  leftmost_longest = c.leftmost_longest;
 }
 
 -- the number of the first group

@@ -11,6 +11,8 @@ pub struct AnalyzeContext {
     pub find_not_empty: bool,
     /// A match that takes nothing at the end of the text, after a newline, may be refused.
     pub disallow_empty_match_at_eof_after_newline: bool,
+    /// The longest match at the earliest start may be asked for, and not the first.
+    pub leftmost_longest: bool,
 }
 
 impl Default for AnalyzeContext {
@@ -20,12 +22,14 @@ impl Default for AnalyzeContext {
           explicit_capture_group_0 = false;
           find_not_empty = false;
           disallow_empty_match_at_eof_after_newline = false;
+          leftmost_longest = false;
         } }
     {
         AnalyzeContext {
             explicit_capture_group_0: false,
             find_not_empty: false,
             disallow_empty_match_at_eof_after_newline: false,
+            leftmost_longest: false,
         }
     }
 }

@@ -103,6 +103,13 @@ impl<'a> Info<'a> {
         self.context.disallow_empty_match_at_eof_after_newline
     }
 
+    /// Whether the analysis had `leftmost_longest`.
+    pub fn leftmost_longest(&self) -> bool
+        ensures { result ≡ (info_facts self.now).options.leftmost_longest }
+    {
+        self.context.leftmost_longest
+    }
+
     /// Whether the node is a group that a back reference or an existence condition of the tree names.
     pub fn is_read(&self) -> bool
         ensures { result ≡ (info_facts self.now).is_read }

@@ -11,6 +11,7 @@ use Rattle.fancy_meaning.specs.Premises.{IsText, IsSpan, HasSpans}
 use Rattle.fancy_meaning.specs.Laws.{ArePairs}
 use Rattle.fancy_laws.proofs.Every.{Every, no_item, item, every_one, every_if, every_filter, every_first, every_weaker}
 use Rattle.fancy_laws.proofs.WaysOf.{every_place_from}
+use Rattle.fancy_laws.proofs.Chosen.{every_chosen}
 use Rattle.fancy_laws.proofs.AtPlaces.{StandsAtPlaces, ways_go_by_places, first_stands}
 
 pub every_filter_map : {A B : Type 0} {P : A → Type 0} {Q : B → Type 0} {xs : List A} (h : A → Option B) →
@@ -55,7 +56,7 @@ unfolding answer
 answers_are_pairs q is at =
     mapped (slice_get (filter_map (attempt q) (starts q)) 0)
     (every_first (every_filter_map {Q = StandsAtPlaces q.text (AtPlace q.text)} (attempt q)
-    (λ start here. every_first (every_filter {P = StandsAtPlaces q.text (AtPlace q.text)} (is_admitted q start) (λ t stands e. stands)
+    (λ start here. every_chosen q.leftmost_longest (every_filter {P = StandsAtPlaces q.text (AtPlace q.text)} (is_admitted q start) (λ t stands e. stands)
     (every_weaker (λ t goes. goes.there)
     (ways_go_by_places q.setting is.utf8 q.tree q.tree no_calls (first_state start) (first_stands q.text start here)))))
     (every_start q at)))

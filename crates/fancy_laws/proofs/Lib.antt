@@ -12,6 +12,7 @@ pub mod SettableGroups
 pub mod Characters
 pub mod Pieces
 pub mod AtPlaces
+pub mod Chosen
 pub mod AnswerPairs
 pub mod SpansHold
 pub mod Anchors
@@ -23,5 +24,6 @@ pub mod SizeRules
 pub mod Rounds
 pub mod SizedWays
 pub mod SizesHold
+pub mod LongestWays
 pub mod Marks
 pub mod Continues

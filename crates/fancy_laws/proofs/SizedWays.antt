@@ -1,10 +1,10 @@
 -- From a sound state each way of a part takes as many characters as its size allows, and is sound.
-use Rattle.std.proofs.Common.{◌≡◌, ℕ, suc, ◌≤◌, ⊎_elim, Bool, true, List, [], ◌∷◌, Contains, Option, Some, None, nat_eq, filter_map, refl, sym, ap, subst, ◌∙◌, arith, eq-eqb}
+use Rattle.std.proofs.Common.{◌≡◌, ℕ, suc, ◌≤◌, ⊎_elim, Bool, true, false, List, [], ◌∷◌, Contains, Option, Some, None, nat_eq, filter_map, refl, sym, ap, subst, ◌∙◌, arith, eq-eqb}
 use Rattle.std.proofs.lemmas.Bool.{or_left, or_right}
 use Rattle.std.proofs.lemmas.Option.{same_Some, none-some}
 use Rattle.std.specs.List.{list_any, cons_option}
 use Rattle.fancy_meaning.specs.Tree.{Tree, Trees, none, more, Alt, Backref}
-use Rattle.fancy_meaning.specs.Nodes.{nodes, is_read, read_by, read_groups}
+use Rattle.fancy_meaning.specs.Nodes.{nodes, is_keep_out, is_read, read_by, read_groups}
 use Rattle.fancy_meaning.specs.Places.{is_place, chars_between}
 use Rattle.fancy_meaning.specs.MatchState.{MatchState, Span, Ways, moved_to, with_span, first_state, one_of}
 use Rattle.fancy_meaning.specs.Ways.{Setting, ways_with, each_ways}
@@ -19,17 +19,30 @@ use Rattle.fancy_laws.proofs.AtPlaces.{put_tells, spans_with}
 use Rattle.fancy_laws.proofs.SizeRules.{IsTimes, no_times, once_more, sized_exactly, sized_plus, sized_either_left, sized_either_right}
 use Rattle.fancy_laws.proofs.Rounds.{Refines, sized_refined, size_is_bounded}
 
+-- where no `\K` is in the tree, the kept start is the same
+abbrev pub KeepsStart : Tree → MatchState → MatchState → Type 0
+KeepsStart whole s t = list_any is_keep_out (nodes whole) ≡ false → t.kept ≡ s.kept
+
 -- a way that takes so many characters as the size allows
 pub record IsSizedWay (q : Setting) (whole : Tree) (groups : ℕ → Bool) (z : Size) (s t : MatchState) : Type 0 where
   pub on : s.place ≤ t.place
   pub sound : IsSoundFor q whole groups t
   pub sized : IsSized z (chars_between q.text s.place t.place)
+  pub kept : KeepsStart whole s t
 
 -- so many ways of the size, one after the other
 pub record IsIteratedWay (q : Setting) (whole : Tree) (groups : ℕ → Bool) (z : Size) (k : ℕ) (s t : MatchState) : Type 0 where
   pub on : s.place ≤ t.place
   pub sound : IsSoundFor q whole groups t
   pub times : IsTimes z k (chars_between q.text s.place t.place)
+  pub kept : KeepsStart whole s t
+
+-- a node of the list that passes a test
+pub test_passes : (test : Tree → Bool) (es : List Tree) → Every (λ e. test e ≡ true → list_any test es ≡ true) es
+test_passes test [] = no_item
+test_passes test (e ∷ es) =
+    item (λ p. or_left (test e) (list_any test es) p)
+    (every_weaker (λ x f p. or_right (test e) (list_any test es) (f p)) (test_passes test es))
 
 -- a back reference reads its group
 read_found : (es : List Tree) → Every (λ e. (g : ℕ) → read_by e ≡ Some g → list_any (nat_eq g) (filter_map read_by es) ≡ true) es
@@ -55,10 +68,12 @@ first_is_sound q whole start at =
     record { place = at; spans = λ g span e. absurd (none-some span e); sizes = λ g span read e. absurd (none-some span e) }
 
 module _ (q : Setting) (whole : Tree) (groups : ℕ → Bool) where
-  pub stays_there : (s t : MatchState) → t.place ≡ s.place → IsSoundFor q whole groups t → IsSizedWay q whole groups (exactly 0) s t
-  stays_there s t e is = record {
+  pub stays_there : (s t : MatchState) → t.place ≡ s.place → KeepsStart whole s t → IsSoundFor q whole groups t →
+      IsSizedWay q whole groups (exactly 0) s t
+  stays_there s t e kept is = record {
     on = omega (arith, e);
     sound = is;
+    kept = kept;
     sized = subst (IsSized (exactly 0)) (sym (ap (chars_between q.text s.place) e ∙ no_chars q.text s.place)) (sized_exactly 0);
   }
 
@@ -68,7 +83,7 @@ module _ (q : Setting) (whole : Tree) (groups : ℕ → Bool) where
   pub moves_on : (z : Size) (s : MatchState) (i n : ℕ) → IsSoundFor q whole groups s → IsMove q.text s.place i n → IsSized z n →
       IsSizedWay q whole groups z s (moved_to i s)
   moves_on z s i n is m sized =
-      record { on = m.on; sound = moved_sound s i is m.to; sized = subst (IsSized z) (sym m.takes) sized }
+      record { on = m.on; sound = moved_sound s i is m.to; sized = subst (IsSized z) (sym m.takes) sized; kept = λ none. refl }
 
   pub one_then : (a b : Size) (s t u : MatchState) → IsSizedWay q whole groups a s t → IsSizedWay q whole groups b t u →
       IsSizedWay q whole groups (plus a b) s u
@@ -77,31 +92,38 @@ module _ (q : Setting) (whole : Tree) (groups : ℕ → Bool) where
     sound = g.sound;
     sized = subst (IsSized (plus a b)) (sym (chars_add q.text s.place t.place u.place f.on g.on))
         (sized_plus a b (chars_between q.text s.place t.place) (chars_between q.text t.place u.place) f.sized g.sized);
+    kept = λ none. g.kept none ∙ f.kept none;
   }
 
   pub resized : (a b : Size) (s t : MatchState) → ((n : ℕ) → IsSized a n → IsSized b n) → IsSizedWay q whole groups a s t →
       IsSizedWay q whole groups b s t
-  resized a b s t h f = record { on = f.on; sound = f.sound; sized = h (chars_between q.text s.place t.place) f.sized }
+  resized a b s t h f = record { on = f.on; sound = f.sound; sized = h (chars_between q.text s.place t.place) f.sized; kept = f.kept }
 
   pub iterable : (z : Size) → IsIterable (IsSoundFor q whole groups) (IsSizedWay q whole groups z) (IsIteratedWay q whole groups z)
   iterable z = record {
     arrives = λ s t is f. f.sound;
     none = λ s is.
-        record { on = omega arith; sound = is; times = subst (IsTimes z 0) (sym (no_chars q.text s.place)) (no_times z) };
+        record {
+          on = omega arith;
+          sound = is;
+          times = subst (IsTimes z 0) (sym (no_chars q.text s.place)) (no_times z);
+          kept = λ none. refl;
+        };
     one_more = λ n s t u is f g. record {
       on = omega (arith, f.on, g.on);
       sound = g.sound;
       times = subst (IsTimes z (suc n)) (sym (chars_add q.text s.place t.place u.place f.on g.on))
           (once_more z n (chars_between q.text s.place t.place) (chars_between q.text t.place u.place) f.sized g.times);
+      kept = λ none. g.kept none ∙ f.kept none;
     };
   }
 
   pub looking : (z : Size) → IsLooking q (IsSoundFor q whole groups) (IsSizedWay q whole groups z) (IsSizedWay q whole groups (exactly 0))
   looking z = record {
-    stays = λ s is. stays_there s s refl is;
-    restores = λ s t is f. stays_there s (moved_to s.place t) refl (moved_sound t s.place f.sound is.place);
+    stays = λ s is. stays_there s s refl (λ none. refl) is;
+    restores = λ s t is f. stays_there s (moved_to s.place t) refl f.kept (moved_sound t s.place f.sound is.place);
     goes_back = λ s i is le at. moved_sound s i is at;
-    comes_here = λ s t i is le at f here. stays_there s t here f.sound;
+    comes_here = λ s t i is le at f here. stays_there s t here f.kept f.sound;
   }
 
   -- the span that a group's close sets has the size of the group
@@ -123,6 +145,7 @@ module _ (q : Setting) (whole : Tree) (groups : ℕ → Bool) where
           (put_tells t.captures g (s.place, t.place) h span e);
     };
     sized = f.sized;
+    kept = f.kept;
   }
 
   -- the first branch, or a later one

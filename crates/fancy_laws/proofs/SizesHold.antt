@@ -1,10 +1,11 @@
 -- The size law, by induction over the calls that may be opened and then over the tree.
-use Rattle.std.proofs.Common.{◌≡◌, ℕ, zero, suc, ◌≤◌, inr, Bool, true, false, [], ◌++◌, length, map, Contains, Option, Some, None, IfSome, IsUtf8, if◌then◌else◌, ◌&&◌, ◌==◌, nat_eq, nat_lt, is_some, option_and_then, refl, sym, subst, arith}
+use Rattle.std.proofs.Common.{◌≡◌, ℕ, zero, suc, ◌≤◌, inr, Bool, true, false, [], ◌++◌, length, map, Contains, Option, Some, None, IfSome, IsUtf8, if◌then◌else◌, ◌&&◌, ◌==◌, nat_eq, nat_lt, is_some, option_and_then, refl, sym, ◌∙◌, subst, arith}
+use Rattle.std.specs.List.{list_any}
 use Rattle.std.proofs.lemmas.Bool.{false≢true}
 use Rattle.std.proofs.lemmas.List.{length-map}
 use Rattle.std.proofs.lemmas.Option.{option_and_then_some}
 use Rattle.fancy_meaning.specs.Tree.{Tree, Trees, none, more, Empty, KeepOut, ContinueFromPreviousMatchEnd, AbsentClear, Any, Assert, GeneralNewline, Literal, LiteralBytes, Delegate, Concat, Alt, Group, LookAround, Repeat, Backref, BackrefWithLevel, BackrefExists, AtomicGroup, DefineGroup, AbsentRepeater, AbsentStopper, AbsentExpression, Control, Conditional, SubroutineCall, AstNode}
-use Rattle.fancy_meaning.specs.Nodes.{nodes, nodes_of_each, target, is_read}
+use Rattle.fancy_meaning.specs.Nodes.{nodes, nodes_of_each, target, is_read, is_keep_out}
 use Rattle.fancy_meaning.specs.OpenCalls.{Depths, opened, call_depth, free_calls}
 use Rattle.fancy_meaning.specs.Places.{chars_between}
 use Rattle.fancy_meaning.specs.Assertions.{assertion_within}
@@ -23,7 +24,7 @@ use Rattle.fancy_laws.proofs.NodesBelow.{target_is_node, nodes_below, Includes, 
 use Rattle.fancy_laws.proofs.Orderly.{IsOrderly, analysed_is_orderly}
 use Rattle.fancy_laws.proofs.SizeRules.{IsBounded, sized_times, sized_exactly, sized_unknown, sized_either_left, sized_either_right}
 use Rattle.fancy_laws.proofs.Rounds.{Refines, refines_unknown, sized_refined, target_refines, size_is_bounded}
-use Rattle.fancy_laws.proofs.SizedWays.{IsSizedWay, reference_reads, stays_there, moved_sound, moves_on, one_then, resized, iterable, looking, captures_sound, alt_more}
+use Rattle.fancy_laws.proofs.SizedWays.{IsSizedWay, test_passes, reference_reads, stays_there, moved_sound, moves_on, one_then, resized, iterable, looking, captures_sound, alt_more}
 
 module _ (q : Setting) (whole : Tree) (utf8 : IsUtf8 q.text) (orderly : IsOrderly whole) (groups : ℕ → Bool)
     (with_read : (g : ℕ) → is_read whole g ≡ true → groups g ≡ true) where
@@ -35,6 +36,9 @@ module _ (q : Setting) (whole : Tree) (utf8 : IsUtf8 q.text) (orderly : IsOrderl
       Refines (size whole e) (size_of_group (known_of whole) g)
   group_has_its_size zero e c = refines_unknown (size whole e) (size_is_bounded whole e)
   group_has_its_size (suc g) e c = target_refines whole (suc g) e (orderly.groups g e c)
+
+  keeps_out : Contains (nodes whole) KeepOut → list_any is_keep_out (nodes whole) ≡ true
+  keeps_out c = every_contained KeepOut (test_passes is_keep_out (nodes whole)) c refl
 
   loop_bounds : (lo : ℕ) (hi : Option ℕ) (greedy : Bool) (e : Tree) (k : ℕ) → Contains (nodes whole) (Repeat lo hi greedy e) →
       IfSome hi (λ n. lo ≤ n → k ≤ n) → IfSome hi (λ n. k ≤ n)
@@ -50,13 +54,14 @@ module _ (q : Setting) (whole : Tree) (utf8 : IsUtf8 q.text) (orderly : IsOrderl
     mutual
       every_way_has_size : (e : Tree) → Includes (nodes whole) (nodes e) → (s : MatchState) → IsSoundFor q whole groups s →
           Every (IsSizedWay q whole groups (size whole e) s) (ways_with q call e s)
-      every_way_has_size Empty part s is = every_one (stays_there q whole groups s s refl is)
+      every_way_has_size Empty part s is = every_one (stays_there q whole groups s s refl (λ none. refl) is)
       every_way_has_size KeepOut part s is =
           every_one
           (stays_there q whole groups s (record s { kept = s.place }) refl
+          (λ none. absurd (false≢true (sym none ∙ keeps_out (includes_first (nodes whole) KeepOut [] part))))
           (record { place = is.place; spans = is.spans; sizes = is.sizes }))
       every_way_has_size ContinueFromPreviousMatchEnd part s is =
-          every_stays_if (λ t. q.continued && t.place == q.pos) s (λ e. stays_there q whole groups s s refl is)
+          every_stays_if (λ t. q.continued && t.place == q.pos) s (λ e. stays_there q whole groups s s refl (λ none. refl) is)
       every_way_has_size (Any newline crlf) part s is = one_char_has_size (any_takes newline crlf) s is
       every_way_has_size (Literal c casei) part s is = one_char_has_size (literal_takes q.unicode c casei) s is
       every_way_has_size (LiteralBytes cs) part s is =
@@ -71,8 +76,8 @@ module _ (q : Setting) (whole : Tree) (utf8 : IsUtf8 q.text) (orderly : IsOrderl
           moves_on q whole groups (between 1 2) s i m.0 is m.3
           (record { at_least = m.1; at_most = inr m.2; exact = λ const below. absurd (false≢true const) }))
       every_way_has_size (Assert within a) part s is =
-          every_asserts q (assertion_within within a) s (stays_there q whole groups s s refl is)
-          (stays_there q whole groups s (record s { text_end = true }) refl
+          every_asserts q (assertion_within within a) s (stays_there q whole groups s s refl (λ none. refl) is)
+          (stays_there q whole groups s (record s { text_end = true }) refl (λ none. refl)
           (record { place = is.place; spans = is.spans; sizes = is.sizes }))
       every_way_has_size (Backref g casei) part s is =
           every_moves q (λ i. option_and_then (λ span. past_piece q.text q.unicode casei span i) (s.captures g)) s
@@ -82,7 +87,7 @@ module _ (q : Setting) (whole : Tree) (utf8 : IsUtf8 q.text) (orderly : IsOrderl
           (is.sizes g span
           (with_read g (reference_reads whole g casei (includes_first (nodes whole) (Backref g casei) [] part))) set)))
       every_way_has_size (BackrefExists g None) part s is =
-          every_stays_if (λ t. is_some (t.captures g)) s (λ e. stays_there q whole groups s s refl is)
+          every_stays_if (λ t. is_some (t.captures g)) s (λ e. stays_there q whole groups s s refl (λ none. refl) is)
       every_way_has_size (Concat es) part s is =
           concat_has_size es (includes_rest (nodes whole) (Concat es) (nodes_of_each es) part) s is
       every_way_has_size (Alt es) part s is =
@@ -101,6 +106,7 @@ module _ (q : Setting) (whole : Tree) (utf8 : IsUtf8 q.text) (orderly : IsOrderl
             sized = sized_times (size whole e) lo hi c.count _ c.at_least
                 (loop_bounds lo hi greedy e c.count
                 (includes_first (nodes whole) (Repeat lo hi greedy e) (nodes e) part) c.at_most) (c.after).times;
+            kept = (c.after).kept;
           })
           (every_repeats (iterable q whole groups (size whole e)) (ways_with q call e)
           (every_way_has_size e (includes_rest (nodes whole) (Repeat lo hi greedy e) (nodes e) part)) q.text lo hi greedy s is)
@@ -128,8 +134,8 @@ module _ (q : Setting) (whole : Tree) (utf8 : IsUtf8 q.text) (orderly : IsOrderl
           (every_way_has_size f (includes_right (nodes whole) (nodes t) (nodes f) branches) s is))
       every_way_has_size (AbsentRepeater e) part s is =
           every_absent q (ways_with q call e) s
-          (λ i le at. record { on = le; sound = moved_sound q whole groups s i is at; sized = sized_unknown _ })
-      every_way_has_size (DefineGroup e) part s is = every_one (stays_there q whole groups s s refl is)
+          (λ i le at. record { on = le; sound = moved_sound q whole groups s i is at; sized = sized_unknown _; kept = λ none. refl })
+      every_way_has_size (DefineGroup e) part s is = every_one (stays_there q whole groups s s refl (λ none. refl) is)
       every_way_has_size (Control verb) part s is = no_item
       every_way_has_size (BackrefExists g (Some level)) part s is = no_item
       every_way_has_size (BackrefWithLevel g level casei) part s is = no_item
@@ -140,7 +146,7 @@ module _ (q : Setting) (whole : Tree) (utf8 : IsUtf8 q.text) (orderly : IsOrderl
 
       concat_has_size : (es : Trees) → Includes (nodes whole) (nodes_of_each es) → (s : MatchState) → IsSoundFor q whole groups s →
           Every (IsSizedWay q whole groups (sum_of (each_size (known_of whole) es)) s) (in_order (each_ways q call es) s)
-      concat_has_size none part s is = every_one (stays_there q whole groups s s refl is)
+      concat_has_size none part s is = every_one (stays_there q whole groups s s refl (λ none. refl) is)
       concat_has_size (more e es) part s is =
           every_flat_map (in_order (each_ways q call es))
           (λ t one. every_weaker (λ u two. one_then q whole groups (size whole e) (sum_of (each_size (known_of whole) es)) s t u one two)

@@ -1,8 +1,8 @@
 -- When a tree is refused by its analysis, and as what.
-use Rattle.std.specs.Prelude.{◌≡◌, ℕ, ◌+◌, ◌-◌, ◌<◌, Bool, true, false, ◌&&◌, ◌||◌, List, [], ◌++◌, Contains, Some, IsTrue, if◌then◌else◌, nat_lt, ◌==◌, slice_get, codes, decimal}
+use Rattle.std.specs.Prelude.{◌≡◌, ℕ, ◌+◌, ◌-◌, ◌<◌, Bool, true, false, ◌&&◌, ◌||◌, not, List, [], ◌++◌, Contains, Some, IsTrue, if◌then◌else◌, nat_lt, ◌==◌, slice_get, codes, decimal}
 use Rattle.std.specs.Ordering.{nat_cmp, is_le}
 use Rattle.std.specs.Cmp.Lexicographic.{slice_cmp}
-use Rattle.fancy_meaning.specs.Tree.{Tree, Backref, BackrefWithLevel, SubroutineCall, AstNode, UnresolvedCall, UnresolvedOther}
+use Rattle.fancy_meaning.specs.Tree.{Tree, Repeat, Backref, BackrefWithLevel, SubroutineCall, AstNode, UnresolvedCall, UnresolvedOther}
 use Rattle.fancy_meaning.specs.Nodes.{nodes, groups, group_count}
 use Rattle.fancy_meaning.specs.Options.{ParsedTree, AnalysisOptions, analysis_of}
 use Rattle.fancy_meaning.specs.Spots.{Spot, spots}
@@ -22,6 +22,11 @@ pub data CompileError : Type 0 where
 abbrev pub is_back_to : ℕ → Tree → Bool
 is_back_to g (Backref h casei) = h == g
 is_back_to g e = false
+
+-- a loop that stops first
+abbrev pub is_lazy : Tree → Bool
+is_lazy (Repeat lo hi greedy e) = not greedy
+is_lazy e = false
 
 abbrev pub has_level : Tree → Bool
 has_level (BackrefWithLevel g level casei) = true
@@ -83,6 +88,7 @@ module _ (p : ParsedTree) (options : AnalysisOptions) where
     unresolved_call : Contains (nodes tree) (AstNode UnresolvedCall) → RefusesBeforeEnd SubroutineCallTargetNotFound
     unresolved_node : Contains (nodes tree) (AstNode UnresolvedOther) → RefusesBeforeEnd UnresolvedAstNode
     reference_with_level : Has tree has_level → RefusesBeforeEnd FeatureNotYetSupported
+    lazy_loop : IsTrue options.leftmost_longest → Has tree is_lazy → RefusesBeforeEnd FeatureNotYetSupported
     group_out_of_range : (g : ℕ) → Has tree (refers g) → IsTrue (is_no_group g) → RefusesBeforeEnd (InvalidBackref g)
     left_recursion : (g : ℕ) (text : List ℕ) → IsLeastLeftRecursive tree g → Describes p.named_groups g text →
         RefusesBeforeEnd (LeftRecursiveSubroutineCall text)

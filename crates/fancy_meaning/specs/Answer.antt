@@ -1,5 +1,5 @@
--- What a search answers: the first admitted way at the earliest start that has one.
-use Rattle.std.specs.Prelude.{ℕ, Bool, ◌&&◌, ◌||◌, not, List, [], ◌∷◌, length, min, filter, filter_map, flat_map, Option, Some, None, if◌then◌else◌, ◌==◌, slice_get, option_map}
+-- What a search answers: at the earliest start that has an admitted way the first one, or the longest.
+use Rattle.std.specs.Prelude.{ℕ, ◌-◌, Bool, true, false, ◌&&◌, ◌||◌, not, nat_lt, List, [], ◌∷◌, length, min, filter, filter_map, flat_map, Option, Some, None, if◌then◌else◌, ◌==◌, slice_get, option_map}
 use Rattle.regex_hir.specs.Text.{is_some_and, byte_before}
 use Rattle.fancy_meaning.specs.Numbers.{usize_max}
 use Rattle.fancy_meaning.specs.Tree.{Tree}
@@ -22,6 +22,8 @@ pub record Search : Type 0 where
   pub not_empty : Bool
   -- no match takes nothing at the text's end after an LF, unless it asked for the end
   pub end_text : Bool
+  -- the longest match at the earliest start is asked for
+  pub leftmost_longest : Bool
 
 -- the search that a run of a compiled tree makes
 abbrev pub search_of : Plan → List ℕ → RunOptions → Search
@@ -31,6 +33,7 @@ search_of p text o = record {
   anchored = p.anchored || o.anchored;
   not_empty = o.not_empty;
   end_text = p.end_text;
+  leftmost_longest = o.leftmost_longest;
 }
 
 abbrev pub span_numbers : Option Span → List ℕ
@@ -41,6 +44,24 @@ span_numbers (Some (i, j)) = i ∷ j ∷ []
 -- end.
 unfoldable pub as_numbers : ℕ → MatchState → List ℕ
 as_numbers n s = min s.kept s.place ∷ s.place ∷ flat_map (λ g. span_numbers (s.captures g)) (range_from 1 n)
+
+-- how many bytes the span of group 0 has
+abbrev pub reported : MatchState → ℕ
+reported s = s.place - s.kept
+
+-- the longest of a state and these, the first one among equals
+abbrev pub longest_from : MatchState → List MatchState → MatchState
+longest_from s [] = s
+longest_from s (t ∷ ts) = longest_from (if nat_lt (reported s) (reported t) then t else s) ts
+
+abbrev pub longest_of : List MatchState → Option MatchState
+longest_of [] = None
+longest_of (s ∷ ss) = Some (longest_from s ss)
+
+-- of several ways the first, or where it is asked for the longest
+abbrev pub chosen : Bool → List MatchState → Option MatchState
+chosen false ss = slice_get ss 0
+chosen true ss = longest_of ss
 
 module _ (q : Search) where
   -- the starts that are tried, in order
@@ -61,9 +82,9 @@ module _ (q : Search) where
   abbrev pub ways_from : ℕ → List MatchState
   ways_from start = ways q.setting q.tree q.tree no_calls (first_state start)
 
-  -- the first admitted way from a start
+  -- the chosen admitted way from a start
   abbrev pub attempt : ℕ → Option MatchState
-  attempt start = slice_get (filter (is_admitted start) (ways_from start)) 0
+  attempt start = chosen q.leftmost_longest (filter (is_admitted start) (ways_from start))
 
   -- the answer as numbers, or none
   unfoldable pub answer : Option (List ℕ)

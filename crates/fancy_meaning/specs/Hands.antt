@@ -87,12 +87,13 @@ module _ (t : Task) where
     pub keeps : (k : ℕ) → IsOutsideState k → (k < part.taken_from) ⊎ (part.taken_to ≤ k) →
         c.slots k ≡ (part.entry).slots k
 
-  -- the part is left with these states in turn, and after the last it fails into the branches below
-  pub data Hands (part : Stretch) : Next → List MatchState → Type 0 where
-    no_more : {from : Next} (d : Config) → d.start ≡ (part.entry).start →
+  -- The part is left with these states in turn, and after the last it fails into the branches below. The longest match
+  -- so far is the one with which it was entered, or failed back.
+  pub data Hands (part : Stretch) : (longest : Option (List ℕ)) → Next → List MatchState → Type 0 where
+    no_more : {longest : Option (List ℕ)} {from : Next} (d : Config) → d.start ≡ (part.entry).start → d.longest ≡ longest →
         Leads from (fail_to t (part.entry).branches d) →
-        Hands part from []
-    next_way : {from : Next} {s : MatchState} {ss : List MatchState} (c : Config) (own : List _) →
-        Leads from (Goes c) → IsLeft part s c own →
-        ((d : Config) → d.start ≡ c.start → Hands part (fail_to t c.branches d) ss) →
-        Hands part from (s ∷ ss)
+        Hands part longest from []
+    next_way : {longest : Option (List ℕ)} {from : Next} {s : MatchState} {ss : List MatchState} (c : Config) (own : List _) →
+        c.longest ≡ longest → Leads from (Goes c) → IsLeft part s c own →
+        ((d : Config) → d.start ≡ c.start → Hands part d.longest (fail_to t c.branches d) ss) →
+        Hands part longest from (s ∷ ss)

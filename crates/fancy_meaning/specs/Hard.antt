@@ -25,9 +25,12 @@ module _ (a : Analysis) where
   is_hard_assertion w (EndLine crlf) = false
   is_hard_assertion w word_assertion = is_in_behind w
 
-  -- it may take nothing or something, and a match is asked for that takes something
+  -- it does not always take as much, and the longest match is asked for, or one that takes something where it may take
+  -- nothing
   abbrev pub is_hard_by_size : Tree → Bool
-  is_hard_by_size e = let s = size a.tree e in a.find_not_empty && s.least == 0 && not s.is_const
+  is_hard_by_size e =
+      let s = size a.tree e in
+      (a.leftmost_longest || (a.find_not_empty && s.least == 0)) && not s.is_const
 
   abbrev mutual
     pub is_hard : Tree → Bool

@@ -1,5 +1,5 @@
 -- When one list of states serves for another.
-use Rattle.std.specs.Prelude.{◌≡◌, ℕ, Bool, true, false, ◌&&◌, not, List, [], ◌∷◌, map, filter, flat_map, Option, Some, None, ◌==◌, bytes_eq}
+use Rattle.std.specs.Prelude.{◌≡◌, ℕ, Bool, true, false, ◌&&◌, not, if◌then◌else◌, List, [], ◌∷◌, map, filter, flat_map, Option, Some, None, ◌==◌, bytes_eq}
 use Rattle.fancy_meaning.specs.Tree.{Tree}
 use Rattle.fancy_meaning.specs.Nodes.{read_groups}
 use Rattle.fancy_meaning.specs.OpenCalls.{targets}
@@ -36,10 +36,15 @@ module _ (p : Plan) where
   unfoldable pub key : Key
   key s = key_with s.place p.end_text (read_groups p.analysis.tree) s
 
-  -- the same, but of the end only whether it is another place, and that only where a match has to take something
+  -- What counts of the end in an easy context: all of it where the longest match is asked for; else only whether it is
+  -- another place, and that only where a match has to take something.
+  abbrev pub easy_end : ℕ → MatchState → ℕ
+  easy_end from s =
+      if p.analysis.leftmost_longest then s.place else bit (p.analysis.find_not_empty && not (s.place == from))
+
+  -- the same key, but of the end only what counts in an easy context
   unfoldable pub easy_key : ℕ → Key
-  easy_key from s =
-      key_with (bit (p.analysis.find_not_empty && not (s.place == from))) p.end_text (read_groups p.analysis.tree) s
+  easy_key from s = key_with (easy_end from s) p.end_text (read_groups p.analysis.tree) s
 
 -- the first state of each key
 abbrev pub reduced : Key → List MatchState → List MatchState

@@ -2,7 +2,7 @@
 use Rattle.std.specs.Prelude.{ℕ, zero, suc, ◌+◌, ◌-◌, ◌*◌, max, Bool, true, false, ◌&&◌, ◌||◌, not, List, [], ◌∷◌, length, map, take, drop, reverse, take_while, Option, Some, None, if◌then◌else◌, ◌==◌, nat_lt, encode_utf8_all}
 use Rattle.std.specs.List.{list_any}
 use Rattle.fancy_meaning.specs.Tree.{Tree, Trees, none, more, KeepOut, ContinueFromPreviousMatchEnd, Any, Assert, GeneralNewline, Literal, LiteralBytes, Delegate, Concat, Alt, Group, LookAround, Repeat, Backref, BackrefExists, AtomicGroup, AbsentRepeater, Control, Conditional, SubroutineCall, Fail}
-use Rattle.fancy_meaning.specs.Nodes.{nodes, group_count, target, is_read, is_absent}
+use Rattle.fancy_meaning.specs.Nodes.{nodes, group_count, target, is_read, is_absent, is_keep_out}
 use Rattle.fancy_meaning.specs.OpenCalls.{Depths, opened, no_calls, call_depth, free_calls}
 use Rattle.fancy_meaning.specs.Assertions.{assertion_within}
 use Rattle.fancy_meaning.specs.Options.{Plan}
@@ -192,6 +192,8 @@ module _ (p : Plan) where
           slots = max 2 laid.fresh;
           explicit_group_0 = p.analysis.explicit_capture_group_0;
           find_not_empty = p.analysis.find_not_empty;
+          leftmost_longest = p.analysis.leftmost_longest;
+          keeps_start = list_any is_keep_out (nodes whole);
           end_text = p.end_text;
           unicode = p.unicode;
         }

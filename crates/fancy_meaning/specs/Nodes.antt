@@ -1,7 +1,7 @@
 -- The nodes of a tree, and its groups by number.
 use Rattle.std.specs.Prelude.{ℕ, zero, suc, Bool, true, false, List, [], ◌∷◌, ◌++◌, length, filter_map, Option, Some, None, if◌then◌else◌, ◌==◌, nat_eq}
 use Rattle.std.specs.List.{list_any}
-use Rattle.fancy_meaning.specs.Tree.{Tree, Trees, none, more, Concat, Alt, Group, LookAround, Repeat, Backref, BackrefExists, AtomicGroup, DefineGroup, Conditional, AbsentRepeater, AbsentStopper, AbsentExpression, AbsentClear}
+use Rattle.fancy_meaning.specs.Tree.{Tree, Trees, none, more, KeepOut, Concat, Alt, Group, LookAround, Repeat, Backref, BackrefExists, AtomicGroup, DefineGroup, Conditional, AbsentRepeater, AbsentStopper, AbsentExpression, AbsentClear}
 
 -- all nodes, each before those below it
 abbrev mutual
@@ -58,6 +58,11 @@ read_groups whole = filter_map read_by (nodes whole)
 -- group g is read somewhere in the tree
 abbrev pub is_read : Tree → ℕ → Bool
 is_read whole g = list_any (nat_eq g) (read_groups whole)
+
+-- a `\K`
+abbrev pub is_keep_out : Tree → Bool
+is_keep_out KeepOut = true
+is_keep_out e = false
 
 -- a node of what is absent, of any kind
 abbrev pub is_absent : Tree → Bool

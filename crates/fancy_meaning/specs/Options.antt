@@ -22,6 +22,8 @@ pub record AnalysisOptions : Type 0 where
   pub find_not_empty : Bool
   -- `disallow_empty_match_at_eof_after_newline`
   pub end_text : Bool
+  -- a run may ask for the longest match at the earliest start
+  pub leftmost_longest : Bool
 
 -- what is analysed: a tree with its groups numbered, and the options
 pub record Analysis : Type 0 where
@@ -63,5 +65,7 @@ pub record RunOptions : Type 0 where
   pub continued : Bool
   -- a match has to take something
   pub not_empty : Bool
+  -- the longest match at the earliest start is asked for
+  pub leftmost_longest : Bool
   pub backtrack_limit : ℕ
   pub step_limit : ℕ

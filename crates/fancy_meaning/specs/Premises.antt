@@ -54,6 +54,7 @@ pub record IsFit (i : Input) (text : List ℕ) (o : RunOptions) : Type 0 where
   pub is_text : IsText text
   pub pos : IsTrue (is_place text o.pos)
   pub not_empty : o.not_empty ≡ true → (i.analysis).find_not_empty ≡ true
+  pub longest : o.leftmost_longest ≡ true → (i.analysis).leftmost_longest ≡ true
 
 -- so many characters are within the size
 pub record IsSized (z : Size) (n : ℕ) : Type 0 where

@@ -27,7 +27,7 @@ module _ (i : Input) (instructions : ℕ) where
     by_compiler : {error : CompileError} → CompileRefuses (plan i) instructions error → IsRefused error
     by_regex : {inner : List ℕ} → MayBeTooBig (plan i) inner → IsRefused (ClassTooBig inner)
 
-  -- What is found is the first admitted way at the earliest start that has one, of a tree that is accepted. Nothing is
+  -- What is found is the chosen admitted way at the earliest start that has one, of a tree that is accepted. Nothing is
   -- refused but in its cases, and a limit is replied only where the run passes it.
   abbrev pub Promise : (passes : Limit → Type 0) → List ℕ → RunOptions → Reply → Type 0
   Promise passes text o (Found numbers) = IsAccepted i instructions × (numbers ≡ answer (search_of (plan i) text o))

@@ -13,7 +13,7 @@ use Rattle.fancy_meaning.specs.Code.{Code}
 use Rattle.fancy_meaning.specs.Layout.{written, in_context, root_code, called_code, first_fresh, layout, undelegated_layout}
 use Rattle.fancy_meaning.specs.AnalysisRefusals.{CompileError, AnalysisRefuses}
 use Rattle.fancy_meaning.specs.CompileRefusals.{IsWritten, IsAmong}
-use Rattle.fancy_meaning.specs.Config.{Config, Outcome, Match, NoMatch, BacktrackLimitExceeded, StackOverflow, StepLimitExceeded, Goes}
+use Rattle.fancy_meaning.specs.Config.{Config, Outcome, Match, NoMatch, BacktrackLimitExceeded, StackOverflow, StepLimitExceeded, outcome_of, Goes}
 use Rattle.fancy_meaning.specs.Machine.{Task, gives_up, Reaches, run}
 use Rattle.fancy_meaning.specs.Fits.{program_fits}
 use Rattle.fancy_meaning.specs.Marks.{has_marked_continue}
@@ -36,10 +36,6 @@ abbrev pub HasUndelegatedProgram : Input → Type 0
 HasUndelegatedProgram i = IsAccepted i (length (undelegated_layout (plan i)).body)
 
 -- ---- a run answers what the tree means
-
-abbrev pub outcome_of : Option (List ℕ) → Outcome
-outcome_of None = NoMatch
-outcome_of (Some numbers) = Match numbers
 
 -- a run of the program passes a limit, or gives the answer of the plain meaning
 abbrev pub Answers : Plan → Prog → List ℕ → RunOptions → Type 0
@@ -83,11 +79,12 @@ pub record GivesUp (t : Task) (c : Config) : Type 0 where
   pub fails : (c.ix == t.pos && t.continued) ≡ false
   pub is_last : gives_up t at_start c ≡ true
 
--- where a run comes to that, no start that is tried has an admitted way
+-- Where a run comes to that, the longest match so far is the answer. Where the longest is not asked for there is none so
+-- far, and no start that is tried has an admitted way.
 abbrev pub GivesUpRightly : Plan → Prog → List ℕ → RunOptions → Type 0
 GivesUpRightly p program text o =
     let t : Task = record { program = program; text = text; options = o } in
-    (n : ℕ) (c : Config) → Reaches t n c → GivesUp t c → answer (search_of p text o) ≡ None
+    (n : ℕ) (c : Config) → Reaches t n c → GivesUp t c → answer (search_of p text o) ≡ c.longest
 
 -- So it is in each run of an accepted tree's program, with delegates and without.
 abbrev pub EarlyNone : Type 0
@@ -135,7 +132,7 @@ pub record Enters (p : Plan) (code : Code) (may_stop : Bool) (t : Task) (c : Con
 abbrev pub Serves : Plan → Code → (Setting → Ways) → (ℕ → Key) → Bool → Type 0
 Serves p code w by may_stop = (t : Task) (c : Config) (fresh : ℕ) (s : MatchState) (from : ℕ) →
     Enters p code may_stop t c fresh s → from ≤ s.place →
-    (hs : List MatchState) × Hands t (stretch_of code c fresh) (Goes c) hs × Thins (by from) hs (w (setting_of p t) s)
+    (hs : List MatchState) × Hands t (stretch_of code c fresh) c.longest (Goes c) hs × Thins (by from) hs (w (setting_of p t) s)
 
 -- the code of a call, where these calls are open
 abbrev pub code_of_call : Plan → (Tree → Bool) → Depths → ℕ → Bool → Code

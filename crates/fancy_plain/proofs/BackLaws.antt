@@ -1,6 +1,6 @@
 -- The way back to what is tried later.
-use Rattle.std.proofs.Common.{◌≡◌, ◌≤◌, ◌+◌, ◌∷◌, [], ℕ, zero, suc, List, Bool, Some, None, Result, Ok, Err, length, take, reverse, refl, sym, ap, ◌∙◌, subst, arith}
-use Rattle.std.proofs.lemmas.List.{length-take}
+use Rattle.std.proofs.Common.{◌≡◌, ◌≤◌, ◌+◌, ◌∷◌, ◌++◌, [], ℕ, zero, suc, List, Bool, Some, None, Result, Ok, Err, length, take, reverse, refl, sym, ap, ◌∙◌, subst, arith}
+use Rattle.std.proofs.lemmas.List.{length-take, reverse-append}
 use Rattle.fancy_points.specs.PointSearch as plain
 use Rattle.fancy_points.specs.FirstWays.{search_in}
 use Rattle.fancy_expr.specs.declared.error.Error.{Error}
@@ -36,7 +36,7 @@ pub record IsLast (leading : Leading) (m : Memo) (c : Choice) (cs : List Choice)
   pub keeps : Keeps c.is_untried (leading stand) stand rest f.later
   pub kept : AreKept leading m.log.entries.items c.path cs rest
 
-pub last_kept : (leading : Leading) (m : Memo) (c : Choice) (cs : List Choice) (f : plain.Search) → reverse m.later.items ≡ c ∷ cs →
+last_kept : (leading : Leading) (m : Memo) (c : Choice) (cs : List Choice) (f : plain.Search) → reverse m.later.items ≡ c ∷ cs →
     IsSearch leading m f → IsLast leading m c cs f
 last_kept leading m c cs f e h =
     let k = subst (λ l. AreKept leading m.log.entries.items (length m.log.entries.items) l f.later) e h.later in
@@ -52,13 +52,13 @@ module _ (leading : Leading) (m cut : Memo) (c : Choice) (cs : List Choice) (f :
   long = ap length path ∙ length-take c.path es ∙ (let w = last.within in omega (arith, w))
 
   -- the path is cut to where the choice stands
-  pub here_cut : IsHere cut c.stand last.stand
+  here_cut : IsHere cut c.stand last.stand
   here_cut =
       subst (λ n. IsStand cut.log.entries.items n c.stand last.stand) (sym long)
       (subst (λ l. IsStand l c.path c.stand last.stand) (sym path)
       (stand_agrees es (take c.path es) c.path c.stand last.stand (agree_cut c.path c.path es (omega arith)) last.stands))
 
-  pub search_cut : IsSearch leading cut (record f { later = last.rest })
+  search_cut : IsSearch leading cut (record f { later = last.rest })
   search_cut = record {
     later =
         subst (λ l. AreKept leading cut.log.entries.items (length cut.log.entries.items) l last.rest) (sym later)
@@ -68,6 +68,28 @@ module _ (leading : Leading) (m cut : Memo) (c : Choice) (cs : List Choice) (f :
     failed = λ p. ap (λ x. Rattle.fancy_plain.specs.FailedPairs.has_pair x (Rattle.fancy_plain.specs.FailedPairs.key_of p)) failed ∙ h.failed p;
     visits = subst (λ v. v ≤ f.visits) (sym visits) h.visits;
   }
+
+-- the last choice is taken off what is kept, and the path is cut to where it stands
+pub record Popped (leading : Leading) (cut : Memo) (c : Choice) (f : plain.Search) : Type 0 where
+  pub stand : plain.Stand
+  pub rest : List plain.Later
+  pub keeps : Keeps c.is_untried (leading stand) stand rest f.later
+  pub search : IsSearch leading cut (record f { later = rest })
+  pub here : IsHere cut c.stand stand
+
+pub popped : (leading : Leading) (m cut : Memo) (c : Choice) (f : plain.Search) → m.later.items ≡ cut.later.items ++ (c ∷ []) →
+    cut.log.entries.items ≡ take c.path m.log.entries.items → cut.failed ≡ m.failed → cut.visits ≡ m.visits →
+    IsSearch leading m f → Popped leading cut c f
+popped leading m cut c f items path failed visits h =
+    let cs = reverse cut.later.items in
+    let last = last_kept leading m c cs f (ap reverse items ∙ reverse-append cut.later.items (c ∷ [])) h in
+    record {
+      stand = last.stand;
+      rest = last.rest;
+      keeps = last.keeps;
+      search = search_cut leading m cut c cs f last refl path failed visits h;
+      here = here_cut leading m cut c cs f last refl path failed visits h;
+    }
 
 -- what the other way on answers is what going back answers
 pub goes_back : (task : Task) (next : plain.Next) (steps : ℕ) (s other : plain.Stand) (here : Stand) (f g : plain.Search)

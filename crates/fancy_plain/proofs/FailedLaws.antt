@@ -13,7 +13,10 @@ use Rattle.std.specs.declared.hash.BuildHasherDefault.{BuildHasherDefault}
 use Rattle.std.proofs.lemmas.List.Sorted.{list_any-IsPermutation}
 use lib.Pointwise.{bytes_decides}
 use Rattle.fancy_plain.specs.declared.failed.Failed.{Failed}
-use Rattle.fancy_plain.specs.FailedPairs.{same_numbers, bit_is_set, place_bit, pair_bit, is_noted, has_pair}
+use Rattle.fancy_plain.specs.FailedPairs.{same_numbers, bit_is_set, is_noted, has_pair}
+use Rattle.fancy_plain.specs.declared.pair_bits.PairBits.{PairBits}
+use Rattle.fancy_plain.specs.PairBits.{pair_bit}
+use Rattle.fancy_plain.proofs.PairBitLaws.{one_pair}
 
 -- ---- bits
 
@@ -74,76 +77,43 @@ bit_is_set-more before words bit word same within read n =
 
 -- ---- the bits of pairs
 
-pub record IsBitOf (width base at place bit : ℕ) : Type 0 where
-  pub low : at < width
-  pub past : base ≤ place
-  pub is : (place - base) * width + at ≡ bit
-
-if_some : {A : Type 0} (b : Bool) (x y : A) → (if b then Some x else None) ≡ Some y → (b ≡ true) × (x ≡ y)
-if_some true x y h = (refl, cc)
-if_some false x y h = cc
-
-is_bit_of : (width base at place bit : ℕ) → place_bit width base at place ≡ Some bit → IsBitOf width base at place bit
-is_bit_of width base at place bit h =
-    let n : ℕ = (place - base) * width + at in
-    let made = if_some (nat_lt at width && nat_le base place && nat_lt n (2 ^ 64)) n bit h in
-    let both = and_parts (nat_lt at width && nat_le base place) (nat_lt n (2 ^ 64)) made.0 in
-    let first = and_parts (nat_lt at width) (nat_le base place) both.0 in
-    record { low = ltb-true at width first.0; past = leb-true base place first.1; is = made.1 }
-
--- a bit is of one pair
-pub one_pair : (width base : ℕ) (k m : List ℕ) (bit : ℕ) → pair_bit width base k ≡ Some bit → pair_bit width base m ≡ Some bit → k ≡ m
-one_pair width base (a ∷ p ∷ []) (b ∷ q ∷ []) bit h i =
-    let x = is_bit_of width base a p bit h in
-    let y = is_bit_of width base b q bit i in
-    let same = same_from_place (p - base) a (q - base) b width x.low y.low (x.is ∙ sym y.is) in
-    let places : p ≡ q = omega arith in
-    let points : a ≡ b = same.1 in
-    cc
-one_pair width base (a ∷ p ∷ []) [] bit h i = cc
-one_pair width base (a ∷ p ∷ []) (b ∷ []) bit h i = cc
-one_pair width base (a ∷ p ∷ []) (b ∷ q ∷ n ∷ ns) bit h i = cc
-one_pair width base [] m bit h i = cc
-one_pair width base (a ∷ []) m bit h i = cc
-one_pair width base (a ∷ p ∷ n ∷ ns) m bit h i = cc
-
 is_same : (k : List ℕ) → same_numbers k k ≡ true
 is_same k = (bytes_decides k k).1 refl
 
-pub not_same : (width base : ℕ) (k m : List ℕ) → pair_bit width base k ≢ pair_bit width base m → same_numbers k m ≡ false
-not_same width base k m apart =
-    false_from_ne_true (same_numbers k m) (λ h. apart (ap (pair_bit width base) ((bytes_decides k m).0 h)))
+pub not_same : (b : PairBits) (base : ℕ) (k m : List ℕ) → pair_bit b base k ≢ pair_bit b base m → same_numbers k m ≡ false
+not_same b base k m apart =
+    false_from_ne_true (same_numbers k m) (λ h. apart (ap (pair_bit b base) ((bytes_decides k m).0 h)))
 
 -- ---- notes
 
-pub noted_at : (f : Failed) (k : List ℕ) (o : Option ℕ) → o ≡ pair_bit f.width f.base k → is_noted o f k ≡ has_pair f k
+pub noted_at : (f : Failed) (k : List ℕ) (o : Option ℕ) → o ≡ pair_bit f.pair_bits f.base k → is_noted o f k ≡ has_pair f k
 unfolding has_pair
 noted_at f k o e = ap (λ o. is_noted o f k) e
 
 pub none_noted : (f : Failed) → f.bits.items ≡ [] → f.lists.keys ≡ [] → (k : List ℕ) → has_pair f k ≡ false
 unfolding has_pair
-none_noted f no_bits no_lists k = go (pair_bit f.width f.base k)
+none_noted f no_bits no_lists k = go (pair_bit f.pair_bits f.base k)
   where
     go : (o : Option ℕ) → is_noted o f k ≡ false
     go None = ap (list_any (λ v. same_numbers k v.items)) no_lists
     go (Some bit) = ap (λ words. bit_is_set words bit) no_bits ∙ no_bit bit
 
 -- one more that has a bit
-pub bit_noted : (f : Failed) (bits : Vec ℕ Global) (m : List ℕ) (bit : ℕ) → pair_bit f.width f.base m ≡ Some bit →
+pub bit_noted : (f : Failed) (bits : Vec ℕ Global) (m : List ℕ) (bit : ℕ) → pair_bit f.pair_bits f.base m ≡ Some bit →
     ((n : ℕ) → bit_is_set bits.items n ≡ (n == bit || bit_is_set f.bits.items n)) →
     (k : List ℕ) → has_pair (record f { bits = bits }) k ≡ (same_numbers k m || has_pair f k)
 unfolding has_pair
-bit_noted f bits m bit of_m more k = go (pair_bit f.width f.base k) refl
+bit_noted f bits m bit of_m more k = go (pair_bit f.pair_bits f.base k) refl
   where
-    same_bit : (n : ℕ) → pair_bit f.width f.base k ≡ Some n → (n == bit) ≡ same_numbers k m
+    same_bit : (n : ℕ) → pair_bit f.pair_bits f.base k ≡ Some n → (n == bit) ≡ same_numbers k m
     same_bit n of_k = elim (cases_eq n bit) [
-      | inl e ↦ eq-eqb n bit e ∙ sym ((bytes_decides k m).1 (one_pair f.width f.base k m bit (of_k ∙ ap Some e) of_m))
-      | inr apart ↦ ne_eqb n bit apart ∙ sym (not_same f.width f.base k m (λ e. apart (cc)))
+      | inl e ↦ eq-eqb n bit e ∙ sym ((bytes_decides k m).1 (one_pair f.pair_bits f.base k m bit (of_k ∙ ap Some e) of_m))
+      | inr apart ↦ ne_eqb n bit apart ∙ sym (not_same f.pair_bits f.base k m (λ e. apart (cc)))
     ]
 
-    go : (o : Option ℕ) → pair_bit f.width f.base k ≡ o →
+    go : (o : Option ℕ) → pair_bit f.pair_bits f.base k ≡ o →
         is_noted o (record f { bits = bits }) k ≡ (same_numbers k m || is_noted o f k)
-    go None of_k = sym (ap (λ b. b || is_noted None f k) (not_same f.width f.base k m (λ e. cc)))
+    go None of_k = sym (ap (λ b. b || is_noted None f k) (not_same f.pair_bits f.base k m (λ e. cc)))
     go (Some n) of_k = more n ∙ ap (λ b. b || bit_is_set f.bits.items n) (same_bit n of_k)
 
 abbrev pub Lists : Type 0
@@ -154,16 +124,16 @@ abbrev pub has_list : Lists → List ℕ → Bool
 has_list lists k = contains_by (λ v. same_numbers k v.items) lists
 
 -- one more that has none
-list_noted : (f : Failed) (lists : Lists) (m : List ℕ) → pair_bit f.width f.base m ≡ None →
+list_noted : (f : Failed) (lists : Lists) (m : List ℕ) → pair_bit f.pair_bits f.base m ≡ None →
     ((k : List ℕ) → has_list lists k ≡ (same_numbers k m || has_list f.lists k)) →
     (k : List ℕ) → has_pair (record f { lists = lists }) k ≡ (same_numbers k m || has_pair f k)
 unfolding has_pair
-list_noted f lists m of_m more k = go (pair_bit f.width f.base k) refl
+list_noted f lists m of_m more k = go (pair_bit f.pair_bits f.base k) refl
   where
-    go : (o : Option ℕ) → pair_bit f.width f.base k ≡ o →
+    go : (o : Option ℕ) → pair_bit f.pair_bits f.base k ≡ o →
         is_noted o (record f { lists = lists }) k ≡ (same_numbers k m || is_noted o f k)
     go None of_k = more k
-    go (Some n) of_k = sym (ap (λ b. b || bit_is_set f.bits.items n) (not_same f.width f.base k m (λ e. cc)))
+    go (Some n) of_k = sym (ap (λ b. b || bit_is_set f.bits.items n) (not_same f.pair_bits f.base k m (λ e. cc)))
 
 -- the set after an insert has one more
 list_put : (old new : Lists) (v : Vec ℕ Global) (added : Bool) →
@@ -177,7 +147,7 @@ list_put old new v false was puts k = ap (list_any (λ w. same_numbers k w.items
     go true same = ap (has_list old) ((bytes_decides k v.items).0 same) ∙ not-false (has_list old v.items) (sym was)
 
 -- the set after an insert of this list of numbers
-pub list_added : (f : Failed) (lists : Lists) (m : List ℕ) (v : Vec ℕ Global) (added : Bool) → pair_bit f.width f.base m ≡ None →
+pub list_added : (f : Failed) (lists : Lists) (m : List ℕ) (v : Vec ℕ Global) (added : Bool) → pair_bit f.pair_bits f.base m ≡ None →
     v.items ≡ m → added ≡ not (has_list f.lists v.items) → PutsKey f.lists lists v added →
     (k : List ℕ) → has_pair (record f { lists = lists }) k ≡ (same_numbers k m || has_pair f k)
 list_added f lists m v added of_m same was puts =
@@ -190,7 +160,7 @@ on_err (Err e) p = p
 
 pub same_bits : (f : Failed) (bits : Vec ℕ Global) → bits.items ≡ f.bits.items → (k : List ℕ) → has_pair (record f { bits = bits }) k ≡ has_pair f k
 unfolding has_pair
-same_bits f bits same k = go (pair_bit f.width f.base k)
+same_bits f bits same k = go (pair_bit f.pair_bits f.base k)
   where
     go : (o : Option ℕ) → is_noted o (record f { bits = bits }) k ≡ is_noted o f k
     go None = refl
@@ -198,7 +168,7 @@ same_bits f bits same k = go (pair_bit f.width f.base k)
 
 pub same_lists : (f : Failed) (lists : Lists) → lists.keys ≡ f.lists.keys → (k : List ℕ) → has_pair (record f { lists = lists }) k ≡ has_pair f k
 unfolding has_pair
-same_lists f lists same k = go (pair_bit f.width f.base k)
+same_lists f lists same k = go (pair_bit f.pair_bits f.base k)
   where
     go : (o : Option ℕ) → is_noted o (record f { lists = lists }) k ≡ is_noted o f k
     go None = ap (list_any (λ v. same_numbers k v.items)) same

@@ -1,6 +1,8 @@
 -- From the end of a search to what the first way answers.
-use Rattle.std.proofs.Common.{◌≡◌, ◌≤◌, [], ℕ, zero, suc, Bool, false, List, length, map, reverse, take, Option, Some, None, Ok, IsTrue, option_map, refl, sym, arith, ap, ◌∙◌, subst}
+use Rattle.std.proofs.Common.{◌≡◌, ◌≤◌, [], ℕ, zero, suc, Bool, false, List, length, map, reverse, take, Option, Some, None, Result, Ok, Err, IsTrue, option_map, refl, sym, arith, ap, ◌∙◌, subst}
 use Rattle.std.proofs.lemmas.List.{take_all}
+use denote.Bor.{Bor}
+use Rattle.fancy_expr.specs.declared.error.Error.{Error}
 use Rattle.fancy_meaning.specs.Tree.{Tree}
 use Rattle.fancy_meaning.specs.Places.{is_place}
 use Rattle.fancy_meaning.specs.Options.{Analysis}
@@ -15,13 +17,15 @@ use Rattle.fancy_points.proofs.PlainSearch.{plain_search_finds}
 use Rattle.fancy_plain.specs.declared.first_way.FirstWay.{FirstWay}
 use Rattle.fancy_plain.specs.declared.first_way.Way.{Way}
 use Rattle.fancy_plain.specs.declared.table.PointTable.{PointTable}
+use Rattle.fancy_plain.specs.declared.point.Point as code
+use Rattle.fancy_plain.specs.FailedPairs.{has_pair, key_of}
 use Rattle.fancy_plain.specs.declared.log.Entry.{Entry}
 use Rattle.fancy_plain.specs.declared.log.Stand.{Stand}
 use Rattle.fancy_plain.specs.declared.search.Memo.{Memo}
 use Rattle.fancy_plain.specs.declared.search.Task.{Task}
 use Rattle.fancy_plain.specs.Tables.{IsTableOf}
 use Rattle.fancy_plain.specs.Paths.{closed_after}
-use Rattle.fancy_plain.specs.Searches.{AreKept, EndsAs, HaveFailed, IsHere, IsSearch, Leading}
+use Rattle.fancy_plain.specs.Searches.{AreKept, EndsAs, HaveFailed, IsHere, IsMemory, IsSearch, Leading, leading_of}
 use Rattle.fancy_plain.specs.Views.{point_of}
 use Rattle.fancy_plain.specs.Ways.{IsFirstWay, IsMemoOf, IsSeenAs, listed}
 
@@ -171,3 +175,45 @@ module _ (text : List ℕ) (f : PointTable) (place : ℕ) (failed : Pair → Boo
       go : (way : Option plain.Stand) → AtEnd m None way → IsSeenAs None (option_map seen_of way)
       go None h = tt
       go (Some t) h = absurd h
+
+-- ---- a search by a table, from what a memo has noted
+
+module _ (points : Bor (List code.Point)) (text : Bor (List ℕ)) (table : PointTable) (place : ℕ) (old m : Memo)
+    (same : points.now ≡ table.points.items) (is_text : IsText text.now) (at : IsTrue (is_place text.now place))
+    (memo : IsMemoOf text.now table old) (failed : m.failed ≡ old.failed) (path : m.log.entries.items ≡ [])
+    (later : m.later.items ≡ []) (visits : m.visits ≡ 0) where
+  abbrev task : Task
+  task = record { points = points; unicode = table.unicode; text = text }
+
+  -- the search answered this, from whatever the code stands for at its start
+  abbrev Finds : Result (Option Stand) Error → Memo → Type 0
+  Finds r n =
+      (s : plain.Stand) (f : Search) → IsSearch (leading_of task) m f →
+      IsHere m (record { at = 0; place = place; turns = 0; opened = 0 }) s → EndsAs task (TakesUp s f) r n
+
+  ends : (r : Result (Option Stand) Error) (n : Memo) → Finds r n →
+      EndsAs task (TakesUp (plain.first_stand place) (plain.first_search memo.0)) r n
+  ends r n h =
+      let have : HaveFailed m memo.0 = λ p. ap (λ x. has_pair x (key_of p)) failed ∙ memo.1.0 p in
+      h (plain.first_stand place) (plain.first_search memo.0) (search_at_start (leading_of task) m memo.0 place path later visits have)
+      (here_at_start (leading_of task) m memo.0 place path later visits have)
+
+  pub end_refused : (e : Error) (n : Memo) → Finds (Err e) n → IsMemory e × IsMemoOf text.now table n
+  end_refused e n h =
+      let x = ends (Err e) n h in (
+        x.0,
+        memo_after text.now table place memo.0 is_text at memo.1.1 n x.1.0
+            (subst (λ ps. HaveFailed n (search_in (searched text.now table.unicode ps memo.0 place x.1.0)).failed) (ap (map point_of) same) x.1.1),
+      )
+
+  pub end_found : (there : Option Stand) (n : Memo) → Finds (Ok there) n →
+      Ended text.now table.unicode (map point_of table.points.items) memo.0 place there n
+  end_found there n h =
+      subst (λ ps. Ended text.now table.unicode ps memo.0 place there n) (ap (map point_of) same)
+      (ended task memo.0 place there n (ends (Ok there) n h))
+
+  pub memo_found : (there : Option Stand) (n : Memo) → Finds (Ok there) n → IsMemoOf text.now table n
+  memo_found there n h =
+      let e = end_found there n h in
+      memo_after text.now table place memo.0 is_text at memo.1.1 n e.steps
+      (subst (λ x. HaveFailed n (search_in x).failed) (sym e.ends) e.have)

@@ -1,5 +1,6 @@
 pub mod PathLaws
 pub mod SearchLaws
+pub mod PairBitLaws
 pub mod FailedLaws
 pub mod PairKeys
 pub mod Nodes

@@ -2,7 +2,7 @@
 use Rattle.std.proofs.Common.{◌≡◌, ℕ, zero, suc, ◌+◌, ◌<◌, ◌≤◌, ◌==◌, ◌&&◌, false, List, [], ◌∷◌, length, map, drop, get_or, sym, ap, ◌∙◌, subst, arith, add-one}
 use Rattle.std.proofs.Math.Seq.{drop-cons}
 use Rattle.std.proofs.lemmas.Bool.{or_parts}
-use Rattle.fancy_meaning.specs.Tree.{trees}
+use Rattle.fancy_meaning.specs.Tree.{Tree, Trees, trees}
 use Rattle.fancy_meaning.specs.Options.{Analysis}
 use Rattle.fancy_meaning.specs.Hard.{is_hard}
 use Rattle.fancy_meaning.specs.Sizes.{size}
@@ -79,6 +79,14 @@ module _ (info : Info) where
   module _ (a : Analysis) (h : IsEasy a info) where
     pub children_analysed : Each (IsAnalysed a) (info_children info)
     children_analysed = each_below (IsFound a) info h.analysed
+
+    -- children of a node over several others
+    pub easy_kids : (whole : Trees → Tree) → ((es : Trees) → is_hard a (whole es) ≡ false → AllEasy a es) →
+        info_tree info ≡ whole (trees_of (info_children info)) → (kids : List Info) → kids ≡ info_children info → Each (IsEasy a) kids
+    easy_kids whole easy tree kids same =
+        subst (Each (IsEasy a)) (sym same)
+        (each_easy a (info_children info) children_analysed
+        (easy (trees_of (info_children info)) (subst (λ e. is_hard a e ≡ false) tree h.easy)))
 
     pub easy_arity : length (info_children info) ≡ length (below (out-Info info).expr.now)
     easy_arity = (each_here (IsFound a) info h.analysed).node.arity

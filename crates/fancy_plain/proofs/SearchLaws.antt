@@ -8,7 +8,9 @@ use Rattle.fancy_points.specs.Points.{Loop, Close}
 use Rattle.fancy_points.specs.Points as points
 use Rattle.fancy_plain.specs.declared.search.Lead.TheVariants as lead
 use Rattle.fancy_plain.specs.Paths.{HasTurns, HasOpened, EndsOpened, EndsTurns, IsTurn, IsOpened, IsStand, closed_after, turn_of}
-use Rattle.fancy_plain.specs.Searches.{IsHere, IsSearch, Leading, Leads, leading_of, next_of}
+use Rattle.fancy_plain.specs.Searches.{HaveFailed, IsHere, IsSearch, Leading, Leads, TurnsBy, leading_of, next_of}
+use Rattle.fancy_plain.specs.declared.search.Turning.{Turning}
+use Rattle.fancy_plain.specs.declared.search.Turning.TheVariants as turning
 use Rattle.fancy_plain.specs.Views.{point_of}
 use Rattle.fancy_plain.specs.declared.point.Point.{Point}
 use Rattle.fancy_plain.specs.declared.point.Point.TheVariants as point
@@ -267,10 +269,10 @@ module _ (l : Loop) (after : ℕ) (s : plain.Stand) (t : plain.Turn) (ts : List 
   abbrev pub off : plain.Stand
   off = record (plain.goes_to after s) { turns = ts }
 
-  pub head_out : plain.is_over l s.place t ≡ true → plain.head_lead l after s (t ∷ ts) ≡ plain.Tries true off []
+  head_out : plain.is_over l s.place t ≡ true → plain.head_lead l after s (t ∷ ts) ≡ plain.Tries true off []
   head_out over = cond-true (plain.is_over l s.place t) _ _ over
 
-  pub head_in : (plain.is_over l s.place t ≡ false) × (nat_lt t.count l.lo ≡ true) →
+  head_in : (plain.is_over l s.place t ≡ false) × (nat_lt t.count l.lo ≡ true) →
       plain.head_lead l after s (t ∷ ts) ≡ plain.Tries true on []
   head_in (goes, few) = cond-false (plain.is_over l s.place t) _ _ goes ∙ cond-true (nat_lt t.count l.lo) _ _ few
 
@@ -280,13 +282,30 @@ module _ (l : Loop) (after : ℕ) (s : plain.Stand) (t : plain.Turn) (ts : List 
       cond-false (plain.is_over l s.place t) _ _ goes ∙ cond-false (nat_lt t.count l.lo) _ _ enough
       ∙ ap (λ g. plain.choice_lead g on off) e
 
-  pub head_in_or_out : (plain.is_over l s.place t ≡ false) × (nat_lt t.count l.lo ≡ false) × (l.greedy ≡ true) →
+  head_in_or_out : (plain.is_over l s.place t ≡ false) × (nat_lt t.count l.lo ≡ false) × (l.greedy ≡ true) →
       plain.head_lead l after s (t ∷ ts) ≡ plain.Tries true on (off ∷ [])
   head_in_or_out = choice true
 
-  pub head_out_or_in : (plain.is_over l s.place t ≡ false) × (nat_lt t.count l.lo ≡ false) × (l.greedy ≡ false) →
+  head_out_or_in : (plain.is_over l s.place t ≡ false) × (nat_lt t.count l.lo ≡ false) × (l.greedy ≡ false) →
       plain.head_lead l after s (t ∷ ts) ≡ plain.Tries true off (on ∷ [])
   head_out_or_in = choice false
+
+  -- the lead where these ways on are found
+  abbrev pub lead_of : Turning → plain.Lead
+  lead_of turning.Out = plain.Tries true off []
+  lead_of turning.In = plain.Tries true on []
+  lead_of turning.InOrOut = plain.Tries true on (off ∷ [])
+  lead_of turning.OutOrIn = plain.Tries true off (on ∷ [])
+
+  pub head_by : (place : ℕ) (turns : List plain.Turn) (r : Turning) → place ≡ s.place → turns ≡ t ∷ ts → TurnsBy r l place t →
+      plain.head_lead l after s turns ≡ lead_of r
+  head_by place turns r here is by = ap (plain.head_lead l after s) is ∙ go r (subst (λ i. TurnsBy r l i t) here by)
+    where
+      go : (r : Turning) → TurnsBy r l s.place t → plain.head_lead l after s (t ∷ ts) ≡ lead_of r
+      go turning.Out h = head_out h
+      go turning.In h = head_in h
+      go turning.InOrOut h = head_in_or_out h
+      go turning.OutOrIn h = head_out_or_in h
 
   -- nothing is tried where the pair has no way
   pub head_in_vain : (f : plain.Search) (p : Option points.Point) → f.failed (plain.pair_of s) ≡ true →
@@ -302,6 +321,31 @@ module _ (l : Loop) (after : ℕ) (s : plain.Stand) (t : plain.Turn) (ts : List 
       go false true greedy = cond-true (f.failed (plain.pair_of s)) _ _ w
       go false false true = cond-true (f.failed (plain.pair_of s)) _ _ w
       go false false false = cond-true (f.failed (plain.pair_of s)) _ _ w
+
+-- ---- the other way on from a loop's head
+
+-- the way that is tried second
+pub one_other : (l : plain.Lead) (first other on off : plain.Stand) → l ≡ plain.Tries true first (other ∷ []) →
+    l ≡ plain.Tries true on (off ∷ []) → other ≡ off
+one_other l first other on off e h = cc
+
+-- inside no loop there is none
+pub no_other : (l : Loop) (after : ℕ) (s first other : plain.Stand) (ts : List plain.Turn) → ts ≡ [] →
+    ¬ (plain.head_lead l after s ts ≡ plain.Tries true first (other ∷ []))
+no_other l after s first other [] none e = cc
+no_other l after s first other (t ∷ ts) none e = cc
+
+-- nor where there is one way on alone
+pub lone_way : (l : Loop) (after place : ℕ) (s first other : plain.Stand) (t : plain.Turn) (around ts : List plain.Turn) (r : Turning) →
+    place ≡ s.place → ts ≡ t ∷ around → TurnsBy r l place t → ¬ (r ≡ turning.InOrOut) → ¬ (r ≡ turning.OutOrIn) →
+    ¬ (plain.head_lead l after s ts ≡ plain.Tries true first (other ∷ []))
+lone_way l after place s first other t around ts r here is by a b e = go r a b (sym (head_by l after s t around place ts r here is by) ∙ e)
+  where
+    go : (r : Turning) → ¬ (r ≡ turning.InOrOut) → ¬ (r ≡ turning.OutOrIn) → ¬ (lead_of l after s t around r ≡ plain.Tries true first (other ∷ []))
+    go turning.Out a b e = cc
+    go turning.In a b e = cc
+    go turning.InOrOut a b e = a refl
+    go turning.OutOrIn a b e = b refl
 
 pub turns_none : (entries : List Entry) (link : ℕ) (turns : List plain.Turn) → EndsTurns entries link turns None → turns ≡ []
 turns_none entries link [] h = refl
@@ -321,31 +365,43 @@ here_out m s t after outer around le has h = record {
   spans = h.spans;
 }
 
+-- what holds where a pair is taken up, before its choice is kept and then
+pub record PairKept (m counted kept : Memo) (leading : Leading) (s : Stand) (t : plain.Stand) (f : plain.Search) : Type 0 where
+  pub search : IsSearch leading counted (record f { visits = f.visits + 1 })
+  pub before : IsHere counted s t
+  pub here : IsHere kept s t
+  pub turns : (link : ℕ) (turns : List plain.Turn) → HasTurns m.log.entries.items link turns →
+      HasTurns kept.log.entries.items link turns
+  pub link : (link : ℕ) → link ≤ length m.log.entries.items → link ≤ length kept.log.entries.items
+
 -- A pair that is taken up: the memo is asked for it, the visit is counted, and the choice is kept.
 module _ (m asked counted kept : Memo) (most : ℕ) (same : asked ≡ record m { numbers = asked.numbers })
     (more : counted ≡ record asked { visits = min most (asked.visits + 1) }) (rest : kept ≡ record counted { later = kept.later })
     (leading : Leading) (s : Stand) (t : plain.Stand) (f : plain.Search) (h : IsSearch leading m f) (here : IsHere m s t) where
-  pub log_counted : counted.log ≡ m.log
+  log_counted : counted.log ≡ m.log
   log_counted = ap (λ (n : Memo). n.log) more ∙ ap (λ (n : Memo). n.log) same
 
-  pub log_kept : kept.log ≡ m.log
+  log_kept : kept.log ≡ m.log
   log_kept = ap (λ (n : Memo). n.log) rest ∙ log_counted
 
-  pub search_counted : IsSearch leading counted (record f { visits = f.visits + 1 })
+  search_counted : IsSearch leading counted (record f { visits = f.visits + 1 })
   search_counted = one_visit leading asked f (renumbered leading m f h asked same) counted most more
 
-  pub here_counted : IsHere counted s t
+  here_counted : IsHere counted s t
   here_counted = here_by m counted s t log_counted here
 
-  pub here_kept : IsHere kept s t
+  here_kept : IsHere kept s t
   here_kept = here_by m kept s t log_kept here
 
-  pub turns_kept : (link : ℕ) (turns : List plain.Turn) → HasTurns m.log.entries.items link turns →
+  turns_kept : (link : ℕ) (turns : List plain.Turn) → HasTurns m.log.entries.items link turns →
       HasTurns kept.log.entries.items link turns
   turns_kept link turns = subst (λ (l : Log). HasTurns l.entries.items link turns) (sym log_kept)
 
-  pub link_kept : (link : ℕ) → link ≤ length m.log.entries.items → link ≤ length kept.log.entries.items
+  link_kept : (link : ℕ) → link ≤ length m.log.entries.items → link ≤ length kept.log.entries.items
   link_kept link = subst (λ (l : Log). link ≤ length l.entries.items) (sym log_kept)
+
+  pub pair_kept : PairKept m counted kept leading s t f
+  pair_kept = record { search = search_counted; before = here_counted; here = here_kept; turns = turns_kept; link = link_kept }
 
 -- past what is taken
 pub here_past : (m : Memo) (s : Stand) (t : plain.Stand) (place : ℕ) → IsHere m s t →
@@ -447,11 +503,23 @@ module _ (task : Task) (p : Point) (here : Stand) (s : plain.Stand) (f : plain.S
       subst (λ o. Leads (leading_of task) s here f.failed (plain.next_by (leading_of task s) o s f) result m)
       (sym (plain_there task p here s at there)) h
 
+-- what has failed is the same where the pairs are
+pub failed_by : (m n : Memo) (failed : plain.Pair → Bool) → n.failed ≡ m.failed → HaveFailed m failed → HaveFailed n failed
+failed_by m n failed e h p = ap (λ x. has_pair x (key_of p)) e ∙ h p
+
 -- past the last point there is none
+none_there : (task : Task) (here : Stand) (s : plain.Stand) → here.at ≡ s.at → length (task.points).now ≤ here.at →
+    slice_get (map point_of (task.points).now) s.at ≡ None
+none_there task here s at le =
+    slice_get-map point_of (task.points).now s.at
+    ∙ ap (option_map point_of) (slice_get_past (task.points).now s.at (omega (arith, le, at)))
+
+pub lost_past : (task : Task) (here : Stand) (s : plain.Stand) → here.at ≡ s.at → length (task.points).now ≤ here.at →
+    leading_of task s ≡ plain.Lost
+lost_past task here s at le = ap (λ o. plain.lead_at (task.text).now task.unicode o s) (none_there task here s at le)
+
 pub nothing_there : (task : Task) (here : Stand) (s : plain.Stand) (f : plain.Search) → here.at ≡ s.at →
     length (task.points).now ≤ here.at →
     next_of task (plain.TakesUp s f) ≡ plain.TakesBack (record f { visits = f.visits + 1 })
 nothing_there task here s f at le =
-    ap (λ o. plain.next_by (plain.lead_at (task.text).now task.unicode o s) o s f)
-    (slice_get-map point_of (task.points).now s.at
-    ∙ ap (option_map point_of) (slice_get_past (task.points).now s.at (omega (arith, le, at))))
+    ap (λ o. plain.next_by (plain.lead_at (task.text).now task.unicode o s) o s f) (none_there task here s at le)

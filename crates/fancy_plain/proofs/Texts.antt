@@ -1,6 +1,6 @@
 -- The class texts of a node are those of the nodes that are written out with it.
 use Rattle.std.proofs.Common.{◌≡◌, ℕ, zero, suc, ◌<◌, Bool, false, List, [], ◌∷◌, ◌++◌, get_or, length, Option, Some, None, inl, inr, refl, sym, subst, arith}
-use Rattle.std.specs.Prelude.{◌⊎◌, Result, Ok, Err, IsTrue}
+use Rattle.std.specs.Prelude.{◌⊎◌, Result, Ok, Err, IsErr, IsErrAnd, IsTrue}
 use Rattle.fancy_meaning.specs.Tree.{Tree, Trees, none, more, Delegate, Repeat}
 use Rattle.fancy_meaning.specs.Chars.{is_class}
 use Rattle.fancy_meaning.specs.CompileRefusals.{IsAmong, here, there, written_parts}
@@ -14,11 +14,11 @@ use Rattle.fancy_info.specs.Infos.{info_tree}
 use Rattle.fancy_plain.specs.declared.layout.Layout.{Layout}
 use Rattle.fancy_plain.specs.declared.layout.LoopForm.{LoopForm}
 use Rattle.fancy_plain.specs.declared.layout.LoopForm.TheVariants as form
-use Rattle.fancy_plain.specs.ClassTexts.{HasClass, itself, below, no_text, texts_of, texts_in, AreClasses}
+use Rattle.fancy_plain.specs.ClassTexts.{HasClass, itself, below, no_text, texts_of, texts_in, AreClasses, IsRefusal}
 use Rattle.fancy_plain.specs.Shapes.{form_of}
 use Rattle.fancy_plain.specs.Layouts.{points_in, Replaces, Lays}
 use Rattle.fancy_plain.specs.Neighbours.{trees_of}
-use Rattle.fancy_plain.proofs.Laid.{lays_by, refusal_by}
+use Rattle.fancy_plain.proofs.Laid.{lays_by, lays_fault, refusal_by}
 
 abbrev pub IsNoClass : Tree → Type 0
 IsNoClass (Delegate inner casei) = ⊥
@@ -103,3 +103,12 @@ module _ (inner : List ℕ) (casei : Bool) (p : plain.Point) (s t : Layout) (is 
       Lays (one (plain.Take (plain.InClass inner casei))) (texts_of (Delegate inner casei)) s t r
   lays_class (Ok x) h = record { added = subst (λ k. Replaces (points_in s ++ k ∷ []) s t) is h.added; classes = only_itself }
   lays_class (Err e) h = refusal_by s.unicode no_text (texts_of (Delegate inner casei)) e (λ i f x. absurd x) h
+
+-- one of these nodes was refused
+pub lays_fault_at : {X : Type 0} (code : PointCode) (l : List Info) (s t : Layout) (r : Result X Error) (d : Error) (i : ℕ) (x : Info)
+    (unicode : Bool) → i < length l → x ≡ get_or l i x → IsErr r × IsErrAnd r (λ e. e ≡ d) → unicode ≡ s.unicode →
+    IsRefusal unicode (texts_of (info_tree x)) d → Lays code (texts_in (trees_of l)) s t r
+lays_fault_at code l s t r d i x unicode lt at from same refused =
+    lays_fault code (texts_in (trees_of l)) s t r d from
+    (refusal_by s.unicode (texts_of (info_tree x)) (texts_in (trees_of l)) d (λ inner casei. texts_at inner casei l i x lt at)
+    (subst (λ u. IsRefusal u (texts_of (info_tree x)) d) same refused))

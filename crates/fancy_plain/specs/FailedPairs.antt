@@ -1,10 +1,11 @@
 -- Pairs of a point and a place as numbers, and which of them the code has noted.
-use Rattle.std.specs.Prelude.{ℕ, ◌+◌, ◌-◌, ◌*◌, ◌/◌, ◌%◌, ◌^◌, Bool, true, false, ◌&&◌, List, [], ◌∷◌, Option, Some, None, if◌then◌else◌, ◌==◌, nat_eq, nat_lt, nat_le, slice_index}
+use Rattle.std.specs.Prelude.{ℕ, ◌/◌, ◌%◌, Bool, true, false, List, [], ◌∷◌, Option, Some, None, ◌==◌, nat_eq, slice_index}
 use Rattle.std.specs.Int.{bit_at}
 use Rattle.std.specs.HashSet.{contains_by}
 use lib.Pointwise.{pointwise}
 use Rattle.fancy_points.specs.PointSearch.{Pair}
 use Rattle.fancy_plain.specs.declared.failed.Failed.{Failed}
+use Rattle.fancy_plain.specs.PairBits.{pair_bit}
 
 -- two lists of the same numbers
 abbrev pub same_numbers : List ℕ → List ℕ → Bool
@@ -28,19 +29,6 @@ key_of p = p.at ∷ p.place ∷ turn_numbers p.turns
 abbrev pub bit_is_set : List ℕ → ℕ → Bool
 bit_is_set words n = bit_at (slice_index words (n / 64)) (n % 64) == 1
 
--- the bit of a point at a place: `width` bits for each place from `base` on
-abbrev pub place_bit : ℕ → ℕ → ℕ → ℕ → Option ℕ
-place_bit width base at place =
-    let bit = (place - base) * width + at in
-    if nat_lt at width && nat_le base place && nat_lt bit (2 ^ 64) then Some bit else None
-
--- pairs outside all loops that count have a bit
-abbrev pub pair_bit : ℕ → ℕ → List ℕ → Option ℕ
-pair_bit width base [] = None
-pair_bit width base (at ∷ []) = None
-pair_bit width base (at ∷ place ∷ []) = place_bit width base at place
-pair_bit width base (at ∷ place ∷ n ∷ ns) = None
-
 -- by its bit, or else by its list
 abbrev pub is_noted : Option ℕ → Failed → List ℕ → Bool
 is_noted None f k = contains_by (λ v. same_numbers k v.items) f.lists
@@ -48,4 +36,4 @@ is_noted (Some bit) f k = bit_is_set f.bits.items bit
 
 -- a pair with these numbers was noted
 unfoldable pub has_pair : Failed → List ℕ → Bool
-has_pair f k = is_noted (pair_bit f.width f.base k) f k
+has_pair f k = is_noted (pair_bit f.pair_bits f.base k) f k

@@ -1,5 +1,6 @@
 pub mod Views
 pub mod Paths
+pub mod PairBits
 pub mod FailedPairs
 pub mod Searches
 pub mod Ways

@@ -5,6 +5,7 @@ mod failed;
 pub mod first_way;
 mod layout;
 mod log;
+mod pair_bits;
 mod point;
 pub mod search;
 pub mod table;

@@ -146,7 +146,7 @@ impl Memo {
     {
         Memo {
             alloc,
-            failed: Failed::new(alloc, table.points.len(), pos),
+            failed: Failed::new(alloc, table.pair_bits, pos),
             later: Vec::new(alloc),
             log: Log::new(alloc),
             numbers: Vec::new(alloc),
@@ -158,7 +158,7 @@ impl Memo {
     pub fn clear(&mut self, table: &PointTable, pos: usize)
         ensures { (text : List ℕ) → IsMemoOf text table.now self.new }
     {
-        self.failed.clear(table.points.len(), pos);
+        self.failed.clear(table.pair_bits, pos);
     }
 
     /// Before another search.

@@ -8,6 +8,7 @@ ghost use Rattle.fancy_plain.specs.Neighbours.{AreNeighbours, IsEasy};
 ghost use Rattle.std.specs.Prelude.{IfErr, IfOk, map};
 
 use crate::layout::Layout;
+use crate::pair_bits::PairBits;
 use crate::point::Point;
 use fancy_expr::error::Error;
 use fancy_info::info::Info;
@@ -18,6 +19,8 @@ use std::alloc::Global;
 pub struct PointTable {
     pub(crate) points: Vec<Point>,
     pub(crate) unicode: bool,
+    /// Which bit a pair has that was found to have no way.
+    pub(crate) pair_bits: PairBits,
 }
 
 impl PointTable {
@@ -42,6 +45,11 @@ impl PointTable {
         layout.lay_each(infos)?;
         let mut points = layout.points;
         points.push(Point::Stop)?;
-        Ok(PointTable { points, unicode })
+        let pair_bits = PairBits::of(&points);
+        Ok(PointTable {
+            points,
+            unicode,
+            pair_bits,
+        })
     }
 }

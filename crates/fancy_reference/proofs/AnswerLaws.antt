@@ -11,7 +11,7 @@ use Rattle.fancy_meaning.specs.OpenCalls.{no_calls, targets, free_calls}
 use Rattle.fancy_meaning.specs.MatchState.{MatchState, first_state}
 use Rattle.fancy_meaning.specs.Places.{range_from}
 use Rattle.fancy_meaning.specs.Ways.{Setting, ways, ways_with, called}
-use Rattle.fancy_meaning.specs.Answer.{Search, search_of, is_admitted, ways_from, attempt, starts, answer, as_numbers}
+use Rattle.fancy_meaning.specs.Answer.{Search, search_of, is_admitted, chosen, ways_from, attempt, starts, answer, as_numbers}
 use Rattle.fancy_expr.proofs.Numbered.{count-numbered}
 use Rattle.fancy_reference.specs.declared.options.SearchOptions.{SearchOptions}
 use Rattle.fancy_reference.specs.Asked.{asked, IsAsked}
@@ -63,9 +63,9 @@ module _ (q : Setting) (tree whole : Tree) (same : tree ≡ whole) (left : ℕ) 
       ∙ ap (ways_with q (called q whole (free_calls whole no_calls) no_calls) whole) first
 
 pub attempt_is : (whole : Tree) (o : SearchOptions) (text : List ℕ) (start : ℕ) (found : Option MatchState) (states : List MatchState) →
-    found ≡ slice_get (filter (is_admitted (asked Empty o text) start) states) 0 → states ≡ ways_from (asked whole o text) start →
+    found ≡ chosen o.leftmost_longest (filter (is_admitted (asked Empty o text) start) states) → states ≡ ways_from (asked whole o text) start →
     attempt (asked whole o text) start ≡ found
-attempt_is whole o text start found states is all = sym (is ∙ ap (λ l. slice_get (filter (is_admitted (asked Empty o text) start) l) 0) all)
+attempt_is whole o text start found states is all = sym (is ∙ ap (λ l. chosen o.leftmost_longest (filter (is_admitted (asked Empty o text) start) l)) all)
 
 -- ---- what is asked
 
@@ -77,6 +77,7 @@ search_is e o text a c r h = λ i. record {
   anchored = h.anchored i;
   not_empty = h.not_empty i;
   end_text = h.end_text i;
+  leftmost_longest = h.leftmost_longest i;
 }
 
 pub answer_is : (q : Search) (found : Option MatchState) → slice_get (filter_map (attempt q) (starts q)) 0 ≡ found →

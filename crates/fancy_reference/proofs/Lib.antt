@@ -2,6 +2,7 @@ pub mod StateLaws
 pub mod NodeLaws
 pub mod MoveLaws
 pub mod ListLaws
+pub mod LongestLaws
 pub mod PlaceLaws
 pub mod WaysLaws
 pub mod NodeWays

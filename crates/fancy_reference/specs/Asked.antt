@@ -13,6 +13,7 @@ asked e o text = record {
   anchored = o.anchored;
   not_empty = o.not_empty;
   end_text = o.end_text;
+  leftmost_longest = o.leftmost_longest;
 }
 
 -- an analysis, a compilation and a run with these options ask for the same
@@ -24,3 +25,4 @@ pub record IsAsked (o : SearchOptions) (a : AnalysisOptions) (c : CompileOptions
   pub pos : r.pos ≡ o.pos
   pub continued : r.continued ≡ o.continued
   pub not_empty : r.not_empty ≡ o.not_empty
+  pub leftmost_longest : r.leftmost_longest ≡ o.leftmost_longest

@@ -1,6 +1,7 @@
 -- The view of a state of the code, and of a list of them.
-use Rattle.std.specs.Prelude.{ℕ, List, [], ◌∷◌, map, Option, Some, None}
+use Rattle.std.specs.Prelude.{ℕ, Bool, true, nat_lt, List, [], ◌∷◌, map, Option, Some, None}
 use Rattle.fancy_meaning.specs.MatchState.{MatchState, Span, put}
+use Rattle.fancy_meaning.specs.Answer.{reported}
 use Rattle.fancy_meaning.specs.OpenCalls.{Depths, no_calls, opened}
 use Rattle.fancy_reference.specs.declared.states.Capture.{Capture}
 use Rattle.fancy_reference.specs.declared.states.State.{State}
@@ -18,6 +19,11 @@ state_of s = record { place = s.place; captures = captures_of s.captures.items; 
 
 abbrev pub states_of : List State → List MatchState
 states_of = map state_of
+
+-- the state is longer than the one that is held, or none is
+abbrev pub is_longer_than : Option MatchState → MatchState → Bool
+is_longer_than None t = true
+is_longer_than (Some s) t = nat_lt (reported s) (reported t)
 
 -- how many calls are open after these were opened
 abbrev pub depths_after : Depths → List ℕ → Depths

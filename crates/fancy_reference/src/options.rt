@@ -16,4 +16,6 @@ pub struct SearchOptions {
     pub continued: bool,
     /// A match has to take something.
     pub not_empty: bool,
+    /// The longest match at the earliest start is asked for, and not the first.
+    pub leftmost_longest: bool,
 }

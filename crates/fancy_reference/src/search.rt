@@ -1,6 +1,6 @@
-//! `answer`: the first admitted way at the earliest start that has one.
+//! `answer`: the first admitted way at the earliest start that has one, or the longest.
 
-ghost use Rattle.std.specs.Prelude.{◌≡◌, ◌+◌, ◌<◌, ◌∷◌, [], if◌then◌else◌, ◌^◌, filter, slice_get, option_map, IfOk, IfErr};
+ghost use Rattle.std.specs.Prelude.{◌≡◌, ◌+◌, ◌<◌, ◌∷◌, [], if◌then◌else◌, ◌^◌, ◌&&◌, filter, slice_get, option_map, IfOk, IfErr};
 ghost use Rattle.fancy_meaning.specs.Answer.{as_numbers, answer, is_admitted};
 ghost use Rattle.fancy_meaning.specs.Options.{AnalysisOptions, CompileOptions, RunOptions, plan_of};
 ghost use Rattle.fancy_meaning.specs.Answer as meant;
@@ -11,7 +11,7 @@ ghost use Rattle.fancy_expr.specs.Views.{tree_of};
 ghost use Rattle.fancy_reference.specs.Refusals.{IsRefusal};
 ghost use Rattle.fancy_reference.specs.Asked.{IsAsked, asked};
 ghost use Rattle.fancy_reference.specs.Nodes.{node_tree};
-ghost use Rattle.fancy_reference.specs.States.{state_of, states_of};
+ghost use Rattle.fancy_reference.specs.States.{is_longer_than, state_of, states_of};
 
 use crate::calls::{CALL_DEPTH, Calls};
 use crate::leaves::Search;
@@ -53,6 +53,76 @@ fn first_admitted<'s>(
         }
     }
     None
+}
+
+/// How many bytes a match that ends with this state is said to have.
+fn reported(state: &State) -> usize
+    ensures { result ≡ meant.reported (state_of state.now) }
+{
+    state.place.saturating_sub(state.kept)
+}
+
+/// The state is longer than the one that is held, or none is.
+fn is_longer_than(held: Option<&State>, state: &State) -> bool
+    ensures { result ≡ is_longer_than (option_map (λ s. state_of s.now) held.entry) (state_of state.now) }
+{
+    match held {
+        Some(held) => reported(held) < reported(state),
+        None => true,
+    }
+}
+
+/// An attempt from the start may end with this state, and it is longer than the one that is held.
+fn replaces(
+    options: &SearchOptions,
+    text: &str,
+    start: usize,
+    held: Option<&State>,
+    state: &State,
+) -> bool
+    ensures { result ≡ (is_admitted (asked plain.Empty options.now text.now) start
+        (state_of state.now)
+        && is_longer_than (option_map (λ s. state_of s.now) held.entry) (state_of state.now)) }
+{
+    is_admitted(options, text, start, state) && is_longer_than(held, state)
+}
+
+/// The longest of the states with which an attempt from the start may end, the first one among equals.
+fn longest_admitted<'s>(
+    options: &SearchOptions,
+    text: &str,
+    start: usize,
+    states: &'s [State],
+) -> Option<&'s State>
+    ensures { option_map (λ s. state_of s.now) result
+        ≡ meant.longest_of (filter (is_admitted (asked plain.Empty options.now text.now) start)
+        (states_of states.now)) }
+{
+    let mut longest = None;
+    for state in states {
+        if replaces(options, text, start, longest, state) {
+            longest = Some(state);
+        }
+    }
+    longest
+}
+
+/// The state with which an attempt from the start is to end.
+fn chosen_admitted<'s>(
+    options: &SearchOptions,
+    text: &str,
+    start: usize,
+    states: &'s [State],
+) -> Option<&'s State>
+    ensures { option_map (λ s. state_of s.now) result
+        ≡ meant.chosen options.now.leftmost_longest
+        (filter (is_admitted (asked plain.Empty options.now text.now) start) (states_of states.now)) }
+{
+    if options.leftmost_longest {
+        longest_admitted(options, text, start, states)
+    } else {
+        first_admitted(options, text, start, states)
+    }
 }
 
 /// Start and end, and for none two numbers that mean so.
@@ -151,7 +221,7 @@ pub fn answer(
     let starts = starts(alloc, options, text)?;
     for start in &starts {
         let ways = search.ways(&calls, search.root, &State::first(alloc, *start))?;
-        if let Some(state) = first_admitted(options, text, *start, &ways) {
+        if let Some(state) = chosen_admitted(options, text, *start, &ways) {
             return Ok(Some(as_numbers(alloc, groups, state)?));
         }
     }

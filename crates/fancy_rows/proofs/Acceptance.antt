@@ -1,4 +1,5 @@
 -- Lemmas for trees that no case refuses.
+use Rattle.fancy_meaning.specs.Options.{AnalysisOptions}
 use Rattle.std.proofs.Common.{◌≡◌, ◌<◌, ℕ, zero, suc, Bool, true, false, ◌&&◌, ◌||◌, List, [], ◌∷◌, Some, refl, arith}
 use Rattle.std.specs.Prelude.{◌==◌, nat_le, slice_get}
 use Rattle.std.specs.List.{list_any}
@@ -9,7 +10,7 @@ use Rattle.fancy_meaning.specs.Numbering.{numbered}
 use Rattle.fancy_meaning.specs.WellFormed.{Has, refers}
 use Rattle.fancy_meaning.specs.Spots.{Spot, all_spots}
 use Rattle.fancy_meaning.specs.Recursion.{Calls, LeadsAtOnce, once, again, IsLeftRecursive}
-use Rattle.fancy_meaning.specs.AnalysisRefusals.{CompileError, is_back_to, has_level, spots_in_group, ReadsAfterCall, is_no_group, RefusesBeforeEnd, named_groups_with_numbers, reference_to_0, reference_after_call, unresolved_call, unresolved_node, reference_with_level, group_out_of_range, left_recursion}
+use Rattle.fancy_meaning.specs.AnalysisRefusals.{CompileError, is_back_to, has_level, spots_in_group, ReadsAfterCall, is_no_group, RefusesBeforeEnd, named_groups_with_numbers, reference_to_0, reference_after_call, unresolved_call, unresolved_node, reference_with_level, lazy_loop, group_out_of_range, left_recursion, is_lazy}
 use Rattle.fancy_rows.proofs.Notation.{parsed, no_options}
 use Rattle.fancy_rows.proofs.CallsAtOnce.{passed}
 
@@ -131,6 +132,28 @@ reads_before_calls whole none g r =
       none,
     )
 
+-- with the option of the longest match, or without
+abbrev pub options_with : Bool → AnalysisOptions
+options_with longest = record no_options { leftmost_longest = longest }
+
+pub not_refused_by : (longest : Bool) (e : Tree) →
+    let whole = numbered 1 e in
+    (longest ≡ true → list_any is_lazy (nodes whole) ≡ false) →
+    list_any (is_back_to 0) (nodes whole) ≡ false → list_any is_unresolved (nodes whole) ≡ false → list_any has_level (nodes whole) ≡ false →
+    ((g : ℕ) → ¬ ReadsAfterCall whole g) →
+    ((g : ℕ) → Has whole (refers g) → is_no_group (parsed e) no_options g ≡ false) →
+    ((n : ℕ) → ¬ IsLeftRecursive whole n) →
+    (error : CompileError) → ¬ RefusesBeforeEnd (parsed e) (options_with longest) error
+not_refused_by longest e greedy back unresolved levels reads references cycles error (named_groups_with_numbers t n) = cc (t)
+not_refused_by longest e greedy back unresolved levels reads references cycles error (reference_to_0 t) = cc (t, back)
+not_refused_by longest e greedy back unresolved levels reads references cycles error (reference_after_call g r) = reads g r
+not_refused_by longest e greedy back unresolved levels reads references cycles error (unresolved_call c) = cc (passed is_unresolved _ _ c refl, unresolved)
+not_refused_by longest e greedy back unresolved levels reads references cycles error (unresolved_node c) = cc (passed is_unresolved _ _ c refl, unresolved)
+not_refused_by longest e greedy back unresolved levels reads references cycles error (reference_with_level t) = cc (t, levels)
+not_refused_by longest e greedy back unresolved levels reads references cycles error (lazy_loop on t) = cc (greedy on, t)
+not_refused_by longest e greedy back unresolved levels reads references cycles error (group_out_of_range g t out) = cc (references g t, out)
+not_refused_by longest e greedy back unresolved levels reads references cycles error (left_recursion g text r d) = cycles g (r.is_one)
+
 pub not_refused_before_end : (e : Tree) →
     let whole = numbered 1 e in
     list_any (is_back_to 0) (nodes whole) ≡ false → list_any is_unresolved (nodes whole) ≡ false → list_any has_level (nodes whole) ≡ false →
@@ -138,11 +161,4 @@ pub not_refused_before_end : (e : Tree) →
     ((g : ℕ) → Has whole (refers g) → is_no_group (parsed e) no_options g ≡ false) →
     ((n : ℕ) → ¬ IsLeftRecursive whole n) →
     (error : CompileError) → ¬ RefusesBeforeEnd (parsed e) no_options error
-not_refused_before_end e back unresolved levels reads references cycles error (named_groups_with_numbers t n) = cc (t)
-not_refused_before_end e back unresolved levels reads references cycles error (reference_to_0 t) = cc (t, back)
-not_refused_before_end e back unresolved levels reads references cycles error (reference_after_call g r) = reads g r
-not_refused_before_end e back unresolved levels reads references cycles error (unresolved_call c) = cc (passed is_unresolved _ _ c refl, unresolved)
-not_refused_before_end e back unresolved levels reads references cycles error (unresolved_node c) = cc (passed is_unresolved _ _ c refl, unresolved)
-not_refused_before_end e back unresolved levels reads references cycles error (reference_with_level t) = cc (t, levels)
-not_refused_before_end e back unresolved levels reads references cycles error (group_out_of_range g t out) = cc (references g t, out)
-not_refused_before_end e back unresolved levels reads references cycles error (left_recursion g text r d) = cycles g (r.is_one)
+not_refused_before_end e = not_refused_by false e (λ on. cc (on))

@@ -3,7 +3,7 @@ use Rattle.std.specs.Prelude.{◌≡◌, ℕ, ◌*◌, false, List, [], ◌∷�
 use Rattle.fancy_meaning.specs.Tree.{Empty, EndText, Tree}
 use Rattle.fancy_meaning.specs.Answer.{starts, search_of}
 use Rattle.fancy_meaning.specs.Hard.{is_root_hard}
-use Rattle.fancy_meaning.specs.Theorems.{outcome_of}
+use Rattle.fancy_meaning.specs.Config.{outcome_of}
 use Rattle.fancy_rows.proofs.Notation.{plain, from, with_limits, found, utf8, lit, cat, alt, grp, rep, star, any, assert, row}
 
 -- with a backtrack for each tried start, and eight instructions, an easy tree answers as before

@@ -1,11 +1,11 @@
 -- A part that goes round for ever hands no list.
-use Rattle.std.proofs.Common.{◌≡◌, ⊎_elim, ℕ, zero, suc, Bool, true, false, ◌&&◌, ◌==◌, if◌then◌else◌, List, [], ◌∷◌, ap, sym, refl, subst, ◌∙◌}
+use Rattle.std.proofs.Common.{◌≡◌, ⊎_elim, ℕ, zero, suc, Bool, true, false, ◌&&◌, ◌==◌, if◌then◌else◌, List, [], ◌∷◌, ap, sym, refl, subst, ◌∙◌, Option, Some, None}
 use Rattle.std.specs.Prelude.{slice_get}
 use Rattle.fancy_meaning.specs.MatchState.{MatchState}
 use Rattle.fancy_meaning.specs.Options.{RunOptions}
 use Rattle.fancy_meaning.specs.Instr.{Prog, Jmp, End}
-use Rattle.fancy_meaning.specs.Config.{Config, Match, StepLimitExceeded, Next, Goes, Ends}
-use Rattle.fancy_meaning.specs.Machine.{Task, fail, fail_to, exec, numbers_of, step_at, then_on}
+use Rattle.fancy_meaning.specs.Config.{Config, Match, StepLimitExceeded, Next, Goes, Ends, longer, outcome_of}
+use Rattle.fancy_meaning.specs.Machine.{Task, fail, fail_to, exec, numbers_of, step_at, then_on, is_longest}
 use Rattle.fancy_meaning.specs.Hands.{IsBranchLimit, outcome_after, Leads, Stretch, Hands, no_more, next_way}
 
 -- a jump to itself, and the end
@@ -17,6 +17,8 @@ round = record {
   slots = 2;
   explicit_group_0 = false;
   find_not_empty = false;
+  leftmost_longest = false;
+  keeps_start = false;
   end_text = false;
   unicode = true;
 }
@@ -35,8 +37,19 @@ module _ (text : List ℕ) (o : RunOptions) where
       ap (λ pc. then_on task (exec task n) (step_at task (slice_get (round).body pc) c)) at ∙ jump_is_endless _ refl n
 
   -- what is next at the end, where that test fails or holds
-  abbrev at_the_end : Config → Bool → Next
-  at_the_end c v = if v then fail task c else Ends (Match (numbers_of task c))
+  abbrev held : Config → Config
+  held c = record c { longest = Some (longer c.longest (numbers_of task c)) }
+
+  abbrev at_the_end : Config → (is_empty longest is_last : Bool) → Next
+  at_the_end c v u w =
+      if v then fail task c
+      else (if u then (if w then Ends (Match (longer c.longest (numbers_of task c))) else fail task (held c))
+      else Ends (Match (numbers_of task c)))
+
+  -- an answer is no limit
+  answered : (longest : Option (List ℕ)) → outcome_of longest ≡ StepLimitExceeded → ⊥
+  answered None e = cc
+  answered (Some numbers) e = cc
 
   -- what it leads to is endless
   leads_on : {from to : Next} → Leads task from to → Endless from → Endless to
@@ -46,27 +59,31 @@ module _ (text : List ℕ) (o : RunOptions) where
 
   -- the jump hands no empty list
   jump_hands_no_empty_list : (c d : Config) → c.pc ≡ 0 → ¬ Leads task (Goes c) (fail_to task [] d)
-  jump_hands_no_empty_list c d at leads = let e = leads_on leads (jump_is_endless c at) 0 in cc (e)
+  jump_hands_no_empty_list c d at leads = answered d.longest (leads_on leads (jump_is_endless c at) 0)
 
   -- nor any other that is left at the end
   module _ (part : Stretch) (over_nothing : (part.entry).branches ≡ []) (to_end : part.exit ≡ 1) where
-    endless_hands_nothing : {from : Next} {ss : List MatchState} → Hands task part from ss → Endless from → ⊥
-    endless_hands_nothing (no_more d start leads) endless =
+    endless_hands_nothing : {longest : Option (List ℕ)} {from : Next} {ss : List MatchState} →
+        Hands task part longest from ss → Endless from → ⊥
+    endless_hands_nothing (no_more d start same leads) endless =
         let e = leads_on leads endless 0 in
         let f : outcome_after task 0 (fail_to task [] d) ≡ StepLimitExceeded =
         subst (λ bs. outcome_after task 0 (fail_to task bs d) ≡ StepLimitExceeded) over_nothing e in
-        cc (f)
-    endless_hands_nothing (next_way c own leads left next) endless =
-        by_test (task.not_empty && c.ix == c.start) at_end (λ e. endless_hands_nothing (next c refl) e)
+        answered d.longest f
+    endless_hands_nothing (next_way c own same leads left next) endless =
+        by_test (task.not_empty && c.ix == c.start) task.leftmost_longest (is_longest task c) at_end
+        (λ e. endless_hands_nothing (next c refl) e) (λ e. endless_hands_nothing (next (held c) refl) e)
       where
-        at_end : Endless (at_the_end c (task.not_empty && c.ix == c.start))
+        at_end : Endless (at_the_end c (task.not_empty && c.ix == c.start) task.leftmost_longest (is_longest task c))
         at_end n =
             sym (ap (λ pc. then_on task (exec task n) (step_at task (slice_get (round).body pc) c)) (left.at_exit ∙ to_end))
             ∙ leads_on leads endless (suc n)
 
-        by_test : (v : Bool) → Endless (at_the_end c v) → ¬ Endless (fail task c) → ⊥
-        by_test true e on = on e
-        by_test false e on = let f = e 0 in cc (f)
+        by_test : (v u w : Bool) → Endless (at_the_end c v u w) → ¬ Endless (fail task c) → ¬ Endless (fail task (held c)) → ⊥
+        by_test true u w e on after = on e
+        by_test false true true e on after = let f = e 0 in cc (f)
+        by_test false true false e on after = after e
+        by_test false false w e on after = let f = e 0 in cc (f)
 
-    jump_hands_nothing : (part.entry).pc ≡ 0 → (ss : List MatchState) → ¬ Hands task part (Goes part.entry) ss
+    jump_hands_nothing : (part.entry).pc ≡ 0 → (ss : List MatchState) → ¬ Hands task part (part.entry).longest (Goes part.entry) ss
     jump_hands_nothing at ss hands = endless_hands_nothing hands (jump_is_endless part.entry at)

@@ -2,6 +2,7 @@ pub mod Notation
 mod WaysOfNodes
 mod Answers
 mod OptionAnswers
+mod LongestMatches
 mod Layouts
 mod UndelegatedLayouts
 mod Runs

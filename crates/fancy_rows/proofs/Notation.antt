@@ -18,9 +18,8 @@ use Rattle.fancy_meaning.specs.Spots.{all_spots}
 use Rattle.fancy_meaning.specs.FragmentPoints.{fragment_points}
 use Rattle.fancy_meaning.specs.Instr.{Instr, Prog}
 use Rattle.fancy_meaning.specs.Layout.{layout, undelegated_layout}
-use Rattle.fancy_meaning.specs.Config.{Outcome}
+use Rattle.fancy_meaning.specs.Config.{Outcome, outcome_of}
 use Rattle.fancy_meaning.specs.Machine.{run}
-use Rattle.fancy_meaning.specs.Theorems.{outcome_of}
 use Rattle.regex_hir.specs.Text.{is_boundary, char_at, char_before, byte_before, has_bytes_at}
 use Rattle.std.specs.Str.{chars}
 use Rattle.ucd_case.proofs.Computing.{ucd_case}
@@ -142,7 +141,7 @@ parsed e =
 -- ---- plans
 
 abbrev pub no_options : AnalysisOptions
-no_options = record { explicit_capture_group_0 = false; find_not_empty = false; end_text = false }
+no_options = record { explicit_capture_group_0 = false; find_not_empty = false; end_text = false; leftmost_longest = false }
 
 abbrev pub default_compile : CompileOptions
 default_compile = record { anchored = false; end_text = false; bytes_mode = Unicode; unicode = true; max_prog_size = None }
@@ -168,6 +167,13 @@ ascii e = plan_of e no_options (record default_compile { unicode = false })
 -- a match has to take something
 abbrev pub taking : Tree → Plan
 taking e = plan_of e (record no_options { find_not_empty = true }) default_compile
+
+-- the longest match may be asked for
+abbrev pub longest : Tree → Plan
+longest e = plan_of e (record no_options { leftmost_longest = true }) default_compile
+
+abbrev pub longest_anchored : Tree → Plan
+longest_anchored e = plan_of e (record no_options { leftmost_longest = true }) (record default_compile { anchored = true })
 
 -- under the end-of-text option
 abbrev pub with_end_text : Tree → Plan
@@ -208,6 +214,7 @@ from pos = record {
   anchored = false;
   continued = true;
   not_empty = false;
+  leftmost_longest = false;
   backtrack_limit = 1_000_000;
   step_limit = 2 ^ 64 - 1;
 }
@@ -223,6 +230,13 @@ with_steps steps = record (from 0) { step_limit = steps }
 
 abbrev pub not_empty : RunOptions
 not_empty = record (from 0) { not_empty = true }
+
+-- the longest match is asked for
+abbrev pub for_longest : RunOptions
+for_longest = record (from 0) { leftmost_longest = true }
+
+abbrev pub for_longest_within : ℕ → RunOptions
+for_longest_within backtracks = record for_longest { backtrack_limit = backtracks }
 
 abbrev pub run_of : (Plan → Prog) → Plan → List ℕ → RunOptions → Outcome
 run_of program p text o = run (record { program = program p; text = text; options = o })

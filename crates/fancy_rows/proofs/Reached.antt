@@ -1,5 +1,5 @@
 -- What a run comes to on its way, and where a `\G` gives up.
-use Rattle.std.proofs.Common.{◌≡◌, ◌∙◌, ap, subst, sym, ℕ, zero, suc, ◌+◌, ⊎_elim, Bool, true, false, if◌then◌else◌, nat_lt, List, [], ◌∷◌, refl, arith}
+use Rattle.std.proofs.Common.{◌≡◌, ◌∙◌, ap, subst, sym, ℕ, zero, suc, ◌+◌, ⊎_elim, Bool, true, false, if◌then◌else◌, nat_lt, List, [], ◌∷◌, refl, arith, Option, None}
 use Rattle.fancy_meaning.specs.Tree.{Tree, ContinueFromPreviousMatchEnd}
 use Rattle.fancy_meaning.specs.OpenCalls.{no_calls}
 use Rattle.fancy_meaning.specs.MatchState.{MatchState, put, first_state}
@@ -53,6 +53,7 @@ at_continue = record {
   branches = record { pc = 1; ix = 0; slots = no_slots; marks = [] } ∷ [];
   start = 0;
   backtracks = 0;
+  longest = None;
 }
 
 abbrev GivesUpAt : Prog → ℕ → Config → Type 0
@@ -88,6 +89,8 @@ marked_program = record {
   slots = 2;
   explicit_group_0 = false;
   find_not_empty = false;
+  leftmost_longest = false;
+  keeps_start = false;
   end_text = false;
   unicode = true;
 }
@@ -99,7 +102,7 @@ abbrev b : Branch
 b = record { pc = 4; ix = 0; slots = λ s. 0; marks = [] }
 
 abbrev c : Config
-c = record { now = record { pc = 3; ix = 0; slots = λ s. 0; marks = [] }; branches = b ∷ []; start = 0; backtracks = 0 }
+c = record { now = record { pc = 3; ix = 0; slots = λ s. 0; marks = [] }; branches = b ∷ []; start = 0; backtracks = 0; longest = None }
 
 abbrev s : MatchState
 s = first_state 0
@@ -107,23 +110,23 @@ s = first_state 0
 abbrev marked : Code
 marked = code_of_node later_continue (λ e. false) no_calls ContinueFromPreviousMatchEnd true true
 
-other : (m start count : ℕ) (v : Bool) →
+other : (m start count : ℕ) (longest : Option (List ℕ)) (v : Bool) →
     NoMatch
     ≡ then_on t (exec t m)
-    (if v then Goes (record { now = b; branches = []; start = start; backtracks = count })
+    (if v then Goes (record { now = b; branches = []; start = start; backtracks = count; longest = longest })
     else Ends BacktrackLimitExceeded) → ⊥
-other zero start count true e = cc
-other (suc m) start count true e = cc
-other m start count false e = cc
+other zero start count longest true e = cc
+other (suc m) start count longest true e = cc
+other m start count longest false e = cc
 
 given_up : (n k : ℕ) → n ≡ suc k → outcome_after t n (Goes c) ≡ NoMatch
 given_up n k e = ap (λ m. outcome_after t m (Goes c)) e
 
-not_handed : (hs : List MatchState) → Hands t (stretch_of marked c 2) (Goes c) hs → reduced (whole_key whole) hs ≡ [] → ⊥
-not_handed [] (no_more d st l) e =
+not_handed : (hs : List MatchState) → Hands t (stretch_of marked c 2) None (Goes c) hs → reduced (whole_key whole) hs ≡ [] → ⊥
+not_handed [] (no_more d st held l) e =
     let gone = given_up (l.instructions + 1) l.instructions (omega arith) in
     ⊎_elim {C = ⊥} (λ x. subst IsBranchLimit gone x)
-    (λ x. other 1 d.start (d.backtracks + 1) (nat_lt d.backtracks t.backtrack_limit) (sym gone ∙ x)) (l.by 1)
+    (λ x. other 1 d.start (d.backtracks + 1) d.longest (nat_lt d.backtracks t.backtrack_limit) (sym gone ∙ x)) (l.by 1)
 not_handed (h ∷ hs) k e = cc
 
 marked_node_does_not_serve : Serves later_continue marked (λ q. ways q whole ContinueFromPreviousMatchEnd no_calls)

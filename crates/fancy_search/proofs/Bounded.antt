@@ -17,9 +17,10 @@ use Rattle.fancy_expr.specs.declared.error.Error.{Error}
 use Rattle.fancy_expr.specs.declared.error.Error.TheVariants as error
 use Rattle.fancy_expr.specs.declared.error.RuntimeError.{RuntimeError}
 use Rattle.fancy_expr.specs.declared.error.RuntimeError.TheVariants as limit
-use Rattle.fancy_vm.proofs.FitsLaws.{run_implicit, run_place, run_not_empty}
+use Rattle.fancy_vm.proofs.FitsLaws.{run_implicit, run_place, run_not_empty, run_longest}
 use Rattle.fancy_vm.specs.declared.runs.RunOptions.{RunOptions}
-use Rattle.fancy_vm.specs.Outcomes.{RunAnswers, outcome_of}
+use Rattle.fancy_vm.specs.Outcomes.{RunAnswers}
+use Rattle.fancy_vm.specs.Stops.{outcome_of}
 use Rattle.fancy_vm.specs.Programs.{prog_of, task_of, options_of as run_options_of}
 use Rattle.fancy_search.specs.declared.search.Compiled.{Compiled}
 use Rattle.fancy_search.specs.Searches.{IsBelowBound, IsCompiledFrom, Bounds, limit_of, program}
@@ -34,6 +35,8 @@ module _ (i : Input) (compiled : Compiled) (text : List ℕ) (o : RunOptions) (f
     pos = run_place (task_of (program compiled) text o) fits;
     not_empty = λ on. sym (ap (λ (p : plain_program.Prog). p.find_not_empty) from.program)
         ∙ run_not_empty (task_of (program compiled) text o) fits on;
+    longest = λ on. sym (ap (λ (p : plain_program.Prog). p.leftmost_longest) from.program)
+        ∙ run_longest (task_of (program compiled) text o) fits on;
   }
 
   module _ (root : IsFalse (is_root_hard (plan i).analysis)) where

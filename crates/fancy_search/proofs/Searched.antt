@@ -29,7 +29,8 @@ use Rattle.fancy_vm.proofs.FitsLaws.{run_implicit}
 use Rattle.fancy_vm.specs.declared.insn.Prog.{Prog}
 use Rattle.fancy_vm.specs.declared.runs.RunOptions.{RunOptions}
 use Rattle.fancy_vm.specs.Means.{IsMeaning, numbers_of}
-use Rattle.fancy_vm.specs.Outcomes.{RunAnswers, outcome_of}
+use Rattle.fancy_vm.specs.Outcomes.{RunAnswers}
+use Rattle.fancy_vm.specs.Stops.{outcome_of}
 use Rattle.fancy_vm.specs.Programs.{prog_of, task_of, options_of as run_options_of}
 use Rattle.fancy_compile.specs.declared.options.CompileOptions.{CompileOptions}
 use Rattle.fancy_compile.specs.Compiled.{Compiles, MayAnswer, MayCompile, plan_with, refuses, too_big}
@@ -167,7 +168,12 @@ may_run s t compiled text fits from =
 
 -- from the start, with no option set
 pub defaults_fit : (o : SearchOptions) (text : List ℕ) →
-    o.analysis ≡ record { explicit_capture_group_0 = false; find_not_empty = false; disallow_empty_match_at_eof_after_newline = false } →
+    o.analysis ≡ record {
+      explicit_capture_group_0 = false;
+      find_not_empty = false;
+      disallow_empty_match_at_eof_after_newline = false;
+      leftmost_longest = false;
+    } →
     (o.compilation).disallow_empty_match_at_eof_after_newline ≡ false → (o.run).pos ≡ 0 → (o.run).not_empty ≡ false → IsUtf8 text →
     search_fits o text ≡ true
 defaults_fit o text as_analysed as_compiled at empty utf8 =

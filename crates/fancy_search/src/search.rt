@@ -61,6 +61,7 @@ impl Default for SearchOptions {
               explicit_capture_group_0 = false;
               find_not_empty = false;
               end_text = false;
+              leftmost_longest = false;
             } }
         ensures compilation { compile_options_of result.compilation
             ≡ record {

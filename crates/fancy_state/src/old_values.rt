@@ -1,11 +1,9 @@
 //! Cells, and what they held before they were changed.
 
-ghost use Rattle.std.specs.Prelude.{◌≡◌, [], ◌<◌, ◌≤◌, IsTrue, length, drop, take, slice_set, OnOk, OnErr, IfOk, IfErr, MatchOption};
+ghost use Rattle.std.specs.Prelude.{◌≡◌, [], ◌<◌, ◌≤◌, IsTrue, length, drop, take, slice_set, OnOk, OnErr, IfOk, MatchOption};
 ghost use Rattle.fancy_state.specs.OldValues.{Agrees, IsSettled, values_of, first_cells};
-ghost use Rattle.fancy_state.specs.Refused.{IsMemory};
 
-use fancy_expr::error::Error;
-use std::alloc::Global;
+use std::alloc::{AllocError, Global};
 use std::marker::Model;
 
 /// What a cell held before a change.
@@ -47,9 +45,8 @@ fn is_logged(log: &[Old], mark: usize, place: usize, cell: usize) -> bool
 
 impl Cells {
     /// So many cells that hold `usize::MAX`, and one that holds 0.
-    pub(crate) fn new(alloc: Global, count: usize) -> Result<Cells, Error>
+    pub(crate) fn new(alloc: Global, count: usize) -> Result<Cells, AllocError>
         ensures ok { IfOk result (λ cells. cells ≡ first_cells count) }
-        ensures err { IfErr result IsMemory }
     {
         let mut values = vec![in alloc; usize::MAX; count]?;
         values.push(0)?;
@@ -62,9 +59,8 @@ impl Cells {
     }
 
     /// Makes them as `new` does, in the memory that they have.
-    pub(crate) fn renew(self, count: usize) -> Result<Cells, Error>
+    pub(crate) fn renew(self, count: usize) -> Result<Cells, AllocError>
         ensures ok { IfOk result (λ cells. cells ≡ first_cells count) }
-        ensures err { IfErr result IsMemory }
     {
         let Cells {
             mut values,
@@ -94,12 +90,11 @@ impl Cells {
     }
 
     /// What the first cells hold.
-    pub(crate) fn first(&self, alloc: Global, count: usize) -> Result<Vec<usize>, Error>
+    pub(crate) fn first(&self, alloc: Global, count: usize) -> Result<Vec<usize>, AllocError>
         requires { count ≤ length self.now.values }
         ensures ok { IfOk result (λ v. v.items ≡ take count self.now.values) }
-        ensures err { IfErr result IsMemory }
     {
-        Ok(Vec::from_slice(alloc, &self.values[..count])?)
+        Vec::from_slice(alloc, &self.values[..count])
     }
 
     /// How many old values are logged.
@@ -115,14 +110,13 @@ impl Cells {
         mark: Option<usize>,
         cell: usize,
         value: usize,
-    ) -> Result<(), Error>
+    ) -> Result<(), AllocError>
         requires cell { cell < length self.old.values }
         requires mark { MatchOption mark (Unit {0}) (λ m. m ≤ length self.old.log) }
         ensures value { OnOk result (self.new.values ≡ slice_set self.old.values cell value) }
         ensures agrees { OnOk result (MatchOption mark (Unit {0}) (λ m. Agrees m
             self.old.log (values_of self.old.values) self.new.log (values_of self.new.values))) }
         ensures longer { length self.old.log ≤ length self.new.log }
-        ensures refused { IfErr result IsMemory }
         ensures err { OnErr result (self.new ≡ self.old) }
     {
         match mark {
@@ -146,13 +140,12 @@ impl Cells {
     }
 
     /// Sees to it that the cell is there.
-    pub(crate) fn make_room(&mut self, cell: usize) -> Result<(), Error>
+    pub(crate) fn make_room(&mut self, cell: usize) -> Result<(), AllocError>
         requires { cell ≤ length self.old.values }
         ensures cell { OnOk result (cell < length self.new.values) }
         ensures same { values_of self.new.values ≡ values_of self.old.values }
         ensures log { self.new.log ≡ self.old.log }
         ensures longer { length self.old.values ≤ length self.new.values }
-        ensures refused { IfErr result IsMemory }
     {
         if cell < self.values.len() {
             return Ok(());

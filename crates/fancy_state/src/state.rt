@@ -1,13 +1,13 @@
 //! Slots, an explicit stack, and the branches that a run can fall back to.
 
-ghost use Rattle.std.specs.Prelude.{◌≡◌, ◌-◌, ◌<◌, ◌≤◌, [], ◌∷◌, None, Some, nat_lt, length, drop, take, reverse, slice_index, slice_set, IfOk, OnOk, OnErr, IfErr, MatchOption};
+ghost use Rattle.std.specs.Prelude.{◌≡◌, ◌-◌, ◌<◌, ◌≤◌, [], ◌∷◌, None, Some, nat_le, nat_lt, length, drop, take, reverse, slice_index, slice_set, IfOk, OnOk, OnErr, IfErr, MatchOption};
 ghost use Rattle.fancy_state.specs.Held.{below, first_held, held_branch};
 ghost use Rattle.fancy_state.specs.Refused.{IsRefused, IsMemory};
 ghost use Rattle.fancy_state.specs.OldValues.{IsNewest};
 
 use crate::old_values::Cells;
 use fancy_expr::error::{Error, RuntimeError};
-use std::alloc::Global;
+use std::alloc::{AllocError, Global};
 use std::marker::Model;
 
 /// What a failure falls back to.
@@ -101,9 +101,26 @@ impl State {
         ensures refused { IfErr result (IsRefused (length self.old.branches) self.old.max_stack) }
         ensures err { OnErr result (self.new ≡ self.old) }
     {
-        if self.branches.len() >= self.max_stack {
+        if self.is_full() {
             return Err(Error::RuntimeError(RuntimeError::StackOverflow));
         }
+        Ok(self.add_branch(pc, ix)?)
+    }
+
+    /// As many branches are held as may be.
+    pub fn is_full(&self) -> bool
+        ensures { result ≡ nat_le self.now.max_stack (length self.now.branches) }
+    {
+        self.backtrack_count() >= self.max_stack
+    }
+
+    /// Adds a branch as `push` does, where there is room for it.
+    pub fn add_branch(&mut self, pc: usize, ix: usize) -> Result<(), AllocError>
+        requires { length self.old.branches < self.old.max_stack }
+        ensures ok { OnOk result (self.new
+            ≡ record self.old { branches = held_branch pc ix self.old ∷ self.old.branches }) }
+        ensures err { OnErr result (self.new ≡ self.old) }
+    {
         let mark = self.cells.mark();
         self.branches.push(Branch { pc, ix, mark })?;
         Ok(())
@@ -134,6 +151,16 @@ impl State {
         ensures refused { IfErr result IsMemory }
         ensures err { OnErr result (self.new ≡ self.old) }
     {
+        Ok(self.set_slot(slot, value)?)
+    }
+
+    /// Sets a slot as `save` does.
+    pub fn set_slot(&mut self, slot: usize, value: usize) -> Result<(), AllocError>
+        requires { slot < length self.old.slots }
+        ensures ok { OnOk result
+            (self.new ≡ record self.old { slots = slice_set self.old.slots slot value }) }
+        ensures err { OnErr result (self.new ≡ self.old) }
+    {
         let mark = newest_mark(&self.branches);
         self.cells.set(mark, slot, value)?;
         Ok(())
@@ -153,13 +180,22 @@ impl State {
         ensures ok { IfOk result (λ v. v.items ≡ take count self.now.slots) }
         ensures err { IfErr result IsMemory }
     {
-        self.cells.first(alloc, count)
+        let slots = self.cells.first(alloc, count)?;
+        Ok(slots)
     }
 
     /// Adds an entry to the explicit stack. `Memory` where a request for memory was refused; the state is then as before.
     pub fn stack_push(&mut self, value: usize) -> Result<(), Error>
         ensures ok { OnOk result (self.new ≡ record self.old { stack = value ∷ self.old.stack }) }
         ensures refused { IfErr result IsMemory }
+        ensures err { OnErr result (self.new ≡ self.old) }
+    {
+        Ok(self.add_entry(value)?)
+    }
+
+    /// Adds an entry to the explicit stack as `stack_push` does.
+    pub fn add_entry(&mut self, value: usize) -> Result<(), AllocError>
+        ensures ok { OnOk result (self.new ≡ record self.old { stack = value ∷ self.old.stack }) }
         ensures err { OnErr result (self.new ≡ self.old) }
     {
         let count = self.cells.get(self.slot_count);
@@ -178,6 +214,16 @@ impl State {
         ensures ok { IfOk result
             (λ value. self.old ≡ record self.new { stack = value ∷ self.new.stack }) }
         ensures refused { IfErr result IsMemory }
+        ensures err { OnErr result (self.new ≡ self.old) }
+    {
+        Ok(self.take_entry()?)
+    }
+
+    /// Takes the last entry off the explicit stack as `stack_pop` does.
+    pub fn take_entry(&mut self) -> Result<usize, AllocError>
+        requires { 0 < length self.old.stack }
+        ensures ok { IfOk result
+            (λ value. self.old ≡ record self.new { stack = value ∷ self.new.stack }) }
         ensures err { OnErr result (self.new ≡ self.old) }
     {
         let count = self.cells.get(self.slot_count);

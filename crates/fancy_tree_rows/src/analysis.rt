@@ -5,12 +5,14 @@ use fancy_tree::error::Error;
 use fancy_tree::expr::{Expr, ExprTree, is_well_formed};
 use std::alloc::{AllocError, Global};
 
-/// `E` where group 0 is the tree's own, `N` where empty matches may be refused, `T` where those at the text's end may be.
+/// `E` where group 0 is the tree's own, `N` where empty matches may be refused, `T` where those at the text's end may be,
+/// `L` where the longest match may be asked for.
 fn context(letter: &str) -> AnalyzeContext {
     AnalyzeContext {
         explicit_capture_group_0: letter == "E",
         find_not_empty: letter == "N",
         disallow_empty_match_at_eof_after_newline: letter == "T",
+        leftmost_longest: letter == "L",
     }
 }
 

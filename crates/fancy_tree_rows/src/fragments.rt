@@ -27,6 +27,7 @@ const PLAIN: AnalyzeContext = AnalyzeContext {
     explicit_capture_group_0: false,
     find_not_empty: false,
     disallow_empty_match_at_eof_after_newline: false,
+    leftmost_longest: false,
 };
 
 /// Where the way ends, and number, start and end of each group that it sets.

@@ -5,22 +5,9 @@ use Rattle.std.specs.declared.alloc.Global.{Global}
 use Rattle.fancy_meaning.specs.Answer.{answer, search_of}
 use Rattle.fancy_meaning.specs.Options.{RunOptions}
 use Rattle.fancy_meaning.specs.Instr.{Prog}
-use Rattle.fancy_meaning.specs.Layout.{layout, undelegated_layout}
+use Rattle.fancy_meaning.specs.Layout.{layout}
 use Rattle.fancy_meaning.specs.Premises.{Input, plan, IsAccepted}
 use Rattle.fancy_vm.specs.Outcomes.{first_pair}
-
--- Whatever well-formed and accepted tree the program is of, these are the numbers of the first admitted way that the
--- tree has in the text, and there are none where it has no such way.
-abbrev pub Means : Prog → List ℕ → RunOptions → Option (List ℕ) → Type 0
-Means program text o found =
-    (i : Input) → IsAccepted i (length program.body) → program ≡ undelegated_layout (plan i) →
-    found ≡ answer (search_of (plan i) text o)
-
--- the same for the first pair alone
-abbrev pub MeansPair : Prog → List ℕ → RunOptions → Option (ℕ × ℕ) → Type 0
-MeansPair program text o found =
-    (i : Input) → IsAccepted i (length program.body) → program ≡ undelegated_layout (plan i) →
-    found ≡ option_map first_pair (answer (search_of (plan i) text o))
 
 -- the tree is laid out as this program
 abbrev pub IsProgramOf : Input → Prog → Type 0

@@ -127,6 +127,10 @@ pub struct ProgParts {
     pub explicit_group_0: bool,
     /// The analysis knew that a run may refuse matches that take nothing.
     pub find_not_empty: bool,
+    /// The analysis knew that a run may ask for the longest match.
+    pub leftmost_longest: bool,
+    /// The pattern has a `\K`.
+    pub keeps_start: bool,
     /// There is a slot for the text-end flag.
     pub end_text: bool,
     /// The option of that name.

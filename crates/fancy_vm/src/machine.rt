@@ -4,16 +4,13 @@ ghost use Rattle.std.specs.Prelude.{◌≡◌, ◌+◌, ◌<◌, ◌≤◌, leng
 ghost use Rattle.fancy_meaning.specs.Config as config;
 ghost use Rattle.fancy_meaning.specs.Machine as machine;
 ghost use Rattle.fancy_state.specs.Held.{first_held};
-ghost use Rattle.fancy_state.specs.Refused.{IsMemory, IsRefused};
-ghost use Rattle.fancy_vm.specs.Memos.{AreMemosOf};
-ghost use Rattle.fancy_vm.specs.Outcomes.{IsSoundMachine, StepAnswers, config_of, plain_task, with_branch};
+ghost use Rattle.fancy_vm.specs.Sound.{IsSound};
 
 use crate::insn::Prog;
-use crate::memos::Memos;
 use crate::runs::RunOptions;
 use fancy_expr::error::{Error, RuntimeError};
 use fancy_state::state::State;
-use std::alloc::Global;
+use std::alloc::{AllocError, Global};
 
 /// How many branches a run may hold.
 pub(crate) const MAX_BRANCHES: usize = 1_000_000;
@@ -27,16 +24,17 @@ pub(crate) struct Task<'a> {
     pub(crate) alloc: Global,
 }
 
-/// Where a run stands.
+/// Where a run of a task stands.
 #[derive(Drop)]
-pub(crate) struct Machine {
+pub(crate) struct Machine<'a> {
+    pub(crate) task: Task<'a>,
     pub(crate) pc: usize,
     pub(crate) ix: usize,
     /// Where the attempt began.
     pub(crate) start: usize,
     pub(crate) backtracks: usize,
     pub(crate) state: State,
-    pub(crate) memos: Memos,
+    ghost sound: { IsSound task state },
 }
 
 /// What an instruction led to.
@@ -47,22 +45,54 @@ pub(crate) enum Next {
     Failed,
 }
 
-impl Machine {
-    pub(crate) fn begin(task: &Task<'_>, state: State, memos: Memos) -> Machine
-        requires state { state ≡ first_held task.now.prog.now.parts.slots config.most_branches }
-        requires memos { AreMemosOf task.now memos }
+/// Why a run stops without an answer: it passed a limit, or a request for memory was refused.
+#[derive(Clone, Copy)]
+pub(crate) enum Stop {
+    Limit(RuntimeError),
+    Memory,
+}
+
+impl From<AllocError> for Stop {
+    ghost use Rattle.fancy_vm.specs.declared.machine.Stop.TheVariants as stop;
+
+    ghost from_gives = { λ _ s. s ≡ stop.Memory };
+
+    fn from(_e: AllocError) -> Stop {
+        Stop::Memory
+    }
+}
+
+impl From<Stop> for Error {
+    ghost use Rattle.fancy_vm.specs.Stops.{error_of};
+
+    ghost from_gives = { λ s e. e ≡ error_of s };
+
+    fn from(s: Stop) -> Error {
+        match s {
+            Stop::Limit(limit) => Error::RuntimeError(limit),
+            Stop::Memory => Error::Memory,
+        }
+    }
+}
+
+impl<'a> Machine<'a> {
+    ghost use Rattle.fancy_vm.specs.Outcomes.{StepAnswers, config_of, plain_task, with_branch};
+    ghost use Rattle.fancy_vm.specs.Stops.{IsPushStop};
+
+    pub(crate) fn begin(task: &Task<'a>, state: State) -> Machine<'a>
+        requires { state ≡ first_held task.now.prog.now.parts.slots config.most_branches }
+        ensures task { result.task ≡ task.now }
         ensures begins { config_of result ≡ machine.begin (plain_task task.now) }
-        ensures sound { IsSoundMachine task.now result }
     {
         let pos = task.options.pos;
         let _slots = task.prog.parts.slots;
         Machine {
+            task: *task,
             pc: 0,
             ix: pos,
             start: pos,
             backtracks: 0,
             state,
-            memos,
         }
     }
 
@@ -73,80 +103,78 @@ impl Machine {
     {
         self.state.get(slot)
     }
-}
 
-impl Task<'_> {
     /// Falls back to the last branch.
-    pub(crate) fn fail(&self, m: &mut Machine) -> Result<Next, Error>
-        requires sound { IsSoundMachine self.now m.old }
-        ensures leads { StepAnswers self.now (machine.fail (plain_task self.now) (config_of m.old))
-            result m.new }
-        ensures sound { IsSoundMachine self.now m.new }
+    pub(crate) fn fail(&mut self) -> Result<Next, Stop>
+        ensures task { self.new.task ≡ self.old.task }
+        ensures leads { StepAnswers
+            (machine.fail (plain_task self.old.task) (config_of self.old)) result self.new }
     {
-        if m.state.backtrack_count() == 0 {
+        if self.state.backtrack_count() == 0 {
             return Ok(Next::Failed);
         }
-        if m.backtracks >= self.options.backtrack_limit {
-            return Err(Error::RuntimeError(RuntimeError::BacktrackLimitExceeded));
+        if self.backtracks >= self.task.options.backtrack_limit {
+            return Err(Stop::Limit(RuntimeError::BacktrackLimitExceeded));
         }
-        m.backtracks += 1;
-        (m.pc, m.ix) = m.state.pop();
+        self.backtracks += 1;
+        (self.pc, self.ix) = self.state.pop();
         Ok(Next::On)
     }
 
     /// Goes on at the next instruction where the test holds, and else fails.
-    pub(crate) fn goes_if(&self, test: bool, m: &mut Machine) -> Result<Next, Error>
-        requires sound { IsSoundMachine self.now m.old }
-        requires pc { m.old.pc < usize.MAX }
-        ensures leads { StepAnswers self.now
-            (machine.goes_if (plain_task self.now) test (config_of m.old)) result m.new }
-        ensures sound { IsSoundMachine self.now m.new }
+    pub(crate) fn goes_if(&mut self, test: bool) -> Result<Next, Stop>
+        requires pc { self.old.pc < usize.MAX }
+        ensures task { self.new.task ≡ self.old.task }
+        ensures leads { StepAnswers
+            (machine.goes_if (plain_task self.old.task) test (config_of self.old)) result self.new }
     {
         if !test {
-            return self.fail(m);
+            return self.fail();
         }
-        m.pc += 1;
+        self.pc += 1;
         Ok(Next::On)
     }
 
     /// Goes on at the next instruction from this place, and fails where there is none.
-    pub(crate) fn goes_from(&self, to: Option<usize>, m: &mut Machine) -> Result<Next, Error>
-        requires sound { IsSoundMachine self.now m.old }
-        requires pc { m.old.pc < usize.MAX }
-        ensures leads { StepAnswers self.now
-            (machine.goes_from (plain_task self.now) (config_of m.old) to) result m.new }
-        ensures sound { IsSoundMachine self.now m.new }
+    pub(crate) fn goes_from(&mut self, to: Option<usize>) -> Result<Next, Stop>
+        requires pc { self.old.pc < usize.MAX }
+        ensures task { self.new.task ≡ self.old.task }
+        ensures leads { StepAnswers
+            (machine.goes_from (plain_task self.old.task) (config_of self.old) to) result self.new }
     {
         match to {
-            None => self.fail(m),
+            None => self.fail(),
             Some(ix) => {
-                m.ix = ix;
-                m.pc += 1;
+                self.ix = ix;
+                self.pc += 1;
                 Ok(Next::On)
             }
         }
     }
 
     /// Sets a slot.
-    pub(crate) fn put(&self, slot: usize, value: usize, m: &mut Machine) -> Result<(), Error>
-        requires sound { IsSoundMachine self.now m.old }
-        requires slot { slot < self.now.prog.now.parts.slots }
-        ensures ok { OnOk result (config_of m.new ≡ config.with_slot slot value (config_of m.old)) }
-        ensures err { IfErr result IsMemory }
-        ensures sound { IsSoundMachine self.now m.new }
+    pub(crate) fn put(&mut self, slot: usize, value: usize) -> Result<(), AllocError>
+        requires { slot < length self.old.state.slots }
+        ensures task { self.new.task ≡ self.old.task }
+        ensures slots { length self.new.state.slots ≡ length self.old.state.slots }
+        ensures ok { OnOk result
+            (config_of self.new ≡ config.with_slot slot value (config_of self.old)) }
     {
-        m.state.save(slot, value)
+        self.state.set_slot(slot, value)?;
+        Ok(())
     }
 
     /// Adds a branch of this machine at another place of the program.
-    pub(crate) fn push(&self, pc: usize, m: &mut Machine) -> Result<(), Error>
-        requires sound { IsSoundMachine self.now m.old }
-        ensures room { OnOk result (length (config_of m.old).branches < config.most_branches) }
-        ensures ok { OnOk result (config_of m.new ≡ with_branch pc (config_of m.old)) }
-        ensures refused { IfErr result
-            (IsRefused (length (config_of m.old).branches) config.most_branches) }
-        ensures sound { IsSoundMachine self.now m.new }
+    pub(crate) fn push(&mut self, pc: usize) -> Result<(), Stop>
+        ensures task { self.new.task ≡ self.old.task }
+        ensures room { OnOk result (length (config_of self.old).branches < config.most_branches) }
+        ensures ok { OnOk result (config_of self.new ≡ with_branch pc (config_of self.old)) }
+        ensures stopped { IfErr result (IsPushStop (length (config_of self.old).branches)) }
     {
-        m.state.push(pc, m.ix)
+        if self.state.is_full() {
+            return Err(Stop::Limit(RuntimeError::StackOverflow));
+        }
+        self.state.add_branch(pc, self.ix)?;
+        Ok(())
     }
 }

@@ -1,9 +1,8 @@
 //! What searches of delegates have noted, for later ones of the same run.
 
-ghost use Rattle.std.specs.Prelude.{◌≡◌, ◌<◌, Some, None, length, slice_get, slice_set, IfErr, IfOk, IsTrue, OnOk};
+ghost use Rattle.std.specs.Prelude.{◌≡◌, ◌<◌, Some, None, length, slice_get, slice_set, IfOk, IsTrue, OnOk};
 ghost use Rattle.fancy_meaning.specs.Places.{is_place};
 ghost use Rattle.fancy_fragments.specs.Fragments.{IsFirstWayOf, IsMemoFor};
-ghost use Rattle.fancy_plain.specs.Searches.{IsMemory};
 ghost use Rattle.fancy_plain.specs.Ways.{HasAscending};
 ghost use Rattle.fancy_vm.specs.MemoRuns.{AddsNoMemo, AreOfRuns};
 
@@ -13,7 +12,7 @@ use fancy_fragments::first_way::first_way_with;
 use fancy_fragments::fragment::Fragment;
 use fancy_plain::first_way::FirstWay;
 use fancy_plain::search::Memo;
-use std::alloc::Global;
+use std::alloc::{AllocError, Global};
 
 /// A memo, and the run that wrote it.
 #[derive(Drop)]
@@ -33,10 +32,9 @@ pub(crate) struct Memos {
 }
 
 /// Makes room up to this place.
-fn grow(by_place: &mut Vec<Option<RunMemo>>, pc: usize) -> Result<(), Error>
+fn grow(by_place: &mut Vec<Option<RunMemo>>, pc: usize) -> Result<(), AllocError>
     ensures room { OnOk result (pc < length by_place.new.items) }
     ensures same { AddsNoMemo by_place.old.items by_place.new.items }
-    ensures err { IfErr result IsMemory }
 {
     'places: while by_place.len() <= pc {
         by_place.push(None)?;
@@ -94,7 +92,6 @@ impl Memos {
         ensures first { IfOk result (IsFirstWayOf task.now.text.now fragment.now ix) }
         ensures ascends { IfOk result HasAscending }
         ensures memos { AreMemosOf task.now self.new }
-        ensures err { IfErr result IsMemory }
     {
         let mut memo = self.memo_for(task, fragment, pc)?;
         let way = first_way_with(task.alloc, fragment, task.text, ix, &mut memo);
@@ -104,13 +101,17 @@ impl Memos {
     }
 
     /// Takes out what was noted in this run of the fragment that stands at `pc` in the program.
-    fn memo_for(&mut self, task: &Task<'_>, fragment: &Fragment, pc: usize) -> Result<Memo, Error>
+    fn memo_for(
+        &mut self,
+        task: &Task<'_>,
+        fragment: &Fragment,
+        pc: usize,
+    ) -> Result<Memo, AllocError>
         requires here { fragment_at task.now pc ≡ Some fragment.now }
         requires memos { AreMemosOf task.now self.old }
         ensures memo { IfOk result (IsMemoFor task.now.text.now fragment.now) }
         ensures room { OnOk result (pc < length self.new.by_place.items) }
         ensures memos { AreMemosOf task.now self.new }
-        ensures err { IfErr result IsMemory }
     {
         grow(&mut self.by_place, pc)?;
         let pos = task.options.pos;

@@ -1,17 +1,15 @@
 //! One step in a text: from a place the place after what is taken, if it is there.
 
-ghost use Rattle.std.specs.Prelude.{◌≡◌, ◌&&◌, nat_le, IfOk, IfErr};
+ghost use Rattle.std.specs.Prelude.{◌≡◌, ◌&&◌, nat_le, IfOk};
 ghost use Rattle.fancy_meaning.specs.Moves as moves;
 ghost use Rattle.fancy_meaning.specs.Places as place;
 ghost use Rattle.fancy_meaning.specs.Machine.{class_test};
 ghost use Rattle.fancy_characters.specs.Classes.{class_of};
 ghost use Rattle.fancy_characters.specs.Literals.{literal_tests};
-ghost use Rattle.fancy_state.specs.Refused.{IsMemory};
 
 use fancy_characters::classes::{CaseiLiteral, CharClassMatcher};
 use fancy_characters::places::is_place;
-use fancy_expr::error::Error;
-use std::alloc::Global;
+use std::alloc::{AllocError, Global};
 
 /// The place this many characters before.
 pub(crate) fn back_by(text: &[u8], chars: usize, ix: usize) -> Option<usize>
@@ -40,20 +38,20 @@ pub(crate) fn past_literal(literal: &CaseiLiteral, text: &str, ix: usize) -> Opt
     Some(ix + literal.match_len(text, ix)?)
 }
 
-/// Past one character of the class. `Memory` where a request for memory was refused.
+/// Past one character of the class.
 pub(crate) fn past_class(
     alloc: Global,
     class: &CharClassMatcher,
     text: &str,
     ix: usize,
-) -> Result<Option<usize>, Error>
-    ensures ok { IfOk result
+) -> Result<Option<usize>, AllocError>
+    ensures { IfOk result
         (λ to. to ≡ moves.past_char text.now (class_test (class_of class.now)) ix) }
-    ensures err { IfErr result IsMemory }
 {
-    match class.match_len(alloc, text, ix)? {
-        None => Ok(None),
-        Some(len) => Ok(Some(ix + len)),
+    match class.match_len(alloc, text, ix) {
+        Ok(None) => Ok(None),
+        Ok(Some(len)) => Ok(Some(ix + len)),
+        Err(_) => Err(AllocError),
     }
 }
 

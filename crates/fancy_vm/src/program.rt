@@ -56,6 +56,20 @@ impl Prog {
         self.parts.find_not_empty
     }
 
+    /// The analysis knew that a run may ask for the longest match.
+    pub fn leftmost_longest(&self) -> bool
+        ensures { result ≡ (prog_of self.now).leftmost_longest }
+    {
+        self.parts.leftmost_longest
+    }
+
+    /// The pattern has a `\K`, so that a match may be said to start later than where it was tried.
+    pub fn keeps_start(&self) -> bool
+        ensures { result ≡ (prog_of self.now).keeps_start }
+    {
+        self.parts.keeps_start
+    }
+
     /// The slot of the text-end flag, and how many slots stand before it.
     pub(crate) fn flag_slot(&self) -> usize
         ensures { result ≡ machine.flag_slot (prog_of self.now) }

@@ -4,13 +4,14 @@ ghost use Rattle.std.specs.Prelude.{◌≡◌, IsTrue, IsUtf8, IfOk, IfErr, fals
 ghost use Rattle.fancy_meaning.specs.Places.{is_place};
 ghost use Rattle.fancy_meaning.specs.Machine as machine;
 ghost use Rattle.fancy_meaning.specs.Fits.{run_fits};
-ghost use Rattle.fancy_vm.specs.Means.{IsMeaning, IsMeaningPair, Means, MeansPair, numbers_of};
-ghost use Rattle.fancy_vm.specs.Outcomes.{RunAnswers, RunAnswersPair, Finds, IsSoundMachine, config_of, plain_task};
-ghost use Rattle.fancy_vm.specs.Programs.{IsUnused, allocator_of, default_at, default_task, options_of, prog_of, task_of};
+ghost use Rattle.fancy_vm.specs.Memos.{AreMemosOf};
+ghost use Rattle.fancy_vm.specs.Means.{IsMeaning, IsMeaningPair, numbers_of};
+ghost use Rattle.fancy_vm.specs.Outcomes.{Finds, RunAnswers, RunAnswersPair, config_of, plain_task};
 ghost use Rattle.fancy_state.specs.Refused.{IsMemory};
+ghost use Rattle.fancy_vm.specs.Programs.{IsUnused, allocator_of, default_at, default_task, options_of, prog_of, task_of};
 
 use crate::insn::Prog;
-use crate::machine::{MAX_BRANCHES, Machine, Next, Task};
+use crate::machine::{MAX_BRANCHES, Machine, Next, Stop, Task};
 use crate::memos::Memos;
 use fancy_characters::places::is_place;
 use fancy_expr::error::{Error, RuntimeError};
@@ -108,8 +109,6 @@ pub fn run(
 ) -> Result<Option<Vec<usize>>, Error>
     requires { IsTrue (run_fits (task_of prog.now text.now options.now)) }
     ensures machine { RunAnswers (machine.run (task_of prog.now text.now options.now)) result }
-    ensures meaning { IfOk result
-        (λ found. Means (prog_of prog.now) text.now (options_of options.now) (numbers_of found)) }
     ensures headline { IfOk result (λ found.
         IsMeaning (prog_of prog.now) text.now (options_of options.now) (numbers_of found)) }
 {
@@ -119,10 +118,10 @@ pub fn run(
         options,
         alloc,
     };
-    let mut m = scratch.begin(&task)?;
-    let answer = task.answer(&mut m);
-    scratch.state = Some(m.state);
-    scratch.memos = Some(m.memos);
+    let mut m = scratch.begin(task)?;
+    let mut memos = scratch.take_memos();
+    let answer = m.answer(&mut memos);
+    scratch.keep(m, memos);
     answer
 }
 
@@ -136,8 +135,6 @@ pub fn run_spans(
 ) -> Result<Option<(usize, usize)>, Error>
     requires { IsTrue (run_fits (task_of prog.now text.now options.now)) }
     ensures machine { RunAnswersPair (machine.run (task_of prog.now text.now options.now)) result }
-    ensures meaning { IfOk result
-        (λ found. MeansPair (prog_of prog.now) text.now (options_of options.now) found) }
     ensures headline { IfOk result
         (IsMeaningPair (prog_of prog.now) text.now (options_of options.now)) }
 {
@@ -147,10 +144,10 @@ pub fn run_spans(
         options,
         alloc,
     };
-    let mut m = scratch.begin(&task)?;
-    let answer = task.answer_pair(&mut m);
-    scratch.state = Some(m.state);
-    scratch.memos = Some(m.memos);
+    let mut m = scratch.begin(task)?;
+    let mut memos = scratch.take_memos();
+    let answer = m.answer_pair(&mut memos);
+    scratch.keep(m, memos);
     answer
 }
 
@@ -163,8 +160,6 @@ pub fn run_default(
 ) -> Result<Option<Vec<usize>>, Error>
     requires { IsTrue (run_fits (default_task prog.now text.now pos)) }
     ensures machine { RunAnswers (machine.run (default_task prog.now text.now pos)) result }
-    ensures meaning { IfOk result
-        (λ found. Means (prog_of prog.now) text.now (default_at pos) (numbers_of found)) }
     ensures headline { IfOk result
         (λ found. IsMeaning (prog_of prog.now) text.now (default_at pos) (numbers_of found)) }
 {
@@ -173,10 +168,12 @@ pub fn run_default(
 }
 
 impl Scratch {
+    ghost use Rattle.fancy_vm.specs.declared.machine.Task as tasks;
+
     /// A machine at the start of the task, with the scratch's memory.
-    fn begin(&mut self, task: &Task<'_>) -> Result<Machine, Error>
-        ensures begins { IfOk result (λ m. config_of m ≡ machine.begin (plain_task task.now)) }
-        ensures sound { IfOk result (IsSoundMachine task.now) }
+    fn begin<'a>(&mut self, task: Task<'a>) -> Result<Machine<'a>, Error>
+        ensures task { IfOk result (λ m. m.task ≡ task.entry) }
+        ensures begins { IfOk result (λ m. config_of m ≡ machine.begin (plain_task m.task)) }
         ensures err { IfErr result IsMemory }
     {
         let slots = task.prog.parts.slots;
@@ -184,60 +181,73 @@ impl Scratch {
             None => State::new(self.alloc, slots, MAX_BRANCHES)?,
             Some(state) => state.renew(slots, MAX_BRANCHES)?,
         };
-        let memos = match self.memos.take() {
+        Ok(Machine::begin(&task, state))
+    }
+
+    /// Memos of a run of which nothing is noted yet, with the scratch's memory.
+    fn take_memos(&mut self) -> Memos
+        ensures { (task : tasks.Task) → AreMemosOf task result }
+    {
+        match self.memos.take() {
             None => Memos::new(self.alloc),
             Some(memos) => memos.renew(self.alloc),
-        };
-        Ok(Machine::begin(task, state, memos))
+        }
+    }
+
+    /// Keeps the memory of a run for the next one.
+    fn keep(&mut self, m: Machine<'_>, memos: Memos) {
+        let Machine { state, .. } = m;
+        self.state = Some(state);
+        self.memos = Some(memos);
     }
 }
 
-impl Task<'_> {
+impl Machine<'_> {
     /// Steps until a match is found, which the machine then holds, or none is there.
-    fn run(&self, m: &mut Machine) -> Result<bool, Error>
-        requires sound { IsSoundMachine self.now m.old }
-        requires begins { config_of m.old ≡ machine.begin (plain_task self.now) }
-        requires text { IsUtf8 self.now.text.now }
-        requires place { IsTrue (is_place self.now.text.now self.now.options.now.pos) }
-        ensures finds { Finds self.now (machine.run (plain_task self.now)) result m.new }
-        ensures sound { IsSoundMachine self.now m.new }
+    fn run(&mut self, memos: &mut Memos) -> Result<bool, Stop>
+        requires begins { config_of self.old ≡ machine.begin (plain_task self.old.task) }
+        requires text { IsUtf8 self.old.task.text.now }
+        requires place { IsTrue (is_place self.old.task.text.now self.old.task.options.now.pos) }
+        requires memos { AreMemosOf self.old.task memos.old }
+        ensures task { self.new.task ≡ self.old.task }
+        ensures finds { Finds (machine.run (plain_task self.old.task)) result self.new }
     {
-        'steps: for _step in 0..self.options.step_limit {
-            match self.step(m)? {
+        'steps: for _step in 0..self.task.options.step_limit {
+            match self.step(memos)? {
                 Next::On => {}
                 Next::Matched => return Ok(true),
                 Next::Failed => return Ok(false),
             }
         }
-        Err(Error::RuntimeError(RuntimeError::StepLimitExceeded))
+        Err(Stop::Limit(RuntimeError::StepLimitExceeded))
     }
 
     /// The numbers that the run answers.
-    fn answer(&self, m: &mut Machine) -> Result<Option<Vec<usize>>, Error>
-        requires sound { IsSoundMachine self.now m.old }
-        requires begins { config_of m.old ≡ machine.begin (plain_task self.now) }
-        requires text { IsUtf8 self.now.text.now }
-        requires place { IsTrue (is_place self.now.text.now self.now.options.now.pos) }
-        ensures { RunAnswers (machine.run (plain_task self.now)) result }
+    fn answer(&mut self, memos: &mut Memos) -> Result<Option<Vec<usize>>, Error>
+        requires begins { config_of self.old ≡ machine.begin (plain_task self.old.task) }
+        requires text { IsUtf8 self.old.task.text.now }
+        requires place { IsTrue (is_place self.old.task.text.now self.old.task.options.now.pos) }
+        requires memos { AreMemosOf self.old.task memos.old }
+        ensures { RunAnswers (machine.run (plain_task self.old.task)) result }
     {
-        if !self.run(m)? {
+        if !self.run(memos)? {
             return Ok(None);
         }
-        Ok(Some(self.numbers(m)?))
+        Ok(Some(self.numbers()?))
     }
 
     /// The first pair of the numbers that the run answers.
-    fn answer_pair(&self, m: &mut Machine) -> Result<Option<(usize, usize)>, Error>
-        requires sound { IsSoundMachine self.now m.old }
-        requires begins { config_of m.old ≡ machine.begin (plain_task self.now) }
-        requires text { IsUtf8 self.now.text.now }
-        requires place { IsTrue (is_place self.now.text.now self.now.options.now.pos) }
-        requires implicit { self.now.prog.now.parts.explicit_group_0 ≡ false }
-        ensures { RunAnswersPair (machine.run (plain_task self.now)) result }
+    fn answer_pair(&mut self, memos: &mut Memos) -> Result<Option<(usize, usize)>, Error>
+        requires begins { config_of self.old ≡ machine.begin (plain_task self.old.task) }
+        requires text { IsUtf8 self.old.task.text.now }
+        requires place { IsTrue (is_place self.old.task.text.now self.old.task.options.now.pos) }
+        requires memos { AreMemosOf self.old.task memos.old }
+        requires implicit { self.old.task.prog.now.parts.explicit_group_0 ≡ false }
+        ensures { RunAnswersPair (machine.run (plain_task self.old.task)) result }
     {
-        if !self.run(m)? {
+        if !self.run(memos)? {
             return Ok(None);
         }
-        Ok(Some(self.first_pair(m)))
+        Ok(Some(self.first_pair()))
     }
 }

@@ -8,7 +8,7 @@ use Rattle.fancy_analysis.specs.Refusals.{first_of, last_of}
 use Rattle.fancy_expr.specs.Views.{parsed_of, tree_of}
 use Rattle.fancy_expr.proofs.Listed.{any-nodes}
 use Rattle.fancy_expr.proofs.SoundNodes.{node_there}
-use Rattle.fancy_analysis.proofs.RefusalNodes.{refused_for_a_case, names_there, named_flags, names_absent}
+use Rattle.fancy_analysis.proofs.RefusalNodes.{refused_for_a_case, lazy_refused, names_there, named_flags, names_absent}
 use Rattle.fancy_analysis.proofs.refusals.refusal.Goals as goal
 
 pub returns-then-has_named_and_numbered : goal.returns-then-has_named_and_numbered
@@ -17,6 +17,10 @@ returns-then-has_named_and_numbered c =
     let both = t.numbered_groups_ignored && t.numeric_capture_group_references in
     before_end (named_groups_with_numbers (named_flags t.named_groups.entries both (sym c.if-has_named_and_numbered.ensures))
     (λ none. names_there _ t.named_groups.entries both (sym c.if-has_named_and_numbered.ensures) none))
+
+pub returns-then-has_lazy : goal.returns-then-has_lazy
+returns-then-has_lazy c =
+    lazy_refused (parsed_of c.args.tree.now) (analysis_options_of c.args.context) (sym c.has_lazy.ensures ∙ c.if-has_lazy.true)
 
 pub returns-in-Some : goal.returns-in-Some
 returns-in-Some c =
@@ -41,4 +45,4 @@ returns-in-None c =
     ∙ ap (λ n. list_any (is_refused c.first_group-first.result n) (nodes (tree_of t.expr))) (sym c.last_group-last.ensures)
     ∙ sym (any-nodes (is_refused c.first_group-first.result c.last_group-last.result) t.expr)
     ∙ c.in-None.ensures in
-    record { nodes = none; names = λ h some. names_absent _ t.named_groups.entries both (sym c.if-has_named_and_numbered.ensures) h some }
+    record { lazy = sym c.has_lazy.ensures ∙ c.if-has_lazy.false; nodes = none; names = λ h some. names_absent _ t.named_groups.entries both (sym c.if-has_named_and_numbered.ensures) h some }

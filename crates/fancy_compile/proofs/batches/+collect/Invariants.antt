@@ -5,7 +5,7 @@ use Rattle.fancy_compile.proofs.Collected.{chars_of}
 use Rattle.fancy_compile.proofs.batches.+collect.Given as goal
 
 -- what is left, collected from here, completes the whole
-abbrev pub invariant-have_other-loop-info : goal.invariant-have_other-loop-info
-invariant-have_other-loop-info l =
+abbrev pub invariant-collect_each-loop-info : goal.invariant-collect_each-loop-info
+invariant-collect_each-loop-info l =
     (u : Chars) (is_other : Bool) → Collects (chars_of (drop l.info-index l.infos)) l.chars.items u is_other
     → Collects (chars_of l.infos) l.fn.chars.items u is_other

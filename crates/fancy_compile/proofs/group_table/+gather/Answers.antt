@@ -1,11 +1,8 @@
 use Rattle.std.proofs.Common.{◌<◌, ◌++◌, length, map, drop, ◌+◌, sym, ap, ◌∙◌, subst, arith, append_assoc}
-use Rattle.fancy_info.specs.Infos.{IsAnalysed, info_tree}
-use Rattle.fancy_expr.specs.Each.{Each}
 use Rattle.fancy_plain.specs.Tables.{AreFine}
-use Rattle.fancy_compile.specs.Nodes.{node_count, total}
 use Rattle.fancy_compile.specs.GroupTables.{is_group, own_trees, trees_of, group_trees}
-use Rattle.fancy_info.specs.Infos.{info_facts, info_children}
-use Rattle.fancy_compile.proofs.Infos.{fine_at, fine_below, node_count-below, child_count, each_at, known_child}
+use Rattle.fancy_info.specs.Infos.{info_facts, info_children, info_tree}
+use Rattle.fancy_compile.proofs.Infos.{fine_at, fine_below, part_known, part_smaller}
 use Rattle.fancy_compile.proofs.GroupTable.{each_group_trees, groups_of_info, each_rest}
 use Rattle.fancy_compile.proofs.group_table.+gather.Goals as goal
 
@@ -25,19 +22,9 @@ loop-part-init t c =
 
 pub gather-requires : goal.gather-requires
 gather-requires t c =
-    let lt : c.loop-part.part-index < length c.children-children.result.now = omega arith in
-    let each = subst (Each (IsAnalysed c.requires.0)) (sym c.children-children.ensures) (c.requires.1).children in (
-      omega (
-        arith,
-        node_count-below c.args.info.now,
-        ap (λ l. total (map node_count l)) c.children-children.ensures,
-        child_count c.children-children.result.now c.loop-part.part-index c.part-item.result lt c.part-item.is,
-      ),
-      (
-        c.requires.0,
-        known_child c.requires.0 c.part-item.result
-            (each_at (IsAnalysed c.requires.0) c.children-children.result.now c.loop-part.part-index c.part-item.result each lt c.part-item.is),
-      ),
+    let lt : c.loop-part.part-index < length c.children-children.result.now = omega arith in (
+      omega (arith, part_smaller c.args.info.now _ c.children-children.ensures _ _ lt c.part-item.is),
+      (c.requires.0, part_known c.args.info.now _ c.children-children.ensures _ _ lt c.part-item.is c.requires.0 c.requires.1),
     )
 
 pub loop-part-preserved : goal.loop-part-preserved
@@ -49,23 +36,15 @@ loop-part-preserved t c =
     let before = trees_of c.loop-part.nodes.items in
     record {
       nodes = λ a k.
-          let each = subst (Each (IsAnalysed a)) (sym c.children-children.ensures) k.children in
-          let known = known_child a x (each_at (IsAnalysed a) children n x each lt c.part-item.is) in
+          let known = part_known c.args.info.now children c.children-children.ensures n x lt c.part-item.is a k in
           ap (λ l. l ++ each_group_trees (drop (n + 1) children)) (c.in_ok-gather.ensures.nodes a known)
           ∙ append_assoc before (group_trees (info_tree x)) (each_group_trees (drop (n + 1) children))
           ∙ ap (λ l. before ++ l) (sym (each_rest children n x lt c.part-item.is))
           ∙ c.loop-part.invariant.nodes a k;
       known = λ a most k fine le all.
-          let each = subst (Each (IsAnalysed a)) (sym c.children-children.ensures) k.children in
-          let known = known_child a x (each_at (IsAnalysed a) children n x each lt c.part-item.is) in
+          let known = part_known c.args.info.now children c.children-children.ensures n x lt c.part-item.is a k in
           let below = subst (λ l. AreFine (map info_tree l)) (sym c.children-children.ensures) (fine_below a c.args.info.now k fine) in
           c.in_ok-gather.ensures.known a most known (fine_at children n x below lt c.part-item.is)
-          (omega (
-            arith,
-            le,
-            node_count-below c.args.info.now,
-            ap (λ l. total (map node_count l)) c.children-children.ensures,
-            child_count children n x lt c.part-item.is,
-          ))
+          (omega (arith, le, part_smaller c.args.info.now children c.children-children.ensures n x lt c.part-item.is))
           (c.loop-part.invariant.known a most k fine le all);
     }

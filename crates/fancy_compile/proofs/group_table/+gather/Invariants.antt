@@ -1,7 +1,8 @@
 use Rattle.std.proofs.Common.{◌≡◌, ◌++◌, drop}
 use Rattle.fancy_meaning.specs.Options.{Analysis}
 use Rattle.fancy_info.specs.Infos.{info_tree}
-use Rattle.fancy_compile.specs.Nodes.{node_count, IsKnown}
+use Rattle.fancy_info.specs.NodeCounts.{node_count}
+use Rattle.fancy_compile.specs.Nodes.{IsKnown}
 use Rattle.fancy_compile.specs.GroupTables.{AddsKnown, trees_of, group_trees}
 use Rattle.fancy_compile.proofs.GroupTable.{each_group_trees}
 use Rattle.fancy_compile.proofs.group_table.+gather.Given as goal

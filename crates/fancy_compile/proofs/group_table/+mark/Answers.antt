@@ -1,11 +1,9 @@
-use Rattle.std.proofs.Common.{◌≡◌, ◌<◌, ◌==◌, ◌∷◌, [], length, map, sym, ap, ◌∙◌, subst, arith, eq-eqb, ne_eqb}
+use Rattle.std.proofs.Common.{◌≡◌, ◌<◌, ◌==◌, ◌∷◌, [], length, sym, ap, ◌∙◌, subst, arith, eq-eqb, ne_eqb}
 use Rattle.fancy_meaning.specs.Marks.{marked_groups}
 use Rattle.fancy_meaning.specs.Sizes.{Size}
-use Rattle.fancy_info.specs.Infos.{IsAnalysed, info_tree, info_facts}
-use Rattle.fancy_expr.specs.Each.{Each}
-use Rattle.fancy_compile.specs.Nodes.{node_count, total}
+use Rattle.fancy_info.specs.Infos.{info_tree, info_facts}
 use Rattle.fancy_compile.specs.GroupTables.{MarksAll, is_group, is_concat}
-use Rattle.fancy_compile.proofs.Infos.{node_count-below, child_count, each_at, known_child, size_known}
+use Rattle.fancy_compile.proofs.Infos.{part_known, part_smaller, size_known}
 use Rattle.fancy_compile.proofs.GroupTable.{only_body, body_known, body_smaller, marks_then, marks_none, starts_of_group, starts_of_concat, no_starts, left_starts, left_more, left_last, left_done}
 use Rattle.fancy_compile.proofs.group_table.+mark.Goals as goal
 
@@ -36,19 +34,9 @@ returns-then-not-is_concat t c = λ a k.
 
 pub mark-requires-in-loop-part : goal.mark-requires-in-loop-part
 mark-requires-in-loop-part t c =
-    let lt : c.loop-part.part-index < length c.children-children.result.now = omega arith in
-    let each = subst (Each (IsAnalysed c.requires.0)) (sym c.children-children.ensures) (c.requires.1).children in (
-      omega (
-        arith,
-        node_count-below c.args.info.now,
-        ap (λ l. total (map node_count l)) c.children-children.ensures,
-        child_count c.children-children.result.now c.loop-part.part-index c.part-item.result lt c.part-item.is,
-      ),
-      (
-        c.requires.0,
-        known_child c.requires.0 c.part-item.result
-            (each_at (IsAnalysed c.requires.0) c.children-children.result.now c.loop-part.part-index c.part-item.result each lt c.part-item.is),
-      ),
+    let lt : c.loop-part.part-index < length c.children-children.result.now = omega arith in (
+      omega (arith, part_smaller c.args.info.now _ c.children-children.ensures _ _ lt c.part-item.is),
+      (c.requires.0, part_known c.args.info.now _ c.children-children.ensures _ _ lt c.part-item.is c.requires.0 c.requires.1),
     )
 
 pub returns-then-max_size-ne0 : goal.returns-then-max_size-ne0
@@ -58,8 +46,7 @@ returns-then-max_size-ne0 t c = λ a k.
     let n = c.loop-part.part-index in
     let x = c.part-item.result in
     let lt : n < length children = omega arith in
-    let known = known_child a x (each_at (IsAnalysed a) children n x (subst (Each (IsAnalysed a)) (sym c.children-children.ensures) k.children) lt
-    c.part-item.is) in
+    let known = part_known c.args.info.now children c.children-children.ensures n x lt c.part-item.is a k in
     let most = c.max_size.ensures ∙ ap (λ (z : Size). z.most) (size_known x a known) in
     let takes = ap (λ m. m == 0) (sym most) ∙ ne_eqb c.max_size.result 0 c.if-max_size-ne0.true in
     let concat = ap is_concat (sym c.expr-expr.ensures) ∙ sym c.is_concat.ensures ∙ c.if-not-is_concat.false in
@@ -75,8 +62,7 @@ loop-part-preserved t c = λ a new k h.
     let n = c.loop-part.part-index in
     let x = c.part-item.result in
     let lt : n < length children = omega arith in
-    let known = known_child a x (each_at (IsAnalysed a) children n x (subst (Each (IsAnalysed a)) (sym c.children-children.ensures) k.children) lt
-    c.part-item.is) in
+    let known = part_known c.args.info.now children c.children-children.ensures n x lt c.part-item.is a k in
     let most = c.max_size.ensures ∙ ap (λ (z : Size). z.most) (size_known x a known) in
     let zero : c.max_size.result ≡ 0 = omega (arith, c.if-max_size-ne0.false) in
     let empty = ap (λ m. m == 0) (sym most) ∙ eq-eqb c.max_size.result 0 zero in

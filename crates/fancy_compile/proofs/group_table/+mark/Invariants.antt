@@ -1,6 +1,7 @@
 use Rattle.std.proofs.Common.{Bool, List, drop}
 use Rattle.fancy_meaning.specs.Options.{Analysis}
-use Rattle.fancy_compile.specs.Nodes.{node_count, IsKnown}
+use Rattle.fancy_info.specs.NodeCounts.{node_count}
+use Rattle.fancy_compile.specs.Nodes.{IsKnown}
 use Rattle.fancy_compile.specs.GroupTables.{MarksAll}
 use Rattle.fancy_compile.proofs.GroupTable.{left_starts}
 use Rattle.fancy_compile.proofs.group_table.+mark.Given as goal

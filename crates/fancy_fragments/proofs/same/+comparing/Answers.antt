@@ -2,7 +2,7 @@ use Rattle.std.proofs.Common.{arith}
 use Rattle.fancy_expr.specs.Exprs.{below}
 use Rattle.fancy_expr.specs.Views.{tree_of}
 use Rattle.fancy_expr.proofs.Exprs.{child_smaller}
-use Rattle.fancy_fragments.proofs.SameNodes.{same_tree, same_more, same_all}
+use Rattle.fancy_fragments.proofs.SameTrees.{same_tree, same_more, same_all}
 use Rattle.fancy_fragments.proofs.same.+comparing.Goals as goal
 
 pub differs-returns-then-is_alike : goal.differs-returns-then-is_alike

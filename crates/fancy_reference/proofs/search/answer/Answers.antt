@@ -30,7 +30,7 @@ returns-in-Some-clause-found c = λ a k r h.
     c.new.result.items c.new.ensures.items (state_of c.first.result) start c.first.ensures in
     let state = state_of c.in-Some.state.now in
     let tried : attempt q start ≡ Some state =
-    attempt_is whole o text start _ _ c.first_admitted.ensures (ap states_of c.deref.ensures.value ∙ all)
+    attempt_is whole o text start _ _ c.chosen_admitted.ensures (ap states_of c.deref.ensures.value ∙ all)
     ∙ ap (option_map (λ s. state_of s.now)) c.in-Some.is in
     let found : slice_get (filter_map (attempt q) (starts q)) 0 ≡ Some state =
     ap (λ l. slice_get (filter_map (attempt q) l) 0) (sym (c.deref-start-items.ensures.value ∙ c.in_ok-starts.ensures))
@@ -57,7 +57,7 @@ loop-start-preserved c =
     (ap (λ n. 19 * (n + 1)) count ∙ all_calls whole)
     c.new.result.items c.new.ensures.items (state_of c.first.result) start c.first.ensures in
     let tried : attempt q start ≡ None =
-    attempt_is whole o text start _ _ c.first_admitted.ensures (ap states_of c.deref.ensures.value ∙ all)
+    attempt_is whole o text start _ _ c.chosen_admitted.ensures (ap states_of c.deref.ensures.value ∙ all)
     ∙ ap (option_map (λ s. state_of s.now)) c.in_default.is in
     filter_map_none (attempt q) items i start (omega arith) (get_same items i 0 start (omega arith)) c.loop-start.invariant tried
 

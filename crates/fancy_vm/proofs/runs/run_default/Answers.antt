@@ -1,14 +1,9 @@
 use Rattle.std.specs.Prelude.{IfOk}
 use Rattle.std.proofs.Common.{subst}
 use Rattle.fancy_meaning.specs.Options.{RunOptions}
-use Rattle.fancy_vm.specs.Means.{IsMeaning, Means, numbers_of}
+use Rattle.fancy_vm.specs.Means.{IsMeaning, numbers_of}
 use Rattle.fancy_vm.specs.Programs.{prog_of}
 use Rattle.fancy_vm.proofs.runs.run_default.Goals as goal
-
-pub returns-clause-meaning : goal.returns-clause-meaning
-returns-clause-meaning c =
-    subst (λ (o : RunOptions). IfOk c.run.result (λ found. Means (prog_of c.args.prog.now) c.args.text.now o (numbers_of found)))
-    c.at.ensures c.run.ensures.meaning
 
 pub returns-clause-headline : goal.returns-clause-headline
 returns-clause-headline c =

@@ -13,11 +13,12 @@ use Rattle.fancy_info.specs.declared.info.Info.TheViews.{out-Info}
 use Rattle.fancy_info.specs.Infos.{node_over, info_tree, info_size, info_hard, info_children, info_within, is_read_group, IsAnalysed}
 use Rattle.fancy_expr.specs.Each.{Each}
 use Rattle.fancy_info.proofs.Unfolded.{tree_out}
-use Rattle.fancy_compile.specs.Drafts.{draft_of, with_patch, with_jumps, Adds, Writes, code_in, hard_code, node_code}
+use Rattle.fancy_compile.specs.Drafts.{draft_of, with_patch, with_jumps, Adds, Writes, code_in, written_code, node_code}
 use Rattle.fancy_meaning.specs.AnalysisRefusals as refusal
 use Rattle.fancy_meaning.specs.Sizes.{Size}
 use Rattle.fancy_compile.specs.Faults.{HasRejected}
-use Rattle.fancy_compile.specs.Nodes.{AreWhole, back_start, front_count, rest_of, node_count, total, branch_over, step_past}
+use Rattle.fancy_info.specs.NodeCounts.{node_count, node_counts}
+use Rattle.fancy_compile.specs.Nodes.{AreWhole, back_start, front_count, rest_of, branch_over, look_behind, step_past}
 use Rattle.std.specs.List.{list_all, list_any}
 use Rattle.std.proofs.lemmas.Bool.{and_parts, cond-true, cond-false}
 use Rattle.fancy_meaning.specs.Batches.{batch}
@@ -28,6 +29,7 @@ use Rattle.fancy_compile.proofs.Writing.{wrote_then, wrote_nothing}
 use Rattle.fancy_compile.proofs.Patches.{wrote_both}
 use Rattle.fancy_compile.proofs.Concat.{ahead_by, negative_by}
 use Rattle.fancy_expr.specs.Views.{look_of, bound_of}
+use Rattle.fancy_compile.specs.declared.around.Around.TheVariants as around
 use Rattle.fancy_compile.specs.Arounds.{around_code, form_of, kind_form, behind, not_ahead, not_behind}
 use Rattle.fancy_meaning.specs.OpenCalls.{call_depth}
 use Rattle.fancy_compile.specs.OpenDepths.{depths_of}
@@ -36,10 +38,11 @@ use Rattle.fancy_compile.proofs.Called.{zero_target, in_range, no_target, some_t
 use Rattle.fancy_compile.proofs.CallLaws.{missing_refused, wrote_full, code_of_zero, code_of_group, same_tree, lighter, inner_code, inner_u, root_by, wrote_body, wrote_called}
 use Rattle.fancy_compile.proofs.Alone.{wrote_assertion}
 use Rattle.fancy_compile.proofs.LoopForms.{wrote_repeat, wrote_never}
-use Rattle.fancy_compile.proofs.Lookbehinds.{const_branches, varying_branch, variable_refused, wrote_behind, wrote_not_behind, wrote_behind_branches, wrote_none_behind}
-use Rattle.fancy_compile.proofs.Written.{wrote_node, safe_fine}
+use Rattle.fancy_compile.proofs.Lookbehinds.{const_branches, varying_branch, variable_refused, wrote_behind, wrote_behind_branches, wrote_none_behind}
+use Rattle.fancy_compile.proofs.Written.{wrote_node, written_as, safe_fine}
 use Rattle.fancy_compile.proofs.AbsentLaws.{repeater_over, repeater_below, not_repeater, repeater_refused, wrote_absent, wrote_repeater}
-use Rattle.fancy_compile.proofs.Infos.{tree_by, each_at, whole_at, node_count-below, child_count, whole_below, known_child, size_known, hard_child, easy_known, read_known, easy_alone, has_one, only_child, smaller_child, whole_child, analysed_only, three_children, smaller_three, whole_three, analysed_three}
+use Rattle.fancy_info.proofs.Children.{tree_by, each_at, node_count-below, child_count}
+use Rattle.fancy_compile.proofs.Infos.{whole_at, whole_below, known_child, size_known, hard_child, easy_known, read_known, easy_alone, has_one, only_child, smaller_child, whole_child, analysed_only, three_children, smaller_three, whole_three, analysed_three}
 use Rattle.fancy_compile.proofs.Neighbours.{wrote_child, LeftBranches, LeftNone, in_turn_step, none_step, no_more_none, at_branch, last_step, branch_step, jumps_more, no_more_in_turn, no_more_branches, wrote_three, wrote_concat, wrote_alt}
 use Rattle.fancy_compile.proofs.compiler.Compiler.+emit.Goals as goal
 
@@ -81,7 +84,7 @@ emit_concat-emit_in_turn-requires t c =
     let is = c.args.infos.now in
     let n = front_count is in
     let m = back_start c.args.in_hard (rest_of is) in (
-      omega (arith, ap (λ l. total (map node_count l)) c.in_three.ensures.middle, total_middle n m is),
+      omega (arith, ap node_counts c.in_three.ensures.middle, total_middle n m is),
       subst (AreWhole scope) (sym c.in_three.ensures.middle) (whole_take scope m (rest_of is) (whole_drop scope n is c.requires)),
     )
 
@@ -107,13 +110,13 @@ emit_concat-returns t c = λ p call u each.
 
 pub emit_node-emit_concat-requires : goal.emit_node-emit_concat-requires
 emit_node-emit_concat-requires t c = (
-  omega (arith, node_count-below c.args.info.now, ap (λ l. total (map node_count l)) c.children.ensures),
+  omega (arith, node_count-below c.args.info.now, ap node_counts c.children.ensures),
   subst (AreWhole c.args.scope.now) (sym c.children.ensures) (whole_below c.args.scope.now c.args.info.now c.requires),
 )
 
 pub emit_node-emit_branches-requires : goal.emit_node-emit_branches-requires
 emit_node-emit_branches-requires t c = (
-  omega (arith, node_count-below c.args.info.now, ap (λ l. total (map node_count l)) c.children-in-Alt.ensures),
+  omega (arith, node_count-below c.args.info.now, ap node_counts c.children-in-Alt.ensures),
   subst (AreWhole c.args.scope.now) (sym c.children-in-Alt.ensures) (whole_below c.args.scope.now c.args.info.now c.requires),
 )
 
@@ -151,7 +154,7 @@ pub emit_node-returns-in-Concat : goal.emit_node-returns-in-Concat
 emit_node-returns-in-Concat t c = λ p call u known.
     let at = sym c.expr-expr.ensures ∙ c.in-Concat.is in
     let tree = tree_by c.args.info.now _ c.children.result.now at (sym c.children.ensures) in
-    subst (λ e. Writes p (hard_code p call e c.args.at_start c.args.in_hard) (e ∷ []) (draft_of c.args.self.now) (draft_of c.emit_concat.new.self)) (sym tree)
+    written_as p call c.args.at_start c.args.in_hard _ _ _ _ tree
     (wrote_concat p call (map info_tree c.children.result.now) c.args.at_start c.args.in_hard _ _
     (c.emit_concat.ensures p call u (subst (Each (IsAnalysed p.analysis)) (sym c.children.ensures) known.children)))
 
@@ -159,7 +162,7 @@ pub emit_node-returns-in-Alt : goal.emit_node-returns-in-Alt
 emit_node-returns-in-Alt t c = λ p call u known.
     let at = sym c.expr-expr.ensures ∙ c.in-Alt.is in
     let tree = tree_by c.args.info.now _ c.children-in-Alt.result.now at (sym c.children-in-Alt.ensures) in
-    subst (λ e. Writes p (hard_code p call e c.args.at_start c.args.in_hard) (e ∷ []) (draft_of c.args.self.now) (draft_of c.emit_branches.new.self)) (sym tree)
+    written_as p call c.args.at_start c.args.in_hard _ _ _ _ tree
     (wrote_alt p call (map info_tree c.children-in-Alt.result.now) c.args.at_start c.args.in_hard _ _
     (c.emit_branches.ensures p call u (subst (Each (IsAnalysed p.analysis)) (sym c.children-in-Alt.ensures) known.children)))
 
@@ -173,14 +176,14 @@ emit_node-returns-in-Group t c = λ p call u known.
     let s = draft_of c.args.self.now in
     let t = draft_of c.emit_around.new.self in
     let inside = c.args.in_hard || is_read p.analysis.tree n in
-    let is_inside = c.is_body_hard.ensures
+    let is_inside = c.is_body_hard-is_hard.ensures
     ∙ ap (λ b. c.args.in_hard || b) (read_known p.analysis i known ∙ ap (is_read_group p.analysis.tree) tree) in
     let code : ℕ → Bool → Code = λ m b. group_code m (node_code p call (info_tree body) c.args.at_start b) in
     let wrote = c.emit_around.ensures p call u (analysed_only c.args.scope.now i body _ at c.requires refl c.child.ensures p.analysis known) in
-    subst (λ e. Writes p (hard_code p call e c.args.at_start c.args.in_hard) (e ∷ []) s t) (sym tree)
+    written_as p call c.args.at_start c.args.in_hard _ _ _ _ tree
     (wrote_node p _ (plain.Group n (info_tree body)) s t (safe_fine p (plain.Group n (info_tree body)) refl refl)
     (subst (λ b. Writes p (code n b) (info_tree body ∷ []) s t) is_inside
-    (subst (λ m. Writes p (code m c.is_body_hard.result) (info_tree body ∷ []) s t) c.start_group.ensures wrote)))
+    (subst (λ m. Writes p (code m c.is_body_hard-is_hard.result) (info_tree body ∷ []) s t) c.start_group.ensures wrote)))
 
 pub emit_node-returns-in-AtomicGroup : goal.emit_node-returns-in-AtomicGroup
 emit_node-returns-in-AtomicGroup t c = λ p call u known.
@@ -190,7 +193,7 @@ emit_node-returns-in-AtomicGroup t c = λ p call u known.
     in
     let s = draft_of c.args.self.now in
     let t = draft_of c.emit_around-in-AtomicGroup.new.self in
-    subst (λ e. Writes p (hard_code p call e c.args.at_start c.args.in_hard) (e ∷ []) s t) (sym tree)
+    written_as p call c.args.at_start c.args.in_hard _ _ _ _ tree
     (wrote_node p _ (plain.AtomicGroup (info_tree body)) s t (safe_fine p (plain.AtomicGroup (info_tree body)) refl refl)
     (c.emit_around-in-AtomicGroup.ensures p call u
     (analysed_only c.args.scope.now c.args.info.now body _ at c.requires refl c.child-in-AtomicGroup.ensures p.analysis known)))
@@ -215,35 +218,34 @@ emit_node-returns-in-LookAround t c = λ p call u known.
     let at = sym c.expr-expr.ensures ∙ c.in-LookAround.is in
     let body = c.child-in-LookAround.result.now in
     let tree = tree_by c.args.info.now _ (body ∷ []) at (only_child c.args.scope.now c.args.info.now body _ at c.requires refl c.child-in-LookAround.ensures) in
-    subst (λ e. Writes p (hard_code p call e c.args.at_start c.args.in_hard) (e ∷ []) (draft_of c.args.self.now) (draft_of c.emit_look.new.self)) (sym tree)
+    written_as p call c.args.at_start c.args.in_hard _ _ _ _ tree
     (c.emit_look.ensures c.args.in_hard p call c.args.at_start u
     (analysed_only c.args.scope.now c.args.info.now body _ at c.requires refl c.child-in-LookAround.ensures p.analysis known))
 
 pub emit_node-returns-in-Conditional : goal.emit_node-returns-in-Conditional
 emit_node-returns-in-Conditional t c = λ p call u known.
     let tree = tree_by c.args.info.now _ _ (sym c.expr-expr.ensures ∙ c.in-Conditional.is)
-    (three_children c.args.scope.now c.args.info.now c.child-in-Conditional.result.now c.child-in-Conditional-2.result.now
-    c.child-in-Conditional-3.result.now _ (sym c.expr-expr.ensures ∙ c.in-Conditional.is) c.requires refl c.child-in-Conditional.ensures
-    c.child-in-Conditional-2.ensures c.child-in-Conditional-3.ensures) in
-    let each = analysed_three c.args.scope.now c.args.info.now c.child-in-Conditional.result.now c.child-in-Conditional-2.result.now
-    c.child-in-Conditional-3.result.now _ (sym c.expr-expr.ensures ∙ c.in-Conditional.is) c.requires refl c.child-in-Conditional.ensures
-    c.child-in-Conditional-2.ensures c.child-in-Conditional-3.ensures p.analysis known in
-    let e = plain.Conditional (info_tree c.child-in-Conditional.result.now) (info_tree c.child-in-Conditional-2.result.now)
-    (info_tree c.child-in-Conditional-3.result.now) in
-    subst (λ x. Writes p (hard_code p call x c.args.at_start c.args.in_hard) (x ∷ []) (draft_of c.args.self.now)
-    (draft_of c.emit_conditional.new.self)) (sym tree)
+    (three_children c.args.scope.now c.args.info.now c.child-first.result.now c.child-second.result.now
+    c.child-third.result.now _ (sym c.expr-expr.ensures ∙ c.in-Conditional.is) c.requires refl c.child-first.ensures
+    c.child-second.ensures c.child-third.ensures) in
+    let each = analysed_three c.args.scope.now c.args.info.now c.child-first.result.now c.child-second.result.now
+    c.child-third.result.now _ (sym c.expr-expr.ensures ∙ c.in-Conditional.is) c.requires refl c.child-first.ensures
+    c.child-second.ensures c.child-third.ensures p.analysis known in
+    let e = plain.Conditional (info_tree c.child-first.result.now) (info_tree c.child-second.result.now)
+    (info_tree c.child-third.result.now) in
+    written_as p call c.args.at_start c.args.in_hard _ _ _ _ tree
     (wrote_node p _ e _ _ (safe_fine p e refl refl) (c.emit_conditional.ensures p call u each.0 each.1.0 each.1.1))
 
 pub emit_node-emit_conditional-requires : goal.emit_node-emit_conditional-requires
 emit_node-emit_conditional-requires t c =
-    let each = whole_three c.args.scope.now c.args.info.now c.child-in-Conditional.result.now c.child-in-Conditional-2.result.now
-    c.child-in-Conditional-3.result.now _ (sym c.expr-expr.ensures ∙ c.in-Conditional.is) c.requires refl c.child-in-Conditional.ensures
-    c.child-in-Conditional-2.ensures c.child-in-Conditional-3.ensures in (
+    let each = whole_three c.args.scope.now c.args.info.now c.child-first.result.now c.child-second.result.now
+    c.child-third.result.now _ (sym c.expr-expr.ensures ∙ c.in-Conditional.is) c.requires refl c.child-first.ensures
+    c.child-second.ensures c.child-third.ensures in (
       omega (
         arith,
-        smaller_three c.args.scope.now c.args.info.now c.child-in-Conditional.result.now c.child-in-Conditional-2.result.now
-            c.child-in-Conditional-3.result.now _ (sym c.expr-expr.ensures ∙ c.in-Conditional.is) c.requires refl c.child-in-Conditional.ensures
-            c.child-in-Conditional-2.ensures c.child-in-Conditional-3.ensures,
+        smaller_three c.args.scope.now c.args.info.now c.child-first.result.now c.child-second.result.now
+            c.child-third.result.now _ (sym c.expr-expr.ensures ∙ c.in-Conditional.is) c.requires refl c.child-first.ensures
+            c.child-second.ensures c.child-third.ensures,
       ),
       each,
     )
@@ -283,7 +285,7 @@ pub emit_node-returns-in_default : goal.emit_node-returns-in_default
 emit_node-returns-in_default t c = λ p call u known.
     let tree = tree_out c.args.info.now ∙ ap (λ x. node_over x (out-Info c.args.info.now).start_group (info_within c.args.info.now)
     (trees (map info_tree (info_children c.args.info.now)))) (sym c.expr-expr.ensures) in
-    subst (λ e. Writes p (hard_code p call e c.args.at_start c.args.in_hard) (e ∷ []) (draft_of c.args.self.now) (draft_of c.emit_leaf.new.self)) (sym tree)
+    written_as p call c.args.at_start c.args.in_hard _ _ _ _ tree
     (c.emit_leaf.ensures p call c.args.in_hard _ _ _ u.unicode)
 
 pub emit_in_turn-emit-requires : goal.emit_in_turn-emit-requires
@@ -393,7 +395,7 @@ emit_node-returns-in-Repeat t c = λ p call u known.
     let at = sym c.expr-expr.ensures ∙ c.in-Repeat.is in
     let body = c.child-in-Repeat.result.now in
     let tree = tree_by c.args.info.now _ (body ∷ []) at (only_child c.args.scope.now c.args.info.now body _ at c.requires refl c.child-in-Repeat.ensures) in
-    subst (λ e. Writes p (hard_code p call e c.args.at_start c.args.in_hard) (e ∷ []) (draft_of c.args.self.now) (draft_of c.emit_repeat.new.self)) (sym tree)
+    written_as p call c.args.at_start c.args.in_hard _ _ _ _ tree
     (c.emit_repeat.ensures p call c.args.at_start u
     (analysed_only c.args.scope.now c.args.info.now body _ at c.requires refl c.child-in-Repeat.ensures p.analysis known))
 
@@ -444,7 +446,7 @@ emit_look-returns-in-LookAhead t c = λ in_hard p call at_start u known.
     let e = info_tree c.args.body.now in
     let s = draft_of c.args.self.now in
     let z = draft_of c.emit_around.new.self in
-    subst (λ l. Writes p (hard_code p call (plain.LookAround (look_of l) e) at_start in_hard) (plain.LookAround (look_of l) e ∷ []) s z) (sym c.in-LookAhead.is)
+    written_as p call at_start in_hard _ _ _ _ (ap (λ l. plain.LookAround (look_of l) e) c.in-LookAhead.is)
     (subst (λ k. Writes p k (plain.LookAround plain.LookAhead e ∷ []) s z) (sym (ahead_by p call at_start in_hard e))
     (wrote_node p _ (plain.LookAround plain.LookAhead e) s z (safe_fine p (plain.LookAround plain.LookAhead e) refl refl)
     (c.emit_around.ensures p call u known)))
@@ -454,8 +456,7 @@ emit_look-returns-in-LookAheadNeg t c = λ in_hard p call at_start u known.
     let e = info_tree c.args.body.now in
     let s = draft_of c.args.self.now in
     let z = draft_of c.emit_around-in-LookAheadNeg.new.self in
-    subst (λ l. Writes p (hard_code p call (plain.LookAround (look_of l) e) at_start in_hard) (plain.LookAround (look_of l) e ∷ []) s z)
-    (sym c.in-LookAheadNeg.is)
+    written_as p call at_start in_hard _ _ _ _ (ap (λ l. plain.LookAround (look_of l) e) c.in-LookAheadNeg.is)
     (subst (λ k. Writes p k (plain.LookAround plain.LookAheadNeg e ∷ []) s z) (sym (negative_by p call at_start in_hard e))
     (wrote_node p _ (plain.LookAround plain.LookAheadNeg e) s z (safe_fine p (plain.LookAround plain.LookAheadNeg e) refl refl)
     (c.emit_around-in-LookAheadNeg.ensures p call u known)))
@@ -463,24 +464,16 @@ emit_look-returns-in-LookAheadNeg t c = λ in_hard p call at_start u known.
 pub emit_look-returns-in-LookBehind : goal.emit_look-returns-in-LookBehind
 emit_look-returns-in-LookBehind t c = λ in_hard p call at_start u known.
     let e = info_tree c.args.body.now in
-    subst (λ l. Writes p (hard_code p call (plain.LookAround (look_of l) e) at_start in_hard) (plain.LookAround (look_of l) e ∷ []) (draft_of c.args.self.now)
-    (draft_of c.emit_behind.new.self)) (sym c.in-LookBehind.is)
+    written_as p call at_start in_hard _ _ _ _ (ap (λ l. plain.LookAround (look_of l) e) c.in-LookBehind.is)
     (c.emit_behind.ensures in_hard p call at_start u known)
 
 pub emit_look-returns-in-LookBehindNeg : goal.emit_look-returns-in-LookBehindNeg
 emit_look-returns-in-LookBehindNeg t c = λ in_hard p call at_start u known.
     let e = info_tree c.args.body.now in
-    subst (λ l. Writes p (hard_code p call (plain.LookAround (look_of l) e) at_start in_hard) (plain.LookAround (look_of l) e ∷ []) (draft_of c.args.self.now)
-    (draft_of c.emit_not_behind.new.self)) (sym c.in-LookBehindNeg.is)
-    (c.emit_not_behind.ensures in_hard p call at_start u known)
+    written_as p call at_start in_hard _ _ _ _ (ap (λ l. plain.LookAround (look_of l) e) c.in-LookBehindNeg.is)
+    (c.emit_behind-in-LookBehindNeg.ensures in_hard p call at_start u known)
 
 -- ---- lookbehinds
-
-pub emit_behind-emit_branches-requires : goal.emit_behind-emit_branches-requires
-emit_behind-emit_branches-requires t c = (
-  omega (arith, node_count-below c.args.body.now, ap (λ l. total (map node_count l)) c.children.ensures),
-  subst (AreWhole c.args.scope.now) (sym c.children.ensures) (whole_below c.args.scope.now c.args.body.now c.requires),
-)
 
 pub emit_behind-returns-then-const_size : goal.emit_behind-returns-then-const_size
 emit_behind-returns-then-const_size t c = λ in_hard p call at_start u known.
@@ -488,61 +481,55 @@ emit_behind-returns-then-const_size t c = λ in_hard p call at_start u known.
     let size = size_known c.args.body.now p.analysis (known_child p.analysis c.args.body.now known) in
     let const = ap (λ (z : Size). z.is_const) (sym size) ∙ sym c.const_size.ensures ∙ c.if-const_size.true in
     let least = c.min_size.ensures ∙ ap (λ (z : Size). z.least) size in
-    wrote_behind p call at_start in_hard _ _ e c.min_size.result const least (c.emit_around.ensures p call u known)
+    wrote_behind p call at_start in_hard _ _ c.args.negative e c.min_size.result const least
+    (subst (λ k. Writes p (around_code (around.Look k) (node_code p call e false false)) (e ∷ []) (draft_of c.args.self.now) (draft_of c.emit_around.new.self))
+    c.behind_kind-kind.ensures (c.emit_around.ensures p call u known))
 
-pub emit_behind-returns-then-has_const_branches : goal.emit_behind-returns-then-has_const_branches
-emit_behind-returns-then-has_const_branches t c = λ in_hard p call at_start u known.
-    let body = c.args.body.now in
-    let found = known_child p.analysis body known in
-    let e = info_tree body in
-    let varies = ap (λ (z : Size). z.is_const) (sym (size_known body p.analysis found)) ∙ sym c.const_size.ensures ∙ c.if-const_size.false in
-    let branched = const_branches p.analysis body found (sym c.has_const_branches.ensures ∙ c.if-has_const_branches.true) in
-    let each = subst (Each (IsAnalysed p.analysis)) (sym c.children.ensures) found.children in
-    let z = draft_of c.emit_branches.new.self in
-    wrote_behind_branches p call at_start in_hard _ z e (map info_tree (info_children body)) branched.0 varies branched.1
-    (subst (λ l. LeftBranches p call true false l (draft_of c.args.self.now) z) c.children.ensures (c.emit_branches.ensures p call u each))
-
-pub emit_behind-returns : goal.emit_behind-returns
-emit_behind-returns t c = λ in_hard p call at_start u known.
+pub emit_behind-returns-then-not-has_const_branches : goal.emit_behind-returns-then-not-has_const_branches
+emit_behind-returns-then-not-has_const_branches t c = λ in_hard p call at_start u known.
     let body = c.args.body.now in
     let found = known_child p.analysis body known in
     let varies = ap (λ (z : Size). z.is_const) (sym (size_known body p.analysis found)) ∙ sym c.const_size.ensures ∙ c.if-const_size.false in
-    c.refuse.ensures p _ _ (variable_refused p plain.LookBehind (info_tree body) refl varies
-    (varying_branch p.analysis body found (sym c.has_const_branches.ensures ∙ c.if-has_const_branches.false) varies))
+    c.refuse.ensures p _ _ (variable_refused p c.args.negative (info_tree body) varies
+    (varying_branch p.analysis body found (sym c.has_const_branches.ensures ∙ c.if-not-has_const_branches.true) varies))
 
-pub emit_not_behind-emit_none_behind-requires : goal.emit_not_behind-emit_none_behind-requires
-emit_not_behind-emit_none_behind-requires t c = (
-  omega (arith, node_count-below c.args.body.now, ap (λ l. total (map node_count l)) c.children.ensures),
+pub emit_behind-emit_none_behind-requires : goal.emit_behind-emit_none_behind-requires
+emit_behind-emit_none_behind-requires t c = (
+  omega (arith, node_count-below c.args.body.now, ap node_counts c.children.ensures),
   subst (AreWhole c.args.scope.now) (sym c.children.ensures) (whole_below c.args.scope.now c.args.body.now c.requires),
 )
 
-pub emit_not_behind-returns-then-const_size : goal.emit_not_behind-returns-then-const_size
-emit_not_behind-returns-then-const_size t c = λ in_hard p call at_start u known.
-    let e = info_tree c.args.body.now in
-    let size = size_known c.args.body.now p.analysis (known_child p.analysis c.args.body.now known) in
-    let const = ap (λ (z : Size). z.is_const) (sym size) ∙ sym c.const_size.ensures ∙ c.if-const_size.true in
-    let least = c.min_size.ensures ∙ ap (λ (z : Size). z.least) size in
-    wrote_not_behind p call at_start in_hard _ _ e c.min_size.result const least (c.emit_around.ensures p call u known)
-
-pub emit_not_behind-returns-then-has_const_branches : goal.emit_not_behind-returns-then-has_const_branches
-emit_not_behind-returns-then-has_const_branches t c = λ in_hard p call at_start u known.
+pub emit_behind-returns-then-negative : goal.emit_behind-returns-then-negative
+emit_behind-returns-then-negative t c = λ in_hard p call at_start u known.
     let body = c.args.body.now in
     let found = known_child p.analysis body known in
     let e = info_tree body in
     let varies = ap (λ (z : Size). z.is_const) (sym (size_known body p.analysis found)) ∙ sym c.const_size.ensures ∙ c.if-const_size.false in
-    let branched = const_branches p.analysis body found (sym c.has_const_branches.ensures ∙ c.if-has_const_branches.true) in
+    let branched = const_branches p.analysis body found (sym c.has_const_branches.ensures ∙ c.if-not-has_const_branches.false) in
     let each = subst (Each (IsAnalysed p.analysis)) (sym c.children.ensures) found.children in
     let z = draft_of c.emit_none_behind.new.self in
-    wrote_none_behind p call at_start in_hard _ z e (map info_tree (info_children body)) branched.0 varies branched.1
-    (subst (λ l. LeftNone p call l (draft_of c.args.self.now) z) c.children.ensures (c.emit_none_behind.ensures p call u each))
+    written_as p call at_start in_hard _ _ _ _ (ap (λ b. plain.LookAround (look_behind b) e) c.if-negative.true)
+    (wrote_none_behind p call at_start in_hard _ z e (map info_tree (info_children body)) branched.0 varies branched.1
+    (subst (λ l. LeftNone p call l (draft_of c.args.self.now) z) c.children.ensures (c.emit_none_behind.ensures p call u each)))
 
-pub emit_not_behind-returns : goal.emit_not_behind-returns
-emit_not_behind-returns t c = λ in_hard p call at_start u known.
+pub emit_behind-emit_branches-requires : goal.emit_behind-emit_branches-requires
+emit_behind-emit_branches-requires t c = (
+  omega (arith, node_count-below c.args.body.now, ap node_counts c.children-else-negative.ensures),
+  subst (AreWhole c.args.scope.now) (sym c.children-else-negative.ensures) (whole_below c.args.scope.now c.args.body.now c.requires),
+)
+
+pub emit_behind-returns-else-negative : goal.emit_behind-returns-else-negative
+emit_behind-returns-else-negative t c = λ in_hard p call at_start u known.
     let body = c.args.body.now in
     let found = known_child p.analysis body known in
+    let e = info_tree body in
     let varies = ap (λ (z : Size). z.is_const) (sym (size_known body p.analysis found)) ∙ sym c.const_size.ensures ∙ c.if-const_size.false in
-    c.refuse.ensures p _ _ (variable_refused p plain.LookBehindNeg (info_tree body) refl varies
-    (varying_branch p.analysis body found (sym c.has_const_branches.ensures ∙ c.if-has_const_branches.false) varies))
+    let branched = const_branches p.analysis body found (sym c.has_const_branches.ensures ∙ c.if-not-has_const_branches.false) in
+    let each = subst (Each (IsAnalysed p.analysis)) (sym c.children-else-negative.ensures) found.children in
+    let z = draft_of c.emit_branches.new.self in
+    written_as p call at_start in_hard _ _ _ _ (ap (λ b. plain.LookAround (look_behind b) e) c.if-negative.false)
+    (wrote_behind_branches p call at_start in_hard _ z e (map info_tree (info_children body)) branched.0 varies branched.1
+    (subst (λ l. LeftBranches p call true false l (draft_of c.args.self.now) z) c.children-else-negative.ensures (c.emit_branches.ensures p call u each)))
 
 pub emit_none_behind-emit_around-requires : goal.emit_none_behind-emit_around-requires
 emit_none_behind-emit_around-requires t c =
@@ -591,7 +578,7 @@ emit_node-returns-then-is_repeater t c = λ p call u known.
     let body = c.child-then-is_repeater.result.now in
     let only = only_child c.args.scope.now c.args.info.now body _ at c.requires one c.child-then-is_repeater.ensures in
     let tree = tree_by c.args.info.now _ (body ∷ []) at only ∙ repeater_over c.in-Absent.absent (info_tree body) is in
-    subst (λ e. Writes p (hard_code p call e c.args.at_start c.args.in_hard) (e ∷ []) (draft_of c.args.self.now) (draft_of c.emit_absent.new.self)) (sym tree)
+    written_as p call c.args.at_start c.args.in_hard _ _ _ _ tree
     (c.emit_absent.ensures c.args.in_hard p call c.args.at_start u
     (analysed_only c.args.scope.now c.args.info.now body _ at c.requires one c.child-then-is_repeater.ensures p.analysis known))
 
@@ -662,7 +649,7 @@ emit_node-emit_call-requires t c = (omega (arith, node_count-below c.args.info.n
 pub emit_node-returns-in-SubroutineCall : goal.emit_node-returns-in-SubroutineCall
 emit_node-returns-in-SubroutineCall t c = λ p call u known.
     let tree = tree_by c.args.info.now _ _ (sym c.expr-expr.ensures ∙ c.in-SubroutineCall.is) refl in
-    subst (λ e. Writes p (hard_code p call e c.args.at_start c.args.in_hard) (e ∷ []) (draft_of c.args.self.now) (draft_of c.emit_call.new.self)) (sym tree)
+    written_as p call c.args.at_start c.args.in_hard _ _ _ _ tree
     (c.emit_call.ensures p call c.args.at_start u)
 
 pub emit_call-returns-then-not-has_target : goal.emit_call-returns-then-not-has_target
@@ -752,13 +739,12 @@ emit_call-returns t c = λ p call at_start u.
     wrote_called p call scope u g body at free at_start c.args.in_hard s z
     (subst (λ k. Adds q (k (length s.instrs) s.fresh) (body ∷ []) s z)
     (sym (code_of_group p c.args.in_hard inner body g marked c.if-group-eq0.false starts))
-    (wrote_body q g body (hard_code q inner (plain.Group g body) marked c.args.in_hard) s z
-    (subst (λ e. Writes q (hard_code q inner e marked c.args.in_hard) (e ∷ []) s z) tree wrote)))
+    (wrote_body q g body (written_code q inner (plain.Group g body) marked c.args.in_hard) s z
+    (subst (λ e. Writes q (written_code q inner e marked c.args.in_hard) (e ∷ []) s z) tree wrote)))
 
 pub emit_node-returns-in-Assertion : goal.emit_node-returns-in-Assertion
 emit_node-returns-in-Assertion t c = λ p call u known.
     let i = c.args.info.now in
     let tree = tree_by i _ _ (sym c.expr-expr.ensures ∙ c.in-Assertion.is) refl in
-    subst (λ e. Writes p (hard_code p call e c.args.at_start c.args.in_hard) (e ∷ []) (draft_of c.args.self.now)
-    (draft_of c.emit_assertion.new.self)) (sym tree)
+    written_as p call c.args.at_start c.args.in_hard _ _ _ _ tree
     (wrote_assertion p call c.args.at_start c.args.in_hard _ _ (info_within i) _ c.in_look_around.result c.in_look_around.ensures (c.emit_assertion.ensures p))

@@ -4,7 +4,8 @@ use Rattle.fancy_compile.specs.Sites.{Site}
 use Rattle.fancy_info.specs.Infos.{info_tree, IsAnalysed}
 use Rattle.fancy_expr.specs.Each.{Each}
 use Rattle.fancy_compile.specs.Drafts.{Draft, Writes, draft_of, with_jumps}
-use Rattle.fancy_compile.specs.Nodes.{work, node_count, total, codes_in_turn, codes_of_branches, codes_of_none, IsScopeAt}
+use Rattle.fancy_info.specs.NodeCounts.{node_count, node_counts}
+use Rattle.fancy_compile.specs.Nodes.{work, codes_in_turn, codes_of_branches, codes_of_none, IsScopeAt}
 use Rattle.fancy_compile.proofs.compiler.Compiler.+emit.Given as goal
 
 abbrev pub decreases-emit : goal.decreases-emit
@@ -14,13 +15,13 @@ abbrev pub decreases-emit_node : goal.decreases-emit_node
 decreases-emit_node l = work l.scope.now + 8 * node_count l.info.now
 
 abbrev pub decreases-emit_concat : goal.decreases-emit_concat
-decreases-emit_concat l = work l.scope.now + 8 * total (map node_count l.infos.now) + 3
+decreases-emit_concat l = work l.scope.now + 8 * node_counts l.infos.now + 3
 
 abbrev pub decreases-emit_in_turn : goal.decreases-emit_in_turn
-decreases-emit_in_turn l = work l.scope.now + 8 * total (map node_count l.infos.now) + 2
+decreases-emit_in_turn l = work l.scope.now + 8 * node_counts l.infos.now + 2
 
 abbrev pub decreases-emit_branches : goal.decreases-emit_branches
-decreases-emit_branches l = work l.scope.now + 8 * total (map node_count l.infos.now) + 7
+decreases-emit_branches l = work l.scope.now + 8 * node_counts l.infos.now + 7
 
 abbrev pub decreases-emit_branch : goal.decreases-emit_branch
 decreases-emit_branch l = work l.scope.now + 8 * node_count l.info.now + 4
@@ -40,11 +41,8 @@ decreases-emit_look l = work l.scope.now + 8 * node_count l.body.now + 6
 abbrev pub decreases-emit_behind : goal.decreases-emit_behind
 decreases-emit_behind l = work l.scope.now + 8 * node_count l.body.now + 5
 
-abbrev pub decreases-emit_not_behind : goal.decreases-emit_not_behind
-decreases-emit_not_behind l = work l.scope.now + 8 * node_count l.body.now + 5
-
 abbrev pub decreases-emit_none_behind : goal.decreases-emit_none_behind
-decreases-emit_none_behind l = work l.scope.now + 8 * total (map node_count l.infos.now) + 7
+decreases-emit_none_behind l = work l.scope.now + 8 * node_counts l.infos.now + 7
 
 abbrev pub decreases-emit_absent : goal.decreases-emit_absent
 decreases-emit_absent l = work l.scope.now + 8 * node_count l.body.now + 4

@@ -15,7 +15,7 @@ returns-in-Ok-Some c = λ p u each.
     let is = c.args.infos.now in
     let s = draft_of c.args.self.now in
     let t = draft_of c.push.new.self in
-    let code = ap code_of (sym c.in-Ok-Some.field-0-is) ∙ c.in-Ok-Some.ensures.insn ∙ ap (λ b. batch b (map info_tree is)) (sym u) in
+    let code = ap code_of (sym c.in-Ok-Some.field-0-is) ∙ c.in-Ok-Some.ensures.value ∙ ap (λ b. batch b (map info_tree is)) (sym u) in
     subst (λ k. Writes p k (map info_tree is) s t) code
     (wrote_easy p is each (subst (λ b. HaveClasses b is) (sym u) c.in-Ok-Some.ensures.classes) (one (insn_of c.in-Ok-Some.insn)) s t (c.push.ensures.writes p))
 
@@ -23,7 +23,7 @@ pub returns-in-Ok-None : goal.returns-in-Ok-None
 returns-in-Ok-None c = λ p u each.
     let is = c.args.infos.now in
     let s = draft_of c.args.self.now in
-    let code = ap code_of (sym c.in-Ok-None.field-0-is) ∙ c.in-Ok-None.ensures.insn ∙ ap (λ b. batch b (map info_tree is)) (sym u) in
+    let code = ap code_of (sym c.in-Ok-None.field-0-is) ∙ c.in-Ok-None.ensures.value ∙ ap (λ b. batch b (map info_tree is)) (sym u) in
     subst (λ k. Writes p k (map info_tree is) s s) code
     (wrote_easy p is each (subst (λ b. HaveClasses b is) (sym u) c.in-Ok-None.ensures.classes) nothing s s (wrote_nothing p s))
 

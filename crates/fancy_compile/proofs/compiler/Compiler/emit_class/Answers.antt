@@ -4,7 +4,7 @@ use Rattle.fancy_meaning.specs.Code.{one}
 use Rattle.fancy_meaning.specs.Instr.{Instr, Codepoint}
 use Rattle.fancy_meaning.specs.Tree as plain
 use Rattle.fancy_characters.specs.Classes.{IsClassRefusal}
-use Rattle.fancy_compile.specs.Drafts.{draft_of, Writes, hard_code}
+use Rattle.fancy_compile.specs.Drafts.{draft_of, Writes, written_code}
 use Rattle.fancy_compile.proofs.Alone.{wrote_class, class_refused}
 use Rattle.fancy_compile.proofs.compiler.Compiler.emit_class.Goals as goal
 
@@ -21,6 +21,6 @@ returns-in-Err c = λ p call at_start in_hard u.
     let s = draft_of c.args.self.now in
     let inner = c.args.inner.now in
     let casei = c.args.casei in
-    let k = hard_code p call (plain.Delegate inner casei) at_start in_hard (length s.instrs) s.fresh in
+    let k = written_code p call (plain.Delegate inner casei) at_start in_hard (length s.instrs) s.fresh in
     c.fail.ensures p k (plain.Delegate inner casei ∷ [])
     (class_refused p s inner casei c.in-Err.error (subst (λ b. IsClassRefusal b inner casei c.in-Err.error) (sym u) c.in-Err.ensures.refused) k)

@@ -2,7 +2,7 @@ use Rattle.std.proofs.Common.{◌∷◌, [], sym, subst}
 use Rattle.fancy_meaning.specs.Tree as plain
 use Rattle.fancy_meaning.specs.AnalysisRefusals as refusal
 use Rattle.fancy_compile.specs.Faults.{HasRejected}
-use Rattle.fancy_compile.specs.Drafts.{draft_of, Writes, hard_code}
+use Rattle.fancy_compile.specs.Drafts.{draft_of, Writes, written_code}
 use Rattle.fancy_compile.proofs.Written.{with_level}
 use Rattle.fancy_compile.proofs.Alone.{wrote_existence}
 use Rattle.fancy_compile.proofs.compiler.Compiler.emit_existence.Goals as goal
@@ -13,7 +13,7 @@ returns-in-Some c = λ p call at_start in_hard u. c.refuse.ensures p _ _
 
 pub returns-in-None : goal.returns-in-None
 returns-in-None c = λ p call at_start in_hard u.
-    subst (λ l. Writes p (hard_code p call (plain.BackrefExists c.args.group l) at_start in_hard) (plain.BackrefExists c.args.group l ∷ [])
+    subst (λ l. Writes p (written_code p call (plain.BackrefExists c.args.group l) at_start in_hard) (plain.BackrefExists c.args.group l ∷ [])
     (draft_of c.args.self.now) (draft_of c.push.new.self))
     (sym c.in-None.is)
     (wrote_existence p call at_start in_hard _ _ c.args.group (c.push.ensures.writes p))

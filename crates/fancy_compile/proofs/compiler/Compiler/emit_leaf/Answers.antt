@@ -1,6 +1,6 @@
 use Rattle.std.proofs.Common.{◌∷◌, [], slice_index, chars, refl, subst}
 use Rattle.fancy_meaning.specs.Tree as plain
-use Rattle.fancy_compile.specs.Drafts.{draft_of, Writes, hard_code}
+use Rattle.fancy_compile.specs.Drafts.{draft_of, Writes, written_code}
 use Rattle.fancy_compile.proofs.Writing.{wrote_nothing}
 use Rattle.fancy_compile.proofs.Written.{wrote_node, safe_fine}
 use Rattle.fancy_compile.proofs.Alone.{wrote_leaf, wrote_any, wrote_keep_out, wrote_continue}
@@ -16,13 +16,13 @@ returns-in-Any c = λ p call in_hard start w es u. wrote_leaf p call c.args.at_s
 
 pub returns-in-Literal : goal.returns-in-Literal
 returns-in-Literal c = λ p call in_hard start w es u. wrote_leaf p call c.args.at_start in_hard _ _ start w es c.args.expr.now _ c.in-Literal.is
-    (subst (λ v. Writes p (hard_code p call (plain.Literal (slice_index (chars v) 0) c.in-Literal.casei) c.args.at_start in_hard)
+    (subst (λ v. Writes p (written_code p call (plain.Literal (slice_index (chars v) 0) c.in-Literal.casei) c.args.at_start in_hard)
     (plain.Literal (slice_index (chars v) 0) c.in-Literal.casei ∷ []) (draft_of c.args.self.now) (draft_of c.emit_literal.new.self))
     c.deref.ensures (c.emit_literal.ensures p call c.args.at_start in_hard u))
 
 pub returns-in-LiteralBytes : goal.returns-in-LiteralBytes
 returns-in-LiteralBytes c = λ p call in_hard start w es u. wrote_leaf p call c.args.at_start in_hard _ _ start w es c.args.expr.now _ c.in-LiteralBytes.is
-    (subst (λ v. Writes p (hard_code p call (plain.LiteralBytes v) c.args.at_start in_hard) (plain.LiteralBytes v ∷ []) (draft_of c.args.self.now)
+    (subst (λ v. Writes p (written_code p call (plain.LiteralBytes v) c.args.at_start in_hard) (plain.LiteralBytes v ∷ []) (draft_of c.args.self.now)
     (draft_of c.emit_bytes.new.self))
     c.deref-in-LiteralBytes.ensures.value (c.emit_bytes.ensures p call c.args.at_start in_hard u))
 
@@ -68,6 +68,6 @@ returns-in-GeneralNewline c = λ p call in_hard start w es u. wrote_leaf p call 
 
 pub returns-in-Delegate : goal.returns-in-Delegate
 returns-in-Delegate c = λ p call in_hard start w es u. wrote_leaf p call c.args.at_start in_hard _ _ start w es c.args.expr.now _ c.in-Delegate.is
-    (subst (λ v. Writes p (hard_code p call (plain.Delegate v c.in-Delegate.casei) c.args.at_start in_hard) (plain.Delegate v c.in-Delegate.casei ∷ [])
+    (subst (λ v. Writes p (written_code p call (plain.Delegate v c.in-Delegate.casei) c.args.at_start in_hard) (plain.Delegate v c.in-Delegate.casei ∷ [])
     (draft_of c.args.self.now) (draft_of c.emit_class.new.self))
     c.deref-in-Delegate.ensures (c.emit_class.ensures p call c.args.at_start in_hard u))

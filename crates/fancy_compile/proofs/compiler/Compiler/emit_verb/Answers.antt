@@ -3,14 +3,14 @@ use Rattle.fancy_meaning.specs.Tree as plain
 use Rattle.fancy_meaning.specs.AnalysisRefusals as refusal
 use Rattle.fancy_expr.specs.Views.{verb_of}
 use Rattle.fancy_compile.specs.Faults.{HasRejected}
-use Rattle.fancy_compile.specs.Drafts.{draft_of, Writes, hard_code}
+use Rattle.fancy_compile.specs.Drafts.{draft_of, Writes, written_code}
 use Rattle.fancy_compile.proofs.Written.{wrong_verb}
 use Rattle.fancy_compile.proofs.Alone.{wrote_fail}
 use Rattle.fancy_compile.proofs.compiler.Compiler.emit_verb.Goals as goal
 
 pub returns-in-Fail : goal.returns-in-Fail
 returns-in-Fail c = λ p call at_start in_hard u.
-    subst (λ v. Writes p (hard_code p call (plain.Control (verb_of v)) at_start in_hard) (plain.Control (verb_of v) ∷ []) (draft_of c.args.self.now)
+    subst (λ v. Writes p (written_code p call (plain.Control (verb_of v)) at_start in_hard) (plain.Control (verb_of v) ∷ []) (draft_of c.args.self.now)
     (draft_of c.push.new.self))
     (sym c.in-Fail.is)
     (wrote_fail p call at_start in_hard _ _ (c.push.ensures.writes p))

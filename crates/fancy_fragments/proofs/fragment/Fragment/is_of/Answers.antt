@@ -3,7 +3,7 @@ use mathlib.Core.Bool.{beq}
 use Rattle.fancy_expr.specs.Views.{tree_of}
 use Rattle.fancy_expr.specs.Walk.{within_of}
 use Rattle.fancy_meaning.specs.Batches.{fragment}
-use Rattle.fancy_fragments.proofs.SameNodes.{same_nodes}
+use Rattle.fancy_fragments.proofs.FragmentNodes.{same_nodes}
 use Rattle.fancy_fragments.proofs.fragment.Fragment.is_of.Goals as goal
 
 not_true : (b : Bool) → not b ≡ true → b ≡ false

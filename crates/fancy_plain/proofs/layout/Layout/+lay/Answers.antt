@@ -11,14 +11,14 @@ use Rattle.fancy_expr.specs.Each.{Each}
 use Rattle.fancy_expr.specs.Views.{bound_of}
 use Rattle.fancy_points.specs.Points as plain
 use Rattle.fancy_points.specs.PointCode.{PointCode, ◌>>◌, one, around, headed, preferring, laid, each_laid, in_sequence, branches, one_of, repeated, star, plus}
-use Rattle.fancy_plain.specs.ClassTexts.{texts_of, texts_in, AreClasses, IsRefusal}
+use Rattle.fancy_plain.specs.ClassTexts.{texts_of, texts_in, AreClasses}
 use Rattle.fancy_plain.specs.Views.{point_of, loop_of}
 use Rattle.fancy_plain.specs.Shapes.{form_of, branch_choice, group_code, with_jumps}
 use Rattle.fancy_plain.specs.Layouts.{Replaces, Lays, points_in}
 use Rattle.fancy_plain.specs.Neighbours.{IsEasy, trees_of}
-use Rattle.fancy_plain.proofs.Nodes.{node_counts, node_count-below, child_count, each_at, each_easy, easy_size, tree_by, children_analysed, has_one, smaller_child, tree_over, easy_child}
-use Rattle.fancy_plain.proofs.Laid.{place, same_points, replaced_then, replaced_same, refusal_by, lays_behind, lays_before, adds_behind, adds_before, adds_headed, adds_around, lays_at, lays_fault}
-use Rattle.fancy_plain.proofs.Texts.{texts_at, lays_parts, lays_part, repeat_parts, form_enters}
+use Rattle.fancy_plain.proofs.Nodes.{node_counts, node_count-below, child_count, each_at, easy_kids, easy_size, tree_by, has_one, smaller_child, tree_over, easy_child}
+use Rattle.fancy_plain.proofs.Laid.{place, same_points, replaced_then, replaced_same, lays_behind, lays_before, adds_behind, adds_before, adds_headed, adds_around, lays_at, lays_fault}
+use Rattle.fancy_plain.proofs.Texts.{lays_fault_at, lays_parts, lays_part, repeat_parts, form_enters}
 use Rattle.fancy_plain.proofs.Branches.{sequence_step, sequence_end, with_branches, branch_step, branch_end, classes_step, classes_end}
 use Rattle.fancy_plain.proofs.layout.Layout.+lay.Goals as goal
 
@@ -30,12 +30,7 @@ lay-lay_each-requires t c =
     let a = c.requires.0 in
     let tree = tree_by info _ _ (sym c.expr.ensures ∙ c.in-Concat.is) refl in (
       omega (arith, node_count-below info, ap node_counts c.children.ensures),
-      (
-        a,
-        subst (Each (IsEasy a)) (sym c.children.ensures)
-            (each_easy a (info_children info) (children_analysed info a c.requires.1)
-            (easy_concat a (trees_of (info_children info)) (subst (λ e. is_hard a e ≡ false) tree c.requires.1.easy))),
-      ),
+      (a, easy_kids info a c.requires.1 plain_tree.Concat (easy_concat a) tree _ c.children.ensures),
     )
 
 pub lay-lay_alternation-requires : goal.lay-lay_alternation-requires
@@ -44,12 +39,7 @@ lay-lay_alternation-requires t c =
     let a = c.requires.0 in
     let tree = tree_by info _ _ (sym c.expr.ensures ∙ c.in-Alt.is) refl in (
       omega (arith, node_count-below info, ap node_counts c.children-in-Alt.ensures),
-      (
-        a,
-        subst (Each (IsEasy a)) (sym c.children-in-Alt.ensures)
-            (each_easy a (info_children info) (children_analysed info a c.requires.1)
-            (easy_alt a (trees_of (info_children info)) (subst (λ e. is_hard a e ≡ false) tree c.requires.1.easy))),
-      ),
+      (a, easy_kids info a c.requires.1 plain_tree.Alt (easy_alt a) tree _ c.children-in-Alt.ensures),
     )
 
 pub lay-only_child-requires : goal.lay-only_child-requires
@@ -98,30 +88,24 @@ lay-returns-in-Concat t c = λ a easy.
     let info = c.args.info.now in
     let kids = info_children info in
     let tree = tree_by info _ _ (sym c.expr.ensures ∙ c.in-Concat.is) refl in
-    let hard = subst (λ e. is_hard a e ≡ false) tree easy.easy in
-    let each = each_easy a kids (children_analysed info a easy) (easy_concat a (trees_of kids) hard) in
-    let code = in_sequence (each_laid a.tree (trees_of kids)) in
     let s = c.args.self.now in
     let u = c.lay_each.new.self in
     subst (λ e. Lays (laid a.tree e) (texts_of e) s u c.lay_each.result) (sym tree)
-    (lays_parts code (plain_tree.Concat (trees_of kids)) tt s u c.lay_each.result
+    (lays_parts (in_sequence (each_laid a.tree (trees_of kids))) (plain_tree.Concat (trees_of kids)) tt s u c.lay_each.result
     (subst (λ l. Lays (in_sequence (each_laid a.tree (trees_of l))) (texts_in (trees_of l)) s u c.lay_each.result) c.children.ensures
-    (c.lay_each.ensures a (subst (Each (IsEasy a)) (sym c.children.ensures) each))))
+    (c.lay_each.ensures a (easy_kids info a easy plain_tree.Concat (easy_concat a) tree _ c.children.ensures))))
 
 pub lay-returns-in-Alt : goal.lay-returns-in-Alt
 lay-returns-in-Alt t c = λ a easy.
     let info = c.args.info.now in
     let kids = info_children info in
     let tree = tree_by info _ _ (sym c.expr.ensures ∙ c.in-Alt.is) refl in
-    let hard = subst (λ e. is_hard a e ≡ false) tree easy.easy in
-    let each = each_easy a kids (children_analysed info a easy) (easy_alt a (trees_of kids) hard) in
-    let code = one_of (each_laid a.tree (trees_of kids)) in
     let s = c.args.self.now in
     let u = c.lay_alternation.new.self in
     subst (λ e. Lays (laid a.tree e) (texts_of e) s u c.lay_alternation.result) (sym tree)
-    (lays_parts code (plain_tree.Alt (trees_of kids)) tt s u c.lay_alternation.result
+    (lays_parts (one_of (each_laid a.tree (trees_of kids))) (plain_tree.Alt (trees_of kids)) tt s u c.lay_alternation.result
     (subst (λ l. Lays (one_of (each_laid a.tree (trees_of l))) (texts_in (trees_of l)) s u c.lay_alternation.result) c.children-in-Alt.ensures
-    (c.lay_alternation.ensures a (subst (Each (IsEasy a)) (sym c.children-in-Alt.ensures) each))))
+    (c.lay_alternation.ensures a (easy_kids info a easy plain_tree.Alt (easy_alt a) tree _ c.children-in-Alt.ensures))))
 
 pub lay-returns-in-Group : goal.lay-returns-in-Group
 lay-returns-in-Group t c = λ a easy.
@@ -186,12 +170,9 @@ lay_each-returns-in_err-lay t c = λ a each.
     let x = c.info-item.result in
     let infos = c.args.infos.now in
     let lt : i < length infos = omega arith in
-    let easy = each_at (IsEasy a) infos i x each lt c.info-item.is in
-    let e = c.in_err-lay.field-0.0 in
-    let s = c.args.self.now in
-    lays_fault (in_sequence (each_laid a.tree (trees_of infos))) (texts_in (trees_of infos)) s c.lay.new.self _ e c.from_residual.ensures
-    (refusal_by s.unicode (texts_of (info_tree x)) (texts_in (trees_of infos)) e (λ inner casei. texts_at inner casei infos i x lt c.info-item.is)
-    (subst (λ u. IsRefusal u (texts_of (info_tree x)) e) c.loop-info.invariant.unicode (c.in_err-lay.ensures a easy)))
+    lays_fault_at (in_sequence (each_laid a.tree (trees_of infos))) infos c.args.self.now c.lay.new.self _ c.in_err-lay.field-0.0 i x _ lt
+    c.info-item.is c.from_residual.ensures c.loop-info.invariant.unicode
+    (c.in_err-lay.ensures a (each_at (IsEasy a) infos i x each lt c.info-item.is))
 
 pub lay_each-returns : goal.lay_each-returns
 lay_each-returns t c = λ a each.
@@ -289,13 +270,9 @@ lay_branches-returns-in_err-jump t c = λ a each.
     let x = c.index-infos-i.result in
     let infos = c.args.infos.now in
     let lt : i < length infos = omega arith in
-    let easy = each_at (IsEasy a) infos i x each lt c.index-infos-i.is in
-    let e = c.in_err-jump.field-0.0 in
-    let s = c.args.self.now in
-    lays_fault (branches plain.Split (each_laid a.tree (trees_of infos))) (texts_in (trees_of infos)) s c.lay_branch.new.self _ e
-    c.from_residual-in_err-jump.ensures
-    (refusal_by s.unicode (texts_of (info_tree x)) (texts_in (trees_of infos)) e (λ inner casei. texts_at inner casei infos i x lt c.index-infos-i.is)
-    (subst (λ u. IsRefusal u (texts_of (info_tree x)) e) c.loop-i.invariant.same.unicode (c.in_err-jump.ensures.lays a easy)))
+    lays_fault_at (branches plain.Split (each_laid a.tree (trees_of infos))) infos c.args.self.now c.lay_branch.new.self _ c.in_err-jump.field-0.0
+    i x _ lt c.index-infos-i.is c.from_residual-in_err-jump.ensures c.loop-i.invariant.same.unicode
+    (c.in_err-jump.ensures.lays a (each_at (IsEasy a) infos i x each lt c.index-infos-i.is))
 
 pub lay_branches-returns-in_err-lay : goal.lay_branches-returns-in_err-lay
 lay_branches-returns-in_err-lay t c = λ a each.
@@ -303,13 +280,9 @@ lay_branches-returns-in_err-lay t c = λ a each.
     let infos = c.args.infos.now in
     let last = length infos - 1 in
     let lt : last < length infos = omega (arith, c.if-count-eq0.false) in
-    let easy = each_at (IsEasy a) infos last x each lt c.index-infos-count.is in
-    let e = c.in_err-lay.field-0.0 in
-    let s = c.args.self.now in
-    lays_fault (branches plain.Split (each_laid a.tree (trees_of infos))) (texts_in (trees_of infos)) s c.lay.new.self _ e
-    c.from_residual-in_err-lay.ensures
-    (refusal_by s.unicode (texts_of (info_tree x)) (texts_in (trees_of infos)) e (λ inner casei. texts_at inner casei infos last x lt c.index-infos-count.is)
-    (subst (λ u. IsRefusal u (texts_of (info_tree x)) e) c.loop-i.invariant.same.unicode (c.in_err-lay.ensures a easy)))
+    lays_fault_at (branches plain.Split (each_laid a.tree (trees_of infos))) infos c.args.self.now c.lay.new.self _ c.in_err-lay.field-0.0 last x _
+    lt c.index-infos-count.is c.from_residual-in_err-lay.ensures c.loop-i.invariant.same.unicode
+    (c.in_err-lay.ensures a (each_at (IsEasy a) infos last x each lt c.index-infos-count.is))
 
 pub lay_branches-returns : goal.lay_branches-returns
 lay_branches-returns t c = λ a each.

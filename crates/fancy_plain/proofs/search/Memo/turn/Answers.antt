@@ -6,8 +6,8 @@ use Rattle.fancy_plain.specs.Paths.{turn_of}
 use Rattle.fancy_plain.specs.Views.{loop_of}
 use Rattle.fancy_plain.specs.Searches.{IsHere, Leads}
 use Rattle.fancy_plain.specs.declared.log.Stand.{Stand}
-use Rattle.fancy_plain.proofs.SearchLaws.{head_in, head_in_or_out, head_out, head_out_or_in, here_counted, here_kept, here_out, link_kept, off, on, one_visit, renumbered, search_counted, tries_anew, turns_kept, turns_open}
-use Rattle.fancy_plain.proofs.SearchLaws.{head_in, head_in_or_out, head_in_vain, head_out, head_out_or_in, here_counted, here_kept, here_out, link_kept, off, on, one_visit, renumbered, search_counted, tries_anew, turns_kept, turns_none, turns_open}
+use Rattle.fancy_plain.specs.declared.search.Turning.TheVariants as turning
+use Rattle.fancy_plain.proofs.SearchLaws.{head_by, head_in_vain, here_out, off, on, one_visit, pair_kept, renumbered, tries_anew, turns_none, turns_open}
 use Rattle.fancy_plain.proofs.search.Memo.turn.Goals as goal
 
 -- src/search.rt
@@ -43,31 +43,23 @@ returns-in_ok-keep-in-Out c = λ leading s f h here e.
     (c.in-Some.ensures.turns s.turns here.turns) in
     let around = ends.0 in
     let l = loop_of c.args.turns in
-    let led = e ∙ ap (plain.head_lead l c.args.after s) ends.1.0
-    ∙ head_out l c.args.after s t around
-    (subst (λ i. plain.is_over (loop_of c.args.turns) i (turn_of c.in-Some.turn) ≡ true) here.place c.in-Out.ensures) in
-    let counted = record f { visits = f.visits + 1 } in
-    let later = plain.Fails (pair_of s) ∷ f.later in
+    let led = e ∙ head_by l c.args.after s t around c.args.stand.place s.turns turning.Out here.place ends.1.0 c.in-Out.ensures in
     let anew = tries_anew leading s _ _ f led (Some (points.Head l c.args.after))
     (sym (c.in_ok-has_failed.ensures.ok s f.failed here h.failed) ∙ c.if-branch.false) in
-    let same = c.has_failed.ensures.rest in
-    let search = search_counted c.args.self.now c.has_failed.new.self c.count-2.new.self c.keep.new.self _ same c.count-2.ensures
+    let pair = pair_kept c.args.self.now c.has_failed.new.self c.count-2.new.self c.keep.new.self _ c.has_failed.ensures.rest c.count-2.ensures
     c.keep.ensures.rest leading c.args.stand s f h here in
-    let here_before = here_counted c.args.self.now c.has_failed.new.self c.count-2.new.self c.keep.new.self _ same c.count-2.ensures
-    c.keep.ensures.rest leading c.args.stand s f h here in
-    let here_after = here_kept c.args.self.now c.has_failed.new.self c.count-2.new.self c.keep.new.self _ same c.count-2.ensures
-    c.keep.ensures.rest leading c.args.stand s f h here in
-    let has = turns_kept c.args.self.now c.has_failed.new.self c.count-2.new.self c.keep.new.self _ same c.count-2.ensures
-    c.keep.ensures.rest leading c.args.stand s f h here c.in-Some.outer around ends.1.2 in
-    let kept = c.in_ok-keep-in-Out.ensures.ok leading counted s later search here_before refl in (
+    let counted = record f { visits = f.visits + 1 } in
+    let later = plain.Fails (pair_of s) ∷ f.later in
+    let there = off l c.args.after s t around in (
       record counted { later = later },
       (
-        off l c.args.after s t around,
+        there,
         (
           anew,
-          kept,
-          subst (λ (x : Stand). IsHere c.keep.new.self x (off l c.args.after s t around)) (sym c.goes_out.ensures)
-              (here_out c.keep.new.self c.args.stand s c.args.after c.in-Some.outer around ends.1.1 has here_after),
+          c.in_ok-keep-in-Out.ensures.ok leading counted s later pair.search pair.before refl,
+          subst (λ (x : Stand). IsHere c.keep.new.self x there) (sym c.goes_out.ensures)
+              (here_out c.keep.new.self c.args.stand s c.args.after c.in-Some.outer around ends.1.1
+              (pair.turns c.in-Some.outer around ends.1.2) pair.here),
         ),
       ),
     )
@@ -79,27 +71,17 @@ returns-in_ok-keep-in-In c = λ leading s f h here e.
     (c.in-Some.ensures.turns s.turns here.turns) in
     let around = ends.0 in
     let l = loop_of c.args.turns in
-    let led = e ∙ ap (plain.head_lead l c.args.after s) ends.1.0
-    ∙ head_in l c.args.after s t around
-    (subst (λ i. plain.is_over (loop_of c.args.turns) i (turn_of c.in-Some.turn) ≡ false) here.place c.in-In.ensures.0, c.in-In.ensures.1) in
-    let counted = record f { visits = f.visits + 1 } in
-    let later = plain.Fails (pair_of s) ∷ f.later in
+    let led = e ∙ head_by l c.args.after s t around c.args.stand.place s.turns turning.In here.place ends.1.0 c.in-In.ensures in
     let anew = tries_anew leading s _ _ f led (Some (points.Head l c.args.after))
     (sym (c.in_ok-has_failed.ensures.ok s f.failed here h.failed) ∙ c.if-branch.false) in
-    let same = c.has_failed.ensures.rest in
-    let search = search_counted c.args.self.now c.has_failed.new.self c.count-2.new.self c.keep-in-In.new.self _ same c.count-2.ensures
+    let pair = pair_kept c.args.self.now c.has_failed.new.self c.count-2.new.self c.keep-in-In.new.self _ c.has_failed.ensures.rest c.count-2.ensures
     c.keep-in-In.ensures.rest leading c.args.stand s f h here in
-    let here_before = here_counted c.args.self.now c.has_failed.new.self c.count-2.new.self c.keep-in-In.new.self _ same c.count-2.ensures
-    c.keep-in-In.ensures.rest leading c.args.stand s f h here in
-    let here_after = here_kept c.args.self.now c.has_failed.new.self c.count-2.new.self c.keep-in-In.new.self _ same c.count-2.ensures
-    c.keep-in-In.ensures.rest leading c.args.stand s f h here in
-    let has = turns_kept c.args.self.now c.has_failed.new.self c.count-2.new.self c.keep-in-In.new.self _ same c.count-2.ensures
-    c.keep-in-In.ensures.rest leading c.args.stand s f h here c.in-Some.outer around ends.1.2 in
-    let kept = c.in_ok-keep-in-In.ensures.ok leading counted s later search here_before refl in
-    let link = link_kept c.args.self.now c.has_failed.new.self c.count-2.new.self c.keep-in-In.new.self _ same c.count-2.ensures
-    c.keep-in-In.ensures.rest leading c.args.stand s f h here c.in-Some.outer (omega (arith, ends.1.1, here.turns_link)) in
+    let counted = record f { visits = f.visits + 1 } in
+    let later = plain.Fails (pair_of s) ∷ f.later in
+    let kept = c.in_ok-keep-in-In.ensures.ok leading counted s later pair.search pair.before refl in
+    let inside = pair.link c.in-Some.outer (omega (arith, ends.1.1, here.turns_link)) in
     subst (λ n. Leads leading s c.args.stand f.failed n c.turn_in.result c.turn_in.new.self) (sym anew)
-    (c.turn_in.ensures leading s (record counted { later = later }) around kept here_after link has)
+    (c.turn_in.ensures leading s (record counted { later = later }) around kept pair.here inside (pair.turns c.in-Some.outer around ends.1.2))
 
 pub returns-in_ok-keep-in-InOrOut : goal.returns-in_ok-keep-in-InOrOut
 returns-in_ok-keep-in-InOrOut c = λ leading s f h here e.
@@ -108,31 +90,17 @@ returns-in_ok-keep-in-InOrOut c = λ leading s f h here e.
     (c.in-Some.ensures.turns s.turns here.turns) in
     let around = ends.0 in
     let l = loop_of c.args.turns in
-    let led = e ∙ ap (plain.head_lead l c.args.after s) ends.1.0
-    ∙ head_in_or_out l c.args.after s t around (
-      subst (λ i. plain.is_over (loop_of c.args.turns) i (turn_of c.in-Some.turn) ≡ false) here.place
-          c.in-InOrOut.ensures.0,
-      c.in-InOrOut.ensures.1,
-      c.in-InOrOut.ensures.2,
-    ) in
-    let counted = record f { visits = f.visits + 1 } in
-    let later = plain.Other (off (loop_of c.args.turns) c.args.after s t around) ∷ plain.Fails (pair_of s) ∷ f.later in
+    let led = e ∙ head_by l c.args.after s t around c.args.stand.place s.turns turning.InOrOut here.place ends.1.0 c.in-InOrOut.ensures in
     let anew = tries_anew leading s _ _ f led (Some (points.Head l c.args.after))
     (sym (c.in_ok-has_failed.ensures.ok s f.failed here h.failed) ∙ c.if-branch.false) in
-    let same = c.has_failed.ensures.rest in
-    let search = search_counted c.args.self.now c.has_failed.new.self c.count-2.new.self c.keep-in-InOrOut.new.self _ same c.count-2.ensures
+    let pair = pair_kept c.args.self.now c.has_failed.new.self c.count-2.new.self c.keep-in-InOrOut.new.self _ c.has_failed.ensures.rest c.count-2.ensures
     c.keep-in-InOrOut.ensures.rest leading c.args.stand s f h here in
-    let here_before = here_counted c.args.self.now c.has_failed.new.self c.count-2.new.self c.keep-in-InOrOut.new.self _ same c.count-2.ensures
-    c.keep-in-InOrOut.ensures.rest leading c.args.stand s f h here in
-    let here_after = here_kept c.args.self.now c.has_failed.new.self c.count-2.new.self c.keep-in-InOrOut.new.self _ same c.count-2.ensures
-    c.keep-in-InOrOut.ensures.rest leading c.args.stand s f h here in
-    let has = turns_kept c.args.self.now c.has_failed.new.self c.count-2.new.self c.keep-in-InOrOut.new.self _ same c.count-2.ensures
-    c.keep-in-InOrOut.ensures.rest leading c.args.stand s f h here c.in-Some.outer around ends.1.2 in
-    let kept = c.in_ok-keep-in-InOrOut.ensures.ok leading counted s later search here_before (true, (_, (_, (led, refl)))) in
-    let link = link_kept c.args.self.now c.has_failed.new.self c.count-2.new.self c.keep-in-InOrOut.new.self _ same c.count-2.ensures
-    c.keep-in-InOrOut.ensures.rest leading c.args.stand s f h here c.in-Some.outer (omega (arith, ends.1.1, here.turns_link)) in
+    let counted = record f { visits = f.visits + 1 } in
+    let later = plain.Other (off (loop_of c.args.turns) c.args.after s t around) ∷ plain.Fails (pair_of s) ∷ f.later in
+    let kept = c.in_ok-keep-in-InOrOut.ensures.ok leading counted s later pair.search pair.before (true, (_, (_, (led, refl)))) in
+    let inside = pair.link c.in-Some.outer (omega (arith, ends.1.1, here.turns_link)) in
     subst (λ n. Leads leading s c.args.stand f.failed n c.turn_in-in-InOrOut.result c.turn_in-in-InOrOut.new.self) (sym anew)
-    (c.turn_in-in-InOrOut.ensures leading s (record counted { later = later }) around kept here_after link has)
+    (c.turn_in-in-InOrOut.ensures leading s (record counted { later = later }) around kept pair.here inside (pair.turns c.in-Some.outer around ends.1.2))
 
 pub returns-in_ok-keep-in-OutOrIn : goal.returns-in_ok-keep-in-OutOrIn
 returns-in_ok-keep-in-OutOrIn c = λ leading s f h here e.
@@ -141,35 +109,23 @@ returns-in_ok-keep-in-OutOrIn c = λ leading s f h here e.
     (c.in-Some.ensures.turns s.turns here.turns) in
     let around = ends.0 in
     let l = loop_of c.args.turns in
-    let led = e ∙ ap (plain.head_lead l c.args.after s) ends.1.0
-    ∙ head_out_or_in l c.args.after s t around (
-      subst (λ i. plain.is_over (loop_of c.args.turns) i (turn_of c.in-Some.turn) ≡ false) here.place
-          c.in-OutOrIn.ensures.0,
-      c.in-OutOrIn.ensures.1,
-      c.in-OutOrIn.ensures.2,
-    ) in
-    let counted = record f { visits = f.visits + 1 } in
-    let later = plain.Other (on (loop_of c.args.turns) c.args.after s t around) ∷ plain.Fails (pair_of s) ∷ f.later in
+    let led = e ∙ head_by l c.args.after s t around c.args.stand.place s.turns turning.OutOrIn here.place ends.1.0 c.in-OutOrIn.ensures in
     let anew = tries_anew leading s _ _ f led (Some (points.Head l c.args.after))
     (sym (c.in_ok-has_failed.ensures.ok s f.failed here h.failed) ∙ c.if-branch.false) in
-    let same = c.has_failed.ensures.rest in
-    let search = search_counted c.args.self.now c.has_failed.new.self c.count-2.new.self c.keep-in-OutOrIn.new.self _ same c.count-2.ensures
+    let pair = pair_kept c.args.self.now c.has_failed.new.self c.count-2.new.self c.keep-in-OutOrIn.new.self _ c.has_failed.ensures.rest c.count-2.ensures
     c.keep-in-OutOrIn.ensures.rest leading c.args.stand s f h here in
-    let here_before = here_counted c.args.self.now c.has_failed.new.self c.count-2.new.self c.keep-in-OutOrIn.new.self _ same c.count-2.ensures
-    c.keep-in-OutOrIn.ensures.rest leading c.args.stand s f h here in
-    let here_after = here_kept c.args.self.now c.has_failed.new.self c.count-2.new.self c.keep-in-OutOrIn.new.self _ same c.count-2.ensures
-    c.keep-in-OutOrIn.ensures.rest leading c.args.stand s f h here in
-    let has = turns_kept c.args.self.now c.has_failed.new.self c.count-2.new.self c.keep-in-OutOrIn.new.self _ same c.count-2.ensures
-    c.keep-in-OutOrIn.ensures.rest leading c.args.stand s f h here c.in-Some.outer around ends.1.2 in
-    let kept = c.in_ok-keep-in-OutOrIn.ensures.ok leading counted s later search here_before (true, (_, (_, (led, refl)))) in (
+    let counted = record f { visits = f.visits + 1 } in
+    let later = plain.Other (on (loop_of c.args.turns) c.args.after s t around) ∷ plain.Fails (pair_of s) ∷ f.later in
+    let there = off l c.args.after s t around in (
       record counted { later = later },
       (
-        off l c.args.after s t around,
+        there,
         (
           anew,
-          kept,
-          subst (λ (x : Stand). IsHere c.keep-in-OutOrIn.new.self x (off l c.args.after s t around)) (sym c.goes_out-in-OutOrIn.ensures)
-              (here_out c.keep-in-OutOrIn.new.self c.args.stand s c.args.after c.in-Some.outer around ends.1.1 has here_after),
+          c.in_ok-keep-in-OutOrIn.ensures.ok leading counted s later pair.search pair.before (true, (_, (_, (led, refl)))),
+          subst (λ (x : Stand). IsHere c.keep-in-OutOrIn.new.self x there) (sym c.goes_out-in-OutOrIn.ensures)
+              (here_out c.keep-in-OutOrIn.new.self c.args.stand s c.args.after c.in-Some.outer around ends.1.1
+              (pair.turns c.in-Some.outer around ends.1.2) pair.here),
         ),
       ),
     )

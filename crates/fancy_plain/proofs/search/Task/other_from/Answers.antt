@@ -6,7 +6,8 @@ use Rattle.fancy_plain.specs.Searches.{IsHere, fails_before, leading_of, Leads}
 use Rattle.fancy_plain.specs.declared.point.Point.TheVariants as point
 use Rattle.fancy_plain.specs.declared.search.Memo.{Memo}
 use Rattle.fancy_plain.specs.declared.log.Stand.{Stand}
-use Rattle.fancy_plain.proofs.SearchLaws.{head_notes, here_at, here_by, leads_by, same_tries, tries_another}
+use Rattle.std.proofs.lemmas.Result.{err_from_is_err_and}
+use Rattle.fancy_plain.proofs.SearchLaws.{failed_by, head_notes, here_at, here_by, leads_by, same_tries, tries_another}
 use Rattle.fancy_plain.proofs.search.Task.other_from.Goals as goal
 
 -- src/search.rt:543:5
@@ -49,3 +50,55 @@ returns-in_default c = λ s first other is_noted f rest h here e.
     absurd (tries_another task.text.now task.unicode s first other is_noted c.args.point.now
     c.in_default.not-Split c.in_default.not-Or c.in_default.not-Fork c.in_default.not-Head
     (sym (leads_by task c.args.point.now c.args.stand s here.at c.requires) ∙ e))
+
+pub returns-in_err-keep-in-Fork : goal.returns-in_err-keep-in-Fork
+returns-in_err-keep-in-Fork c = λ s first other is_noted f rest h here e.
+    let p = err_from_is_err_and c.from_residual.result c.from_residual.ensures.1 in
+    rw (p.1, p.2) (
+      c.in_err-keep-in-Fork.ensures.refused,
+      failed_by c.args.m.now c.keep.new.self f.failed (ap (λ (m : Memo). m.failed) c.keep.ensures.rest) h.failed,
+    )
+
+pub returns-in_err-keep-in-Head : goal.returns-in_err-keep-in-Head
+returns-in_err-keep-in-Head c = λ s first other is_noted f rest h here e.
+    let p = err_from_is_err_and c.from_residual-in_err-keep-in-Head.result c.from_residual-in_err-keep-in-Head.ensures.1 in
+    rw (p.1, p.2) (
+      c.in_err-keep-in-Head.ensures.refused,
+      failed_by c.args.m.now c.keep-in-Head.new.self f.failed (ap (λ (m : Memo). m.failed) c.keep-in-Head.ensures.rest) h.failed,
+    )
+
+pub returns-in-Split : goal.returns-in-Split
+returns-in-Split c = λ s first other is_noted f rest h here e.
+    let task = c.args.self.now in
+    let by = leads_by task (point.Split c.in-Split.field-0 c.in-Split.second) c.args.stand s here.at (c.requires ∙ ap Some c.in-Split.is) in
+    let same = same_tries _ _ _ _ _ _ (sym e ∙ by) in
+    let there = plain.goes_to c.in-Split.second s in (
+      record f { later = rest },
+      (
+        there,
+        (
+          ap₂ (λ n o. TakesUp o (record f { later = fails_before n s rest })) same.0 same.1,
+          h,
+          subst (λ (x : Stand). IsHere c.args.m.now x there) (sym c.goes_to.ensures)
+              (here_at c.args.m.now c.args.stand s c.in-Split.second c.in-Split.second refl here),
+        ),
+      ),
+    )
+
+pub returns-in-Or : goal.returns-in-Or
+returns-in-Or c = λ s first other is_noted f rest h here e.
+    let task = c.args.self.now in
+    let by = leads_by task (point.Or c.in-Or.field-0 c.in-Or.second) c.args.stand s here.at (c.requires ∙ ap Some c.in-Or.is) in
+    let same = same_tries _ _ _ _ _ _ (sym e ∙ by) in
+    let there = plain.goes_to c.in-Or.second s in (
+      record f { later = rest },
+      (
+        there,
+        (
+          ap₂ (λ n o. TakesUp o (record f { later = fails_before n s rest })) same.0 same.1,
+          h,
+          subst (λ (x : Stand). IsHere c.args.m.now x there) (sym c.goes_to-in-Or.ensures)
+              (here_at c.args.m.now c.args.stand s c.in-Or.second c.in-Or.second refl here),
+        ),
+      ),
+    )

@@ -2,10 +2,9 @@ use Rattle.std.proofs.Common.{refl, sym, ap, ◌∙◌, subst, arith, reverse, s
 use Rattle.fancy_points.specs.PointSearch as plain
 use Rattle.fancy_points.specs.PointSearch.{Next, Search, TakesBack, TakesUp, pair_of}
 use Rattle.fancy_plain.specs.Searches.{AreKept, fails_before, leading_of, Keeps}
-use Rattle.std.proofs.lemmas.List.{reverse-append}
 use Rattle.std.proofs.lemmas.Result.{err_from_is_err_and}
 use Rattle.fancy_plain.specs.declared.search.Memo.{Memo}
-use Rattle.fancy_plain.proofs.BackLaws.{back_noted, goes_back, here_cut, last_kept, no_items, none_kept, one_more, search_cut, search_noted}
+use Rattle.fancy_plain.proofs.BackLaws.{back_noted, goes_back, no_items, none_kept, one_more, popped, search_noted}
 use Rattle.fancy_points.specs.FirstWays.{search_in}
 use Rattle.fancy_plain.proofs.search.Task.take_back.Goals as goal
 
@@ -25,21 +24,16 @@ later-preserved c = λ f h.
     let leading = leading_of task in
     let back = c.later.invariant f h in
     let g = back.1.0 in
-    let k = back.1.1.1 in
-    let e = ap reverse c.in-Some.ensures.items ∙ reverse-append c.pop.new.self.items (c.in-Some.choice ∷ []) in
-    let cs = reverse c.pop.new.self.items in
-    let last = last_kept leading c.later.m c.in-Some.choice cs g e k in
     let cut : Memo = record c.later.m { later = c.pop.new.self; log = c.truncate.new.self } in
-    let search_after = search_cut leading c.later.m cut c.in-Some.choice cs g last refl c.truncate.ensures refl refl k in
-    let here = here_cut leading c.later.m cut c.in-Some.choice cs g last refl c.truncate.ensures refl refl k in
+    let last = popped leading c.later.m cut c.in-Some.choice g c.in-Some.ensures.items c.truncate.ensures refl refl back.1.1.1 in
     let keeps = subst (λ b. Keeps b (leading last.stand) last.stand last.rest g.later) {y = false} c.if-choice.false last.keeps in
-    let noted = c.in_ok-note_failed.ensures.ok last.stand (record g { later = last.rest }) here search_after.failed in (
+    let noted = c.in_ok-note_failed.ensures.ok last.stand (record g { later = last.rest }) last.here last.search.failed in (
       suc back.0,
       (
         plain.with_failed (pair_of last.stand) (record g { later = last.rest }),
         (
           back_noted task (TakesBack f) back.0 g last.stand last.rest back.1.1.0 keeps,
-          search_noted leading cut c.note_failed.new.self (record g { later = last.rest }) (pair_of last.stand) c.note_failed.ensures.rest noted search_after,
+          search_noted leading cut c.note_failed.new.self (record g { later = last.rest }) (pair_of last.stand) c.note_failed.ensures.rest noted last.search,
         ),
       ),
     )
@@ -50,20 +44,15 @@ returns-in_err-note_failed c = λ f h.
     let leading = leading_of task in
     let back = c.later.invariant f h in
     let g = back.1.0 in
-    let k = back.1.1.1 in
-    let e = ap reverse c.in-Some.ensures.items ∙ reverse-append c.pop.new.self.items (c.in-Some.choice ∷ []) in
-    let cs = reverse c.pop.new.self.items in
-    let last = last_kept leading c.later.m c.in-Some.choice cs g e k in
     let cut : Memo = record c.later.m { later = c.pop.new.self; log = c.truncate.new.self } in
-    let search_after = search_cut leading c.later.m cut c.in-Some.choice cs g last refl c.truncate.ensures refl refl k in
-    let here = here_cut leading c.later.m cut c.in-Some.choice cs g last refl c.truncate.ensures refl refl k in
+    let last = popped leading c.later.m cut c.in-Some.choice g c.in-Some.ensures.items c.truncate.ensures refl refl back.1.1.1 in
     let p = err_from_is_err_and c.from_residual.result c.from_residual.ensures.1 in
     rw (p.1, p.2) (
       c.in_err-note_failed.ensures.refused,
       (
         back.0,
         λ q.
-            c.in_err-note_failed.ensures.err g.failed search_after.failed q
+            c.in_err-note_failed.ensures.err g.failed last.search.failed q
             ∙ sym (ap (λ n. (search_in n).failed q) back.1.1.0),
       ),
     )
@@ -74,20 +63,15 @@ returns-then-choice c = λ f h.
     let leading = leading_of task in
     let back = c.later.invariant f h in
     let g = back.1.0 in
-    let k = back.1.1.1 in
-    let e = ap reverse c.in-Some.ensures.items ∙ reverse-append c.pop.new.self.items (c.in-Some.choice ∷ []) in
-    let cs = reverse c.pop.new.self.items in
-    let last = last_kept leading c.later.m c.in-Some.choice cs g e k in
     let cut : Memo = record c.later.m { later = c.pop.new.self; log = c.truncate.new.self } in
-    let search_after = search_cut leading c.later.m cut c.in-Some.choice cs g last refl c.truncate.ensures refl refl k in
-    let here = here_cut leading c.later.m cut c.in-Some.choice cs g last refl c.truncate.ensures refl refl k in
+    let last = popped leading c.later.m cut c.in-Some.choice g c.in-Some.ensures.items c.truncate.ensures refl refl back.1.1.1 in
     let keeps = subst (λ b. Keeps b (leading last.stand) last.stand last.rest g.later) {y = true} c.if-choice.true last.keeps in
     let is_noted = keeps.0 in
     let other = keeps.1.1.0 in
     goes_back task (TakesBack f) back.0 last.stand other c.in-Some.choice.stand g
     (record g { later = fails_before is_noted last.stand last.rest }) c.take_other.result c.take_other.new.m back.1.1.0
     (ap (λ l. plain.back_to l g) keeps.1.1.1.1) refl
-    (c.take_other.ensures last.stand keeps.1.0 other is_noted g last.rest search_after here keeps.1.1.1.0)
+    (c.take_other.ensures last.stand keeps.1.0 other is_noted g last.rest last.search last.here keeps.1.1.1.0)
 
 pub returns : goal.returns
 returns c = λ f h.

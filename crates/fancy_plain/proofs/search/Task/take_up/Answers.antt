@@ -15,3 +15,6 @@ returns-in-None c = λ s f h here.
         one_visit (leading_of task) c.args.m.now f h c.count.new.self _ c.count.ensures,
       ),
     )
+
+pub returns-in-Some : goal.returns-in-Some
+returns-in-Some c = c.take_up_point.ensures

@@ -11,7 +11,8 @@ use Rattle.fancy_plain.specs.declared.point.Point.TheVariants as point
 use Rattle.fancy_plain.specs.declared.log.Log.{Log}
 use Rattle.fancy_plain.specs.declared.log.Stand.{Stand}
 use Rattle.fancy_plain.specs.declared.search.Memo.{Memo}
-use Rattle.fancy_plain.proofs.SearchLaws.{at_lead, at_point, here_at, here_by, leads_by, next_there, one_visit}
+use Rattle.std.proofs.lemmas.Result.{err_from_is_err_and}
+use Rattle.fancy_plain.proofs.SearchLaws.{at_lead, at_point, failed_by, here_at, here_by, leads_by, next_there, one_visit}
 use Rattle.fancy_plain.proofs.search.Task.take_up_point.Goals as goal
 
 -- src/search.rt:443:5
@@ -167,4 +168,18 @@ returns-in-Stop c = λ s f h here.
         one_visit (leading_of task) c.args.m.now f h c.count-in-Stop.new.self _ c.count-in-Stop.ensures,
         here_by c.args.m.now c.count-in-Stop.new.self c.args.stand s (ap (λ (m : Memo). m.log) c.count-in-Stop.ensures) here,
       ),
+    )
+
+pub returns-in-Take : goal.returns-in-Take
+returns-in-Take c = λ s f h here.
+    at_point c.args.self.now (point.Take c.in-Take.test) c.args.stand s f here.at (c.requires.at ∙ ap Some c.in-Take.is) c.take.result c.take.new.m
+    (c.take.ensures s f h here)
+
+pub returns-in_err-next-in-Enter : goal.returns-in_err-next-in-Enter
+returns-in_err-next-in-Enter c = λ s f h here.
+    let p = err_from_is_err_and c.from_residual.result c.from_residual.ensures.1 in
+    rw (p.1, p.2) (
+      c.in_err-next-in-Enter.ensures.refused,
+      failed_by c.args.m.now c.begin_turn.new.self f.failed
+          (ap (λ (m : Memo). m.failed) c.begin_turn.ensures.rest ∙ ap (λ (m : Memo). m.failed) c.count-in-Enter.ensures) h.failed,
     )

@@ -1,5 +1,4 @@
-use Rattle.std.specs.Prelude.{IfOk}
-use Rattle.std.proofs.Common.{◌≡◌, ℕ, List, reverse, arith, subst}
+use Rattle.std.proofs.Common.{reverse, arith, ◌∙◌}
 use Rattle.fancy_state.proofs.CellLaws.{slots_first}
 use Rattle.fancy_state.proofs.StateLaws.{slots_enough, slot_there}
 use Rattle.fancy_state.proofs.state.State.first_slots.Goals as goal
@@ -18,5 +17,4 @@ returns-clause-ok c =
     let less = slots_enough s.slot_count s.cells.values s.cells.log bs s.max_stack c.args.count c.args.self.now c.self.view_is c.requires in
     let there = slot_there s.slot_count s.cells.values s.cells.log bs s.slot_count c.self.invariant (omega arith) in
     rw (← c.self.view_is)
-    (subst (λ (l : List ℕ). IfOk c.first.result (λ v. v.items ≡ l))
-    (slots_first s.cells.values s.slot_count c.args.count less (omega (arith, there))) c.first.ensures.ok)
+    (c.in_ok-slots.ensures.ok ∙ slots_first s.cells.values s.slot_count c.args.count less (omega (arith, there)))

@@ -1,0 +1,173 @@
+//! Which bit a pair has among those of its place.
+
+ghost use Rattle.std.specs.Prelude.{◌≡◌, ◌<◌, ◌^◌, ℕ, List, IfSome};
+ghost use Rattle.fancy_plain.specs.PairBits.{turn_number, turns_number, pair_number, pair_bit};
+
+use crate::point::{Loop, Point};
+
+/// The most bits of a place.
+const MOST: usize = 256;
+
+/// Which pairs have a bit. A pair inside no more than two loops that count has one, where the points and the counts are few.
+#[derive(Clone, Copy)]
+pub(crate) struct PairBits {
+    /// How many bits a place has; none where the points are many.
+    width: u16,
+    /// Points below this one have bits,
+    points: u16,
+    /// inside iterations before which fewer were begun than this,
+    counts: u8,
+    /// where the number of whether they have stayed is below this one.
+    stays: u8,
+}
+
+/// What the loops of a fragment that count ask for.
+#[derive(Clone, Copy)]
+struct Loops {
+    /// How many different counts there are.
+    counts: usize,
+    /// How many numbers of whether an iteration has stayed.
+    stays: usize,
+    /// How many loops are around the point that has most of them.
+    depth: usize,
+}
+
+impl Loop {
+    /// How many different counts there are before its iterations.
+    fn counts(self) -> usize {
+        let most = if self.hi == usize::MAX {
+            self.lo
+        } else {
+            self.hi
+        };
+        most.saturating_add(1)
+    }
+}
+
+impl Loops {
+    fn of(points: &[Point]) -> Loops {
+        let mut loops = Loops {
+            counts: 0,
+            stays: 1,
+            depth: 0,
+        };
+        let mut depth: usize = 0;
+        for point in points {
+            match point {
+                Point::Enter => {
+                    depth = depth.saturating_add(1);
+                    loops.depth = loops.depth.max(depth);
+                }
+                Point::Head { turns, .. } => {
+                    loops.counts = loops.counts.max(turns.counts());
+                    if turns.asks_moved {
+                        loops.stays = 2;
+                    }
+                }
+                Point::Jump(to) => {
+                    if let Some(Point::Head { .. }) = points.get(*to) {
+                        depth = depth.saturating_sub(1);
+                    }
+                }
+                _ => {}
+            }
+        }
+        loops
+    }
+}
+
+/// The number as a byte, or none at all.
+fn small(n: usize) -> u8 {
+    if n < 256 { n as u8 } else { 0 }
+}
+
+impl PairBits {
+    /// Those of a fragment of these points. Whatever is chosen here, no two pairs have one bit.
+    pub(crate) fn of(points: &[Point]) -> PairBits {
+        let count = points.len();
+        if count > MOST {
+            return PairBits {
+                width: 0,
+                points: 0,
+                counts: 0,
+                stays: 0,
+            };
+        }
+        let loops = Loops::of(points);
+        let turns = loops.counts.saturating_mul(loops.stays).saturating_add(1);
+        let mut width = count;
+        for _ in 0..loops.depth.min(2) {
+            let wider = width.saturating_mul(turns);
+            if wider <= MOST {
+                width = wider;
+            }
+        }
+        PairBits {
+            width: width.min(MOST) as u16,
+            points: count as u16,
+            counts: small(loops.counts),
+            stays: small(loops.stays),
+        }
+    }
+
+    /// The number of an iteration, from 1 on.
+    fn turn_number(self, count: usize, stayed: usize) -> Option<usize>
+        ensures number { result ≡ turn_number self count stayed }
+        ensures small { IfSome result (λ n. n < 2 ^ 16) }
+    {
+        let counts = self.counts as usize;
+        if count < counts && stayed < self.stays as usize {
+            Some(stayed * counts + count + 1)
+        } else {
+            None
+        }
+    }
+
+    /// The number of the iterations around, of which each has two numbers.
+    fn turns_number(self, turns: &[usize]) -> Option<usize>
+        ensures number { result ≡ turns_number self turns.now }
+        ensures small { IfSome result (λ n. n < 2 ^ 33) }
+    {
+        match turns {
+            [] => Some(0),
+            [count, stayed] => self.turn_number(*count, *stayed),
+            [count, stayed, outer_count, outer_stayed] => {
+                let inner = self.turn_number(*count, *stayed)?;
+                let outer = self.turn_number(*outer_count, *outer_stayed)?;
+                Some(outer * (self.counts as usize * self.stays as usize + 1) + inner)
+            }
+            _ => None,
+        }
+    }
+
+    /// The number of a pair among those of its place.
+    fn pair_number(self, at: usize, turns: &[usize]) -> Option<usize>
+        ensures { result ≡ pair_number self at turns.now }
+    {
+        let around = self.turns_number(turns)?;
+        let points = self.points as usize;
+        if at >= points {
+            return None;
+        }
+        let number = around * points + at;
+        if number < self.width as usize {
+            Some(number)
+        } else {
+            None
+        }
+    }
+
+    /// The bit of a pair, where the bits of the place `base` are the first ones.
+    pub(crate) fn bit(self, base: usize, pair: &[usize]) -> Option<usize>
+        ensures { result ≡ pair_bit self base pair.now }
+    {
+        let [at, place, turns @ ..] = pair else {
+            return None;
+        };
+        let number = self.pair_number(*at, turns)?;
+        place
+            .checked_sub(base)?
+            .checked_mul(self.width as usize)?
+            .checked_add(number)
+    }
+}

@@ -1,0 +1,32 @@
+use Rattle.std.proofs.Common.{◌≡◌, ℕ, zero, suc, [], slice_index_or, refl, ap, subst, sym, arith}
+use Rattle.std.specs.Prelude.{replicate, None}
+use Rattle.std.proofs.Math.Path.{fun_ext}
+use Rattle.std.proofs.lemmas.List.{length-replicate}
+use Rattle.fancy_meaning.specs.Config.{Config, Slots}
+use Rattle.fancy_meaning.specs.Machine as machine
+use Rattle.fancy_meaning.specs.Numbers.{usize_max}
+use Rattle.fancy_state.specs.Held.{Held}
+use Rattle.fancy_vm.specs.Outcomes.{config_at, plain_task}
+use Rattle.fancy_vm.specs.Sound.{IsSound}
+use Rattle.fancy_vm.proofs.machine.Machine.begin.Goals as goal
+
+unset_at : (n s : ℕ) → slice_index_or (replicate n usize_max) s usize_max ≡ usize_max
+unset_at zero s = refl
+unset_at (suc n) zero = refl
+unset_at (suc n) (suc s) = unset_at n s
+
+pub invariant_of-result : goal.invariant_of-result
+invariant_of-result c =
+    let slots = c.args.task.now.prog.now.parts.slots in
+    let len = length-replicate slots usize_max in
+    record {
+      sound = subst (IsSound c.args.task.now) (sym c.requires) (record { slots = len; small = omega (arith, len); max_stack = refl });
+    }
+
+pub returns-clause-begins : goal.returns-clause-begins
+returns-clause-begins c =
+    let pos : ℕ = c.args.task.now.options.now.pos in
+    let at_slots : Slots → Config = λ slots.
+    record { now = record { pc = 0; ix = pos; slots = slots; marks = [] }; branches = []; start = pos; backtracks = 0; longest = None } in
+    subst (λ (s : Held). config_at 0 pos pos 0 s ≡ machine.begin (plain_task c.args.task.now)) (sym c.requires)
+    (ap at_slots (fun_ext (unset_at c.args.task.now.prog.now.parts.slots)))

@@ -1,0 +1,16 @@
+use Rattle.std.proofs.Common.{◌≡◌, ◌-◌}
+use Rattle.fancy_meaning.specs.Machine as machine
+use Rattle.fancy_vm.specs.Memos.{AreMemosOf}
+use Rattle.fancy_vm.specs.Outcomes.{config_of, plain_task}
+use Rattle.fancy_vm.proofs.PlacesLaws.{IsAtPlaces}
+use Rattle.fancy_vm.proofs.machine.Machine.run.Given as goal
+
+abbrev pub invariant-steps : goal.invariant-steps
+invariant-steps l =
+    let t = l.initial.self.task in
+    record {
+      task : l.self.task ≡ t;
+      memos : AreMemosOf t l.memos;
+      places : IsAtPlaces (t.text).now (config_of l.self);
+      same : machine.exec (plain_task t) ((t.options).now.step_limit - l._step) (config_of l.self) ≡ machine.run (plain_task t);
+    }
