@@ -38,13 +38,18 @@ struct row {
     struct fancy_options options;
 };
 
+static uint8_t value_of(char digit)
+{
+    return digit <= '9' ? digit - '0' : digit - 'a' + 10;
+}
+
 /* The bytes of a line of hexadecimal digits. */
 static uint8_t *read_bytes(const char *line, size_t *length)
 {
     *length = strspn(line, "0123456789abcdef") / 2;
     uint8_t *bytes = malloc(*length + 1);
     for (size_t i = 0; i < *length; i++)
-        sscanf(line + 2 * i, "%2hhx", &bytes[i]);
+        bytes[i] = value_of(line[2 * i]) << 4 | value_of(line[2 * i + 1]);
     return bytes;
 }
 

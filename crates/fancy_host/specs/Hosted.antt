@@ -51,6 +51,7 @@ analysis o = record {
   explicit_capture_group_0 = false;
   find_not_empty = o.not_empty;
   disallow_empty_match_at_eof_after_newline = o.end_text;
+  leftmost_longest = false;
 }
 
 abbrev pub compilation : FancyOptions → CompileOptions
@@ -69,6 +70,7 @@ running o = record {
   anchored = o.anchored;
   continued = not o.not_continued;
   not_empty = o.not_empty;
+  leftmost_longest = false;
   backtrack_limit = o.backtrack_limit;
   step_limit = o.step_limit;
 }

@@ -62,6 +62,7 @@ impl FancyOptions {
             explicit_capture_group_0: false,
             find_not_empty: self.not_empty,
             disallow_empty_match_at_eof_after_newline: self.end_text,
+            leftmost_longest: false,
         }
     }
 
