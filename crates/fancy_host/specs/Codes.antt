@@ -1,0 +1,73 @@
+-- The codes of outcomes, and their names.
+use Rattle.std.specs.Prelude.{ℕ, List, [], ◌∷◌, codes, slice_index_or}
+use Rattle.fancy_expr.specs.declared.error.Error.{Error}
+use Rattle.fancy_expr.specs.declared.error.Error.TheVariants as error
+use Rattle.fancy_expr.specs.declared.error.RuntimeError.TheVariants as limit
+use Rattle.fancy_expr.specs.declared.error.CompileError.{CompileError}
+use Rattle.fancy_expr.specs.declared.error.CompileError.TheVariants as refusal
+
+abbrev pub ok : ℕ
+ok = 0
+
+abbrev pub no_match : ℕ
+no_match = 1
+
+abbrev pub no_program : ℕ
+no_program = 2
+
+abbrev pub no_text : ℕ
+no_text = 3
+
+abbrev pub unfit : ℕ
+unfit = 4
+
+abbrev pub code_of_refusal : CompileError → ℕ
+code_of_refusal refusal.NamedBackrefOnly = 10
+code_of_refusal refusal.FeatureNotYetSupported = 11
+code_of_refusal refusal.SubroutineCallTargetNotFound = 12
+code_of_refusal refusal.UnresolvedAstNode = 13
+code_of_refusal (refusal.InvalidBackref group) = 14
+code_of_refusal (refusal.LeftRecursiveSubroutineCall group) = 15
+code_of_refusal refusal.NeverEndingRecursion = 16
+code_of_refusal refusal.VariableLookBehindRequiresFeature = 17
+code_of_refusal (refusal.InnerError text) = 18
+code_of_refusal (refusal.ClassTooBig text) = 19
+code_of_refusal refusal.PatternTooComplex = 20
+
+abbrev pub code_of : Error → ℕ
+code_of error.Memory = 5
+code_of (error.TreeFault at) = 6
+code_of (error.RuntimeError limit.BacktrackLimitExceeded) = 7
+code_of (error.RuntimeError limit.StackOverflow) = 8
+code_of (error.RuntimeError limit.StepLimitExceeded) = 9
+code_of (error.CompileError e) = code_of_refusal e
+
+-- the name of each code, from 0 up
+abbrev pub names : List (List ℕ)
+names =
+    codes "Ok"
+    ∷ codes "NoMatch"
+    ∷ codes "NoProgram"
+    ∷ codes "NotUtf8"
+    ∷ codes "Unfit"
+    ∷ codes "Memory"
+    ∷ codes "TreeFault"
+    ∷ codes "BacktrackLimitExceeded"
+    ∷ codes "StackOverflow"
+    ∷ codes "StepLimitExceeded"
+    ∷ codes "NamedBackrefOnly"
+    ∷ codes "FeatureNotYetSupported"
+    ∷ codes "SubroutineCallTargetNotFound"
+    ∷ codes "UnresolvedAstNode"
+    ∷ codes "InvalidBackref"
+    ∷ codes "LeftRecursiveSubroutineCall"
+    ∷ codes "NeverEndingRecursion"
+    ∷ codes "VariableLookBehindRequiresFeature"
+    ∷ codes "InnerError"
+    ∷ codes "ClassTooBig"
+    ∷ codes "PatternTooComplex"
+    ∷ []
+
+-- no code has a name of no letters
+abbrev pub name_of : ℕ → List ℕ
+name_of code = slice_index_or names code []

@@ -1,0 +1,3 @@
+pub mod Codes
+pub mod Hosted
+pub mod Owned

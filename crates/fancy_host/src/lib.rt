@@ -1,0 +1,113 @@
+//! What a program in C, or in any language that calls C, needs of the engine: a tree is compiled once and searched for
+//! many times, each search within limits. The header is `fancy.h`.
+#![tactic(auto)]
+
+mod loose;
+mod options;
+mod outcome;
+mod program;
+
+ghost use Rattle.std.specs.Prelude.{◌≡◌, None, length};
+ghost use Rattle.fancy_host.specs.Codes.{name_of};
+ghost use Rattle.fancy_host.specs.Hosted.{Compiles, Finds, default_options, group_count, over, tree_of};
+
+use options::FancyOptions;
+use outcome::{FancyOutcome, NO_PROGRAM, write_name};
+use program::{FancyProgram, compile};
+use std::alloc::Global;
+use std::mem::replace;
+use std::str::from_utf8;
+
+/// The options of a search unless said otherwise: from the text's start, no flag, 1,000,000 backtracks, as many
+/// instructions as can be counted, and a program of at most 100,000 instructions.
+#[unsafe(no_mangle)]
+pub extern "C" fn fancy_default_options() -> FancyOptions
+    ensures { result ≡ default_options }
+{
+    FancyOptions::default()
+}
+
+/// Compiles the tree that a text spells. What the program held before is freed; it holds the tree if the code is
+/// `FANCY_OK`, and nothing otherwise.
+#[unsafe(no_mangle)]
+pub extern "C" fn fancy_compile(
+    alloc: Global,
+    tree: &[u8],
+    options: &FancyOptions,
+    program: &mut FancyProgram,
+) -> FancyOutcome
+    ensures { Compiles tree.now options.now program.new.handle.searcher result }
+{
+    replace(program, FancyProgram::empty(alloc)).free();
+    let text = match from_utf8(tree) {
+        Ok(text) => text,
+        Err(fault) => return FancyOutcome::not_utf8(fault.valid_up_to()),
+    };
+    match compile(alloc, text, options) {
+        Ok(searcher) => {
+            let groups = searcher.group_count();
+            *program = FancyProgram::of(searcher);
+            FancyOutcome::compiled(groups)
+        }
+        Err(error) => FancyOutcome::of_error(&error),
+    }
+}
+
+/// Searches a text, in UTF-8, for the tree that a program holds, and writes start and end of each group from 0 up, in
+/// bytes of the text, as far as there is room in `spans`; `FANCY_UNSET` is for a group that is not set.
+#[unsafe(no_mangle)]
+pub extern "C" fn fancy_find(
+    alloc: Global,
+    program: &mut FancyProgram,
+    text: &[u8],
+    options: &FancyOptions,
+    spans: &mut [usize],
+) -> FancyOutcome
+    ensures finds { Finds
+        text.now
+        options.now
+        spans.old
+        program.old.handle.searcher
+        spans.new
+        result }
+    ensures keeps { tree_of program.new.handle.searcher ≡ tree_of program.old.handle.searcher }
+{
+    let text = match from_utf8(text) {
+        Ok(text) => text,
+        Err(fault) => return FancyOutcome::not_utf8(fault.valid_up_to()),
+    };
+    if !program.is_set {
+        return FancyOutcome::coded(NO_PROGRAM);
+    }
+    let mut searcher = replace(program, FancyProgram::empty(alloc)).into_searcher();
+    let outcome = searcher.find(alloc, text, options, spans);
+    *program = FancyProgram::of(searcher);
+    outcome
+}
+
+/// How many groups the tree that a program holds has, with group 0; none without a tree.
+#[unsafe(no_mangle)]
+pub extern "C" fn fancy_group_count(program: &FancyProgram) -> usize
+    ensures { result ≡ group_count program.now.handle.searcher }
+{
+    program.groups
+}
+
+/// Writes the name of a code, as far as there is room for it, and answers how many bytes it has; none where no code is
+/// this number.
+#[unsafe(no_mangle)]
+pub extern "C" fn fancy_error_name(code: u32, name: &mut [u8]) -> usize
+    ensures length { result ≡ length (name_of code) }
+    ensures name { name.new ≡ over (name_of code) name.old }
+{
+    write_name(code, name)
+}
+
+/// Frees what a program holds.
+#[unsafe(no_mangle)]
+pub extern "C" fn fancy_free(alloc: Global, program: &mut FancyProgram)
+    ensures { program.new.handle.searcher ≡ None }
+{
+    let held = replace(program, FancyProgram::empty(alloc));
+    held.free();
+}

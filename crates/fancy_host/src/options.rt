@@ -1,0 +1,96 @@
+//! What a host asks.
+
+ghost use Rattle.std.specs.Prelude.{◌≡◌};
+ghost use Rattle.fancy_vm.specs.Programs.{options_of as run_options_of};
+ghost use Rattle.fancy_host.specs.Hosted as hosted;
+
+use fancy_analysis::analyze::AnalyzeContext;
+use fancy_compile::compile::{BytesMode, CompileOptions};
+use fancy_vm::vm::RunOptions;
+
+/// The options of a tree and of a search.
+#[repr(C)]
+#[derive(Clone, Copy, Drop)]
+pub struct FancyOptions {
+    /// Where the search begins, a byte of the text.
+    pub pos: usize,
+    /// How many instructions a program may have.
+    pub max_prog_size: usize,
+    /// How often a search may fall back to a branch.
+    pub backtrack_limit: usize,
+    /// How many instructions a search may execute.
+    pub step_limit: u64,
+    /// Only the first start is tried: said to the compiler.
+    pub compile_anchored: bool,
+    /// The same, said to the search.
+    pub anchored: bool,
+    /// No match ended at `pos`.
+    pub not_continued: bool,
+    /// A match has to take something: said to both.
+    pub not_empty: bool,
+    /// No match that takes nothing at the end of the text, after a newline: said to the compiler.
+    pub end_text: bool,
+    /// Folding, word characters and classes go by ASCII: said to the compiler.
+    pub ascii: bool,
+}
+
+impl Default for FancyOptions {
+    fn default() -> FancyOptions
+        ensures { result ≡ hosted.default_options }
+    {
+        FancyOptions {
+            pos: 0,
+            max_prog_size: 100_000,
+            backtrack_limit: 1_000_000,
+            step_limit: u64::MAX,
+            compile_anchored: false,
+            anchored: false,
+            not_continued: false,
+            not_empty: false,
+            end_text: false,
+            ascii: false,
+        }
+    }
+}
+
+impl FancyOptions {
+    /// How the tree is analysed.
+    pub fn analysis(&self) -> AnalyzeContext
+        ensures { result ≡ hosted.analysis self.now }
+    {
+        AnalyzeContext {
+            explicit_capture_group_0: false,
+            find_not_empty: self.not_empty,
+            disallow_empty_match_at_eof_after_newline: self.end_text,
+            leftmost_longest: false,
+        }
+    }
+
+    /// How it is compiled.
+    pub fn compilation(&self) -> CompileOptions
+        ensures { result ≡ hosted.compilation self.now }
+    {
+        CompileOptions {
+            anchored: self.compile_anchored,
+            contains_subroutines: false,
+            disallow_empty_match_at_eof_after_newline: self.end_text,
+            bytes_mode: BytesMode::Unicode,
+            unicode: !self.ascii,
+            max_prog_size: Some(self.max_prog_size),
+        }
+    }
+
+    /// How its program is run.
+    pub fn running(&self) -> RunOptions
+        ensures { run_options_of result ≡ hosted.running self.now }
+    {
+        RunOptions {
+            pos: self.pos,
+            anchored: self.anchored,
+            continued: !self.not_continued,
+            not_empty: self.not_empty,
+            backtrack_limit: self.backtrack_limit,
+            step_limit: self.step_limit,
+        }
+    }
+}

@@ -1,0 +1,220 @@
+//! What a host is answered: a code with its details, and numbers and names written into its memory.
+
+ghost use Rattle.std.specs.Prelude.{◌≡◌, length};
+ghost use Rattle.fancy_host.specs.Codes as codes;
+ghost use Rattle.fancy_host.specs.Hosted as hosted;
+
+use fancy_characters::places::past_any;
+use fancy_expr::error::{CompileError, Error, RuntimeError};
+
+/// What came of a call.
+#[repr(C)]
+#[derive(Clone, Copy, Drop)]
+pub struct FancyOutcome {
+    /// `FANCY_OK`, `FANCY_NO_MATCH`, or why there is no answer.
+    pub code: u32,
+    /// The byte of the tree or the text at which it cannot be read.
+    pub byte: usize,
+    /// The group that is referred to, and is not there.
+    pub group: usize,
+    /// How many groups there are, with group 0.
+    pub count: usize,
+    /// Where a search for the next match begins, a place of the text; past its length there is none.
+    pub next: usize,
+}
+
+const OK: u32 = 0;
+
+const NO_MATCH: u32 = 1;
+
+pub const NO_PROGRAM: u32 = 2;
+
+const NOT_UTF8: u32 = 3;
+
+const UNFIT: u32 = 4;
+
+/// The code of a refusal.
+fn code_of_refusal(error: &CompileError) -> u32
+    ensures { result ≡ codes.code_of_refusal error.now }
+{
+    match error {
+        CompileError::NamedBackrefOnly => 10,
+        CompileError::FeatureNotYetSupported => 11,
+        CompileError::SubroutineCallTargetNotFound => 12,
+        CompileError::UnresolvedAstNode => 13,
+        CompileError::InvalidBackref(_) => 14,
+        CompileError::LeftRecursiveSubroutineCall(_) => 15,
+        CompileError::NeverEndingRecursion => 16,
+        CompileError::VariableLookBehindRequiresFeature => 17,
+        CompileError::InnerError(_) => 18,
+        CompileError::ClassTooBig(_) => 19,
+        CompileError::PatternTooComplex => 20,
+    }
+}
+
+/// The code of an error.
+fn code_of(error: &Error) -> u32
+    ensures { result ≡ codes.code_of error.now }
+{
+    match error {
+        Error::Memory => 5,
+        Error::TreeFault { .. } => 6,
+        Error::RuntimeError(RuntimeError::BacktrackLimitExceeded) => 7,
+        Error::RuntimeError(RuntimeError::StackOverflow) => 8,
+        Error::RuntimeError(RuntimeError::StepLimitExceeded) => 9,
+        Error::CompileError(refusal) => code_of_refusal(refusal),
+    }
+}
+
+/// The name of a code.
+fn name_of(code: u32) -> &'static str
+    ensures { result.now ≡ codes.name_of code }
+{
+    match code {
+        0 => "Ok",
+        1 => "NoMatch",
+        2 => "NoProgram",
+        3 => "NotUtf8",
+        4 => "Unfit",
+        5 => "Memory",
+        6 => "TreeFault",
+        7 => "BacktrackLimitExceeded",
+        8 => "StackOverflow",
+        9 => "StepLimitExceeded",
+        10 => "NamedBackrefOnly",
+        11 => "FeatureNotYetSupported",
+        12 => "SubroutineCallTargetNotFound",
+        13 => "UnresolvedAstNode",
+        14 => "InvalidBackref",
+        15 => "LeftRecursiveSubroutineCall",
+        16 => "NeverEndingRecursion",
+        17 => "VariableLookBehindRequiresFeature",
+        18 => "InnerError",
+        19 => "ClassTooBig",
+        20 => "PatternTooComplex",
+        _ => "",
+    }
+}
+
+/// Writes what is new over what is there, as far as there is room.
+pub fn write_over<T: Copy>(new: &[T], room: &mut [T])
+    ensures { room.new ≡ hosted.over new.now room.old }
+{
+    let count = new.len().min(room.len());
+    let (front, _) = room.split_at_mut(count);
+    front.copy_from_slice(&new[..count]);
+}
+
+/// Writes the name of a code as far as there is room, and answers how many bytes it has.
+pub fn write_name(code: u32, room: &mut [u8]) -> usize
+    ensures length { result ≡ length (codes.name_of code) }
+    ensures name { room.new ≡ hosted.over (codes.name_of code) room.old }
+{
+    let name = name_of(code).as_bytes();
+    write_over(name, room);
+    name.len()
+}
+
+/// Writes the numbers of an answer as far as there is room.
+pub fn write_answer(answer: &Result<Option<Vec<usize>>, Error>, room: &mut [usize])
+    ensures { room.new ≡ hosted.written answer.now room.old }
+{
+    match answer {
+        Ok(None) => {}
+        Ok(Some(numbers)) => write_over(numbers, room),
+        Err(_) => {}
+    }
+}
+
+/// Where a search for the next match begins: at the end of the one that was found, or, if that took nothing, past the
+/// character there.
+fn next_start(text: &[u8], numbers: &[usize]) -> usize
+    ensures { result ≡ hosted.next_start text.now numbers.now }
+{
+    let Some((start, others)) = numbers.split_first() else {
+        return usize::MAX;
+    };
+    let Some((end, _)) = others.split_first() else {
+        return usize::MAX;
+    };
+    if start == end {
+        past_any(text, true, false, *end).unwrap_or(end.saturating_add(1))
+    } else {
+        *end
+    }
+}
+
+impl FancyOutcome {
+    /// A code without details.
+    pub fn coded(code: u32) -> FancyOutcome
+        ensures { result ≡ hosted.coded code }
+    {
+        FancyOutcome {
+            code,
+            byte: usize::MAX,
+            group: usize::MAX,
+            count: 0,
+            next: usize::MAX,
+        }
+    }
+
+    /// The bytes are no text from this one on.
+    pub fn not_utf8(byte: usize) -> FancyOutcome
+        ensures { result ≡ hosted.not_utf8 byte }
+    {
+        FancyOutcome {
+            byte,
+            ..FancyOutcome::coded(NOT_UTF8)
+        }
+    }
+
+    /// The options do not fit the program or the text.
+    pub fn unfit() -> FancyOutcome
+        ensures { result ≡ hosted.coded codes.unfit }
+    {
+        FancyOutcome::coded(UNFIT)
+    }
+
+    /// A tree with so many groups was compiled.
+    pub fn compiled(groups: usize) -> FancyOutcome
+        ensures { result ≡ hosted.compiled groups }
+    {
+        FancyOutcome {
+            count: groups,
+            ..FancyOutcome::coded(OK)
+        }
+    }
+
+    /// Why there is no answer.
+    pub fn of_error(error: &Error) -> FancyOutcome
+        ensures { result ≡ hosted.failure error.now }
+    {
+        let outcome = FancyOutcome::coded(code_of(error));
+        match error {
+            Error::TreeFault { at } => FancyOutcome {
+                byte: *at,
+                ..outcome
+            },
+            Error::CompileError(CompileError::InvalidBackref(group)) => FancyOutcome {
+                group: *group,
+                ..outcome
+            },
+            _ => outcome,
+        }
+    }
+
+    /// The answer of a search.
+    pub fn of_answer(text: &[u8], answer: &Result<Option<Vec<usize>>, Error>) -> FancyOutcome
+        ensures { result ≡ hosted.outcome_of text.now answer.now }
+    {
+        match answer {
+            Ok(None) => FancyOutcome::coded(NO_MATCH),
+            Ok(Some(numbers)) => FancyOutcome {
+                count: numbers.len() / 2,
+                next: next_start(text, numbers),
+                ..FancyOutcome::coded(OK)
+            },
+            Err(error) => FancyOutcome::of_error(error),
+        }
+    }
+}

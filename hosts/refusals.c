@@ -1,0 +1,60 @@
+/* What a host is answered when it asks for what cannot be answered: a line for each call. */
+#include "fancy.h"
+#include <stdio.h>
+#include <string.h>
+
+static struct fancy_program program = FANCY_NOTHING;
+static struct fancy_options options;
+static size_t spans[2];
+
+static void print_outcome(const char *what, struct fancy_outcome outcome)
+{
+    uint8_t name[40];
+    size_t length = fancy_error_name(outcome.code, name, sizeof name);
+    printf("%s: %.*s", what, (int)length, (const char *)name);
+    if (outcome.byte != FANCY_UNSET)
+        printf(" at byte %zu", outcome.byte);
+    if (outcome.group != FANCY_UNSET)
+        printf(" of group %zu", outcome.group);
+    putchar('\n');
+}
+
+static void compile(const char *what, const char *tree)
+{
+    print_outcome(what, fancy_compile((const uint8_t *)tree, strlen(tree), &options, &program));
+}
+
+static void find(const char *what, const char *text)
+{
+    print_outcome(what, fancy_find(&program, (const uint8_t *)text, strlen(text), &options, spans, 2));
+}
+
+int main(void)
+{
+    uint8_t name[3] = "---";
+    options = fancy_default_options();
+    find("a search without a tree", "a");
+    compile("a tree that is no UTF-8", "\"a\xff\"");
+    compile("a group that is not there", "(cat (grp \"a\") (ref 3))");
+    compile("calls that double on each level", "(grp (alt \"a\" (cat (call 1) (call 1) \"b\")))");
+    compile("a call that doubles on each level", "(grp (alt (cat \"a\" (call 1) (call 1)) \"b\"))");
+    find("a search after a refusal", "a");
+    compile("a tree", "(cat (grp \"a\") (grp any))");
+    find("room for the match alone", "ba\xc3\xa9");
+    printf("%zu groups, %zu %zu\n", fancy_group_count(&program), spans[0], spans[1]);
+    find("a text that is no UTF-8", "a\xc3");
+    options.pos = 1;
+    find("a place inside a character", "\xc3\xa9");
+    options.pos = 3;
+    find("a place behind the text", "ab");
+    options.pos = 0;
+    options.not_empty = true;
+    find("not_empty said to the search alone", "ab");
+    fancy_free(&program);
+    fancy_free(&program);
+    find("a search in what was freed", "a");
+    size_t length = fancy_error_name(FANCY_MEMORY, name, sizeof name);
+    printf("%zu %.3s\n", length, (const char *)name);
+    printf("%zu\n", fancy_error_name(99, name, sizeof name));
+    return 0;
+}

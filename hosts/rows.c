@@ -1,0 +1,210 @@
+/* Answers rows as rows.py writes them, and prints a line for each, as fancyrun does.
+ *
+ * rows [--stack BYTES]   on a thread with a stack of so many bytes
+ * rows --refuse          refuses each request for memory of each row in turn: the row has to end by Memory, or by its
+ *                        line where it can do without; and made again to give its line. Prints how many there were. */
+#define _GNU_SOURCE
+#include "fancy.h"
+#include <pthread.h>
+#include <stdio.h>
+#include <stdlib.h>
+#include <string.h>
+
+/* The program is linked with --wrap=malloc and --wrap=realloc, so that these stand for both. */
+void *__real_malloc(size_t size);
+void *__real_realloc(void *old, size_t size);
+
+static size_t requests, refused; /* how many so far, and which one is refused; 0 for none */
+static bool is_counted;
+
+static bool is_refused(void)
+{
+    return is_counted && ++requests == refused;
+}
+
+void *__wrap_malloc(size_t size)
+{
+    return is_refused() ? NULL : __real_malloc(size);
+}
+
+void *__wrap_realloc(void *old, size_t size)
+{
+    return is_refused() ? NULL : __real_realloc(old, size);
+}
+
+struct row {
+    uint8_t *tree, *text;
+    size_t tree_length, text_length;
+    struct fancy_options options;
+};
+
+static uint8_t value_of(char digit)
+{
+    return digit <= '9' ? digit - '0' : digit - 'a' + 10;
+}
+
+/* The bytes of a line of hexadecimal digits. */
+static uint8_t *read_bytes(const char *line, size_t *length)
+{
+    *length = strspn(line, "0123456789abcdef") / 2;
+    uint8_t *bytes = malloc(*length + 1);
+    for (size_t i = 0; i < *length; i++)
+        bytes[i] = value_of(line[2 * i]) << 4 | value_of(line[2 * i + 1]);
+    return bytes;
+}
+
+static struct fancy_options read_words(char *line)
+{
+    struct fancy_options options = fancy_default_options();
+    options.max_prog_size = SIZE_MAX;
+    for (char *word = strtok(line, " \n"); word != NULL; word = strtok(NULL, " \n")) {
+        if (strcmp(word, "--compile-anchored") == 0)
+            options.compile_anchored = true;
+        else if (strcmp(word, "--anchored") == 0)
+            options.anchored = true;
+        else if (strcmp(word, "--not-continued") == 0)
+            options.not_continued = true;
+        else if (strcmp(word, "--not-empty") == 0)
+            options.not_empty = true;
+        else if (strcmp(word, "--end-text") == 0)
+            options.end_text = true;
+        else if (strcmp(word, "--ascii") == 0)
+            options.ascii = true;
+        else if (strcmp(word, "--backtracks") == 0)
+            options.backtrack_limit = strtoull(strtok(NULL, " \n"), NULL, 10);
+        else if (strcmp(word, "--steps") == 0)
+            options.step_limit = strtoull(strtok(NULL, " \n"), NULL, 10);
+        else if (strcmp(word, "--max-prog") == 0)
+            options.max_prog_size = strtoull(strtok(NULL, " \n"), NULL, 10);
+        else
+            options.pos = strtoull(word, NULL, 10);
+    }
+    return options;
+}
+
+static bool read_row(struct row *row)
+{
+    static char *line;
+    static size_t room;
+    if (getline(&line, &room, stdin) < 0)
+        return false;
+    row->tree = read_bytes(line, &row->tree_length);
+    if (getline(&line, &room, stdin) < 0)
+        return false;
+    row->text = read_bytes(line, &row->text_length);
+    if (getline(&line, &room, stdin) < 0)
+        return false;
+    row->options = read_words(line);
+    return true;
+}
+
+#define LINE 4096
+
+static void write_failure(struct fancy_outcome outcome, char *line)
+{
+    uint8_t name[40];
+    size_t end = fancy_error_name(outcome.code, name, sizeof name);
+    memcpy(line, name, end);
+    line[end] = 0;
+    if (outcome.byte != FANCY_UNSET)
+        sprintf(line + end, " %zu", outcome.byte);
+    if (outcome.group != FANCY_UNSET)
+        sprintf(line + end, " %zu", outcome.group);
+}
+
+static void write_spans(const size_t *spans, size_t count, char *line)
+{
+    for (size_t i = 0; i < 2 * count; i++) {
+        line += sprintf(line, i == 0 ? "" : " ");
+        line += spans[i] == FANCY_UNSET ? sprintf(line, "-") : sprintf(line, "%zu", spans[i]);
+    }
+}
+
+/* The line of a row; only the requests of the library are counted. */
+static void answer(const struct row *row, char *line)
+{
+    struct fancy_program program = FANCY_NOTHING;
+    size_t spans[200];
+    is_counted = true;
+    struct fancy_outcome outcome = fancy_compile(row->tree, row->tree_length, &row->options, &program);
+    size_t groups = fancy_group_count(&program);
+    if (outcome.code == FANCY_OK)
+        outcome = fancy_find(&program, row->text, row->text_length, &row->options, spans, 200);
+    is_counted = false;
+    line[0] = 0;
+    if (outcome.code == FANCY_OK && (outcome.count != groups || groups > 100))
+        sprintf(line, "groups %zu %zu", groups, outcome.count);
+    else if (outcome.code == FANCY_OK)
+        write_spans(spans, outcome.count, line);
+    else if (outcome.code == FANCY_NO_MATCH)
+        strcpy(line, "none");
+    else
+        write_failure(outcome, line);
+    fancy_free(&program);
+}
+
+static void *print_rows(void *unused)
+{
+    struct row row;
+    char line[LINE];
+    while (read_row(&row)) {
+        answer(&row, line);
+        puts(line);
+        free(row.tree);
+        free(row.text);
+    }
+    return unused;
+}
+
+/* Each request of the row refused in turn: how many there were, and how many ended it by Memory. */
+static int refuse_row(const struct row *row, size_t *asked, size_t *ended)
+{
+    char right[LINE], line[LINE], again[LINE];
+    refused = 0;
+    answer(row, right);
+    for (size_t nth = 1;; nth++) {
+        requests = 0;
+        refused = nth;
+        answer(row, line);
+        refused = 0;
+        if (requests < nth)
+            return 0;
+        ++*asked;
+        if (strcmp(line, "Memory") == 0)
+            ++*ended;
+        else if (strcmp(line, right) != 0)
+            return printf("wrong: %s in place of %s, request %zu refused\n", line, right, nth);
+        answer(row, again);
+        if (strcmp(again, right) != 0)
+            return printf("wrong: %s in place of %s after request %zu\n", again, right, nth);
+    }
+}
+
+static int refuse_rows(void)
+{
+    struct row row;
+    size_t rows = 0, asked = 0, ended = 0;
+    for (; read_row(&row); rows++)
+        if (refuse_row(&row, &asked, &ended) != 0)
+            return 1;
+    printf("%zu rows, %zu requests refused in turn, %zu of them ended a row by Memory\n", rows, asked, ended);
+    return 0;
+}
+
+int main(int argc, char **argv)
+{
+    if (argc == 2 && strcmp(argv[1], "--refuse") == 0)
+        return refuse_rows();
+    if (argc != 3) {
+        print_rows(NULL);
+        return 0;
+    }
+    pthread_attr_t attributes;
+    pthread_t thread;
+    pthread_attr_init(&attributes);
+    if (pthread_attr_setstacksize(&attributes, strtoull(argv[2], NULL, 10)) != 0)
+        return 2;
+    if (pthread_create(&thread, &attributes, print_rows, NULL) != 0)
+        return 2;
+    return pthread_join(thread, NULL);
+}

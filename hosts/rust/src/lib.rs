@@ -1,0 +1,267 @@
+//! A backtracking regex engine whose patterns are trees: safe Rust over the library that `fancy.h` describes.
+//!
+//! A `Regex` stays on its thread: it is neither `Send` nor `Sync`, since the program behind it counts what it shares
+//! without a lock.
+
+mod host;
+
+use std::cell::RefCell;
+use std::fmt;
+use std::ops::Range;
+use std::ptr::null_mut;
+
+/// How a tree is compiled and searched for; each field is that of `fancy_options`.
+#[derive(Clone, Copy)]
+pub struct Options {
+    host: host::Options,
+}
+
+impl Default for Options {
+    fn default() -> Options {
+        // Safety: the call takes nothing.
+        let host = unsafe { host::fancy_default_options() };
+        Options { host }
+    }
+}
+
+macro_rules! setters {
+    ($($name:ident: $number:ty,)*) => {
+        $(pub fn $name(mut self, $name: $number) -> Options {
+            self.host.$name = $name;
+            self
+        })*
+    };
+}
+
+impl Options {
+    setters! {
+        pos: usize,
+        max_prog_size: usize,
+        backtrack_limit: usize,
+        step_limit: u64,
+        compile_anchored: bool,
+        anchored: bool,
+        not_continued: bool,
+        not_empty: bool,
+        end_text: bool,
+        ascii: bool,
+    }
+}
+
+/// Why there is no answer.
+#[derive(Clone, Debug, PartialEq, Eq)]
+pub struct Error {
+    code: u32,
+    /// The name that the engine gives it.
+    pub name: String,
+    /// The byte at which the tree cannot be read.
+    pub byte: Option<usize>,
+    /// The group that is not there.
+    pub group: Option<usize>,
+}
+
+impl Error {
+    fn of(outcome: &host::Outcome) -> Error {
+        let mut name = vec![0; 40];
+        // Safety: the pointer and the length are those of `name`.
+        let length = unsafe { host::fancy_error_name(outcome.code, name.as_mut_ptr(), name.len()) };
+        name.truncate(length);
+        Error {
+            code: outcome.code,
+            name: String::from_utf8_lossy(&name).into_owned(),
+            byte: Some(outcome.byte).filter(|byte| *byte != host::UNSET),
+            group: Some(outcome.group).filter(|group| *group != host::UNSET),
+        }
+    }
+
+    /// Its number in `fancy.h`.
+    pub fn code(&self) -> u32 {
+        self.code
+    }
+}
+
+impl fmt::Display for Error {
+    fn fmt(&self, f: &mut fmt::Formatter<'_>) -> fmt::Result {
+        f.write_str(&self.name)?;
+        for detail in [self.byte, self.group].into_iter().flatten() {
+            write!(f, " {detail}")?;
+        }
+        Ok(())
+    }
+}
+
+impl std::error::Error for Error {}
+
+/// A match: where it lies in its text.
+#[derive(Clone, Copy, Debug, PartialEq, Eq)]
+pub struct Match<'t> {
+    text: &'t str,
+    start: usize,
+    end: usize,
+}
+
+impl<'t> Match<'t> {
+    pub fn start(&self) -> usize {
+        self.start
+    }
+
+    pub fn end(&self) -> usize {
+        self.end
+    }
+
+    pub fn range(&self) -> Range<usize> {
+        self.start..self.end
+    }
+
+    pub fn as_str(&self) -> &'t str {
+        &self.text[self.range()]
+    }
+}
+
+/// A match with its groups.
+#[derive(Clone, Debug, PartialEq, Eq)]
+pub struct Captures<'t> {
+    text: &'t str,
+    spans: Vec<usize>,
+    next: usize,
+}
+
+impl<'t> Captures<'t> {
+    /// The group of this number, 0 for the whole match; none if it is not set, or not there.
+    pub fn get(&self, group: usize) -> Option<Match<'t>> {
+        let at = group.checked_mul(2)?;
+        let (start, end) = (*self.spans.get(at)?, *self.spans.get(at + 1)?);
+        (start != host::UNSET).then_some(Match { text: self.text, start, end })
+    }
+
+    /// How many groups there are, with group 0.
+    pub fn len(&self) -> usize {
+        self.spans.len() / 2
+    }
+
+    pub fn is_empty(&self) -> bool {
+        self.spans.is_empty()
+    }
+
+    pub fn iter(&self) -> impl Iterator<Item = Option<Match<'t>>> + '_ {
+        (0..self.len()).map(|group| self.get(group))
+    }
+}
+
+/// A tree that was compiled.
+pub struct Regex {
+    program: RefCell<host::Program>,
+    options: Options,
+}
+
+impl Regex {
+    /// Compiles the tree that a text in the notation spells.
+    pub fn new(tree: &str) -> Result<Regex, Error> {
+        Regex::with_options(tree, Options::default())
+    }
+
+    pub fn with_options(tree: &str, options: Options) -> Result<Regex, Error> {
+        let mut program = host::Program { is_set: false, groups: 0, at: null_mut() };
+        // Safety: the pointers are those of references, with the length of `tree`, and the program holds nothing yet.
+        let outcome = unsafe {
+            host::fancy_compile(tree.as_ptr(), tree.len(), &options.host, &mut program)
+        };
+        if outcome.code != host::OK {
+            return Err(Error::of(&outcome));
+        }
+        Ok(Regex { program: RefCell::new(program), options })
+    }
+
+    /// How many groups the tree has, with group 0.
+    pub fn group_count(&self) -> usize {
+        // Safety: the program was made by `fancy_compile`.
+        unsafe { host::fancy_group_count(&*self.program.borrow()) }
+    }
+
+    /// The first match.
+    pub fn find<'t>(&self, text: &'t str) -> Result<Option<Match<'t>>, Error> {
+        Ok(self.captures(text)?.and_then(|captures| captures.get(0)))
+    }
+
+    /// The first match with its groups.
+    pub fn captures<'t>(&self, text: &'t str) -> Result<Option<Captures<'t>>, Error> {
+        self.captures_from(text, self.options)
+    }
+
+    /// Every match, from left to right: an empty one directly behind another match is left out.
+    pub fn find_iter<'r, 't>(&'r self, text: &'t str) -> Matches<'r, 't> {
+        Matches { regex: self, text, options: self.options, last: None }
+    }
+
+    fn captures_from<'t>(&self, text: &'t str, options: Options) -> Result<Option<Captures<'t>>, Error> {
+        let mut spans = vec![host::UNSET; 2 * self.group_count()];
+        let mut program = self.program.borrow_mut();
+        // Safety: the program was made by `fancy_compile` on this thread, no other call has it, and the other pointers are
+        // those of references, each with its length.
+        let outcome = unsafe {
+            host::fancy_find(
+                &mut *program,
+                text.as_ptr(),
+                text.len(),
+                &options.host,
+                spans.as_mut_ptr(),
+                spans.len(),
+            )
+        };
+        match outcome.code {
+            host::OK => Ok(Some(Captures { text, spans, next: outcome.next })),
+            host::NO_MATCH => Ok(None),
+            _ => Err(Error::of(&outcome)),
+        }
+    }
+}
+
+impl Drop for Regex {
+    fn drop(&mut self) {
+        // Safety: the program was made by `fancy_compile` on this thread.
+        unsafe { host::fancy_free(self.program.get_mut()) }
+    }
+}
+
+/// The matches of a text; the last item is an error if one came.
+pub struct Matches<'r, 't> {
+    regex: &'r Regex,
+    text: &'t str,
+    options: Options,
+    /// Where the last match ended.
+    last: Option<usize>,
+}
+
+impl<'t> Matches<'_, 't> {
+    fn step(&mut self) -> Result<Option<Match<'t>>, Error> {
+        while self.options.host.pos <= self.text.len() {
+            if let Some(last) = self.last {
+                self.options.host.not_continued = self.options.host.pos > last;
+            }
+            let Some(captures) = self.regex.captures_from(self.text, self.options)? else {
+                break;
+            };
+            let (start, end) = (captures.spans[0], captures.spans[1]);
+            let is_empty_behind = start == end && self.last == Some(end);
+            self.last = Some(end);
+            self.options.host.pos = captures.next;
+            if !is_empty_behind {
+                return Ok(captures.get(0));
+            }
+        }
+        self.options.host.pos = host::UNSET;
+        Ok(None)
+    }
+}
+
+impl<'t> Iterator for Matches<'_, 't> {
+    type Item = Result<Match<'t>, Error>;
+
+    fn next(&mut self) -> Option<Result<Match<'t>, Error>> {
+        let found = self.step();
+        if found.is_err() {
+            self.options.host.pos = host::UNSET;
+        }
+        found.transpose()
+    }
+}
