@@ -1,0 +1,3 @@
+pub mod Lists
+pub mod Searching
+pub mod Stepping

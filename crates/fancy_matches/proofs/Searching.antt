@@ -1,0 +1,108 @@
+-- A search of a regex: which options it may have, and that it answers as is promised.
+use Rattle.std.proofs.Common.{IfSome, ◌≡◌, ℕ, ◌&&◌, ◌||◌, not, Bool, true, List, [], ◌∷◌, ◌++◌, map, length, Option, Some, None, Result, Ok, Err, is_some, option_map, refl, sym, ap, ◌∙◌, subst, arith, if◌then◌else◌}
+use Rattle.std.proofs.Math.Logic.{∥∥₁_elim}
+use Rattle.std.proofs.Props.{props}
+use Rattle.std.proofs.lemmas.Bool.{and_parts, and_from}
+use Rattle.std.proofs.lemmas.Option.{none-some, same_Some}
+use Rattle.std.specs.declared.vec.Vec.{Vec}
+use Rattle.std.specs.declared.alloc.Global.{Global}
+use Rattle.fancy_meaning.specs.Answer.{answer, search_of}
+use Rattle.fancy_meaning.specs.Fits.{run_fits}
+use Rattle.fancy_meaning.specs.Layout.{layout}
+use Rattle.fancy_meaning.specs.Instr as plain_program
+use Rattle.fancy_meaning.specs.Config.{Outcome}
+use Rattle.fancy_meaning.specs.Machine as machine
+use Rattle.fancy_meaning.specs.MatchState.{Span}
+use Rattle.fancy_meaning.specs.Options as plain
+use Rattle.fancy_meaning.specs.Places.{is_place}
+use Rattle.fancy_meaning.specs.Premises.{Input, plan, IsAccepted, IsSpan, IsText}
+use Rattle.fancy_expr.specs.declared.error.Error.{Error}
+use Rattle.fancy_expr.specs.declared.error.Error.TheVariants as error
+use Rattle.fancy_vm.specs.Means.{IsMeaningPair}
+use Rattle.fancy_vm.specs.Outcomes.{RunAnswers, RunAnswersPair, first_pair}
+use Rattle.fancy_vm.specs.Programs.{options_of as run_options_of, prog_of, task_of}
+use Rattle.fancy_vm.specs.declared.insn.Prog.{Prog}
+use Rattle.fancy_vm.specs.declared.runs.RunOptions.{RunOptions}
+use Rattle.fancy_search.specs.declared.search.Compiled.{Compiled}
+use Rattle.fancy_search.specs.Searches.{IsCompiledFrom, Promises, instructions_of, program, program_of}
+use Rattle.fancy_search.proofs.Searched.{accepted_input, run_promises}
+use Rattle.fancy_vm.proofs.FitsLaws.{run_place}
+use Rattle.fancy_matches.specs.Listing.{AreSpans}
+use Rattle.fancy_matches.specs.Regexes.{shown_match, with_numbers, with_span}
+use Rattle.fancy_matches.specs.declared.found.Match.{Match}
+use Rattle.fancy_matches.proofs.Lists.{AreNumbers, answer_sound, numbers_found, spans_of_pairs}
+
+-- options that fit the empty text fit every text from any of its places on
+pub fits_at : (prog : Prog) (base o : RunOptions) (text : List ℕ) → run_fits (task_of prog [] base) ≡ true →
+    is_place text o.pos ≡ true → o.not_empty ≡ base.not_empty → run_fits (task_of prog text o) ≡ true
+unfolding run_fits
+fits_at prog base o text fits at same =
+    let rest = (and_parts (is_place [] base.pos) _ fits).1 in
+    and_from (is_place text o.pos) _ at (rw same rest)
+
+pair_error : (r : Outcome) (e : Error) → RunAnswersPair r (Err e) → RunAnswers r (Err e)
+pair_error r (error.CompileError e) h = h
+pair_error r (error.RuntimeError l) h = h
+pair_error r error.Memory h = h
+pair_error r (error.TreeFault at) h = h
+
+-- what a search that answers the first pair alone has found, or why it has not
+module _ (i : Input) (compiled : Compiled) (text : List ℕ) (o : RunOptions) (from : IsCompiledFrom i compiled)
+    (fits : run_fits (task_of (program compiled) text o) ≡ true) where
+  accepted : IsAccepted i (length (prog_of (program compiled)).body)
+  accepted = subst (λ (p : plain_program.Prog). IsAccepted i (length p.body)) (sym from.program) (accepted_input i compiled text o from fits)
+
+  pub pair_found : (found : Option Span) → IsMeaningPair (prog_of (program compiled)) text (run_options_of o) found →
+      IsAccepted i (instructions_of i) × (found ≡ option_map first_pair (answer (search_of (plan i) text (run_options_of o))))
+  pair_found found means = (accepted_input i compiled text o from fits, means.answers i accepted from.program)
+
+  pub pair_fails : (e : Error) → RunAnswersPair (machine.run (task_of (program compiled) text o)) (Err e) →
+      Promises i text (run_options_of o) (Err e)
+  pair_fails e h = run_promises i compiled text o from fits (Err e) (pair_error _ e h) tt
+
+-- ---- what was found lies in the text, whatever tree the program is of
+
+abbrev Source : Compiled → Type 0
+Source compiled = ∥ ((i : Input) × IsCompiledFrom i compiled) ∥₁
+
+pub captures_sound : (compiled : Compiled) (text : List ℕ) (o : RunOptions) (numbers : Vec ℕ Global) → IsText text →
+    is_place text o.pos ≡ true → Source compiled →
+    ((i : Input) → IsCompiledFrom i compiled → Promises i text (run_options_of o) (Ok (Some numbers))) →
+    AreNumbers text o.pos numbers.items × AreSpans text numbers.items
+captures_sound compiled text o numbers is at source promise =
+    ∥∥₁_elim source (Prim.hlevel props) (λ from.
+    let sound = numbers_found (search_of (plan from.0) text (run_options_of o)) numbers.items is at (sym (promise from.0 from.1).1) in
+    (sound.0, spans_of_pairs text numbers.items sound.1))
+
+pair_is_span : (text : List ℕ) (pos start end : ℕ) (x : Option (List ℕ)) → IfSome x (AreNumbers text pos) →
+    Some (start, end) ≡ option_map first_pair x → IsSpan text (start, end)
+pair_is_span text pos start end None h e = absurd (none-some _ (sym e))
+pair_is_span text pos start end (Some m) h e = subst (IsSpan text) (sym (same_Some (start, end) (first_pair m) e)) h.whole
+
+pub pair_sound : (compiled : Compiled) (text : List ℕ) (o : RunOptions) (start end : ℕ) → IsText text →
+    run_fits (task_of (program compiled) text o) ≡ true → Source compiled →
+    IsMeaningPair (prog_of (program compiled)) text (run_options_of o) (Some (start, end)) → IsSpan text (start, end)
+pair_sound compiled text o start end is fits source means =
+    ∥∥₁_elim source (Prim.hlevel props) (λ from.
+    pair_is_span text o.pos start end (answer (search_of (plan from.0) text (run_options_of o)))
+    (answer_sound (search_of (plan from.0) text (run_options_of o)) is (run_place (task_of (program compiled) text o) fits))
+    (pair_found from.0 compiled text o from.1 fits (Some (start, end)) means).1)
+
+-- ---- what is shown of an answer
+
+pub pair_shown : (text : List ℕ) (x : Option (List ℕ)) (found : Option Span) → found ≡ option_map first_pair x →
+    option_map (λ span. (text, span)) found ≡ option_map (with_span text) x
+pair_shown text None found e = ap (option_map (λ (span : Span). (text, span))) e
+pair_shown text (Some m) found e = ap (option_map (λ (span : Span). (text, span))) e
+
+pub numbers_shown : (text : List ℕ) (x found : Option (List ℕ)) → found ≡ x →
+    option_map (with_numbers text) found ≡ option_map (with_numbers text) x
+numbers_shown text x found e = ap (option_map (with_numbers text)) e
+
+-- whether a match is there, by its span
+pub told : (text : List ℕ) (x : Option (List ℕ)) (found : Option Match) → option_map shown_match found ≡ option_map (with_span text) x →
+    is_some found ≡ is_some x
+told text None None e = refl
+told text None (Some m) e = absurd (none-some _ (sym e))
+told text (Some n) None e = absurd (none-some _ e)
+told text (Some n) (Some m) e = refl

@@ -1,0 +1,21 @@
+use Rattle.std.proofs.Common.{Ok, length, ◌<◌, arith, subst}
+use Rattle.fancy_meaning.specs.Numbers.{usize_max}
+use Rattle.fancy_meaning.specs.Premises.{IsText}
+use Rattle.fancy_search.specs.Searches.{Promises, program}
+use Rattle.fancy_vm.specs.Programs.{options_of as run_options_of, task_of}
+use Rattle.fancy_vm.proofs.FitsLaws.{run_place}
+use Rattle.fancy_matches.proofs.Searching.{captures_sound}
+use Rattle.fancy_matches.proofs.regexes.Regex.captures_by.Goals as goal
+
+-- src/regexes.rt:77:37
+pub invariant_of-result : goal.invariant_of-result
+invariant_of-result c =
+    let regex = c.args.self.now in
+    let text = c.args.text.now in
+    let options = c.args.options.now in
+    let small : length text < usize_max = omega arith in
+    let is_text : IsText text = record { utf8 = c.utf8.text; fits = small } in
+    let at = run_place (task_of (program regex.compiled) text options) c.requires in
+    let sound = captures_sound regex.compiled text options c.in-Ok-Some.numbers is_text at regex.source
+    (λ i from. subst (λ found. Promises i text (run_options_of options) (Ok found)) c.in-Ok-Some.field-0-is (c.in-Ok-Some.ensures.promise i from)) in
+    record { has_whole = sound.0.two; whole = sound.0.whole; groups = sound.1 }

@@ -1,0 +1,96 @@
+//! A match, and the groups of one.
+
+ghost use Rattle.std.specs.Prelude.{◌≡◌, ◌≤◌, IfSome, length, option_map, slice_index_or, slice_range};
+ghost use Rattle.fancy_meaning.specs.Numbers.{usize_max};
+ghost use Rattle.fancy_meaning.specs.Premises.{IsSpan};
+ghost use Rattle.fancy_vm.specs.Outcomes.{first_pair};
+ghost use Rattle.fancy_matches.specs.Listing.{AreSpans, group_span};
+
+/// A part of a text that matched.
+#[derive(Clone, Copy)]
+pub struct Match<'t> {
+    pub(crate) text: &'t str,
+    pub(crate) start: usize,
+    pub(crate) end: usize,
+    ghost in_text: { IsSpan text.now (start, end) },
+}
+
+impl<'t> Match<'t> {
+    ghost use Rattle.fancy_matches.specs.Regexes.{span_of, text_of};
+
+    /// Where it begins, in bytes of the text.
+    pub fn start(&self) -> usize
+        ensures { result ≡ (span_of self.now).0 }
+    {
+        self.start
+    }
+
+    /// Where it ends.
+    pub fn end(&self) -> usize
+        ensures { result ≡ (span_of self.now).1 }
+    {
+        self.end
+    }
+
+    /// What matched.
+    pub fn as_str(&self) -> &'t str
+        ensures { result.now
+            ≡ slice_range (text_of self.now) (span_of self.now).0 (span_of self.now).1 }
+    {
+        &self.text[self.start..self.end]
+    }
+}
+
+/// The groups of a match.
+#[derive(Drop)]
+pub struct Captures<'t> {
+    pub(crate) text: &'t str,
+    pub(crate) numbers: Vec<usize>,
+    ghost has_whole: { 2 ≤ length numbers.items },
+    ghost whole: { IsSpan text.now (first_pair numbers.items) },
+    ghost groups: { AreSpans text.now numbers.items },
+}
+
+impl<'t> Captures<'t> {
+    ghost use Rattle.fancy_matches.specs.Regexes.{captures_text, numbers_in, span_of, text_of};
+
+    /// The number at this index; `usize::MAX` where there is none.
+    fn number(&self, index: usize) -> usize
+        ensures { result ≡ slice_index_or (numbers_in self.now) index usize_max }
+    {
+        match self.numbers.get(index) {
+            None => usize::MAX,
+            Some(number) => *number,
+        }
+    }
+
+    /// The match.
+    pub(crate) fn whole(&self) -> Match<'t>
+        ensures span { span_of result ≡ first_pair (numbers_in self.now) }
+        ensures within { text_of result ≡ captures_text self.now }
+    {
+        Match {
+            text: self.text,
+            start: self.numbers[0],
+            end: self.numbers[1],
+        }
+    }
+
+    /// The part that the group took, or none if it is not set or not there. Group 0 is the match.
+    pub fn get(&self, group: usize) -> Option<Match<'t>>
+        ensures found { option_map span_of result ≡ group_span (numbers_in self.now) group }
+        ensures within { IfSome result (λ m. text_of m ≡ captures_text self.now) }
+    {
+        let first = group.checked_mul(2)?;
+        let start = self.number(first);
+        let end = self.number(first + 1);
+        if start == usize::MAX {
+            return None;
+        }
+        Some(Match {
+            text: self.text,
+            start,
+            end,
+        })
+    }
+}

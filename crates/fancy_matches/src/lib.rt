@@ -1,0 +1,7 @@
+//! All matches of a text, by the names of fancy-regex and `regex`.
+#![tactic(auto)]
+
+pub mod found;
+pub mod iterators;
+pub mod regexes;
+mod standing;

@@ -1,0 +1,70 @@
+//! Where a list of matches stands.
+
+ghost use Rattle.std.specs.Prelude.{◌≡◌, ◌≤◌, length};
+ghost use Rattle.fancy_vm.specs.Programs.{options_of};
+ghost use Rattle.fancy_matches.specs.Listing as list;
+
+use fancy_characters::places::past_any;
+use fancy_vm::vm::RunOptions;
+
+/// Where a list of matches stands.
+#[derive(Clone, Copy, Debug, Drop)]
+pub struct Standing {
+    /// Where the next search begins; no place of the text once the list has ended.
+    pub(crate) pos: usize,
+    /// Where the last match of the list ended.
+    pub(crate) last: Option<usize>,
+}
+
+impl Standing {
+    ghost use Rattle.fancy_matches.specs.Regexes.{standing_of};
+
+    /// Before the first match.
+    pub(crate) fn first() -> Standing
+        ensures { standing_of result ≡ list.at_start }
+    {
+        Standing { pos: 0, last: None }
+    }
+
+    /// The options of the next search, which is continued where the last match ended, and so is the first.
+    pub(crate) fn options(&self, base: &RunOptions) -> RunOptions
+        ensures { options_of result ≡ list.options_at (options_of base.now) (standing_of self.now) }
+    {
+        let continued = match self.last {
+            None => true,
+            Some(last) => last == self.pos,
+        };
+        RunOptions {
+            pos: self.pos,
+            continued,
+            ..*base
+        }
+    }
+
+    /// Goes past a match that was found, and says whether it is one of the list: it does not begin before its search,
+    /// and is not empty where the last match ended.
+    pub(crate) fn pass(&mut self, text: &str, start: usize, end: usize) -> bool
+        requires { end ≤ length text.now }
+        ensures listed { result ≡ list.is_listed (standing_of self.old) (start, end) }
+        ensures after { standing_of self.new
+            ≡ list.after text.now (standing_of self.old) (start, end) }
+    {
+        let ended_here = match self.last {
+            None => false,
+            Some(last) => last == end,
+        };
+        let is_listed = self.pos <= start && !(start == end && ended_here);
+        self.pos = if self.pos.max(start) < end {
+            end
+        } else {
+            match past_any(text.as_bytes(), true, false, end) {
+                None => end + 1,
+                Some(next) => next,
+            }
+        };
+        if is_listed {
+            self.last = Some(end);
+        }
+        is_listed
+    }
+}
