@@ -1,5 +1,0 @@
-use Rattle.std.proofs.Common.{refl}
-use Rattle.fancy_info.proofs.info.Info.expr.Goals as goal
-
-pub returns : goal.returns
-returns c = refl
