@@ -13,3 +13,9 @@ returns-in-Absent c =
       | code_absent.Stopper' b y ↦ refl
       | code_absent.Clear ↦ refl
     ])
+
+pub returns-in-Backref : goal.returns-in-Backref
+returns-in-Backref c = ap (λ x. read_by (tree_of x)) (sym c.in-Backref.is)
+
+pub returns-in-BackrefExistsCondition : goal.returns-in-BackrefExistsCondition
+returns-in-BackrefExistsCondition c = ap (λ x. read_by (tree_of x)) (sym c.in-BackrefExistsCondition.is)

@@ -1,0 +1,5 @@
+use Rattle.std.proofs.Common.{refl}
+use Rattle.fancy_info.proofs.info.Info.min_size.Goals as goal
+
+pub returns : goal.returns
+returns c = refl
