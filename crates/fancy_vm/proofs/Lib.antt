@@ -1,6 +1,8 @@
 pub mod BranchesLaws
 pub mod FitsLaws
 pub mod NumbersLaws
+pub mod BeginningLaws
+pub mod StartsLaws
 pub mod StepLaws
 pub mod BackLaws
 pub mod MeaningLaws

@@ -4,5 +4,6 @@ pub mod MemoRuns
 pub mod Memos
 pub mod Sound
 pub mod Stops
+pub mod Beginnings
 pub mod Outcomes
 pub mod Means

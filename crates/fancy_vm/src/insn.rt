@@ -1,11 +1,14 @@
 //! Instructions and programs.
 
-ghost use Rattle.std.specs.Prelude.{◌≡◌, List, ◌+◌, ◌-◌, ◌*◌, if◌then◌else◌, min, slice_get, IsTrue, map, length, nat_lt};
+ghost use Rattle.std.specs.Option.{ForSome};
+ghost use Rattle.std.specs.Prelude.{◌≡◌, List, ◌+◌, ◌-◌, ◌*◌, if◌then◌else◌, min, slice_get, IsTrue, map, length, nat_lt, ◌<◌};
 ghost use Rattle.std.specs.List.{list_all};
 ghost use Rattle.fancy_meaning.specs.Fits.{answer_fits, flag_fits, instr_fits, is_end_instr, program_fits, slots_fit, targets_fit};
 ghost use Rattle.fancy_vm.specs.declared.insn.Insn.{Insn};
+ghost use Rattle.fancy_vm.specs.Beginnings.{BeginsWith};
 ghost use Rattle.fancy_vm.specs.Insns.{insn_of, prog_with};
 
+use crate::beginning::Beginning;
 use fancy_characters::classes::{CaseiLiteral, CharClassMatcher};
 use fancy_characters::look::is_of_end;
 use fancy_expr::expr::Assertion;
@@ -142,7 +145,11 @@ pub struct ProgParts {
 pub struct Prog {
     pub(crate) body: Vec<Insn>,
     pub(crate) parts: ProgParts,
+    /// What lets a run pass over starts, if the program has it.
+    pub(crate) beginning: Option<Beginning>,
     ghost fits: { IsTrue (program_fits (prog_with body.items parts)) },
+    ghost begins: { ForSome beginning (λ b. (3 < b.instructions)
+        × ∥ BeginsWith (map insn_of body.items) b.refused (b.instructions - 3) ∥₁) },
 }
 
 impl ProgParts {

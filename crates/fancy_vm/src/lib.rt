@@ -1,6 +1,7 @@
 //! The machine: instructions, programs, states and runs.
 #![tactic(auto)]
 
+mod beginning;
 mod delegates;
 mod insn;
 mod listing;
@@ -9,5 +10,6 @@ mod memos;
 mod moves;
 mod program;
 mod runs;
+mod starts;
 mod steps;
 pub mod vm;

@@ -33,6 +33,8 @@ pub(crate) struct Machine<'a> {
     /// Where the attempt began.
     pub(crate) start: usize,
     pub(crate) backtracks: usize,
+    /// How many instructions after the first one stand for the last step that passed over starts.
+    pub(crate) passed: u64,
     pub(crate) state: State,
     ghost sound: { IsSound task state },
 }
@@ -41,6 +43,8 @@ pub(crate) struct Machine<'a> {
 #[derive(Clone, Copy)]
 pub(crate) enum Next {
     On,
+    /// Starts were passed over.
+    Passed,
     Matched,
     Failed,
 }
@@ -92,6 +96,7 @@ impl<'a> Machine<'a> {
             ix: pos,
             start: pos,
             backtracks: 0,
+            passed: 0,
             state,
         }
     }

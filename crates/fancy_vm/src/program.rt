@@ -6,6 +6,7 @@ ghost use Rattle.fancy_meaning.specs.Fits.{program_fits};
 ghost use Rattle.fancy_vm.specs.Insns.{insn_of, prog_with};
 ghost use Rattle.fancy_vm.specs.Programs.{prog_of};
 
+use crate::beginning::Beginning;
 use crate::insn::{Insn, Prog, ProgParts};
 
 impl Prog {
@@ -17,7 +18,12 @@ impl Prog {
         ensures parts { result.parts ≡ parts }
         ensures prog { prog_of result ≡ prog_with body.items parts }
     {
-        Prog { body, parts }
+        let beginning = Beginning::of(*body.allocator(), &body);
+        Prog {
+            body,
+            parts,
+            beginning,
+        }
     }
 
     /// The instructions.

@@ -212,9 +212,12 @@ impl Machine<'_> {
         ensures task { self.new.task ≡ self.old.task }
         ensures finds { Finds (machine.run (plain_task self.old.task)) result self.new }
     {
-        'steps: for _step in 0..self.task.options.step_limit {
+        let mut left = self.task.options.step_limit;
+        'steps: while left > 0 {
+            left -= 1;
             match self.step(memos)? {
                 Next::On => {}
+                Next::Passed => left = left.saturating_sub(self.passed),
                 Next::Matched => return Ok(true),
                 Next::Failed => return Ok(false),
             }

@@ -1,4 +1,4 @@
-use Rattle.std.proofs.Common.{◌≡◌, ◌-◌, ◌+◌, ℕ, arith, sym, ap, ◌∙◌, subst, refl, Err, IsTrue}
+use Rattle.std.proofs.Common.{◌≡◌, ◌-◌, ℕ, sym, ap, ◌∙◌, subst, refl, Err, IsTrue}
 use Rattle.std.proofs.lemmas.Result.{err_from_is_err_and}
 use Rattle.fancy_meaning.specs.Config.{Ends, Goes, Match, NoMatch, Outcome}
 use Rattle.fancy_meaning.specs.Machine as machine
@@ -8,20 +8,19 @@ use Rattle.fancy_vm.specs.Memos.{AreMemosOf}
 use Rattle.fancy_vm.specs.Outcomes.{StepAnswers, config_of, plain_task, Finds}
 use Rattle.fancy_vm.specs.declared.machine.Task.{Task}
 use Rattle.fancy_vm.proofs.PlacesLaws.{GoesToPlaces, IsAtPlaces, step_at_leads}
-use Rattle.fancy_vm.proofs.StepLaws.{next_of, runs_on, runs_out, stop_finds}
+use Rattle.fancy_vm.proofs.StartsLaws.{all_at_places, runs_past}
+use Rattle.fancy_vm.proofs.StepLaws.{exec_step, next_of, runs_on, runs_out, stop_finds}
 use Rattle.fancy_vm.proofs.machine.Machine.run.Goals as goal
 
 pub steps-init : goal.steps-init
 unfolding machine.run
 steps-init c =
     let task = c.args.self.now.task in
-    let whole : task.options.now.step_limit - 0 ≡ task.options.now.step_limit = omega arith in
     record {
       task = refl;
       memos = c.requires.memos;
       places = subst (IsAtPlaces task.text.now) (sym c.requires.begins) (record { here = c.requires.place; branches = no_item });
-      same = ap (machine.exec (plain_task task) (task.options.now.step_limit - 0)) c.requires.begins
-          ∙ ap (λ n. machine.exec (plain_task task) n (machine.begin (plain_task task))) whole;
+      same = ap (machine.exec (plain_task task) task.options.now.step_limit) c.requires.begins;
     }
 
 pub step-requires-clause-memos : goal.step-requires-clause-memos
@@ -34,10 +33,33 @@ step-requires-clause-place c =
 pub steps-preserved : goal.steps-preserved
 steps-preserved c =
     let task = c.args.self.now.task in
+    let t = plain_task task in
     let now = config_of c.steps.self in
     let new = config_of c.step.new.self in
-    let left : ℕ = task.options.now.step_limit - c.steps._step in
-    let one : task.options.now.step_limit - (c.steps._step + 1) ≡ left - 1 = omega arith in
+    let left : ℕ = c.steps.left in
+    let some = c.steps-test.true in
+    let passed = c.step.new.self.passed in
+    let leads : machine.after_steps t passed (next_of t now) ≡ Goes new =
+        subst (λ (u : Task). machine.after_steps (plain_task u) passed (next_of (plain_task u) now) ≡ Goes new) c.steps.invariant.task
+        (subst (λ (u : Task). machine.after_steps (plain_task u) passed (next_of (plain_task c.steps.self.task) now) ≡ Goes new) c.in_ok-step.ensures.task
+        (rw c.in-Passed.is at c.in_ok-step.ensures.leads)) in
+    record {
+      task = c.in_ok-step.ensures.task ∙ c.steps.invariant.task;
+      memos = subst (λ (u : Task). AreMemosOf u c.step.new.memos) c.steps.invariant.task c.in_ok-step.ensures.memos;
+      places = subst (GoesToPlaces task.text.now) leads
+          (all_at_places t task.prog.now.body.items c.requires.text refl passed (next_of t now)
+          (step_at_leads t c.requires.text task.prog.now.body.items c.steps.self.pc now c.steps.invariant.places));
+      same = ap (λ n. machine.exec t n new) c.saturating_sub-left.ensures
+          ∙ sym (runs_past t passed (left - 1) (next_of t now) new leads)
+          ∙ sym (exec_step t now left (next_of t now) some refl) ∙ c.steps.invariant.same;
+    }
+
+pub steps-preserved-in-On : goal.steps-preserved-in-On
+steps-preserved-in-On c =
+    let task = c.args.self.now.task in
+    let now = config_of c.steps.self in
+    let new = config_of c.step.new.self in
+    let left : ℕ = c.steps.left in
     let leads : next_of (plain_task task) now ≡ Goes new =
     subst (λ (t : Task). next_of (plain_task t) now ≡ Goes new) c.steps.invariant.task (rw c.in-On.is at c.in_ok-step.ensures.leads) in
     record {
@@ -45,8 +67,7 @@ steps-preserved c =
       memos = subst (λ (t : Task). AreMemosOf t c.step.new.memos) c.steps.invariant.task c.in_ok-step.ensures.memos;
       places = subst (GoesToPlaces task.text.now) leads
           (step_at_leads (plain_task task) c.requires.text task.prog.now.body.items c.steps.self.pc now c.steps.invariant.places);
-      same = ap (λ n. machine.exec (plain_task task) n new) one
-          ∙ sym (runs_on (plain_task task) now new left (omega arith) leads) ∙ c.steps.invariant.same;
+      same = sym (runs_on (plain_task task) now new left c.steps-test.true leads) ∙ c.steps.invariant.same;
     }
 
 pub returns-in_err-step-clause-finds : goal.returns-in_err-step-clause-finds
@@ -54,13 +75,13 @@ returns-in_err-step-clause-finds c =
     let task = c.args.self.now.task in
     let now = config_of c.steps.self in
     let new = c.step.new.self in
-    let left : ℕ = task.options.now.step_limit - c.steps._step in
+    let left : ℕ = c.steps.left in
     let stop = c.in_err-step.field-0.0 in
     let p = err_from_is_err_and c.from_residual.result c.from_residual.ensures.1 in
     let leads = subst (λ (t : Task). StepAnswers (next_of (plain_task t) now) (Err stop) new) c.steps.invariant.task c.in_err-step.ensures.leads in
     rw (p.1, p.2)
     (subst (λ (o : Outcome). Finds o (Err stop) new) c.steps.invariant.same
-    (stop_finds (plain_task task) now new left stop (omega arith) leads))
+    (stop_finds (plain_task task) now new left stop c.steps-test.true leads))
 
 pub returns-in_err-step-clause-task : goal.returns-in_err-step-clause-task
 returns-in_err-step-clause-task c = c.in_err-step.ensures.task ∙ c.steps.invariant.task
@@ -76,17 +97,17 @@ returns-in-Matched-clause-finds c =
     let task = c.args.self.now.task in
     let now = config_of c.steps.self in
     let new = c.step.new.self in
-    let left : ℕ = task.options.now.step_limit - c.steps._step in
+    let left : ℕ = c.steps.left in
     let found = Ends (Match (machine.numbers_of (plain_task new.task) (config_of new))) in
     let leads : next_of (plain_task task) now ≡ found =
     subst (λ (t : Task). next_of (plain_task t) now ≡ found) c.steps.invariant.task (rw c.in-Matched.is at c.in_ok-step.ensures.leads) in
-    sym c.steps.invariant.same ∙ runs_out (plain_task task) now left _ (omega arith) leads
+    sym c.steps.invariant.same ∙ runs_out (plain_task task) now left _ c.steps-test.true leads
 
 pub returns-in-Failed-clause-finds : goal.returns-in-Failed-clause-finds
 returns-in-Failed-clause-finds c =
     let task = c.args.self.now.task in
     let now = config_of c.steps.self in
-    let left : ℕ = task.options.now.step_limit - c.steps._step in
+    let left : ℕ = c.steps.left in
     let leads : next_of (plain_task task) now ≡ Ends NoMatch =
     subst (λ (t : Task). next_of (plain_task t) now ≡ Ends NoMatch) c.steps.invariant.task (rw c.in-Failed.is at c.in_ok-step.ensures.leads) in
-    sym c.steps.invariant.same ∙ runs_out (plain_task task) now left NoMatch (omega arith) leads
+    sym c.steps.invariant.same ∙ runs_out (plain_task task) now left NoMatch c.steps-test.true leads

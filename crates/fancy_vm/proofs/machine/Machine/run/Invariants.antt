@@ -1,4 +1,4 @@
-use Rattle.std.proofs.Common.{◌≡◌, ◌-◌}
+use Rattle.std.proofs.Common.{◌≡◌}
 use Rattle.fancy_meaning.specs.Machine as machine
 use Rattle.fancy_vm.specs.Memos.{AreMemosOf}
 use Rattle.fancy_vm.specs.Outcomes.{config_of, plain_task}
@@ -12,5 +12,8 @@ invariant-steps l =
       task : l.self.task ≡ t;
       memos : AreMemosOf t l.memos;
       places : IsAtPlaces (t.text).now (config_of l.self);
-      same : machine.exec (plain_task t) ((t.options).now.step_limit - l._step) (config_of l.self) ≡ machine.run (plain_task t);
+      same : machine.exec (plain_task t) l.left (config_of l.self) ≡ machine.run (plain_task t);
     }
+
+abbrev pub decreases-steps : goal.decreases-steps
+decreases-steps l = l.left
