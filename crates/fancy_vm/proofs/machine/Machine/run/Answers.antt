@@ -40,9 +40,9 @@ steps-preserved c =
     let some = c.steps-test.true in
     let passed = c.step.new.self.passed in
     let leads : machine.after_steps t passed (next_of t now) ≡ Goes new =
-        subst (λ (u : Task). machine.after_steps (plain_task u) passed (next_of (plain_task u) now) ≡ Goes new) c.steps.invariant.task
-        (subst (λ (u : Task). machine.after_steps (plain_task u) passed (next_of (plain_task c.steps.self.task) now) ≡ Goes new) c.in_ok-step.ensures.task
-        (rw c.in-Passed.is at c.in_ok-step.ensures.leads)) in
+    subst (λ (u : Task). machine.after_steps (plain_task u) passed (next_of (plain_task u) now) ≡ Goes new) c.steps.invariant.task
+    (subst (λ (u : Task). machine.after_steps (plain_task u) passed (next_of (plain_task c.steps.self.task) now) ≡ Goes new) c.in_ok-step.ensures.task
+    (rw c.in-Passed.is at c.in_ok-step.ensures.leads)) in
     record {
       task = c.in_ok-step.ensures.task ∙ c.steps.invariant.task;
       memos = subst (λ (u : Task). AreMemosOf u c.step.new.memos) c.steps.invariant.task c.in_ok-step.ensures.memos;
