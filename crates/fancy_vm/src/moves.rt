@@ -11,10 +11,13 @@ use fancy_characters::classes::{CaseiLiteral, CharClassMatcher};
 use fancy_characters::places::is_place;
 use std::alloc::{AllocError, Global};
 
-/// The place this many characters before.
+/// The place this many characters before. A character has a byte at least, so there is none where the bytes are fewer.
 pub(crate) fn back_by(text: &[u8], chars: usize, ix: usize) -> Option<usize>
     ensures { result ≡ place.back_by text.now chars ix }
 {
+    if chars > ix {
+        return None;
+    }
     let mut left = chars;
     let mut at = ix;
     'back: loop {

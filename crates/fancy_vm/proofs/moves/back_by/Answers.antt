@@ -1,8 +1,11 @@
 use Rattle.std.proofs.Common.{arith, sym, ◌∙◌, ap, ◌-◌}
 use Rattle.fancy_meaning.specs.Places as place
-use Rattle.fancy_vm.proofs.BackLaws.{back_here, back_on, back_over, back_out, back_out_on}
+use Rattle.fancy_vm.proofs.BackLaws.{back_here, back_on, back_over, back_out, back_out_on, back_too_far}
 use Rattle.fancy_vm.proofs.moves.back_by.Goals as goal
 use Rattle.fancy_vm.proofs.moves.back_by.Goals.{then-is_place+else-left-eq0, else-is_place}
+
+pub returns-then-chars-ix : goal.returns-then-chars-ix
+returns-then-chars-ix c = back_too_far c.args.text.now c.args.chars c.args.ix c.if-chars-ix.true
 
 pub returns-then-left-eq0 : goal.returns-then-left-eq0
 returns-then-left-eq0 c =
