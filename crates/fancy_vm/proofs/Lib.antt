@@ -3,6 +3,7 @@ pub mod FitsLaws
 pub mod NumbersLaws
 pub mod StepLaws
 pub mod BackLaws
+pub mod CountLaws
 pub mod MeaningLaws
 pub mod MemosLaws
 pub mod PlacesLaws

@@ -4,6 +4,7 @@
 mod delegates;
 mod insn;
 mod listing;
+mod longest;
 mod machine;
 mod memos;
 mod moves;
