@@ -97,6 +97,20 @@ impl Cells {
         Vec::from_slice(alloc, &self.values[..count])
     }
 
+    /// Writes what the first cells hold over these numbers.
+    pub(crate) fn copy_first(
+        &self,
+        count: usize,
+        numbers: &mut Vec<usize>,
+    ) -> Result<(), AllocError>
+        requires { count ≤ length self.now.values }
+        ensures { OnOk result (numbers.new.items ≡ take count self.now.values) }
+    {
+        numbers.clear();
+        numbers.extend_from_slice(&self.values[..count])?;
+        Ok(())
+    }
+
     /// How many old values are logged.
     pub(crate) fn mark(&self) -> usize
         ensures { result ≡ length self.now.log }

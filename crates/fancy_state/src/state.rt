@@ -184,6 +184,15 @@ impl State {
         Ok(slots)
     }
 
+    /// Writes the first slots as numbers over these, in the memory that they have.
+    pub fn copy_slots(&self, count: usize, numbers: &mut Vec<usize>) -> Result<(), AllocError>
+        requires { count ≤ length self.now.slots }
+        ensures { OnOk result (numbers.new.items ≡ take count self.now.slots) }
+    {
+        self.cells.copy_first(count, numbers)?;
+        Ok(())
+    }
+
     /// Adds an entry to the explicit stack. `Memory` where a request for memory was refused; the state is then as before.
     pub fn stack_push(&mut self, value: usize) -> Result<(), Error>
         ensures ok { OnOk result (self.new ≡ record self.old { stack = value ∷ self.old.stack }) }

@@ -5,6 +5,7 @@ pub mod BeginningLaws
 pub mod StartsLaws
 pub mod StepLaws
 pub mod BackLaws
+pub mod CountLaws
 pub mod MeaningLaws
 pub mod MemosLaws
 pub mod PlacesLaws

@@ -13,7 +13,7 @@ use Rattle.fancy_vm.specs.Outcomes.{first_pair}
 abbrev pub IsProgramOf : Input → Prog → Type 0
 IsProgramOf i program = program ≡ layout (plan i)
 
--- Whatever accepted tree is laid out as the program, these are the numbers of the first admitted way that the tree has
+-- Whatever accepted tree is laid out as the program, these are the numbers of the chosen admitted way that the tree has
 -- in the text, and there are none where it has no such way.
 pub record IsMeaning (program : Prog) (text : List ℕ) (o : RunOptions) (found : Option (List ℕ)) : Type 0 where
   pub answers : (i : Input) → IsAccepted i (length program.body) → IsProgramOf i program →

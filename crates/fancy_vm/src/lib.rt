@@ -5,6 +5,7 @@ mod beginning;
 mod delegates;
 mod insn;
 mod listing;
+mod longest;
 mod machine;
 mod memos;
 mod moves;

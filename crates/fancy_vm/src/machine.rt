@@ -1,12 +1,13 @@
 //! The machine at work on a text.
 
-ghost use Rattle.std.specs.Prelude.{◌≡◌, ◌+◌, ◌<◌, ◌≤◌, length, OnOk, IfErr};
+ghost use Rattle.std.specs.Prelude.{◌≡◌, ◌+◌, ◌<◌, ◌≤◌, length, OnOk, IfErr, None, false};
 ghost use Rattle.fancy_meaning.specs.Config as config;
 ghost use Rattle.fancy_meaning.specs.Machine as machine;
 ghost use Rattle.fancy_state.specs.Held.{first_held};
 ghost use Rattle.fancy_vm.specs.Sound.{IsSound};
 
 use crate::insn::Prog;
+use crate::longest::Longest;
 use crate::runs::RunOptions;
 use fancy_expr::error::{Error, RuntimeError};
 use fancy_state::state::State;
@@ -36,6 +37,8 @@ pub(crate) struct Machine<'a> {
     /// How many instructions after the first one stand for the last step that passed over starts.
     pub(crate) passed: u64,
     pub(crate) state: State,
+    /// The longest match so far, where the longest is asked for.
+    pub(crate) longest: Longest,
     ghost sound: { IsSound task state },
 }
 
@@ -45,8 +48,10 @@ pub(crate) enum Next {
     On,
     /// Starts were passed over.
     Passed,
+    /// The match of the machine's slots is answered.
     Matched,
-    Failed,
+    /// The match that is held is answered, or none.
+    Ended,
 }
 
 /// Why a run stops without an answer: it passed a limit, or a request for memory was refused.
@@ -80,11 +85,13 @@ impl From<Stop> for Error {
 }
 
 impl<'a> Machine<'a> {
-    ghost use Rattle.fancy_vm.specs.Outcomes.{StepAnswers, config_of, plain_task, with_branch};
+    ghost use Rattle.fancy_vm.specs.Outcomes.{StepAnswers, config_of, held_match, plain_task, with_branch};
     ghost use Rattle.fancy_vm.specs.Stops.{IsPushStop};
 
-    pub(crate) fn begin(task: &Task<'a>, state: State) -> Machine<'a>
-        requires { state ≡ first_held task.now.prog.now.parts.slots config.most_branches }
+    pub(crate) fn begin(task: &Task<'a>, state: State, longest: Longest) -> Machine<'a>
+        requires state { state ≡ first_held task.now.prog.now.parts.slots config.most_branches }
+        requires longest { held_match longest ≡ None }
+        requires implicit { task.now.prog.now.parts.explicit_group_0 ≡ false }
         ensures task { result.task ≡ task.now }
         ensures begins { config_of result ≡ machine.begin (plain_task task.now) }
     {
@@ -98,6 +105,7 @@ impl<'a> Machine<'a> {
             backtracks: 0,
             passed: 0,
             state,
+            longest,
         }
     }
 
@@ -116,7 +124,7 @@ impl<'a> Machine<'a> {
             (machine.fail (plain_task self.old.task) (config_of self.old)) result self.new }
     {
         if self.state.backtrack_count() == 0 {
-            return Ok(Next::Failed);
+            return Ok(Next::Ended);
         }
         if self.backtracks >= self.task.options.backtrack_limit {
             return Err(Stop::Limit(RuntimeError::BacktrackLimitExceeded));

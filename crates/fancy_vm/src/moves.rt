@@ -34,6 +34,19 @@ pub(crate) fn back_by(text: &[u8], chars: usize, ix: usize) -> Option<usize>
     }
 }
 
+/// How many characters stand between two bytes of the text.
+pub(crate) fn chars_between(text: &[u8], from: usize, to: usize) -> usize
+    ensures { result ≡ place.chars_between text.now from to }
+{
+    let mut count = 0;
+    'places: for at in from..to {
+        if is_place(text, at + 1) {
+            count += 1;
+        }
+    }
+    count
+}
+
 /// Past the characters of the literal.
 pub(crate) fn past_literal(literal: &CaseiLiteral, text: &str, ix: usize) -> Option<usize>
     ensures { result ≡ moves.past_chars text.now (literal_tests literal.now) ix }

@@ -1,16 +1,17 @@
 //! Runs of a program.
 
-ghost use Rattle.std.specs.Prelude.{◌≡◌, IsTrue, IsUtf8, IfOk, IfErr, false};
+ghost use Rattle.std.specs.Prelude.{◌≡◌, IsTrue, IsUtf8, IfOk, IfErr, None, false};
 ghost use Rattle.fancy_meaning.specs.Places.{is_place};
 ghost use Rattle.fancy_meaning.specs.Machine as machine;
 ghost use Rattle.fancy_meaning.specs.Fits.{run_fits};
 ghost use Rattle.fancy_vm.specs.Memos.{AreMemosOf};
 ghost use Rattle.fancy_vm.specs.Means.{IsMeaning, IsMeaningPair, numbers_of};
-ghost use Rattle.fancy_vm.specs.Outcomes.{Finds, RunAnswers, RunAnswersPair, config_of, plain_task};
+ghost use Rattle.fancy_vm.specs.Outcomes.{Finds, RunAnswers, RunAnswersPair, config_of, held_match, plain_task};
 ghost use Rattle.fancy_state.specs.Refused.{IsMemory};
 ghost use Rattle.fancy_vm.specs.Programs.{IsUnused, allocator_of, default_at, default_task, options_of, prog_of, task_of};
 
 use crate::insn::Prog;
+use crate::longest::Longest;
 use crate::machine::{MAX_BRANCHES, Machine, Next, Stop, Task};
 use crate::memos::Memos;
 use fancy_characters::places::is_place;
@@ -29,6 +30,9 @@ pub struct RunOptions {
     pub continued: bool,
     /// A match has to take something.
     pub not_empty: bool,
+    /// Of the matches at the earliest start that has one, the longest in bytes is answered, and of several that are as
+    /// long the first; where this is not set, the first of all.
+    pub leftmost_longest: bool,
     /// How often a run may fall back to a branch.
     pub backtrack_limit: usize,
     /// How many instructions a run may execute.
@@ -45,19 +49,21 @@ impl RunOptions {
             anchored: false,
             continued: true,
             not_empty: false,
+            leftmost_longest: false,
             backtrack_limit: 1_000_000,
             step_limit: u64::MAX,
         }
     }
 
     /// A run with these options may be made: `pos` is a character boundary of the text, group 0 is implicit, and
-    /// `not_empty` is set only where the analysis knew of it.
+    /// `not_empty` and `leftmost_longest` are set only where the analysis knew of them.
     #[tactic(auto, unfolding(fancy_meaning::specs::Fits::run_fits))]
     pub fn fits(&self, prog: &Prog, text: &str) -> bool
         ensures { result ≡ run_fits (task_of prog.now text.now self.now) }
     {
         is_place(text.as_bytes(), self.pos)
             && !prog.parts.explicit_group_0
+            && (!self.leftmost_longest || prog.parts.leftmost_longest)
             && (!self.not_empty || prog.parts.find_not_empty)
     }
 }
@@ -78,6 +84,7 @@ pub struct Scratch {
     alloc: Global,
     state: Option<State>,
     memos: Option<Memos>,
+    longest: Option<Longest>,
 }
 
 impl Scratch {
@@ -90,13 +97,15 @@ impl Scratch {
             alloc,
             state: None,
             memos: None,
+            longest: None,
         }
     }
 }
 
 /// Runs the program on the text from `options.pos` on, a byte of it. The answer is start and end of each group from 0
 /// up, in bytes of the text, with `usize::MAX` for a group that is not set; or none. If the program is that of a tree,
-/// these are the numbers of the first admitted way that the tree has in the text.
+/// these are the numbers of the first admitted way that the tree has in the text, or of the longest one where
+/// `leftmost_longest` asks for it.
 ///
 /// A `RuntimeError` tells which limit was passed, and `Memory` that a request for memory was refused. The scratch may
 /// be used again after either.
@@ -172,6 +181,7 @@ impl Scratch {
 
     /// A machine at the start of the task, with the scratch's memory.
     fn begin<'a>(&mut self, task: Task<'a>) -> Result<Machine<'a>, Error>
+        requires { task.prog.now.parts.explicit_group_0 ≡ false }
         ensures task { IfOk result (λ m. m.task ≡ task.entry) }
         ensures begins { IfOk result (λ m. config_of m ≡ machine.begin (plain_task m.task)) }
         ensures err { IfErr result IsMemory }
@@ -181,7 +191,20 @@ impl Scratch {
             None => State::new(self.alloc, slots, MAX_BRANCHES)?,
             Some(state) => state.renew(slots, MAX_BRANCHES)?,
         };
-        Ok(Machine::begin(&task, state))
+        Ok(Machine::begin(&task, state, self.take_longest()))
+    }
+
+    /// No match is held, with the scratch's memory.
+    fn take_longest(&mut self) -> Longest
+        ensures { held_match result ≡ None }
+    {
+        match self.longest.take() {
+            None => Longest::new(self.alloc),
+            Some(mut longest) => {
+                longest.forget();
+                longest
+            }
+        }
     }
 
     /// Memos of a run of which nothing is noted yet, with the scratch's memory.
@@ -196,14 +219,16 @@ impl Scratch {
 
     /// Keeps the memory of a run for the next one.
     fn keep(&mut self, m: Machine<'_>, memos: Memos) {
-        let Machine { state, .. } = m;
+        let Machine { state, longest, .. } = m;
         self.state = Some(state);
+        self.longest = Some(longest);
         self.memos = Some(memos);
     }
 }
 
 impl Machine<'_> {
-    /// Steps until a match is found, which the machine then holds, or none is there.
+    /// Steps until the match of the slots is to be answered, or the run ends: then the match that is held is to be
+    /// answered, or none.
     fn run(&mut self, memos: &mut Memos) -> Result<bool, Stop>
         requires begins { config_of self.old ≡ machine.begin (plain_task self.old.task) }
         requires text { IsUtf8 self.old.task.text.now }
@@ -219,7 +244,7 @@ impl Machine<'_> {
                 Next::On => {}
                 Next::Passed => left = left.saturating_sub(self.passed),
                 Next::Matched => return Ok(true),
-                Next::Failed => return Ok(false),
+                Next::Ended => return Ok(false),
             }
         }
         Err(Stop::Limit(RuntimeError::StepLimitExceeded))
@@ -234,7 +259,7 @@ impl Machine<'_> {
         ensures { RunAnswers (machine.run (plain_task self.old.task)) result }
     {
         if !self.run(memos)? {
-            return Ok(None);
+            return Ok(self.longest.to_numbers(self.task.alloc)?);
         }
         Ok(Some(self.numbers()?))
     }
@@ -245,11 +270,10 @@ impl Machine<'_> {
         requires text { IsUtf8 self.old.task.text.now }
         requires place { IsTrue (is_place self.old.task.text.now self.old.task.options.now.pos) }
         requires memos { AreMemosOf self.old.task memos.old }
-        requires implicit { self.old.task.prog.now.parts.explicit_group_0 ≡ false }
         ensures { RunAnswersPair (machine.run (plain_task self.old.task)) result }
     {
         if !self.run(memos)? {
-            return Ok(None);
+            return Ok(self.longest.first_pair());
         }
         Ok(Some(self.first_pair()))
     }

@@ -5,9 +5,12 @@ use Rattle.fancy_meaning.specs.Places.{is_place}
 use Rattle.fancy_vm.specs.Outcomes.{RunAnswers, plain_task}
 use Rattle.fancy_vm.specs.Programs.{prog_of, options_of, task_of}
 use Rattle.fancy_vm.specs.declared.machine.Task.{Task}
-use Rattle.fancy_vm.proofs.FitsLaws.{run_place}
+use Rattle.fancy_vm.proofs.FitsLaws.{run_implicit, run_place}
 use Rattle.fancy_vm.proofs.MeaningLaws.{run_means}
 use Rattle.fancy_vm.proofs.runs.run.Goals as goal
+
+pub begin-requires : goal.begin-requires
+begin-requires c = run_implicit (task_of c.args.prog.now c.args.text.now c.args.options.now) c.requires
 
 pub answer-answer-requires-clause-text : goal.answer-answer-requires-clause-text
 answer-answer-requires-clause-text c = subst (λ (t : Task). IsUtf8 (t.text).now) (sym c.in_ok-m.ensures.task) c.utf8.text

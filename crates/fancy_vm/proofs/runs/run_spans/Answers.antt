@@ -1,4 +1,4 @@
-use Rattle.std.proofs.Common.{◌≡◌, ◌<◌, length, arith, subst, sym, false, IsTrue, IsUtf8}
+use Rattle.std.proofs.Common.{◌≡◌, ◌<◌, length, arith, subst, sym, IsTrue, IsUtf8}
 use Rattle.fancy_meaning.specs.Machine as machine
 use Rattle.fancy_meaning.specs.Numbers.{usize_max}
 use Rattle.fancy_meaning.specs.Places.{is_place}
@@ -17,10 +17,8 @@ answer_pair-answer-requires-clause-place c =
     subst (λ (t : Task). IsTrue (is_place (t.text).now ((t.options).now).pos)) (sym c.in_ok-m.ensures.task)
     (run_place (task_of c.args.prog.now c.args.text.now c.args.options.now) c.requires)
 
-pub answer_pair-answer-requires-clause-implicit : goal.answer_pair-answer-requires-clause-implicit
-answer_pair-answer-requires-clause-implicit c =
-    subst (λ (t : Task). ((((t.prog).now).parts).explicit_group_0) ≡ false) (sym c.in_ok-m.ensures.task)
-    (run_implicit (task_of c.args.prog.now c.args.text.now c.args.options.now) c.requires)
+pub begin-requires : goal.begin-requires
+begin-requires c = run_implicit (task_of c.args.prog.now c.args.text.now c.args.options.now) c.requires
 
 pub returns-clause-machine : goal.returns-clause-machine
 returns-clause-machine c =

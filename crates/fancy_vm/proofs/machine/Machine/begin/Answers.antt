@@ -1,4 +1,4 @@
-use Rattle.std.proofs.Common.{◌≡◌, ℕ, zero, suc, [], slice_index_or, refl, ap, subst, sym, arith}
+use Rattle.std.proofs.Common.{◌≡◌, ℕ, zero, suc, List, [], Option, slice_index_or, refl, ap, subst, sym, arith}
 use Rattle.std.specs.Prelude.{replicate, None}
 use Rattle.std.proofs.Math.Path.{fun_ext}
 use Rattle.std.proofs.lemmas.List.{length-replicate}
@@ -20,7 +20,8 @@ invariant_of-result c =
     let slots = c.args.task.now.prog.now.parts.slots in
     let len = length-replicate slots usize_max in
     record {
-      sound = subst (IsSound c.args.task.now) (sym c.requires) (record { slots = len; small = omega (arith, len); max_stack = refl });
+      sound = subst (IsSound c.args.task.now) (sym c.requires.state)
+          (record { slots = len; small = omega (arith, len); max_stack = refl; implicit = c.requires.implicit });
     }
 
 pub returns-clause-begins : goal.returns-clause-begins
@@ -28,5 +29,7 @@ returns-clause-begins c =
     let pos : ℕ = c.args.task.now.options.now.pos in
     let at_slots : Slots → Config = λ slots.
     record { now = record { pc = 0; ix = pos; slots = slots; marks = [] }; branches = []; start = pos; backtracks = 0; longest = None } in
-    subst (λ (s : Held). config_at 0 pos pos 0 s ≡ machine.begin (plain_task c.args.task.now)) (sym c.requires)
-    (ap at_slots (fun_ext (unset_at c.args.task.now.prog.now.parts.slots)))
+    subst (λ (longest : Option (List ℕ)). config_at 0 pos pos 0 longest c.args.state ≡ machine.begin (plain_task c.args.task.now))
+    (sym c.requires.longest)
+    (subst (λ (s : Held). config_at 0 pos pos 0 None s ≡ machine.begin (plain_task c.args.task.now)) (sym c.requires.state)
+    (ap at_slots (fun_ext (unset_at c.args.task.now.prog.now.parts.slots))))

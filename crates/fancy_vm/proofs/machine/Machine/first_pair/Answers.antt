@@ -14,5 +14,5 @@ slot-requires c =
 pub returns : goal.returns
 returns c =
     let prog = prog_of c.args.self.now.task.prog.now in
-    let two = first_two _ (flag_slot prog) usize_max (flag_two prog c.requires.implicit) in
+    let two = first_two _ (flag_slot prog) usize_max (flag_two prog c.args.self.now.sound.implicit) in
     ap₂ (λ a b. (a, b)) (two.0 ∙ sym c.match_start.ensures) (two.1 ∙ sym c.slot.ensures)

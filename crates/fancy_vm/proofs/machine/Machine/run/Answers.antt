@@ -1,6 +1,6 @@
 use Rattle.std.proofs.Common.{◌≡◌, ◌-◌, ℕ, sym, ap, ◌∙◌, subst, refl, Err, IsTrue}
 use Rattle.std.proofs.lemmas.Result.{err_from_is_err_and}
-use Rattle.fancy_meaning.specs.Config.{Ends, Goes, Match, NoMatch, Outcome}
+use Rattle.fancy_meaning.specs.Config.{Ends, Goes, Match, Outcome, outcome_of}
 use Rattle.fancy_meaning.specs.Machine as machine
 use Rattle.fancy_meaning.specs.Places.{is_place}
 use Rattle.fancy_laws.proofs.Every.{no_item}
@@ -89,8 +89,8 @@ returns-in_err-step-clause-task c = c.in_err-step.ensures.task ∙ c.steps.invar
 pub returns-in-Matched-clause-task : goal.returns-in-Matched-clause-task
 returns-in-Matched-clause-task c = c.in_ok-step.ensures.task ∙ c.steps.invariant.task
 
-pub returns-in-Failed-clause-task : goal.returns-in-Failed-clause-task
-returns-in-Failed-clause-task c = c.in_ok-step.ensures.task ∙ c.steps.invariant.task
+pub returns-in-Ended-clause-task : goal.returns-in-Ended-clause-task
+returns-in-Ended-clause-task c = c.in_ok-step.ensures.task ∙ c.steps.invariant.task
 
 pub returns-in-Matched-clause-finds : goal.returns-in-Matched-clause-finds
 returns-in-Matched-clause-finds c =
@@ -103,11 +103,12 @@ returns-in-Matched-clause-finds c =
     subst (λ (t : Task). next_of (plain_task t) now ≡ found) c.steps.invariant.task (rw c.in-Matched.is at c.in_ok-step.ensures.leads) in
     sym c.steps.invariant.same ∙ runs_out (plain_task task) now left _ c.steps-test.true leads
 
-pub returns-in-Failed-clause-finds : goal.returns-in-Failed-clause-finds
-returns-in-Failed-clause-finds c =
+pub returns-in-Ended-clause-finds : goal.returns-in-Ended-clause-finds
+returns-in-Ended-clause-finds c =
     let task = c.args.self.now.task in
     let now = config_of c.steps.self in
     let left : ℕ = c.steps.left in
-    let leads : next_of (plain_task task) now ≡ Ends NoMatch =
-    subst (λ (t : Task). next_of (plain_task t) now ≡ Ends NoMatch) c.steps.invariant.task (rw c.in-Failed.is at c.in_ok-step.ensures.leads) in
-    sym c.steps.invariant.same ∙ runs_out (plain_task task) now left NoMatch c.steps-test.true leads
+    let held = Ends (outcome_of (config_of c.step.new.self).longest) in
+    let leads : next_of (plain_task task) now ≡ held =
+    subst (λ (t : Task). next_of (plain_task t) now ≡ held) c.steps.invariant.task (rw c.in-Ended.is at c.in_ok-step.ensures.leads) in
+    sym c.steps.invariant.same ∙ runs_out (plain_task task) now left _ c.steps-test.true leads
