@@ -1,22 +1,45 @@
 -- A search whose points are all within some that lead on to each other alone, and take nothing here, finds no way.
-use Rattle.std.proofs.Common.{◌≡◌, ◌<◌, ◌+◌, ◌∷◌, ◌++◌, [], ℕ, zero, suc, Bool, true, false, ◌&&◌, not, List, Option, Some, None, if◌then◌else◌, nat_lt, slice_get, refl, sym, ap, ◌∙◌, subst, true≢false}
+use Rattle.std.proofs.Common.{◌≡◌, ◌<◌, ◌≤◌, ◌+◌, ◌∷◌, ◌++◌, [], ℕ, zero, suc, Bool, true, false, ◌&&◌, not, List, Option, Some, None, if◌then◌else◌, nat_lt, slice_get, length, map, option_map, inl, inr, arith, refl, sym, ap, ◌∙◌, subst, true≢false}
 use Rattle.std.specs.Prelude.{slice_index_or}
 use Rattle.std.specs.Char.{len_utf8}
 use Rattle.std.specs.Option.{option_and_then}
-use Rattle.std.proofs.lemmas.Bool.{cond-true, cond-false}
-use Rattle.regex_hir.specs.Text.{char_at}
-use Rattle.regex_hir.proofs.TextLemmas.{char_at_ascii}
+use Rattle.std.proofs.lemmas.Bool.{cases_lt, cond-true, cond-false, ltb-true}
+use Rattle.std.proofs.lemmas.Bool.Decides.{nat_tests}
+use Rattle.std.proofs.lemmas.Option.{slice_get-map}
+use Rattle.regex_hir.proofs.TextLemmas.{char_at_ascii, char_at_past}
 use Rattle.fancy_meaning.specs.Moves.{past_char}
 use Rattle.fancy_meaning.specs.Assertions.{holds}
 use Rattle.fancy_points.specs.Points as plain
 use Rattle.fancy_points.specs.Points.{Point}
 use Rattle.fancy_points.specs.PointSearch.{Lead, Found, Lost, Goes, Tries, Later, Other, Fails, Next, TakesUp, TakesBack, Ends, Pair, Search, Stand, Turn, after_steps, back_to, choice_lead, close_lead, first_search, first_stand, forward, goes_past, goes_to, head_lead, is_counted, is_over, lead_at, lead_by, next, next_by, next_turn, others, pair_of, passes, tries, visited, with_later}
 use Rattle.fancy_points.specs.FirstWays.{searched}
+use Rattle.fancy_plain.specs.declared.point.Point as code
+use Rattle.fancy_plain.specs.declared.point.Point.TheVariants as variant
+use Rattle.fancy_plain.specs.declared.point.CharTest as code_test
+use Rattle.fancy_plain.specs.Views.{point_of}
 use Rattle.fancy_plain.specs.Beginnings.{AreBeginnings, IsWithin, is_begun_by, leads_within, may_begin, TakesAmong}
 
 both : (a b : Bool) → (a && b) ≡ true → (a ≡ true) × (b ≡ true)
 both true b e = (refl, e)
 both false b e = absurd (true≢false (sym e))
+
+none_past : {A : Type 0} (l : List A) (i : ℕ) → slice_get l i ≡ None → length l ≤ i
+none_past [] i e = omega arith
+none_past (x ∷ l) zero e = cc
+none_past (x ∷ l) (suc i) e = omega (arith, none_past l i e)
+
+pub some_below : {A : Type 0} (l : List A) (i : ℕ) (x : A) → slice_get l i ≡ Some x → i < length l
+some_below [] i x e = cc
+some_below (y ∷ l) zero x e = omega arith
+some_below (y ∷ l) (suc i) x e = omega (arith, some_below l i x e)
+
+pub at_index : {A : Type 0} (l : List A) (i : ℕ) (d : A) → i < length l → slice_get l i ≡ Some (slice_index_or l i d)
+at_index [] i d h = absurd (omega (arith, h))
+at_index (x ∷ l) zero d h = refl
+at_index (x ∷ l) (suc i) d h = at_index l i d (omega (arith, h))
+
+some_same : {A : Type 0} {x y : A} → Some x ≡ Some y → x ≡ y
+some_same e = cc
 
 -- a test does not ask for the text
 passes_alike : (text : List ℕ) (unicode : Bool) (test : plain.CharTest) (c : ℕ) → passes [] unicode test c ≡ passes text unicode test c
@@ -36,7 +59,7 @@ module _ (text : List ℕ) (unicode : Bool) (place : ℕ) (ascii : List Bool) (t
 
   takes_none : (o : Option ℕ) → slice_get text place ≡ o → is_begun_by ascii o ≡ false →
       past_char text (passes text unicode test) place ≡ None
-  takes_none None here out = ap past_by (char_at_none text place here)
+  takes_none None here out = ap past_by (char_at_past text place (none_past text place here))
   takes_none (Some b) here out = go (nat_lt b 128) refl
     where
       go : (small : Bool) → nat_lt b 128 ≡ small → past_char text (passes text unicode test) place ≡ None
@@ -44,11 +67,8 @@ module _ (text : List ℕ) (unicode : Bool) (place : ℕ) (ascii : List Bool) (t
           let small : b < 128 = ltb-true b 128 s in
           let other = sym (cond-true (nat_lt b 128) _ _ s) ∙ out in
           ap past_by (char_at_ascii text place b here small)
-          ∙ cond-false (passes text unicode test b) _ _ (e b small other)
+          ∙ cond-false (passes text unicode test b) _ _ (fails_test b small other (passes text unicode test b) refl)
       go false s = absurd (true≢false (sym (cond-false (nat_lt b 128) _ _ s) ∙ out))
-
-      e : (b : ℕ) → b < 128 → slice_index_or ascii b false ≡ false → passes text unicode test b ≡ false
-      e b small other = let yes = fails_test b small other (passes text unicode test b) refl in yes
 
 module _ (text : List ℕ) (unicode : Bool) (points : List Point) (place : ℕ) (reached : ℕ → Bool) where
   abbrev Inside : Stand → Type 0
@@ -103,12 +123,12 @@ module _ (text : List ℕ) (unicode : Bool) (points : List Point) (place : ℕ) 
           else choice_lead greedy (record (forward s) { turns = next_turn l s.place t ∷ ts }) (record (goes_to after s) { turns = ts }))
       go true few greedy = (off, tt)
       go false true greedy = (on, tt)
-      go false false true = (on, off, tt)
-      go false false false = (off, on, tt)
+      go false false true = (on, (off, tt))
+      go false false false = (off, (on, tt))
 
   module _ (s : Stand) (here : s.place ≡ place) where
-    two : (a b : ℕ) → (reached a && reached b) ≡ true → Inside (goes_to a s) × Inside (goes_to b s) × Unit {0}
-    two a b e = let r = both (reached a) (reached b) e in ((here, r.0), (here, r.1), tt)
+    two : (a b : ℕ) → (reached a && reached b) ≡ true → Inside (goes_to a s) × (Inside (goes_to b s) × Unit {0})
+    two a b e = let r = both (reached a) (reached b) e in ((here, r.0), ((here, r.1), tt))
 
     pub lead_inside : (o : Option Point) → (leads : (p : Point) → o ≡ Some p → leads_within reached s.at p ≡ true) →
         ((test : plain.CharTest) → o ≡ Some (plain.Take test) → past_char text (passes text unicode test) place ≡ None) →
@@ -213,3 +233,77 @@ are_beginnings unicode points reached ascii first within text place out failed s
     none : (at : ℕ) (test : plain.CharTest) → slice_get points at ≡ Some (plain.Take test) → reached at ≡ true →
         past_char text (passes text unicode test) place ≡ None
     none at test e r = takes_none text unicode place ascii test (at_point at (plain.Take test) e r).1 (slice_get text place) refl out
+
+-- ---- points that are marked
+
+module _ (unicode : Bool) (points : List code.Point) (reached : List Bool) where
+  -- the marked ones of the first n lead to marked ones alone, unless they take one of these characters
+  abbrev pub AreWithin : (ascii : List Bool) → (n : ℕ) → Type 0
+  AreWithin ascii n = (i : ℕ) (p : code.Point) → i < n → slice_get points i ≡ Some p → slice_index_or reached i false ≡ true →
+      IsWithin unicode (λ k. slice_index_or reached k false) ascii i (Some (point_of p))
+
+  among_more : (ascii more : List Bool) → ((c : ℕ) → slice_index_or ascii c false ≡ true → slice_index_or more c false ≡ true) →
+      (p : Point) → TakesAmong unicode ascii p → TakesAmong unicode more p
+  among_more ascii more kept (plain.Take test) h = λ c small e. kept c (h c small e)
+  among_more ascii more kept p h = tt
+
+  pub within_more : (ascii more : List Bool) (n : ℕ) (q : code.Point) → n < length points → q ≡ slice_index_or points n q →
+      ((c : ℕ) → slice_index_or ascii c false ≡ true → slice_index_or more c false ≡ true) → AreWithin ascii n →
+      leads_within (λ k. slice_index_or reached k false) n (point_of q) ≡ true → TakesAmong unicode more (point_of q) →
+      AreWithin more (n + 1)
+  within_more ascii more n q inside is kept before leads takes = λ i p below at r.
+      elim (cases_lt i n) [
+        | inl earlier ↦
+            let h = before i p earlier at r in
+            (h.0, among_more ascii more kept (point_of p) h.1)
+        | inr last ↦
+            let same : n ≡ i = omega (arith, last, below) in
+            let there : q ≡ p = some_same (sym (at_index points n q inside ∙ ap Some (sym is)) ∙ ap (slice_get points) same ∙ at) in
+            subst (λ k. IsWithin unicode (λ k. slice_index_or reached k false) more k (Some (point_of p))) same
+            (subst (λ x. IsWithin unicode (λ k. slice_index_or reached k false) more n (Some (point_of x))) there (leads, takes))
+      ]
+
+  pub unmarked_within : (ascii : List Bool) (n : ℕ) → slice_index_or reached n false ≡ false → AreWithin ascii n →
+      AreWithin ascii (n + 1)
+  unmarked_within ascii n out before = λ i p below at r.
+      elim (cases_lt i n) [
+        | inl earlier ↦ before i p earlier at r
+        | inr last ↦
+            let same : i ≡ n = omega (arith, last, below) in
+            absurd (true≢false (sym r ∙ ap (λ k. slice_index_or reached k false) same ∙ out))
+      ]
+
+  pub all_within : (ascii : List Bool) (n : ℕ) → length points ≤ n → slice_index_or reached 0 false ≡ true → AreWithin ascii n →
+      AreBeginnings unicode (map point_of points) (Some ascii)
+  all_within ascii n all first within =
+      are_beginnings unicode (map point_of points) (λ k. slice_index_or reached k false) ascii first
+      (λ i r.
+      subst (IsWithin unicode (λ k. slice_index_or reached k false) ascii i) (sym (slice_get-map point_of points i))
+      (go i r (slice_get points i) refl))
+    where
+      go : (i : ℕ) → slice_index_or reached i false ≡ true → (o : Option code.Point) → slice_get points i ≡ o →
+          IsWithin unicode (λ k. slice_index_or reached k false) ascii i (option_map point_of o)
+      go i r None e = tt
+      go i r (Some p) e =
+          let below = some_below points i p e in
+          let small : i < n = omega (arith, below, all) in
+          within i p small e r
+
+pub no_take : (unicode : Bool) (ascii : List Bool) (p : code.Point) → ((test : code_test.CharTest) → p ≡ variant.Take test → ⊥) →
+    TakesAmong unicode ascii (point_of p)
+no_take unicode ascii (variant.Take test) apart = absurd (apart test refl)
+no_take unicode ascii p apart = tt
+
+-- ---- the character at the place
+
+pub begun_small : (ascii : List Bool) (b : ℕ) → b < 128 → is_begun_by ascii (Some b) ≡ slice_index_or ascii b false
+begun_small ascii b h = cond-true (nat_lt b 128) _ _ small
+  where
+    small : nat_lt b 128 ≡ true
+    small = grind (arith, nat_tests, h)
+
+pub begun_other : (ascii : List Bool) (b : ℕ) → 128 ≤ b → is_begun_by ascii (Some b) ≡ true
+begun_other ascii b h = cond-false (nat_lt b 128) _ _ other
+  where
+    other : nat_lt b 128 ≡ false
+    other = grind (arith, nat_tests, h)

@@ -1,13 +1,9 @@
 -- With which characters a way can begin.
 use Rattle.std.specs.Prelude.{◌≡◌, ℕ, ◌+◌, ◌<◌, Bool, true, false, ◌&&◌, List, Option, Some, None, if◌then◌else◌, nat_lt, slice_get, slice_index_or, []}
-use Rattle.fancy_meaning.specs.Tree.{Tree}
-use Rattle.fancy_meaning.specs.Options.{Analysis}
 use Rattle.fancy_points.specs.Points as plain
 use Rattle.fancy_points.specs.Points.{Point}
 use Rattle.fancy_points.specs.PointSearch.{Pair, Stand, Search, Ends, passes}
-use Rattle.fancy_points.specs.FirstWays.{searched, first_seen}
-use Rattle.fancy_plain.specs.declared.table.PointTable.{PointTable}
-use Rattle.fancy_plain.specs.Tables.{IsTableOf}
+use Rattle.fancy_points.specs.FirstWays.{searched}
 
 -- an ASCII character that is among these, or any other character
 abbrev pub is_begun_by : (ascii : List Bool) → Option ℕ → Bool
@@ -24,12 +20,6 @@ abbrev pub AreBeginnings : Bool → List Point → (ascii : Option (List Bool)) 
 AreBeginnings unicode points ascii = (text : List ℕ) (place : ℕ) → may_begin ascii text place ≡ false →
     (failed : Pair → Bool) (steps : ℕ) (way : Option Stand) (found : Search) →
     searched text unicode points failed place steps ≡ Ends way found → way ≡ None
-
--- the nodes have no way from the place, wherever the search of the whole pattern began
-abbrev pub HasNoWayAt : (text : List ℕ) → PointTable → (place : ℕ) → Type 0
-HasNoWayAt text f place = (a : Analysis) (es : List Tree) → IsTableOf a es f.unicode f →
-    (pos : ℕ) (continued : Bool) →
-    first_seen (record { text = text; pos = pos; continued = continued; unicode = f.unicode }) es place ≡ None
 
 -- ---- points that a search comes to before it takes a character
 

@@ -1,6 +1,6 @@
 //! With which characters a way can begin: found by the points that a search comes to before it takes one.
 
-ghost use Rattle.std.specs.Prelude.{◌≡◌, ℕ, ◌<◌, true, false, List, Bool, map, slice_get, slice_index_or, IfOk};
+ghost use Rattle.std.specs.Prelude.{◌≡◌, ℕ, ◌<◌, [], true, false, map, slice_get, slice_index_or, Some, IfOk};
 ghost use Rattle.fancy_points.specs.PointSearch.{passes};
 ghost use Rattle.fancy_plain.specs.Beginnings.{may_begin, leads_within, AreBeginnings};
 ghost use Rattle.fancy_plain.specs.Views.{point_of, test_of, IsPointReadBy, IsReadBy};
@@ -23,6 +23,26 @@ pub(crate) fn beginnings(
     } else {
         Ok(None)
     }
+}
+
+/// Whether such a character stands at the place.
+pub(crate) fn may_begin(ascii: &Option<[bool; 128]>, text: &[u8], ix: usize) -> bool
+    ensures { result ≡ may_begin ascii.now text.now ix }
+{
+    match ascii {
+        None => true,
+        Some(ascii) => match byte_at(text, ix) {
+            None => false,
+            Some(byte) => byte >= 128 || ascii[byte as usize],
+        },
+    }
+}
+
+/// The byte at the place.
+pub(crate) fn byte_at(text: &[u8], ix: usize) -> Option<u8>
+    ensures { result ≡ slice_get text.now ix }
+{
+    if ix < text.len() { Some(text[ix]) } else { None }
 }
 
 /// The points that a search comes to before it takes a character; fewer where a loop leads back to one that is not.
