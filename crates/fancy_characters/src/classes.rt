@@ -1,6 +1,6 @@
 //! Matchers of one character: a class or a newline (`CharClassMatcher`).
 
-ghost use Rattle.std.specs.Prelude.{◌≡◌, ◌+◌, ◌≤◌, Some, length, option_map, IfOk, IfErr, IfSome, IsTrue};
+ghost use Rattle.std.specs.Prelude.{◌≡◌, ◌+◌, ◌≤◌, ◌<◌, Some, length, option_map, IfOk, IfErr, IfSome, IsTrue};
 ghost use Rattle.regex_hir.specs.Text as spelled;
 ghost use Rattle.fancy_meaning.specs.Chars as meant;
 ghost use Rattle.fancy_meaning.specs.Instr as plain;
@@ -59,6 +59,17 @@ impl CharClassMatcher {
             Ok(Some(len_utf8(c as u32)))
         } else {
             Ok(None)
+        }
+    }
+
+    /// Whether this ASCII character is in the class.
+    pub fn takes_ascii(&self, c: u8) -> bool
+        requires { c < 128 }
+        ensures { result ≡ class_test (class_of self.now) c }
+    {
+        match self {
+            CharClassMatcher::Codepoint { class, .. } => class.takes_ascii(c),
+            CharClassMatcher::Newline { unicode } => is_newline(c as u32, *unicode),
         }
     }
 

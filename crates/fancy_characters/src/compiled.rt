@@ -73,13 +73,22 @@ impl CompiledClass {
         })
     }
 
+    /// Whether the class holds this ASCII character.
+    pub(crate) fn takes_ascii(&self, c: u8) -> bool
+        requires { c < 128 }
+        ensures { result
+            ≡ meant.class_takes self.now.unicode self.now.inner self.now.casei c }
+    {
+        self.ascii[c as usize]
+    }
+
     /// Whether the class holds the character.
     pub(crate) fn takes(&self, alloc: Global, c: char) -> Result<bool, AllocError>
         ensures { IfOk result
             (λ yes. yes ≡ meant.class_takes self.now.unicode self.now.inner self.now.casei c) }
     {
         if c.is_ascii() {
-            return Ok(self.ascii[c as usize]);
+            return Ok(self.takes_ascii(c as u8));
         }
         match &self.beyond_ascii {
             Some(members) => Ok(members.contains(c as u32)),

@@ -8,10 +8,10 @@ use Rattle.fancy_points.specs.FirstWays.{Seen, first_seen}
 use Rattle.fancy_plain.specs.declared.first_way.FirstWay.{FirstWay}
 use Rattle.fancy_plain.specs.declared.first_way.Way.{Way}
 use Rattle.fancy_plain.specs.Tables.{IsTableOf}
-use Rattle.fancy_plain.specs.Ways.{IsFirstWay, IsOfNodes, IsSeenAs}
+use Rattle.fancy_plain.specs.Ways.{HasNoWayAt, IsFirstWay, IsOfNodes, IsSeenAs}
 use Rattle.fancy_fragments.specs.declared.fragment.Fragment.{Fragment}
 use Rattle.fancy_fragments.specs.Nodes.{IsLaidOut}
-use Rattle.fancy_fragments.specs.Fragments.{nodes_of, IsFirstWayOf}
+use Rattle.fancy_fragments.specs.Fragments.{nodes_of, HasNoWayFrom, IsFirstWayOf}
 use Rattle.fancy_fragments.proofs.EasySizes.{bound_alike}
 
 -- it can be seen in one way only
@@ -44,6 +44,15 @@ module _ (f : Fragment) where
         (bound_alike a (laid.0).tree a.tree (nodes_of f) easy (length text - place))
         (h laid.0 (nodes_of f) (by_option laid)).1);
   }
+
+  -- what the table's nodes have not, the fragment's have not
+  pub no_way_from : (text : List ℕ) (place : ℕ) → HasNoWayAt text f.table place → HasNoWayFrom text f place
+  no_way_from text place h = λ pos continued.
+      ∥∥₁_elim f.laid_out (seen-prop None _) (λ laid.
+      subst
+      (λ u. IsSeenAs None (first_seen (record { text = text; pos = pos; continued = continued; unicode = u }) (nodes_of f) place))
+      laid.1.unicode
+      (subst (IsSeenAs None) (sym (h laid.0 (nodes_of f) (by_option laid) pos continued)) tt))
 
 pub found_first : (text : List ℕ) (f : Fragment) (place : ℕ) (result : Result FirstWay Error) → IfOk result (IsFirstWay text f.table place) →
     IfOk result (IsFirstWayOf text f place)

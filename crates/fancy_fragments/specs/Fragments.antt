@@ -1,5 +1,5 @@
 -- What a fragment stands for, and what its search answers.
-use Rattle.std.specs.Prelude.{◌≤◌, ◌-◌, ℕ, Bool, List, length}
+use Rattle.std.specs.Prelude.{◌≤◌, ◌-◌, ℕ, Bool, List, length, None}
 use Rattle.fancy_meaning.specs.Tree.{Tree}
 use Rattle.fancy_meaning.specs.Instr as plain
 use Rattle.fancy_meaning.specs.Options.{Analysis}
@@ -27,6 +27,12 @@ pub record IsFirstWayOf (text : List ℕ) (f : Fragment) (place : ℕ) (answer :
       (first_seen (record { text = text; pos = pos; continued = continued; unicode = f.unicode }) (nodes_of f) place)
   pub visits : (a : Analysis) → AreEasy a (nodes_of f) →
       answer.visits ≤ visit_bound a.tree (nodes_of f) (length text - place)
+
+-- the nodes have no way from the place, wherever the search of the whole pattern began
+abbrev pub HasNoWayFrom : (text : List ℕ) → Fragment → (place : ℕ) → Type 0
+HasNoWayFrom text f place = (pos : ℕ) (continued : Bool) →
+    IsSeenAs None
+    (first_seen (record { text = text; pos = pos; continued = continued; unicode = f.unicode }) (nodes_of f) place)
 
 -- it knows what searches of this fragment in this text have noted, and no more
 abbrev pub IsMemoFor : (text : List ℕ) → Fragment → Memo → Type 0

@@ -1,10 +1,12 @@
 //! Fragments: neighbouring easy nodes that are searched for plainly.
 
-ghost use Rattle.std.specs.Prelude.{◌≡◌, ◌*◌, ℕ, List, IfOk, IfErr, map, nat_le};
+ghost use Rattle.std.specs.Prelude.{◌≡◌, ◌*◌, ℕ, List, false, IfOk, IfErr, IsTrue, map, nat_le};
 ghost use Rattle.fancy_meaning.specs.Fits.{fragment_fits};
+ghost use Rattle.fancy_meaning.specs.Places.{is_place};
 ghost use Rattle.fancy_expr.specs.Views.{tree_of};
 ghost use Rattle.fancy_expr.specs.Walk.{within_of};
 ghost use Rattle.fancy_info.specs.Infos.{info_tree};
+ghost use Rattle.fancy_plain.specs.Beginnings.{may_begin};
 ghost use Rattle.fancy_plain.specs.Tables.{HaveClasses, IsRefusedFor};
 ghost use Rattle.fancy_fragments.specs.Nodes.{AreEasyNeighbours, BeginAt, IsLaidOut, fits_over, nodes_over, plain_tree};
 
@@ -37,7 +39,7 @@ pub struct Fragment {
 }
 
 impl Fragment {
-    ghost use Rattle.fancy_fragments.specs.Fragments.{IsMemoFor, fragment_of};
+    ghost use Rattle.fancy_fragments.specs.Fragments.{HasNoWayFrom, IsMemoFor, fragment_of};
 
     /// The fragment of neighbouring nodes of one analysed tree, none of them hard.
     ///
@@ -68,6 +70,16 @@ impl Fragment {
         ensures { result ≡ fragment_fits slots (fragment_of self.now) }
     {
         self.settable <= slots / 2
+    }
+
+    /// Whether a way can begin at `ix`, a character boundary of the text, by the character that stands there. There may
+    /// be none though it can, but where it cannot there is none.
+    pub fn can_begin(&self, text: &str, ix: usize) -> bool
+        requires place { IsTrue (is_place text.now ix) }
+        ensures told { result ≡ may_begin self.now.table.beginnings text.now ix }
+        ensures none { result ≡ false → HasNoWayFrom text.now self.now ix }
+    {
+        self.table.can_begin(text, ix)
     }
 
     /// What searches of the fragment in one text, from `pos` on, have noted: nothing yet.

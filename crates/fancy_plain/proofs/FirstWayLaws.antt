@@ -12,7 +12,7 @@ use Rattle.fancy_points.specs.Points.{Point}
 use Rattle.fancy_points.specs.PointCode.{points_of}
 use Rattle.fancy_points.specs.PointSearch as plain
 use Rattle.fancy_points.specs.PointSearch.{Pair, Search, Next, TakesUp, TakesBack, Ends, after_steps, next}
-use Rattle.fancy_points.specs.FirstWays.{AreNoted, FindsFirst, of_search, search_in, searched, seen_of, spans_of}
+use Rattle.fancy_points.specs.FirstWays.{AreNoted, FindsFirst, no_pairs, of_search, search_in, searched, seen_of, spans_of}
 use Rattle.fancy_points.proofs.PlainSearch.{plain_search_finds}
 use Rattle.fancy_plain.specs.declared.first_way.FirstWay.{FirstWay}
 use Rattle.fancy_plain.specs.declared.first_way.Way.{Way}
@@ -26,8 +26,9 @@ use Rattle.fancy_plain.specs.declared.search.Task.{Task}
 use Rattle.fancy_plain.specs.Tables.{IsTableOf}
 use Rattle.fancy_plain.specs.Paths.{closed_after}
 use Rattle.fancy_plain.specs.Searches.{AreKept, EndsAs, HaveFailed, IsHere, IsMemory, IsSearch, Leading, leading_of}
+use Rattle.fancy_plain.specs.Beginnings.{may_begin}
 use Rattle.fancy_plain.specs.Views.{point_of}
-use Rattle.fancy_plain.specs.Ways.{IsFirstWay, IsMemoOf, IsSeenAs, listed}
+use Rattle.fancy_plain.specs.Ways.{HasNoWayAt, IsFirstWay, IsMemoOf, IsSeenAs, listed}
 
 -- ---- a search has one end
 
@@ -217,3 +218,21 @@ module _ (points : Bor (List code.Point)) (text : Bor (List ℕ)) (table : Point
       let e = end_found there n h in
       memo_after text.now table place memo.0 is_text at memo.1.1 n e.steps
       (subst (λ x. HaveFailed n (search_in x).failed) (sym e.ends) e.have)
+
+-- ---- where no way can begin
+
+-- where the first character is none that a way can begin with, the nodes have none
+pub no_way_at : (text : List ℕ) (f : PointTable) (place : ℕ) → IsText text → IsTrue (is_place text place) →
+    may_begin f.beginnings text place ≡ false → HasNoWayAt text f place
+no_way_at text f place is_text at out = λ a es h pos continued.
+    let q : Setting = record { text = text; pos = pos; continued = continued; unicode = f.unicode } in
+    let finds : FindsFirst q a es (λ p. false) place = plain_search_finds q a es (λ p. false) place is_text at h.easy no_pairs in
+    let ends = subst (λ points. searched text f.unicode points (λ p. false) place finds.steps ≡ Ends finds.way finds.found)
+    (sym h.points) finds.ends in
+    let none : finds.way ≡ None = f.begin text place out (λ p. false) finds.steps finds.way finds.found ends in
+    sym finds.first ∙ ap (option_map seen_of) none
+
+pub none_first : (text : List ℕ) (f : PointTable) (place : ℕ) → HasNoWayAt text f place →
+    IsFirstWay text f place (record { way = None; visits = 0 })
+none_first text f place h = λ a es table.
+    ((λ pos continued. subst (IsSeenAs None) (sym (h a es table pos continued)) tt), omega arith)

@@ -12,3 +12,4 @@ pub mod BackLaws
 pub mod WayLaws
 pub mod FirstWayLaws
 pub mod ReadPoints
+pub mod BeginningLaws

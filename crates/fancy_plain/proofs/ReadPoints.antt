@@ -12,7 +12,7 @@ use Rattle.fancy_plain.specs.declared.table.PointTable.{PointTable}
 use Rattle.fancy_plain.specs.Views.{IsPointReadBy}
 use Rattle.fancy_plain.specs.Ways.{IsOfNodes}
 
-read_at : {X : Type 0} (P : X → Type 0) (l : List X) (i : ℕ) (x : X) → Each P l → slice_get l i ≡ Some x → P x
+pub read_at : {X : Type 0} (P : X → Type 0) (l : List X) (i : ℕ) (x : X) → Each P l → slice_get l i ≡ Some x → P x
 read_at P [] i x h at = cc
 read_at P (y ∷ l) zero x h at = let same : y ≡ x = cc in subst P same h.0
 read_at P (y ∷ l) (suc i) x h at = read_at P l i x h.1 at

@@ -9,3 +9,4 @@ pub mod ClassTexts
 pub mod Shapes
 pub mod Layouts
 pub mod Tables
+pub mod Beginnings

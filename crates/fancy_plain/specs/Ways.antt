@@ -49,6 +49,12 @@ IsFirstWay text f place answer = (a : Analysis) (es : List Tree) → IsTableOf a
     (first_seen (record { text = text; pos = pos; continued = continued; unicode = f.unicode }) es place))
     × (answer.visits ≤ visit_bound a.tree es (length text - place))
 
+-- the nodes have no way from the place, wherever the search of the whole pattern began
+abbrev pub HasNoWayAt : (text : List ℕ) → PointTable → (place : ℕ) → Type 0
+HasNoWayAt text f place = (a : Analysis) (es : List Tree) → IsTableOf a es f.unicode f →
+    (pos : ℕ) (continued : Bool) →
+    first_seen (record { text = text; pos = pos; continued = continued; unicode = f.unicode }) es place ≡ None
+
 -- it is the fragment of some nodes
 abbrev pub IsOfNodes : PointTable → Type 0
 IsOfNodes f = (a : Analysis) × ((es : List Tree) × IsTableOf a es f.unicode f)

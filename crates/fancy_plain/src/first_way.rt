@@ -65,6 +65,12 @@ pub fn first_way_with(
     ensures memo { IsMemoOf text.now table.now memo.new }
     ensures refused { IfErr result IsMemory }
 {
+    if !table.can_begin(text, ix) {
+        return Ok(FirstWay {
+            way: None,
+            visits: 0,
+        });
+    }
     let task = Task {
         points: &table.points,
         unicode: table.unicode,

@@ -1,6 +1,7 @@
 //! Easy fragments: neighbouring nodes that are searched plainly, by points, and their first way.
 #![tactic(auto)]
 
+mod beginnings;
 mod failed;
 pub mod first_way;
 mod layout;

@@ -1,6 +1,6 @@
 //! The points of a plain search, and the test on one character.
 
-ghost use Rattle.std.specs.Prelude.{◌≡◌, ◌≤◌, length, IfOk, IfErr, IfSome};
+ghost use Rattle.std.specs.Prelude.{◌≡◌, ◌≤◌, ◌<◌, [], length, IfOk, IfErr, IfSome};
 ghost use Rattle.fancy_meaning.specs.Chars as chars;
 ghost use Rattle.fancy_meaning.specs.Machine.{class_test};
 ghost use Rattle.fancy_meaning.specs.Moves.{past_char};
@@ -65,6 +65,21 @@ pub(crate) enum Point {
 }
 
 impl CharTest {
+    /// Whether this ASCII character passes.
+    pub(crate) fn takes_ascii(&self, unicode: bool, c: u8) -> bool
+        requires small { c < 128 }
+        requires read { IsReadBy unicode self.now }
+        ensures { result ≡ plain.passes [] unicode (test_of self.now) c }
+    {
+        match self {
+            CharTest::Any { newline, crlf } => *newline || !(c == 10 || (*crlf && c == 13)),
+            CharTest::One { c: one, casei } => {
+                literal_takes(unicode, *one as u32, *casei, c as u32)
+            }
+            CharTest::Class(class) => class.takes_ascii(c),
+        }
+    }
+
     /// Past the character at `ix`, if it passes. `Memory` where a request for memory was refused.
     pub(crate) fn past(
         &self,

@@ -1,12 +1,15 @@
 //! Fragments: neighbouring easy nodes, laid out as points.
 
+ghost use Rattle.std.specs.Prelude.{◌≡◌, false, IfErr, IfOk, IsTrue, map};
 ghost use Rattle.fancy_info.specs.Infos.{info_tree};
 ghost use Rattle.fancy_expr.specs.Each.{Each};
 ghost use Rattle.fancy_meaning.specs.Options.{Analysis};
-ghost use Rattle.fancy_plain.specs.Tables.{AreFine, HaveClasses, IsTableOf, IsRefusedFor};
+ghost use Rattle.fancy_meaning.specs.Places.{is_place};
+ghost use Rattle.fancy_plain.specs.Beginnings.{may_begin, AreBeginnings};
 ghost use Rattle.fancy_plain.specs.Neighbours.{AreNeighbours, IsEasy};
-ghost use Rattle.std.specs.Prelude.{IfErr, IfOk, map};
+ghost use Rattle.fancy_plain.specs.Views.{point_of};
 
+use crate::beginnings::{beginnings, may_begin};
 use crate::layout::Layout;
 use crate::pair_bits::PairBits;
 use crate::point::Point;
@@ -21,9 +24,15 @@ pub struct PointTable {
     pub(crate) unicode: bool,
     /// Which bit a pair has that was found to have no way.
     pub(crate) pair_bits: PairBits,
+    /// The ASCII characters that a way can begin with, beside any others. None if one may take nothing.
+    pub(crate) beginnings: Option<[bool; 128]>,
+    ghost begin: { AreBeginnings unicode (map point_of points.items) beginnings },
 }
 
 impl PointTable {
+    ghost use Rattle.fancy_plain.specs.Tables.{AreFine, HaveClasses, IsTableOf, IsRefusedFor};
+    ghost use Rattle.fancy_plain.specs.Ways.{HasNoWayAt};
+
     /// The table of neighbouring nodes of one analysed tree, none of them hard.
     ///
     /// A class text that `regex` refuses is refused as `InnerError` or `ClassTooBig`, but not in a loop that is never
@@ -46,10 +55,22 @@ impl PointTable {
         let mut points = layout.points;
         points.push(Point::Stop)?;
         let pair_bits = PairBits::of(&points);
+        let beginnings = beginnings(alloc, &points, unicode)?;
         Ok(PointTable {
             points,
             unicode,
             pair_bits,
+            beginnings,
         })
+    }
+
+    /// Whether a way can begin at `ix`, a character boundary of the text, by the character that stands there. There may
+    /// be none though it can, but where it cannot there is none.
+    pub fn can_begin(&self, text: &str, ix: usize) -> bool
+        requires place { IsTrue (is_place text.now ix) }
+        ensures told { result ≡ may_begin self.now.beginnings text.now ix }
+        ensures none { result ≡ false → HasNoWayAt text.now self.now ix }
+    {
+        may_begin(&self.beginnings, text.as_bytes(), ix)
     }
 }

@@ -7,7 +7,7 @@ use Rattle.fancy_meaning.specs.Premises.{IsText}
 use Rattle.fancy_meaning.specs.Numbers.{usize_max}
 use Rattle.fancy_plain.specs.declared.first_way.FirstWay.{FirstWay}
 use Rattle.fancy_plain.specs.declared.first_way.Way.{Way}
-use Rattle.fancy_plain.proofs.FirstWayLaws.{Ended, end_found, end_refused, first_found, first_none, memo_found}
+use Rattle.fancy_plain.proofs.FirstWayLaws.{Ended, end_found, end_refused, first_found, first_none, memo_found, none_first}
 use Rattle.fancy_plain.proofs.ReadPoints.{points_read}
 use Rattle.fancy_plain.proofs.first_way.first_way_with.Goals as goal
 use Rattle.fancy_plain.proofs.first_way.first_way_with.Goals.{in-Some+in_ok-spans-in-Some, in-None}
@@ -15,6 +15,12 @@ use Rattle.fancy_plain.proofs.first_way.first_way_with.Goals.{in-Some+in_ok-span
 pub find-requires : goal.find-requires
 find-requires c = λ i p at.
     points_read c.args.table.now c.requires.table i p (ap (λ l. slice_get l i) (sym c.deref.ensures.value) ∙ at)
+
+-- ---- no way begins there
+
+pub returns-then-not-can_begin-clause-first : goal.returns-then-not-can_begin-clause-first
+returns-then-not-can_begin-clause-first c =
+    none_first c.args.text.now c.args.table.now c.args.ix (c.can_begin.ensures.none c.if-not-can_begin.true)
 
 -- ---- the search was refused memory
 
