@@ -11,7 +11,7 @@ use Rattle.fancy_meaning.specs.Code.{Code, nothing, one}
 use Rattle.fancy_meaning.specs.Instr.{Instr}
 use Rattle.fancy_meaning.specs.Constructs.{absent_code}
 use Rattle.fancy_meaning.specs.Hard.{is_hard}
-use Rattle.fancy_compile.specs.Sites.{Site}
+use Rattle.fancy_code.specs.Sites.{Site}
 use Rattle.fancy_expr.specs.declared.expr.Absent.{Absent}
 use Rattle.fancy_expr.specs.declared.expr.Absent.TheVariants as code_absent
 use Rattle.fancy_expr.specs.declared.expr.Expr.{Expr}
@@ -19,23 +19,11 @@ use Rattle.fancy_expr.specs.declared.expr.Expr.TheVariants as code
 use Rattle.fancy_expr.specs.Exprs.{below}
 use Rattle.fancy_info.specs.Infos.{nth, node_over, absent_over}
 use Rattle.std.proofs.lemmas.Bool.{and_parts}
-use Rattle.fancy_compile.specs.Faults.{Rejects, refused, out_of_range, HasRejected}
-use Rattle.fancy_compile.specs.Drafts.{Draft, Writes, written_code, node_code}
-use Rattle.fancy_compile.specs.Nodes.{is_repeater, is_absent_expr}
-use Rattle.fancy_compile.proofs.Written.{wrote_node, rejected_here, other_absent}
-
--- ---- whether an absent node stands below a node
-
-module _ (es : Trees) (n : ℕ) (w : Within) where
-  absent_is : (a : Absent) → is_absent (absent_over a es) ≡ true
-  absent_is (code_absent.Repeater' b e) = refl
-  absent_is (code_absent.Expression' b a c e) = refl
-  absent_is (code_absent.Stopper' b e) = refl
-  absent_is code_absent.Clear = refl
-
-  pub over_absent : (e : Expr) → is_absent (node_over e n w es) ≡ is_absent_expr e
-  over_absent (code.Absent a) = absent_is a
-  over_absent e = refl
+use Rattle.fancy_code.specs.Faults.{Rejects, refused, out_of_range, HasRejected}
+use Rattle.fancy_code.specs.Drafts.{Draft, Writes, written_code, node_code}
+use Rattle.fancy_compile.specs.Nodes.{is_repeater}
+use Rattle.fancy_nodes.specs.Nodes.{is_absent_expr}
+use Rattle.fancy_code.proofs.Written.{wrote_node, rejected_here, other_absent}
 
 -- ---- the kinds of absent nodes
 

@@ -25,13 +25,13 @@ use Rattle.fancy_compile.specs.declared.scope.Scope.{Scope}
 use Rattle.fancy_compile.specs.declared.calls.OpenCall.{OpenCall}
 use Rattle.fancy_compile.specs.declared.calls.OpenCall.TheViews.{roll-OpenCall}
 use Rattle.fancy_compile.specs.OpenDepths.{depths_in, depths_of}
-use Rattle.fancy_compile.specs.Sites.{Site, under_call}
-use Rattle.fancy_compile.specs.Faults.{IsBelow, itself, below, through, Rejects, MayReject, rejected, too_big, refused, out_of_range, IsCompilable, IsRejected, HasRejected}
-use Rattle.fancy_compile.specs.Drafts.{Draft, Breaks, Turns, Adds, Writes, code_in, is_easy, written_code}
+use Rattle.fancy_code.specs.Sites.{Site, under_call}
+use Rattle.fancy_code.specs.Faults.{IsBelow, itself, below, through, Rejects, MayReject, rejected, too_big, refused, out_of_range, IsCompilable, IsRejected, HasRejected}
+use Rattle.fancy_code.specs.Drafts.{Draft, Breaks, Turns, Adds, Writes, code_in, is_easy, written_code}
 use Rattle.fancy_info.specs.NodeCounts.{node_count}
 use Rattle.fancy_compile.specs.Nodes.{IsScopeOf, IsScopeAt, work, work_by}
-use Rattle.fancy_compile.proofs.Writing.{adds_to}
-use Rattle.fancy_compile.proofs.Written.{rejected_here, safe_fine}
+use Rattle.fancy_code.proofs.Writing.{adds_to}
+use Rattle.fancy_code.proofs.Written.{rejected_here, safe_fine}
 use Rattle.fancy_compile.proofs.OpenDepths.{depth_by, depth_rolled}
 
 pub missing_refused : (p : Site) (g : ℕ) → target p.analysis.tree g ≡ None → HasRejected p (SubroutineCall g ∷ []) refusal.SubroutineCallTargetNotFound
@@ -66,7 +66,8 @@ module _ (p : Site) (g : ℕ) (b : Tree) (at : target p.analysis.tree g ≡ Some
       ∙ ap fail_code at
 
   pub wrote_full : (call : ℕ → Bool → Code) (n : ℕ) (at_start in_hard : Bool) (s t : Draft) → call ≡ called_code p.plan (is_easy p.analysis) n p.depths
-      → call_depth ≤ p.depths g → Writes p (one Instr.Fail) [] s t → Writes p (written_code p call (SubroutineCall g) at_start in_hard) (SubroutineCall g ∷ []) s t
+      → call_depth ≤ p.depths g → Writes p (one Instr.Fail) [] s t
+      → Writes p (written_code p call (SubroutineCall g) at_start in_hard) (SubroutineCall g ∷ []) s t
   wrote_full call n at_start in_hard s t is full h =
       subst (λ k. Adds p (k (length s.instrs) s.fresh) (SubroutineCall g ∷ []) s t) (sym (ap (λ f. f g in_hard) is ∙ full_code n in_hard full))
       (adds_to p (one Instr.Fail (length s.instrs) s.fresh) (one Instr.Fail (length s.instrs) s.fresh) [] (SubroutineCall g ∷ []) s t t (omega arith) (λ x. x)

@@ -12,17 +12,17 @@ use Rattle.fancy_meaning.specs.Layout.{program_code, first_fresh, layout}
 use Rattle.std.specs.List.{list_any}
 use Rattle.fancy_meaning.specs.Nodes.{nodes, group_count, target, is_keep_out}
 use Rattle.fancy_meaning.specs.OpenCalls.{Depths, opened, no_calls, call_depth}
-use Rattle.fancy_compile.specs.Sites.{top}
+use Rattle.fancy_code.specs.Sites.{top}
 use Rattle.std.proofs.lemmas.Bool.{cond-false}
 use Rattle.std.proofs.lemmas.Bool.Decides.{eqb_tells}
 use Rattle.fancy_meaning.specs.Sizes.{size}
 use Rattle.fancy_expr.specs.declared.error.Error.{Error}
 use Rattle.fancy_expr.specs.declared.error.Error.TheVariants as error
-use Rattle.fancy_compile.specs.Kinds.{is_out_of_range}
-use Rattle.fancy_compile.specs.Faults as faults
+use Rattle.fancy_code.specs.Kinds.{is_out_of_range}
+use Rattle.fancy_code.specs.Faults as faults
 use Rattle.fancy_expr.specs.Errors.{error_of}
-use Rattle.fancy_compile.specs.Faults.{MayReject, rejected, IsBelow, itself, below, through, Rejects, refused, out_of_range, IsCompilable}
-use Rattle.fancy_compile.specs.Drafts.{Draft, IsOver, Extends, Breaks, Turns, Writes, is_easy}
+use Rattle.fancy_code.specs.Faults.{MayReject, rejected, IsBelow, itself, below, through, Rejects, refused, out_of_range, IsCompilable}
+use Rattle.fancy_code.specs.Drafts.{Draft, IsOver, Extends, Breaks, Turns, Writes, is_easy}
 use Rattle.fancy_compile.specs.Compiled.{refuses, too_big, Refuses, MayAnswer, Compiles}
 
 some_same : (a b : Tree) → Some a ≡ Some b → a ≡ b

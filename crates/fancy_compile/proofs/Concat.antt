@@ -8,7 +8,7 @@ use Rattle.fancy_meaning.specs.Tree.{Tree, trees, Concat, Alt, LookAround, LookA
 use Rattle.fancy_meaning.specs.Instr.{Instr}
 use Rattle.fancy_meaning.specs.Sizes.{Size, size}
 use Rattle.fancy_meaning.specs.Options.{Analysis}
-use Rattle.fancy_compile.specs.Sites.{Site}
+use Rattle.fancy_code.specs.Sites.{Site}
 use Rattle.fancy_meaning.specs.Batches.{batch}
 use Rattle.fancy_meaning.specs.Code.{Code, nothing, one, ◌>>◌, in_turn, branches}
 use Rattle.fancy_meaning.specs.Constructs.{look_code, negative_look_code, behind_code}
@@ -17,10 +17,12 @@ use Rattle.fancy_meaning.specs.Layout.{Part, concat_code, each_part, in_context,
 use Rattle.fancy_info.specs.declared.info.Info.{Info}
 use Rattle.fancy_info.specs.Infos.{info_tree, info_size, IsAnalysed}
 use Rattle.fancy_expr.specs.Each.{Each}
-use Rattle.fancy_compile.specs.Drafts.{is_easy, written_code, node_code}
-use Rattle.fancy_compile.specs.Nodes.{back_start, codes_in_turn, codes_of_branches, codes_of_none, front_count, is_back, is_front}
-use Rattle.fancy_compile.proofs.Infos.{hard_child, known_child, size_known}
-use Rattle.fancy_compile.proofs.Slices.{back_turned, each_by, each_drop, each_reverse, each_take, map-reverse}
+use Rattle.fancy_code.specs.Drafts.{is_easy, written_code, node_code}
+use Rattle.fancy_nodes.specs.Nodes.{back_start, front_count, is_back, is_front}
+use Rattle.fancy_compile.specs.Nodes.{codes_in_turn, codes_of_branches, codes_of_none}
+use Rattle.fancy_nodes.proofs.Known.{hard_child, known_child, size_known}
+use Rattle.fancy_compile.proofs.Slices.{back_turned}
+use Rattle.fancy_nodes.proofs.EachLaws.{each_by, each_drop, each_reverse, each_take, map-reverse}
 
 -- ---- how many are the first batch, and where the last one begins
 
@@ -243,7 +245,8 @@ module _ (p : Site) (call : ℕ → Bool → Code) where
 
   -- ---- look-around, of an alternation too
 
-  pub ahead_by : (at_start in_hard : Bool) (e : Tree) → written_code p call (LookAround LookAhead e) at_start in_hard ≡ look_code (node_code p call e false false)
+  pub ahead_by : (at_start in_hard : Bool) (e : Tree)
+      → written_code p call (LookAround LookAhead e) at_start in_hard ≡ look_code (node_code p call e false false)
   ahead_by at_start in_hard (Alt es) = refl
   ahead_by at_start in_hard e = refl
 

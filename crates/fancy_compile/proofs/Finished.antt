@@ -12,16 +12,16 @@ use Rattle.fancy_info.specs.declared.info.Info.{Info}
 use Rattle.fancy_info.specs.Infos.{IsRoot, info_tree, info_size, info_facts}
 use Rattle.fancy_compile.specs.declared.options.CompileOptions.{CompileOptions}
 use Rattle.fancy_compile.specs.declared.scope.Scope.{Scope}
-use Rattle.fancy_compile.specs.GroupTables.{IsTable}
+use Rattle.fancy_nodes.specs.GroupTables.{IsTable}
 use Rattle.fancy_compile.specs.Nodes.{IsScopeOf}
-use Rattle.fancy_compile.specs.Sites.{top}
-use Rattle.fancy_compile.specs.Drafts.{Draft, Extends, Writes, is_easy}
+use Rattle.fancy_code.specs.Sites.{top}
+use Rattle.fancy_code.specs.Drafts.{Draft, Extends, Writes, is_easy}
 use Rattle.fancy_meaning.specs.AnalysisRefusals.{CompileError, AnalysisRefuses}
 use Rattle.fancy_meaning.specs.Fits.{program_fits}
 use Rattle.fancy_fits.proofs.Programs.{layouts_fit}
 use Rattle.fancy_compile.specs.Compiled.{IsWritingOf, MayCompile, compile_options_of, plan_with}
 use Rattle.fancy_compile.proofs.Called.{table_nodes, table_numbers, table_known, table_starts}
-use Rattle.fancy_compile.proofs.Infos.{size_known}
+use Rattle.fancy_nodes.proofs.Known.{size_known}
 use Rattle.fancy_compile.proofs.Roots.{root_fine, root_known}
 use Rattle.fancy_compile.proofs.Compiled.{start, whole_code, made, same_program}
 
@@ -63,15 +63,13 @@ module _ (a : Analysed) (i : Info) (o : CompileOptions) (m : MayCompile a i o) w
     fresh_is : fresh_by explicit total ≡ first_fresh p
     fresh_is = ap (λ b. fresh_by b total) explicit_is ∙ ap (fresh_by ((analysis a).options).explicit_capture_group_0) total_is
 
-    abbrev draft : List Instr → ℕ → Draft
-    draft instrs fresh = record { instrs = instrs; fresh = fresh; limit = o.max_prog_size; fault = None }
-
     -- the writing begins as the layout does
-    pub writing_from_start : (instrs : List Instr) (fresh : ℕ) (t : Draft) → instrs ≡ [] → fresh ≡ fresh_by explicit total
-        → Writes (top p) (program_code p (is_easy p.analysis)) (whole ∷ []) (draft instrs fresh) t → IsWritingOf p t
-    writing_from_start instrs fresh t none at h =
-        subst (λ n. Writes (top p) (program_code p (is_easy p.analysis)) (whole ∷ []) (draft [] n) t) (at ∙ fresh_is)
-        (subst (λ l. Writes (top p) (program_code p (is_easy p.analysis)) (whole ∷ []) (draft l fresh) t) none h)
+    pub writing_from_start : (fresh : ℕ) (t : Draft) → fresh ≡ fresh_by explicit total
+        → Writes (top p) (program_code p (is_easy p.analysis)) (whole ∷ [])
+        (record { instrs = []; fresh = fresh; limit = o.max_prog_size; fault = None }) t → IsWritingOf p t
+    writing_from_start fresh t at h =
+        subst (λ n. Writes (top p) (program_code p (is_easy p.analysis)) (whole ∷ [])
+        (record { instrs = []; fresh = n; limit = o.max_prog_size; fault = None }) t) (at ∙ fresh_is) h
 
     -- the parts are those of the layout
     pub finish_compiles : (not_empty longest keeps : Bool) → not_empty ≡ ((info_facts i).options).find_not_empty

@@ -26,7 +26,9 @@ use Rattle.fancy_plain.specs.Tables.{AreFine}
 use Rattle.fancy_fragments.specs.Nodes.{AreEasyNeighbours}
 use Rattle.fancy_compile.specs.declared.scope.Scope.{Scope}
 use Rattle.fancy_info.specs.NodeCounts.{node_count, node_counts}
-use Rattle.fancy_compile.specs.Nodes.{IsWhole, AreWhole, IsFineTree, IsKnown}
+use Rattle.fancy_compile.specs.Nodes.{IsWhole, AreWhole}
+use Rattle.fancy_nodes.specs.Nodes.{IsFineTree, IsKnown}
+use Rattle.fancy_nodes.proofs.Known.{known_child, nodes_of_info}
 
 -- ---- lists
 
@@ -37,30 +39,7 @@ only_three (x ∷ y ∷ []) c d e n p q r = absurd (omega arith)
 only_three (x ∷ y ∷ z ∷ []) c d e n p q r = ap (λ v. v ∷ y ∷ z ∷ []) (sym p) ∙ ap (λ v. c ∷ v ∷ z ∷ []) (sym q) ∙ ap (λ v. c ∷ d ∷ v ∷ []) (sym r)
 only_three (x ∷ y ∷ z ∷ w ∷ l) c d e n p q r = absurd (omega arith)
 
-pub children_trees : (es : List Tree) → children (trees es) ≡ es
-children_trees [] = refl
-children_trees (e ∷ es) = ap (λ l. e ∷ l) (children_trees es)
-
 -- ---- what is known
-
--- the hardness of a node that was visited
-pub hard_child : (a : Analysis) (i : Info) → IsAnalysed a i → info_hard i ≡ is_hard a (info_tree i)
-hard_child a i h = (each_here (IsFound a) i h).hard ∙ ap (is_hard a) (sym (tree_out i))
-
-pub known_child : (a : Analysis) (i : Info) → IsAnalysed a i → IsKnown a i
-known_child a i h = record {
-  node = (each_here (IsFound a) i h).node;
-  children = each_below (IsFound a) i h;
-  easy = λ e. sym (hard_child a i h) ∙ e;
-}
-
--- a child by its place among the children
-module _ (i : Info) (children : List Info) (same : children ≡ info_children i) (n : ℕ) (x : Info) (lt : n < length children) (is : x ≡ get_or children n x) where
-  pub part_smaller : node_count x < node_count i
-  part_smaller = omega (arith, node_count-below i, ap node_counts same, child_count children n x lt is)
-
-  pub part_known : (a : Analysis) → IsKnown a i → IsKnown a x
-  part_known a k = known_child a x (each_at (IsAnalysed a) children n x (subst (Each (IsAnalysed a)) (sym same) k.children) lt is)
 
 -- a node that is said to be easy is
 pub easy_known : (a : Analysis) (i : Info) → IsKnown a i → info_hard i ≡ false → IsEasy a i
@@ -68,15 +47,6 @@ easy_known a i k h =
     let easy = k.easy h in
     let found : IsFound a (info_facts i) (info_children i) = record { node = k.node; hard = h ∙ sym easy ∙ ap (is_hard a) (tree_out i) } in
     record { analysed = subst (EachNode (IsFound a)) (roll-out-Info i) (each_made (IsFound a) (out-Info i) found k.children); easy = easy }
-
--- ---- the nodes below a node
-
-pub nodes_of_info : (a : Analysis) (i : Info) → IsKnown a i → nodes (info_tree i) ≡ info_tree i ∷ nodes_of_each (trees (map info_tree (info_children i)))
-nodes_of_info a i k =
-    let ts = map info_tree (info_children i) in
-    let e = (out-Info i).expr.now in
-    let below_it = over-parts e (out-Info i).start_group (info_within i) ts (length-map (info_children i) info_tree ∙ (k.node).arity) in
-    nodes-parts (info_tree i) ∙ ap (λ t. info_tree i ∷ nodes_of_each t) (ap parts (tree_out i) ∙ below_it)
 
 fine_each : (es : List Tree) → ((d : Tree) → Contains (nodes_of_each (trees es)) d → IsFine d) → AreFine es
 fine_each [] h = tt
@@ -132,13 +102,6 @@ module _ (scope : Scope) where
     small = omega (arith, child_count l i x lt at, h.small);
     fine = fine_at l i x h.fine lt at;
   }
-
-module _ (info : Info) where
-  pub size_known : (a : Analysis) → IsKnown a info → info_size info ≡ size a.tree (info_tree info)
-  size_known a k = k.node.size ∙ ap (size a.tree) (sym (tree_out info))
-
-pub read_known : (a : Analysis) (i : Info) → IsKnown a i → (info_facts i).is_read ≡ is_read_group a.tree (info_tree i)
-read_known a i k = (k.node).read ∙ ap (is_read_group a.tree) (sym (tree_out i))
 
 module _ (scope : Scope) (info : Info) where
   -- a node over one other

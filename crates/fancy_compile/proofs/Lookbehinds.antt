@@ -6,7 +6,7 @@ use Rattle.fancy_meaning.specs.AnalysisRefusals as refusal
 use Rattle.fancy_meaning.specs.CompileRefusals.{IsAmong, here, there, is_behind, branches_of, IsVariableLookbehind, absent_other, variable_lookbehind}
 use Rattle.fancy_meaning.specs.Code.{Code, in_turn, branches}
 use Rattle.fancy_meaning.specs.Options.{Analysis}
-use Rattle.fancy_compile.specs.Sites.{Site}
+use Rattle.fancy_code.specs.Sites.{Site}
 use Rattle.fancy_meaning.specs.Sizes.{Size, size}
 use Rattle.fancy_expr.specs.declared.expr.Absent.{Absent}
 use Rattle.fancy_expr.specs.declared.expr.Absent.TheVariants as code_absent
@@ -17,14 +17,15 @@ use Rattle.fancy_info.specs.declared.info.Info.TheViews.{out-Info}
 use Rattle.fancy_info.specs.Infos.{node_over, absent_over, info_tree, info_size, info_within, info_children, info_facts, IsAnalysed}
 use Rattle.fancy_expr.specs.Each.{Each}
 use Rattle.fancy_info.proofs.Unfolded.{tree_out}
-use Rattle.fancy_compile.specs.declared.around.Around.TheVariants as around
-use Rattle.fancy_compile.specs.Arounds.{around_code, behind, behind_kind, not_behind}
-use Rattle.fancy_compile.specs.Faults.{Rejects, refused, out_of_range, HasRejected}
-use Rattle.fancy_compile.specs.Drafts.{Draft, Writes, written_code, node_code}
-use Rattle.fancy_compile.specs.Nodes.{is_alt, has_const_branches, look_behind, IsKnown, codes_of_branches, codes_of_none}
+use Rattle.fancy_code.specs.declared.around.Around.TheVariants as around
+use Rattle.fancy_code.specs.Arounds.{around_code, behind, behind_kind, not_behind}
+use Rattle.fancy_code.specs.Faults.{Rejects, refused, out_of_range, HasRejected}
+use Rattle.fancy_code.specs.Drafts.{Draft, Writes, written_code, node_code}
+use Rattle.fancy_nodes.specs.Nodes.{is_alt, has_const_branches, IsKnown}
+use Rattle.fancy_compile.specs.Nodes.{look_behind, codes_of_branches, codes_of_none}
 use Rattle.fancy_compile.proofs.Concat.{AllConst, behind_by, not_behind_by, behind_alt_by, not_behind_alt_by}
-use Rattle.fancy_compile.proofs.Infos.{known_child, size_known, children_trees}
-use Rattle.fancy_compile.proofs.Written.{IsFine, wrote_node, safe_fine, rejected_here}
+use Rattle.fancy_nodes.proofs.Known.{known_child, size_known, children_trees}
+use Rattle.fancy_code.proofs.Written.{IsFine, wrote_node, safe_fine, rejected_here}
 
 -- ---- branches
 
@@ -114,7 +115,8 @@ module _ (p : Site) where
   is_lookbehind true = refl
   is_lookbehind false = refl
 
-  pub variable_refused : (negative : Bool) (e : Tree) → (size p.analysis.tree e).is_const ≡ false → Failing (λ b. (size p.analysis.tree b).is_const) (branches_of e)
+  pub variable_refused : (negative : Bool) (e : Tree) → (size p.analysis.tree e).is_const ≡ false
+      → Failing (λ b. (size p.analysis.tree b).is_const) (branches_of e)
       → HasRejected p (LookAround (look_behind negative) e ∷ []) refusal.VariableLookBehindRequiresFeature
   variable_refused negative e varies f =
       rejected_here p (LookAround (look_behind negative) e) refusal.VariableLookBehindRequiresFeature

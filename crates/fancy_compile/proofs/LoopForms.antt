@@ -6,14 +6,14 @@ use Rattle.fancy_meaning.specs.Code.{Code}
 use Rattle.fancy_meaning.specs.Constructs.{LoopForm, Never, AtMostOnce, Counted, loop_form, repeat_code}
 use Rattle.fancy_meaning.specs.Layout.{is_at_most_once}
 use Rattle.fancy_meaning.specs.Sizes.{size}
-use Rattle.fancy_compile.specs.Sites.{Site}
+use Rattle.fancy_code.specs.Sites.{Site}
 use Rattle.fancy_expr.specs.Views.{bound_of}
-use Rattle.fancy_compile.specs.declared.loops.LoopKind.{LoopKind}
-use Rattle.fancy_compile.specs.declared.loops.LoopKind.TheVariants as kind
-use Rattle.fancy_compile.specs.Arounds.{kind_form}
-use Rattle.fancy_compile.specs.Drafts.{Draft, Writes, written_code, node_code}
-use Rattle.fancy_compile.proofs.Writing.{wrote_nothing}
-use Rattle.fancy_compile.proofs.Written.{wrote_node, safe_fine}
+use Rattle.fancy_code.specs.declared.loops.LoopKind.{LoopKind}
+use Rattle.fancy_code.specs.declared.loops.LoopKind.TheVariants as kind
+use Rattle.fancy_code.specs.Arounds.{kind_form}
+use Rattle.fancy_code.specs.Drafts.{Draft, Writes, written_code, node_code}
+use Rattle.fancy_code.proofs.Writing.{wrote_nothing}
+use Rattle.fancy_code.proofs.Written.{wrote_node, safe_fine}
 
 abbrev is_never_form : LoopForm → Bool
 is_never_form Never = true

@@ -9,7 +9,7 @@ use Rattle.fancy_meaning.specs.Nodes.{nodes, group_count}
 use Rattle.fancy_meaning.specs.Premises.{Analysed, analysis}
 use Rattle.fancy_meaning.specs.WellFormed.{refers}
 use Rattle.fancy_composed.proofs.Written.{written_is_node}
-use Rattle.fancy_compile.specs.Kinds.{is_out_of_range}
+use Rattle.fancy_code.specs.Kinds.{is_out_of_range}
 
 module _ (a : Analysed) (few : group_count ((analysis a).tree) ≤ 1_000_000)
     (allowed : (error : CompileError) → ¬ AnalysisRefuses a.parsed a.options error) where

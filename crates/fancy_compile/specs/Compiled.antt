@@ -17,8 +17,8 @@ use Rattle.fancy_info.specs.Infos.{IsRoot}
 use Rattle.fancy_compile.specs.declared.options.BytesMode.{BytesMode}
 use Rattle.fancy_compile.specs.declared.options.BytesMode.TheVariants as code
 use Rattle.fancy_compile.specs.declared.options.CompileOptions.{CompileOptions}
-use Rattle.fancy_compile.specs.Drafts.{Draft, Writes, is_easy}
-use Rattle.fancy_compile.specs.Sites.{top}
+use Rattle.fancy_code.specs.Drafts.{Draft, Writes, is_easy}
+use Rattle.fancy_code.specs.Sites.{top}
 use Rattle.fancy_expr.specs.Errors.{error_of}
 
 abbrev pub mode_of : BytesMode → plain.BytesMode

@@ -1,13 +1,3 @@
-pub mod Kinds
-pub mod Sites
 pub mod OpenDepths
-pub mod Faults
-pub mod Drafts
-pub mod Neighbours
-pub mod Batches
-pub mod Arounds
 pub mod Nodes
-pub mod GroupTables
 pub mod Compiled
-pub mod ClassKeys
-pub mod SharedDelegates

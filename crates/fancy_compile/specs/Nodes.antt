@@ -20,39 +20,18 @@ use Rattle.fancy_plain.specs.Tables.{AreFine}
 use Rattle.fancy_meaning.specs.OpenCalls.{Depths, free_calls}
 use Rattle.fancy_meaning.specs.Sizes.{size}
 use Rattle.fancy_meaning.specs.Options.{Analysis}
-use Rattle.fancy_compile.specs.Sites.{Site}
+use Rattle.fancy_code.specs.Sites.{Site}
 use Rattle.fancy_info.specs.declared.info.Info.{Info}
 use Rattle.fancy_info.specs.Infos.{node_over, info_tree, info_facts, info_size, info_hard, info_children, AreInTurn, IsNode, IsAnalysed}
 use Rattle.fancy_info.specs.NodeCounts.{node_count, node_counts}
 use Rattle.fancy_expr.specs.Each.{Each}
 use Rattle.fancy_compile.specs.declared.scope.Scope.{Scope}
-use Rattle.fancy_compile.specs.declared.group_table.GroupTable.{GroupTable}
+use Rattle.fancy_nodes.specs.declared.group_table.GroupTable.{GroupTable}
 use Rattle.fancy_compile.specs.OpenDepths.{depths_of}
-use Rattle.fancy_compile.specs.Arounds.{around_code, behind, not_behind}
-use Rattle.fancy_compile.specs.Drafts.{Draft, Writes, code_in, written_code, is_easy, node_code}
-
--- what was found of a node, but that the whole tree may be hard for its own reason
-pub record IsKnown (a : Analysis) (i : Info) : Type 0 where
-  pub node : IsNode a (info_facts i) (info_children i)
-  pub children : Each (IsAnalysed a) (info_children i)
-  pub easy : info_hard i ≡ false → is_hard a (info_tree i) ≡ false
-
--- the node and each below it is well formed
-abbrev pub IsFineTree : Tree → Type 0
-IsFineTree e = (d : Tree) → Contains (nodes e) d → IsFine d
-
--- numbered one by one, from this number
-abbrev pub AreNumbered : ℕ → List (ℕ × Tree) → Type 0
-AreNumbered n [] = Unit {0}
-AreNumbered n (h ∷ hs) = (h.0 ≡ n) × AreNumbered (suc n) hs
-
--- a node of at most this size is known, and is well formed
-abbrev pub IsEntry : Analysis → ℕ → Bor Info → Type 0
-IsEntry a most b = IsKnown a b.now × (node_count b.now ≤ most) × IsFineTree (info_tree b.now)
-
--- a group, of its number and its body
-abbrev pub group_node : ℕ × Tree → Tree
-group_node h = plain.Group h.0 h.1
+use Rattle.fancy_code.specs.Arounds.{around_code, behind, not_behind}
+use Rattle.fancy_code.specs.Drafts.{Draft, Writes, code_in, written_code, is_easy, node_code}
+use Rattle.fancy_nodes.specs.Nodes.{IsKnown, IsFineTree}
+use Rattle.fancy_nodes.specs.GroupTables.{AreNumbered, IsEntry, group_node}
 
 -- What a scope says of the whole tree: it has the root, and the groups in order of their numbers.
 pub record IsScopeOf (a : Analysis) (scope : Scope) : Type 0 where
@@ -117,25 +96,6 @@ WritesNode scope i at_start in_hard s t =
     → IsKnown p.analysis i
     → Writes p (code_in p call (not (info_hard i)) (info_tree i) at_start in_hard) (info_tree i ∷ []) s t
 
--- a node of this tree
-abbrev pub WritesTree : Scope → Tree → Draft → Draft → Type 0
-WritesTree scope e s t =
-    (p : Site) (call : ℕ → Bool → Code) (at_start in_hard : Bool)
-    → p.unicode ≡ scope.unicode
-    → Writes p (written_code p call e at_start in_hard) (e ∷ []) s t
-
--- a node of this expression, over any children
-abbrev pub WritesLeaf : Scope → Expr → Bool → Draft → Draft → Type 0
-WritesLeaf scope e at_start s t =
-    (p : Site) (call : ℕ → Bool → Code) (in_hard : Bool) (start : ℕ) (w : plain.Within) (es : Trees)
-    → p.unicode ≡ scope.unicode
-    → Writes p (written_code p call (node_over e start w es) at_start in_hard) (node_over e start w es ∷ []) s t
-
--- the assertion of a node, which may stand in a look-around
-abbrev pub assertion_inside : (in_look : Bool) → plain.Assertion → plain.Assertion
-assertion_inside true (plain.StartLineOniguruma crlf) = plain.StartLine crlf
-assertion_inside in_look a = a
-
 -- ---- neighbours and branches
 
 -- the codes of neighbours, each in a hard context
@@ -162,32 +122,6 @@ codes_of_none p call [] = []
 codes_of_none p call (e ∷ es) =
     around_code (not_behind (size p.analysis.tree e).least) (node_code p call e false false)
     ∷ codes_of_none p call es
-
--- the first of them that may be one batch: easy nodes of constant size
-abbrev pub is_front : Info → Bool
-is_front i = not (info_hard i) && (info_size i).is_const
-
-abbrev pub front_count : List Info → ℕ
-front_count is = prefix_len is_front is
-
--- the last of them that may be one batch
-abbrev pub is_back : (in_hard : Bool) → Info → Bool
-is_back in_hard i = not (info_hard i) && (not in_hard || (info_size i).is_const)
-
-abbrev pub back_start : (in_hard : Bool) → List Info → ℕ
-back_start in_hard is = length is - suffix_len (is_back in_hard) is
-
-abbrev pub front_of : List Info → List Info
-front_of is = take (front_count is) is
-
-abbrev pub rest_of : List Info → List Info
-rest_of is = drop (front_count is) is
-
-abbrev pub middle_of : (in_hard : Bool) → List Info → List Info
-middle_of in_hard is = take (back_start in_hard (rest_of is)) (rest_of is)
-
-abbrev pub back_of : (in_hard : Bool) → List Info → List Info
-back_of in_hard is = drop (back_start in_hard (rest_of is)) (rest_of is)
 
 -- neighbours are written as the children of a concatenation
 abbrev pub WritesConcat : Scope → List Info → (at_start in_hard : Bool) → Draft → Draft → Type 0
@@ -266,28 +200,11 @@ abbrev pub look_behind : (negative : Bool) → plain.Look
 look_behind true = plain.LookBehindNeg
 look_behind false = plain.LookBehind
 
-abbrev pub is_alt : Expr → Bool
-is_alt (code.Alt' shape es) = true
-is_alt e = false
-
--- an alternation, each branch of which takes as many characters each time
-abbrev pub has_const_branches : Info → Bool
-has_const_branches i = is_alt (info_facts i).expr && list_all (λ b. (info_size b).is_const) (info_children i)
-
 -- ---- what must not be there
 
 abbrev pub is_repeater : Absent → Bool
 is_repeater (code_absent.Repeater' b e) = true
 is_repeater a = false
-
--- the expression is a `\K`
-abbrev pub is_keep_out_expr : Expr → Bool
-is_keep_out_expr code.KeepOut = true
-is_keep_out_expr e = false
-
-abbrev pub is_absent_expr : Expr → Bool
-is_absent_expr (code.Absent a) = true
-is_absent_expr e = false
 
 -- one character where the body has no way
 abbrev pub step_past : Code → Code
@@ -303,10 +220,6 @@ WritesCall scope g in_hard s t =
     (p : Site) (call : ℕ → Bool → Code) (at_start : Bool)
     → IsScopeAt p call scope
     → Writes p (written_code p call (plain.SubroutineCall g) at_start in_hard) (plain.SubroutineCall g ∷ []) s t
-
--- there is something that a call of the number calls
-abbrev pub has_target : GroupTable → ℕ → Bool
-has_target gs g = g == 0 || (nat_le gs.first g && nat_lt (g - gs.first) (length gs.nodes.items))
 
 -- ---- how far there is to go
 

@@ -1,90 +1,32 @@
-//! Constructs with one body: group, atomic, look-around, loop.
+//! A body with what stands around it.
 
-ghost use Rattle.std.specs.Prelude.{[], ◌-◌, ◌<◌, ◌^◌};
+ghost use Rattle.fancy_code.specs.Arounds.{around_code};
+ghost use Rattle.fancy_code.specs.Drafts.{draft_of};
+ghost use Rattle.fancy_compile.specs.Nodes.{IsWhole, WritesOver};
 
-use crate::compiler::Compiler;
-use crate::looks::LookKind;
-use crate::loops::LoopKind;
 use crate::scope::Scope;
+use fancy_code::around::Around;
+use fancy_code::writer::CodeWriter;
 use fancy_info::info::Info;
-use fancy_vm::vm::Insn;
 
-/// What stands around a node.
-#[derive(Clone, Copy)]
-pub enum Around {
-    Group(usize),
-    Atomic,
-    Look(LookKind),
-    Loop { kind: LoopKind, greedy: bool },
-}
-
-/// Where a construct begins, and the first slot that was not taken there.
-#[derive(Clone, Copy)]
-pub struct Start {
-    pub base: usize,
-    pub fresh: usize,
-    ghost low: { base < 2 ^ 64 - 2 },
-    ghost small: { fresh < 2 ^ 64 - 2 },
-}
-
-impl Compiler {
-    ghost use Rattle.fancy_compile.specs.Arounds.{Ends, IsStart, around_code, opening};
-    ghost use Rattle.fancy_compile.specs.Drafts.{Writes, draft_of};
-    ghost use Rattle.fancy_compile.specs.Nodes.{IsWhole, WritesOver};
-    ghost use Rattle.fancy_compile.specs.Sites.{Site};
-
-    /// The place of what comes next.
-    pub fn start(&self) -> Start
-        ensures { IsStart result (draft_of self.now) }
-    {
-        Start {
-            base: self.code.len(),
-            fresh: self.fresh,
-        }
-    }
-
-    /// What stands before a node.
-    pub fn begin(&mut self, around: Around)
-        ensures { (p : Site)
-            → Writes p (opening around) [] (draft_of self.old) (draft_of self.new) }
-    {
-        match around {
-            Around::Group(group) => self.begin_group(group),
-            Around::Atomic => self.push(Insn::BeginAtomic),
-            Around::Look(kind) => self.begin_look(kind),
-            Around::Loop { kind, .. } => self.begin_loop(kind),
-        }
-    }
-
-    /// What stands behind a node, before which `begin` wrote at `start`.
-    pub fn end(&mut self, around: Around, start: Start)
-        ensures { Ends around start (draft_of self.old) (draft_of self.new) }
-    {
-        match around {
-            Around::Group(group) => self.end_group(group, start),
-            Around::Atomic => self.push(Insn::EndAtomic),
-            Around::Look(kind) => self.end_look(kind, start),
-            Around::Loop { kind, greedy } => self.end_loop(kind, greedy, start),
-        }
-    }
-
+impl<'t, 'i, 'a, 'o> Scope<'t, 'i, 'a, 'o> {
     /// A node with what stands around it.
     #[cycle(emit)]
     pub fn emit_around(
-        &mut self,
-        scope: &Scope,
+        &self,
+        writer: &mut CodeWriter,
         around: Around,
         body: &Info,
         at_start: bool,
         in_hard: bool,
     )
-        requires { IsWhole scope.now body.now }
-        ensures { WritesOver (around_code around) scope.now body.now at_start in_hard
-            (draft_of self.old) (draft_of self.new) }
+        requires { IsWhole self.now body.now }
+        ensures { WritesOver (around_code around) self.now body.now at_start in_hard
+            (draft_of writer.old) (draft_of writer.new) }
     {
-        let start = self.start();
-        self.begin(around);
-        self.emit(scope, body, at_start, in_hard);
-        self.end(around, start);
+        let start = writer.start();
+        writer.begin(around);
+        self.emit(writer, body, at_start, in_hard);
+        writer.end(around, start);
     }
 }

@@ -1,14 +1,14 @@
 //! Calls: what a call names is written anew.
 
-ghost use Rattle.fancy_compile.specs.Drafts.{draft_of};
+ghost use Rattle.fancy_code.specs.Drafts.{draft_of};
 ghost use Rattle.fancy_compile.specs.Nodes.{IsScope, WritesCall};
 ghost use Rattle.fancy_compile.specs.OpenDepths.{depths_in, depths_of};
 ghost use Rattle.std.specs.Prelude.{◌≡◌};
 
-use crate::compiler::Compiler;
-use crate::group_table::is_marked;
 use crate::scope::Scope;
+use fancy_code::writer::CodeWriter;
 use fancy_expr::error::CompileError;
+use fancy_nodes::group_table::is_marked;
 use fancy_vm::vm::Insn;
 
 /// So deep are calls of one group written out.
@@ -48,42 +48,40 @@ impl<'t, 'i, 'a, 'o> Scope<'t, 'i, 'a, 'o> {
             None => 0,
         }
     }
-}
 
-impl Compiler {
     /// A call: what it names is written anew.
     #[cycle(emit)]
-    pub fn emit_call(&mut self, scope: &Scope, group: usize, in_hard: bool)
-        requires { IsScope scope.now }
-        ensures { WritesCall scope.now group in_hard (draft_of self.old) (draft_of self.new) }
+    pub fn emit_call(&self, writer: &mut CodeWriter, group: usize, in_hard: bool)
+        requires { IsScope self.now }
+        ensures { WritesCall self.now group in_hard (draft_of writer.old) (draft_of writer.new) }
     {
-        if !scope.groups.has_target(group) {
-            self.refuse(CompileError::SubroutineCallTargetNotFound);
+        if !self.groups.has_target(group) {
+            writer.refuse(CompileError::SubroutineCallTargetNotFound);
             return;
         }
-        let depth = scope.open_calls(group);
+        let depth = self.open_calls(group);
         if depth >= CALL_DEPTH {
-            self.push(Insn::Fail);
+            writer.push(Insn::Fail);
             return;
         }
         let call = OpenCall {
             group,
             depth: depth + 1,
-            outer: scope.calls,
+            outer: self.calls,
         };
         let inner = Scope {
-            alloc: scope.alloc,
-            unicode: scope.unicode,
-            root: scope.root,
-            groups: scope.groups,
+            alloc: self.alloc,
+            unicode: self.unicode,
+            root: self.root,
+            groups: self.groups,
             calls: Some(&call),
         };
         if group == 0 {
-            self.emit(&inner, scope.root, true, in_hard);
+            inner.emit(writer, self.root, true, in_hard);
             return;
         }
-        let i = group - scope.groups.first;
-        let at_start = is_marked(&scope.groups.starts, i);
-        self.emit_node(&inner, scope.groups.node(i), at_start, in_hard);
+        let i = group - self.groups.first;
+        let at_start = is_marked(&self.groups.starts, i);
+        inner.emit_node(writer, self.groups.node(i), at_start, in_hard);
     }
 }

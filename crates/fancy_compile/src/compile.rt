@@ -7,20 +7,18 @@ ghost use Rattle.fancy_meaning.specs.Options as plain;
 ghost use Rattle.fancy_meaning.specs.Nodes.{group_count};
 ghost use Rattle.fancy_meaning.specs.Premises.{Analysed, analysis};
 ghost use Rattle.fancy_compile.specs.Compiled.{Compiles, IsWritingOf, MayCompile, mode_of, plan_with};
-ghost use Rattle.fancy_compile.specs.Drafts.{Writes, draft_of, is_easy};
+ghost use Rattle.fancy_code.specs.Drafts.{Writes, draft_of, is_easy};
 ghost use Rattle.fancy_compile.specs.Nodes.{IsScope, IsScopeOf};
 ghost use Rattle.fancy_info.specs.Infos.{IsRoot};
-ghost use Rattle.fancy_compile.specs.Sites.{Site, top};
+ghost use Rattle.fancy_code.specs.Sites.{Site, top};
 
-use crate::classes::SharedClasses;
-use crate::compiler::Compiler;
-use crate::delegates::SharedDelegates;
-use crate::group_table::GroupTable;
-use crate::keeps::has_keep_out;
 pub use crate::options::{BytesMode, CompileOptions};
 use crate::scope::Scope;
+use fancy_code::writer::CodeWriter;
 use fancy_expr::error::{CompileError, Error};
 use fancy_info::info::Info;
+use fancy_nodes::group_table::GroupTable;
+use fancy_nodes::keeps::has_keep_out;
 use fancy_vm::vm::{Insn, Prog, ProgParts};
 use std::alloc::Global;
 
@@ -65,98 +63,98 @@ fn first_fresh(total_groups: usize, explicit_group_0: bool, end_text: bool) -> u
     2 * numbers + if end_text { 1 } else { 0 }
 }
 
-impl Compiler {
-    /// The search for a start.
-    fn emit_search(&mut self, anchored: bool)
-        ensures { (p : Site)
-            → p.anchored ≡ anchored
-            → Writes p (search_code p.plan) [] (draft_of self.old) (draft_of self.new) }
-    {
-        if anchored {
-            return;
-        }
-        self.push(Insn::SplitUnanchored(3, 1));
-        self.push(Insn::Any);
-        self.push(Insn::Jmp(0));
+/// The search for a start.
+fn emit_search(writer: &mut CodeWriter, anchored: bool)
+    ensures { (p : Site)
+        → p.anchored ≡ anchored
+        → Writes p (search_code p.plan) [] (draft_of writer.old) (draft_of writer.new) }
+{
+    if anchored {
+        return;
     }
+    writer.push(Insn::SplitUnanchored(3, 1));
+    writer.push(Insn::Any);
+    writer.push(Insn::Jmp(0));
+}
 
-    /// An end of the match, where no group of the tree keeps it.
-    fn emit_edge(&mut self, explicit_group_0: bool, slot: usize)
-        ensures { (p : Site)
-            → (p.analysis.options).explicit_capture_group_0 ≡ explicit_group_0
-            → Writes p (edge_code p.plan slot) [] (draft_of self.old) (draft_of self.new) }
-    {
-        if !explicit_group_0 {
-            self.push(Insn::Save(slot));
-        }
+/// An end of the match, where no group of the tree keeps it.
+fn emit_edge(writer: &mut CodeWriter, explicit_group_0: bool, slot: usize)
+    ensures { (p : Site)
+        → (p.analysis.options).explicit_capture_group_0 ≡ explicit_group_0
+        → Writes p (edge_code p.plan slot) [] (draft_of writer.old) (draft_of writer.new) }
+{
+    if !explicit_group_0 {
+        writer.push(Insn::Save(slot));
     }
+}
 
-    fn emit_end_text(&mut self, end_text: bool)
-        ensures { (p : Site)
-            → p.end_text ≡ end_text
-            → Writes p (end_text_code p.plan) [] (draft_of self.old) (draft_of self.new) }
-    {
-        if end_text {
-            self.push(Insn::RejectEmptyMatchAtEOFFollowingNewline);
-        }
+fn emit_end_text(writer: &mut CodeWriter, end_text: bool)
+    ensures { (p : Site)
+        → p.end_text ≡ end_text
+        → Writes p (end_text_code p.plan) [] (draft_of writer.old) (draft_of writer.new) }
+{
+    if end_text {
+        writer.push(Insn::RejectEmptyMatchAtEOFFollowingNewline);
     }
+}
 
+impl<'t, 'i, 'a, 'o> Scope<'t, 'i, 'a, 'o> {
     /// The whole program.
-    fn emit_program(&mut self, scope: &Scope, anchored: bool, end_text: bool)
-        requires whole { IsScope scope.now }
-        requires begins { scope.now.calls ≡ None }
+    fn emit_program(&self, writer: &mut CodeWriter, anchored: bool, end_text: bool)
+        requires whole { IsScope self.now }
+        requires begins { self.now.calls ≡ None }
         ensures { (p : Plan)
-            → p.unicode ≡ scope.now.unicode
+            → p.unicode ≡ self.now.unicode
             → p.anchored ≡ anchored
             → p.end_text ≡ end_text
-            → IsScopeOf p.analysis scope.now
+            → IsScopeOf p.analysis self.now
             → Writes (top p) (program_code p (is_easy p.analysis)) (p.analysis.tree ∷ [])
-            (draft_of self.old) (draft_of self.new) }
+            (draft_of writer.old) (draft_of writer.new) }
     {
-        let explicit = scope.root.explicit_capture_group_0();
-        self.emit_search(anchored);
-        self.emit_edge(explicit, 0);
-        self.emit(scope, scope.root, true, false);
-        self.emit_edge(explicit, 1);
-        self.emit_end_text(end_text);
-        self.push(Insn::End);
+        let explicit = self.root.explicit_capture_group_0();
+        emit_search(writer, anchored);
+        emit_edge(writer, explicit, 0);
+        self.emit(writer, self.root, true, false);
+        emit_edge(writer, explicit, 1);
+        emit_end_text(writer, end_text);
+        writer.push(Insn::End);
     }
+}
 
-    /// The program with its instructions, where there was no fault.
-    fn finish(self, info: &Info, options: CompileOptions) -> Result<Prog, Error>
-        requires { (a : Analysed)
-            × MayCompile a info.now options
-            × ((plan_with a options).bytes_mode ≡ plain.Unicode)
-            × IsWritingOf (plan_with a options) (draft_of self) }
-        ensures { (a : Analysed)
-            → MayCompile a info.now options
-            → (plan_with a options).bytes_mode ≡ plain.Unicode
-            → IsWritingOf (plan_with a options) (draft_of self)
-            → Compiles (plan_with a options) result }
-    {
-        let Compiler {
-            code,
-            fresh: slots,
-            fault,
-            ..
-        } = self;
-        match fault {
-            Some(error) => return Err(error),
-            None => {}
-        }
-        let parts = ProgParts {
-            max_size: info.max_size(),
-            total_groups: total_groups(info),
-            slots: slots.max(2),
-            explicit_group_0: info.explicit_capture_group_0(),
-            find_not_empty: info.find_not_empty(),
-            leftmost_longest: info.leftmost_longest(),
-            keeps_start: has_keep_out(info),
-            end_text: options.disallow_empty_match_at_eof_after_newline,
-            unicode: options.unicode,
-        };
-        Ok(Prog::new(code, parts))
+/// The program with its instructions, where there was no fault.
+fn finish(writer: CodeWriter, info: &Info, options: CompileOptions) -> Result<Prog, Error>
+    requires { (a : Analysed)
+        × MayCompile a info.now options
+        × ((plan_with a options).bytes_mode ≡ plain.Unicode)
+        × IsWritingOf (plan_with a options) (draft_of writer) }
+    ensures { (a : Analysed)
+        → MayCompile a info.now options
+        → (plan_with a options).bytes_mode ≡ plain.Unicode
+        → IsWritingOf (plan_with a options) (draft_of writer)
+        → Compiles (plan_with a options) result }
+{
+    let CodeWriter {
+        code,
+        fresh: slots,
+        fault,
+        ..
+    } = writer;
+    match fault {
+        Some(error) => return Err(error),
+        None => {}
     }
+    let parts = ProgParts {
+        max_size: info.max_size(),
+        total_groups: total_groups(info),
+        slots: slots.max(2),
+        explicit_group_0: info.explicit_capture_group_0(),
+        find_not_empty: info.find_not_empty(),
+        leftmost_longest: info.leftmost_longest(),
+        keeps_start: has_keep_out(info),
+        end_text: options.disallow_empty_match_at_eof_after_newline,
+        unicode: options.unicode,
+    };
+    Ok(Prog::new(code, parts))
 }
 
 /// The program of an analysed tree, by the layout of "docs/LAYOUT.md": easy nodes are left to plain searches where their context lets them be.
@@ -186,14 +184,8 @@ pub fn compile(alloc: Global, info: &Info, options: CompileOptions) -> Result<Pr
         groups: &groups,
         calls: None,
     };
-    let mut compiler = Compiler {
-        code: Vec::new(alloc),
-        fresh: first_fresh(total_groups(info), explicit_group_0, end_text),
-        limit: options.max_prog_size,
-        fault: None,
-        classes: SharedClasses::new(alloc),
-        delegates: SharedDelegates::new(alloc),
-    };
-    compiler.emit_program(&scope, options.anchored, end_text);
-    compiler.finish(info, options)
+    let fresh = first_fresh(total_groups(info), explicit_group_0, end_text);
+    let mut writer = CodeWriter::new(alloc, fresh, options.max_prog_size);
+    scope.emit_program(&mut writer, options.anchored, end_text);
+    finish(writer, info, options)
 }

@@ -1,14 +1,14 @@
-//! Concatenations: the first and the last children may be batches.
+//! Concatenations: a batch, the nodes between, a batch.
 
+ghost use Rattle.fancy_code.specs.Drafts.{draft_of};
+ghost use Rattle.fancy_compile.specs.Nodes.{AreWhole, WritesConcat, WritesInTurn};
 ghost use Rattle.fancy_info.specs.Infos.{info_size};
-ghost use Rattle.fancy_compile.specs.Drafts.{draft_of};
-ghost use Rattle.fancy_compile.specs.Nodes.{AreWhole, WritesConcat, WritesInTurn, back_of, back_start, front_count, front_of, is_back, is_front, middle_of};
-ghost use Rattle.std.specs.List.{list_all};
 ghost use Rattle.std.specs.Prelude.{◌&&◌, ◌==◌, ◌≡◌};
 
-use crate::compiler::Compiler;
 use crate::scope::Scope;
+use fancy_code::writer::CodeWriter;
 use fancy_info::info::Info;
+use fancy_nodes::cuts::{in_three, is_first_behind};
 
 /// A match may still begin behind the node.
 fn is_still_first(is_first: bool, info: &Info) -> bool
@@ -17,93 +17,30 @@ fn is_still_first(is_first: bool, info: &Info) -> bool
     is_first && info.max_size() == 0
 }
 
-fn take_nothing(infos: &[Info]) -> bool
-    ensures { result ≡ list_all (λ i. (info_size i).most == 0) infos.now }
-{
-    infos.iter().all(|info| info.max_size() == 0)
-}
-
-/// A match may still begin behind the nodes.
-fn is_first_behind(is_first: bool, infos: &[Info]) -> bool
-    ensures { result ≡ (is_first && list_all (λ i. (info_size i).most == 0) infos.now) }
-{
-    is_first && take_nothing(infos)
-}
-
-/// The node may be in the first batch.
-fn is_front(info: &Info) -> bool
-    ensures { result ≡ is_front info.now }
-{
-    !info.hard() && info.const_size()
-}
-
-/// The node may be in the last batch.
-fn is_back(info: &Info, in_hard: bool) -> bool
-    ensures { result ≡ is_back in_hard info.now }
-{
-    !info.hard() && (!in_hard || info.const_size())
-}
-
-/// How many first nodes are the first batch.
-fn front_count(infos: &[Info]) -> usize
-    ensures { result ≡ front_count infos.now }
-{
-    let mut count = 0;
-    while count < infos.len() && is_front(&infos[count]) {
-        count += 1;
-    }
-    count
-}
-
-/// Where the last nodes begin that are the last batch.
-fn back_start(infos: &[Info], in_hard: bool) -> usize
-    ensures { result ≡ back_start in_hard infos.now }
-{
-    let mut start = infos.len();
-    while start > 0 && is_back(&infos[start - 1], in_hard) {
-        start -= 1;
-    }
-    start
-}
-
-/// The first batch, the nodes between, and the last batch.
-fn in_three<'s, 'a>(
-    infos: &'s [Info<'a>],
-    in_hard: bool,
-) -> (&'s [Info<'a>], &'s [Info<'a>], &'s [Info<'a>])
-    ensures front { result.0.now ≡ front_of infos.now }
-    ensures middle { result.1.now ≡ middle_of in_hard infos.now }
-    ensures back { result.2.now ≡ back_of in_hard infos.now }
-{
-    let (front, rest) = infos.split_at(front_count(infos));
-    let (middle, back) = rest.split_at(back_start(rest, in_hard));
-    (front, middle, back)
-}
-
-impl Compiler {
+impl<'t, 'i, 'a, 'o> Scope<'t, 'i, 'a, 'o> {
     /// A concatenation.
     #[cycle(emit)]
-    pub fn emit_concat(&mut self, scope: &Scope, infos: &[Info], at_start: bool, in_hard: bool)
-        requires { AreWhole scope.now infos.now }
-        ensures { WritesConcat scope.now infos.now at_start in_hard
-            (draft_of self.old) (draft_of self.new) }
+    pub fn emit_concat(&self, writer: &mut CodeWriter, infos: &[Info], at_start: bool, in_hard: bool)
+        requires { AreWhole self.now infos.now }
+        ensures { WritesConcat self.now infos.now at_start in_hard
+            (draft_of writer.old) (draft_of writer.new) }
     {
         let (front, middle, back) = in_three(infos, in_hard);
-        self.emit_batch(scope, front);
-        self.emit_in_turn(scope, middle, is_first_behind(at_start, front));
-        self.emit_batch(scope, back);
+        writer.emit_batch(self.alloc, front, self.unicode);
+        self.emit_in_turn(writer, middle, is_first_behind(at_start, front));
+        writer.emit_batch(self.alloc, back, self.unicode);
     }
 
     /// Nodes, one after the other, each in a hard context.
     #[cycle(emit)]
-    fn emit_in_turn(&mut self, scope: &Scope, infos: &[Info], at_start: bool)
-        requires { AreWhole scope.now infos.now }
-        ensures { WritesInTurn scope.now infos.now at_start
-            (draft_of self.old) (draft_of self.new) }
+    fn emit_in_turn(&self, writer: &mut CodeWriter, infos: &[Info], at_start: bool)
+        requires { AreWhole self.now infos.now }
+        ensures { WritesInTurn self.now infos.now at_start
+            (draft_of writer.old) (draft_of writer.new) }
     {
         let mut is_first = at_start;
         for info in infos {
-            self.emit(scope, info, is_first, true);
+            self.emit(writer, info, is_first, true);
             is_first = is_still_first(is_first, info);
         }
     }

@@ -4,18 +4,10 @@
 mod absents;
 mod alternations;
 mod around;
-mod batches;
 mod calls;
-mod classes;
 pub mod compile;
-mod compiler;
 mod concatenations;
 mod conditionals;
-mod delegates;
-mod group_table;
-mod groups;
-mod keeps;
-mod leaves;
 mod looks;
 mod loops;
 mod nodes;

@@ -1,35 +1,18 @@
-//! Loops: how each begins and ends.
+//! Loops: which kind each is, and in which context its body stands.
 
-ghost use Rattle.fancy_compile.specs.declared.around.Around.TheVariants as around;
-ghost use Rattle.fancy_compile.specs.declared.loops.LoopKind.TheVariants as kind;
-ghost use Rattle.fancy_compile.specs.Arounds.{Ends, form_of, kind_form, loop_opening};
-ghost use Rattle.fancy_compile.specs.Drafts.{Writes, draft_of};
+ghost use Rattle.fancy_code.specs.Arounds.{form_of, kind_form};
+ghost use Rattle.fancy_code.specs.Drafts.{draft_of};
 ghost use Rattle.fancy_compile.specs.Nodes.{IsWhole, WritesRepeat};
-ghost use Rattle.fancy_compile.specs.Sites.{Site};
 ghost use Rattle.fancy_expr.specs.Views.{bound_of};
-ghost use Rattle.fancy_meaning.specs.Constructs.{loop_form, split};
-ghost use Rattle.fancy_meaning.specs.Instr.{Instr};
+ghost use Rattle.fancy_meaning.specs.Constructs.{loop_form};
 ghost use Rattle.fancy_meaning.specs.Layout.{is_at_most_once};
-ghost use Rattle.fancy_vm.specs.Insns.{insn_of};
-ghost use Rattle.std.specs.Prelude.{[], not, ◌||◌, ◌≡◌};
+ghost use Rattle.std.specs.Prelude.{not, ◌||◌, ◌≡◌};
 
-use crate::around::{Around, Start};
-use crate::compiler::Compiler;
 use crate::scope::Scope;
+use fancy_code::around::Around;
+use fancy_code::loops::LoopKind;
+use fancy_code::writer::CodeWriter;
 use fancy_info::info::Info;
-use fancy_vm::vm::Insn;
-
-/// How a loop is written. Without `Counted` there is no bound but that of the name.
-#[derive(Clone, Copy)]
-pub enum LoopKind {
-    AtMostOnce,
-    /// The body may take nothing.
-    Epsilon { lo: usize },
-    Star,
-    Plus,
-    /// `usize::MAX` is no bound.
-    Counted { lo: usize, hi: usize },
-}
 
 /// The loop's kind; none where the body is never entered.
 pub fn loop_kind(lo: usize, hi: usize, may_be_empty: bool) -> Option<LoopKind>
@@ -70,78 +53,25 @@ fn is_body_hard(kind: LoopKind, in_hard: bool) -> bool
     in_hard || !is_at_most_once(kind)
 }
 
-/// The split that goes on first, or last.
-fn split_insn(greedy: bool, on: usize, off: usize) -> Insn
-    ensures { insn_of result ≡ split greedy on off }
-{
-    if greedy {
-        Insn::Split(on, off)
-    } else {
-        Insn::Split(off, on)
-    }
-}
-
-/// The head of a loop that may be left where a round took nothing.
-fn epsilon_insn(greedy: bool, lo: usize, next: usize, repeat: usize, check: usize) -> Insn
-    ensures { insn_of result ≡ Instr.RepeatEpsilon greedy lo next repeat check }
-{
-    if greedy {
-        Insn::RepeatEpsilonGr {
-            lo,
-            next,
-            repeat,
-            check,
-        }
-    } else {
-        Insn::RepeatEpsilonNg {
-            lo,
-            next,
-            repeat,
-            check,
-        }
-    }
-}
-
-/// The head of a loop that counts.
-fn counted_insn(greedy: bool, lo: usize, hi: usize, next: usize, repeat: usize) -> Insn
-    ensures { insn_of result ≡ Instr.Repeat greedy lo (bound_of hi) next repeat }
-{
-    if greedy {
-        Insn::RepeatGr {
-            lo,
-            hi,
-            next,
-            repeat,
-        }
-    } else {
-        Insn::RepeatNg {
-            lo,
-            hi,
-            next,
-            repeat,
-        }
-    }
-}
-
-impl Compiler {
+impl<'t, 'i, 'a, 'o> Scope<'t, 'i, 'a, 'o> {
     /// A loop.
     #[cycle(emit)]
     pub fn emit_repeat(
-        &mut self,
-        scope: &Scope,
+        &self,
+        writer: &mut CodeWriter,
         lo: usize,
         hi: usize,
         greedy: bool,
         body: &Info,
         in_hard: bool,
     )
-        requires { IsWhole scope.now body.now }
-        ensures { WritesRepeat lo (bound_of hi) greedy scope.now body.now in_hard
-            (draft_of self.old) (draft_of self.new) }
+        requires { IsWhole self.now body.now }
+        ensures { WritesRepeat lo (bound_of hi) greedy self.now body.now in_hard
+            (draft_of writer.old) (draft_of writer.new) }
     {
         match loop_kind(lo, hi, body.min_size() == 0) {
             Some(kind) => self.emit_around(
-                scope,
+                writer,
                 Around::Loop { kind, greedy },
                 body,
                 false,
@@ -149,91 +79,5 @@ impl Compiler {
             ),
             None => {}
         }
-    }
-
-    pub fn begin_loop(&mut self, kind: LoopKind)
-        ensures { (p : Site)
-            → Writes p (loop_opening kind) [] (draft_of self.old) (draft_of self.new) }
-    {
-        let slot = self.fresh;
-        match kind {
-            LoopKind::AtMostOnce => self.push(Insn::Split(0, 0)),
-            LoopKind::Epsilon { .. } => {
-                self.push_over_slot(Insn::Save0(slot));
-                self.push_over_slot(Insn::Split(0, 0));
-            }
-            LoopKind::Star => self.push(Insn::Split(0, 0)),
-            LoopKind::Plus => {}
-            LoopKind::Counted { .. } => {
-                self.push_over_slot(Insn::Save0(slot));
-                self.push(Insn::Split(0, 0));
-            }
-        }
-    }
-
-    pub fn end_loop(&mut self, kind: LoopKind, greedy: bool, start: Start)
-        ensures { Ends (around.Loop kind greedy) start (draft_of self.old) (draft_of self.new) }
-    {
-        match kind {
-            LoopKind::AtMostOnce => self.end_at_most_once(greedy, start),
-            LoopKind::Epsilon { lo } => self.end_epsilon(greedy, lo, start),
-            LoopKind::Star => self.end_star(greedy, start),
-            LoopKind::Plus => self.end_plus(greedy, start),
-            LoopKind::Counted { lo, hi } => self.end_counted(greedy, lo, hi, start),
-        }
-    }
-
-    /// The body is entered, or not.
-    fn end_at_most_once(&mut self, greedy: bool, start: Start)
-        ensures { Ends (around.Loop kind.AtMostOnce greedy) start
-            (draft_of self.old) (draft_of self.new) }
-    {
-        let after = self.code.len();
-        self.patch(start.base, split_insn(greedy, start.base + 1, after));
-    }
-
-    /// Back to the split before the body.
-    fn end_star(&mut self, greedy: bool, start: Start)
-        ensures { Ends (around.Loop kind.Star greedy) start
-            (draft_of self.old) (draft_of self.new) }
-    {
-        self.push(Insn::Jmp(start.base));
-        let after = self.code.len();
-        self.patch(start.base, split_insn(greedy, start.base + 1, after));
-    }
-
-    /// Back to the body.
-    fn end_plus(&mut self, greedy: bool, start: Start)
-        ensures { Ends (around.Loop kind.Plus greedy) start
-            (draft_of self.old) (draft_of self.new) }
-    {
-        let here = self.code.len();
-        self.push(split_insn(greedy, start.base, here + 1));
-    }
-
-    /// Back to the head, which counts and leaves where the last round took nothing.
-    fn end_epsilon(&mut self, greedy: bool, lo: usize, start: Start)
-        ensures { Ends (around.Loop (kind.Epsilon lo) greedy) start
-            (draft_of self.old) (draft_of self.new) }
-    {
-        let head = start.base + 1;
-        self.push(Insn::Jmp(head));
-        let next = self.code.len();
-        let repeat = start.fresh;
-        let check = start.fresh + 1;
-        let insn = epsilon_insn(greedy, lo, next, repeat, check);
-        self.patch(head, insn);
-    }
-
-    /// Back to the head, which counts.
-    fn end_counted(&mut self, greedy: bool, lo: usize, hi: usize, start: Start)
-        ensures { Ends (around.Loop (kind.Counted lo hi) greedy) start
-            (draft_of self.old) (draft_of self.new) }
-    {
-        let head = start.base + 1;
-        self.push(Insn::Jmp(head));
-        let next = self.code.len();
-        let insn = counted_insn(greedy, lo, hi, next, start.fresh);
-        self.patch(head, insn);
     }
 }

@@ -1,8 +1,8 @@
 //! Where a node is written: in which tree, and within which calls.
 
 use crate::calls::OpenCall;
-use crate::group_table::GroupTable;
 use fancy_info::info::Info;
+use fancy_nodes::group_table::GroupTable;
 use std::alloc::Global;
 
 #[derive(Clone, Copy)]

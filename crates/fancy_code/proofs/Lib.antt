@@ -1,0 +1,11 @@
+pub mod Faults
+pub mod Writing
+pub mod Patches
+pub mod Written
+pub mod Alone
+pub mod Closings
+pub mod ClassTable
+pub mod Collected
+pub mod EasyClasses
+pub mod BatchCodes
+pub mod DelegateTable

@@ -1,0 +1,10 @@
+pub mod Kinds
+pub mod Sites
+pub mod Faults
+pub mod Drafts
+pub mod Leaves
+pub mod Neighbours
+pub mod Batches
+pub mod Arounds
+pub mod ClassKeys
+pub mod SharedDelegates

@@ -1,5 +1,0 @@
-use Rattle.std.proofs.Common.{inr}
-use Rattle.fancy_compile.proofs.compiler.Compiler.refuse.Goals as goal
-
-pub returns : goal.returns
-returns c = λ p k es h. c.fail.ensures p k es (inr h)
