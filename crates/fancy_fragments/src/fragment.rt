@@ -1,8 +1,9 @@
 //! Fragments: neighbouring easy nodes that are searched for plainly.
 
-ghost use Rattle.std.specs.Prelude.{◌≡◌, ◌*◌, ℕ, List, false, IfOk, IfErr, IsTrue, map, nat_le};
+ghost use Rattle.std.specs.Prelude.{◌≡◌, ◌*◌, ℕ, List, Some, false, IfOk, IfErr, IsTrue, map, nat_le, slice_get};
 ghost use Rattle.fancy_meaning.specs.Fits.{fragment_fits};
 ghost use Rattle.fancy_meaning.specs.Places.{is_place};
+ghost use Rattle.fancy_meaning.specs.Premises.{IsText};
 ghost use Rattle.fancy_expr.specs.Views.{tree_of};
 ghost use Rattle.fancy_expr.specs.Walk.{within_of};
 ghost use Rattle.fancy_info.specs.Infos.{info_tree};
@@ -80,6 +81,14 @@ impl Fragment {
         ensures none { result ≡ false → HasNoWayFrom text.now self.now ix }
     {
         self.table.can_begin(text, ix)
+    }
+
+    /// Whether no way can begin where this byte stands.
+    pub fn refuses(&self, byte: u8) -> bool
+        ensures { IsTrue result → (text : List ℕ) (ix : ℕ) → IsText text → IsTrue (is_place text ix)
+            → slice_get text ix ≡ Some byte → HasNoWayFrom text self.now ix }
+    {
+        self.table.refuses(byte)
     }
 
     /// What searches of the fragment in one text, from `pos` on, have noted: nothing yet.

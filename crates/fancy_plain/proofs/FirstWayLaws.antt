@@ -1,5 +1,6 @@
 -- From the end of a search to what the first way answers.
-use Rattle.std.proofs.Common.{◌≡◌, ◌≤◌, [], ℕ, zero, suc, Bool, false, List, length, map, reverse, take, Option, Some, None, Result, Ok, Err, IsTrue, option_map, refl, sym, arith, ap, ◌∙◌, subst}
+use Rattle.std.proofs.Common.{◌≡◌, ◌<◌, ◌≤◌, [], slice_get, slice_index_or, true, nat_lt, if◌then◌else◌, ℕ, zero, suc, Bool, false, List, length, map, reverse, take, Option, Some, None, Result, Ok, Err, IsTrue, option_map, refl, sym, arith, ap, ◌∙◌, subst}
+use Rattle.std.proofs.lemmas.Bool.Decides.{nat_tests}
 use Rattle.std.proofs.lemmas.List.{take_all}
 use denote.Bor.{Bor}
 use Rattle.fancy_expr.specs.declared.error.Error.{Error}
@@ -26,7 +27,7 @@ use Rattle.fancy_plain.specs.declared.search.Task.{Task}
 use Rattle.fancy_plain.specs.Tables.{IsTableOf}
 use Rattle.fancy_plain.specs.Paths.{closed_after}
 use Rattle.fancy_plain.specs.Searches.{AreKept, EndsAs, HaveFailed, IsHere, IsMemory, IsSearch, Leading, leading_of}
-use Rattle.fancy_plain.specs.Beginnings.{may_begin}
+use Rattle.fancy_plain.specs.Beginnings.{is_begun_by, may_begin}
 use Rattle.fancy_plain.specs.Views.{point_of}
 use Rattle.fancy_plain.specs.Ways.{HasNoWayAt, IsFirstWay, IsMemoOf, IsSeenAs, listed}
 
@@ -236,3 +237,9 @@ pub none_first : (text : List ℕ) (f : PointTable) (place : ℕ) → HasNoWayAt
     IsFirstWay text f place (record { way = None; visits = 0 })
 none_first text f place h = λ a es table.
     ((λ pos continued. subst (IsSeenAs None) (sym (h a es table pos continued)) tt), omega arith)
+
+pub refused_byte : (ascii : List Bool) (byte : ℕ) → byte < 128 → slice_index_or ascii byte false ≡ false → (text : List ℕ) (place : ℕ) →
+    slice_get text place ≡ Some byte → may_begin (Some ascii) text place ≡ false
+refused_byte ascii byte small out text place here =
+    let is_ascii : nat_lt byte 128 ≡ true = grind (arith, nat_tests) in
+    ap (is_begun_by ascii) here ∙ ap (λ v. if v then slice_index_or ascii byte false else true) is_ascii ∙ out

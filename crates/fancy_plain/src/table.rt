@@ -1,10 +1,11 @@
 //! Fragments: neighbouring easy nodes, laid out as points.
 
-ghost use Rattle.std.specs.Prelude.{◌≡◌, false, IfErr, IfOk, IsTrue, map};
+ghost use Rattle.std.specs.Prelude.{◌≡◌, ℕ, List, Some, false, IfErr, IfOk, IsTrue, map, slice_get};
 ghost use Rattle.fancy_info.specs.Infos.{info_tree};
 ghost use Rattle.fancy_expr.specs.Each.{Each};
 ghost use Rattle.fancy_meaning.specs.Options.{Analysis};
 ghost use Rattle.fancy_meaning.specs.Places.{is_place};
+ghost use Rattle.fancy_meaning.specs.Premises.{IsText};
 ghost use Rattle.fancy_plain.specs.Beginnings.{may_begin, AreBeginnings};
 ghost use Rattle.fancy_plain.specs.Neighbours.{AreNeighbours, IsEasy};
 ghost use Rattle.fancy_plain.specs.Views.{point_of};
@@ -72,5 +73,16 @@ impl PointTable {
         ensures none { result ≡ false → HasNoWayAt text.now self.now ix }
     {
         may_begin(&self.beginnings, text.as_bytes(), ix)
+    }
+
+    /// Whether no way can begin where this byte stands.
+    pub fn refuses(&self, byte: u8) -> bool
+        ensures { IsTrue result → (text : List ℕ) (ix : ℕ) → IsText text → IsTrue (is_place text ix)
+            → slice_get text ix ≡ Some byte → HasNoWayAt text self.now ix }
+    {
+        match &self.beginnings {
+            None => false,
+            Some(ascii) => byte < 128 && !ascii[byte as usize],
+        }
     }
 }

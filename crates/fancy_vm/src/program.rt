@@ -18,7 +18,7 @@ impl Prog {
         ensures parts { result.parts ≡ parts }
         ensures prog { prog_of result ≡ prog_with body.items parts }
     {
-        let beginning = Beginning::of(*body.allocator(), &body);
+        let beginning = Beginning::of(&body);
         Prog {
             body,
             parts,
