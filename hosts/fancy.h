@@ -26,7 +26,7 @@ enum fancy_code {
     FANCY_NO_MATCH = 1,
     FANCY_NO_PROGRAM = 2,            /* nothing was compiled */
     FANCY_NOT_UTF8 = 3,              /* of a tree or a text: byte */
-    FANCY_UNFIT = 4,                 /* pos is no place of the text, or not_empty was not said to the compiler */
+    FANCY_UNFIT = 4,                 /* pos is no place of the text, or not_empty or longest was not said to the compiler */
     FANCY_MEMORY = 5,
     FANCY_TREE_FAULT = 6,            /* byte */
     FANCY_BACKTRACK_LIMIT_EXCEEDED = 7,
@@ -67,6 +67,7 @@ struct fancy_options {
     bool not_empty;         /* a match has to take something: for both */
     bool end_text;          /* no empty match at the end of a text after a newline: for fancy_compile */
     bool ascii;             /* folding, word characters and classes go by ASCII: for fancy_compile */
+    bool longest;           /* at the earliest start the longest match, and not the first: for both */
 };
 
 struct fancy_outcome {

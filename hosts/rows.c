@@ -70,6 +70,8 @@ static struct fancy_options read_words(char *line)
             options.end_text = true;
         else if (strcmp(word, "--ascii") == 0)
             options.ascii = true;
+        else if (strcmp(word, "--longest") == 0)
+            options.longest = true;
         else if (strcmp(word, "--backtracks") == 0)
             options.backtrack_limit = strtoull(strtok(NULL, " \n"), NULL, 10);
         else if (strcmp(word, "--steps") == 0)

@@ -59,13 +59,15 @@ pub options_are_fit : (a : Arguments) (text : Text) (o : SearchOptions) → o.an
     run_options_of o.run ≡ line.running a → is_place text a.pos ≡ true → search_fits o text ≡ true
 options_are_fit a text o as_analysed as_compiled as_run at =
     let fits : AnalyzeContext → CompileOptions → plain.RunOptions → Bool = λ x c r. options_fit x c && not x.explicit_capture_group_0
-    && is_place text r.pos && (not r.not_empty || x.find_not_empty) in
+    && is_place text r.pos && (not r.not_empty || x.find_not_empty) && (not r.leftmost_longest || x.leftmost_longest) in
     ap (λ (x : AnalyzeContext). fits x o.compilation (run_options_of o.run)) as_analysed
     ∙ ap (λ (x : CompileOptions). fits (line.analysis a) x (run_options_of o.run)) as_compiled
     ∙ ap (λ (x : plain.RunOptions). fits (line.analysis a) (line.compilation a) x) as_run
-    ∙ and_from (options_fit (line.analysis a) (line.compilation a) && true && is_place text a.pos) (not a.not_empty || a.not_empty)
+    ∙ and_from (options_fit (line.analysis a) (line.compilation a) && true && is_place text a.pos && (not a.not_empty || a.not_empty))
+    (not a.longest || a.longest)
+    (and_from (options_fit (line.analysis a) (line.compilation a) && true && is_place text a.pos) (not a.not_empty || a.not_empty)
     (and_from (options_fit (line.analysis a) (line.compilation a) && true) (is_place text a.pos)
-    (and_from (options_fit (line.analysis a) (line.compilation a)) true (none_or a.end_text) refl) at) (none_or a.not_empty)
+    (and_from (options_fit (line.analysis a) (line.compilation a)) true (none_or a.end_text) refl) at) (none_or a.not_empty)) (none_or a.longest)
 
 -- what the search answers is what the words ask for
 pub finds_by : (q : Question) (t : ExprTree) (o : SearchOptions) (answer : Result (Option (Vec ℕ Global)) Error) → IsRead q.tree t →

@@ -8,7 +8,7 @@ use Rattle.fancy_compile.specs.declared.options.CompileOptions.{CompileOptions}
 use Rattle.fancy_compile.specs.declared.options.BytesMode.TheVariants as mode
 use Rattle.fancy_command.specs.declared.arguments.Arguments.{Arguments}
 use Rattle.fancy_command.specs.declared.arguments.Flag.{Flag}
-use Rattle.fancy_command.specs.declared.arguments.Flag.TheVariants.{CompileAnchored, Anchored, NotContinued, NotEmpty, EndText, Ascii}
+use Rattle.fancy_command.specs.declared.arguments.Flag.TheVariants.{CompileAnchored, Anchored, NotContinued, NotEmpty, EndText, Ascii, Longest}
 use Rattle.fancy_command.specs.declared.arguments.Limit.{Limit}
 use Rattle.fancy_command.specs.declared.arguments.Limit.TheVariants.{Backtracks, Steps, MaxProg}
 
@@ -24,6 +24,7 @@ flags =
     ∷ (codes "--not-empty", NotEmpty)
     ∷ (codes "--end-text", EndText)
     ∷ (codes "--ascii", Ascii)
+    ∷ (codes "--longest", Longest)
     ∷ []
 
 -- the options that a number follows
@@ -44,6 +45,7 @@ at pos = record {
   not_empty = false;
   end_text = false;
   ascii = false;
+  longest = false;
   backtracks = None;
   steps = None;
   max_prog = None;
@@ -56,6 +58,7 @@ is_set a NotContinued = a.not_continued
 is_set a NotEmpty = a.not_empty
 is_set a EndText = a.end_text
 is_set a Ascii = a.ascii
+is_set a Longest = a.longest
 
 abbrev pub set : Arguments → Flag → Arguments
 set a CompileAnchored = record a { compile_anchored = true }
@@ -64,6 +67,7 @@ set a NotContinued = record a { not_continued = true }
 set a NotEmpty = record a { not_empty = true }
 set a EndText = record a { end_text = true }
 set a Ascii = record a { ascii = true }
+set a Longest = record a { longest = true }
 
 abbrev pub is_limited : Arguments → Limit → Bool
 is_limited a Backtracks = is_some a.backtracks
@@ -112,7 +116,7 @@ analysis a = record {
   explicit_capture_group_0 = false;
   find_not_empty = a.not_empty;
   disallow_empty_match_at_eof_after_newline = a.end_text;
-  leftmost_longest = false;
+  leftmost_longest = a.longest;
 }
 
 abbrev pub compilation : Arguments → CompileOptions
@@ -131,7 +135,7 @@ running a = record {
   anchored = a.anchored;
   continued = not a.not_continued;
   not_empty = a.not_empty;
-  leftmost_longest = false;
+  leftmost_longest = a.longest;
   backtrack_limit = unwrap_or a.backtracks 1_000_000;
   step_limit = unwrap_or a.steps (2 ^ 64 - 1);
 }

@@ -20,6 +20,7 @@ pub enum Flag {
     NotEmpty,
     EndText,
     Ascii,
+    Longest,
 }
 
 /// An option that a number follows.
@@ -41,6 +42,7 @@ pub struct Arguments {
     pub not_empty: bool,
     pub end_text: bool,
     pub ascii: bool,
+    pub longest: bool,
     pub backtracks: Option<usize>,
     pub steps: Option<u64>,
     pub max_prog: Option<usize>,
@@ -57,6 +59,7 @@ fn flag_of(word: &str) -> Option<Flag>
         "--not-empty" => Some(Flag::NotEmpty),
         "--end-text" => Some(Flag::EndText),
         "--ascii" => Some(Flag::Ascii),
+        "--longest" => Some(Flag::Longest),
         _ => None,
     }
 }
@@ -86,6 +89,7 @@ impl Arguments {
             not_empty: false,
             end_text: false,
             ascii: false,
+            longest: false,
             backtracks: None,
             steps: None,
             max_prog: None,
@@ -102,6 +106,7 @@ impl Arguments {
             Flag::NotEmpty => self.not_empty,
             Flag::EndText => self.end_text,
             Flag::Ascii => self.ascii,
+            Flag::Longest => self.longest,
         }
     }
 
@@ -135,6 +140,10 @@ impl Arguments {
             },
             Flag::Ascii => Arguments {
                 ascii: true,
+                ..self
+            },
+            Flag::Longest => Arguments {
+                longest: true,
                 ..self
             },
         })
@@ -202,7 +211,7 @@ impl Arguments {
             explicit_capture_group_0: false,
             find_not_empty: self.not_empty,
             disallow_empty_match_at_eof_after_newline: self.end_text,
-            leftmost_longest: false,
+            leftmost_longest: self.longest,
         }
     }
 
@@ -242,6 +251,7 @@ impl Arguments {
             anchored: self.anchored,
             continued: !self.not_continued,
             not_empty: self.not_empty,
+            leftmost_longest: self.longest,
             backtrack_limit: self.backtracks.unwrap_or(1_000_000),
             step_limit: self.steps.unwrap_or(u64::MAX),
         }

@@ -44,6 +44,7 @@ default_options = record {
   not_empty = false;
   end_text = false;
   ascii = false;
+  longest = false;
 }
 
 abbrev pub analysis : FancyOptions → AnalyzeContext
@@ -51,7 +52,7 @@ analysis o = record {
   explicit_capture_group_0 = false;
   find_not_empty = o.not_empty;
   disallow_empty_match_at_eof_after_newline = o.end_text;
-  leftmost_longest = false;
+  leftmost_longest = o.longest;
 }
 
 abbrev pub compilation : FancyOptions → CompileOptions
@@ -70,7 +71,7 @@ running o = record {
   anchored = o.anchored;
   continued = not o.not_continued;
   not_empty = o.not_empty;
-  leftmost_longest = false;
+  leftmost_longest = o.longest;
   backtrack_limit = o.backtrack_limit;
   step_limit = o.step_limit;
 }

@@ -32,6 +32,8 @@ pub struct FancyOptions {
     pub end_text: bool,
     /// Folding, word characters and classes go by ASCII: said to the compiler.
     pub ascii: bool,
+    /// Of the matches at the earliest start the longest one, in bytes, and not the first: said to both.
+    pub longest: bool,
 }
 
 impl Default for FancyOptions {
@@ -49,6 +51,7 @@ impl Default for FancyOptions {
             not_empty: false,
             end_text: false,
             ascii: false,
+            longest: false,
         }
     }
 }
@@ -62,7 +65,7 @@ impl FancyOptions {
             explicit_capture_group_0: false,
             find_not_empty: self.not_empty,
             disallow_empty_match_at_eof_after_newline: self.end_text,
-            leftmost_longest: false,
+            leftmost_longest: self.longest,
         }
     }
 
@@ -89,6 +92,7 @@ impl FancyOptions {
             anchored: self.anchored,
             continued: !self.not_continued,
             not_empty: self.not_empty,
+            leftmost_longest: self.longest,
             backtrack_limit: self.backtrack_limit,
             step_limit: self.step_limit,
         }

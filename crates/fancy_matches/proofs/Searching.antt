@@ -34,11 +34,12 @@ use Rattle.fancy_matches.proofs.Lists.{AreNumbers, answer_sound, numbers_found, 
 
 -- options that fit the empty text fit every text from any of its places on
 pub fits_at : (prog : Prog) (base o : RunOptions) (text : List ℕ) → run_fits (task_of prog [] base) ≡ true →
-    is_place text o.pos ≡ true → o.not_empty ≡ base.not_empty → run_fits (task_of prog text o) ≡ true
+    is_place text o.pos ≡ true → o.not_empty ≡ base.not_empty → o.leftmost_longest ≡ base.leftmost_longest →
+    run_fits (task_of prog text o) ≡ true
 unfolding run_fits
-fits_at prog base o text fits at same =
+fits_at prog base o text fits at empty longest =
     let rest = (and_parts (is_place [] base.pos) _ fits).1 in
-    and_from (is_place text o.pos) _ at (rw same rest)
+    and_from (is_place text o.pos) _ at (rw (empty, longest) rest)
 
 pair_error : (r : Outcome) (e : Error) → RunAnswersPair r (Err e) → RunAnswers r (Err e)
 pair_error r (error.CompileError e) h = h

@@ -142,6 +142,7 @@ pub record FitsSearch (s : SearchOptions) (text : List ℕ) : Type 0 where
   pub implicit : not (s.analysis).explicit_capture_group_0 ≡ true
   pub pos : is_place text (s.run).pos ≡ true
   pub not_empty : (not (s.run).not_empty || (s.analysis).find_not_empty) ≡ true
+  pub longest : (not (s.run).leftmost_longest || (s.analysis).leftmost_longest) ≡ true
 
 pub fits_search : (s : SearchOptions) (text : List ℕ) → search_fits s text ≡ true → FitsSearch s text
 fits_search s text fits =
@@ -149,10 +150,12 @@ fits_search s text fits =
     let b = not (s.analysis).explicit_capture_group_0 in
     let c = is_place text (s.run).pos in
     let d = not (s.run).not_empty || (s.analysis).find_not_empty in
-    let p = and_parts (a && b && c) d fits in
+    let e = not (s.run).leftmost_longest || (s.analysis).leftmost_longest in
+    let o = and_parts (a && b && c && d) e fits in
+    let p = and_parts (a && b && c) d o.0 in
     let q = and_parts (a && b) c p.0 in
     let r = and_parts a b q.0 in
-    record { compilation = r.0; implicit = r.1; pos = q.1; not_empty = p.1 }
+    record { compilation = r.0; implicit = r.1; pos = q.1; not_empty = p.1; longest = o.1 }
 
 -- it fits the run of the program
 pub may_run : (s : SearchOptions) (t : ExprTree) (compiled : Compiled) (text : List ℕ) → search_fits s text ≡ true →
@@ -161,10 +164,13 @@ unfolding run_fits layout
 may_run s t compiled text fits from =
     let h = fits_search s text fits in
     let n = not (s.run).not_empty in
+    let l = not (s.run).leftmost_longest in
     let b = not (s.analysis).explicit_capture_group_0 in
     let d = n || (s.analysis).find_not_empty in
-    subst (λ (x : plain_program.Prog). (is_place text (s.run).pos && (not x.explicit_group_0 && (n || x.find_not_empty))) ≡ true)
-    (sym from.program) (and_from (is_place text (s.run).pos) (b && d) h.pos (and_from b d h.implicit h.not_empty))
+    let e = l || (s.analysis).leftmost_longest in
+    let at = is_place text (s.run).pos in
+    subst (λ (x : plain_program.Prog). (at && (not x.explicit_group_0 && ((l || x.leftmost_longest) && (n || x.find_not_empty)))) ≡ true)
+    (sym from.program) (and_from at (b && (e && d)) h.pos (and_from b (e && d) h.implicit (and_from e d h.longest h.not_empty)))
 
 -- from the start, with no option set
 pub defaults_fit : (o : SearchOptions) (text : List ℕ) →
@@ -174,7 +180,9 @@ pub defaults_fit : (o : SearchOptions) (text : List ℕ) →
       disallow_empty_match_at_eof_after_newline = false;
       leftmost_longest = false;
     } →
-    (o.compilation).disallow_empty_match_at_eof_after_newline ≡ false → (o.run).pos ≡ 0 → (o.run).not_empty ≡ false → IsUtf8 text →
-    search_fits o text ≡ true
-defaults_fit o text as_analysed as_compiled at empty utf8 =
-    rw (as_analysed, as_compiled, at, empty) (and_from (is_place text 0) true (place_of text 0 (IsCharBoundary-start text utf8)) refl)
+    (o.compilation).disallow_empty_match_at_eof_after_newline ≡ false → (o.run).pos ≡ 0 → (o.run).not_empty ≡ false → (o.run).leftmost_longest ≡ false →
+    IsUtf8 text → search_fits o text ≡ true
+defaults_fit o text as_analysed as_compiled at empty longest utf8 =
+    let start = is_place text 0 in
+    rw (as_analysed, as_compiled, at, empty, longest)
+    (and_from (start && true) true (and_from start true (place_of text 0 (IsCharBoundary-start text utf8)) refl) refl)

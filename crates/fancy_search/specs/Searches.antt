@@ -43,11 +43,11 @@ options_fit context options =
     not options.disallow_empty_match_at_eof_after_newline || context.disallow_empty_match_at_eof_after_newline
 
 -- The same, group 0 is implicit, the search begins at a place of the text, and only where the analysis knew of it a match
--- has to take something.
+-- has to take something, or the longest one is asked for.
 abbrev pub search_fits : SearchOptions → List ℕ → Bool
 search_fits o text =
     options_fit o.analysis o.compilation && not (o.analysis).explicit_capture_group_0 && is_place text (o.run).pos
-    && (not (o.run).not_empty || (o.analysis).find_not_empty)
+    && (not (o.run).not_empty || (o.analysis).find_not_empty) && (not (o.run).leftmost_longest || (o.analysis).leftmost_longest)
 
 -- what a tree was compiled to
 abbrev pub program : Compiled → Prog

@@ -41,7 +41,8 @@ pub fn options_fit(context: AnalyzeContext, options: CompileOptions) -> bool
 
 impl SearchOptions {
     /// A search of the text with these options may be made: `options_fit`, group 0 is implicit, `run.pos` is a
-    /// character boundary of the text, and `run.not_empty` is set only with `analysis.find_not_empty`.
+    /// character boundary of the text, `run.not_empty` is set only with `analysis.find_not_empty`, and
+    /// `run.leftmost_longest` only with `analysis.leftmost_longest`.
     pub fn fits(&self, text: &str) -> bool
         ensures { result ≡ search_fits self.now text.now }
     {
@@ -49,6 +50,7 @@ impl SearchOptions {
             && !self.analysis.explicit_capture_group_0
             && is_place(text.as_bytes(), self.run.pos)
             && (!self.run.not_empty || self.analysis.find_not_empty)
+            && (!self.run.leftmost_longest || self.analysis.leftmost_longest)
     }
 }
 
@@ -125,7 +127,7 @@ impl Compiled {
     }
 
     /// A search of the text with these options may be made: `pos` is a character boundary of the text, and
-    /// `not_empty` is set only where the analysis had `find_not_empty`.
+    /// `not_empty` and `leftmost_longest` are set only where the analysis had `find_not_empty` and `leftmost_longest`.
     pub fn fits(&self, text: &str, options: &RunOptions) -> bool
         ensures { result ≡ run_fits (task_of (program self.now) text.now options.now) }
     {
@@ -159,7 +161,7 @@ impl Compiled {
 
 /// Searches the text for the tree, by `analyze`, `compile` and `run`: start and end of each group from 0 up, in bytes
 /// of the text, with `usize::MAX` for a group that is not set, or none. It is the first admitted way at the earliest
-/// start that has one.
+/// start that has one, and with `run.leftmost_longest` the longest one there, the first among equals.
 ///
 /// `tree` has passed `is_well_formed`, and the options `SearchOptions::fits`. A tree is refused as
 /// `Error::CompileError` where a case of `analyze` or `compile` holds; a `RuntimeError` tells which limit was passed,

@@ -22,6 +22,7 @@ fn options_of(line: &str) -> Options {
             "--not-empty" => options.not_empty(true),
             "--end-text" => options.end_text(true),
             "--ascii" => options.ascii(true),
+            "--longest" => options.longest(true),
             "--backtracks" => options.backtrack_limit(number(words.next()) as usize),
             "--steps" => options.step_limit(number(words.next())),
             "--max-prog" => options.max_prog_size(number(words.next()) as usize),

@@ -22,6 +22,7 @@ pub struct Options {
     pub not_empty: bool,
     pub end_text: bool,
     pub ascii: bool,
+    pub longest: bool,
 }
 
 #[repr(C)]

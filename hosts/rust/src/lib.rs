@@ -45,6 +45,7 @@ impl Options {
         not_empty: bool,
         end_text: bool,
         ascii: bool,
+        longest: bool,
     }
 }
 

@@ -14,10 +14,11 @@ captures_by-requires c =
       anchored = regex.options.anchored;
       continued = regex.options.continued;
       not_empty = regex.options.not_empty;
+      leftmost_longest = regex.options.leftmost_longest;
       backtrack_limit = regex.options.backtrack_limit;
       step_limit = regex.options.step_limit;
     } in
-    fits_at (program regex.compiled) regex.options made c.args.text.now regex.fits c.requires refl
+    fits_at (program regex.compiled) regex.options made c.args.text.now regex.fits c.requires refl refl
 
 pub returns-clause-promise : goal.returns-clause-promise
 returns-clause-promise c i o h =

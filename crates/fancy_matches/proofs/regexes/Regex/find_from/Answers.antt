@@ -25,11 +25,12 @@ run_spans-requires c =
       anchored = regex.options.anchored;
       continued = regex.options.continued;
       not_empty = regex.options.not_empty;
+      leftmost_longest = regex.options.leftmost_longest;
       backtrack_limit = regex.options.backtrack_limit;
       step_limit = regex.options.step_limit;
     } in
     subst (λ (p : Prog). run_fits (task_of p text made) ≡ true) (sym c.program-prog.ensures)
-    (fits_at (program regex.compiled) regex.options made text regex.fits c.requires refl)
+    (fits_at (program regex.compiled) regex.options made text regex.fits c.requires refl refl)
 
 -- src/regexes.rt:129:42
 pub invariant_of-result : goal.invariant_of-result
@@ -41,12 +42,13 @@ invariant_of-result c =
       anchored = regex.options.anchored;
       continued = regex.options.continued;
       not_empty = regex.options.not_empty;
+      leftmost_longest = regex.options.leftmost_longest;
       backtrack_limit = regex.options.backtrack_limit;
       step_limit = regex.options.step_limit;
     } in
     let small : length text < usize_max = omega arith in
     let is_text : IsText text = record { utf8 = c.utf8.text; fits = small } in
-    let fits = fits_at (program regex.compiled) regex.options made text regex.fits c.requires refl in
+    let fits = fits_at (program regex.compiled) regex.options made text regex.fits c.requires refl refl in
     record {
       in_text = pair_sound regex.compiled text made c.in-Ok-Some.start c.in-Ok-Some.end is_text fits regex.source
           (subst (λ (p : Prog). IsMeaningPair (prog_of p) text (run_options_of made) (Some (c.in-Ok-Some.start, c.in-Ok-Some.end)))
@@ -64,10 +66,11 @@ returns-in-Ok-None-clause-promise c i o h =
       anchored = regex.options.anchored;
       continued = regex.options.continued;
       not_empty = regex.options.not_empty;
+      leftmost_longest = regex.options.leftmost_longest;
       backtrack_limit = regex.options.backtrack_limit;
       step_limit = regex.options.step_limit;
     } in
-    let fits = fits_at (program regex.compiled) regex.options made text regex.fits c.requires refl in
+    let fits = fits_at (program regex.compiled) regex.options made text regex.fits c.requires refl refl in
     let found = pair_found i regex.compiled text made h.compiled fits None
     (subst (λ (p : Prog). IsMeaningPair (prog_of p) text (run_options_of made) None) c.program-prog.ensures
     (subst (IsMeaningPair (prog_of c.program-prog.result.now) text (run_options_of made)) c.in-Ok-None.field-0-is c.in-Ok-None.ensures.headline)) in
@@ -85,10 +88,11 @@ returns-in-Ok-Some-clause-promise c i o h =
       anchored = regex.options.anchored;
       continued = regex.options.continued;
       not_empty = regex.options.not_empty;
+      leftmost_longest = regex.options.leftmost_longest;
       backtrack_limit = regex.options.backtrack_limit;
       step_limit = regex.options.step_limit;
     } in
-    let fits = fits_at (program regex.compiled) regex.options made text regex.fits c.requires refl in
+    let fits = fits_at (program regex.compiled) regex.options made text regex.fits c.requires refl refl in
     let found = pair_found i regex.compiled text made h.compiled fits (Some span)
     (subst (λ (p : Prog). IsMeaningPair (prog_of p) text (run_options_of made) (Some span)) c.program-prog.ensures
     (subst (IsMeaningPair (prog_of c.program-prog.result.now) text (run_options_of made)) c.in-Ok-Some.field-0-is c.in-Ok-Some.ensures.headline)) in
@@ -108,10 +112,11 @@ returns-in-Err-clause-promise c i o h =
       anchored = regex.options.anchored;
       continued = regex.options.continued;
       not_empty = regex.options.not_empty;
+      leftmost_longest = regex.options.leftmost_longest;
       backtrack_limit = regex.options.backtrack_limit;
       step_limit = regex.options.step_limit;
     } in
-    let fits = fits_at (program regex.compiled) regex.options made text regex.fits c.requires refl in
+    let fits = fits_at (program regex.compiled) regex.options made text regex.fits c.requires refl refl in
     subst (λ q. Promises i text (begun_at q c.args.pos) (Err c.in-Err.error)) h.options
     (pair_fails i regex.compiled text made h.compiled fits c.in-Err.error
     (subst (λ (p : Prog). RunAnswersPair (machine.run (task_of p text made)) (Err c.in-Err.error)) c.program-prog.ensures c.in-Err.ensures.machine))

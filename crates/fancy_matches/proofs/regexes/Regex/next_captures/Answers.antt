@@ -28,7 +28,7 @@ captures_by-requires c =
     let made = c.options-options.result in
     fits_at (program r.compiled) r.options made text r.fits
     (subst (λ pos. is_place text pos ≡ true) (sym (ap (λ q. q.pos) c.options-options.ensures)) at)
-    (ap (λ q. q.not_empty) c.options-options.ensures)
+    (ap (λ q. q.not_empty) c.options-options.ensures) (ap (λ q. q.leftmost_longest) c.options-options.ensures)
 
 pub searches-smaller-in-Ok-None : goal.searches-smaller-in-Ok-None
 searches-smaller-in-Ok-None c =
