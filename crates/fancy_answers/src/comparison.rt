@@ -34,7 +34,7 @@ fn asked(arguments: &Arguments, pos: usize) -> SearchOptions {
         anchored: arguments.compile_anchored || arguments.anchored,
         continued: !arguments.not_continued,
         not_empty: arguments.not_empty,
-        leftmost_longest: false,
+        leftmost_longest: arguments.longest,
     }
 }
 

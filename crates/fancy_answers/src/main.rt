@@ -29,6 +29,7 @@ impl Table for Engine {
             "answers" | "everyday" | "easy_answers" => {
                 searches::compared(alloc, key, &mut self.scratch)
             }
+            "longest_by_chance" => searches::agreed(alloc, key, &mut self.scratch),
             "long_texts" | "easy_long_texts" => searches::answered(alloc, key),
             "layouts" | "compared_layouts" => layouts::layout(alloc, key),
             "misuses" => misuses::said(alloc, key),
@@ -40,10 +41,11 @@ impl Table for Engine {
     }
 }
 
-const TABLES: [&str; 12] = [
+const TABLES: [&str; 13] = [
     "answers",
     "everyday",
     "easy_answers",
+    "longest_by_chance",
     "long_texts",
     "easy_long_texts",
     "layouts",

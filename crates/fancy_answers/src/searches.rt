@@ -42,7 +42,7 @@ fn agree(
 
 /// Nothing but the place is set for the run.
 fn is_default(arguments: &Arguments) -> bool {
-    !(arguments.anchored || arguments.not_continued || arguments.not_empty)
+    !(arguments.anchored || arguments.not_continued || arguments.not_empty || arguments.longest)
         && arguments.backtracks.is_none()
         && arguments.steps.is_none()
 }
@@ -192,6 +192,15 @@ fn line(alloc: Global, words: &[String]) -> Result<String, AllocError> {
 pub fn answered(alloc: Global, key: &str) -> Result<String, AllocError> {
     let key = written_out(alloc, key)?;
     line(alloc, &search_words(alloc, key.as_str())?)
+}
+
+/// Whether the calls that make the search agree.
+pub fn agreed(alloc: Global, key: &str, scratch: &mut Scratch) -> Result<String, AllocError> {
+    let words = search_words(alloc, key)?;
+    match differing(alloc, &words, scratch) {
+        Some(call) => differ(alloc, call),
+        None => String::from_str(alloc, "agree"),
+    }
 }
 
 /// The line that is printed, where the calls that make the search agree.
