@@ -133,7 +133,11 @@ impl CharTest {
 pub(crate) fn byte_at(text: &[u8], ix: usize) -> Option<u8>
     ensures { result ≡ slice_get text.now ix }
 {
-    if ix < text.len() { Some(text[ix]) } else { None }
+    if ix < text.len() {
+        Some(text[ix])
+    } else {
+        None
+    }
 }
 
 /// Past this character.
