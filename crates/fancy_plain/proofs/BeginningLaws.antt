@@ -4,6 +4,7 @@ use Rattle.std.specs.Prelude.{slice_index_or}
 use Rattle.std.specs.Char.{len_utf8}
 use Rattle.std.specs.Option.{option_and_then}
 use Rattle.std.proofs.lemmas.Bool.{cases_lt, cond-true, cond-false, ltb-true}
+use Rattle.std.proofs.lemmas.Str.{len_utf8_ascii}
 use Rattle.std.proofs.lemmas.Bool.Decides.{nat_tests}
 use Rattle.std.proofs.lemmas.Option.{slice_get-map}
 use Rattle.regex_hir.proofs.TextLemmas.{char_at_ascii, char_at_past}
@@ -42,10 +43,23 @@ some_same : {A : Type 0} {x y : A} → Some x ≡ Some y → x ≡ y
 some_same e = cc
 
 -- a test does not ask for the text
-passes_alike : (text : List ℕ) (unicode : Bool) (test : plain.CharTest) (c : ℕ) → passes [] unicode test c ≡ passes text unicode test c
+pub passes_alike : (text : List ℕ) (unicode : Bool) (test : plain.CharTest) (c : ℕ) → passes [] unicode test c ≡ passes text unicode test c
 passes_alike text unicode (plain.AnyChar newline crlf) c = refl
 passes_alike text unicode (plain.OneChar d casei) c = refl
 passes_alike text unicode (plain.InClass inner casei) c = refl
+
+-- past the end no character is taken
+pub past_end : (text : List ℕ) (f : ℕ → Bool) (i : ℕ) → slice_get text i ≡ None → past_char text f i ≡ None
+past_end text f i e =
+    ap (option_and_then (λ c. if f c then Some (i + len_utf8 c) else None)) (char_at_past text i (none_past text i e))
+
+-- one of ASCII is one byte
+pub past_ascii : (text : List ℕ) (f : ℕ → Bool) (i b : ℕ) → slice_get text i ≡ Some b → b < 128 → (passed : Bool) → f b ≡ passed →
+    past_char text f i ≡ (if passed then Some (i + 1) else None)
+past_ascii text f i b here small passed e =
+    ap (option_and_then (λ c. if f c then Some (i + len_utf8 c) else None)) (char_at_ascii text i b here small)
+    ∙ ap (λ n. if f b then Some (i + n) else None) (len_utf8_ascii b small)
+    ∙ ap (λ a. if a then Some (i + 1) else None) e
 
 -- where no character stands that is among these, none is taken
 module _ (text : List ℕ) (unicode : Bool) (place : ℕ) (ascii : List Bool) (test : plain.CharTest)
@@ -59,7 +73,7 @@ module _ (text : List ℕ) (unicode : Bool) (place : ℕ) (ascii : List Bool) (t
 
   takes_none : (o : Option ℕ) → slice_get text place ≡ o → is_begun_by ascii o ≡ false →
       past_char text (passes text unicode test) place ≡ None
-  takes_none None here out = ap past_by (char_at_past text place (none_past text place here))
+  takes_none None here out = past_end text (passes text unicode test) place here
   takes_none (Some b) here out = go (nat_lt b 128) refl
     where
       go : (small : Bool) → nat_lt b 128 ≡ small → past_char text (passes text unicode test) place ≡ None

@@ -5,7 +5,7 @@ ghost use Rattle.fancy_points.specs.PointSearch.{passes};
 ghost use Rattle.fancy_plain.specs.Beginnings.{may_begin, leads_within, AreBeginnings};
 ghost use Rattle.fancy_plain.specs.Views.{point_of, test_of, IsPointReadBy, IsReadBy};
 
-use crate::point::{CharTest, Point};
+use crate::point::{CharTest, Point, byte_at};
 use std::alloc::{AllocError, Global};
 
 /// The ASCII characters that a way by these points can begin with, beside any others. None if one may take nothing.
@@ -36,13 +36,6 @@ pub(crate) fn may_begin(ascii: &Option<[bool; 128]>, text: &[u8], ix: usize) -> 
             Some(byte) => byte >= 128 || ascii[byte as usize],
         },
     }
-}
-
-/// The byte at the place.
-pub(crate) fn byte_at(text: &[u8], ix: usize) -> Option<u8>
-    ensures { result ≡ slice_get text.now ix }
-{
-    if ix < text.len() { Some(text[ix]) } else { None }
 }
 
 /// The points that a search comes to before it takes a character; fewer where a loop leads back to one that is not.

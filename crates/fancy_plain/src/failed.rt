@@ -1,6 +1,6 @@
 //! The pairs of a point and a place that have no way.
 
-ghost use Rattle.std.specs.Prelude.{◌≡◌, ℕ, ◌||◌, ◌==◌, false, List, OnOk, OnErr, IfErr};
+ghost use Rattle.std.specs.Prelude.{◌≡◌, ℕ, ◌∷◌, [], ◌||◌, ◌==◌, false, List, OnOk, OnErr, IfErr};
 ghost use Rattle.fancy_expr.specs.declared.error.Error.TheVariants.{Memory};
 ghost use Rattle.fancy_plain.specs.FailedPairs.{same_numbers, bit_is_set, has_pair};
 
@@ -58,6 +58,16 @@ impl Failed {
         match self.pair_bits.bit(self.base, pair) {
             Some(bit) => has_bit(&self.bits, bit),
             None => self.lists.contains(pair),
+        }
+    }
+
+    /// The same of a pair outside all loops that count.
+    pub(crate) fn has_outside(&self, at: usize, place: usize) -> bool
+        ensures { result ≡ has_pair self.now (at ∷ place ∷ []) }
+    {
+        match self.pair_bits.bit_outside(self.base, at, place) {
+            Some(bit) => has_bit(&self.bits, bit),
+            None => self.has(&[at, place]),
         }
     }
 

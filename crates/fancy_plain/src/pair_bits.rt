@@ -1,7 +1,7 @@
 //! Which bit a pair has among those of its place.
 
-ghost use Rattle.std.specs.Prelude.{◌≡◌, ◌<◌, ◌^◌, ℕ, List, IfSome};
-ghost use Rattle.fancy_plain.specs.PairBits.{turn_number, turns_number, pair_number, pair_bit};
+ghost use Rattle.std.specs.Prelude.{◌≡◌, ◌<◌, ◌^◌, ◌∷◌, [], ℕ, List, IfSome};
+ghost use Rattle.fancy_plain.specs.PairBits.{turn_number, turns_number, pair_number, pair_bit, place_bit};
 
 use crate::point::{Loop, Point};
 
@@ -165,6 +165,24 @@ impl PairBits {
             return None;
         };
         let number = self.pair_number(*at, turns)?;
+        self.place_bit(base, *place, number)
+    }
+
+    /// The bit of a pair outside all loops that count.
+    pub(crate) fn bit_outside(self, base: usize, at: usize, place: usize) -> Option<usize>
+        ensures { result ≡ pair_bit self base (at ∷ place ∷ []) }
+    {
+        if at < self.points as usize && at < self.width as usize {
+            self.place_bit(base, place, at)
+        } else {
+            None
+        }
+    }
+
+    /// The bit with this number among those of its place.
+    fn place_bit(self, base: usize, place: usize, number: usize) -> Option<usize>
+        ensures { result ≡ place_bit self.width base place number }
+    {
         place
             .checked_sub(base)?
             .checked_mul(self.width as usize)?

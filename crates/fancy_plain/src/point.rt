@@ -1,6 +1,6 @@
 //! The points of a plain search, and the test on one character.
 
-ghost use Rattle.std.specs.Prelude.{◌≡◌, ◌≤◌, ◌<◌, [], length, IfOk, IfErr, IfSome};
+ghost use Rattle.std.specs.Prelude.{◌≡◌, ◌≤◌, ◌<◌, [], length, slice_get, IfOk, IfErr, IfSome};
 ghost use Rattle.fancy_meaning.specs.Chars as chars;
 ghost use Rattle.fancy_meaning.specs.Machine.{class_test};
 ghost use Rattle.fancy_meaning.specs.Moves.{past_char};
@@ -94,11 +94,49 @@ impl CharTest {
         ensures small { IfOk result (λ to. IfSome to (λ i. i ≤ length text.now)) }
         ensures refused { IfErr result IsMemory }
     {
+        let Some(byte) = byte_at(text.as_bytes(), ix) else {
+            return Ok(None);
+        };
+        if byte >= 128 {
+            return self.past_other(alloc, unicode, text, ix);
+        }
+        if self.takes_ascii(unicode, byte) {
+            Ok(Some(ix + 1))
+        } else {
+            Ok(None)
+        }
+    }
+
+    /// The same, whatever character stands there.
+    fn past_other(
+        &self,
+        alloc: Global,
+        unicode: bool,
+        text: &str,
+        ix: usize,
+    ) -> Result<Option<usize>, Error>
+        requires { IsReadBy unicode self.now }
+        ensures ok { IfOk result (λ to. to
+            ≡ past_char text.now (plain.passes text.now unicode (test_of self.now)) ix) }
+        ensures small { IfOk result (λ to. IfSome to (λ i. i ≤ length text.now)) }
+        ensures refused { IfErr result IsMemory }
+    {
         match self {
             CharTest::Any { newline, crlf } => Ok(past_any(text.as_bytes(), *newline, *crlf, ix)),
             CharTest::One { c, casei } => Ok(past_one(text.as_bytes(), unicode, *c, *casei, ix)),
             CharTest::Class(class) => past_class(alloc, class, text, ix),
         }
+    }
+}
+
+/// The byte at the place.
+pub(crate) fn byte_at(text: &[u8], ix: usize) -> Option<u8>
+    ensures { result ≡ slice_get text.now ix }
+{
+    if ix < text.len() {
+        Some(text[ix])
+    } else {
+        None
     }
 }
 

@@ -202,7 +202,7 @@ impl Memo {
         ensures rest { self.new ≡ record self.old { numbers = self.new.numbers } }
     {
         if stand.turns == 0 {
-            return Ok(self.failed.has(&[stand.at, stand.place]));
+            return Ok(self.failed.has_outside(stand.at, stand.place));
         }
         write_numbers(&self.log, stand, &mut self.numbers)?;
         Ok(self.failed.has(&self.numbers))

@@ -1,31 +1,40 @@
-use Rattle.std.proofs.Common.{◌≡◌, ◌≤◌, ℕ, Bool, List, Option, Some, None, IfSome, length, sym, subst}
-use Rattle.std.proofs.lemmas.Result.{IfOk-weaker}
-use Rattle.fancy_meaning.specs.Chars as chars
-use Rattle.fancy_meaning.specs.Machine.{class_test}
-use Rattle.fancy_meaning.specs.Moves.{past_char}
-use Rattle.fancy_laws.proofs.Moves.{past_char_fits}
-use Rattle.fancy_characters.specs.Classes.{class_of}
+use Rattle.std.proofs.Common.{◌+◌, ◌≤◌, arith, length, sym, ap, ◌∙◌, slice_get}
+use Rattle.fancy_points.specs.PointSearch as plain
+use Rattle.fancy_plain.specs.Views.{test_of}
+use Rattle.fancy_plain.proofs.BeginningLaws.{past_ascii, past_end, passes_alike, some_below}
 use Rattle.fancy_plain.proofs.point.CharTest.past.Goals as goal
 
-past_within : (text : List ℕ) (test : ℕ → Bool) (i : ℕ) (to : Option ℕ) → to ≡ past_char text test i →
-    IfSome to (λ j. j ≤ length text)
-past_within text test i None e = tt
-past_within text test i (Some j) e = (past_char_fits text test i j (sym e)).1
+pub overflow_add-result : goal.overflow_add-result
+overflow_add-result c =
+    let below = some_below c.as_bytes.result.now c.args.ix c.in-Some.byte (sym c.in-Some.ensures) in
+    omega (arith, below)
 
-pub returns-in-Any-clause-small : goal.returns-in-Any-clause-small
-returns-in-Any-clause-small c =
-    subst (λ text. IfSome c.past_any.result (λ j. j ≤ length text)) c.as_bytes.ensures.value
-    (past_within c.as_bytes.result.now (chars.any_takes c.in-Any.newline c.in-Any.crlf) c.args.ix c.past_any.result c.past_any.ensures)
+pub returns-in_default-clause-ok : goal.returns-in_default-clause-ok
+returns-in_default-clause-ok c =
+    sym
+    (past_end c.args.text.now (plain.passes c.args.text.now c.args.unicode (test_of c.args.self.now)) c.args.ix
+    (ap (λ text. slice_get text c.args.ix) (sym c.as_bytes.ensures.value) ∙ sym c.in_default.ensures))
 
-pub returns-in-One-clause-small : goal.returns-in-One-clause-small
-returns-in-One-clause-small c =
-    subst (λ text. IfSome c.past_one.result (λ j. j ≤ length text)) c.as_bytes-in-One.ensures.value
-    (past_within c.as_bytes-in-One.result.now (chars.literal_takes c.args.unicode c.in-One.c c.in-One.casei) c.args.ix
-    c.past_one.result c.past_one.ensures)
+pub returns-then-takes_ascii-clause-ok : goal.returns-then-takes_ascii-clause-ok
+returns-then-takes_ascii-clause-ok c =
+    sym
+    (past_ascii c.args.text.now (plain.passes c.args.text.now c.args.unicode (test_of c.args.self.now)) c.args.ix c.in-Some.byte
+    (ap (λ text. slice_get text c.args.ix) (sym c.as_bytes.ensures.value) ∙ sym c.in-Some.ensures)
+    c.if-byte-ge128.false _
+    (sym (passes_alike c.args.text.now c.args.unicode (test_of c.args.self.now) c.in-Some.byte) ∙ sym c.takes_ascii.ensures
+    ∙ c.if-takes_ascii.true))
 
-pub returns-in-Class-clause-small : goal.returns-in-Class-clause-small
-returns-in-Class-clause-small c =
-    IfOk-weaker c.past_class.result (λ to. to ≡ past_char c.args.text.now (class_test (class_of c.in-Class.class)) c.args.ix)
-    (λ to. IfSome to (λ j. j ≤ length c.args.text.now))
-    (past_within c.args.text.now (class_test (class_of c.in-Class.class)) c.args.ix)
-    c.past_class.ensures.ok
+pub returns-else-takes_ascii-clause-ok : goal.returns-else-takes_ascii-clause-ok
+returns-else-takes_ascii-clause-ok c =
+    sym
+    (past_ascii c.args.text.now (plain.passes c.args.text.now c.args.unicode (test_of c.args.self.now)) c.args.ix c.in-Some.byte
+    (ap (λ text. slice_get text c.args.ix) (sym c.as_bytes.ensures.value) ∙ sym c.in-Some.ensures)
+    c.if-byte-ge128.false _
+    (sym (passes_alike c.args.text.now c.args.unicode (test_of c.args.self.now) c.in-Some.byte) ∙ sym c.takes_ascii.ensures
+    ∙ c.if-takes_ascii.false))
+
+pub returns-then-takes_ascii-clause-small : goal.returns-then-takes_ascii-clause-small
+returns-then-takes_ascii-clause-small c =
+    let below = some_below c.as_bytes.result.now c.args.ix c.in-Some.byte (sym c.in-Some.ensures) in
+    let same = ap length c.as_bytes.ensures.value in
+    omega (arith, below, same)

@@ -7,5 +7,5 @@ use Rattle.fancy_plain.proofs.search.Memo.has_failed.Goals as goal
 -- src/search.rt:162:13
 pub returns-then-stand-eq0-clause-ok : goal.returns-then-stand-eq0-clause-ok
 returns-then-stand-eq0-clause-ok c = λ s failed h have.
-    c.has.ensures ∙ ap (has_pair c.args.self.now.failed) (key_outside c.args.self.now c.args.stand s h c.if-stand-eq0.true)
+    c.has_outside.ensures ∙ ap (has_pair c.args.self.now.failed) (key_outside c.args.self.now c.args.stand s h c.if-stand-eq0.true)
     ∙ have (pair_of s)
