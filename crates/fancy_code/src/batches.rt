@@ -11,9 +11,9 @@ ghost use Rattle.std.specs.List.{list_any};
 ghost use Rattle.std.specs.Prelude.{IfOk, None, [], map, ◌∷◌, ◌≡◌};
 
 use crate::classes::SharedClasses;
-use crate::writer::CodeWriter;
 use crate::delegates::SharedDelegates;
 use crate::leaves::any_insn;
+use crate::writer::CodeWriter;
 use fancy_characters::classes::CaseiLiteral;
 use fancy_expr::error::Error;
 use fancy_expr::expr::Expr;

@@ -14,15 +14,13 @@ use Rattle.fancy_meaning.specs.Hard.{is_hard}
 use Rattle.fancy_code.specs.Sites.{Site}
 use Rattle.fancy_expr.specs.declared.expr.Absent.{Absent}
 use Rattle.fancy_expr.specs.declared.expr.Absent.TheVariants as code_absent
-use Rattle.fancy_expr.specs.declared.expr.Expr.{Expr}
 use Rattle.fancy_expr.specs.declared.expr.Expr.TheVariants as code
 use Rattle.fancy_expr.specs.Exprs.{below}
-use Rattle.fancy_info.specs.Infos.{nth, node_over, absent_over}
+use Rattle.fancy_info.specs.Infos.{nth, absent_over}
 use Rattle.std.proofs.lemmas.Bool.{and_parts}
 use Rattle.fancy_code.specs.Faults.{Rejects, refused, out_of_range, HasRejected}
 use Rattle.fancy_code.specs.Drafts.{Draft, Writes, written_code, node_code}
 use Rattle.fancy_compile.specs.Nodes.{is_repeater}
-use Rattle.fancy_nodes.specs.Nodes.{is_absent_expr}
 use Rattle.fancy_code.proofs.Written.{wrote_node, rejected_here, other_absent}
 
 -- ---- the kinds of absent nodes

@@ -1,25 +1,18 @@
 -- What is known of a node, and of its children.
-use Rattle.std.proofs.Common.{◌≡◌, ℕ, zero, suc, ◌+◌, ◌<◌, ◌≤◌, false, List, [], ◌∷◌, length, map, drop, get_or, Contains, refl, sym, ap, ◌∙◌, subst, arith, add-one}
-use Rattle.std.proofs.Math.Seq.{drop-cons}
-use Rattle.std.proofs.lemmas.List.{length-map}
+use Rattle.std.proofs.Common.{◌≡◌, ℕ, zero, suc, ◌+◌, ◌<◌, false, List, [], ◌∷◌, length, map, get_or, Contains, refl, sym, ap, ◌∙◌, subst, arith}
 use Rattle.std.proofs.lemmas.List.Elements.{Contains-append_left, Contains-append_right}
-use Rattle.fancy_meaning.specs.Tree.{Tree, trees, children, parts}
+use Rattle.fancy_meaning.specs.Tree.{Tree, trees}
 use Rattle.fancy_meaning.specs.Nodes.{nodes, nodes_of_each}
 use Rattle.fancy_meaning.specs.Hard.{is_hard}
 use Rattle.fancy_meaning.specs.WellFormed.{IsFine}
 use Rattle.fancy_meaning.specs.Options.{Analysis}
-use Rattle.fancy_meaning.specs.Sizes.{size}
 use Rattle.fancy_info.specs.declared.info.Info.{Info}
 use Rattle.fancy_info.specs.declared.info.Info.TheViews.{out-Info, roll-out-Info}
-use Rattle.fancy_info.specs.declared.info.Info.TheFolds.{fold_out-Info}
 use Rattle.fancy_expr.specs.declared.expr.Expr.{Expr}
 use Rattle.fancy_expr.specs.Exprs.{below}
-use Rattle.fancy_info.specs.Infos.{info_tree, info_children, info_facts, info_hard, info_size, info_within, node_over, is_read_group, EachNode, IsFound, IsAnalysed}
-use Rattle.fancy_expr.specs.Each.{Each}
+use Rattle.fancy_info.specs.Infos.{info_tree, info_children, info_facts, info_hard, info_within, EachNode, IsFound, IsAnalysed}
 use Rattle.fancy_info.proofs.Children.{each_at, only_one, node_count-below, child_count}
-use Rattle.fancy_info.proofs.Unfolded.{tree_out, each_here, each_below, each_made}
-use Rattle.fancy_info.proofs.OverParts.{over-parts}
-use Rattle.fancy_expr.proofs.NodeParts.{nodes-parts}
+use Rattle.fancy_info.proofs.Unfolded.{tree_out, each_made}
 use Rattle.fancy_expr.specs.Walk.{start_inside, within_inside}
 use Rattle.fancy_plain.specs.Neighbours.{IsEasy}
 use Rattle.fancy_plain.specs.Tables.{AreFine}

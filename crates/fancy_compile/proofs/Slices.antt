@@ -1,8 +1,8 @@
 -- Neighbours that are some of others, and runs of nodes that may be a batch.
-use Rattle.std.proofs.Common.{◌≡◌, ℕ, zero, suc, ◌+◌, ◌-◌, ◌≤◌, Bool, true, false, not, List, [], ◌∷◌, ◌++◌, length, map, take, drop, reverse, if◌then◌else◌, true≢false, refl, sym, ap, ◌∙◌, subst, arith}
+use Rattle.std.proofs.Common.{◌≡◌, ℕ, zero, suc, ◌+◌, ◌-◌, ◌≤◌, Bool, true, false, not, List, [], ◌∷◌, length, map, take, drop, reverse, if◌then◌else◌, true≢false, refl, sym, ap, ◌∙◌, subst, arith}
 use Rattle.std.specs.List.{prefix_len, suffix_len}
 use Rattle.std.proofs.lemmas.Bool.{and_parts}
-use Rattle.std.proofs.lemmas.List.{length-reverse, reverse-append, reverse-reverse, map-append}
+use Rattle.std.proofs.lemmas.List.{length-reverse, reverse-reverse}
 use Rattle.fancy_meaning.specs.Tree.{Within}
 use Rattle.fancy_meaning.specs.Options.{Analysis}
 use Rattle.fancy_state.proofs.HeldLaws.{reverse-take}
@@ -14,7 +14,7 @@ use Rattle.fancy_plain.specs.Neighbours.{IsEasy}
 use Rattle.fancy_plain.specs.Tables.{AreFine}
 use Rattle.fancy_fragments.specs.Nodes.{AreEasyNeighbours}
 use Rattle.fancy_compile.specs.declared.scope.Scope.{Scope}
-use Rattle.fancy_info.specs.NodeCounts.{node_count, node_counts}
+use Rattle.fancy_info.specs.NodeCounts.{node_counts}
 use Rattle.fancy_compile.specs.Nodes.{AreWhole}
 use Rattle.fancy_nodes.specs.Nodes.{back_start, front_count, is_back, is_front}
 use Rattle.fancy_nodes.proofs.Known.{hard_child}

@@ -1,32 +1,27 @@
 -- What writing a node does.
-use Rattle.std.specs.Prelude.{◌≡◌, ℕ, suc, ◌+◌, ◌*◌, ◌≤◌, Bool, true, false, not, ◌&&◌, ◌||◌, ◌==◌, nat_eq, List, [], ◌∷◌, map, length, take, drop, Contains, Option, slice_index_or, nat_lt, nat_le, ◌-◌}
-use Rattle.std.specs.Borrow.{Bor}
-use Rattle.std.specs.List.{list_all, list_any, prefix_len, suffix_len}
+use Rattle.std.specs.Prelude.{◌≡◌, ℕ, ◌+◌, ◌*◌, ◌≤◌, Bool, true, false, not, ◌&&◌, nat_eq, List, [], ◌∷◌, map, length, Option, slice_index_or, nat_lt}
+use Rattle.std.specs.List.{list_any}
 use Rattle.fancy_meaning.specs.Tree as plain
 use Rattle.fancy_meaning.specs.Tree.{Tree, Trees, trees}
 use Rattle.fancy_expr.specs.declared.expr.Absent.{Absent}
 use Rattle.fancy_expr.specs.declared.expr.Absent.TheVariants as code_absent
-use Rattle.fancy_expr.specs.declared.expr.Expr.{Expr}
-use Rattle.fancy_expr.specs.declared.expr.Expr.TheVariants as code
 use Rattle.fancy_meaning.specs.Code.{Code, nothing, one, in_turn, branches}
 use Rattle.fancy_meaning.specs.Instr.{Instr}
-use Rattle.fancy_meaning.specs.Hard.{is_hard, is_root_hard}
+use Rattle.fancy_meaning.specs.Hard.{is_root_hard}
 use Rattle.fancy_meaning.specs.Constructs.{conditional_code, negative_look_code}
 use Rattle.fancy_meaning.specs.Marks.{takes_nothing, marked_groups}
 use Rattle.fancy_meaning.specs.Layout.{called_code}
-use Rattle.fancy_meaning.specs.Nodes.{groups, nodes}
-use Rattle.fancy_meaning.specs.WellFormed.{IsFine}
+use Rattle.fancy_meaning.specs.Nodes.{groups}
 use Rattle.fancy_plain.specs.Tables.{AreFine}
 use Rattle.fancy_meaning.specs.OpenCalls.{Depths, free_calls}
 use Rattle.fancy_meaning.specs.Sizes.{size}
 use Rattle.fancy_meaning.specs.Options.{Analysis}
 use Rattle.fancy_code.specs.Sites.{Site}
 use Rattle.fancy_info.specs.declared.info.Info.{Info}
-use Rattle.fancy_info.specs.Infos.{node_over, info_tree, info_facts, info_size, info_hard, info_children, AreInTurn, IsNode, IsAnalysed}
+use Rattle.fancy_info.specs.Infos.{info_tree, info_hard, AreInTurn, IsAnalysed}
 use Rattle.fancy_info.specs.NodeCounts.{node_count, node_counts}
 use Rattle.fancy_expr.specs.Each.{Each}
 use Rattle.fancy_compile.specs.declared.scope.Scope.{Scope}
-use Rattle.fancy_nodes.specs.declared.group_table.GroupTable.{GroupTable}
 use Rattle.fancy_compile.specs.OpenDepths.{depths_of}
 use Rattle.fancy_code.specs.Arounds.{around_code, behind, not_behind}
 use Rattle.fancy_code.specs.Drafts.{Draft, Writes, code_in, written_code, is_easy, node_code}

@@ -28,7 +28,13 @@ fn patch_jumps(writer: &mut CodeWriter, jumps: Vec<usize>)
 impl<'t, 'i, 'a, 'o> Scope<'t, 'i, 'a, 'o> {
     /// Nodes, one or the other: each but the last goes on behind the last. With `behind`, each is looked for behind the place.
     #[cycle(emit)]
-    pub fn emit_branches(&self, writer: &mut CodeWriter, infos: &[Info], behind: bool, in_hard: bool)
+    pub fn emit_branches(
+        &self,
+        writer: &mut CodeWriter,
+        infos: &[Info],
+        behind: bool,
+        in_hard: bool,
+    )
         requires { AreWhole self.now infos.now }
         ensures { WritesBranches behind in_hard self.now infos.now
             (draft_of writer.old) (draft_of writer.new) }

@@ -20,7 +20,13 @@ fn is_still_first(is_first: bool, info: &Info) -> bool
 impl<'t, 'i, 'a, 'o> Scope<'t, 'i, 'a, 'o> {
     /// A concatenation.
     #[cycle(emit)]
-    pub fn emit_concat(&self, writer: &mut CodeWriter, infos: &[Info], at_start: bool, in_hard: bool)
+    pub fn emit_concat(
+        &self,
+        writer: &mut CodeWriter,
+        infos: &[Info],
+        at_start: bool,
+        in_hard: bool,
+    )
         requires { AreWhole self.now infos.now }
         ensures { WritesConcat self.now infos.now at_start in_hard
             (draft_of writer.old) (draft_of writer.new) }

@@ -1,4 +1,4 @@
-use Rattle.std.proofs.Common.{◌<◌, ◌++◌, length, map, drop, ◌+◌, sym, ap, ◌∙◌, subst, arith, append_assoc}
+use Rattle.std.proofs.Common.{◌<◌, ◌++◌, length, drop, ◌+◌, sym, ap, ◌∙◌, arith, append_assoc}
 use Rattle.fancy_nodes.specs.GroupTables.{is_group, own_trees, trees_of, group_trees}
 use Rattle.fancy_info.specs.Infos.{info_facts, info_children, info_tree}
 use Rattle.fancy_nodes.proofs.Known.{fine_part, part_known, part_smaller}

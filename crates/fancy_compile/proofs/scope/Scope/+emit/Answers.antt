@@ -17,7 +17,7 @@ use Rattle.fancy_code.specs.Drafts.{draft_of, with_patch, with_jumps, Adds, Writ
 use Rattle.fancy_meaning.specs.AnalysisRefusals as refusal
 use Rattle.fancy_meaning.specs.Sizes.{Size}
 use Rattle.fancy_code.specs.Faults.{HasRejected}
-use Rattle.fancy_info.specs.NodeCounts.{node_count, node_counts}
+use Rattle.fancy_info.specs.NodeCounts.{node_counts}
 use Rattle.fancy_compile.specs.Nodes.{AreWhole, branch_over, look_behind, step_past}
 use Rattle.fancy_nodes.specs.Nodes.{back_start, front_count, rest_of}
 use Rattle.std.specs.List.{list_all, list_any}
