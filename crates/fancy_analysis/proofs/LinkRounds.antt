@@ -1,5 +1,5 @@
 -- One round over the links, link by link.
-use Rattle.std.proofs.Common.{◌≡◌, ℕ, ◌+◌, ◌<◌, ◌≤◌, Bool, true, false, not, ◌&&◌, List, ◌++◌, length, take, get_or, All, Contains, IsFalse, ◌↔◌, refl, sym, ap, ◌∙◌, subst, arith, inl, inr}
+use Rattle.std.proofs.Common.{◌≡◌, ℕ, zero, suc, ◌+◌, ◌<◌, ◌≤◌, Bool, true, false, not, ◌&&◌, List, [], ◌∷◌, ◌++◌, length, take, get_or, All, Contains, IsFalse, ◌↔◌, refl, sym, ap, ◌∙◌, subst, arith, inl, inr}
 use Rattle.std.proofs.Math.ListN.{set}
 use Rattle.std.proofs.Math.Seq.{take-append_seam}
 use Rattle.std.proofs.lemmas.Bool.{both_ways, cases_lt, and_parts, and_right, and_left}
@@ -16,6 +16,22 @@ pub room_kept : (links : List Link) (before after : List Bool) → length before
 room_kept links before after long room = record {
   whole = let w = room.whole in omega arith;
   each = λ k d lt. let w = room.each k d lt in omega arith;
+}
+
+pub room_none : (links : List Link) (flags : List Bool) → 0 < length flags → HasRoom (take 0 links) flags
+room_none links flags h = record { whole = h; each = λ k d lt. absurd (omega arith) }
+
+pub same_one : (flags : List Bool) (b : Bool) → flags ≡ b ∷ [] → All (λ x. x ≡ b) flags
+same_one flags b one = subst (All (λ x. x ≡ b)) (sym one) only where
+  only : All (λ x. x ≡ b) (b ∷ [])
+  only zero d h = refl
+  only (suc k) d h = absurd (omega arith)
+
+pub room_more : (links : List Link) (before after : List Bool) (i : ℕ) (d link : Link) → i < length links → link ≡ get_or links i d →
+    length before ≤ length after → link.from < length after → HasRoom (take i links) before → HasRoom (take (i + 1) links) after
+room_more links before after i d link h at longer from room = record {
+  whole = omega (arith, room.whole);
+  each = All-more (λ l. l.from < length after) links i d h (λ k d lt. let w = room.each k d lt in omega arith) (subst (λ l. l.from < length after) at from);
 }
 
 -- ---- what is reached
