@@ -186,9 +186,13 @@ static int refuse_rows(void)
 {
     struct row row;
     size_t rows = 0, asked = 0, ended = 0;
-    for (; read_row(&row); rows++)
-        if (refuse_row(&row, &asked, &ended) != 0)
+    for (; read_row(&row); rows++) {
+        int wrong = refuse_row(&row, &asked, &ended);
+        free(row.tree);
+        free(row.text);
+        if (wrong != 0)
             return 1;
+    }
     printf("%zu rows, %zu requests refused in turn, %zu of them ended a row by Memory\n", rows, asked, ended);
     return 0;
 }

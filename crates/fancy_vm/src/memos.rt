@@ -93,6 +93,12 @@ impl Memos {
         ensures ascends { IfOk result HasAscending }
         ensures memos { AreMemosOf task.now self.new }
     {
+        if !fragment.can_begin(task.text, ix) {
+            return Ok(FirstWay {
+                way: None,
+                visits: 0,
+            });
+        }
         let mut memo = self.memo_for(task, fragment, pc)?;
         let way = first_way_with(task.alloc, fragment, task.text, ix, &mut memo);
         let run = self.run;

@@ -27,3 +27,8 @@ returns-clause-memos c = record {
       (λ before. c.memo_for.ensures.memos.each pc memo before same)
       (put_tells _ c.args.pc _ pc memo stands);
 }
+
+pub returns-then-not-can_begin-clause-first : goal.returns-then-not-can_begin-clause-first
+returns-then-not-can_begin-clause-first c =
+    let none = c.can_begin.ensures.none c.if-not-can_begin.true in
+    record { way = none; visits = λ a easy. omega arith }
