@@ -27,6 +27,7 @@ class Options:
     find_not_empty: bool = False
     end_text: bool = False
     anchored: bool = True
+    leftmost_longest: bool = False
     reject_at_end: bool = False
 
 
@@ -147,6 +148,7 @@ class Analysis:
             or node.kind == "grp" and node.start_group in self.read
             or node.kind in ("cat", "alt", "grp", "rep") and any(child.hard for child in node.children)
             or node.kind == "assertion" and self.is_hard_assertion(node)
+            or self.options.leftmost_longest and not node.size[2]
             or self.options.find_not_empty and node.size[0] == 0 and not node.size[2]
         )
 
@@ -172,7 +174,7 @@ class Analysis:
                 found.add(f"InvalidBackref({node.number})")
             if node.kind in ("ref", "reflevel") and node.number == 0:
                 found.add("InvalidBackref(0)")
-            if node.kind == "reflevel":
+            if node.kind == "reflevel" or node.lazy and self.options.leftmost_longest:
                 found.add(NOT_YET)
         if self.has_late_reference(self.tree, [], set()):
             found.add(NOT_YET)
