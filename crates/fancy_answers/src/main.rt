@@ -26,7 +26,7 @@ struct Engine {
 impl Table for Engine {
     fn outcome(&mut self, alloc: Global, table: &str, key: &str) -> Result<String, AllocError> {
         match table {
-            "answers" | "everyday" | "easy_answers" => {
+            "answers" | "everyday" | "guide" | "easy_answers" => {
                 searches::compared(alloc, key, &mut self.scratch)
             }
             "longest_by_chance" => searches::agreed(alloc, key, &mut self.scratch),
@@ -41,9 +41,10 @@ impl Table for Engine {
     }
 }
 
-const TABLES: [&str; 13] = [
+const TABLES: [&str; 14] = [
     "answers",
     "everyday",
+    "guide",
     "easy_answers",
     "longest_by_chance",
     "long_texts",
