@@ -1,6 +1,6 @@
 //! The pairs of a point and a place that have no way.
 
-ghost use Rattle.std.specs.Prelude.{◌≡◌, ℕ, ◌∷◌, [], ◌||◌, ◌==◌, false, List, OnOk, OnErr};
+ghost use Rattle.std.specs.Prelude.{◌≡◌, ℕ, ◌∷◌, [], ◌||◌, ◌==◌, false, List, IsTrue, OnOk, OnErr};
 ghost use Rattle.fancy_plain.specs.FailedPairs.{same_numbers, bit_is_set, has_pair};
 
 use crate::pair_bits::PairBits;
@@ -47,6 +47,13 @@ impl Failed {
             self.lists.clear();
             self.lists.shrink_to(used.saturating_mul(SPARE));
         }
+    }
+
+    /// Nothing was noted.
+    pub(crate) fn is_empty(&self) -> bool
+        ensures { IsTrue result → (k : List ℕ) → has_pair self.now k ≡ false }
+    {
+        self.bits.is_empty() && self.lists.is_empty()
     }
 
     /// Whether a pair with these numbers is among them.

@@ -197,6 +197,9 @@ impl Memo {
             → IsHere self.old stand s → HaveFailed self.old failed → yes ≡ failed (pair_of s)) }
         ensures rest { self.new ≡ record self.old { numbers = self.new.numbers } }
     {
+        if self.failed.is_empty() {
+            return Ok(false);
+        }
         if stand.turns == 0 {
             return Ok(self.failed.has_outside(stand.at, stand.place));
         }
