@@ -3,7 +3,7 @@ use Rattle.std.proofs.Common.{◌≡◌, ◌≤◌, ◌+◌, ◌∷◌, ◌++◌
 use Rattle.std.proofs.lemmas.List.{length-take, reverse-append}
 use Rattle.fancy_points.specs.PointSearch as plain
 use Rattle.fancy_points.specs.FirstWays.{search_in}
-use Rattle.fancy_expr.specs.declared.error.Error.{Error}
+use Rattle.std.specs.declared.alloc.AllocError.{AllocError}
 use Rattle.fancy_plain.specs.declared.log.Entry.{Entry}
 use Rattle.fancy_plain.specs.declared.log.Stand.{Stand}
 use Rattle.fancy_plain.specs.declared.search.Choice.{Choice}
@@ -93,7 +93,7 @@ popped leading m cut c f items path failed visits h =
 
 -- what the other way on answers is what going back answers
 pub goes_back : (task : Task) (next : plain.Next) (steps : ℕ) (s other : plain.Stand) (here : Stand) (f g : plain.Search)
-    (result : Result Lead Error) (m : Memo) → after_steps_of task steps next ≡ plain.TakesBack f →
+    (result : Result Lead AllocError) (m : Memo) → after_steps_of task steps next ≡ plain.TakesBack f →
     next_of task (plain.TakesBack f) ≡ plain.TakesUp other g → g.failed ≡ f.failed →
     Leads (leading_of task) s here f.failed (plain.TakesUp other g) result m → GoesBack task next result m
 goes_back task next steps s other here f g (Ok lead.Found) m e up same (x, (is, h, stands)) = absurd (no_end is)
@@ -106,13 +106,10 @@ goes_back task next steps s other here f g (Ok lead.Lost) m e up same (x, (is, r
     no_back is = cc
 goes_back task next steps s other here f g (Ok (lead.Goes there)) m e up same (x, (t, (is, h, stands))) =
     (suc steps, (x, (t, (one_more task steps next (plain.TakesBack f) e ∙ up ∙ is, h, stands))))
-goes_back task next steps s other here f g (Err error) m e up same (memory, failed) = (
-  memory,
-  (
-    suc steps,
-    λ p.
-        failed p ∙ sym (ap (λ v. v p) (ap (λ n. (search_in n).failed) (one_more task steps next (plain.TakesBack f) e ∙ up) ∙ same)),
-  ),
+goes_back task next steps s other here f g (Err error) m e up same failed = (
+  suc steps,
+  λ p.
+      failed p ∙ sym (ap (λ v. v p) (ap (λ n. (search_in n).failed) (one_more task steps next (plain.TakesBack f) e ∙ up) ∙ same)),
 )
 
 -- a pair is noted, and nothing else changes
@@ -154,32 +151,32 @@ steps_then task (suc k) j n w e =
 
 -- a step that goes on, and a way back from there
 pub leads_back : (task : Task) (s : plain.Stand) (here : Stand) (failed : plain.Pair → Bool) (n w : plain.Next)
-    (result : Result Lead Error) (m : Memo) → next_of task n ≡ w → GoesBack task w result m → GoesBack task n result m
+    (result : Result Lead AllocError) (m : Memo) → next_of task n ≡ w → GoesBack task w result m → GoesBack task n result m
 leads_back task s here failed n w (Ok lead.Found) m e h = h
 leads_back task s here failed n w (Ok lead.Lost) m e (k, (f, (is, h))) = (suc k, (f, (ap (after_steps_of task k) e ∙ is, h)))
 leads_back task s here failed n w (Ok (lead.Goes there)) m e (k, (f, (t, (is, h, stands)))) =
     (suc k, (f, (t, (ap (after_steps_of task k) e ∙ is, h, stands))))
-leads_back task s here failed n w (Err error) m e (memory, (k, h)) =
-    (memory, (suc k, λ p. h p ∙ sym (ap (λ x. (search_in (after_steps_of task k x)).failed p) e)))
+leads_back task s here failed n w (Err error) m e (k, h) =
+    (suc k, λ p. h p ∙ sym (ap (λ x. (search_in (after_steps_of task k x)).failed p) e))
 
 -- one step alone
-pub leads_on : (task : Task) (s : plain.Stand) (here : Stand) (f : plain.Search) (result : Result Lead Error) (m : Memo) →
+pub leads_on : (task : Task) (s : plain.Stand) (here : Stand) (f : plain.Search) (result : Result Lead AllocError) (m : Memo) →
     (result ≡ Ok lead.Lost → ⊥) →
     Leads (leading_of task) s here f.failed (next_of task (plain.TakesUp s f)) result m →
     Advances task here (plain.TakesUp s f) result m
 leads_on task s here f (Ok lead.Found) m w (g, (is, h, stands)) = (1, (g, (s, (is, h, stands))))
 leads_on task s here f (Ok lead.Lost) m w h = absurd (w refl)
 leads_on task s here f (Ok (lead.Goes there)) m w (g, (t, (is, h, stands))) = (1, (g, (t, (is, h, stands))))
-leads_on task s here f (Err error) m w (memory, h) = (memory, (0, h))
+leads_on task s here f (Err error) m w h = (0, h)
 
-pub back_advances : (task : Task) (here : Stand) (n : plain.Next) (result : Result Lead Error) (m : Memo) →
+pub back_advances : (task : Task) (here : Stand) (n : plain.Next) (result : Result Lead AllocError) (m : Memo) →
     GoesBack task n result m → Advances task here n result m
 back_advances task here n (Ok lead.Found) m h = absurd h
 back_advances task here n (Ok lead.Lost) m h = h
 back_advances task here n (Ok (lead.Goes there)) m h = h
 back_advances task here n (Err error) m h = h
 
-pub ok_same : {l k : Lead} → (let r : Result Lead Error = Ok l in r) ≡ Ok k → l ≡ k
+pub ok_same : {l k : Lead} → (let r : Result Lead AllocError = Ok l in r) ≡ Ok k → l ≡ k
 ok_same e = cc
 
 -- from a step of the search to its end
@@ -192,10 +189,10 @@ pub ends_lost : (task : Task) (k : ℕ) (n w : plain.Next) (here : Stand) (m : M
     Advances task here w (Ok lead.Lost) m → EndsAs task n (Ok None) m
 ends_lost task k n w here m e (j, (f, (is, h))) = (k + j, (f, (steps_then task k j n w e ∙ is, h)))
 
-pub ends_err : (task : Task) (k : ℕ) (n w : plain.Next) (here : Stand) (error : Error) (m : Memo) → after_steps_of task k n ≡ w →
+pub ends_err : (task : Task) (k : ℕ) (n w : plain.Next) (here : Stand) (error : AllocError) (m : Memo) → after_steps_of task k n ≡ w →
     Advances task here w (Err error) m → EndsAs task n (Err error) m
-ends_err task k n w here error m e (memory, (j, h)) =
-    (memory, (k + j, λ p. h p ∙ sym (ap (λ x. (search_in x).failed p) (steps_then task k j n w e))))
+ends_err task k n w here error m e (j, h) =
+    (k + j, λ p. h p ∙ sym (ap (λ x. (search_in x).failed p) (steps_then task k j n w e)))
 
 -- a search that goes on from this stand after some steps
 abbrev pub GoesOn : Task → plain.Next → Memo → Stand → Type 0

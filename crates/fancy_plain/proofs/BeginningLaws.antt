@@ -1,5 +1,5 @@
 -- A search whose points are all within some that lead on to each other alone, and take nothing here, finds no way.
-use Rattle.std.proofs.Common.{◌≡◌, ◌<◌, ◌≤◌, ◌+◌, ◌∷◌, ◌++◌, [], ℕ, zero, suc, Bool, true, false, ◌&&◌, not, List, Option, Some, None, if◌then◌else◌, nat_lt, slice_get, length, map, option_map, inl, inr, arith, refl, sym, ap, ◌∙◌, subst, true≢false}
+use Rattle.std.proofs.Common.{◌≡◌, ◌<◌, ◌≤◌, ◌+◌, ◌∷◌, ◌++◌, [], ℕ, zero, suc, Bool, true, false, ◌&&◌, List, Option, Some, None, if◌then◌else◌, nat_lt, slice_get, length, map, option_map, inl, inr, arith, refl, sym, ap, ◌∙◌, subst, true≢false}
 use Rattle.std.specs.Prelude.{slice_index_or}
 use Rattle.std.specs.Char.{len_utf8}
 use Rattle.std.specs.Option.{option_and_then}
@@ -12,13 +12,12 @@ use Rattle.fancy_meaning.specs.Moves.{past_char}
 use Rattle.fancy_meaning.specs.Assertions.{holds}
 use Rattle.fancy_points.specs.Points as plain
 use Rattle.fancy_points.specs.Points.{Point}
-use Rattle.fancy_points.specs.PointSearch.{Lead, Found, Lost, Goes, Tries, Later, Other, Fails, Next, TakesUp, TakesBack, Ends, Pair, Search, Stand, Turn, after_steps, back_to, choice_lead, close_lead, first_search, first_stand, forward, goes_past, goes_to, head_lead, is_counted, is_over, lead_at, lead_by, next, next_by, next_turn, others, pair_of, passes, tries, visited, with_later}
-use Rattle.fancy_points.specs.FirstWays.{searched}
+use Rattle.fancy_points.specs.PointSearch.{Lead, Found, Lost, Goes, Tries, Later, Other, Fails, Next, TakesUp, TakesBack, Ends, Pair, Search, Stand, Turn, after_steps, back_to, choice_lead, close_lead, first_search, first_stand, forward, goes_past, goes_to, head_lead, is_counted, is_over, lead_at, next, next_by, next_turn, others, pair_of, passes, tries, visited, with_later}
 use Rattle.fancy_plain.specs.declared.point.Point as code
 use Rattle.fancy_plain.specs.declared.point.Point.TheVariants as variant
 use Rattle.fancy_plain.specs.declared.point.CharTest as code_test
 use Rattle.fancy_plain.specs.Views.{point_of}
-use Rattle.fancy_plain.specs.Beginnings.{AreBeginnings, IsWithin, is_begun_by, leads_within, may_begin, TakesAmong}
+use Rattle.fancy_plain.specs.Beginnings.{AreBeginnings, IsWithin, is_begun_by, leads_within, TakesAmong}
 
 both : (a b : Bool) → (a && b) ≡ true → (a ≡ true) × (b ≡ true)
 both true b e = (refl, e)

@@ -1,8 +1,7 @@
 -- The pairs that were noted, where nothing is and after one more.
-use Rattle.std.proofs.Common.{◌≡◌, ◌≢◌, ℕ, ◌+◌, ◌-◌, ◌*◌, ◌/◌, ◌%◌, ◌^◌, ◌<◌, ◌≤◌, Bool, true, false, ◌&&◌, ◌||◌, not, if◌then◌else◌, List, [], ◌∷◌, ◌++◌, length, replicate, Vec, Option, Some, None, Result, Ok, Err, OnErr, get_or, set, nat_lt, nat_le, ◌==◌, refl, sym, ap, subst, ◌∙◌, inl, inr, arith, bit_or, w64, get_or-set_same, get_or-set_other}
-use Rattle.std.proofs.lemmas.Bool.{cases_eq, cases_lt, not-false, and_parts, eq-eqb, ne_eqb, ltb-true, leb-true, false_from_ne_true}
+use Rattle.std.proofs.Common.{◌≡◌, ◌≢◌, ℕ, ◌-◌, ◌*◌, ◌/◌, ◌%◌, ◌^◌, ◌<◌, Bool, true, false, ◌||◌, not, List, [], ◌∷◌, ◌++◌, length, replicate, Vec, Option, Some, None, Result, Ok, Err, OnErr, get_or, set, ◌==◌, refl, sym, ap, subst, ◌∙◌, inl, inr, arith, bit_or, w64, get_or-set_same, get_or-set_other}
+use Rattle.std.proofs.lemmas.Bool.{cases_eq, cases_lt, not-false, eq-eqb, ne_eqb, false_from_ne_true}
 use Rattle.std.proofs.lemmas.List.{get_or-replicate, get_or_past, get_or_read, get_or_append_left, get_or-append_right, length-replicate}
-use Rattle.std.proofs.lemmas.Nat.{same_from_place}
 use Rattle.std.proofs.lemmas.Nat.Bits.{bit_at_set_same, bit_at_set_other, bit_at-zero}
 use Rattle.std.specs.Int.{bit_at}
 use Rattle.std.specs.List.{list_any}

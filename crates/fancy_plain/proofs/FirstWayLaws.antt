@@ -3,7 +3,7 @@ use Rattle.std.proofs.Common.{◌≡◌, ◌<◌, ◌≤◌, [], slice_get, slic
 use Rattle.std.proofs.lemmas.Bool.Decides.{nat_tests}
 use Rattle.std.proofs.lemmas.List.{take_all}
 use denote.Bor.{Bor}
-use Rattle.fancy_expr.specs.declared.error.Error.{Error}
+use Rattle.std.specs.declared.alloc.AllocError.{AllocError}
 use Rattle.fancy_meaning.specs.Tree.{Tree}
 use Rattle.fancy_meaning.specs.Places.{is_place}
 use Rattle.fancy_meaning.specs.Options.{Analysis}
@@ -26,7 +26,7 @@ use Rattle.fancy_plain.specs.declared.search.Memo.{Memo}
 use Rattle.fancy_plain.specs.declared.search.Task.{Task}
 use Rattle.fancy_plain.specs.Tables.{IsTableOf}
 use Rattle.fancy_plain.specs.Paths.{closed_after}
-use Rattle.fancy_plain.specs.Searches.{AreKept, EndsAs, HaveFailed, IsHere, IsMemory, IsSearch, Leading, leading_of}
+use Rattle.fancy_plain.specs.Searches.{AreKept, EndsAs, HaveFailed, IsHere, IsSearch, Leading, leading_of}
 use Rattle.fancy_plain.specs.Beginnings.{is_begun_by, may_begin}
 use Rattle.fancy_plain.specs.Views.{point_of}
 use Rattle.fancy_plain.specs.Ways.{HasNoWayAt, IsFirstWay, IsMemoOf, IsSeenAs, listed}
@@ -188,25 +188,23 @@ module _ (points : Bor (List code.Point)) (text : Bor (List ℕ)) (table : Point
   task = record { points = points; unicode = table.unicode; text = text }
 
   -- the search answered this, from whatever the code stands for at its start
-  abbrev Finds : Result (Option Stand) Error → Memo → Type 0
+  abbrev Finds : Result (Option Stand) AllocError → Memo → Type 0
   Finds r n =
       (s : plain.Stand) (f : Search) → IsSearch (leading_of task) m f →
       IsHere m (record { at = 0; place = place; turns = 0; opened = 0 }) s → EndsAs task (TakesUp s f) r n
 
-  ends : (r : Result (Option Stand) Error) (n : Memo) → Finds r n →
+  ends : (r : Result (Option Stand) AllocError) (n : Memo) → Finds r n →
       EndsAs task (TakesUp (plain.first_stand place) (plain.first_search memo.0)) r n
   ends r n h =
       let have : HaveFailed m memo.0 = λ p. ap (λ x. has_pair x (key_of p)) failed ∙ memo.1.0 p in
       h (plain.first_stand place) (plain.first_search memo.0) (search_at_start (leading_of task) m memo.0 place path later visits have)
       (here_at_start (leading_of task) m memo.0 place path later visits have)
 
-  pub end_refused : (e : Error) (n : Memo) → Finds (Err e) n → IsMemory e × IsMemoOf text.now table n
+  pub end_refused : (e : AllocError) (n : Memo) → Finds (Err e) n → IsMemoOf text.now table n
   end_refused e n h =
-      let x = ends (Err e) n h in (
-        x.0,
-        memo_after text.now table place memo.0 is_text at memo.1.1 n x.1.0
-            (subst (λ ps. HaveFailed n (search_in (searched text.now table.unicode ps memo.0 place x.1.0)).failed) (ap (map point_of) same) x.1.1),
-      )
+      let x = ends (Err e) n h in
+      memo_after text.now table place memo.0 is_text at memo.1.1 n x.0
+      (subst (λ ps. HaveFailed n (search_in (searched text.now table.unicode ps memo.0 place x.0)).failed) (ap (map point_of) same) x.1)
 
   pub end_found : (there : Option Stand) (n : Memo) → Finds (Ok there) n →
       Ended text.now table.unicode (map point_of table.points.items) memo.0 place there n

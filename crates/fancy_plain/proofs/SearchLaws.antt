@@ -1,5 +1,5 @@
 -- What is kept of a search and of a stand when the path grows or is cut.
-use Rattle.std.proofs.Common.{◌≡◌, ◌≤◌, ◌+◌, ◌∷◌, ◌++◌, [], ℕ, min, List, Bool, true, false, Option, Some, None, Result, Ok, option_map, map, length, take, slice_get, reverse, refl, sym, ap, ap₂, ◌∙◌, ◌||◌, subst, arith, nat_lt, if◌then◌else◌, length-append}
+use Rattle.std.proofs.Common.{◌≡◌, ◌≤◌, ◌+◌, ◌∷◌, ◌++◌, [], ℕ, min, List, Bool, true, false, Option, Some, None, Result, Ok, option_map, map, length, take, slice_get, reverse, refl, sym, ap, ap₂, ◌∙◌, ◌||◌, subst, arith, nat_lt, if◌then◌else◌, length-append, OnOk, IfOk, Err}
 use Rattle.std.proofs.lemmas.List.{take_all}
 use Rattle.fancy_points.specs.PointSearch as plain
 use Rattle.std.proofs.lemmas.Option.{slice_get-map, slice_get_past}
@@ -21,7 +21,7 @@ use Rattle.fancy_plain.specs.declared.log.Entry.TheVariants as entry
 use Rattle.fancy_plain.specs.declared.log.Log.{Log}
 use Rattle.fancy_plain.specs.declared.log.Turn.{Turn}
 use Rattle.fancy_plain.specs.declared.log.Stand.{Stand}
-use Rattle.fancy_expr.specs.declared.error.Error.{Error}
+use Rattle.std.specs.declared.alloc.AllocError.{AllocError}
 use Rattle.fancy_plain.specs.declared.search.Lead.{Lead}
 use Rattle.fancy_plain.specs.declared.search.Memo.{Memo}
 use Rattle.fancy_plain.specs.FailedPairs.{has_pair, key_of, same_numbers, turn_numbers}
@@ -491,7 +491,7 @@ head_notes l after s first other (t ∷ ts) n e = go (plain.is_over l s.place t)
 
 -- a step from a stand by the point that is there
 module _ (task : Task) (p : Point) (here : Stand) (s : plain.Stand) (f : plain.Search) (at : here.at ≡ s.at)
-    (there : slice_get (task.points).now here.at ≡ Some p) (result : Result Lead Error) (m : Memo) where
+    (there : slice_get (task.points).now here.at ≡ Some p) (result : Result Lead AllocError) (m : Memo) where
   pub at_point : Leads (leading_of task) s here f.failed
       (plain.next_by (plain.lead_by (task.text).now task.unicode (point_of p) s) (Some (point_of p)) s f) result m →
       Leads (leading_of task) s here f.failed (next_of task (plain.TakesUp s f)) result m
@@ -502,6 +502,11 @@ module _ (task : Task) (p : Point) (here : Stand) (s : plain.Stand) (f : plain.S
   at_lead h =
       subst (λ o. Leads (leading_of task) s here f.failed (plain.next_by (leading_of task s) o s f) result m)
       (sym (plain_there task p here s at there)) h
+
+-- what holds where a list was added
+pub when_added : {X E : Type 0} (r : Result X E) {P Q : Type 0} → (P → Q) → OnOk r P → IfOk r (λ x. Q)
+when_added (Ok x) f h = f h
+when_added (Err e) f h = tt
 
 -- what has failed is the same where the pairs are
 pub failed_by : (m n : Memo) (failed : plain.Pair → Bool) → n.failed ≡ m.failed → HaveFailed m failed → HaveFailed n failed

@@ -4,6 +4,7 @@ use Rattle.fancy_points.specs.Points.{Loop}
 use Rattle.fancy_points.specs.PointSearch as plain
 use Rattle.fancy_points.specs.PointSearch.{Pair, Later, Other, Fails, Search, Next, TakesUp, TakesBack, Ends, pair_of, after_steps}
 use Rattle.fancy_points.specs.FirstWays.{search_in}
+use Rattle.std.specs.declared.alloc.AllocError.{AllocError}
 use Rattle.fancy_expr.specs.declared.error.Error.{Error}
 use Rattle.fancy_expr.specs.declared.error.Error.TheVariants as error
 use Rattle.fancy_plain.specs.declared.log.Entry.{Entry}
@@ -67,14 +68,14 @@ abbrev pub IsHere : Memo → Stand → plain.Stand → Type 0
 IsHere m s t = IsStand m.log.entries.items (length m.log.entries.items) s t
 
 -- a step from this stand, which is to come to `next`, answered this
-abbrev pub Leads : Leading → plain.Stand → Stand → (Pair → Bool) → Next → Result Lead Error → Memo → Type 0
+abbrev pub Leads : Leading → plain.Stand → Stand → (Pair → Bool) → Next → Result Lead AllocError → Memo → Type 0
 Leads leading s here failed next (Ok lead.Found) m =
     (f : Search) × ((next ≡ Ends (Some s) f) × IsSearch leading m f × IsHere m here s)
 Leads leading s here failed next (Ok lead.Lost) m =
     (f : Search) × ((next ≡ TakesBack f) × IsSearch leading m f)
 Leads leading s here failed next (Ok (lead.Goes there)) m =
     (f : Search) × ((t : plain.Stand) × ((next ≡ TakesUp t f) × IsSearch leading m f × IsHere m there t))
-Leads leading s here failed next (Err e) m = IsMemory e × HaveFailed m failed
+Leads leading s here failed next (Err e) m = HaveFailed m failed
 
 -- ---- at the head of a loop
 
@@ -103,7 +104,7 @@ abbrev pub IsTask : Task → Type 0
 IsTask t = (i : ℕ) (p : Point) → slice_get (t.points).now i ≡ Some p → IsPointReadBy t.unicode p
 
 -- what is tried later answered this, after some steps from `next`
-abbrev pub GoesBack : Task → Next → Result Lead Error → Memo → Type 0
+abbrev pub GoesBack : Task → Next → Result Lead AllocError → Memo → Type 0
 GoesBack task next (Ok lead.Found) m = ⊥
 GoesBack task next (Ok lead.Lost) m =
     (steps : ℕ) × ((f : Search) × ((after_steps_of task steps next ≡ Ends None f) × IsSearch (leading_of task) m f))
@@ -111,10 +112,10 @@ GoesBack task next (Ok (lead.Goes there)) m =
     (steps : ℕ) × ((f : Search) × ((t : plain.Stand) × ((after_steps_of task steps next ≡ TakesUp t f)
     × IsSearch (leading_of task) m f × IsHere m there t)))
 GoesBack task next (Err e) m =
-    IsMemory e × ((steps : ℕ) × HaveFailed m (search_in (after_steps_of task steps next)).failed)
+    (steps : ℕ) × HaveFailed m (search_in (after_steps_of task steps next)).failed
 
 -- a search that is to go on by `next` from this stand came to this, after some steps
-abbrev pub Advances : Task → Stand → Next → Result Lead Error → Memo → Type 0
+abbrev pub Advances : Task → Stand → Next → Result Lead AllocError → Memo → Type 0
 Advances task here next (Ok lead.Found) m =
     (steps : ℕ) × ((f : Search) × ((s : plain.Stand) × ((after_steps_of task steps next ≡ Ends (Some s) f)
     × IsSearch (leading_of task) m f × IsHere m here s)))
@@ -123,11 +124,11 @@ Advances task here next (Ok (lead.Goes there)) m = GoesBack task next (Ok (lead.
 Advances task here next (Err e) m = GoesBack task next (Err e) m
 
 -- a search that is to go on by `next` ended so, after some steps
-abbrev pub EndsAs : Task → Next → Result (Option Stand) Error → Memo → Type 0
+abbrev pub EndsAs : Task → Next → Result (Option Stand) AllocError → Memo → Type 0
 EndsAs task next (Ok (Some there)) m =
     (steps : ℕ) × ((f : Search) × ((t : plain.Stand) × ((after_steps_of task steps next ≡ Ends (Some t) f)
     × IsSearch (leading_of task) m f × IsHere m there t)))
 EndsAs task next (Ok None) m =
     (steps : ℕ) × ((f : Search) × ((after_steps_of task steps next ≡ Ends None f) × IsSearch (leading_of task) m f))
 EndsAs task next (Err e) m =
-    IsMemory e × ((steps : ℕ) × HaveFailed m (search_in (after_steps_of task steps next)).failed)
+    (steps : ℕ) × HaveFailed m (search_in (after_steps_of task steps next)).failed

@@ -1,12 +1,10 @@
 //! The pairs of a point and a place that have no way.
 
-ghost use Rattle.std.specs.Prelude.{◌≡◌, ℕ, ◌∷◌, [], ◌||◌, ◌==◌, false, List, OnOk, OnErr, IfErr};
-ghost use Rattle.fancy_expr.specs.declared.error.Error.TheVariants.{Memory};
+ghost use Rattle.std.specs.Prelude.{◌≡◌, ℕ, ◌∷◌, [], ◌||◌, ◌==◌, false, List, IsTrue, OnOk, OnErr};
 ghost use Rattle.fancy_plain.specs.FailedPairs.{same_numbers, bit_is_set, has_pair};
 
 use crate::pair_bits::PairBits;
-use fancy_expr::error::Error;
-use std::alloc::Global;
+use std::alloc::{AllocError, Global};
 use std::collections::HashSet;
 
 /// How many times the lists that a search noted their room may be, once it is over.
@@ -51,6 +49,13 @@ impl Failed {
         }
     }
 
+    /// Nothing was noted.
+    pub(crate) fn is_empty(&self) -> bool
+        ensures { IsTrue result → (k : List ℕ) → has_pair self.now k ≡ false }
+    {
+        self.bits.is_empty() && self.lists.is_empty()
+    }
+
     /// Whether a pair with these numbers is among them.
     pub(crate) fn has(&self, pair: &[usize]) -> bool
         ensures { result ≡ has_pair self.now pair.now }
@@ -72,11 +77,10 @@ impl Failed {
     }
 
     /// One more.
-    pub(crate) fn add(&mut self, alloc: Global, pair: &[usize]) -> Result<(), Error>
+    pub(crate) fn add(&mut self, alloc: Global, pair: &[usize]) -> Result<(), AllocError>
         ensures ok { OnOk result ((k : List ℕ) → has_pair self.new k
             ≡ (same_numbers k pair.now || has_pair self.old k)) }
         ensures err { OnErr result ((k : List ℕ) → has_pair self.new k ≡ has_pair self.old k) }
-        ensures error { IfErr result (λ e. e ≡ Memory) }
     {
         match self.pair_bits.bit(self.base, pair) {
             Some(bit) => set_bit(&mut self.bits, bit),
@@ -98,11 +102,10 @@ fn has_bit(bits: &[u64], bit: usize) -> bool
     }
 }
 
-fn set_bit(bits: &mut Vec<u64>, bit: usize) -> Result<(), Error>
+fn set_bit(bits: &mut Vec<u64>, bit: usize) -> Result<(), AllocError>
     ensures ok { OnOk result ((n : ℕ) → bit_is_set bits.new.items n
         ≡ (n == bit || bit_is_set bits.old.items n)) }
     ensures err { OnErr result (bits.new.items ≡ bits.old.items) }
-    ensures error { IfErr result (λ e. e ≡ Memory) }
 {
     let word = bit / 64;
     if bits.len() <= word {

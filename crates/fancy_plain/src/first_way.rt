@@ -11,7 +11,7 @@ use crate::log::{Entry, Stand};
 use crate::search::{Memo, Task};
 use crate::table::PointTable;
 use fancy_expr::error::Error;
-use std::alloc::Global;
+use std::alloc::{AllocError, Global};
 use std::collections::BTreeMap;
 
 /// A way of a table's nodes.
@@ -96,11 +96,10 @@ pub fn first_way_with(
 }
 
 /// The last span of each group that was closed, by ascending number.
-fn spans(alloc: Global, entries: &[Entry]) -> Result<Vec<(usize, usize, usize)>, Error>
+fn spans(alloc: Global, entries: &[Entry]) -> Result<Vec<(usize, usize, usize)>, AllocError>
     ensures listed { IfOk result (λ spans. (g : ℕ) → listed spans.items g
         ≡ spans_of (closed_after [] entries.now) g) }
     ensures ascends { IfOk result (λ spans. Ascends spans.items) }
-    ensures refused { IfErr result IsMemory }
 {
     let mut last = BTreeMap::new(alloc);
     for entry in entries {

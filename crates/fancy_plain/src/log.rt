@@ -1,12 +1,10 @@
 //! Where a search stands, and what it went through on the path to there.
 
-ghost use Rattle.std.specs.Prelude.{◌≡◌, ◌++◌, ◌∷◌, [], ◌≤◌, ◌<◌, ◌+◌, List, ℕ, take, length, option_map, Some, None, IfOk, IfErr, IfSome};
+ghost use Rattle.std.specs.Prelude.{◌≡◌, ◌++◌, ◌∷◌, [], ◌≤◌, ◌<◌, ◌+◌, List, ℕ, take, length, option_map, Some, None, IfOk, IfSome};
 ghost use Rattle.fancy_points.specs.PointSearch as plain;
 ghost use Rattle.fancy_plain.specs.Paths.{HasTurns, HasOpened, EndsTurns, EndsOpened};
-ghost use Rattle.fancy_plain.specs.Searches.{IsMemory};
 
-use fancy_expr::error::Error;
-use std::alloc::Global;
+use std::alloc::{AllocError, Global};
 
 /// One entry of the path. A link to an entry is its index and one more; 0 is no link.
 #[derive(Clone, Copy)]
@@ -99,11 +97,10 @@ impl Log {
     }
 
     /// One more entry, and the link to it.
-    pub(crate) fn push(&mut self, entry: Entry) -> Result<usize, Error>
+    pub(crate) fn push(&mut self, entry: Entry) -> Result<usize, AllocError>
         ensures link { IfOk result (λ link. link ≡ length self.old.entries.items + 1) }
         ensures entries { IfOk result (λ _. self.new.entries.items
             ≡ self.old.entries.items ++ (entry ∷ [])) }
-        ensures refused { IfErr result IsMemory }
     {
         self.entries.push(entry)?;
         Ok(self.entries.len())

@@ -1,20 +1,18 @@
 //! The points of a plain search, and the test on one character.
 
-ghost use Rattle.std.specs.Prelude.{◌≡◌, ◌≤◌, ◌<◌, [], length, slice_get, IfOk, IfErr, IfSome};
+ghost use Rattle.std.specs.Prelude.{◌≡◌, ◌≤◌, ◌<◌, [], length, slice_get, IfOk, IfSome};
 ghost use Rattle.fancy_meaning.specs.Chars as chars;
 ghost use Rattle.fancy_meaning.specs.Machine.{class_test};
 ghost use Rattle.fancy_meaning.specs.Moves.{past_char};
 ghost use Rattle.fancy_characters.specs.Classes.{class_of};
 ghost use Rattle.fancy_points.specs.PointSearch as plain;
 ghost use Rattle.fancy_plain.specs.Views.{IsReadBy, test_of};
-ghost use Rattle.fancy_plain.specs.Searches.{IsMemory};
 
 use fancy_characters::classes::{CharClassMatcher, literal_takes};
 use fancy_characters::places::{len_utf8, past_any};
-use fancy_expr::error::Error;
 use fancy_expr::expr::Assertion;
 use regex_nfa::char_at;
-use std::alloc::Global;
+use std::alloc::{AllocError, Global};
 
 /// A test on one character.
 #[derive(Drop)]
@@ -87,12 +85,11 @@ impl CharTest {
         unicode: bool,
         text: &str,
         ix: usize,
-    ) -> Result<Option<usize>, Error>
+    ) -> Result<Option<usize>, AllocError>
         requires { IsReadBy unicode self.now }
         ensures ok { IfOk result (λ to. to
             ≡ past_char text.now (plain.passes text.now unicode (test_of self.now)) ix) }
         ensures small { IfOk result (λ to. IfSome to (λ i. i ≤ length text.now)) }
-        ensures refused { IfErr result IsMemory }
     {
         let Some(byte) = byte_at(text.as_bytes(), ix) else {
             return Ok(None);
@@ -114,12 +111,11 @@ impl CharTest {
         unicode: bool,
         text: &str,
         ix: usize,
-    ) -> Result<Option<usize>, Error>
+    ) -> Result<Option<usize>, AllocError>
         requires { IsReadBy unicode self.now }
         ensures ok { IfOk result (λ to. to
             ≡ past_char text.now (plain.passes text.now unicode (test_of self.now)) ix) }
         ensures small { IfOk result (λ to. IfSome to (λ i. i ≤ length text.now)) }
-        ensures refused { IfErr result IsMemory }
     {
         match self {
             CharTest::Any { newline, crlf } => Ok(past_any(text.as_bytes(), *newline, *crlf, ix)),
@@ -158,13 +154,13 @@ fn past_class(
     class: &CharClassMatcher,
     text: &str,
     ix: usize,
-) -> Result<Option<usize>, Error>
+) -> Result<Option<usize>, AllocError>
     ensures ok { IfOk result
         (λ to. to ≡ past_char text.now (class_test (class_of class.now)) ix) }
-    ensures refused { IfErr result IsMemory }
 {
-    match class.match_len(alloc, text, ix)? {
-        None => Ok(None),
-        Some(len) => Ok(Some(ix + len)),
+    match class.match_len(alloc, text, ix) {
+        Ok(Some(len)) => Ok(Some(ix + len)),
+        Ok(None) => Ok(None),
+        Err(_) => Err(AllocError),
     }
 }

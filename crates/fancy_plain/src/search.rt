@@ -8,15 +8,14 @@ ghost use Rattle.fancy_plain.specs.FailedPairs.{key_of, turn_numbers};
 ghost use Rattle.fancy_plain.specs.Paths.{HasTurns, turn_of};
 ghost use Rattle.fancy_plain.specs.Views.{loop_of, point_of, IsPointReadBy, IsReadBy, test_of};
 ghost use Rattle.fancy_plain.specs.Ways.{IsMemoOf};
-ghost use Rattle.fancy_plain.specs.Searches.{Advances, EndsAs, GoesBack, HaveFailed, IsHere, IsTask, TurnsBy, fails_before, leading_of, next_of, IsMemory, IsSearch, Keeps, Leading, Leads};
+ghost use Rattle.fancy_plain.specs.Searches.{Advances, EndsAs, GoesBack, HaveFailed, IsHere, IsTask, TurnsBy, fails_before, leading_of, next_of, IsSearch, Keeps, Leading, Leads};
 
 use crate::failed::Failed;
 use crate::log::{Entry, Log, Stand, Turn};
 use crate::point::{CharTest, Loop, Point};
 use crate::table::PointTable;
 use fancy_characters::look::holds;
-use fancy_expr::error::Error;
-use std::alloc::Global;
+use std::alloc::{AllocError, Global};
 
 /// A choice on the path: where it stands, how long the path is, and whether its other way on is still untried.
 #[derive(Clone, Copy)]
@@ -109,11 +108,10 @@ impl Loop {
 }
 
 /// Writes the numbers of the pair of this stand.
-fn write_numbers(log: &Log, stand: Stand, numbers: &mut Vec<usize>) -> Result<(), Error>
+fn write_numbers(log: &Log, stand: Stand, numbers: &mut Vec<usize>) -> Result<(), AllocError>
     ensures ok { IfOk result (λ _. (s : plain.Stand) → stand.at ≡ s.at → stand.place ≡ s.place
         → HasTurns log.now.entries.items stand.turns s.turns
         → numbers.new.items ≡ key_of (pair_of s)) }
-    ensures refused { IfErr result IsMemory }
 {
     numbers.clear();
     numbers.push(stand.at)?;
@@ -122,12 +120,11 @@ fn write_numbers(log: &Log, stand: Stand, numbers: &mut Vec<usize>) -> Result<()
 }
 
 /// Adds the numbers of the iterations around this stand.
-fn push_turns(log: &Log, stand: Stand, numbers: &mut Vec<usize>) -> Result<(), Error>
+fn push_turns(log: &Log, stand: Stand, numbers: &mut Vec<usize>) -> Result<(), AllocError>
     ensures ok { IfOk result (λ _. (turns : List plain.Turn)
         → HasTurns log.now.entries.items stand.turns turns
         → numbers.new.items ≡ numbers.old.items
         ++ turn_numbers (map (plain.turn_key stand.place) turns)) }
-    ensures refused { IfErr result IsMemory }
 {
     let mut link = stand.turns;
     'turns: while let Some((turn, outer)) = log.turn(link) {
@@ -195,12 +192,14 @@ impl Memo {
     }
 
     /// Whether the pair of this stand is known to have no way.
-    fn has_failed(&mut self, stand: Stand) -> Result<bool, Error>
+    fn has_failed(&mut self, stand: Stand) -> Result<bool, AllocError>
         ensures ok { IfOk result (λ yes. (s : plain.Stand) (failed : plain.Pair → Bool)
             → IsHere self.old stand s → HaveFailed self.old failed → yes ≡ failed (pair_of s)) }
-        ensures refused { IfErr result IsMemory }
         ensures rest { self.new ≡ record self.old { numbers = self.new.numbers } }
     {
+        if self.failed.is_empty() {
+            return Ok(false);
+        }
         if stand.turns == 0 {
             return Ok(self.failed.has_outside(stand.at, stand.place));
         }
@@ -209,32 +208,28 @@ impl Memo {
     }
 
     /// The pair of this stand has no way.
-    fn note_failed(&mut self, stand: Stand) -> Result<(), Error>
+    fn note_failed(&mut self, stand: Stand) -> Result<(), AllocError>
         ensures ok { IfOk result (λ _. (s : plain.Stand) (f : Search)
             → IsHere self.old stand s → HaveFailed self.old f.failed
             → HaveFailed self.new (plain.with_failed (pair_of s) f).failed) }
-        ensures refused { IfErr result IsMemory }
         ensures err { IfErr result (λ _. (failed : plain.Pair → Bool)
             → HaveFailed self.old failed → HaveFailed self.new failed) }
         ensures rest { self.new
             ≡ record self.old { numbers = self.new.numbers; failed = self.new.failed } }
     {
         if stand.turns == 0 {
-            self.failed.add(self.alloc, &[stand.at, stand.place])?;
-        } else {
-            write_numbers(&self.log, stand, &mut self.numbers)?;
-            self.failed.add(self.alloc, &self.numbers)?;
+            return self.failed.add(self.alloc, &[stand.at, stand.place]);
         }
-        Ok(())
+        write_numbers(&self.log, stand, &mut self.numbers)?;
+        self.failed.add(self.alloc, &self.numbers)
     }
 
     /// Keeps a choice for later.
-    fn keep(&mut self, stand: Stand, is_untried: bool) -> Result<(), Error>
+    fn keep(&mut self, stand: Stand, is_untried: bool) -> Result<(), AllocError>
         ensures ok { IfOk result (λ _. (leading : Leading) (f : Search) (s : plain.Stand)
             (later : List plain.Later) → IsSearch leading self.old f → IsHere self.old stand s
             → Keeps is_untried (leading s) s f.later later
             → IsSearch leading self.new (record f { later = later })) }
-        ensures refused { IfErr result IsMemory }
         ensures rest { self.new ≡ record self.old { later = self.new.later } }
     {
         let path = self.log.len();
@@ -247,7 +242,7 @@ impl Memo {
     }
 
     /// Into the loop whose head this stand is at.
-    fn begin_turn(&mut self, stand: Stand, outer: usize, turn: Turn) -> Result<Stand, Error>
+    fn begin_turn(&mut self, stand: Stand, outer: usize, turn: Turn) -> Result<Stand, AllocError>
         requires { stand.at < usize.MAX }
         ensures here { IfOk result (λ on. (s : plain.Stand) (turns : List plain.Turn)
             → IsHere self.old stand s → outer ≤ length self.old.log.entries.items
@@ -255,7 +250,6 @@ impl Memo {
             → IsHere self.new on (record (plain.forward s) { turns = turn_of turn ∷ turns })) }
         ensures search { IfOk result (λ _. (leading : Leading) (f : Search)
             → IsSearch leading self.old f → IsSearch leading self.new f) }
-        ensures refused { IfErr result IsMemory }
         ensures rest { self.new ≡ record self.old { log = self.new.log } }
     {
         let turns = self.log.push(Entry::Turn { outer, turn })?;
@@ -267,7 +261,7 @@ impl Memo {
     }
 
     /// A group begins.
-    fn open(&mut self, stand: Stand) -> Result<Lead, Error>
+    fn open(&mut self, stand: Stand) -> Result<Lead, AllocError>
         requires { stand.at < usize.MAX }
         ensures { (leading : Leading) (s : plain.Stand) (f : Search)
             → IsSearch leading self.old f → IsHere self.old stand s
@@ -286,7 +280,7 @@ impl Memo {
     }
 
     /// A group ends.
-    fn close(&mut self, stand: Stand, group: usize) -> Result<Lead, Error>
+    fn close(&mut self, stand: Stand, group: usize) -> Result<Lead, AllocError>
         requires { stand.at < usize.MAX }
         ensures { (leading : Leading) (s : plain.Stand) (f : Search)
             → IsSearch leading self.old f → IsHere self.old stand s
@@ -309,7 +303,7 @@ impl Memo {
     }
 
     /// On at the first, and later at the second.
-    fn choose(&mut self, stand: Stand, first: usize) -> Result<Lead, Error>
+    fn choose(&mut self, stand: Stand, first: usize) -> Result<Lead, AllocError>
         ensures { (leading : Leading) (s : plain.Stand) (f : Search) (later : List plain.Later)
             → IsSearch leading self.old f → IsHere self.old stand s
             → Keeps true (leading s) s f.later later
@@ -321,7 +315,7 @@ impl Memo {
     }
 
     /// The same, unless there is no way from here.
-    fn fork(&mut self, stand: Stand, first: usize) -> Result<Lead, Error>
+    fn fork(&mut self, stand: Stand, first: usize) -> Result<Lead, AllocError>
         ensures { (leading : Leading) (s : plain.Stand) (second : ℕ) (f : Search)
             → IsSearch leading self.old f → IsHere self.old stand s
             → leading s ≡ plain.Tries true (plain.goes_to first s) (plain.goes_to second s ∷ [])
@@ -336,7 +330,7 @@ impl Memo {
     }
 
     /// On, unless there is no way from here.
-    fn join(&mut self, stand: Stand) -> Result<Lead, Error>
+    fn join(&mut self, stand: Stand) -> Result<Lead, AllocError>
         requires { stand.at < usize.MAX }
         ensures { (leading : Leading) (s : plain.Stand) (f : Search)
             → IsSearch leading self.old f → IsHere self.old stand s
@@ -352,7 +346,7 @@ impl Memo {
     }
 
     /// At the head of a loop that counts.
-    fn turn(&mut self, stand: Stand, turns: Loop, after: usize) -> Result<Lead, Error>
+    fn turn(&mut self, stand: Stand, turns: Loop, after: usize) -> Result<Lead, AllocError>
         requires { stand.at < usize.MAX }
         ensures { (leading : Leading) (s : plain.Stand) (f : Search)
             → IsSearch leading self.old f → IsHere self.old stand s
@@ -390,7 +384,7 @@ impl Memo {
     }
 
     /// The other way on from a loop's head.
-    fn other_turn(&mut self, stand: Stand, turns: Loop, after: usize) -> Result<Lead, Error>
+    fn other_turn(&mut self, stand: Stand, turns: Loop, after: usize) -> Result<Lead, AllocError>
         requires { stand.at < usize.MAX }
         ensures { (leading : Leading) (s first other : plain.Stand) (f : Search)
             → IsSearch leading self.old f → IsHere self.old stand s
@@ -414,7 +408,7 @@ impl Memo {
         turns: Loop,
         turn: Turn,
         outer: usize,
-    ) -> Result<Lead, Error>
+    ) -> Result<Lead, AllocError>
         requires at { stand.at < usize.MAX }
         requires goes_on { plain.is_over (loop_of turns) stand.place (turn_of turn) ≡ false }
         ensures { (leading : Leading) (s : plain.Stand) (f : Search) (around : List plain.Turn)
@@ -433,7 +427,7 @@ impl Memo {
 
 impl Task<'_> {
     /// Searches from this stand on. After 2^64 - 1 steps, more than any machine takes, it gives up with `Memory`.
-    pub(crate) fn find(&self, m: &mut Memo, start: Stand) -> Result<Option<Stand>, Error>
+    pub(crate) fn find(&self, m: &mut Memo, start: Stand) -> Result<Option<Stand>, AllocError>
         requires { IsTask self.now }
         ensures { (s : plain.Stand) (f : Search)
             → IsSearch (leading_of self.now) m.old f → IsHere m.old start s
@@ -447,11 +441,11 @@ impl Task<'_> {
                 Lead::Lost => return Ok(None),
             }
         }
-        Err(Error::Memory)
+        Err(AllocError)
     }
 
     /// Takes up the point, and where it leads nowhere goes back to what is tried later.
-    fn advance(&self, m: &mut Memo, stand: Stand) -> Result<Lead, Error>
+    fn advance(&self, m: &mut Memo, stand: Stand) -> Result<Lead, AllocError>
         requires { IsTask self.now }
         ensures { (s : plain.Stand) (f : Search)
             → IsSearch (leading_of self.now) m.old f → IsHere m.old stand s
@@ -464,7 +458,7 @@ impl Task<'_> {
     }
 
     /// Takes up the point.
-    fn take_up(&self, m: &mut Memo, stand: Stand) -> Result<Lead, Error>
+    fn take_up(&self, m: &mut Memo, stand: Stand) -> Result<Lead, AllocError>
         requires { IsTask self.now }
         ensures { (s : plain.Stand) (f : Search)
             → IsSearch (leading_of self.now) m.old f → IsHere m.old stand s
@@ -480,7 +474,7 @@ impl Task<'_> {
         }
     }
 
-    fn take_up_point(&self, point: &Point, m: &mut Memo, stand: Stand) -> Result<Lead, Error>
+    fn take_up_point(&self, point: &Point, m: &mut Memo, stand: Stand) -> Result<Lead, AllocError>
         requires at { slice_get self.now.points.now stand.at ≡ Some point.now }
         requires read { IsPointReadBy self.now.unicode point.now }
         ensures { (s : plain.Stand) (f : Search)
@@ -529,7 +523,7 @@ impl Task<'_> {
     }
 
     /// Past one character that passes the test.
-    fn take(&self, test: &CharTest, m: &mut Memo, stand: Stand) -> Result<Lead, Error>
+    fn take(&self, test: &CharTest, m: &mut Memo, stand: Stand) -> Result<Lead, AllocError>
         requires at { stand.at < usize.MAX }
         requires read { IsReadBy self.now.unicode test.now }
         ensures { (s : plain.Stand) (f : Search)
@@ -551,7 +545,7 @@ impl Task<'_> {
     }
 
     /// Back to the last choice that has an untried way on. Each that was tried on the way back has none.
-    fn take_back(&self, m: &mut Memo) -> Result<Lead, Error>
+    fn take_back(&self, m: &mut Memo) -> Result<Lead, AllocError>
         ensures { (f : Search) → IsSearch (leading_of self.now) m.old f
             → GoesBack self.now (TakesBack f) result m.new }
     {
@@ -566,7 +560,7 @@ impl Task<'_> {
     }
 
     /// On at the other way from this stand.
-    fn take_other(&self, m: &mut Memo, stand: Stand) -> Result<Lead, Error>
+    fn take_other(&self, m: &mut Memo, stand: Stand) -> Result<Lead, AllocError>
         ensures { (s first other : plain.Stand) (is_noted : Bool) (f : Search)
             (rest : List plain.Later)
             → IsSearch (leading_of self.now) m.old (record f { later = rest })
@@ -582,7 +576,7 @@ impl Task<'_> {
     }
 
     /// On at the other way from this point.
-    fn other_from(&self, point: &Point, m: &mut Memo, stand: Stand) -> Result<Lead, Error>
+    fn other_from(&self, point: &Point, m: &mut Memo, stand: Stand) -> Result<Lead, AllocError>
         requires { slice_get self.now.points.now stand.at ≡ Some point.now }
         ensures { (s first other : plain.Stand) (is_noted : Bool) (f : Search)
             (rest : List plain.Later)

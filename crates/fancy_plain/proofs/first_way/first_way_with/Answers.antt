@@ -1,7 +1,6 @@
 use Rattle.std.proofs.Common.{slice_get, Some, None, refl, sym, ap, ◌∙◌, subst, arith, map, [], ◌<◌, length}
 use Rattle.fancy_points.specs.FirstWays.{spans_of}
 use Rattle.fancy_plain.specs.Paths.{closed_after}
-use Rattle.std.proofs.lemmas.Result.{err_from_is_err_and}
 use Rattle.fancy_plain.specs.Views.{point_of}
 use Rattle.fancy_meaning.specs.Premises.{IsText}
 use Rattle.fancy_meaning.specs.Numbers.{usize_max}
@@ -28,19 +27,9 @@ pub returns-in_err-found-clause-memo : goal.returns-in_err-found-clause-memo
 returns-in_err-found-clause-memo c =
     let small : length c.args.text.now < usize_max = omega arith in
     let is_text : IsText c.args.text.now = record { utf8 = c.utf8.text; fits = small } in
-    (end_refused c.deref.result c.args.text c.args.table.now c.args.ix c.args.memo.now c.start.new.self c.deref.ensures.value is_text
+    end_refused c.deref.result c.args.text c.args.table.now c.args.ix c.args.memo.now c.start.new.self c.deref.ensures.value is_text
     c.requires.place c.requires.memo c.start.ensures.failed c.start.ensures.path c.start.ensures.later c.start.ensures.visits c.in_err-found.field-0.0 c.find.new.m
-    c.in_err-found.ensures).1
-
-pub returns-in_err-found-clause-refused : goal.returns-in_err-found-clause-refused
-returns-in_err-found-clause-refused c =
-    let small : length c.args.text.now < usize_max = omega arith in
-    let is_text : IsText c.args.text.now = record { utf8 = c.utf8.text; fits = small } in
-    let p = err_from_is_err_and c.from_residual.result c.from_residual.ensures.1 in
-    rw (p.1, p.2)
-    (end_refused c.deref.result c.args.text c.args.table.now c.args.ix c.args.memo.now c.start.new.self c.deref.ensures.value is_text
-    c.requires.place c.requires.memo c.start.ensures.failed c.start.ensures.path c.start.ensures.later c.start.ensures.visits c.in_err-found.field-0.0 c.find.new.m
-    c.in_err-found.ensures).0
+    c.in_err-found.ensures
 
 -- ---- it came to its end
 

@@ -1,4 +1,4 @@
-use Rattle.std.proofs.Common.{◌≡◌, ◌+◌, Option, Some, None, if◌then◌else◌, arith, sym, ap, ◌∙◌}
+use Rattle.std.proofs.Common.{◌+◌, Some, None, if◌then◌else◌, arith, sym, ap, ◌∙◌}
 use Rattle.std.proofs.lemmas.Bool.{cond-true, cond-false}
 use Rattle.std.specs.Char.{len_utf8}
 use Rattle.std.specs.Option.{option_and_then}

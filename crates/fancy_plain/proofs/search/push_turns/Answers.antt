@@ -22,5 +22,5 @@ turns-preserved c = λ turns h.
     c.in-Some.ensures.turns (c.turns.invariant turns h))
 
 -- src/search.rt:100:1
-pub returns-clause-ok : goal.returns-clause-ok
-returns-clause-ok c = λ turns h. written_all _ _ _ _ _ _ c.in_default.ensures.turns (c.turns.invariant turns h)
+pub returns : goal.returns
+returns c = record { ok = λ turns h. written_all _ _ _ _ _ _ c.in_default.ensures.turns (c.turns.invariant turns h) }

@@ -7,7 +7,6 @@ use Rattle.fancy_meaning.specs.Sizes.{Size, size}
 use Rattle.fancy_delegation.proofs.EasyNodes.{easy_group, easy_repeat, easy_concat, easy_alt}
 use Rattle.fancy_info.specs.declared.info.Info.TheViews.{out-Info}
 use Rattle.fancy_info.specs.Infos.{info_tree, info_children}
-use Rattle.fancy_expr.specs.Each.{Each}
 use Rattle.fancy_expr.specs.Views.{bound_of}
 use Rattle.fancy_points.specs.Points as plain
 use Rattle.fancy_points.specs.PointCode.{PointCode, ◌>>◌, one, around, headed, preferring, laid, each_laid, in_sequence, branches, one_of, repeated, star, plus}

@@ -1,4 +1,4 @@
-use Rattle.std.proofs.Common.{◌+◌, ◌≤◌, arith, length, sym, ap, ◌∙◌, slice_get}
+use Rattle.std.proofs.Common.{arith, length, sym, ap, ◌∙◌, slice_get}
 use Rattle.fancy_points.specs.PointSearch as plain
 use Rattle.fancy_plain.specs.Views.{test_of}
 use Rattle.fancy_plain.proofs.BeginningLaws.{past_ascii, past_end, passes_alike, some_below}

@@ -1,4 +1,4 @@
-use Rattle.std.proofs.Common.{◌≡◌, ◌^◌, ◌-◌, ℕ, ◌||◌, Bool, true, false, not, Option, Some, None, if◌then◌else◌, nat_le, nat_lt, arith, refl, sym, ap, ap₂, ◌∙◌, ◌==◌}
+use Rattle.std.proofs.Common.{◌≡◌, ◌^◌, ◌-◌, ℕ, ◌||◌, false, not, Some, None, if◌then◌else◌, nat_le, nat_lt, arith, sym, ap, ap₂, ◌∙◌}
 use Rattle.std.proofs.lemmas.Bool.{ne_eqb, eq-eqb}
 use Rattle.std.proofs.lemmas.Bool.Decides.{nat_tests}
 use Rattle.fancy_points.specs.PointSearch as plain

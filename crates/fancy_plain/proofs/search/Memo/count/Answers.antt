@@ -1,4 +1,4 @@
-use Rattle.std.proofs.Common.{◌≡◌, ◌^◌, ◌-◌, ◌+◌, min, ap, ◌∙◌, arith}
+use Rattle.std.proofs.Common.{◌≡◌, ◌^◌, ◌-◌, ◌+◌, min, ap, arith}
 use Rattle.fancy_plain.specs.declared.search.Memo.{Memo}
 use Rattle.fancy_plain.proofs.search.Memo.count.Goals as goal
 

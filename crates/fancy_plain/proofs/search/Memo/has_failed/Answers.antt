@@ -1,8 +1,12 @@
-use Rattle.std.proofs.Common.{ap, ◌∙◌}
+use Rattle.std.proofs.Common.{sym, ap, ◌∙◌}
 use Rattle.fancy_points.specs.PointSearch.{pair_of}
-use Rattle.fancy_plain.specs.FailedPairs.{has_pair}
+use Rattle.fancy_plain.specs.FailedPairs.{has_pair, key_of}
 use Rattle.fancy_plain.proofs.SearchLaws.{key_outside}
 use Rattle.fancy_plain.proofs.search.Memo.has_failed.Goals as goal
+
+-- src/search.rt:152:13
+pub returns-then-is_empty-clause-ok : goal.returns-then-is_empty-clause-ok
+returns-then-is_empty-clause-ok c = λ s failed h have. sym (c.is_empty.ensures c.if-is_empty.true (key_of (pair_of s))) ∙ have (pair_of s)
 
 -- src/search.rt:162:13
 pub returns-then-stand-eq0-clause-ok : goal.returns-then-stand-eq0-clause-ok

@@ -1,5 +1,4 @@
-use Rattle.std.proofs.Common.{refl, sym, ap, ◌∙◌, subst, arith, ◌≡◌, ◌∷◌, false}
-use Rattle.fancy_points.specs.PointSearch as plain
+use Rattle.std.proofs.Common.{sym, ap, subst, arith}
 use Rattle.fancy_points.specs.PointSearch.{TakesUp}
 use Rattle.fancy_plain.specs.Paths.{turn_of}
 use Rattle.fancy_plain.specs.Views.{loop_of}

@@ -1,4 +1,4 @@
-use Rattle.std.proofs.Common.{refl, sym, ap, ◌∙◌, subst, arith, ◌≡◌, ◌+◌, ◌∷◌, Some, true, false}
+use Rattle.std.proofs.Common.{refl, sym, ap, ◌∙◌, subst, arith, ◌+◌, ◌∷◌, Some, true}
 use Rattle.fancy_points.specs.PointSearch as plain
 use Rattle.fancy_points.specs.Points as points
 use Rattle.fancy_points.specs.PointSearch.{Next, Search, TakesBack, TakesUp, pair_of}

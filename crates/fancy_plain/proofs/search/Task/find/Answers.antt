@@ -17,8 +17,8 @@ returns-in_err-advance c = λ s f h here.
     let task = c.args.self.now in
     let on = c.steps.invariant s f h here in
     let p = err_from_is_err_and c.from_residual.result c.from_residual.ensures.1 in
-    rw (p.1, p.2)
-    (ends_err task on.0 (TakesUp s f) (TakesUp on.1.1.0 on.1.0) c.steps.stand c.in_err-advance.field-0.0 c.advance.new.m on.1.1.1.0
+    rw p.1
+    (ends_err task on.0 (TakesUp s f) (TakesUp on.1.1.0 on.1.0) c.steps.stand p.0 c.advance.new.m on.1.1.1.0
     (c.in_err-advance.ensures on.1.1.0 on.1.0 on.1.1.1.1 on.1.1.1.2))
 
 -- src/search.rt:420:32
@@ -53,4 +53,4 @@ pub returns : goal.returns
 returns c = λ s f h here.
     let task = c.args.self.now in
     let on = c.steps.invariant s f h here in
-    (tt, (on.0, λ p. on.1.1.1.1.failed p ∙ sym (ap (λ x. (search_in x).failed p) on.1.1.1.0)))
+    (on.0, λ p. on.1.1.1.1.failed p ∙ sym (ap (λ x. (search_in x).failed p) on.1.1.1.0))

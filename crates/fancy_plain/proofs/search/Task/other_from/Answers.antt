@@ -54,18 +54,14 @@ returns-in_default c = λ s first other is_noted f rest h here e.
 pub returns-in_err-keep-in-Fork : goal.returns-in_err-keep-in-Fork
 returns-in_err-keep-in-Fork c = λ s first other is_noted f rest h here e.
     let p = err_from_is_err_and c.from_residual.result c.from_residual.ensures.1 in
-    rw (p.1, p.2) (
-      c.in_err-keep-in-Fork.ensures.refused,
-      failed_by c.args.m.now c.keep.new.self f.failed (ap (λ (m : Memo). m.failed) c.keep.ensures.rest) h.failed,
-    )
+    rw p.1
+    (failed_by c.args.m.now c.keep.new.self f.failed (ap (λ (m : Memo). m.failed) c.keep.ensures.rest) h.failed)
 
 pub returns-in_err-keep-in-Head : goal.returns-in_err-keep-in-Head
 returns-in_err-keep-in-Head c = λ s first other is_noted f rest h here e.
     let p = err_from_is_err_and c.from_residual-in_err-keep-in-Head.result c.from_residual-in_err-keep-in-Head.ensures.1 in
-    rw (p.1, p.2) (
-      c.in_err-keep-in-Head.ensures.refused,
-      failed_by c.args.m.now c.keep-in-Head.new.self f.failed (ap (λ (m : Memo). m.failed) c.keep-in-Head.ensures.rest) h.failed,
-    )
+    rw p.1
+    (failed_by c.args.m.now c.keep-in-Head.new.self f.failed (ap (λ (m : Memo). m.failed) c.keep-in-Head.ensures.rest) h.failed)
 
 pub returns-in-Split : goal.returns-in-Split
 returns-in-Split c = λ s first other is_noted f rest h here e.

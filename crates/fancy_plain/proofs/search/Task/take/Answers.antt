@@ -14,8 +14,8 @@ use Rattle.fancy_plain.proofs.search.Task.take.Goals as goal
 pub returns-in_err-place : goal.returns-in_err-place
 returns-in_err-place c = λ s f h here.
     let p = err_from_is_err_and c.from_residual.result c.from_residual.ensures.1 in
-    rw (p.1, p.2)
-    (c.in_err-place.ensures.refused, subst (λ (m : Memo). HaveFailed m f.failed) (sym c.count.ensures) h.failed)
+    rw p.1
+    (subst (λ (m : Memo). HaveFailed m f.failed) (sym c.count.ensures) h.failed)
 
 -- src/search.rt:491:5
 pub returns-in-Some : goal.returns-in-Some

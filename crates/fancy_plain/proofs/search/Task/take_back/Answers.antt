@@ -47,14 +47,11 @@ returns-in_err-note_failed c = λ f h.
     let cut : Memo = record c.later.m { later = c.pop.new.self; log = c.truncate.new.self } in
     let last = popped leading c.later.m cut c.in-Some.choice g c.in-Some.ensures.items c.truncate.ensures refl refl back.1.1.1 in
     let p = err_from_is_err_and c.from_residual.result c.from_residual.ensures.1 in
-    rw (p.1, p.2) (
-      c.in_err-note_failed.ensures.refused,
-      (
-        back.0,
-        λ q.
-            c.in_err-note_failed.ensures.err g.failed last.search.failed q
-            ∙ sym (ap (λ n. (search_in n).failed q) back.1.1.0),
-      ),
+    rw p.1 (
+      back.0,
+      λ q.
+          c.in_err-note_failed.ensures.err g.failed last.search.failed q
+          ∙ sym (ap (λ n. (search_in n).failed q) back.1.1.0),
     )
 
 pub returns-then-choice : goal.returns-then-choice

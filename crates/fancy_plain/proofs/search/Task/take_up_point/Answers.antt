@@ -178,8 +178,6 @@ returns-in-Take c = λ s f h here.
 pub returns-in_err-next-in-Enter : goal.returns-in_err-next-in-Enter
 returns-in_err-next-in-Enter c = λ s f h here.
     let p = err_from_is_err_and c.from_residual.result c.from_residual.ensures.1 in
-    rw (p.1, p.2) (
-      c.in_err-next-in-Enter.ensures.refused,
-      failed_by c.args.m.now c.begin_turn.new.self f.failed
-          (ap (λ (m : Memo). m.failed) c.begin_turn.ensures.rest ∙ ap (λ (m : Memo). m.failed) c.count-in-Enter.ensures) h.failed,
-    )
+    rw p.1
+    (failed_by c.args.m.now c.begin_turn.new.self f.failed
+    (ap (λ (m : Memo). m.failed) c.begin_turn.ensures.rest ∙ ap (λ (m : Memo). m.failed) c.count-in-Enter.ensures) h.failed)
