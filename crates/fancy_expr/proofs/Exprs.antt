@@ -26,6 +26,13 @@ below-concat e v is = ap below is ∙ row_items _ (hidden-the_row-Expr-0 v) ∙ 
 pub below-alt : (e : Expr) (v : Vec Expr Global) → e ≡ view.Alt v → below e ≡ v.items
 below-alt e v is = ap below is ∙ row_items _ (hidden-the_row-Expr-0 v) ∙ items_hidden-the_row-Expr-0 v
 
+-- the child at a place that is known
+pub child_at : (e : Expr) (l : List Expr) (i k : ℕ) (r : Expr) → below e ≡ l → i ≡ k → r ≡ get_or l k r → r ≡ get_or (below e) i r
+child_at e l i k r is at here = here ∙ ap (λ j. get_or l j r) (sym at) ∙ ap (λ m. get_or m i r) (sym is)
+
+pub only_child : (e x : Expr) (i : ℕ) (r : Expr) → below e ≡ x ∷ [] → i < length (below e) → r ≡ x → r ≡ get_or (below e) i r
+only_child e x i r is lt here = child_at e (x ∷ []) i 0 r is (omega (arith, lt, ap length is)) here
+
 row_trees : {n : _} (k : Row_of-Expr n) → trees_of k ≡ trees (map tree_of (in_row k))
 row_trees end_of-Expr = refl
 row_trees (more_of-Expr e k) = ap (more (tree_of e)) (row_trees k)

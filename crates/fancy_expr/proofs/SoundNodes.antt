@@ -1,6 +1,6 @@
 -- Which nodes are sound.
-use Rattle.std.proofs.Common.{◌≡◌, ℕ, zero, suc, ◌==◌, ◌&&◌, Bool, true, false, not, List, [], ◌∷◌, length, ◌<◌, map, All, Contains, slice_index_or, IsTrue, Vec, String, Global, string_bytes, chars, IsUtf8, refl, sym, ap, ◌∙◌, subst, arith}
-use Rattle.std.proofs.lemmas.Bool.{eqb-true, eq-eqb}
+use Rattle.std.proofs.Common.{◌≡◌, ℕ, zero, suc, ◌==◌, ◌&&◌, Bool, true, false, not, List, [], ◌∷◌, length, ◌<◌, ◌≤◌, ◌-◌, ◌^◌, Some, None, IfSome, cond, eqb, ltb, leb, ltb-true, leb-true, le-leb, map, All, Contains, slice_index_or, IsTrue, Box, Vec, String, Global, string_bytes, chars, IsUtf8, refl, sym, ap, ◌∙◌, subst, arith}
+use Rattle.std.proofs.lemmas.Bool.{eqb-true, eq-eqb, false≢true}
 use Rattle.std.proofs.lemmas.List.Elements.{Contains-append_right, All-contains, All-contains_itself}
 use Rattle.fancy_meaning.specs.Nodes.{nodes}
 use Rattle.fancy_expr.proofs.Exprs.{nodes-exprs}
@@ -9,7 +9,7 @@ use Rattle.std.proofs.Math.Utf8.{scalar, scalars}
 use Rattle.std.proofs.lemmas.Str.{scalars-chars, IsUtf8-string_bytes}
 use Rattle.fancy_meaning.specs.Tree as plain
 use Rattle.fancy_meaning.specs.Tree.{Tree, none, more}
-use Rattle.fancy_meaning.specs.WellFormed.{IsFine}
+use Rattle.fancy_meaning.specs.WellFormed.{IsCount, IsFine}
 use Rattle.fancy_expr.specs.declared.expr.Expr.{Expr, Row_of-Expr, end_of-Expr, more_of-Expr}
 use Rattle.fancy_expr.specs.declared.expr.Expr.TheVariants as code
 use mathlib.Core.Former.{Count}
@@ -86,6 +86,42 @@ sound_class e inner casei n is counted =
     let there : IsTrue (not (n == 0)) → IsSoundNode e =
     λ h. subst IsSoundNode (sym is) (record { fine = text_fine _ casei (IsUtf8-string_bytes inner) (λ z. not_zero n h (counted ∙ z)); one_char = tt }) in
     (there, λ h. is_not_zero n (λ z. fine_text _ casei (subst IsSoundNode is h).fine (sym counted ∙ z)))
+
+-- ---- numbers and bytes
+
+-- a test that never fails, at a node that is sound
+pub sound_always : (e x : Expr) (b : Bool) → e ≡ x → b ≡ true → IsSoundNode x → (IsTrue b → IsSoundNode e) × (IsSoundNode e → IsTrue b)
+sound_always e x b is so here = (λ _. subst IsSoundNode (sym is) here, λ _. so)
+
+pub sound_bytes : (e : Expr) (v : Vec ℕ Global) (bytes : List ℕ) (b : Bool) → e ≡ code.LiteralBytes v → bytes ≡ v.items →
+    (b ≡ true) × All (λ c. c < 2 ^ 8) bytes → (IsTrue b → IsSoundNode e) × (IsSoundNode e → IsTrue b)
+sound_bytes e v bytes b is read h =
+    sound_always e _ b is h.0 (record { fine = subst (All (λ c. c < 2 ^ 8)) read h.1; one_char = tt })
+
+bound_fine : (lo hi : ℕ) (last : Bool) → eqb hi (2 ^ 64 - 1) ≡ last → lo ≤ hi → hi < 2 ^ 64 →
+    IfSome (cond last None (Some hi)) (λ n. (lo ≤ n) × IsCount n)
+bound_fine lo hi true is low fits = tt
+bound_fine lo hi false is low fits =
+    (low, let other : hi ≡ 2 ^ 64 - 1 → ⊥ = λ e. false≢true (sym is ∙ eq-eqb hi (2 ^ 64 - 1) e) in omega (arith, other, fits))
+
+fine_bound : (lo hi : ℕ) (last : Bool) → eqb hi (2 ^ 64 - 1) ≡ last → lo < 2 ^ 64 - 1 →
+    IfSome (cond last None (Some hi)) (λ n. (lo ≤ n) × IsCount n) → lo ≤ hi
+fine_bound lo hi true is low fine = let e = eqb-true hi (2 ^ 64 - 1) is in omega (arith, low, e)
+fine_bound lo hi false is low fine = fine.0
+
+pub sound_bounds : (e : Expr) (child : Box Expr Global) (lo hi : ℕ) (greedy : Bool) → e ≡ view.Repeat child lo hi greedy → lo < 2 ^ 64 - 1 → hi < 2 ^ 64 →
+    (IsTrue (leb lo hi) → IsSoundNode e) × (IsSoundNode e → IsTrue (leb lo hi))
+sound_bounds e child lo hi greedy is low fits = (
+  λ h. subst IsSoundNode (sym is) (record { fine = (low, bound_fine lo hi _ refl (leb-true lo hi h) fits); one_char = tt }),
+  λ s. le-leb lo hi (fine_bound lo hi _ refl low (subst IsSoundNode is s).fine.1),
+)
+
+pub too_often : (e : Expr) (child : Box Expr Global) (lo hi : ℕ) (greedy : Bool) → e ≡ view.Repeat child lo hi greedy → 2 ^ 64 - 1 ≤ lo →
+    (IsTrue (ltb lo (2 ^ 64 - 1)) → IsSoundNode e) × (IsSoundNode e → IsTrue (ltb lo (2 ^ 64 - 1)))
+too_often e child lo hi greedy is many = (
+  λ h. absurd (let k = ltb-true lo (2 ^ 64 - 1) h in omega (arith, many, k)),
+  λ s. absurd (let k = (subst IsSoundNode is s).fine.0 in omega (arith, many, k)),
+)
 
 -- ---- all nodes
 
