@@ -65,7 +65,7 @@ impl<'t> Captures<'t> {
     }
 
     /// The match.
-    pub(crate) fn whole(&self) -> Match<'t>
+    pub fn whole(&self) -> Match<'t>
         ensures span { span_of result ≡ first_pair (numbers_in self.now) }
         ensures within { text_of result ≡ captures_text self.now }
     {

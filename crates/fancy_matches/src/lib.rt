@@ -4,4 +4,4 @@
 pub mod found;
 pub mod iterators;
 pub mod regexes;
-mod standing;
+pub mod standing;

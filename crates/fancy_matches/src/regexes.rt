@@ -157,7 +157,7 @@ impl Regex {
     }
 
     /// The next match of the list that stands so, which then stands after it. After an error the list has ended.
-    pub(crate) fn next_captures<'t>(
+    pub fn next_captures<'t>(
         &mut self,
         text: &'t str,
         standing: &mut Standing,

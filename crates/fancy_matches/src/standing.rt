@@ -20,7 +20,7 @@ impl Standing {
     ghost use Rattle.fancy_matches.specs.Regexes.{standing_of};
 
     /// Before the first match.
-    pub(crate) fn first() -> Standing
+    pub fn first() -> Standing
         ensures { standing_of result ≡ list.at_start }
     {
         Standing { pos: 0, last: None }

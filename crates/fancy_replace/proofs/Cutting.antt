@@ -1,0 +1,123 @@
+-- The next match of a text lies ahead of the last one, and behind it lie all others.
+use Rattle.std.proofs.Common.{◌≡◌, ◌≤◌, ◌-◌, ℕ, zero, suc, List, [], ◌∷◌, map, take, Option, Some, None, Ok, option_map, true, refl, sym, ap, ap₂, ◌∙◌, subst, arith, ne_eqb, ◌==◌, if◌then◌else◌}
+use Rattle.std.proofs.Math.Logic.{∥∥₁_elim}
+use Rattle.std.proofs.Props.{props}
+use Rattle.std.specs.Coded.{le_prop}
+use Rattle.fancy_meaning.specs.MatchState.{Span}
+use Rattle.fancy_meaning.specs.Options as plain
+use Rattle.fancy_meaning.specs.Places.{is_place}
+use Rattle.fancy_meaning.specs.Premises.{Input, IsText, plan}
+use Rattle.fancy_search.specs.Searches.{IsCompiledFrom}
+use Rattle.fancy_vm.specs.Outcomes.{first_pair}
+use Rattle.fancy_vm.specs.Programs.{options_of as run_options_of}
+use Rattle.fancy_matches.specs.Listing.{AreApart, Standing, all_matches}
+use Rattle.fancy_matches.specs.Regexes.{IsRegexOf, StepsTo, captures_text, left_of, numbers_in, standing_of, with_numbers}
+use Rattle.fancy_matches.specs.declared.found.Captures.{Captures}
+use Rattle.fancy_matches.specs.declared.regexes.Regex.{Regex}
+use Rattle.fancy_matches.proofs.Lists.{matches_apart}
+use Rattle.fancy_replace.specs.Pieces.{at_most_pieces, firsts, pieces_between}
+use Rattle.fancy_replace.specs.Steps.{AreAhead, HasAllCuts, IsNextCut, cuts_left, rest_of}
+use Rattle.fancy_replace.specs.declared.cuts.Cut.{Cut}
+use Rattle.fancy_replace.specs.declared.cuts.Cuts.{Cuts}
+
+-- ---- a whole list lies ahead of the text's start
+
+abbrev last_or_start : Option ℕ → ℕ
+last_or_start None = 0
+last_or_start (Some last) = last
+
+ahead_of_apart : (text : List ℕ) (last : Option ℕ) (spans : List Span) → AreApart text last spans → AreAhead text (last_or_start last) spans
+ahead_of_apart text last [] apart = tt
+ahead_of_apart text None (span ∷ spans) (past, (is, apart)) = (omega arith, (is, ahead_of_apart text (Some span.1) spans apart))
+ahead_of_apart text (Some last) (span ∷ spans) (past, (is, apart)) = (past.0, (is, ahead_of_apart text (Some span.1) spans apart))
+
+pub all_ahead : (i : Input) (text : List ℕ) (o : plain.RunOptions) → IsText text → AreAhead text 0 (map first_pair (all_matches (plan i) text o))
+all_ahead i text o is = ahead_of_apart text None _ (matches_apart (plan i) text o is)
+
+-- ---- within a limit
+
+pub firsts_more : (limit : Option ℕ) (m : List ℕ) (ms : List (List ℕ)) → ¬ (limit ≡ Some 0) →
+    firsts limit (m ∷ ms) ≡ m ∷ firsts (option_map (λ n. n - 1) limit) ms
+firsts_more None m ms some = refl
+firsts_more (Some zero) m ms some = absurd (some refl)
+firsts_more (Some (suc n)) m ms some = ap (λ k. m ∷ take k ms) (omega arith)
+
+-- ---- a step
+
+numbers_back : (text : List ℕ) (ms : List (List ℕ)) → map (λ (p : List ℕ × List ℕ). p.1) (map (with_numbers text) ms) ≡ ms
+numbers_back text [] = refl
+numbers_back text (m ∷ ms) = ap (λ rest. m ∷ rest) (numbers_back text ms)
+
+head_text : List ℕ → List (List ℕ × List ℕ) → List ℕ
+head_text text [] = text
+head_text text (p ∷ ps) = p.0
+
+first_text : (text within m : List ℕ) (ms rest : List (List ℕ)) → map (with_numbers text) ms ≡ (within, m) ∷ map (with_numbers text) rest →
+    within ≡ text
+unfolding head_text
+first_text text within m [] rest e = sym (ap (head_text text) e)
+first_text text within m (n ∷ ms) rest e = sym (ap (head_text text) e)
+
+module _ (r : Regex) (text : List ℕ) (from : ℕ) (s t : Standing) (c : Captures)
+    (ahead : (i : Input) (o : plain.RunOptions) → IsRegexOf i o r → AreAhead text from (map first_pair (left_of i text o s)))
+    (steps : (i : Input) (o : plain.RunOptions) → IsRegexOf i o r → StepsTo i text o s (Some (Ok c)) t) where
+  pub next_is : (i : Input) (o : plain.RunOptions) → IsRegexOf i o r → left_of i text o s ≡ numbers_in c ∷ left_of i text o t
+  next_is i o h =
+      sym (numbers_back text (left_of i text o s)) ∙ ap (map (λ (p : List ℕ × List ℕ). p.1)) (steps i o h)
+      ∙ ap (λ rest. numbers_in c ∷ rest) (numbers_back text (left_of i text o t))
+
+  pub next_text : (i : Input) (o : plain.RunOptions) → IsRegexOf i o r → captures_text c ≡ text
+  next_text i o h = first_text text (captures_text c) (numbers_in c) (left_of i text o s) (left_of i text o t) (steps i o h)
+
+  parts : (i : Input) (o : plain.RunOptions) → IsRegexOf i o r →
+      AreAhead text from (first_pair (numbers_in c) ∷ map first_pair (left_of i text o t))
+  parts i o h = subst (λ ms. AreAhead text from (map first_pair ms)) (next_is i o h) (ahead i o h)
+
+  pub rest_ahead : (i : Input) (o : plain.RunOptions) → IsRegexOf i o r →
+      AreAhead text (first_pair (numbers_in c)).1 (map first_pair (left_of i text o t))
+  rest_ahead i o h = (parts i o h).1.1
+
+  module _ (source : ∥ ((i : Input) × IsCompiledFrom i r.compiled) ∥₁) where
+    of_source : (i : Input) → IsCompiledFrom i r.compiled → IsRegexOf i (run_options_of r.options) r
+    of_source i compiled = record { compiled = compiled; options = refl }
+
+    pub next_begins : from ≤ (first_pair (numbers_in c)).0
+    next_begins = ∥∥₁_elim source le_prop (λ i. (parts i.0 (run_options_of r.options) (of_source i.0 i.1)).0)
+
+    pub next_starts_at_place : is_place text (first_pair (numbers_in c)).0 ≡ true
+    next_starts_at_place = ∥∥₁_elim source (Prim.hlevel props) (λ i. (parts i.0 (run_options_of r.options) (of_source i.0 i.1)).1.0.from)
+
+    pub next_ends_at_place : is_place text (first_pair (numbers_in c)).1 ≡ true
+    next_ends_at_place = ∥∥₁_elim source (Prim.hlevel props) (λ i. (parts i.0 (run_options_of r.options) (of_source i.0 i.1)).1.0.to)
+
+-- ---- the pieces that are left
+
+pub cuts_next : (i : Input) (o : plain.RunOptions) (s : Cuts) (c : Cut) (t : Cuts) → IsNextCut i o s c t →
+    cuts_left i o s ≡ numbers_in c.captures ∷ cuts_left i o t
+cuts_next i o s c t h =
+    ap (firsts s.limit) h.found ∙ firsts_more s.limit (numbers_in c.captures) (left_of i t.text.now o (standing_of t.standing)) h.within_limit
+    ∙ ap (λ limit. numbers_in c.captures ∷ firsts limit (left_of i t.text.now o (standing_of t.standing))) (sym h.limit)
+
+pub piece_next : (i : Input) (o : plain.RunOptions) (s : Cuts) (c : Cut) (t : Cuts) → t.text.now ≡ s.text.now → IsNextCut i o s c t →
+    pieces_between s.text.now s.from (cuts_left i o s) ≡ c.piece.now ∷ pieces_between t.text.now t.from (cuts_left i o t)
+piece_next i o s c t within h =
+    ap (pieces_between s.text.now s.from) (cuts_next i o s c t h)
+    ∙ ap₂ (λ piece pieces. piece ∷ pieces) (sym h.piece) (ap₂ (λ text from. pieces_between text from (cuts_left i o t)) (sym within) (sym h.from))
+
+pub piece_last : (i : Input) (o : plain.RunOptions) (s t : Cuts) → t.text.now ≡ s.text.now → (cuts_left i o s ≡ []) × (t.from ≡ s.from) →
+    pieces_between s.text.now s.from (cuts_left i o s) ≡ rest_of t ∷ []
+piece_last i o s t within h =
+    ap (pieces_between s.text.now s.from) h.0 ∙ ap₂ (λ text from. pieces_between text from []) (sym within) (sym h.1)
+
+pub first_pieces : (i : Input) (o : plain.RunOptions) (text : List ℕ) (most : Option ℕ) (s : Cuts) → HasAllCuts text most s →
+    pieces_between s.text.now s.from (cuts_left i o s) ≡ pieces_between text 0 (firsts most (all_matches (plan i) text o))
+first_pieces i o text most s h =
+    ap₂ (λ t from. pieces_between t from (cuts_left i o s)) h.within h.from
+    ∙ ap₂ (λ limit ms. pieces_between text 0 (firsts limit ms)) h.limit (h.all i o)
+
+pub pieces_within : (text : List ℕ) (limit cuts : ℕ) (ms : List (List ℕ)) → cuts ≡ limit - 1 →
+    (if limit == 0 then [] else pieces_between text 0 (take cuts ms)) ≡ at_most_pieces text limit ms
+pieces_within text zero cuts ms e = refl
+pieces_within text (suc n) cuts ms e =
+    ap (λ b. if b then [] else pieces_between text 0 (take cuts ms)) (ne_eqb (suc n) 0 (λ z. absurd (omega (arith, z))))
+    ∙ ap (λ k. pieces_between text 0 (take k ms)) (omega (arith, e))

@@ -1,0 +1,158 @@
+-- A replacement goes on from match to match.
+use Rattle.std.proofs.Common.{◌≡◌, ◌-◌, ℕ, zero, suc, Bool, true, false, List, [], ◌∷◌, ◌++◌, length, drop, map, Option, Some, None, option_map, ⊎_elim, refl, sym, ap, ap₂, ◌∙◌, subst, arith, append_assoc, append-nil, slice_range}
+use Rattle.std.proofs.lemmas.Bool.{cases_lt}
+use Rattle.std.proofs.lemmas.List.{drop_all}
+use Rattle.std.proofs.lemmas.List.Folds.{drop_split}
+use Rattle.fancy_meaning.specs.Options as plain
+use Rattle.fancy_meaning.specs.Premises.{Input, plan}
+use Rattle.fancy_expr.specs.declared.error.Error.{Error}
+use Rattle.fancy_vm.specs.Outcomes.{first_pair}
+use Rattle.fancy_matches.specs.Listing.{all_matches, in_turn}
+use Rattle.fancy_matches.specs.Regexes.{FailsBy, IsRegexOf, IsSame, left_of, numbers_in, standing_of}
+use Rattle.fancy_matches.specs.declared.regexes.Regex.{Regex}
+use Rattle.fancy_replace.specs.Pieces.{IsBelow, firsts, pieces_between, replaced}
+use Rattle.fancy_replace.specs.Replacements.{FailsAfter, chosen}
+use Rattle.fancy_replace.specs.Steps.{HasAllCuts, IsAhead, IsNextCut, cuts_left, rest_of}
+use Rattle.fancy_replace.specs.declared.cuts.Cut.{Cut}
+use Rattle.fancy_replace.specs.declared.cuts.Cuts.{Cuts}
+use Rattle.fancy_replace.proofs.Cutting.{firsts_more}
+
+abbrev left_in : Input → plain.RunOptions → List ℕ → Cuts → List (List ℕ)
+left_in i o text s = firsts s.limit (left_of i text o (standing_of s.standing))
+
+-- pieces and what is written in turn, from where a text was gone through to
+abbrev rest_replaced : (List ℕ → List ℕ) → List ℕ → ℕ → List (List ℕ) → List ℕ
+rest_replaced written text from ms = in_turn (pieces_between text from ms) (map written ms)
+
+-- so many matches of the chosen were gone through, and what was written goes on to the whole
+pub record IsDone (i : Input) (o : plain.RunOptions) (text : List ℕ) (most : Option ℕ) (written : List ℕ → List ℕ)
+    (s : Cuts) (out : List ℕ) (is_same : Bool) : Type 0 where
+  pub count : ℕ
+  pub left : left_of i text o (standing_of s.standing) ≡ drop count (all_matches (plan i) text o)
+  pub limit : s.limit ≡ option_map (λ n. n - count) most
+  pub value : out ++ rest_replaced written text s.from (left_in i o text s) ≡ replaced written text (chosen i o text most)
+  pub fresh : is_same ≡ true → left_in i o text s ≡ chosen i o text most
+  pub some : is_same ≡ false → ¬ (chosen i o text most ≡ [])
+
+-- and the regex is of the same tree
+pub record GoesOn (r q : Regex) (text : List ℕ) (most : Option ℕ) (written : List ℕ → List ℕ) (s : Cuts) (out : List ℕ) (is_same : Bool) : Type 0 where
+  pub same : IsSame r q
+  pub within : s.text.now ≡ text
+  pub ahead : IsAhead q s
+  pub done : (i : Input) (o : plain.RunOptions) → IsRegexOf i o r → IsDone i o text most written s out is_same
+
+less_none : (most : Option ℕ) → most ≡ option_map (λ n. n - 0) most
+less_none None = refl
+less_none (Some n) = ap Some (omega arith)
+
+less_more : (most : Option ℕ) (count : ℕ) → option_map (λ n. n - 1) (option_map (λ n. n - count) most) ≡ option_map (λ n. n - suc count) most
+less_more None count = refl
+less_more (Some n) count = ap Some (omega arith)
+
+drop_next : (count : ℕ) (xs : List (List ℕ)) (y : List ℕ) (ys : List (List ℕ)) → drop count xs ≡ y ∷ ys → drop (suc count) xs ≡ ys
+drop_next zero xs y ys e = ap (drop 1) e
+drop_next (suc n) [] y ys e = cc
+drop_next (suc n) (x ∷ xs) y ys e = drop_next n xs y ys e
+
+below_limit : (most limit : Option ℕ) (count : ℕ) → limit ≡ option_map (λ n. n - count) most → ¬ (limit ≡ Some 0) → IsBelow most count
+below_limit None limit count e some = tt
+below_limit (Some n) limit count e some =
+    ⊎_elim (λ lt. lt) (λ le. absurd (some (e ∙ ap Some (omega (arith, le))))) (cases_lt count n)
+
+-- ---- at the start
+
+pub at_first : (r : Regex) (text : List ℕ) (most : Option ℕ) (written : List ℕ → List ℕ) (s : Cuts) (out : List ℕ) → HasAllCuts text most s →
+    out ≡ [] → GoesOn r r text most written s out true
+at_first r text most written s out h none = record {
+  same = (refl, refl);
+  within = h.within;
+  ahead = h.ahead r;
+  done = λ i o of.
+      let all : left_of i text o (standing_of s.standing) ≡ all_matches (plan i) text o =
+      ap (λ t. left_of i t o (standing_of s.standing)) (sym h.within) ∙ h.all i o in
+      let left : left_in i o text s ≡ chosen i o text most = ap₂ firsts h.limit all in
+      record {
+        count = 0;
+        left = all;
+        limit = h.limit ∙ less_none most;
+        value = ap₂ (λ x n. x ++ rest_replaced written text n (left_in i o text s)) none h.from ∙ ap (rest_replaced written text 0) left;
+        fresh = λ _. left;
+        some = λ e. cc;
+      };
+}
+
+-- ---- a match
+
+module _ (i : Input) (o : plain.RunOptions) (text : List ℕ) (most : Option ℕ) (written : List ℕ → List ℕ) (s t : Cuts) (c : Cut) (out : List ℕ) (is_same : Bool)
+    (at : s.text.now ≡ text) (to : t.text.now ≡ text) (next : IsNextCut i o s c t) (done : IsDone i o text most written s out is_same) where
+  abbrev m : List ℕ
+  m = numbers_in c.captures
+
+  found : left_of i text o (standing_of s.standing) ≡ m ∷ left_of i text o (standing_of t.standing)
+  found =
+      ap (λ x. left_of i x o (standing_of s.standing)) (sym at) ∙ next.found
+      ∙ ap (λ x. m ∷ left_of i x o (standing_of t.standing)) to
+
+  is_left : left_in i o text s ≡ m ∷ left_in i o text t
+  is_left =
+      ap (firsts s.limit) found ∙ firsts_more s.limit m (left_of i text o (standing_of t.standing)) next.within_limit
+      ∙ ap (λ limit. m ∷ firsts limit (left_of i text o (standing_of t.standing))) (sym next.limit)
+
+  piece_is : c.piece.now ≡ slice_range text s.from (first_pair m).0
+  piece_is = next.piece ∙ ap (λ x. slice_range x s.from (first_pair m).0) at
+
+  some_chosen : (b : Bool) → is_same ≡ b → chosen i o text most ≡ [] → ⊥
+  some_chosen false e empty = done.some e empty
+  some_chosen true e empty = let both : m ∷ left_in i o text t ≡ [] = sym is_left ∙ done.fresh e ∙ empty in cc
+
+  pub further : (new : List ℕ) → new ≡ out ++ (c.piece.now ++ written m) → IsDone i o text most written t new false
+  further new e =
+      let rest = rest_replaced written text t.from (left_in i o text t) in
+      record {
+        count = suc done.count;
+        left = sym (drop_next done.count (all_matches (plan i) text o) m (left_of i text o (standing_of t.standing)) (sym done.left ∙ found));
+        limit = next.limit ∙ ap (option_map (λ n. n - 1)) done.limit ∙ less_more most done.count;
+        value =
+            ap (λ x. x ++ rest) e ∙ (simp append_assoc)
+            ∙ ap₂ (λ piece n. out ++ (piece ++ (written m ++ rest_replaced written text n (left_in i o text t)))) piece_is next.from
+            ∙ ap (λ ms. out ++ rest_replaced written text s.from ms) (sym is_left) ∙ done.value;
+        fresh = λ no. cc;
+        some = λ _ empty. some_chosen is_same refl empty;
+      }
+
+-- ---- at the end
+
+module _ (i : Input) (o : plain.RunOptions) (text : List ℕ) (most : Option ℕ) (written : List ℕ → List ℕ) (s t : Cuts) (out : List ℕ) (is_same : Bool)
+    (at : s.text.now ≡ text) (to : t.text.now ≡ text) (none : (cuts_left i o s ≡ []) × (t.from ≡ s.from)) (done : IsDone i o text most written s out is_same) where
+  none_left : left_in i o text s ≡ []
+  none_left = ap (λ x. firsts s.limit (left_of i x o (standing_of s.standing))) (sym at) ∙ none.0
+
+  pub none_chosen : is_same ≡ true → chosen i o text most ≡ []
+  none_chosen e = sym (done.fresh e) ∙ none_left
+
+  pub ends : (new : List ℕ) → new ≡ out ++ rest_of t → new ≡ replaced written text (chosen i o text most)
+  ends new e =
+      e ∙ ap₂ (λ x n. out ++ slice_range x n (length x)) to none.1 ∙ (simp append-nil)
+      ∙ ap (λ ms. out ++ rest_replaced written text s.from ms) (sym none_left) ∙ done.value
+
+-- with no match to be replaced the text is as it was
+pub none_replaced : (text : List ℕ) (written : List ℕ → List ℕ) (ms : List (List ℕ)) → ms ≡ [] → text ≡ replaced written text ms
+none_replaced text written ms e =
+    drop_split text 0 (length text) (omega arith)
+    ∙ ap (λ rest. slice_range text 0 (length text) ++ rest) (drop_all (length text) text (omega arith))
+    ∙ ap (replaced written text) (sym e)
+
+-- ---- an error
+
+pub fails_after : (i : Input) (o : plain.RunOptions) (text : List ℕ) (most : Option ℕ) (written : List ℕ → List ℕ) (s : Cuts) (out : List ℕ) (is_same : Bool) (e : Error) →
+    s.text.now ≡ text → (¬ (s.limit ≡ Some 0)) × FailsBy i s.text.now o (standing_of s.standing) e → IsDone i o text most written s out is_same →
+    FailsAfter i o text most e
+fails_after i o text most written s out is_same e at h done =
+    let fails = subst (λ x. FailsBy i x o (standing_of s.standing) e) at h.1 in
+    record {
+      count = done.count;
+      below = below_limit most s.limit done.count done.limit h.0;
+      standing = fails.0;
+      left = fails.1.0 ∙ done.left;
+      fails = fails.1.1;
+    }

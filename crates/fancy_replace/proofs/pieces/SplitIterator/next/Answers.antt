@@ -1,0 +1,33 @@
+use Rattle.std.proofs.Common.{[], ◌∷◌, Ok, refl, sym, ap, ◌∙◌, subst, if◌then◌else◌}
+use Rattle.fancy_replace.specs.Pieces.{pieces_between}
+use Rattle.fancy_replace.specs.Steps.{StepsToCut, cuts_left}
+use Rattle.fancy_replace.proofs.Cutting.{piece_last, piece_next}
+use Rattle.fancy_replace.proofs.pieces.SplitIterator.next.Goals as goal
+
+pub returns-in-Ok-Some-clause-steps : goal.returns-in-Ok-Some-clause-steps
+returns-in-Ok-Some-clause-steps c =
+    let s = c.args.self.now.cuts in
+    let t = c.next.new.self in
+    let cut = c.in-Ok-Some.cut in
+    let was = c.in-Ok-Some.is ∙ ap Ok c.in-Ok-Some.field-0-is in (
+      λ i o h.
+          ap (λ b. if b then [] else pieces_between s.text.now s.from (cuts_left i o s)) c.if-self.false
+          ∙ piece_next i o s cut t c.next.ensures.next.within (subst (λ x. StepsToCut i o s x t) was (c.next.ensures.next.steps i o h))
+          ∙ ap (λ b. cut.piece.now ∷ (if b then [] else pieces_between t.text.now t.from (cuts_left i o t))) (sym c.if-self.false),
+      c.next.ensures.next.same,
+    )
+
+pub returns-in-Ok-None-clause-steps : goal.returns-in-Ok-None-clause-steps
+returns-in-Ok-None-clause-steps c =
+    let s = c.args.self.now.cuts in
+    let t = c.next.new.self in
+    let was = c.in-Ok-None.is ∙ ap Ok c.in-Ok-None.field-0-is in (
+      λ i o h.
+          ap (λ b. if b then [] else pieces_between s.text.now s.from (cuts_left i o s)) c.if-self.false
+          ∙ piece_last i o s t c.next.ensures.next.within (subst (λ x. StepsToCut i o s x t) was (c.next.ensures.next.steps i o h))
+          ∙ ap (λ piece. piece ∷ []) (sym c.rest.ensures),
+      c.next.ensures.next.same,
+    )
+
+pub returns-in-Err-clause-steps : goal.returns-in-Err-clause-steps
+returns-in-Err-clause-steps c = (λ i o h. ((c.in-Err.ensures.next.steps i o h).1, refl), c.next.ensures.next.same)

@@ -1,0 +1,58 @@
+-- What clauses see of the pieces of a text that are left.
+use Rattle.std.specs.Prelude.{◌≡◌, ℕ, suc, List, [], ◌∷◌, Option, Some, None, Result, Ok, Err, if◌then◌else◌}
+use Rattle.fancy_meaning.specs.Options as plain
+use Rattle.fancy_meaning.specs.Premises.{Input, plan}
+use Rattle.fancy_expr.specs.declared.error.Error.{Error}
+use Rattle.fancy_matches.specs.Listing.{PiecesJoin, all_matches, all_spans}
+use Rattle.fancy_matches.specs.Regexes.{FailsBy, IsRegexOf, IsSame, standing_of}
+use Rattle.fancy_matches.specs.declared.regexes.Regex.{Regex}
+use Rattle.fancy_replace.specs.Pieces.{at_most_pieces, pieces_between}
+use Rattle.fancy_replace.specs.Steps.{IsAhead, cuts_left, places_left}
+use Rattle.fancy_replace.specs.declared.pieces.Split.{Split}
+
+-- how many items are left at most
+abbrev pub split_remaining : Split → ℕ
+split_remaining s = if s.has_ended then 0 else suc (places_left s.cuts)
+
+-- the regex that it is split by
+abbrev pub split_regex : Split → Regex
+split_regex s = s.regex.now
+
+module _ (i : Input) (o : plain.RunOptions) where
+  abbrev pub pieces_left : Split → List (List ℕ)
+  pieces_left s = if s.has_ended then [] else pieces_between s.cuts.text.now s.cuts.from (cuts_left i o s.cuts)
+
+  -- A call gives the next piece; or none, where none is left; or an error that a search of the list answers as is
+  -- promised, and then the pieces have ended.
+  abbrev pub StepsToPiece : {P : Type 0} → (P → List ℕ) → Split → Option (Result P Error) → Split → Type 0
+  StepsToPiece shown s None t = (pieces_left s ≡ []) × (pieces_left t ≡ [])
+  StepsToPiece shown s (Some (Ok piece)) t = pieces_left s ≡ shown piece ∷ pieces_left t
+  StepsToPiece shown s (Some (Err e)) t = FailsBy i s.cuts.text.now o (standing_of s.cuts.standing) e × (pieces_left t ≡ [])
+
+-- so it steps, whatever its regex was compiled from, and the regex stays
+abbrev pub NextPiece : {P : Type 0} → (P → List ℕ) → Split → Option (Result P Error) → Split → Type 0
+NextPiece shown s item t =
+    ((i : Input) (o : plain.RunOptions) → IsRegexOf i o (split_regex s) → StepsToPiece i o shown s item t)
+    × IsSame (split_regex s) (split_regex t)
+
+-- what is left to its regex lies ahead
+abbrev pub CanGoOn : Split → Type 0
+CanGoOn s = IsAhead s.regex.now s.cuts
+
+-- it is over this regex, and all these pieces are left
+pub record HasPieces (r : Regex) (all : Input → plain.RunOptions → List (List ℕ)) (s : Split) : Type 0 where
+  pub pieces : (i : Input) (o : plain.RunOptions) → IsRegexOf i o r → pieces_left i o s ≡ all i o
+  pub regex : split_regex s ≡ r
+  pub can : CanGoOn s
+
+-- all pieces of the text
+abbrev pub all_pieces : List ℕ → Input → plain.RunOptions → List (List ℕ)
+all_pieces text i o = pieces_between text 0 (all_matches (plan i) text o)
+
+-- at most so many
+abbrev pub most_pieces : List ℕ → ℕ → Input → plain.RunOptions → List (List ℕ)
+most_pieces text limit i o = at_most_pieces text limit (all_matches (plan i) text o)
+
+-- these pieces and the matches in turn are the text
+abbrev pub PiecesAndMatchesJoin : Regex → List ℕ → Type 0
+PiecesAndMatchesJoin r text = (i : Input) (o : plain.RunOptions) → IsRegexOf i o r → PiecesJoin text (all_spans (plan i) text o)

@@ -1,0 +1,94 @@
+//! Matches are replaced.
+
+ghost use Rattle.std.specs.Prelude.{◌≡◌, ◌++◌, OnOk, Some, None, string_bytes};
+ghost use Rattle.fancy_meaning.specs.Options as plain;
+ghost use Rattle.fancy_meaning.specs.Premises.{Input};
+ghost use Rattle.fancy_matches.specs.Regexes.{IsRegexOf, IsSame, captures_text, numbers_in};
+ghost use Rattle.fancy_replace.specs.Pieces.{as_limit};
+ghost use Rattle.fancy_replace.specs.Replacements.{Replaces};
+
+use crate::cuts::{Cut, Cuts};
+use crate::replacer::Replacer;
+use fancy_expr::error::Error;
+use fancy_matches::regexes::Regex;
+use std::alloc::{AllocError, Global};
+use std::borrow::CowStr;
+
+/// The text with its first match replaced, and the text itself where there is none.
+pub fn replace<'t, R: Replacer>(
+    alloc: Global,
+    regex: &mut Regex,
+    text: &'t str,
+    replacement: &R,
+) -> Result<CowStr<'t, Global>, Error>
+    ensures promise { (i : Input)
+        → (o : plain.RunOptions)
+        → IsRegexOf i o regex.old
+        → Replaces i o text.now (Some 1) (R.written replacement.now) result }
+    ensures same { IsSame regex.old regex.new }
+{
+    replacen(alloc, regex, text, 1, replacement)
+}
+
+/// The text with all its matches replaced, and the text itself where there is none.
+pub fn replace_all<'t, R: Replacer>(
+    alloc: Global,
+    regex: &mut Regex,
+    text: &'t str,
+    replacement: &R,
+) -> Result<CowStr<'t, Global>, Error>
+    ensures promise { (i : Input)
+        → (o : plain.RunOptions)
+        → IsRegexOf i o regex.old
+        → Replaces i o text.now None (R.written replacement.now) result }
+    ensures same { IsSame regex.old regex.new }
+{
+    replacen(alloc, regex, text, 0, replacement)
+}
+
+/// The text with its first `limit` matches replaced, all of them where that is 0, and the text itself where there is
+/// none.
+///
+/// A limit that a search passes is answered by its name. Want of memory is `Error::Memory`.
+pub fn replacen<'t, R: Replacer>(
+    alloc: Global,
+    regex: &mut Regex,
+    text: &'t str,
+    limit: usize,
+    replacement: &R,
+) -> Result<CowStr<'t, Global>, Error>
+    ensures promise { (i : Input)
+        → (o : plain.RunOptions)
+        → IsRegexOf i o regex.old
+        → Replaces i o text.now (as_limit limit) (R.written replacement.now) result }
+    ensures same { IsSame regex.old regex.new }
+{
+    let mut cuts = Cuts::new(text, limit_of(limit));
+    let mut out = String::new(alloc);
+    let mut is_same = true;
+    'matches: while let Some(cut) = cuts.next(regex)? {
+        append(&cut, replacement, &mut out)?;
+        is_same = false;
+    }
+    if is_same {
+        return Ok(CowStr::Borrowed(text));
+    }
+    out.push_str(cuts.rest())?;
+    Ok(CowStr::Owned(out))
+}
+
+/// No limit for 0.
+fn limit_of(limit: usize) -> Option<usize>
+    ensures { result ≡ as_limit limit }
+{
+    if limit == 0 { None } else { Some(limit) }
+}
+
+/// Appends the piece before a match, and what is written in the place of the match.
+fn append<R: Replacer>(cut: &Cut<'_>, replacement: &R, out: &mut String) -> Result<(), AllocError>
+    ensures { OnOk result (string_bytes out.new ≡ string_bytes out.old ++ (cut.now.piece.now
+        ++ R.written replacement.now (captures_text cut.now.captures) (numbers_in cut.now.captures))) }
+{
+    out.push_str(cut.piece)?;
+    replacement.replace_append(&cut.captures, out)
+}

@@ -1,0 +1,31 @@
+//! What is written in the place of a match.
+
+ghost use Rattle.std.specs.Prelude.{◌≡◌, ◌++◌, ℕ, List, OnOk, string_bytes};
+
+use fancy_matches::found::Captures;
+use std::alloc::AllocError;
+
+/// What is written in the place of a match.
+pub trait Replacer {
+    ghost use Rattle.fancy_matches.specs.Regexes.{captures_text, numbers_in};
+
+    // What it writes, by the text and the start and end of each group of the match.
+    ghost written: { Self → List ℕ → List ℕ → List ℕ };
+
+    /// Appends what is written in the place of a match with these groups. After an error a part of it may stand there.
+    fn replace_append(&self, captures: &Captures<'_>, out: &mut String) -> Result<(), AllocError>
+        ensures { OnOk result (string_bytes out.new ≡ string_bytes out.old
+            ++ written self.now (captures_text captures.now) (numbers_in captures.now)) };
+}
+
+/// A text as it stands: a `$` in it means nothing.
+#[derive(Clone, Copy, Debug)]
+pub struct NoExpand<'a>(pub &'a str);
+
+impl<'a> Replacer for NoExpand<'a> {
+    ghost written = { λ r text numbers. r.0.now };
+
+    fn replace_append(&self, _captures: &Captures<'_>, out: &mut String) -> Result<(), AllocError> {
+        out.push_str(self.0)
+    }
+}
