@@ -2,6 +2,7 @@ pub mod BranchesLaws
 pub mod FitsLaws
 pub mod NumbersLaws
 pub mod BeginningLaws
+pub mod StartRunLaws
 pub mod StartsLaws
 pub mod StepLaws
 pub mod BackLaws

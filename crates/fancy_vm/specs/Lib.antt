@@ -5,5 +5,6 @@ pub mod Memos
 pub mod Sound
 pub mod Stops
 pub mod Beginnings
+pub mod StartRuns
 pub mod Outcomes
 pub mod Means
