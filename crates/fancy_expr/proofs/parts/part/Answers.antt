@@ -33,14 +33,6 @@ returns-in-DefineGroup c = only_child c.args.expr.now c.in-DefineGroup.definitio
 pub returns-then-i-eq0 : goal.returns-then-i-eq0
 returns-then-i-eq0 c = child_at c.args.expr.now _ c.args.i 0 _ (ap below c.in-Conditional.is) c.if-i-eq0.true c.deref-then-i-eq0.ensures
 
-pub returns-then-i-eq1 : goal.returns-then-i-eq1
-returns-then-i-eq1 c = child_at c.args.expr.now _ c.args.i 1 _ (ap below c.in-Conditional.is) c.if-i-eq1.true c.deref-then-i-eq1.ensures
-
-pub returns-else-i-eq1 : goal.returns-else-i-eq1
-returns-else-i-eq1 c =
-    child_at c.args.expr.now _ c.args.i 2 _ (ap below c.in-Conditional.is)
-    (omega (arith, c.requires, ap length (ap below c.in-Conditional.is), c.if-i-eq0.false, c.if-i-eq1.false)) c.deref-else-i-eq1.ensures
-
 pub absent_part-requires : goal.absent_part-requires
 absent_part-requires c = subst (λ e. c.args.i < length (below e)) c.in-Absent.is c.requires
 
