@@ -1,20 +1,24 @@
 -- A replacement goes on from match to match.
-use Rattle.std.proofs.Common.{◌≡◌, ◌-◌, ℕ, zero, suc, Bool, true, false, List, [], ◌∷◌, ◌++◌, length, drop, map, Option, Some, None, option_map, ⊎_elim, refl, sym, ap, ap₂, ◌∙◌, subst, arith, append_assoc, append-nil, slice_range}
+use Rattle.std.proofs.Common.{IfOk, Result, Ok, Err, ◌≡◌, ◌-◌, ℕ, zero, suc, Bool, true, false, List, [], ◌∷◌, ◌++◌, length, drop, map, Option, Some, None, option_map, ⊎_elim, refl, sym, ap, ap₂, ◌∙◌, subst, arith, append_assoc, append-nil, slice_range}
 use Rattle.std.proofs.lemmas.Bool.{cases_lt}
 use Rattle.std.proofs.lemmas.List.{drop_all}
 use Rattle.std.proofs.lemmas.List.Folds.{drop_split}
 use Rattle.fancy_meaning.specs.Options as plain
-use Rattle.fancy_meaning.specs.Premises.{Input, plan}
+use Rattle.fancy_meaning.specs.Premises.{Input, IsText, plan}
 use Rattle.fancy_expr.specs.declared.error.Error.{Error}
 use Rattle.fancy_vm.specs.Outcomes.{first_pair}
-use Rattle.fancy_matches.specs.Listing.{all_matches, in_turn}
+use Rattle.fancy_matches.specs.Listing.{all_matches, in_turn, part}
 use Rattle.fancy_matches.specs.Regexes.{FailsBy, IsRegexOf, IsSame, left_of, numbers_in, standing_of}
 use Rattle.fancy_matches.specs.declared.regexes.Regex.{Regex}
 use Rattle.fancy_replace.specs.Pieces.{IsBelow, firsts, pieces_between, replaced}
-use Rattle.fancy_replace.specs.Replacements.{FailsAfter, chosen}
+use Rattle.fancy_replace.specs.Replacements.{FailsAfter, Replaces, WritesMatch, chosen}
 use Rattle.fancy_replace.specs.Steps.{HasAllCuts, IsAhead, IsNextCut, cuts_left, rest_of}
 use Rattle.fancy_replace.specs.declared.cuts.Cut.{Cut}
 use Rattle.fancy_replace.specs.declared.cuts.Cuts.{Cuts}
+use Rattle.std.specs.Cow.{cow_str_bytes}
+use Rattle.std.specs.declared.alloc.Global.{Global}
+use Rattle.std.specs.declared.borrow.CowStr.{CowStr}
+use Rattle.fancy_matches.proofs.Lists.{pieces_join}
 use Rattle.fancy_replace.proofs.Cutting.{firsts_more}
 
 abbrev left_in : Input → plain.RunOptions → List ℕ → Cuts → List (List ℕ)
@@ -156,3 +160,17 @@ fails_after i o text most written s out is_same e at h done =
       left = fails.1.0 ∙ done.left;
       fails = fails.1.1;
     }
+
+-- ---- each match in the place of itself
+
+each_itself : (text : List ℕ) (written : List ℕ → List ℕ → List ℕ) → WritesMatch written text → (ms : List (List ℕ)) →
+    map (written text) ms ≡ map (part text) (map first_pair ms)
+each_itself text written w [] = refl
+each_itself text written w (m ∷ ms) = ap₂ (λ x rest. x ∷ rest) (w m) (each_itself text written w ms)
+
+pub itself : (i : Input) (o : plain.RunOptions) (text : List ℕ) (written : List ℕ → List ℕ → List ℕ) (r : Result (CowStr Global) Error) → IsText text →
+    WritesMatch written text → Replaces i o text None written r → IfOk r (λ v. cow_str_bytes v ≡ text)
+itself i o text written (Ok v) is w h =
+    let all = all_matches (plan i) text o in
+    h.0 ∙ ap (in_turn (pieces_between text 0 all)) (each_itself text written w all) ∙ pieces_join (plan i) text o is
+itself i o text written (Err e) is w h = tt
