@@ -1,20 +1,24 @@
 -- A replacement goes on from match to match.
-use Rattle.std.proofs.Common.{◌≡◌, ◌-◌, ℕ, zero, suc, Bool, true, false, List, [], ◌∷◌, ◌++◌, length, drop, map, Option, Some, None, option_map, ⊎_elim, refl, sym, ap, ap₂, ◌∙◌, subst, arith, append_assoc, append-nil, slice_range}
+use Rattle.std.proofs.Common.{IfOk, Result, Ok, Err, ◌≡◌, ◌-◌, ℕ, zero, suc, Bool, true, false, List, [], ◌∷◌, ◌++◌, length, drop, map, Option, Some, None, option_map, ⊎_elim, refl, sym, ap, ap₂, ◌∙◌, subst, arith, append_assoc, append-nil, slice_range}
 use Rattle.std.proofs.lemmas.Bool.{cases_lt}
 use Rattle.std.proofs.lemmas.List.{drop_all}
 use Rattle.std.proofs.lemmas.List.Folds.{drop_split}
 use Rattle.fancy_meaning.specs.Options as plain
-use Rattle.fancy_meaning.specs.Premises.{Input, plan}
+use Rattle.fancy_meaning.specs.Premises.{Input, IsText, plan}
 use Rattle.fancy_expr.specs.declared.error.Error.{Error}
 use Rattle.fancy_vm.specs.Outcomes.{first_pair}
-use Rattle.fancy_matches.specs.Listing.{all_matches, in_turn}
-use Rattle.fancy_matches.specs.Regexes.{FailsBy, IsRegexOf, IsSame, left_of, numbers_in, standing_of}
+use Rattle.fancy_matches.specs.Listing.{all_matches, in_turn, part}
+use Rattle.fancy_matches.specs.Regexes.{FailsBy, IsRegexOf, IsSame, captures_text, left_of, numbers_in, standing_of}
 use Rattle.fancy_matches.specs.declared.regexes.Regex.{Regex}
 use Rattle.fancy_replace.specs.Pieces.{IsBelow, firsts, pieces_between, replaced}
-use Rattle.fancy_replace.specs.Replacements.{FailsAfter, chosen}
+use Rattle.fancy_replace.specs.Replacements.{FailsAfter, Replaces, WritesMatch, chosen}
 use Rattle.fancy_replace.specs.Steps.{HasAllCuts, IsAhead, IsNextCut, cuts_left, rest_of}
 use Rattle.fancy_replace.specs.declared.cuts.Cut.{Cut}
 use Rattle.fancy_replace.specs.declared.cuts.Cuts.{Cuts}
+use Rattle.std.specs.Cow.{cow_str_bytes}
+use Rattle.std.specs.declared.alloc.Global.{Global}
+use Rattle.std.specs.declared.borrow.CowStr.{CowStr}
+use Rattle.fancy_matches.proofs.Lists.{pieces_join}
 use Rattle.fancy_replace.proofs.Cutting.{firsts_more}
 
 abbrev left_in : Input → plain.RunOptions → List ℕ → Cuts → List (List ℕ)
@@ -40,6 +44,9 @@ pub record GoesOn (r q : Regex) (text : List ℕ) (most : Option ℕ) (written :
   pub within : s.text.now ≡ text
   pub ahead : IsAhead q s
   pub done : (i : Input) (o : plain.RunOptions) → IsRegexOf i o r → IsDone i o text most written s out is_same
+
+pub same_twice : (r s t : Regex) → IsSame r s → IsSame s t → IsSame r t
+same_twice r s t a b = (b.0 ∙ a.0, b.1 ∙ a.1)
 
 less_none : (most : Option ℕ) → most ≡ option_map (λ n. n - 0) most
 less_none None = refl
@@ -83,8 +90,8 @@ at_first r text most written s out h none = record {
 
 -- ---- a match
 
-module _ (i : Input) (o : plain.RunOptions) (text : List ℕ) (most : Option ℕ) (written : List ℕ → List ℕ) (s t : Cuts) (c : Cut) (out : List ℕ) (is_same : Bool)
-    (at : s.text.now ≡ text) (to : t.text.now ≡ text) (next : IsNextCut i o s c t) (done : IsDone i o text most written s out is_same) where
+module _ (i : Input) (o : plain.RunOptions) (text : List ℕ) (most : Option ℕ) (write : List ℕ → List ℕ → List ℕ) (s t : Cuts) (c : Cut) (out : List ℕ) (is_same : Bool)
+    (at : s.text.now ≡ text) (to : t.text.now ≡ text) (next : IsNextCut i o s c t) (done : IsDone i o text most (write text) s out is_same) where
   abbrev m : List ℕ
   m = numbers_in c.captures
 
@@ -105,17 +112,17 @@ module _ (i : Input) (o : plain.RunOptions) (text : List ℕ) (most : Option ℕ
   some_chosen false e empty = done.some e empty
   some_chosen true e empty = let both : m ∷ left_in i o text t ≡ [] = sym is_left ∙ done.fresh e ∙ empty in cc
 
-  pub further : (new : List ℕ) → new ≡ out ++ (c.piece.now ++ written m) → IsDone i o text most written t new false
+  pub further : (new : List ℕ) → new ≡ out ++ (c.piece.now ++ write (captures_text c.captures) m) → IsDone i o text most (write text) t new false
   further new e =
-      let rest = rest_replaced written text t.from (left_in i o text t) in
+      let rest = rest_replaced (write text) text t.from (left_in i o text t) in
       record {
         count = suc done.count;
         left = sym (drop_next done.count (all_matches (plan i) text o) m (left_of i text o (standing_of t.standing)) (sym done.left ∙ found));
         limit = next.limit ∙ ap (option_map (λ n. n - 1)) done.limit ∙ less_more most done.count;
         value =
-            ap (λ x. x ++ rest) e ∙ (simp append_assoc)
-            ∙ ap₂ (λ piece n. out ++ (piece ++ (written m ++ rest_replaced written text n (left_in i o text t)))) piece_is next.from
-            ∙ ap (λ ms. out ++ rest_replaced written text s.from ms) (sym is_left) ∙ done.value;
+            ap (λ x. x ++ rest) (e ∙ ap (λ x. out ++ (c.piece.now ++ write x m)) (next.text ∙ at)) ∙ (simp append_assoc)
+            ∙ ap₂ (λ piece n. out ++ (piece ++ (write text m ++ rest_replaced (write text) text n (left_in i o text t)))) piece_is next.from
+            ∙ ap (λ ms. out ++ rest_replaced (write text) text s.from ms) (sym is_left) ∙ done.value;
         fresh = λ no. cc;
         some = λ _ empty. some_chosen is_same refl empty;
       }
@@ -130,9 +137,9 @@ module _ (i : Input) (o : plain.RunOptions) (text : List ℕ) (most : Option ℕ
   pub none_chosen : is_same ≡ true → chosen i o text most ≡ []
   none_chosen e = sym (done.fresh e) ∙ none_left
 
-  pub ends : (new : List ℕ) → new ≡ out ++ rest_of t → new ≡ replaced written text (chosen i o text most)
-  ends new e =
-      e ∙ ap₂ (λ x n. out ++ slice_range x n (length x)) to none.1 ∙ (simp append-nil)
+  pub ends : (new rest : List ℕ) → new ≡ out ++ rest → rest ≡ rest_of t → new ≡ replaced written text (chosen i o text most)
+  ends new rest e is =
+      e ∙ ap (λ x. out ++ x) is ∙ ap₂ (λ x n. out ++ slice_range x n (length x)) to none.1 ∙ (simp append-nil)
       ∙ ap (λ ms. out ++ rest_replaced written text s.from ms) (sym none_left) ∙ done.value
 
 -- with no match to be replaced the text is as it was
@@ -156,3 +163,17 @@ fails_after i o text most written s out is_same e at h done =
       left = fails.1.0 ∙ done.left;
       fails = fails.1.1;
     }
+
+-- ---- each match in the place of itself
+
+each_itself : (text : List ℕ) (written : List ℕ → List ℕ → List ℕ) → WritesMatch written text → (ms : List (List ℕ)) →
+    map (written text) ms ≡ map (part text) (map first_pair ms)
+each_itself text written w [] = refl
+each_itself text written w (m ∷ ms) = ap₂ (λ x rest. x ∷ rest) (w m) (each_itself text written w ms)
+
+pub itself : (i : Input) (o : plain.RunOptions) (text : List ℕ) (written : List ℕ → List ℕ → List ℕ) (r : Result (CowStr Global) Error) → IsText text →
+    WritesMatch written text → Replaces i o text None written r → IfOk r (λ v. cow_str_bytes v ≡ text)
+itself i o text written (Ok v) is w h =
+    let all = all_matches (plan i) text o in
+    h.0 ∙ ap (in_turn (pieces_between text 0 all)) (each_itself text written w all) ∙ pieces_join (plan i) text o is
+itself i o text written (Err e) is w h = tt

@@ -8,7 +8,8 @@ use Rattle.fancy_meaning.specs.Premises.{Input, plan}
 use Rattle.fancy_expr.specs.declared.error.Error.{Error}
 use Rattle.fancy_expr.specs.declared.error.Error.TheVariants.{Memory}
 use Rattle.fancy_search.specs.Searches.{Promises}
-use Rattle.fancy_matches.specs.Listing.{Standing, all_matches, options_at}
+use Rattle.fancy_vm.specs.Outcomes.{first_pair}
+use Rattle.fancy_matches.specs.Listing.{Standing, all_matches, options_at, part}
 use Rattle.fancy_matches.specs.Regexes.{left_of}
 use Rattle.fancy_replace.specs.Pieces.{IsBelow, firsts, replaced}
 
@@ -31,3 +32,7 @@ module _ (i : Input) (o : plain.RunOptions) (text : List ℕ) (limit : Option �
   Replaces written (Ok v) =
       (cow_str_bytes v ≡ replaced (written text) text chosen) × (chosen ≡ [] → ¬ (IsOwnedStr v))
   Replaces written (Err e) = FailsAfter e ⊎ (e ≡ Memory)
+
+-- what is written for each match is the match
+abbrev pub WritesMatch : (List ℕ → List ℕ → List ℕ) → List ℕ → Type 0
+WritesMatch written text = (numbers : List ℕ) → written text numbers ≡ part text (first_pair numbers)

@@ -1,11 +1,12 @@
 //! Matches are replaced.
 
-ghost use Rattle.std.specs.Prelude.{◌≡◌, ◌++◌, OnOk, Some, None, string_bytes};
+ghost use Rattle.std.specs.Prelude.{◌≡◌, ◌++◌, IfOk, OnOk, Some, None, string_bytes};
+ghost use Rattle.std.specs.Cow.{cow_str_bytes};
 ghost use Rattle.fancy_meaning.specs.Options as plain;
 ghost use Rattle.fancy_meaning.specs.Premises.{Input};
 ghost use Rattle.fancy_matches.specs.Regexes.{IsRegexOf, IsSame, captures_text, numbers_in};
 ghost use Rattle.fancy_replace.specs.Pieces.{as_limit};
-ghost use Rattle.fancy_replace.specs.Replacements.{Replaces};
+ghost use Rattle.fancy_replace.specs.Replacements.{Replaces, WritesMatch};
 
 use crate::cuts::{Cut, Cuts};
 use crate::replacer::Replacer;
@@ -41,6 +42,11 @@ pub fn replace_all<'t, R: Replacer>(
         → (o : plain.RunOptions)
         → IsRegexOf i o regex.old
         → Replaces i o text.now None (R.written replacement.now) result }
+    ensures itself { (i : Input)
+        → (o : plain.RunOptions)
+        → IsRegexOf i o regex.old
+        → WritesMatch (R.written replacement.now) text.now
+        → IfOk result (λ v. cow_str_bytes v ≡ text.now) }
     ensures same { IsSame regex.old regex.new }
 {
     replacen(alloc, regex, text, 0, replacement)

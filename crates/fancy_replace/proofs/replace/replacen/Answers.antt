@@ -1,10 +1,9 @@
-use Rattle.std.proofs.Common.{◌++◌, Ok, inl, string_bytes, ap, ◌∙◌, subst}
+use Rattle.std.proofs.Common.{Ok, inl, string_bytes, ap, ◌∙◌, subst}
 use Rattle.std.proofs.lemmas.Result.{err_from_is_err_and}
-use Rattle.fancy_matches.specs.Regexes.{numbers_in}
 use Rattle.fancy_matches.proofs.Stepping.{of_same}
 use Rattle.fancy_replace.specs.Pieces.{as_limit}
 use Rattle.fancy_replace.specs.Steps.{HasAllCuts, StepsToCut}
-use Rattle.fancy_replace.proofs.Replacing.{at_first, ends, fails_after, further, none_chosen, none_replaced}
+use Rattle.fancy_replace.proofs.Replacing.{at_first, ends, fails_after, further, none_chosen, none_replaced, same_twice}
 use Rattle.fancy_replace.proofs.replace.replacen.Goals as goal
 
 pub matches-init : goal.matches-init
@@ -35,14 +34,13 @@ matches-preserved g c =
     let again = c.next.ensures.next.same in
     let was = c.in_ok-cut.was ∙ ap Ok c.in-Some.is in
     record {
-      same = (again.0 ∙ same.0, again.1 ∙ same.1);
+      same = same_twice c.args.regex.now l.regex c.next.new.regex same again;
       within = to;
       ahead = c.next.ensures.ahead;
       done = λ i o h.
           let step = subst (λ x. StepsToCut i o l.cuts x t) was (c.next.ensures.next.steps i o (of_same c.args.regex.now l.regex i o same h)) in
-          further i o text (as_limit c.args.limit) (written text) l.cuts t cut (string_bytes l.out) l.is_same at to step (l.invariant.done i o h)
-          (string_bytes c.append.new.out)
-          (c.in_ok-append.ensures ∙ ap (λ x. string_bytes l.out ++ (cut.piece.now ++ written x (numbers_in cut.captures))) (step.text ∙ at));
+          further i o text (as_limit c.args.limit) written l.cuts t cut (string_bytes l.out) l.is_same at to step (l.invariant.done i o h)
+          (string_bytes c.append.new.out) c.in_ok-append.ensures;
     }
 
 pub returns-then-is_same-clause-promise : goal.returns-then-is_same-clause-promise
@@ -69,6 +67,6 @@ returns-clause-promise g c i o h =
     let was = c.in_ok-cut.was ∙ ap Ok c.in_default.is in
     let none = subst (λ x. StepsToCut i o l.cuts x t) was (c.next.ensures.next.steps i o (of_same c.args.regex.now l.regex i o l.invariant.same h)) in (
       ends i o text (as_limit c.args.limit) written l.cuts t (string_bytes l.out) l.is_same at (c.next.ensures.next.within ∙ at) none (l.invariant.done i o h)
-          (string_bytes c.push_str.new.self) (c.in_ok-push_str.ensures.bytes ∙ ap (λ x. string_bytes l.out ++ x) c.rest.ensures),
+          (string_bytes c.push_str.new.self) c.rest.result.now c.in_ok-push_str.ensures.bytes c.rest.ensures,
       λ empty _. (l.invariant.done i o h).some c.if-is_same.false empty,
     )
