@@ -6,6 +6,7 @@ pub mod Lengths
 pub mod Loops
 pub mod Ends
 pub mod Lexed
+pub mod Nesting
 pub mod Noted
 pub mod Whole
 pub mod Counting
