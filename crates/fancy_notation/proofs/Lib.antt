@@ -7,6 +7,7 @@ pub mod Loops
 pub mod Ends
 pub mod Lexed
 pub mod Nesting
+pub mod Levels
 pub mod Noted
 pub mod Whole
 pub mod Counting

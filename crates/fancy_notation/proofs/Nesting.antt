@@ -17,12 +17,12 @@ abbrev pub nested : Mode → ℕ → List ℕ → ℕ
 nested m n [] = n
 nested m n (c ∷ cs) = max n (nested (mode_past m c) (nesting_past m n c) cs)
 
-at_least : (n : ℕ) (ts : List Placed) → n ≤ deepest n ts
+pub at_least : (n : ℕ) (ts : List Placed) → n ≤ deepest n ts
 at_least n [] = omega arith
 at_least n (p ∷ ps) = omega arith
 
 -- what opens nothing and closes nothing
-over : (n : ℕ) (p : Placed) (ts : List Placed) → nesting_behind n p.token ≡ n → deepest n (p ∷ ts) ≡ deepest n ts
+pub over : (n : ℕ) (p : Placed) (ts : List Placed) → nesting_behind n p.token ≡ n → deepest n (p ∷ ts) ≡ deepest n ts
 over n p ts e = let h = at_least n ts in ap (λ m. max n (deepest m ts)) e ∙ omega (arith, h)
 
 same : (n : ℕ) (ts : List Placed) → deepest n ts ≡ max n (deepest n ts)

@@ -1,8 +1,11 @@
 //! How deep a text nests, told without its tokens.
 
-ghost use Rattle.std.specs.Prelude.{◌≡◌, ◌<◌};
+ghost use Rattle.std.specs.Prelude.{◌≡◌, ◌+◌, ◌<◌, ◌≤◌};
 ghost use Rattle.fancy_meaning.specs.Numbers.{usize_max};
+ghost use Rattle.fancy_meaning.specs.Tree.{Tree};
 ghost use Rattle.fancy_notation.specs.Depth as plain;
+ghost use Rattle.fancy_notation.specs.Grammar.{IsSpelled};
+ghost use Rattle.fancy_notation.specs.Lexing.{tokens_of};
 ghost use Rattle.fancy_notation.specs.declared.lexer.Mode.TheVariants as mode;
 
 use crate::lexer::Mode;
@@ -120,9 +123,12 @@ fn parentheses_past(nesting: usize, c: char) -> usize
 /// follows a malformed text between quotes is not counted.
 ///
 /// The text is read once, no memory is asked for, and nothing recurses: so it can be asked of any text before
-/// `read_tree`, which recurses once or twice for each level.
+/// `read_tree`, which recurses for each level.
 pub fn depth(text: &str) -> usize
-    ensures { result ≡ plain.depth text.now }
+    ensures value { result ≡ plain.depth text.now }
+    ensures bounds { (e : Tree)
+        → IsSpelled (tokens_of text.now) e
+        → plain.levels e ≤ result + 2 }
 {
     let mut mode = Mode::Outside;
     let mut nesting = 0;
