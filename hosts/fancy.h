@@ -42,7 +42,8 @@ enum fancy_code {
     FANCY_VARIABLE_LOOK_BEHIND_REQUIRES_FEATURE = 17,
     FANCY_INNER_ERROR = 18,          /* a class cannot be read */
     FANCY_CLASS_TOO_BIG = 19,
-    FANCY_PATTERN_TOO_COMPLEX = 20   /* the program would have more than max_prog_size instructions */
+    FANCY_PATTERN_TOO_COMPLEX = 20,  /* the program would have more than max_prog_size instructions */
+    FANCY_RECURSION_EXCEEDED = 21    /* the tree nests deeper than max_depth */
 };
 
 /* What a host holds: a compiled tree, or nothing. Begin with FANCY_NOTHING. Only the calls change it, and a copy of it is
@@ -59,6 +60,7 @@ struct fancy_program {
 struct fancy_options {
     size_t pos;             /* where the search begins, a byte of the text; 0 */
     size_t max_prog_size;   /* how many instructions a program may have; 100,000 */
+    size_t max_depth;       /* how deep a tree may nest, in parentheses; 12, for a stack of 512 kB: see fancy_compile */
     size_t backtrack_limit; /* how often a search may fall back to a branch; 1,000,000 */
     uint64_t step_limit;    /* how many instructions a search may execute; UINT64_MAX */
     bool compile_anchored;  /* only the first start is tried: for fancy_compile */
@@ -81,7 +83,11 @@ struct fancy_outcome {
 struct fancy_options fancy_default_options(void);
 
 /* Compiles the tree that a text in the notation of docs/MEANING.md spells. What the program held is freed; it holds the
- * tree if the code is FANCY_OK, and nothing otherwise. */
+ * tree if the code is FANCY_OK, and nothing otherwise.
+ *
+ * What reads, compiles and frees a tree recurses over it, so a tree in which more than max_depth parentheses are open at
+ * one place is refused before it is read. The default is for a stack of 512 kB; with more of it more levels may be asked
+ * for, as docs/MEANING.md says. */
 struct fancy_outcome fancy_compile(const uint8_t *tree, size_t tree_length, const struct fancy_options *options,
                                    struct fancy_program *program);
 

@@ -38,6 +38,14 @@ int main(void)
     compile("a group that is not there", "(cat (grp \"a\") (ref 3))");
     compile("calls that double on each level", "(grp (alt \"a\" (cat (call 1) (call 1) \"b\")))");
     compile("a call that doubles on each level", "(grp (alt (cat \"a\" (call 1) (call 1)) \"b\"))");
+    options.max_depth = 1;
+    compile("a tree that nests too deep", "(cat (grp \"a\") \"b\")");
+    compile("a tree that nests too deep and has no end", "(grp (grp");
+    options.max_depth = 2;
+    compile("a tree without an end", "(grp (grp");
+    compile("a tree of just so many levels", "(cat (grp \"a\") \"(((\")");
+    options = fancy_default_options();
+    compile("an end without a tree", ")");
     find("a search after a refusal", "a");
     compile("a tree", "(cat (grp \"a\") (grp any))");
     find("room for the match alone", "ba\xc3\xa9");

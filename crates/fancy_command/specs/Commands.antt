@@ -1,8 +1,9 @@
 -- What the program does: which line it writes on which stream, and with which status.
-use Rattle.std.specs.Prelude.{◌≡◌, ℕ, Bool, List, length, Option, Some, None, Result, Ok, Err, string_bytes, if◌then◌else◌}
+use Rattle.std.specs.Prelude.{◌≡◌, ◌<◌, ◌≤◌, ℕ, Bool, List, length, Option, Some, None, Result, Ok, Err, string_bytes, if◌then◌else◌}
 use Rattle.std.specs.declared.vec.Vec.{Vec}
 use Rattle.std.specs.declared.string.String.{String}
 use Rattle.std.specs.declared.alloc.Global.{Global}
+use Rattle.fancy_notation.specs.Depth.{depth}
 use Rattle.fancy_notation.specs.Described.{IsDescribed}
 use Rattle.fancy_notation.specs.Grammar.{IsSpelled}
 use Rattle.fancy_notation.specs.Lexing.{tokens_of}
@@ -15,7 +16,7 @@ use Rattle.fancy_expr.specs.Views.{tree_of}
 use Rattle.fancy_command.specs.declared.command.Question.{Question}
 use Rattle.fancy_command.specs.Arguments as line
 use Rattle.fancy_command.specs.Arguments.{Text, question_of, analysis, compilation, running}
-use Rattle.fancy_command.specs.Printing.{answer_line, error_line, usage_line}
+use Rattle.fancy_command.specs.Printing.{answer_line, depth_line, error_line, usage_line}
 use Rattle.fancy_search.specs.Searches.{Promises, input_of}
 use Rattle.fancy_command.specs.Writing.{Writes}
 
@@ -45,13 +46,19 @@ Shows q (Err e) = Finds q (Err e)
 pub data Stream : Type 0 where
   StandardOutput StandardError : Stream
 
+-- how deep TREE may nest
+abbrev pub most_depth : ℕ
+most_depth = 200
+
 -- the line that words are answered with, the stream that it is written on, and the status once it is written
 pub data Reports (words : List Text) : Stream → Text → ℕ → Type 0 where
   misused : question_of words ≡ None → Reports words StandardError usage_line 2
-  answered : {q : line.Question} {answer : Option (Vec ℕ Global)} → question_of words ≡ Some q → Finds q (Ok answer) →
-      Reports words StandardOutput (answer_line answer) 0
-  refused : {q : line.Question} {e : Error} → question_of words ≡ Some q → Finds q (Err e) →
-      Reports words StandardOutput (error_line e) 1
+  too_deep : {q : line.Question} → question_of words ≡ Some q → most_depth < depth q.tree →
+      Reports words StandardOutput depth_line 1
+  answered : {q : line.Question} {answer : Option (Vec ℕ Global)} → question_of words ≡ Some q →
+      depth q.tree ≤ most_depth → Finds q (Ok answer) → Reports words StandardOutput (answer_line answer) 0
+  refused : {q : line.Question} {e : Error} → question_of words ≡ Some q → depth q.tree ≤ most_depth →
+      Finds q (Err e) → Reports words StandardOutput (error_line e) 1
 
 -- where a write failed the status is 3
 abbrev pub status_after : Bool → ℕ → ℕ

@@ -62,5 +62,9 @@ error_text error.Memory = codes "Memory"
 abbrev pub error_line : Error → List ℕ
 error_line e = error_text e ++ newline
 
+-- TREE nests too deep
+abbrev pub depth_line : List ℕ
+depth_line = codes "RecursionExceeded" ++ newline
+
 abbrev pub usage_line : List ℕ
 usage_line = codes "usage: fancyrun TREE TEXT [POS] [options]" ++ newline

@@ -6,13 +6,18 @@ ghost use Rattle.fancy_command.specs.Arguments.{question_of};
 ghost use Rattle.fancy_command.specs.Commands.{Finds, Performs, Refuses, Shows, asked, status_after};
 
 use crate::arguments::{Arguments, read_arguments};
-use crate::printing::{answer_line, error_line, memory_line, usage_line, write_line};
+use crate::printing::{answer_line, depth_line, error_line, memory_line, usage_line, write_line};
 use fancy_expr::error::Error;
+use fancy_notation::depth::depth;
 use fancy_notation::notation::read_tree;
 use fancy_search::search::search;
 use fancy_vm::vm::Scratch;
 use std::alloc::Global;
 use std::io::Write;
+
+/// How deep a tree may nest. What reads, compiles and frees a tree recurses over it, so a deeper one could pass the end
+/// of the native stack.
+pub const MOST_DEPTH: usize = 200;
 
 /// What a command line asks.
 #[derive(Clone, Copy, Drop)]
@@ -85,7 +90,8 @@ fn report<O: Write>(alloc: Global, error: &Error, out: &mut O) -> u8
 /// TEXT, and options. Answers the status.
 ///
 /// The answer is written on `out` with status 0: start and end of each group in bytes of TEXT, or `none`. A refusal
-/// is written there by its name with status 1. Other words, or a place inside a character of TEXT, give a line on
+/// is written there by its name with status 1; a TREE that nests deeper than `MOST_DEPTH` is not read, and its refusal
+/// is `RecursionExceeded`. Other words, or a place inside a character of TEXT, give a line on
 /// `err` with status 2, and TREE is not read. Where a write fails, the status is 3, and no more is written: what was
 /// written before it is a part of the line from its start.
 pub fn command<O: Write, E: Write>(alloc: Global, args: &[String], out: &mut O, err: &mut E) -> u8
@@ -100,6 +106,9 @@ pub fn command<O: Write, E: Write>(alloc: Global, args: &[String], out: &mut O, 
     let Some(question) = ask(args) else {
         return status(write_line(err, usage_line()), 2);
     };
+    if depth(question.tree) > MOST_DEPTH {
+        return status(write_line(out, depth_line()), 1);
+    }
     match question.show(alloc) {
         Ok(line) => status(write_line(out, line.as_bytes()), 0),
         Err(error) => report(alloc, &error, out),

@@ -115,6 +115,13 @@ pub fn memory_line() -> &'static [u8]
     b"Memory\n"
 }
 
+/// The line of a tree that nests too deep.
+pub fn depth_line() -> &'static [u8]
+    ensures { result.now ≡ printed.depth_line }
+{
+    b"RecursionExceeded\n"
+}
+
 /// The line that says how the program is called.
 pub fn usage_line() -> &'static [u8]
     ensures { result.now ≡ printed.usage_line }

@@ -1,5 +1,5 @@
 -- What the calls of a host need of each other.
-use Rattle.std.proofs.Common.{◌≡◌, ℕ, Bool, true, false, List, Option, Some, None, Result, IsFalse, refl, sym, ap, ◌∙◌, subst}
+use Rattle.std.proofs.Common.{◌≡◌, ◌<◌, ◌≤◌, ℕ, Bool, true, false, List, Option, Some, None, Result, IsFalse, refl, sym, ap, ◌∙◌, subst}
 use Rattle.std.specs.Prelude.{IsUtf8}
 use Rattle.std.specs.Str.Lossy.{utf8_valid_len}
 use Rattle.std.specs.Option.{is_some}
@@ -19,8 +19,9 @@ use Rattle.fancy_search.specs.Searches.{Bounds, IsCompiledFrom, IsRefusedAs, Pro
 use Rattle.fancy_host.specs.declared.options.FancyOptions.{FancyOptions}
 use Rattle.fancy_host.specs.declared.program.Searcher.{Searcher}
 use Rattle.fancy_host.specs.declared.outcome.FancyOutcome.{FancyOutcome}
-use Rattle.fancy_host.specs.Codes.{no_program, unfit}
-use Rattle.fancy_host.specs.Hosted.{Answers, Compiles, FailsToCompile, Finds, IsMadeFrom, IsPromised, analysis, asked_of, coded, compilation, compiled, does_not_fit, failure, fails, for_no_tree, found, groups, holds, in_no_text, not_utf8, running, spells_no_text}
+use Rattle.fancy_notation.specs.Depth.{depth}
+use Rattle.fancy_host.specs.Codes.{no_program, too_deep, unfit}
+use Rattle.fancy_host.specs.Hosted.{Answers, Compiles, FailsToCompile, Finds, IsMadeFrom, IsPromised, analysis, asked_of, coded, compilation, compiled, does_not_fit, failure, fails, for_no_tree, found, groups, holds, in_no_text, nests_too_deep, not_utf8, running, spells_no_text}
 
 -- where nothing is said to be, there is nothing
 pub none_there : {X : Type 0} → (m : Option X) (b : Bool) → is_some m ≡ b → b ≡ false → m ≡ None
@@ -57,17 +58,25 @@ module _ (text : List ℕ) (o : FancyOptions) (outcome : FancyOutcome) where
   unread_compiles held byte nothing bad is at =
       subst (λ h. Compiles text o h outcome) (sym nothing) (subst (λ x. Compiles text o None x) (sym (is ∙ ap not_utf8 at)) (spells_no_text bad))
 
-  pub fails_by : (read : List ℕ) (held : Option Searcher) (e : Error) → read ≡ text → held ≡ None → outcome ≡ failure e → FailsToCompile read o e →
-      Compiles text o held outcome
-  fails_by read held e same nothing is h =
+  pub too_deep_by : (read : List ℕ) (held : Option Searcher) → read ≡ text → IsUtf8 text → held ≡ None → o.max_depth < depth read →
+      outcome ≡ coded too_deep → Compiles text o held outcome
+  too_deep_by read held same utf8 nothing deep is =
       subst (λ m. Compiles text o m outcome) (sym nothing)
-      (subst (λ x. Compiles text o None x) (sym is) (fails (subst (λ t. FailsToCompile t o e) same h)))
+      (subst (λ x. Compiles text o None x) (sym is) (nests_too_deep utf8 (subst (λ t. o.max_depth < depth t) same deep)))
 
-  pub holds_by : (read : List ℕ) (held : Option Searcher) (s : Searcher) (n : ℕ) → read ≡ text → held ≡ Some s → outcome ≡ compiled n →
-      n ≡ groups s → IsMadeFrom read o s → Compiles text o held outcome
-  holds_by read held s n same there is counts h =
+  pub fails_by : (read : List ℕ) (held : Option Searcher) (e : Error) → read ≡ text → held ≡ None → depth read ≤ o.max_depth →
+      outcome ≡ failure e → FailsToCompile read o e → Compiles text o held outcome
+  fails_by read held e same nothing flat is h =
+      subst (λ m. Compiles text o m outcome) (sym nothing)
+      (subst (λ x. Compiles text o None x) (sym is)
+      (fails (subst (λ t. depth t ≤ o.max_depth) same flat) (subst (λ t. FailsToCompile t o e) same h)))
+
+  pub holds_by : (read : List ℕ) (held : Option Searcher) (s : Searcher) (n : ℕ) → read ≡ text → held ≡ Some s → depth read ≤ o.max_depth →
+      outcome ≡ compiled n → n ≡ groups s → IsMadeFrom read o s → Compiles text o held outcome
+  holds_by read held s n same there flat is counts h =
       subst (λ m. Compiles text o m outcome) (sym there)
-      (subst (λ x. Compiles text o (Some s) x) (sym (is ∙ ap compiled counts)) (holds (subst (λ t. IsMadeFrom t o s) same h)))
+      (subst (λ x. Compiles text o (Some s) x) (sym (is ∙ ap compiled counts))
+      (holds (subst (λ t. depth t ≤ o.max_depth) same flat) (subst (λ t. IsMadeFrom t o s) same h)))
 
   module _ (old : List ℕ) where
     pub unread_finds : (held : Option Searcher) (byte : ℕ) → ¬ IsUtf8 text → outcome ≡ not_utf8 byte → byte ≡ utf8_valid_len text →

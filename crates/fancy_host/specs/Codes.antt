@@ -21,6 +21,9 @@ no_text = 3
 abbrev pub unfit : ℕ
 unfit = 4
 
+abbrev pub too_deep : ℕ
+too_deep = 21
+
 abbrev pub code_of_refusal : CompileError → ℕ
 code_of_refusal refusal.NamedBackrefOnly = 10
 code_of_refusal refusal.FeatureNotYetSupported = 11
@@ -66,6 +69,7 @@ names =
     ∷ codes "InnerError"
     ∷ codes "ClassTooBig"
     ∷ codes "PatternTooComplex"
+    ∷ codes "RecursionExceeded"
     ∷ []
 
 -- no code has a name of no letters

@@ -1,5 +1,5 @@
 -- What the calls of a host answer.
-use Rattle.std.specs.Prelude.{◌≡◌, ℕ, ◌+◌, ◌-◌, ◌/◌, ◌^◌, Bool, true, false, not, IsFalse, IsUtf8, List, [], ◌∷◌, ◌++◌, length, take, drop, min, Option, None, Some, option_map, unwrap_or, Result, Ok, Err, if◌then◌else◌, ◌==◌}
+use Rattle.std.specs.Prelude.{◌≡◌, ◌<◌, ◌≤◌, ℕ, ◌+◌, ◌-◌, ◌/◌, ◌^◌, Bool, true, false, not, IsFalse, IsUtf8, List, [], ◌∷◌, ◌++◌, length, take, drop, min, Option, None, Some, option_map, unwrap_or, Result, Ok, Err, if◌then◌else◌, ◌==◌}
 use Rattle.std.specs.Str.Lossy.{utf8_valid_len}
 use Rattle.std.specs.declared.vec.Vec.{Vec}
 use Rattle.std.specs.declared.alloc.Global.{Global}
@@ -9,6 +9,7 @@ use Rattle.fancy_meaning.specs.Moves.{past_char}
 use Rattle.fancy_meaning.specs.Numbers.{usize_max}
 use Rattle.fancy_meaning.specs.Options as plain
 use Rattle.fancy_meaning.specs.Premises.{Input}
+use Rattle.fancy_notation.specs.Depth.{depth}
 use Rattle.fancy_notation.specs.Described.{IsDescribed}
 use Rattle.fancy_notation.specs.Grammar.{IsSpelled}
 use Rattle.fancy_notation.specs.Lexing.{tokens_of}
@@ -28,7 +29,7 @@ use Rattle.fancy_search.specs.Searches.{Bounds, IsCompiledFrom, IsRefusedAs, Pro
 use Rattle.fancy_host.specs.declared.options.FancyOptions.{FancyOptions}
 use Rattle.fancy_host.specs.declared.outcome.FancyOutcome.{FancyOutcome}
 use Rattle.fancy_host.specs.declared.program.Searcher.{Searcher}
-use Rattle.fancy_host.specs.Codes.{ok, no_match, no_program, no_text, unfit, code_of}
+use Rattle.fancy_host.specs.Codes.{ok, no_match, no_program, no_text, unfit, too_deep, code_of}
 
 -- ---- options
 
@@ -36,6 +37,7 @@ abbrev pub default_options : FancyOptions
 default_options = record {
   pos = 0;
   max_prog_size = 100_000;
+  max_depth = 12;
   backtrack_limit = 1_000_000;
   step_limit = 2 ^ 64 - 1;
   compile_anchored = false;
@@ -155,8 +157,10 @@ pub data FailsToCompile (text : List ℕ) (o : FancyOptions) : Error → Type 0 
 -- what a program holds after a tree was to be compiled, and the outcome
 pub data Compiles (text : List ℕ) (o : FancyOptions) : Option Searcher → FancyOutcome → Type 0 where
   spells_no_text : ¬ IsUtf8 text → Compiles text o None (not_utf8 (utf8_valid_len text))
-  fails : {e : Error} → FailsToCompile text o e → Compiles text o None (failure e)
-  holds : {s : Searcher} → IsMadeFrom text o s → Compiles text o (Some s) (compiled (groups s))
+  nests_too_deep : IsUtf8 text → o.max_depth < depth text → Compiles text o None (coded too_deep)
+  fails : {e : Error} → depth text ≤ o.max_depth → FailsToCompile text o e → Compiles text o None (failure e)
+  holds : {s : Searcher} → depth text ≤ o.max_depth → IsMadeFrom text o s →
+      Compiles text o (Some s) (compiled (groups s))
 
 -- the answer of a search is promised, and within its bounds
 abbrev pub IsPromised : Compiled → List ℕ → FancyOptions → Result (Option (Vec ℕ Global)) Error → Type 0

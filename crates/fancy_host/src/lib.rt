@@ -11,15 +11,17 @@ ghost use Rattle.std.specs.Prelude.{◌≡◌, None, length};
 ghost use Rattle.fancy_host.specs.Codes.{name_of};
 ghost use Rattle.fancy_host.specs.Hosted.{Compiles, Finds, default_options, group_count, over, tree_of};
 
+use fancy_notation::depth::depth;
 use options::FancyOptions;
-use outcome::{FancyOutcome, NO_PROGRAM, write_name};
+use outcome::{FancyOutcome, NO_PROGRAM, TOO_DEEP, write_name};
 use program::{FancyProgram, compile};
 use std::alloc::Global;
 use std::mem::replace;
 use std::str::from_utf8;
 
 /// The options of a search unless said otherwise: from the text's start, no flag, 1,000,000 backtracks, as many
-/// instructions as can be counted, and a program of at most 100,000 instructions.
+/// instructions as can be counted, a program of at most 100,000 instructions, and a tree of at most 12 levels, for which
+/// a stack of 512 kB is enough.
 #[unsafe(no_mangle)]
 pub extern "C" fn fancy_default_options() -> FancyOptions
     ensures { result ≡ default_options }
@@ -28,7 +30,7 @@ pub extern "C" fn fancy_default_options() -> FancyOptions
 }
 
 /// Compiles the tree that a text spells. What the program held before is freed; it holds the tree if the code is
-/// `FANCY_OK`, and nothing otherwise.
+/// `FANCY_OK`, and nothing otherwise. A tree that nests deeper than `max_depth` is refused before it is read.
 #[unsafe(no_mangle)]
 pub extern "C" fn fancy_compile(
     alloc: Global,
@@ -43,6 +45,9 @@ pub extern "C" fn fancy_compile(
         Ok(text) => text,
         Err(fault) => return FancyOutcome::not_utf8(fault.valid_up_to()),
     };
+    if depth(text) > options.max_depth {
+        return FancyOutcome::coded(TOO_DEEP);
+    }
     match compile(alloc, text, options) {
         Ok(searcher) => {
             let groups = searcher.group_count();

@@ -16,6 +16,8 @@ pub struct FancyOptions {
     pub pos: usize,
     /// How many instructions a program may have.
     pub max_prog_size: usize,
+    /// How deep a tree may nest, in parentheses: what the stack of the calling thread allows.
+    pub max_depth: usize,
     /// How often a search may fall back to a branch.
     pub backtrack_limit: usize,
     /// How many instructions a search may execute.
@@ -43,6 +45,7 @@ impl Default for FancyOptions {
         FancyOptions {
             pos: 0,
             max_prog_size: 100_000,
+            max_depth: 12,
             backtrack_limit: 1_000_000,
             step_limit: u64::MAX,
             compile_anchored: false,

@@ -33,6 +33,8 @@ const NOT_UTF8: u32 = 3;
 
 const UNFIT: u32 = 4;
 
+pub const TOO_DEEP: u32 = 21;
+
 /// The code of a refusal.
 fn code_of_refusal(error: &CompileError) -> u32
     ensures { result ≡ codes.code_of_refusal error.now }
@@ -92,6 +94,7 @@ fn name_of(code: u32) -> &'static str
         18 => "InnerError",
         19 => "ClassTooBig",
         20 => "PatternTooComplex",
+        21 => "RecursionExceeded",
         _ => "",
     }
 }

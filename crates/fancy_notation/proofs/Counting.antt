@@ -54,14 +54,14 @@ joined_none [] h = refl
 joined_none (e ∷ []) h = omega (arith, h, count-append (nodes e) [])
 joined_none (e ∷ d ∷ es) h = h
 
-rows_have : {V : Type 0} → (V → Type 0) → List (List ℕ × V) → Type 0
+unfoldable pub rows_have : {V : Type 0} → (V → Type 0) → List (List ℕ × V) → Type 0
 rows_have P [] = Unit {0}
 rows_have P (r ∷ rows) = P r.1 × rows_have P rows
 
 none_counted : Tree → Type 0
 none_counted e = count (nodes e) ≡ 0
 
-found_has : {V : Type 0} (P : V → Type 0) (rows : List (List ℕ × V)) (w : List ℕ) (v : V) → rows_have P rows → found rows w ≡ Some v → P v
+pub found_has : {V : Type 0} (P : V → Type 0) (rows : List (List ℕ × V)) (w : List ℕ) (v : V) → rows_have P rows → found rows w ≡ Some v → P v
 unfolding rows_have
 found_has P [] w v h e = absurd (cc)
 found_has P (r ∷ rows) w v h e = at_test (bytes_eq w r.0) (λ q. found_has P rows w v h.1 q) e

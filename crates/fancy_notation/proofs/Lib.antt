@@ -6,6 +6,8 @@ pub mod Lengths
 pub mod Loops
 pub mod Ends
 pub mod Lexed
+pub mod Nesting
+pub mod Levels
 pub mod Noted
 pub mod Whole
 pub mod Counting

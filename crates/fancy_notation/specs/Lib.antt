@@ -8,3 +8,4 @@ pub mod NotationViews
 pub mod Reading
 pub mod Surveys
 pub mod Described
+pub mod Depth

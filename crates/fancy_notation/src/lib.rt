@@ -1,6 +1,7 @@
 //! The notation in which trees are written, and its reader.
 #![tactic(auto)]
 
+pub mod depth;
 mod forms;
 mod lexer;
 pub mod notation;

@@ -1,0 +1,66 @@
+/* Compiles one tree that nests so deep, and searches for it, on a thread with a stack of so many bytes; prints the name of
+ * what came of it.
+ *
+ * depth STACK DEPTH MAX_DEPTH OPEN MIDDLE CLOSE TEXT   OPEN and CLOSE so many times, with MIDDLE between them */
+#define _GNU_SOURCE
+#include "fancy.h"
+#include <pthread.h>
+#include <stdio.h>
+#include <stdlib.h>
+#include <string.h>
+
+struct question {
+    char *tree;
+    const char *text;
+    struct fancy_options options;
+};
+
+static char *written_out(size_t depth, const char *open, const char *middle, const char *close)
+{
+    char *tree = malloc(depth * (strlen(open) + strlen(close)) + strlen(middle) + 1);
+    char *end = tree;
+    if (tree == NULL)
+        exit(2);
+    for (size_t i = 0; i < depth; i++)
+        end = stpcpy(end, open);
+    end = stpcpy(end, middle);
+    for (size_t i = 0; i < depth; i++)
+        end = stpcpy(end, close);
+    return tree;
+}
+
+static void *ask(void *asked)
+{
+    const struct question *question = asked;
+    struct fancy_program program = FANCY_NOTHING;
+    size_t span[2];
+    uint8_t name[40];
+    struct fancy_outcome outcome =
+        fancy_compile((const uint8_t *)question->tree, strlen(question->tree), &question->options, &program);
+    if (outcome.code == FANCY_OK)
+        outcome = fancy_find(&program, (const uint8_t *)question->text, strlen(question->text), &question->options, span, 2);
+    fancy_free(&program);
+    size_t length = fancy_error_name(outcome.code, name, sizeof name);
+    printf("%.*s\n", (int)length, (const char *)name);
+    return NULL;
+}
+
+int main(int argc, char **argv)
+{
+    if (argc != 8)
+        return 2;
+    struct question question = {written_out(strtoull(argv[2], NULL, 10), argv[4], argv[5], argv[6]), argv[7],
+                                fancy_default_options()};
+    if (strcmp(argv[3], "default") != 0)
+        question.options.max_depth = strtoull(argv[3], NULL, 10);
+    pthread_attr_t attributes;
+    pthread_t thread;
+    pthread_attr_init(&attributes);
+    if (pthread_attr_setstacksize(&attributes, strtoull(argv[1], NULL, 10)) != 0)
+        return 2;
+    if (pthread_create(&thread, &attributes, ask, &question) != 0)
+        return 2;
+    int status = pthread_join(thread, NULL);
+    free(question.tree);
+    return status;
+}
