@@ -2,7 +2,9 @@
 use Rattle.std.proofs.Common.{◌≡◌, ℕ, zero, suc, Bool, List, [], ◌∷◌, slice_get, Some, ap, subst}
 use Rattle.std.proofs.Math.Bool.{Bool-set}
 use Rattle.std.proofs.Math.Logic.{∥∥₁_elim, ∥∥₁_map}
+use Rattle.fancy_characters.specs.declared.classes.CharClassMatcher.{CharClassMatcher}
 use Rattle.fancy_characters.specs.declared.classes.CharClassMatcher.TheVariants as matcher
+use Rattle.fancy_characters.specs.Classes.{class_of}
 use Rattle.fancy_meaning.specs.Instr.{Codepoint}
 use Rattle.fancy_expr.specs.Each.{Each}
 use Rattle.fancy_plain.specs.declared.point.CharTest.TheVariants as test
@@ -18,11 +20,16 @@ read_at P (y ∷ l) zero x h at = let same : y ≡ x = cc in subst P same h.0
 read_at P (y ∷ l) (suc i) x h at = read_at P l i x h.1 at
 
 -- what is read can be told from the class
-known_read : (unicode : Bool) (p : Point) → ∥ IsPointReadBy unicode p ∥₁ → IsPointReadBy unicode p
-known_read unicode (code.Take (test.Class (matcher.Codepoint name class))) h =
+known_class : (unicode : Bool) (m : CharClassMatcher) →
+    ∥ ((inner : List ℕ) × ((casei : Bool) × (class_of m ≡ Codepoint inner casei unicode))) ∥₁ →
+    (inner : List ℕ) × ((casei : Bool) × (class_of m ≡ Codepoint inner casei unicode))
+known_class unicode (matcher.Codepoint name class) h =
     let same : class.unicode ≡ unicode = ∥∥₁_elim h (Bool-set _ _) (λ r. let e = r.1.1 in cc) in
     (class.inner, (class.casei, ap (Codepoint class.inner class.casei) same))
-known_read unicode (code.Take (test.Class (matcher.Newline u))) h = absurd (∥∥₁_elim h (λ x y. elim x [ ]) (λ r. let e = r.1.1 in cc))
+known_class unicode (matcher.Newline u) h = absurd (∥∥₁_elim h (λ x y. elim x [ ]) (λ r. let e = r.1.1 in cc))
+
+known_read : (unicode : Bool) (p : Point) → ∥ IsPointReadBy unicode p ∥₁ → IsPointReadBy unicode p
+known_read unicode (code.Take (test.Class class)) h = known_class unicode class.value h
 known_read unicode (code.Take (test.Any newline crlf)) h = tt
 known_read unicode (code.Take (test.One c casei)) h = tt
 known_read unicode code.Stop h = tt

@@ -18,7 +18,7 @@ class_test_of (Newline unicode) = plain.AnyChar unicode unicode
 abbrev pub test_of : CharTest → plain.CharTest
 test_of (test.Any newline crlf) = plain.AnyChar newline crlf
 test_of (test.One c casei) = plain.OneChar c casei
-test_of (test.Class class) = class_test_of (class_of class)
+test_of (test.Class class) = class_test_of (class_of class.value)
 
 abbrev pub loop_of : Loop → plain.Loop
 loop_of l = record { lo = l.lo; hi = bound_of l.hi; greedy = l.greedy; asks_moved = l.asks_moved }
@@ -42,7 +42,7 @@ abbrev pub IsReadBy : Bool → CharTest → Type 0
 IsReadBy unicode (test.Any newline crlf) = Unit {0}
 IsReadBy unicode (test.One c casei) = Unit {0}
 IsReadBy unicode (test.Class class) =
-    (inner : List ℕ) × ((casei : Bool) × (class_of class ≡ Codepoint inner casei unicode))
+    (inner : List ℕ) × ((casei : Bool) × (class_of class.value ≡ Codepoint inner casei unicode))
 
 abbrev pub IsPointReadBy : Bool → Point → Type 0
 IsPointReadBy unicode (code.Take t) = IsReadBy unicode t

@@ -181,6 +181,7 @@ impl Layout {
             (texts_of (Delegate inner.now casei)) self.old self.new result }
     {
         let class = CharClassMatcher::codepoint(self.alloc, inner, casei, self.unicode)?;
+        let class = Box::new(self.alloc, class)?;
         self.push(Point::Take(CharTest::Class(class)))
     }
 

@@ -22,7 +22,7 @@ pub(crate) enum CharTest {
     /// This character, folded or not.
     One { c: char, casei: bool },
     /// One of a class.
-    Class(CharClassMatcher),
+    Class(Box<CharClassMatcher>),
 }
 
 /// A loop that counts its iterations, or asks whether one has moved.

@@ -25,7 +25,7 @@ returns-in-One-clause-small c =
 
 pub returns-in-Class-clause-small : goal.returns-in-Class-clause-small
 returns-in-Class-clause-small c =
-    IfOk-weaker c.past_class.result (λ to. to ≡ past_char c.args.text.now (class_test (class_of c.in-Class.class)) c.args.ix)
+    IfOk-weaker c.past_class.result (λ to. to ≡ past_char c.args.text.now (class_test (class_of c.deref.result.now)) c.args.ix)
     (λ to. IfSome to (λ j. j ≤ length c.args.text.now))
-    (past_within c.args.text.now (class_test (class_of c.in-Class.class)) c.args.ix)
+    (past_within c.args.text.now (class_test (class_of c.deref.result.now)) c.args.ix)
     c.past_class.ensures.ok
