@@ -60,7 +60,7 @@ struct fancy_program {
 struct fancy_options {
     size_t pos;             /* where the search begins, a byte of the text; 0 */
     size_t max_prog_size;   /* how many instructions a program may have; 100,000 */
-    size_t max_depth;       /* how deep a tree may nest, in parentheses; 12, for a stack of 512 kB: see fancy_compile */
+    size_t max_depth;       /* how deep a tree may nest, in parentheses; 50, for a stack of 512 kB: see fancy_compile */
     size_t backtrack_limit; /* how often a search may fall back to a branch; 1,000,000 */
     uint64_t step_limit;    /* how many instructions a search may execute; UINT64_MAX */
     bool compile_anchored;  /* only the first start is tried: for fancy_compile */

@@ -20,7 +20,7 @@ use std::mem::replace;
 use std::str::from_utf8;
 
 /// The options of a search unless said otherwise: from the text's start, no flag, 1,000,000 backtracks, as many
-/// instructions as can be counted, a program of at most 100,000 instructions, and a tree of at most 12 levels, for which
+/// instructions as can be counted, a program of at most 100,000 instructions, and a tree of at most 50 levels, for which
 /// a stack of 512 kB is enough.
 #[unsafe(no_mangle)]
 pub extern "C" fn fancy_default_options() -> FancyOptions

@@ -45,7 +45,7 @@ impl Default for FancyOptions {
         FancyOptions {
             pos: 0,
             max_prog_size: 100_000,
-            max_depth: 12,
+            max_depth: 50,
             backtrack_limit: 1_000_000,
             step_limit: u64::MAX,
             compile_anchored: false,
