@@ -1,5 +1,5 @@
 -- Easy nodes are refused for the class texts that are written out with them, and for nothing else.
-use Rattle.std.proofs.Common.{◌≡◌, ℕ, zero, suc, Bool, true, false, List, [], ◌∷◌, ◌++◌, map, Option, Some, None, inl, inr, nat_lt, codes, true≢false, refl, sym, ap, ◌∙◌, subst, arith, ltb-false}
+use Rattle.std.proofs.Common.{◌≡◌, ℕ, zero, suc, Bool, true, false, List, [], ◌∷◌, map, Option, Some, None, inl, inr, nat_lt, codes, true≢false, refl, sym, ap, ◌∙◌, subst, arith, ltb-false}
 use Rattle.fancy_meaning.specs.Tree.{Tree, Trees, none, more, trees, Empty, Any, Assert, Literal, Delegate, Concat, Alt, Group, Repeat, DefineGroup}
 use Rattle.fancy_meaning.specs.AnalysisRefusals as refusal
 use Rattle.fancy_meaning.specs.Batches.{all_joined, each_literal, literal_chars, pattern_of}
@@ -7,12 +7,13 @@ use Rattle.fancy_meaning.specs.Code.{Code, Laid}
 use Rattle.fancy_meaning.specs.CompileRefusals.{IsAmong, here, there, written_parts, IsWritten, root, part, absent_other, no_class}
 use Rattle.fancy_meaning.specs.Options.{Analysis}
 use Rattle.fancy_meaning.specs.OpenCalls.{Depths}
-use Rattle.fancy_meaning.specs.PatternText.{Text, text_of, each_text, joined, wrapped, wrapped_if}
+use Rattle.fancy_meaning.specs.PatternText.{text_of, each_text, joined, wrapped_if}
 use Rattle.fancy_meaning.specs.WellFormed.{IsFine}
 use Rattle.fancy_composed.proofs.Written.{written_is_node}
 use Rattle.fancy_delegation.proofs.EasyNodes as easy
 use Rattle.fancy_delegation.proofs.EasyNodes.{AllEasy, easy_alt, easy_concat, easy_each, easy_group, easy_repeat}
 use Rattle.fancy_headline.proofs.Literals.{Chars, joined_parts}
+use Rattle.fancy_headline.proofs.Nameless.{front_none, each_none, wrapped_some, group_some}
 use Rattle.fancy_characters.specs.Classes.{IsClassRefusal}
 use Rattle.fancy_expr.specs.declared.error.CompileError.TheVariants as code
 use Rattle.fancy_expr.specs.declared.error.Error.{Error}
@@ -151,25 +152,6 @@ literal_classes unicode is cs h inner casei t =
     absurd (literals_classless inner casei (trees_of is) cs (ap all_joined (each_literal_of (map info_tree is)) ∙ h) t.0 t.1.0 t.1.1)
 
 -- ---- nodes without a text have no class
-
-front_none : {A : Type 0} (xs ys : List A) → xs ++ ys ≡ [] → xs ≡ []
-front_none [] ys e = refl
-front_none (x ∷ xs) ys e = cc
-
-back_none : {A : Type 0} (xs ys : List A) → xs ++ ys ≡ [] → ys ≡ []
-back_none [] ys e = e
-back_none (x ∷ xs) ys e = cc
-
-each_none : (t : Text) (ts : List Text) → joined [] (t ∷ ts) ≡ [] → (t ≡ []) × (joined [] ts ≡ [])
-each_none t [] e = (e, refl)
-each_none t (u ∷ ts) e = (front_none t (joined [] (u ∷ ts)) e, back_none t (joined [] (u ∷ ts)) e)
-
-wrapped_some : (v : Bool) (t : Text) → wrapped_if v "(?:" t ≡ [] → (v ≡ false) × (t ≡ [])
-wrapped_some true t e = cc
-wrapped_some false t e = (refl, e)
-
-group_some : (t : Text) → wrapped "(" t ")" ≡ [] → ⊥
-group_some t e = cc
 
 class_some : (inner : List ℕ) (casei : Bool) → ¬ (inner ≡ []) → wrapped_if casei "(?i:" inner ≡ [] → ⊥
 class_some inner true some e = cc

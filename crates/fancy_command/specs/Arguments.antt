@@ -119,6 +119,9 @@ analysis a = record {
   leftmost_longest = a.longest;
 }
 
+abbrev pub most_nesting : ℕ
+most_nesting = 2_000
+
 abbrev pub compilation : Arguments → CompileOptions
 compilation a = record {
   anchored = a.compile_anchored;
@@ -127,6 +130,7 @@ compilation a = record {
   bytes_mode = mode.Unicode;
   unicode = not a.ascii;
   max_prog_size = a.max_prog;
+  max_nesting = Some most_nesting;
 }
 
 abbrev pub running : Arguments → RunOptions

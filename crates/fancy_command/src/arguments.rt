@@ -11,6 +11,10 @@ use fancy_notation::numbers::number;
 use fancy_search::search::SearchOptions;
 use fancy_vm::vm::RunOptions;
 
+/// How many nodes may be written out in one another, calls with them: a group that calls itself is written out where it
+/// calls, so calls nest deeper than the text does.
+const MOST_NESTING: usize = 2_000;
+
 /// An option that stands alone.
 #[derive(Clone, Copy, Debug, PartialEq, Eq, Drop)]
 pub enum Flag {
@@ -226,6 +230,7 @@ impl Arguments {
             bytes_mode: BytesMode::Unicode,
             unicode: !self.ascii,
             max_prog_size: self.max_prog,
+            max_nesting: Some(MOST_NESTING),
         }
     }
 

@@ -164,7 +164,7 @@ fn finish(writer: CodeWriter, info: &Info, options: CompileOptions) -> Result<Pr
 /// absent part but a repeater, and one in the hard body of a repeater; as `VariableLookBehindRequiresFeature` a look-behind of no constant
 /// size; as `SubroutineCallTargetNotFound` a call of a group that is not there; as `InnerError` or `ClassTooBig` a class text that `regex`
 /// refuses. `FeatureNotYetSupported` is also any bytes mode but `Unicode`, and `PatternTooComplex` an instruction more than `max_prog_size`.
-/// Want of memory is `Error::Memory`.
+/// Want of memory is `Error::Memory`, and so are more nodes in one another than `max_nesting`: what is written out recurses over them.
 pub fn compile(alloc: Global, info: &Info, options: CompileOptions) -> Result<Prog, Error>
     requires { (a : Analysed) × MayCompile a info.now options }
     ensures { (a : Analysed)
@@ -185,7 +185,8 @@ pub fn compile(alloc: Global, info: &Info, options: CompileOptions) -> Result<Pr
         calls: None,
     };
     let fresh = first_fresh(total_groups(info), explicit_group_0, end_text);
-    let mut writer = CodeWriter::new(alloc, fresh, options.max_prog_size);
+    let max_nesting = options.max_nesting.unwrap_or(usize::MAX);
+    let mut writer = CodeWriter::new(alloc, fresh, options.max_prog_size, max_nesting);
     scope.emit_program(&mut writer, options.anchored, end_text);
     finish(writer, info, options)
 }

@@ -23,8 +23,9 @@ impl<'t, 'i, 'a, 'o> Scope<'t, 'i, 'a, 'o> {
     {
         if is_batch(info, in_hard) {
             writer.emit_batch(self.alloc, slice::from_ref(info), self.unicode);
-        } else {
+        } else if writer.enter() {
             self.emit_node(writer, info, at_start, in_hard);
+            writer.leave();
         }
     }
 

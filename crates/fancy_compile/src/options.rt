@@ -24,6 +24,8 @@ pub struct CompileOptions {
     pub unicode: bool,
     /// The most instructions; without it there is no bound.
     pub max_prog_size: Option<usize>,
+    /// The most nodes that are written out in one another, calls with them; without it there is no bound but the stack.
+    pub max_nesting: Option<usize>,
 }
 
 impl Default for CompileOptions {
@@ -36,6 +38,7 @@ impl Default for CompileOptions {
               bytes_mode = mode.Unicode;
               unicode = true;
               max_prog_size = None;
+              max_nesting = None;
             } }
     {
         CompileOptions {
@@ -45,6 +48,7 @@ impl Default for CompileOptions {
             bytes_mode: BytesMode::Unicode,
             unicode: true,
             max_prog_size: None,
+            max_nesting: None,
         }
     }
 }

@@ -29,7 +29,7 @@ last_char text e v at =
     by true = refl
     by false = refl
 
-more_chars : (text : List ℕ) (i e : ℕ) (v : Bool) → is_place text (suc e) ≡ v → i ≤ e →
+pub more_chars : (text : List ℕ) (i e : ℕ) (v : Bool) → is_place text (suc e) ≡ v → i ≤ e →
     chars_between text i (suc e) ≡ chars_between text i e + (if v then 1 else 0)
 more_chars text i e v at le =
     chars_add text i e (suc e) le (omega arith) ∙ ap (λ n. chars_between text i e + n) (last_char text e v at)

@@ -1,23 +1,8 @@
 -- Characters between places: as many characters on from a place there is one place.
-use Rattle.std.proofs.Common.{◌≡◌, ℕ, zero, suc, ◌+◌, ◌-◌, ◌<◌, ◌≤◌, ◌⊎◌, inl, inr, Bool, true, false, if◌then◌else◌, List, [], ◌∷◌, ◌++◌, length, filter, ap, ap₂, ◌∙◌, arith, length-append, leb-true}
+use Rattle.std.proofs.Common.{◌≡◌, ℕ, zero, suc, ◌-◌, ◌<◌, ◌≤◌, ◌⊎◌, inl, inr, Bool, true, false, if◌then◌else◌, List, [], ◌∷◌, length, filter, ap, ◌∙◌, arith, leb-true}
 use Rattle.std.proofs.lemmas.Bool.{and_parts, cases_order}
-use Rattle.std.proofs.lemmas.List.Elements.{filter-append}
+use Rattle.fancy_laws.proofs.Characters.{chars_add}
 use Rattle.fancy_meaning.specs.Places.{range_from, is_place, chars_between}
-
-range_split : (n m k i j : ℕ) → k ≡ n + m → j ≡ i + n → range_from i k ≡ range_from i n ++ range_from j m
-range_split zero m k i j e f =
-    let same : k ≡ m = omega (arith, e) in
-    let here : i ≡ j = omega (arith, f) in
-    ap₂ range_from here same
-range_split (suc n) m zero i j e f = absurd (omega (arith, e))
-range_split (suc n) m (suc k) i j e f = ap (λ l. i ∷ l) (range_split n m k (suc i) j (omega (arith, e)) (omega (arith, f)))
-
-pub chars_add : (text : List ℕ) (i j k : ℕ) → i ≤ j → j ≤ k → chars_between text i k ≡ chars_between text i j + chars_between text j k
-unfolding chars_between
-chars_add text i j k a b =
-    ap (λ l. length (filter (is_place text) l)) (range_split (j - i) (k - j) (k - i) (suc i) (suc j) (omega (arith, a, b)) (omega (arith, a)))
-    ∙ ap length (filter-append (is_place text) (range_from (suc i) (j - i)) (range_from (suc j) (k - j)))
-    ∙ length-append (filter (is_place text) (range_from (suc i) (j - i))) (filter (is_place text) (range_from (suc j) (k - j)))
 
 pub no_chars : (text : List ℕ) (i j : ℕ) → j ≤ i → chars_between text i j ≡ 0
 unfolding chars_between

@@ -14,7 +14,8 @@ use Rattle.fancy_meaning.specs.Laws.{SizeLaw}
 use Rattle.fancy_laws.proofs.Every.{Every, no_item, item, every_weaker, every_both, every_flat_map}
 use Rattle.fancy_delegation.proofs.Items.{IsIn, every_from, every_is_in, contained_is_in}
 use Rattle.fancy_delegation.proofs.WaysGoForward.{ways_go_forward}
-use Rattle.fancy_delegation.proofs.Counting.{chars_add, no_chars, chars_fit, place_within, same_place}
+use Rattle.fancy_laws.proofs.Characters.{chars_add}
+use Rattle.fancy_delegation.proofs.Counting.{no_chars, chars_fit, place_within, same_place}
 
 module _ (q : Setting) (whole : Tree) where
   -- a sound state at the place of s or after it

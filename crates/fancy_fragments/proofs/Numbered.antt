@@ -19,7 +19,8 @@ use Rattle.fancy_info.specs.declared.info.Info.TheViews.{out-Info}
 use Rattle.fancy_info.specs.Infos.{info_tree, info_expr, info_children, info_within, absent_over, node_over, AreInTurn, IsFound, IsAnalysed}
 use Rattle.fancy_info.proofs.Unfolded.{tree_out, each_here, each_below}
 use Rattle.fancy_fragments.specs.Nodes.{plain_tree, start_of}
-use Rattle.fancy_plain.proofs.Nodes.{node_count, node_counts, node_count-below}
+use Rattle.fancy_info.specs.NodeCounts.{node_count, node_counts}
+use Rattle.fancy_info.proofs.Children.{node_count-below}
 
 -- ---- one node over its numbered children
 

@@ -14,7 +14,7 @@ use Rattle.fancy_delegation.proofs.EasyNodes.{IsEasy, AllEasy, easy_concat, easy
 
 -- ---- neighbours without a name
 
-front_none : {A : Type 0} (xs ys : List A) → xs ++ ys ≡ [] → xs ≡ []
+pub front_none : {A : Type 0} (xs ys : List A) → xs ++ ys ≡ [] → xs ≡ []
 front_none [] ys e = refl
 front_none (x ∷ xs) ys e = cc
 
@@ -23,11 +23,11 @@ back_none [] ys e = e
 back_none (x ∷ xs) ys e = cc
 
 -- a text in brackets is some text
-wrapped_some : (v : Bool) (t : Text) → wrapped_if v "(?:" t ≡ [] → (v ≡ false) × (t ≡ [])
+pub wrapped_some : (v : Bool) (t : Text) → wrapped_if v "(?:" t ≡ [] → (v ≡ false) × (t ≡ [])
 wrapped_some true t e = cc
 wrapped_some false t e = (refl, e)
 
-group_some : (t : Text) → wrapped "(" t ")" ≡ [] → ⊥
+pub group_some : (t : Text) → wrapped "(" t ")" ≡ [] → ⊥
 group_some t e = cc
 
 assertion_some : (a : Assertion) → assertion_text a ≡ [] → ⊥
@@ -88,7 +88,7 @@ class_some (c ∷ cs) true fine e = cc
 class_some (c ∷ cs) false fine e = cc
 
 -- of neighbours without a text, none has one
-each_none : (t : Text) (ts : List Text) → joined [] (t ∷ ts) ≡ [] → (t ≡ []) × (joined [] ts ≡ [])
+pub each_none : (t : Text) (ts : List Text) → joined [] (t ∷ ts) ≡ [] → (t ≡ []) × (joined [] ts ≡ [])
 each_none t [] e = (e, refl)
 each_none t (u ∷ ts) e = (front_none t (joined [] (u ∷ ts)) e, back_none t (joined [] (u ∷ ts)) e)
 

@@ -37,6 +37,7 @@ abbrev pub default_options : FancyOptions
 default_options = record {
   pos = 0;
   max_prog_size = 100_000;
+  max_nesting = 500;
   max_depth = 50;
   backtrack_limit = 1_000_000;
   step_limit = 2 ^ 64 - 1;
@@ -65,6 +66,7 @@ compilation o = record {
   bytes_mode = mode.Unicode;
   unicode = not o.ascii;
   max_prog_size = Some o.max_prog_size;
+  max_nesting = Some o.max_nesting;
 }
 
 abbrev pub running : FancyOptions → plain.RunOptions

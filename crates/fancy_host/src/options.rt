@@ -16,6 +16,8 @@ pub struct FancyOptions {
     pub pos: usize,
     /// How many instructions a program may have.
     pub max_prog_size: usize,
+    /// How many nodes may be written out in one another, calls with them: said to the compiler.
+    pub max_nesting: usize,
     /// How deep a tree may nest, in parentheses: what the stack of the calling thread allows.
     pub max_depth: usize,
     /// How often a search may fall back to a branch.
@@ -45,6 +47,7 @@ impl Default for FancyOptions {
         FancyOptions {
             pos: 0,
             max_prog_size: 100_000,
+            max_nesting: 500,
             max_depth: 50,
             backtrack_limit: 1_000_000,
             step_limit: u64::MAX,
@@ -83,6 +86,7 @@ impl FancyOptions {
             bytes_mode: BytesMode::Unicode,
             unicode: !self.ascii,
             max_prog_size: Some(self.max_prog_size),
+            max_nesting: Some(self.max_nesting),
         }
     }
 

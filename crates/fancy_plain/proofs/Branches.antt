@@ -14,7 +14,7 @@ use Rattle.fancy_plain.specs.ClassTexts.{texts_of, texts_in, AreClasses}
 use Rattle.fancy_plain.specs.Shapes.{branch_choice, ended_by_jump, with_jumps}
 use Rattle.fancy_plain.specs.Layouts.{points_in, Replaces, Adds}
 use Rattle.fancy_plain.specs.Neighbours.{trees_of}
-use Rattle.fancy_plain.proofs.Nodes.{rest_at}
+use Rattle.fancy_info.proofs.Children.{rest_at}
 use Rattle.fancy_plain.proofs.Laid.{adds_then, same_points, with_jumps_last}
 use Rattle.fancy_plain.proofs.Texts.{texts_more, classes_more}
 

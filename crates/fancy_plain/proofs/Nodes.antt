@@ -1,6 +1,5 @@
 -- The children of an easy node.
-use Rattle.std.proofs.Common.{◌≡◌, ℕ, zero, suc, ◌+◌, ◌<◌, ◌≤◌, ◌==◌, ◌&&◌, false, List, [], ◌∷◌, length, map, drop, get_or, sym, ap, ◌∙◌, subst, arith, add-one}
-use Rattle.std.proofs.Math.Seq.{drop-cons}
+use Rattle.std.proofs.Common.{◌≡◌, ◌<◌, ◌==◌, ◌&&◌, false, List, [], ◌∷◌, length, get_or, sym, ap, ◌∙◌, subst, arith}
 use Rattle.std.proofs.lemmas.Bool.{or_parts}
 use Rattle.fancy_meaning.specs.Tree.{Tree, Trees, trees}
 use Rattle.fancy_meaning.specs.Options.{Analysis}
@@ -9,52 +8,14 @@ use Rattle.fancy_meaning.specs.Sizes.{size}
 use Rattle.fancy_delegation.proofs.EasyNodes.{AllEasy, easy_each}
 use Rattle.fancy_info.specs.declared.info.Info.{Info}
 use Rattle.fancy_info.specs.declared.info.Info.TheViews.{out-Info, roll-out-Info}
-use Rattle.fancy_info.specs.declared.info.Info.TheFolds.{fold-Info, fold_out-Info}
-use Rattle.fancy_info.specs.declared.info.Info.TheOpen.{Info-F}
 use Rattle.fancy_expr.specs.declared.expr.Expr.{Expr}
 use Rattle.fancy_expr.specs.Exprs.{below}
 use Rattle.fancy_info.specs.Infos.{info_tree, info_children, info_size, info_within, info_hard, node_over, IsFound, IsAnalysed, IsRoot}
 use Rattle.fancy_expr.specs.Each.{Each}
+use Rattle.fancy_info.specs.NodeCounts.{node_count, node_counts}
+use Rattle.fancy_info.proofs.Children.{only_one, node_count-below, tree_by}
 use Rattle.fancy_info.proofs.Unfolded.{tree_out, each_here, each_below, each_made}
 use Rattle.fancy_plain.specs.Neighbours.{IsEasy, trees_of}
-
--- ---- lists
-
-pub each_at : {X : Type 0} (P : X → Type 0) (l : List X) (i : ℕ) (x : X) → Each P l → i < length l → x ≡ get_or l i x → P x
-each_at P [] i x h lt e = absurd (omega arith)
-each_at P (y ∷ l) zero x h lt e = subst P (sym e) h.0
-each_at P (y ∷ l) (suc i) x h lt e = each_at P l i x h.1 (omega arith) e
-
-pub rest_at : {X : Type 0} (l : List X) (i : ℕ) (x : X) → i < length l → x ≡ get_or l i x → drop i l ≡ x ∷ drop (i + 1) l
-rest_at l i x h at = drop-cons l i x h ∙ ap (λ y. y ∷ drop (suc i) l) (sym at) ∙ ap (λ k. x ∷ drop k l) (sym (add-one i))
-
-pub only_one : (l : List Info) (d : Info) → length l ≡ 1 → d ≡ get_or l 0 d → l ≡ d ∷ []
-only_one [] d n e = absurd (omega arith)
-only_one (x ∷ []) d n e = ap (λ y. y ∷ []) (sym e)
-only_one (x ∷ y ∷ l) d n e = absurd (omega arith)
-
--- ---- how many nodes there are
-
-abbrev pub total : List ℕ → ℕ
-total [] = 0
-total (n ∷ ns) = n + total ns
-
-abbrev pub size_step : Info-F ℕ → ℕ
-size_step i = suc (total i.children.items)
-
-abbrev pub node_count : Info → ℕ
-node_count = fold-Info ℕ size_step
-
-abbrev pub node_counts : List Info → ℕ
-node_counts is = total (map node_count is)
-
-pub node_count-below : (i : Info) → node_count i ≡ suc (node_counts (info_children i))
-node_count-below i = fold_out-Info ℕ size_step i
-
-pub child_count : (l : List Info) (i : ℕ) (x : Info) → i < length l → x ≡ get_or l i x → node_count x ≤ node_counts l
-child_count [] i x h e = absurd (omega arith)
-child_count (y ∷ l) zero x h e = omega (arith, ap node_count e)
-child_count (y ∷ l) (suc i) x h e = omega (arith, child_count l i x (omega arith) e)
 
 -- ---- easy nodes
 
@@ -69,13 +30,6 @@ module _ (a : Analysis) where
       (record { analysed = h.0; easy = q.0 }, each_easy is h.1 q.1)
 
 module _ (info : Info) where
-  -- the tree by this expression and these children
-  pub tree_by : (e : Expr) (l : List Info) → (out-Info info).expr.now ≡ e → info_children info ≡ l
-      → info_tree info ≡ node_over e (out-Info info).start_group (info_within info) (trees_of l)
-  tree_by e l at kids =
-      tree_out info ∙ ap (λ x. node_over x (out-Info info).start_group (info_within info) (trees_of (info_children info))) at
-      ∙ ap (λ m. node_over e (out-Info info).start_group (info_within info) (trees_of m)) kids
-
   module _ (a : Analysis) (h : IsEasy a info) where
     pub children_analysed : Each (IsAnalysed a) (info_children info)
     children_analysed = each_below (IsFound a) info h.analysed
@@ -104,7 +58,7 @@ module _ (info : Info) where
         smaller_child = omega (arith, node_count-below info, ap node_counts one_child)
 
         pub tree_over : info_tree info ≡ node_over e (out-Info info).start_group (info_within info) (trees (info_tree d ∷ []))
-        tree_over = tree_by e (d ∷ []) at one_child
+        tree_over = tree_by info e (d ∷ []) at one_child
 
         pub easy_child : is_hard a (info_tree d) ≡ false → IsEasy a d
         easy_child easy = record { analysed = (subst (Each (IsAnalysed a)) one_child children_analysed).0; easy = easy }

@@ -6,7 +6,6 @@ pub mod StartRunLaws
 pub mod StartsLaws
 pub mod StepLaws
 pub mod BackLaws
-pub mod CountLaws
 pub mod MeaningLaws
 pub mod MemosLaws
 pub mod PlacesLaws

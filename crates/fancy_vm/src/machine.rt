@@ -48,10 +48,8 @@ pub(crate) enum Next {
     On,
     /// Starts were passed over.
     Passed,
-    /// The match of the machine's slots is answered.
-    Matched,
-    /// The match that is held is answered, or none.
-    Ended,
+    /// The match of the machine's slots is answered, or else the one that is held, or none.
+    Ends { by_slots: bool },
 }
 
 /// Why a run stops without an answer: it passed a limit, or a request for memory was refused.
@@ -124,7 +122,7 @@ impl<'a> Machine<'a> {
             (machine.fail (plain_task self.old.task) (config_of self.old)) result self.new }
     {
         if self.state.backtrack_count() == 0 {
-            return Ok(Next::Ended);
+            return Ok(Next::Ends { by_slots: false });
         }
         if self.backtracks >= self.task.options.backtrack_limit {
             return Err(Stop::Limit(RuntimeError::BacktrackLimitExceeded));

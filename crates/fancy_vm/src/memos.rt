@@ -14,10 +14,10 @@ use fancy_plain::first_way::FirstWay;
 use fancy_plain::search::Memo;
 use std::alloc::{AllocError, Global};
 
-/// A memo, and the run that wrote it.
+/// A memo, in a box since it goes to a search and back, and the run that wrote it.
 #[derive(Drop)]
 pub(crate) struct RunMemo {
-    memo: Memo,
+    memo: Box<Memo>,
     run: u64,
 }
 
@@ -100,7 +100,7 @@ impl Memos {
             });
         }
         let mut memo = self.memo_for(task, fragment, pc)?;
-        let way = first_way_with(task.alloc, fragment, task.text, ix, &mut memo);
+        let way = first_way_with(task.alloc, fragment, task.text, ix, &mut *memo);
         let run = self.run;
         self.by_place[pc] = Some(RunMemo { memo, run });
         way
@@ -112,20 +112,20 @@ impl Memos {
         task: &Task<'_>,
         fragment: &Fragment,
         pc: usize,
-    ) -> Result<Memo, AllocError>
+    ) -> Result<Box<Memo>, AllocError>
         requires here { fragment_at task.now pc ≡ Some fragment.now }
         requires memos { AreMemosOf task.now self.old }
-        ensures memo { IfOk result (IsMemoFor task.now.text.now fragment.now) }
+        ensures memo { IfOk result (λ m. IsMemoFor task.now.text.now fragment.now m.value) }
         ensures room { OnOk result (pc < length self.new.by_place.items) }
         ensures memos { AreMemosOf task.now self.new }
     {
         grow(&mut self.by_place, pc)?;
         let pos = task.options.pos;
         match take_out(&mut self.by_place, pc) {
-            None => Ok(fragment.memo(task.alloc, pos)),
+            None => Ok(Box::new(task.alloc, fragment.memo(task.alloc, pos))?),
             Some(RunMemo { mut memo, run }) => {
                 if run != self.run {
-                    fragment.clear(&mut memo, pos);
+                    fragment.clear(&mut *memo, pos);
                 }
                 Ok(memo)
             }

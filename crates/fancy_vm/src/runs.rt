@@ -243,8 +243,7 @@ impl Machine<'_> {
             match self.step(memos)? {
                 Next::On => {}
                 Next::Passed => left = left.saturating_sub(self.passed),
-                Next::Matched => return Ok(true),
-                Next::Ended => return Ok(false),
+                Next::Ends { by_slots } => return Ok(by_slots),
             }
         }
         Err(Stop::Limit(RuntimeError::StepLimitExceeded))

@@ -14,6 +14,7 @@ pub struct Program {
 pub struct Options {
     pub pos: usize,
     pub max_prog_size: usize,
+    pub max_nesting: usize,
     pub max_depth: usize,
     pub backtrack_limit: usize,
     pub step_limit: u64,

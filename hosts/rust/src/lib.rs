@@ -37,6 +37,7 @@ impl Options {
     setters! {
         pos: usize,
         max_prog_size: usize,
+        max_nesting: usize,
         max_depth: usize,
         backtrack_limit: usize,
         step_limit: u64,

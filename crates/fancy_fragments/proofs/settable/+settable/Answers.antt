@@ -2,7 +2,8 @@ use Rattle.std.proofs.Common.{max, map, ap, sym, ◌∙◌, subst, arith}
 use Rattle.fancy_expr.specs.Each.{Each}
 use Rattle.fancy_info.specs.Infos.{info_tree, IsFound, IsAnalysed}
 use Rattle.fancy_info.proofs.Unfolded.{each_below}
-use Rattle.fancy_plain.proofs.Nodes.{each_at, child_count, node_counts, node_count-below}
+use Rattle.fancy_info.specs.NodeCounts.{node_counts}
+use Rattle.fancy_info.proofs.Children.{each_at, child_count, node_count-below}
 use Rattle.fancy_expr.specs.Views.{tree_of}
 use Rattle.fancy_fragments.specs.Settable.{settable_above, is_way_in}
 use Rattle.fancy_fragments.proofs.SettableNodes.{greater, one_more, node_in, node_out}

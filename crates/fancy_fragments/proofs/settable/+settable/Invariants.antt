@@ -1,6 +1,6 @@
 use Rattle.std.proofs.Common.{◌≡◌, ◌+◌, ◌*◌, map, take}
 use Rattle.fancy_info.specs.Infos.{info_tree}
-use Rattle.fancy_plain.proofs.Nodes.{node_count, node_counts}
+use Rattle.fancy_info.specs.NodeCounts.{node_count, node_counts}
 use Rattle.fancy_fragments.specs.Settable.{settable_above}
 use Rattle.fancy_fragments.proofs.settable.+settable.Given as goal
 

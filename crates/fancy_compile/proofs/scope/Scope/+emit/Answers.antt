@@ -68,12 +68,21 @@ emit-returns-then-is_batch t c = λ p call u known.
     (subst (λ l. Writes p (batch p.unicode (map info_tree l)) (map info_tree l) s z) alone
     (c.emit_batch.ensures p u.unicode (subst (Each (IsEasy p.analysis)) (sym alone) (easy_known p.analysis i known easy, tt))))
 
-pub emit-returns-else-is_batch : goal.emit-returns-else-is_batch
-emit-returns-else-is_batch t c = λ p call u known.
-    let i = c.args.info.now in
+pub emit-returns-else-enter : goal.emit-returns-else-enter
+emit-returns-else-enter t c = λ p call u known. c.enter.ensures.refused c.if-enter.false p _ _
+
+pub emit-returns-then-enter : goal.emit-returns-then-enter
+emit-returns-then-enter t c = λ p call u known.
+    let e = info_tree c.args.info.now in
+    let s = draft_of c.args.writer.now in
+    let z = draft_of c.emit_node.new.writer in
     let out = sym c.is_batch.ensures ∙ c.if-is_batch.false in
-    subst (λ k. Writes p k (info_tree i ∷ []) (draft_of c.args.writer.now) (draft_of c.emit_node.new.writer))
-    (sym (cond-false (not (info_hard i) && not c.args.in_hard) _ _ out)) (c.emit_node.ensures p call u known)
+    let entered : draft_of c.enter.new.self ≡ s = ap draft_of (c.enter.ensures.entered c.if-enter.true) in
+    let left : draft_of c.leave.new.self ≡ z = ap draft_of c.leave.ensures in
+    let k = written_code p call e c.args.at_start c.args.in_hard in
+    subst (λ k. Writes p k (e ∷ []) s (draft_of c.leave.new.self)) (sym (cond-false (not (info_hard c.args.info.now) && not c.args.in_hard) _ _ out))
+    (subst (λ d. Writes p k (e ∷ []) s d) (sym left)
+    (subst (λ d. Writes p k (e ∷ []) d z) entered (c.emit_node.ensures p call u known)))
 
 -- ---- concatenations
 

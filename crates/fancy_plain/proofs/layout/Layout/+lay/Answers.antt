@@ -15,7 +15,9 @@ use Rattle.fancy_plain.specs.Views.{point_of, loop_of}
 use Rattle.fancy_plain.specs.Shapes.{form_of, branch_choice, group_code, with_jumps}
 use Rattle.fancy_plain.specs.Layouts.{Replaces, Lays, points_in}
 use Rattle.fancy_plain.specs.Neighbours.{IsEasy, trees_of}
-use Rattle.fancy_plain.proofs.Nodes.{node_counts, node_count-below, child_count, each_at, easy_kids, easy_size, tree_by, has_one, smaller_child, tree_over, easy_child}
+use Rattle.fancy_info.specs.NodeCounts.{node_counts}
+use Rattle.fancy_info.proofs.Children.{node_count-below, child_count, each_at, tree_by}
+use Rattle.fancy_plain.proofs.Nodes.{easy_kids, easy_size, has_one, smaller_child, tree_over, easy_child}
 use Rattle.fancy_plain.proofs.Laid.{place, same_points, replaced_then, replaced_same, lays_behind, lays_before, adds_behind, adds_before, adds_headed, adds_around, lays_at, lays_fault}
 use Rattle.fancy_plain.proofs.Texts.{lays_fault_at, lays_parts, lays_part, repeat_parts, form_enters}
 use Rattle.fancy_plain.proofs.Branches.{sequence_step, sequence_end, with_branches, branch_step, branch_end, classes_step, classes_end}

@@ -7,7 +7,7 @@ use Rattle.fancy_plain.specs.Shapes.{with_jumps}
 use Rattle.fancy_plain.specs.Layouts.{Replaces, points_in}
 use Rattle.fancy_plain.specs.Neighbours.{IsEasy, trees_of}
 use Rattle.fancy_plain.proofs.Branches.{AddsEach, with_branches}
-use Rattle.fancy_plain.proofs.Nodes.{node_count, node_counts}
+use Rattle.fancy_info.specs.NodeCounts.{node_count, node_counts}
 use Rattle.fancy_plain.proofs.layout.Layout.+lay.Given as goal
 
 abbrev pub decreases-lay : goal.decreases-lay

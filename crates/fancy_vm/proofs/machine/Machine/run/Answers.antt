@@ -1,11 +1,11 @@
 use Rattle.std.proofs.Common.{◌≡◌, ◌-◌, ℕ, sym, ap, ◌∙◌, subst, refl, Err, IsTrue}
 use Rattle.std.proofs.lemmas.Result.{err_from_is_err_and}
-use Rattle.fancy_meaning.specs.Config.{Ends, Goes, Match, Outcome, outcome_of}
+use Rattle.fancy_meaning.specs.Config.{Ends, Goes, Outcome}
 use Rattle.fancy_meaning.specs.Machine as machine
 use Rattle.fancy_meaning.specs.Places.{is_place}
 use Rattle.fancy_laws.proofs.Every.{no_item}
 use Rattle.fancy_vm.specs.Memos.{AreMemosOf}
-use Rattle.fancy_vm.specs.Outcomes.{StepAnswers, config_of, plain_task, Finds}
+use Rattle.fancy_vm.specs.Outcomes.{StepAnswers, config_of, ending, plain_task, Finds}
 use Rattle.fancy_vm.specs.declared.machine.Task.{Task}
 use Rattle.fancy_vm.proofs.PlacesLaws.{GoesToPlaces, IsAtPlaces, step_at_leads}
 use Rattle.fancy_vm.proofs.StartsLaws.{all_at_places, runs_past}
@@ -86,29 +86,15 @@ returns-in_err-step-clause-finds c =
 pub returns-in_err-step-clause-task : goal.returns-in_err-step-clause-task
 returns-in_err-step-clause-task c = c.in_err-step.ensures.task ∙ c.steps.invariant.task
 
-pub returns-in-Matched-clause-task : goal.returns-in-Matched-clause-task
-returns-in-Matched-clause-task c = c.in_ok-step.ensures.task ∙ c.steps.invariant.task
+pub returns-in-Ends-clause-task : goal.returns-in-Ends-clause-task
+returns-in-Ends-clause-task c = c.in_ok-step.ensures.task ∙ c.steps.invariant.task
 
-pub returns-in-Ended-clause-task : goal.returns-in-Ended-clause-task
-returns-in-Ended-clause-task c = c.in_ok-step.ensures.task ∙ c.steps.invariant.task
-
-pub returns-in-Matched-clause-finds : goal.returns-in-Matched-clause-finds
-returns-in-Matched-clause-finds c =
-    let task = c.args.self.now.task in
-    let now = config_of c.steps.self in
-    let new = c.step.new.self in
-    let left : ℕ = c.steps.left in
-    let found = Ends (Match (machine.numbers_of (plain_task new.task) (config_of new))) in
-    let leads : next_of (plain_task task) now ≡ found =
-    subst (λ (t : Task). next_of (plain_task t) now ≡ found) c.steps.invariant.task (rw c.in-Matched.is at c.in_ok-step.ensures.leads) in
-    sym c.steps.invariant.same ∙ runs_out (plain_task task) now left _ c.steps-test.true leads
-
-pub returns-in-Ended-clause-finds : goal.returns-in-Ended-clause-finds
-returns-in-Ended-clause-finds c =
+pub returns-in-Ends-clause-finds : goal.returns-in-Ends-clause-finds
+returns-in-Ends-clause-finds c =
     let task = c.args.self.now.task in
     let now = config_of c.steps.self in
     let left : ℕ = c.steps.left in
-    let held = Ends (outcome_of (config_of c.step.new.self).longest) in
-    let leads : next_of (plain_task task) now ≡ held =
-    subst (λ (t : Task). next_of (plain_task t) now ≡ held) c.steps.invariant.task (rw c.in-Ended.is at c.in_ok-step.ensures.leads) in
+    let end = Ends (ending c.in-Ends.by_slots c.step.new.self) in
+    let leads : next_of (plain_task task) now ≡ end =
+    subst (λ (t : Task). next_of (plain_task t) now ≡ end) c.steps.invariant.task (rw c.in-Ends.is at c.in_ok-step.ensures.leads) in
     sym c.steps.invariant.same ∙ runs_out (plain_task task) now left _ c.steps-test.true leads

@@ -1,22 +1,31 @@
-use Rattle.std.proofs.Common.{Some, ap, subst, sym, ◌∙◌}
+use Rattle.std.proofs.Common.{Box, Global, Some, ap, refl, subst, sym, ◌∙◌}
 use Rattle.fancy_fragments.specs.Fragments.{IsMemoFor}
-use Rattle.fancy_vm.proofs.MemosLaws.{take_adds}
+use Rattle.fancy_plain.specs.declared.search.Memo.{Memo}
+use Rattle.fancy_vm.proofs.MemosLaws.{memos_left}
 use Rattle.fancy_vm.proofs.memos.Memos.memo_for.Goals as goal
 use Rattle.fancy_vm.proofs.memos.Memos.memo_for.Goals.{then-run-self, else-run-self}
 
-pub returns-in-None-clause-memos : goal.returns-in-None-clause-memos
-returns-in-None-clause-memos c = record {
-  each = λ pc memo stands same.
-      c.requires.memos.each pc memo (c.in_ok-grow.ensures.same pc memo (take_adds _ c.args.pc pc memo (rw c.take_out.ensures.rest at stands))) same;
-}
+pub returns-in_err-new-in-None-clause-memos : goal.returns-in_err-new-in-None-clause-memos
+returns-in_err-new-in-None-clause-memos c =
+    memos_left _ _ _ _ c.args.pc c.requires.memos c.in_ok-grow.ensures.same c.take_out.ensures.rest refl
+
+pub returns-in_ok-new-in-None-clause-memo : goal.returns-in_ok-new-in-None-clause-memo
+returns-in_ok-new-in-None-clause-memo c =
+    let text = c.args.task.now.text.now in
+    subst (IsMemoFor text c.args.fragment.now) (sym c.in_ok-new-in-None.ensures.ok) (c.memo.ensures text)
+
+pub returns-in_ok-new-in-None-clause-memos : goal.returns-in_ok-new-in-None-clause-memos
+returns-in_ok-new-in-None-clause-memos c =
+    memos_left _ _ _ _ c.args.pc c.requires.memos c.in_ok-grow.ensures.same c.take_out.ensures.rest refl
 
 pub returns-after-run-self-clause-memo : goal.returns-after-run-self-clause-memo
 returns-after-run-self-clause-memo c =
-    let is_memo = IsMemoFor c.args.task.now.text.now c.args.fragment.now in
+    let text = c.args.task.now.text.now in
+    let is_memo : Box Memo Global → Type 0 = λ m. IsMemoFor text c.args.fragment.now m.value in
     let pc = c.args.pc in
     let found = c.in-Some.field-0 in
     elim c.if-run-self.branch [
-      | then-run-self w ↦ subst is_memo (sym w.memo-is) (w.clear.ensures c.args.task.now.text.now)
+      | then-run-self w ↦ subst is_memo (sym w.memo-is) (w.clear.ensures text)
       | else-run-self w ↦
           subst is_memo (sym w.memo-is)
           (c.requires.memos.each pc found (c.in_ok-grow.ensures.same pc found (c.take_out.ensures.found ∙ ap Some c.in-Some.is))
@@ -24,7 +33,5 @@ returns-after-run-self-clause-memo c =
     ]
 
 pub returns-after-run-self-clause-memos : goal.returns-after-run-self-clause-memos
-returns-after-run-self-clause-memos c = record {
-  each = λ pc memo stands same.
-      c.requires.memos.each pc memo (c.in_ok-grow.ensures.same pc memo (take_adds _ c.args.pc pc memo (rw c.take_out.ensures.rest at stands))) same;
-}
+returns-after-run-self-clause-memos c =
+    memos_left _ _ _ _ c.args.pc c.requires.memos c.in_ok-grow.ensures.same c.take_out.ensures.rest refl
