@@ -1,7 +1,8 @@
 /* Compiles one tree that nests so deep, and searches for it, on a thread with a stack of so many bytes; prints the name of
  * what came of it.
  *
- * depth STACK DEPTH MAX_DEPTH OPEN MIDDLE CLOSE TEXT   OPEN and CLOSE so many times, with MIDDLE between them */
+ * depth STACK DEPTH MAX_DEPTH MAX_NESTING OPEN MIDDLE CLOSE TEXT   OPEN and CLOSE so many times, with MIDDLE between them;
+ * `default` for MAX_DEPTH or MAX_NESTING is the default of the library */
 #define _GNU_SOURCE
 #include "fancy.h"
 #include <pthread.h>
@@ -47,12 +48,15 @@ static void *ask(void *asked)
 
 int main(int argc, char **argv)
 {
-    if (argc != 8)
+    if (argc != 9)
         return 2;
-    struct question question = {written_out(strtoull(argv[2], NULL, 10), argv[4], argv[5], argv[6]), argv[7],
+    struct question question = {written_out(strtoull(argv[2], NULL, 10), argv[5], argv[6], argv[7]), argv[8],
                                 fancy_default_options()};
     if (strcmp(argv[3], "default") != 0)
         question.options.max_depth = strtoull(argv[3], NULL, 10);
+    if (strcmp(argv[4], "default") != 0)
+        question.options.max_nesting = strtoull(argv[4], NULL, 10);
+    question.options.max_prog_size = SIZE_MAX;
     pthread_attr_t attributes;
     pthread_t thread;
     pthread_attr_init(&attributes);

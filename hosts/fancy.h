@@ -60,8 +60,8 @@ struct fancy_program {
 struct fancy_options {
     size_t pos;             /* where the search begins, a byte of the text; 0 */
     size_t max_prog_size;   /* how many instructions a program may have; 100,000 */
-    size_t max_nesting;     /* how many nodes may be written out in one another, calls with them; 500, for a stack of 2 MB */
-    size_t max_depth;       /* how deep a tree may nest, in parentheses; 50, for a stack of 2 MB: see fancy_compile */
+    size_t max_nesting;     /* how many nodes may be written out in one another, calls with them; 1,000, for a stack of 2 MB */
+    size_t max_depth;       /* how deep a tree may nest, in parentheses; 250, for a stack of 2 MB: see fancy_compile */
     size_t backtrack_limit; /* how often a search may fall back to a branch; 1,000,000 */
     uint64_t step_limit;    /* how many instructions a search may execute; UINT64_MAX */
     bool compile_anchored;  /* only the first start is tried: for fancy_compile */
@@ -87,9 +87,9 @@ struct fancy_options fancy_default_options(void);
  * tree if the code is FANCY_OK, and nothing otherwise.
  *
  * What reads, compiles and frees a tree recurses over it, so a tree in which more than max_depth parentheses are open at
- * one place is refused before it is read. The default is for a stack of 2 MB; on one of 512 kB set it to 12, and with a
+ * one place is refused before it is read. The default is for a stack of 2 MB; on one of 512 kB set it to 60, and with a
  * greater one more levels may be asked for, as docs/MEANING.md says. A call is written out where it stands, so calls nest
- * deeper than the text: more nodes in one another than max_nesting are refused as FANCY_MEMORY; on 512 kB set it to 120. */
+ * deeper than the text: more nodes in one another than max_nesting are refused as FANCY_MEMORY; on 512 kB set it to 250. */
 struct fancy_outcome fancy_compile(const uint8_t *tree, size_t tree_length, const struct fancy_options *options,
                                    struct fancy_program *program);
 

@@ -120,7 +120,7 @@ analysis a = record {
 }
 
 abbrev pub most_nesting : ℕ
-most_nesting = 2_000
+most_nesting = 4_000
 
 abbrev pub compilation : Arguments → CompileOptions
 compilation a = record {

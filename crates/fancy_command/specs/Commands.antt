@@ -48,7 +48,7 @@ pub data Stream : Type 0 where
 
 -- how deep TREE may nest
 abbrev pub most_depth : ℕ
-most_depth = 200
+most_depth = 1_000
 
 -- the line that words are answered with, the stream that it is written on, and the status once it is written
 pub data Reports (words : List Text) : Stream → Text → ℕ → Type 0 where

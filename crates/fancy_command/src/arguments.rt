@@ -13,7 +13,7 @@ use fancy_vm::vm::RunOptions;
 
 /// How many nodes may be written out in one another, calls with them: a group that calls itself is written out where it
 /// calls, so calls nest deeper than the text does.
-const MOST_NESTING: usize = 2_000;
+const MOST_NESTING: usize = 4_000;
 
 /// An option that stands alone.
 #[derive(Clone, Copy, Debug, PartialEq, Eq, Drop)]

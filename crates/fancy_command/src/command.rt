@@ -17,7 +17,7 @@ use std::io::Write;
 
 /// How deep a tree may nest. What reads, compiles and frees a tree recurses over it, so a deeper one could pass the end
 /// of the native stack.
-pub const MOST_DEPTH: usize = 200;
+pub const MOST_DEPTH: usize = 1_000;
 
 /// What a command line asks.
 #[derive(Clone, Copy, Drop)]

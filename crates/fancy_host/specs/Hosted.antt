@@ -37,8 +37,8 @@ abbrev pub default_options : FancyOptions
 default_options = record {
   pos = 0;
   max_prog_size = 100_000;
-  max_nesting = 500;
-  max_depth = 50;
+  max_nesting = 1_000;
+  max_depth = 250;
   backtrack_limit = 1_000_000;
   step_limit = 2 ^ 64 - 1;
   compile_anchored = false;

@@ -47,8 +47,8 @@ impl Default for FancyOptions {
         FancyOptions {
             pos: 0,
             max_prog_size: 100_000,
-            max_nesting: 500,
-            max_depth: 50,
+            max_nesting: 1_000,
+            max_depth: 250,
             backtrack_limit: 1_000_000,
             step_limit: u64::MAX,
             compile_anchored: false,

@@ -1,5 +1,5 @@
 -- The next match of a text lies ahead of the last one, and behind it lie all others.
-use Rattle.std.proofs.Common.{◌≡◌, ◌≤◌, ◌-◌, ℕ, zero, suc, List, [], ◌∷◌, map, take, Option, Some, None, Ok, option_map, true, refl, sym, ap, ap₂, ◌∙◌, subst, arith, ne_eqb, ◌==◌, if◌then◌else◌}
+use Rattle.std.proofs.Common.{◌≡◌, ◌≤◌, ◌-◌, ℕ, zero, suc, List, [], ◌∷◌, map, take, Option, Some, None, Result, Ok, Err, option_map, true, refl, sym, ap, ap₂, ◌∙◌, subst, arith, ne_eqb, ◌==◌, if◌then◌else◌}
 use Rattle.std.proofs.Math.Logic.{∥∥₁_elim}
 use Rattle.std.proofs.Props.{props}
 use Rattle.std.specs.Coded.{le_prop}
@@ -7,16 +7,17 @@ use Rattle.fancy_meaning.specs.MatchState.{Span}
 use Rattle.fancy_meaning.specs.Options as plain
 use Rattle.fancy_meaning.specs.Places.{is_place}
 use Rattle.fancy_meaning.specs.Premises.{Input, IsText, plan}
+use Rattle.fancy_expr.specs.declared.error.Error.{Error}
 use Rattle.fancy_search.specs.Searches.{IsCompiledFrom}
 use Rattle.fancy_vm.specs.Outcomes.{first_pair}
 use Rattle.fancy_vm.specs.Programs.{options_of as run_options_of}
 use Rattle.fancy_matches.specs.Listing.{AreApart, Standing, all_matches}
-use Rattle.fancy_matches.specs.Regexes.{IsRegexOf, StepsTo, captures_text, left_of, numbers_in, standing_of, with_numbers}
+use Rattle.fancy_matches.specs.Regexes.{FailsBy, IsRegexOf, StepsTo, captures_text, left_of, numbers_in, standing_of, with_numbers}
 use Rattle.fancy_matches.specs.declared.found.Captures.{Captures}
 use Rattle.fancy_matches.specs.declared.regexes.Regex.{Regex}
 use Rattle.fancy_matches.proofs.Lists.{matches_apart}
-use Rattle.fancy_replace.specs.Pieces.{at_most_pieces, firsts, pieces_between}
-use Rattle.fancy_replace.specs.Steps.{AreAhead, HasAllCuts, IsNextCut, cuts_left, rest_of}
+use Rattle.fancy_replace.specs.Pieces.{at_most_pieces, pieces_between, take_limit}
+use Rattle.fancy_replace.specs.Steps.{AreAhead, HasAllCuts, IsAhead, IsNextCut, cuts_left, rest_of}
 use Rattle.fancy_replace.specs.declared.cuts.Cut.{Cut}
 use Rattle.fancy_replace.specs.declared.cuts.Cuts.{Cuts}
 
@@ -36,11 +37,11 @@ all_ahead i text o is = ahead_of_apart text None _ (matches_apart (plan i) text 
 
 -- ---- within a limit
 
-pub firsts_more : (limit : Option ℕ) (m : List ℕ) (ms : List (List ℕ)) → ¬ (limit ≡ Some 0) →
-    firsts limit (m ∷ ms) ≡ m ∷ firsts (option_map (λ n. n - 1) limit) ms
-firsts_more None m ms some = refl
-firsts_more (Some zero) m ms some = absurd (some refl)
-firsts_more (Some (suc n)) m ms some = ap (λ k. m ∷ take k ms) (omega arith)
+pub take_limit-cons : (limit : Option ℕ) (m : List ℕ) (ms : List (List ℕ)) → ¬ (limit ≡ Some 0) →
+    take_limit limit (m ∷ ms) ≡ m ∷ take_limit (option_map (λ n. n - 1) limit) ms
+take_limit-cons None m ms some = refl
+take_limit-cons (Some zero) m ms some = absurd (some refl)
+take_limit-cons (Some (suc n)) m ms some = ap (λ k. m ∷ take k ms) (omega arith)
 
 -- ---- a step
 
@@ -58,45 +59,66 @@ unfolding head_text
 first_text text within m [] rest e = sym (ap (head_text text) e)
 first_text text within m (n ∷ ms) rest e = sym (ap (head_text text) e)
 
-module _ (r : Regex) (text : List ℕ) (from : ℕ) (s t : Standing) (c : Captures)
-    (ahead : (i : Input) (o : plain.RunOptions) → IsRegexOf i o r → AreAhead text from (map first_pair (left_of i text o s)))
-    (steps : (i : Input) (o : plain.RunOptions) → IsRegexOf i o r → StepsTo i text o s (Some (Ok c)) t) where
-  pub next_is : (i : Input) (o : plain.RunOptions) → IsRegexOf i o r → left_of i text o s ≡ numbers_in c ∷ left_of i text o t
-  next_is i o h =
-      sym (numbers_back text (left_of i text o s)) ∙ ap (map (λ (p : List ℕ × List ℕ). p.1)) (steps i o h)
-      ∙ ap (λ rest. numbers_in c ∷ rest) (numbers_back text (left_of i text o t))
+-- what a search answered where the text was gone through so far
+module _ (r : Regex) (s : Cuts) (ahead : IsAhead r s) (found : Option (Result Captures Error)) (t : Standing)
+    (list : (i : Input) (o : plain.RunOptions) → IsRegexOf i o r → StepsTo i s.text.now o (standing_of s.standing) found t) where
+  abbrev text : List ℕ
+  text = s.text.now
 
-  pub next_text : (i : Input) (o : plain.RunOptions) → IsRegexOf i o r → captures_text c ≡ text
-  next_text i o h = first_text text (captures_text c) (numbers_in c) (left_of i text o s) (left_of i text o t) (steps i o h)
+  module _ (c : Captures) (is : found ≡ Some (Ok c)) where
+    steps : (i : Input) (o : plain.RunOptions) → IsRegexOf i o r → StepsTo i text o (standing_of s.standing) (Some (Ok c)) t
+    steps i o h = subst (λ x. StepsTo i text o (standing_of s.standing) x t) is (list i o h)
 
-  parts : (i : Input) (o : plain.RunOptions) → IsRegexOf i o r →
-      AreAhead text from (first_pair (numbers_in c) ∷ map first_pair (left_of i text o t))
-  parts i o h = subst (λ ms. AreAhead text from (map first_pair ms)) (next_is i o h) (ahead i o h)
+    pub next_is : (i : Input) (o : plain.RunOptions) → IsRegexOf i o r →
+        left_of i text o (standing_of s.standing) ≡ numbers_in c ∷ left_of i text o t
+    next_is i o h =
+        sym (numbers_back text (left_of i text o (standing_of s.standing)))
+        ∙ ap (map (λ (p : List ℕ × List ℕ). p.1)) (steps i o h)
+        ∙ ap (λ rest. numbers_in c ∷ rest) (numbers_back text (left_of i text o t))
 
-  pub rest_ahead : (i : Input) (o : plain.RunOptions) → IsRegexOf i o r →
-      AreAhead text (first_pair (numbers_in c)).1 (map first_pair (left_of i text o t))
-  rest_ahead i o h = (parts i o h).1.1
+    pub next_text : (i : Input) (o : plain.RunOptions) → IsRegexOf i o r → captures_text c ≡ text
+    next_text i o h =
+        first_text text (captures_text c) (numbers_in c) (left_of i text o (standing_of s.standing)) (left_of i text o t) (steps i o h)
 
-  module _ (source : ∥ ((i : Input) × IsCompiledFrom i r.compiled) ∥₁) where
+    parts : (i : Input) (o : plain.RunOptions) → IsRegexOf i o r →
+        AreAhead text s.from (first_pair (numbers_in c) ∷ map first_pair (left_of i text o t))
+    parts i o h = subst (λ ms. AreAhead text s.from (map first_pair ms)) (next_is i o h) (ahead.spans i o h)
+
+    pub rest_ahead : (i : Input) (o : plain.RunOptions) → IsRegexOf i o r →
+        AreAhead text (first_pair (numbers_in c)).1 (map first_pair (left_of i text o t))
+    rest_ahead i o h = (parts i o h).1.1
+
     of_source : (i : Input) → IsCompiledFrom i r.compiled → IsRegexOf i (run_options_of r.options) r
     of_source i compiled = record { compiled = compiled; options = refl }
 
-    pub next_begins : from ≤ (first_pair (numbers_in c)).0
-    next_begins = ∥∥₁_elim source le_prop (λ i. (parts i.0 (run_options_of r.options) (of_source i.0 i.1)).0)
+    pub next_begins : s.from ≤ (first_pair (numbers_in c)).0
+    next_begins = ∥∥₁_elim r.source le_prop (λ i. (parts i.0 (run_options_of r.options) (of_source i.0 i.1)).0)
 
     pub next_starts_at_place : is_place text (first_pair (numbers_in c)).0 ≡ true
-    next_starts_at_place = ∥∥₁_elim source (Prim.hlevel props) (λ i. (parts i.0 (run_options_of r.options) (of_source i.0 i.1)).1.0.from)
+    next_starts_at_place =
+        ∥∥₁_elim r.source (Prim.hlevel props) (λ i. (parts i.0 (run_options_of r.options) (of_source i.0 i.1)).1.0.from)
 
     pub next_ends_at_place : is_place text (first_pair (numbers_in c)).1 ≡ true
-    next_ends_at_place = ∥∥₁_elim source (Prim.hlevel props) (λ i. (parts i.0 (run_options_of r.options) (of_source i.0 i.1)).1.0.to)
+    next_ends_at_place =
+        ∥∥₁_elim r.source (Prim.hlevel props) (λ i. (parts i.0 (run_options_of r.options) (of_source i.0 i.1)).1.0.to)
+
+  module _ (e : Error) (is : found ≡ Some (Err e)) (i : Input) (o : plain.RunOptions) (of : IsRegexOf i o r) where
+    failed : FailsBy i text o (standing_of s.standing) e × (left_of i text o t ≡ [])
+    failed = subst (λ x. StepsTo i text o (standing_of s.standing) x t) is (list i o of)
+
+    pub fails : FailsBy i text o (standing_of s.standing) e
+    fails = failed.0
+
+    pub none_ahead : AreAhead text s.from (map first_pair (left_of i text o t))
+    none_ahead = subst (λ ms. AreAhead text s.from (map first_pair ms)) (sym failed.1) tt
 
 -- ---- the pieces that are left
 
 pub cuts_next : (i : Input) (o : plain.RunOptions) (s : Cuts) (c : Cut) (t : Cuts) → IsNextCut i o s c t →
     cuts_left i o s ≡ numbers_in c.captures ∷ cuts_left i o t
 cuts_next i o s c t h =
-    ap (firsts s.limit) h.found ∙ firsts_more s.limit (numbers_in c.captures) (left_of i t.text.now o (standing_of t.standing)) h.within_limit
-    ∙ ap (λ limit. numbers_in c.captures ∷ firsts limit (left_of i t.text.now o (standing_of t.standing))) (sym h.limit)
+    ap (take_limit s.limit) h.found ∙ take_limit-cons s.limit (numbers_in c.captures) (left_of i t.text.now o (standing_of t.standing)) h.within_limit
+    ∙ ap (λ limit. numbers_in c.captures ∷ take_limit limit (left_of i t.text.now o (standing_of t.standing))) (sym h.limit)
 
 pub piece_next : (i : Input) (o : plain.RunOptions) (s : Cuts) (c : Cut) (t : Cuts) → t.text.now ≡ s.text.now → IsNextCut i o s c t →
     pieces_between s.text.now s.from (cuts_left i o s) ≡ c.piece.now ∷ pieces_between t.text.now t.from (cuts_left i o t)
@@ -110,10 +132,10 @@ piece_last i o s t within h =
     ap (pieces_between s.text.now s.from) h.0 ∙ ap₂ (λ text from. pieces_between text from []) (sym within) (sym h.1)
 
 pub first_pieces : (i : Input) (o : plain.RunOptions) (text : List ℕ) (most : Option ℕ) (s : Cuts) → HasAllCuts text most s →
-    pieces_between s.text.now s.from (cuts_left i o s) ≡ pieces_between text 0 (firsts most (all_matches (plan i) text o))
+    pieces_between s.text.now s.from (cuts_left i o s) ≡ pieces_between text 0 (take_limit most (all_matches (plan i) text o))
 first_pieces i o text most s h =
     ap₂ (λ t from. pieces_between t from (cuts_left i o s)) h.within h.from
-    ∙ ap₂ (λ limit ms. pieces_between text 0 (firsts limit ms)) h.limit (h.all i o)
+    ∙ ap₂ (λ limit ms. pieces_between text 0 (take_limit limit ms)) h.limit (h.all i o)
 
 pub pieces_within : (text : List ℕ) (limit cuts : ℕ) (ms : List (List ℕ)) → cuts ≡ limit - 1 →
     (if limit == 0 then [] else pieces_between text 0 (take cuts ms)) ≡ at_most_pieces text limit ms

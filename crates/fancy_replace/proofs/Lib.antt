@@ -1,2 +1,4 @@
 pub mod Cutting
+pub mod Naming
 pub mod Replacing
+pub mod Tokenizing

@@ -10,42 +10,44 @@ use Rattle.fancy_vm.specs.Outcomes.{first_pair}
 use Rattle.fancy_matches.specs.Listing.{all_matches, in_turn, part}
 use Rattle.fancy_matches.specs.Regexes.{FailsBy, IsRegexOf, IsSame, captures_text, left_of, numbers_in, standing_of}
 use Rattle.fancy_matches.specs.declared.regexes.Regex.{Regex}
-use Rattle.fancy_replace.specs.Pieces.{IsBelow, firsts, pieces_between, replaced}
-use Rattle.fancy_replace.specs.Replacements.{FailsAfter, Replaces, WritesMatch, chosen}
-use Rattle.fancy_replace.specs.Steps.{HasAllCuts, IsAhead, IsNextCut, cuts_left, rest_of}
+use Rattle.fancy_replace.specs.Pieces.{IsBelow, pieces_between, rewrite, take_limit}
+use Rattle.fancy_replace.specs.Replacements.{FailsAfter, Replaces, WritesMatch, to_replace}
+use Rattle.fancy_replace.specs.Steps.{HasAllCuts, IsAhead, IsNextCut, NextCut, StepsToCut, cuts_left, rest_of}
 use Rattle.fancy_replace.specs.declared.cuts.Cut.{Cut}
 use Rattle.fancy_replace.specs.declared.cuts.Cuts.{Cuts}
 use Rattle.std.specs.Cow.{cow_str_bytes}
 use Rattle.std.specs.declared.alloc.Global.{Global}
 use Rattle.std.specs.declared.borrow.CowStr.{CowStr}
 use Rattle.fancy_matches.proofs.Lists.{pieces_join}
-use Rattle.fancy_replace.proofs.Cutting.{firsts_more}
+use Rattle.fancy_matches.proofs.Stepping.{of_same}
+use Rattle.fancy_replace.proofs.Cutting.{take_limit-cons}
 
 abbrev left_in : Input → plain.RunOptions → List ℕ → Cuts → List (List ℕ)
-left_in i o text s = firsts s.limit (left_of i text o (standing_of s.standing))
+left_in i o text s = take_limit s.limit (left_of i text o (standing_of s.standing))
 
 -- pieces and what is written in turn, from where a text was gone through to
-abbrev rest_replaced : (List ℕ → List ℕ) → List ℕ → ℕ → List (List ℕ) → List ℕ
-rest_replaced written text from ms = in_turn (pieces_between text from ms) (map written ms)
+abbrev rest_rewrite : (List ℕ → List ℕ) → List ℕ → ℕ → List (List ℕ) → List ℕ
+rest_rewrite replacement text from ms = in_turn (pieces_between text from ms) (map replacement ms)
 
--- so many matches of the chosen were gone through, and what was written goes on to the whole
-pub record IsDone (i : Input) (o : plain.RunOptions) (text : List ℕ) (most : Option ℕ) (written : List ℕ → List ℕ)
+-- so many of the matches to be replaced were gone through, and what was written goes on to the whole
+pub record IsDone (i : Input) (o : plain.RunOptions) (text : List ℕ) (most : Option ℕ) (replacement : List ℕ → List ℕ)
     (s : Cuts) (out : List ℕ) (is_same : Bool) : Type 0 where
   pub count : ℕ
   pub left : left_of i text o (standing_of s.standing) ≡ drop count (all_matches (plan i) text o)
   pub limit : s.limit ≡ option_map (λ n. n - count) most
-  pub value : out ++ rest_replaced written text s.from (left_in i o text s) ≡ replaced written text (chosen i o text most)
-  pub fresh : is_same ≡ true → left_in i o text s ≡ chosen i o text most
-  pub some : is_same ≡ false → ¬ (chosen i o text most ≡ [])
+  pub value : out ++ rest_rewrite replacement text s.from (left_in i o text s) ≡ rewrite replacement text (to_replace i o text most)
+  pub fresh : is_same ≡ true → left_in i o text s ≡ to_replace i o text most
+  pub some : is_same ≡ false → ¬ (to_replace i o text most ≡ [])
 
 -- and the regex is of the same tree
-pub record GoesOn (r q : Regex) (text : List ℕ) (most : Option ℕ) (written : List ℕ → List ℕ) (s : Cuts) (out : List ℕ) (is_same : Bool) : Type 0 where
+pub record GoesOn (r q : Regex) (text : List ℕ) (most : Option ℕ) (replacement : List ℕ → List ℕ) (s : Cuts)
+    (out : List ℕ) (is_same : Bool) : Type 0 where
   pub same : IsSame r q
   pub within : s.text.now ≡ text
   pub ahead : IsAhead q s
-  pub done : (i : Input) (o : plain.RunOptions) → IsRegexOf i o r → IsDone i o text most written s out is_same
+  pub done : (i : Input) (o : plain.RunOptions) → IsRegexOf i o r → IsDone i o text most replacement s out is_same
 
-pub same_twice : (r s t : Regex) → IsSame r s → IsSame s t → IsSame r t
+same_twice : (r s t : Regex) → IsSame r s → IsSame s t → IsSame r t
 same_twice r s t a b = (b.0 ∙ a.0, b.1 ∙ a.1)
 
 less_none : (most : Option ℕ) → most ≡ option_map (λ n. n - 0) most
@@ -68,21 +70,21 @@ below_limit (Some n) limit count e some =
 
 -- ---- at the start
 
-pub at_first : (r : Regex) (text : List ℕ) (most : Option ℕ) (written : List ℕ → List ℕ) (s : Cuts) (out : List ℕ) → HasAllCuts text most s →
-    out ≡ [] → GoesOn r r text most written s out true
-at_first r text most written s out h none = record {
+pub at_first : (r : Regex) (text : List ℕ) (most : Option ℕ) (replacement : List ℕ → List ℕ) (s : Cuts) (out : List ℕ) → HasAllCuts text most s →
+    out ≡ [] → GoesOn r r text most replacement s out true
+at_first r text most replacement s out h none = record {
   same = (refl, refl);
   within = h.within;
   ahead = h.ahead r;
   done = λ i o of.
       let all : left_of i text o (standing_of s.standing) ≡ all_matches (plan i) text o =
       ap (λ t. left_of i t o (standing_of s.standing)) (sym h.within) ∙ h.all i o in
-      let left : left_in i o text s ≡ chosen i o text most = ap₂ firsts h.limit all in
+      let left : left_in i o text s ≡ to_replace i o text most = ap₂ take_limit h.limit all in
       record {
         count = 0;
         left = all;
         limit = h.limit ∙ less_none most;
-        value = ap₂ (λ x n. x ++ rest_replaced written text n (left_in i o text s)) none h.from ∙ ap (rest_replaced written text 0) left;
+        value = ap₂ (λ x n. x ++ rest_rewrite replacement text n (left_in i o text s)) none h.from ∙ ap (rest_rewrite replacement text 0) left;
         fresh = λ _. left;
         some = λ e. cc;
       };
@@ -90,7 +92,8 @@ at_first r text most written s out h none = record {
 
 -- ---- a match
 
-module _ (i : Input) (o : plain.RunOptions) (text : List ℕ) (most : Option ℕ) (write : List ℕ → List ℕ → List ℕ) (s t : Cuts) (c : Cut) (out : List ℕ) (is_same : Bool)
+module _ (i : Input) (o : plain.RunOptions) (text : List ℕ) (most : Option ℕ) (write : List ℕ → List ℕ → List ℕ) (s t : Cuts) (c : Cut)
+    (out : List ℕ) (is_same : Bool)
     (at : s.text.now ≡ text) (to : t.text.now ≡ text) (next : IsNextCut i o s c t) (done : IsDone i o text most (write text) s out is_same) where
   abbrev m : List ℕ
   m = numbers_in c.captures
@@ -102,59 +105,61 @@ module _ (i : Input) (o : plain.RunOptions) (text : List ℕ) (most : Option ℕ
 
   is_left : left_in i o text s ≡ m ∷ left_in i o text t
   is_left =
-      ap (firsts s.limit) found ∙ firsts_more s.limit m (left_of i text o (standing_of t.standing)) next.within_limit
-      ∙ ap (λ limit. m ∷ firsts limit (left_of i text o (standing_of t.standing))) (sym next.limit)
+      ap (take_limit s.limit) found ∙ take_limit-cons s.limit m (left_of i text o (standing_of t.standing)) next.within_limit
+      ∙ ap (λ limit. m ∷ take_limit limit (left_of i text o (standing_of t.standing))) (sym next.limit)
 
   piece_is : c.piece.now ≡ slice_range text s.from (first_pair m).0
   piece_is = next.piece ∙ ap (λ x. slice_range x s.from (first_pair m).0) at
 
-  some_chosen : (b : Bool) → is_same ≡ b → chosen i o text most ≡ [] → ⊥
-  some_chosen false e empty = done.some e empty
-  some_chosen true e empty = let both : m ∷ left_in i o text t ≡ [] = sym is_left ∙ done.fresh e ∙ empty in cc
+  some_to_replace : (b : Bool) → is_same ≡ b → to_replace i o text most ≡ [] → ⊥
+  some_to_replace false e empty = done.some e empty
+  some_to_replace true e empty = let both : m ∷ left_in i o text t ≡ [] = sym is_left ∙ done.fresh e ∙ empty in cc
 
-  pub further : (new : List ℕ) → new ≡ out ++ (c.piece.now ++ write (captures_text c.captures) m) → IsDone i o text most (write text) t new false
+  further : (new : List ℕ) → new ≡ out ++ (c.piece.now ++ write (captures_text c.captures) m) → IsDone i o text most (write text) t new false
   further new e =
-      let rest = rest_replaced (write text) text t.from (left_in i o text t) in
+      let rest = rest_rewrite (write text) text t.from (left_in i o text t) in
       record {
         count = suc done.count;
         left = sym (drop_next done.count (all_matches (plan i) text o) m (left_of i text o (standing_of t.standing)) (sym done.left ∙ found));
         limit = next.limit ∙ ap (option_map (λ n. n - 1)) done.limit ∙ less_more most done.count;
         value =
             ap (λ x. x ++ rest) (e ∙ ap (λ x. out ++ (c.piece.now ++ write x m)) (next.text ∙ at)) ∙ (simp append_assoc)
-            ∙ ap₂ (λ piece n. out ++ (piece ++ (write text m ++ rest_replaced (write text) text n (left_in i o text t)))) piece_is next.from
-            ∙ ap (λ ms. out ++ rest_replaced (write text) text s.from ms) (sym is_left) ∙ done.value;
+            ∙ ap₂ (λ piece n. out ++ (piece ++ (write text m ++ rest_rewrite (write text) text n (left_in i o text t)))) piece_is next.from
+            ∙ ap (λ ms. out ++ rest_rewrite (write text) text s.from ms) (sym is_left) ∙ done.value;
         fresh = λ no. cc;
-        some = λ _ empty. some_chosen is_same refl empty;
+        some = λ _ empty. some_to_replace is_same refl empty;
       }
 
 -- ---- at the end
 
-module _ (i : Input) (o : plain.RunOptions) (text : List ℕ) (most : Option ℕ) (written : List ℕ → List ℕ) (s t : Cuts) (out : List ℕ) (is_same : Bool)
-    (at : s.text.now ≡ text) (to : t.text.now ≡ text) (none : (cuts_left i o s ≡ []) × (t.from ≡ s.from)) (done : IsDone i o text most written s out is_same) where
+module _ (i : Input) (o : plain.RunOptions) (text : List ℕ) (most : Option ℕ) (replacement : List ℕ → List ℕ) (s t : Cuts)
+    (out : List ℕ) (is_same : Bool) (at : s.text.now ≡ text) (to : t.text.now ≡ text) (none : (cuts_left i o s ≡ []) × (t.from ≡ s.from))
+    (done : IsDone i o text most replacement s out is_same) where
   none_left : left_in i o text s ≡ []
-  none_left = ap (λ x. firsts s.limit (left_of i x o (standing_of s.standing))) (sym at) ∙ none.0
+  none_left = ap (λ x. take_limit s.limit (left_of i x o (standing_of s.standing))) (sym at) ∙ none.0
 
-  pub none_chosen : is_same ≡ true → chosen i o text most ≡ []
-  none_chosen e = sym (done.fresh e) ∙ none_left
+  none_to_replace : is_same ≡ true → to_replace i o text most ≡ []
+  none_to_replace e = sym (done.fresh e) ∙ none_left
 
-  pub ends : (new rest : List ℕ) → new ≡ out ++ rest → rest ≡ rest_of t → new ≡ replaced written text (chosen i o text most)
+  ends : (new rest : List ℕ) → new ≡ out ++ rest → rest ≡ rest_of t → new ≡ rewrite replacement text (to_replace i o text most)
   ends new rest e is =
       e ∙ ap (λ x. out ++ x) is ∙ ap₂ (λ x n. out ++ slice_range x n (length x)) to none.1 ∙ (simp append-nil)
-      ∙ ap (λ ms. out ++ rest_replaced written text s.from ms) (sym none_left) ∙ done.value
+      ∙ ap (λ ms. out ++ rest_rewrite replacement text s.from ms) (sym none_left) ∙ done.value
 
 -- with no match to be replaced the text is as it was
-pub none_replaced : (text : List ℕ) (written : List ℕ → List ℕ) (ms : List (List ℕ)) → ms ≡ [] → text ≡ replaced written text ms
-none_replaced text written ms e =
+rewrite-none : (text : List ℕ) (replacement : List ℕ → List ℕ) (ms : List (List ℕ)) → ms ≡ [] → text ≡ rewrite replacement text ms
+rewrite-none text replacement ms e =
     drop_split text 0 (length text) (omega arith)
     ∙ ap (λ rest. slice_range text 0 (length text) ++ rest) (drop_all (length text) text (omega arith))
-    ∙ ap (replaced written text) (sym e)
+    ∙ ap (rewrite replacement text) (sym e)
 
 -- ---- an error
 
-pub fails_after : (i : Input) (o : plain.RunOptions) (text : List ℕ) (most : Option ℕ) (written : List ℕ → List ℕ) (s : Cuts) (out : List ℕ) (is_same : Bool) (e : Error) →
-    s.text.now ≡ text → (¬ (s.limit ≡ Some 0)) × FailsBy i s.text.now o (standing_of s.standing) e → IsDone i o text most written s out is_same →
+fails_after : (i : Input) (o : plain.RunOptions) (text : List ℕ) (most : Option ℕ) (replacement : List ℕ → List ℕ) (s : Cuts)
+    (out : List ℕ) (is_same : Bool) (e : Error) →
+    s.text.now ≡ text → (¬ (s.limit ≡ Some 0)) × FailsBy i s.text.now o (standing_of s.standing) e → IsDone i o text most replacement s out is_same →
     FailsAfter i o text most e
-fails_after i o text most written s out is_same e at h done =
+fails_after i o text most replacement s out is_same e at h done =
     let fails = subst (λ x. FailsBy i x o (standing_of s.standing) e) at h.1 in
     record {
       count = done.count;
@@ -164,16 +169,52 @@ fails_after i o text most written s out is_same e at h done =
       fails = fails.1.1;
     }
 
+-- ---- a call for the next match
+
+module _ (r q p : Regex) (text : List ℕ) (most : Option ℕ) (write : List ℕ → List ℕ → List ℕ) (s t : Cuts) (out : List ℕ) (is_same : Bool)
+    (so_far : GoesOn r q text most (write text) s out is_same) (found : Result (Option Cut) Error) (next : NextCut q s found p t) where
+  to : t.text.now ≡ text
+  to = next.within ∙ so_far.within
+
+  steps : (x : Result (Option Cut) Error) → found ≡ x → (i : Input) (o : plain.RunOptions) → IsRegexOf i o r → StepsToCut i o s x t
+  steps x is i o of = subst (λ y. StepsToCut i o s y t) is (next.steps i o (of_same r q i o so_far.same of))
+
+  -- a match, and what is written for it
+  pub goes_on : (c : Cut) → found ≡ Ok (Some c) → IsAhead p t → (new : List ℕ) →
+      new ≡ out ++ (c.piece.now ++ write (captures_text c.captures) (numbers_in c.captures)) → GoesOn r p text most (write text) t new false
+  goes_on c is ahead new e = record {
+    same = same_twice r q p so_far.same next.same;
+    within = to;
+    ahead = ahead;
+    done = λ i o of. further i o text most write s t c out is_same so_far.within to (steps _ is i o of) (so_far.done i o of) new e;
+  }
+
+  pub next_fails : (e : Error) → found ≡ Err e → (i : Input) (o : plain.RunOptions) → IsRegexOf i o r → FailsAfter i o text most e
+  next_fails e is i o of = fails_after i o text most (write text) s out is_same e so_far.within (steps _ is i o of) (so_far.done i o of)
+
+  -- no match is left
+  module _ (is : found ≡ Ok None) (i : Input) (o : plain.RunOptions) (of : IsRegexOf i o r) where
+    pub same_text : is_same ≡ true → text ≡ rewrite (write text) text (to_replace i o text most)
+    same_text same =
+        rewrite-none text (write text) _
+        (none_to_replace i o text most (write text) s t out is_same so_far.within to (steps _ is i o of) (so_far.done i o of) same)
+
+    pub new_text : (new rest : List ℕ) → new ≡ out ++ rest → rest ≡ rest_of t → new ≡ rewrite (write text) text (to_replace i o text most)
+    new_text = ends i o text most (write text) s t out is_same so_far.within to (steps _ is i o of) (so_far.done i o of)
+
+    pub some_replaced : is_same ≡ false → ¬ (to_replace i o text most ≡ [])
+    some_replaced = (so_far.done i o of).some
+
 -- ---- each match in the place of itself
 
-each_itself : (text : List ℕ) (written : List ℕ → List ℕ → List ℕ) → WritesMatch written text → (ms : List (List ℕ)) →
-    map (written text) ms ≡ map (part text) (map first_pair ms)
-each_itself text written w [] = refl
-each_itself text written w (m ∷ ms) = ap₂ (λ x rest. x ∷ rest) (w m) (each_itself text written w ms)
+each_itself : (text : List ℕ) (replacement : List ℕ → List ℕ → List ℕ) → WritesMatch replacement text → (ms : List (List ℕ)) →
+    map (replacement text) ms ≡ map (part text) (map first_pair ms)
+each_itself text replacement w [] = refl
+each_itself text replacement w (m ∷ ms) = ap₂ (λ x rest. x ∷ rest) (w m) (each_itself text replacement w ms)
 
-pub itself : (i : Input) (o : plain.RunOptions) (text : List ℕ) (written : List ℕ → List ℕ → List ℕ) (r : Result (CowStr Global) Error) → IsText text →
-    WritesMatch written text → Replaces i o text None written r → IfOk r (λ v. cow_str_bytes v ≡ text)
-itself i o text written (Ok v) is w h =
+pub itself : (i : Input) (o : plain.RunOptions) (text : List ℕ) (replacement : List ℕ → List ℕ → List ℕ) (r : Result (CowStr Global) Error) → IsText text →
+    WritesMatch replacement text → Replaces i o text None replacement r → IfOk r (λ v. cow_str_bytes v ≡ text)
+itself i o text replacement (Ok v) is w h =
     let all = all_matches (plan i) text o in
-    h.0 ∙ ap (in_turn (pieces_between text 0 all)) (each_itself text written w all) ∙ pieces_join (plan i) text o is
-itself i o text written (Err e) is w h = tt
+    h.0 ∙ ap (in_turn (pieces_between text 0 all)) (each_itself text replacement w all) ∙ pieces_join (plan i) text o is
+itself i o text replacement (Err e) is w h = tt

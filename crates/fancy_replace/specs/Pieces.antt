@@ -4,9 +4,9 @@ use Rattle.fancy_vm.specs.Outcomes.{first_pair}
 use Rattle.fancy_matches.specs.Listing.{in_turn, pieces}
 
 -- so many from the start, or all
-abbrev pub firsts : {A : Type 0} → Option ℕ → List A → List A
-firsts None xs = xs
-firsts (Some n) xs = take n xs
+abbrev pub take_limit : {A : Type 0} → Option ℕ → List A → List A
+take_limit None xs = xs
+take_limit (Some n) xs = take n xs
 
 -- 0 is no limit
 abbrev pub as_limit : ℕ → Option ℕ
@@ -27,5 +27,5 @@ at_most_pieces text zero matches = []
 at_most_pieces text (suc n) matches = pieces_between text 0 (take n matches)
 
 -- the text with what is written for each match in its place
-abbrev pub replaced : (List ℕ → List ℕ) → List ℕ → List (List ℕ) → List ℕ
-replaced written text matches = in_turn (pieces_between text 0 matches) (map written matches)
+abbrev pub rewrite : (List ℕ → List ℕ) → List ℕ → List (List ℕ) → List ℕ
+rewrite replacement text matches = in_turn (pieces_between text 0 matches) (map replacement matches)

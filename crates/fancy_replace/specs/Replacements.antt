@@ -11,12 +11,12 @@ use Rattle.fancy_search.specs.Searches.{Promises}
 use Rattle.fancy_vm.specs.Outcomes.{first_pair}
 use Rattle.fancy_matches.specs.Listing.{Standing, all_matches, options_at, part}
 use Rattle.fancy_matches.specs.Regexes.{left_of}
-use Rattle.fancy_replace.specs.Pieces.{IsBelow, firsts, replaced}
+use Rattle.fancy_replace.specs.Pieces.{IsBelow, rewrite, take_limit}
 
 module _ (i : Input) (o : plain.RunOptions) (text : List ℕ) (limit : Option ℕ) where
-  -- the matches that are replaced
-  abbrev pub chosen : List (List ℕ)
-  chosen = firsts limit (all_matches (plan i) text o)
+  -- the matches that are to be replaced
+  abbrev pub to_replace : List (List ℕ)
+  to_replace = take_limit limit (all_matches (plan i) text o)
 
   -- after so many matches, below the limit, a search for the next one answered this error, as is promised
   pub record FailsAfter (e : Error) : Type 0 where
@@ -29,10 +29,10 @@ module _ (i : Input) (o : plain.RunOptions) (text : List ℕ) (limit : Option �
   -- The text with what is written for each of these matches in its place, and the text itself where there is none; or
   -- an error that a search answered, or want of memory.
   abbrev pub Replaces : (List ℕ → List ℕ → List ℕ) → Result (CowStr Global) Error → Type 0
-  Replaces written (Ok v) =
-      (cow_str_bytes v ≡ replaced (written text) text chosen) × (chosen ≡ [] → ¬ (IsOwnedStr v))
-  Replaces written (Err e) = FailsAfter e ⊎ (e ≡ Memory)
+  Replaces replacement (Ok v) =
+      (cow_str_bytes v ≡ rewrite (replacement text) text to_replace) × (to_replace ≡ [] → ¬ (IsOwnedStr v))
+  Replaces replacement (Err e) = FailsAfter e ⊎ (e ≡ Memory)
 
 -- what is written for each match is the match
 abbrev pub WritesMatch : (List ℕ → List ℕ → List ℕ) → List ℕ → Type 0
-WritesMatch written text = (numbers : List ℕ) → written text numbers ≡ part text (first_pair numbers)
+WritesMatch replacement text = (numbers : List ℕ) → replacement text numbers ≡ part text (first_pair numbers)

@@ -27,7 +27,8 @@ module _ (i : Input) (o : plain.RunOptions) where
   abbrev pub StepsToPiece : {P : Type 0} → (P → List ℕ) → Split → Option (Result P Error) → Split → Type 0
   StepsToPiece shown s None t = (pieces_left s ≡ []) × (pieces_left t ≡ [])
   StepsToPiece shown s (Some (Ok piece)) t = pieces_left s ≡ shown piece ∷ pieces_left t
-  StepsToPiece shown s (Some (Err e)) t = FailsBy i s.cuts.text.now o (standing_of s.cuts.standing) e × (pieces_left t ≡ [])
+  StepsToPiece shown s (Some (Err e)) t =
+      FailsBy i s.cuts.text.now o (standing_of s.cuts.standing) e × (pieces_left t ≡ [])
 
 -- so it steps, whatever its regex was compiled from, and the regex stays
 abbrev pub NextPiece : {P : Type 0} → (P → List ℕ) → Split → Option (Result P Error) → Split → Type 0
@@ -55,4 +56,5 @@ most_pieces text limit i o = at_most_pieces text limit (all_matches (plan i) tex
 
 -- these pieces and the matches in turn are the text
 abbrev pub PiecesAndMatchesJoin : Regex → List ℕ → Type 0
-PiecesAndMatchesJoin r text = (i : Input) (o : plain.RunOptions) → IsRegexOf i o r → PiecesJoin text (all_spans (plan i) text o)
+PiecesAndMatchesJoin r text =
+    (i : Input) (o : plain.RunOptions) → IsRegexOf i o r → PiecesJoin text (all_spans (plan i) text o)

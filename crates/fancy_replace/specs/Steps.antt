@@ -9,7 +9,7 @@ use Rattle.fancy_vm.specs.Outcomes.{first_pair}
 use Rattle.fancy_matches.specs.Listing.{all_matches}
 use Rattle.fancy_matches.specs.Regexes.{FailsBy, IsRegexOf, IsSame, captures_text, left_of, numbers_in, standing_of}
 use Rattle.fancy_matches.specs.declared.regexes.Regex.{Regex}
-use Rattle.fancy_replace.specs.Pieces.{firsts}
+use Rattle.fancy_replace.specs.Pieces.{take_limit}
 use Rattle.fancy_replace.specs.declared.cuts.Cut.{Cut}
 use Rattle.fancy_replace.specs.declared.cuts.Cuts.{Cuts}
 
@@ -39,7 +39,7 @@ module _ (i : Input) (o : plain.RunOptions) where
 
   -- and within it
   abbrev pub cuts_left : Cuts → List (List ℕ)
-  cuts_left s = firsts s.limit (all_left s)
+  cuts_left s = take_limit s.limit (all_left s)
 
   -- the cut is at the first of the matches that are left
   pub record IsNextCut (s : Cuts) (c : Cut) (t : Cuts) : Type 0 where
@@ -64,7 +64,8 @@ IsFurther s found t = Unit {0}
 -- what is left to a regex lies ahead
 pub record IsAhead (r : Regex) (s : Cuts) : Type 0 where
   pub place : IsAtPlace s
-  pub spans : (i : Input) (o : plain.RunOptions) → IsRegexOf i o r → AreAhead s.text.now s.from (map first_pair (all_left i o s))
+  pub spans : (i : Input) (o : plain.RunOptions) → IsRegexOf i o r →
+      AreAhead s.text.now s.from (map first_pair (all_left i o s))
 
 -- the next match is found by this regex, and text and regex stay
 pub record NextCut (r : Regex) (s : Cuts) (found : Result (Option Cut) Error) (q : Regex) (t : Cuts) : Type 0 where

@@ -7,3 +7,5 @@ pub mod pieces;
 pub mod replace;
 pub mod replacer;
 pub mod split;
+pub mod template;
+mod tokens;

@@ -41,7 +41,7 @@ pub struct Parts<'a>(pub &'a [Part<'a>]);
 impl<'a> Replacer for Parts<'a> {
     ghost use Rattle.fancy_replace.specs.Parts.{parts_text};
 
-    ghost written = { λ r text numbers. parts_text text numbers r.0.now };
+    ghost replacement_text = { λ r text numbers. parts_text text numbers r.0.now };
 
     fn replace_append(&self, captures: &Captures<'_>, out: &mut String) -> Result<(), AllocError> {
         for part in self.0 {

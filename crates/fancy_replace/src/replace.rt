@@ -25,7 +25,7 @@ pub fn replace<'t, R: Replacer>(
     ensures promise { (i : Input)
         → (o : plain.RunOptions)
         → IsRegexOf i o regex.old
-        → Replaces i o text.now (Some 1) (R.written replacement.now) result }
+        → Replaces i o text.now (Some 1) (R.replacement_text replacement.now) result }
     ensures same { IsSame regex.old regex.new }
 {
     replacen(alloc, regex, text, 1, replacement)
@@ -41,11 +41,11 @@ pub fn replace_all<'t, R: Replacer>(
     ensures promise { (i : Input)
         → (o : plain.RunOptions)
         → IsRegexOf i o regex.old
-        → Replaces i o text.now None (R.written replacement.now) result }
+        → Replaces i o text.now None (R.replacement_text replacement.now) result }
     ensures itself { (i : Input)
         → (o : plain.RunOptions)
         → IsRegexOf i o regex.old
-        → WritesMatch (R.written replacement.now) text.now
+        → WritesMatch (R.replacement_text replacement.now) text.now
         → IfOk result (λ v. cow_str_bytes v ≡ text.now) }
     ensures same { IsSame regex.old regex.new }
 {
@@ -66,7 +66,7 @@ pub fn replacen<'t, R: Replacer>(
     ensures promise { (i : Input)
         → (o : plain.RunOptions)
         → IsRegexOf i o regex.old
-        → Replaces i o text.now (as_limit limit) (R.written replacement.now) result }
+        → Replaces i o text.now (as_limit limit) (R.replacement_text replacement.now) result }
     ensures same { IsSame regex.old regex.new }
 {
     let mut cuts = Cuts::new(text, limit_of(limit));
@@ -93,7 +93,8 @@ fn limit_of(limit: usize) -> Option<usize>
 /// Appends the piece before a match, and what is written in the place of the match.
 fn append<R: Replacer>(cut: &Cut<'_>, replacement: &R, out: &mut String) -> Result<(), AllocError>
     ensures { OnOk result (string_bytes out.new ≡ string_bytes out.old ++ (cut.now.piece.now
-        ++ R.written replacement.now (captures_text cut.now.captures) (numbers_in cut.now.captures))) }
+        ++ R.replacement_text replacement.now (captures_text cut.now.captures)
+        (numbers_in cut.now.captures))) }
 {
     out.push_str(cut.piece)?;
     replacement.replace_append(&cut.captures, out)

@@ -10,12 +10,12 @@ pub trait Replacer {
     ghost use Rattle.fancy_matches.specs.Regexes.{captures_text, numbers_in};
 
     // What it writes, by the text and the start and end of each group of the match.
-    ghost written: { Self → List ℕ → List ℕ → List ℕ };
+    ghost replacement_text: { Self → List ℕ → List ℕ → List ℕ };
 
     /// Appends what is written in the place of a match with these groups. After an error a part of it may stand there.
     fn replace_append(&self, captures: &Captures<'_>, out: &mut String) -> Result<(), AllocError>
         ensures { OnOk result (string_bytes out.new ≡ string_bytes out.old
-            ++ written self.now (captures_text captures.now) (numbers_in captures.now)) };
+            ++ replacement_text self.now (captures_text captures.now) (numbers_in captures.now)) };
 }
 
 /// A text as it stands: a `$` in it means nothing.
@@ -23,7 +23,7 @@ pub trait Replacer {
 pub struct NoExpand<'a>(pub &'a str);
 
 impl<'a> Replacer for NoExpand<'a> {
-    ghost written = { λ r text numbers. r.0.now };
+    ghost replacement_text = { λ r text numbers. r.0.now };
 
     fn replace_append(&self, _captures: &Captures<'_>, out: &mut String) -> Result<(), AllocError> {
         out.push_str(self.0)

@@ -7,5 +7,5 @@ pub returns-clause-itself : goal.returns-clause-itself
 returns-clause-itself g c i o h w =
     let text = c.args.text.now in
     let small : length text < usize_max = omega arith in
-    itself i o text (g.R.Replacer.written c.args.replacement.now) c.replacen.result (record { utf8 = c.utf8.text; fits = small }) w
+    itself i o text (g.R.Replacer.replacement_text c.args.replacement.now) c.replacen.result (record { utf8 = c.utf8.text; fits = small }) w
     (c.replacen.ensures.promise i o h)

@@ -1,0 +1,38 @@
+//! Tables of rows of all matches of a text, of splits, of replacements, and of what a scanner finds.
+#![tactic(auto)]
+
+mod lists;
+mod scans;
+
+use fancy_tables::tables::{Table, print_table};
+use std::alloc::{AllocError, Global};
+use std::io;
+
+/// The functions of lists of matches.
+#[derive(Drop)]
+struct ListTables;
+
+impl Table for ListTables {
+    fn outcome(&mut self, alloc: Global, table: &str, key: &str) -> Result<String, AllocError> {
+        let line = match table {
+            "matches" => lists::matches(alloc, key),
+            "splits" => lists::pieces(alloc, key),
+            "replacements" => lists::replacement(alloc, key),
+            _ => scans::scans(alloc, key),
+        };
+        match line {
+            Ok(line) => Ok(line),
+            Err(error) => lists::refusal(alloc, &error),
+        }
+    }
+}
+
+const TABLES: [&str; 4] = ["matches", "splits", "replacements", "scans"];
+
+fn main(rt: HostRuntime) -> io::Result<()> {
+    let mut lists = ListTables;
+    for table in TABLES {
+        print_table(&rt, &mut lists, table)?;
+    }
+    Ok(())
+}

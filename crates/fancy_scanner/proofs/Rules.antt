@@ -1,0 +1,110 @@
+-- Rules and the regexes that were compiled from their trees, one by one; and the answers of the rules from one on.
+use Rattle.std.proofs.Common.{◌≡◌, ℕ, zero, suc, ◌<◌, List, [], ◌∷◌, ◌++◌, length, drop, map, get_or, slice_set, Option, Some, None, option_map, Ok, Err, refl, sym, ap, ◌∙◌, subst, arith}
+use Rattle.std.proofs.lemmas.Option.{same_Some}
+use Rattle.fancy_expr.specs.declared.error.Error.{Error}
+use Rattle.fancy_search.specs.Searches.{Promises}
+use Rattle.fancy_matches.specs.Listing.{begun_at}
+use Rattle.fancy_matches.specs.Regexes.{FindsCaptures, IsRegexOf, IsSame, captures_text, numbers_in, shown_captures, with_numbers}
+use Rattle.fancy_matches.specs.declared.found.Captures.{Captures}
+use Rattle.fancy_matches.specs.declared.regexes.Regex.{Regex}
+use Rattle.fancy_matches.proofs.Stepping.{of_same}
+use Rattle.fancy_scanner.specs.Scanning.{Rule, AreAccepted, AreRegexesOf, FailsBy, Numbered, answer_from, earlier, earliest, here, in_text, later, shown}
+use Rattle.fancy_scanner.specs.declared.scanner.Scan.{Scan}
+
+pub one_more : (rules : List Rule) (xs : List Regex) (r : Rule) (x : Regex) → AreRegexesOf rules xs →
+    IsRegexOf r.input r.options x → AreRegexesOf (rules ++ r ∷ []) (xs ++ x ∷ [])
+one_more [] [] r x h g = (g, tt)
+one_more [] (y ∷ ys) r x h g = absurd h
+one_more (q ∷ rules) [] r x h g = absurd h
+one_more (q ∷ rules) (y ∷ ys) r x h g = (h.0, one_more rules ys r x h.1 g)
+
+-- the rule of the regex at this number
+pub record RuleAt (rules : List Rule) (k : ℕ) (x : Regex) : Type 0 where
+  pub rule : Rule
+  pub rest : drop k rules ≡ rule ∷ drop (suc k) rules
+  pub of : IsRegexOf rule.input rule.options x
+
+pub rule_at : (rules : List Rule) (xs : List Regex) (k : ℕ) (x : Regex) → AreRegexesOf rules xs → k < length xs →
+    x ≡ get_or xs k x → RuleAt rules k x
+rule_at [] [] k x h lt e = absurd (omega (arith, lt))
+rule_at [] (y ∷ ys) k x h lt e = absurd h
+rule_at (r ∷ rules) [] k x h lt e = absurd h
+rule_at (r ∷ rules) (y ∷ ys) zero x h lt e = record { rule = r; rest = refl; of = subst (IsRegexOf r.input r.options) (sym e) h.0 }
+rule_at (r ∷ rules) (y ∷ ys) (suc k) x h lt e =
+    let below = rule_at rules ys k x h.1 (omega (arith, lt)) e in
+    record { rule = below.rule; rest = below.rest; of = below.of }
+
+-- one regex is put in the place of the same one
+pub same_put : (rules : List Rule) (xs : List Regex) (k : ℕ) (x y : Regex) → AreRegexesOf rules xs →
+    x ≡ get_or xs k x → IsSame x y → AreRegexesOf rules (slice_set xs k y)
+same_put [] [] k x y h e same = tt
+same_put [] (z ∷ zs) k x y h e same = absurd h
+same_put (r ∷ rules) [] k x y h e same = absurd h
+same_put (r ∷ rules) (z ∷ zs) zero x y h e same =
+    (of_same x y r.input r.options same (subst (IsRegexOf r.input r.options) (sym e) h.0), h.1)
+same_put (r ∷ rules) (z ∷ zs) (suc k) x y h e same = (h.0, same_put rules zs k x y h.1 e same)
+
+-- ---- the answers of the rules from one on
+
+module _ (text : List ℕ) (pos : ℕ) where
+  -- the match that begins first of the rules from k on, which are accepted
+  pub record Behind (rules : List Rule) (k : ℕ) (scan : Option Scan) : Type 0 where
+    pub accepted : AreAccepted (drop k rules)
+    pub first : option_map shown scan ≡ option_map (in_text text) (earliest k (map (answer_from text pos) (drop k rules)))
+
+  none_behind : (rules : List Rule) (xs : List Regex) → AreRegexesOf rules xs → drop (length xs) rules ≡ []
+  none_behind [] [] h = refl
+  none_behind [] (x ∷ xs) h = absurd h
+  none_behind (r ∷ rules) [] h = absurd h
+  none_behind (r ∷ rules) (x ∷ xs) h = none_behind rules xs h.1
+
+  pub behind_all : (rules : List Rule) (xs : List Regex) (k : ℕ) → AreRegexesOf rules xs → k ≡ length xs → Behind rules k None
+  behind_all rules xs k h e =
+      let none = ap (λ n. drop n rules) e ∙ none_behind rules xs h in
+      record {
+        accepted = subst AreAccepted (sym none) tt;
+        first = ap (λ l. option_map (in_text text) (earliest k (map (answer_from text pos) l))) (sym none);
+      }
+
+  none_found : (a : Option (List ℕ)) → None ≡ option_map (with_numbers text) a → a ≡ None
+  none_found None e = refl
+  none_found (Some numbers) e = cc
+
+  some_found : (a : Option (List ℕ)) (c : Captures) → Some (shown_captures c) ≡ option_map (with_numbers text) a →
+      (a ≡ Some (numbers_in c)) × (captures_text c ≡ text)
+  some_found None c e = cc
+  some_found (Some numbers) c e =
+      let same = same_Some _ _ e in
+      (ap Some (sym (ap (λ p. p.1) same)), ap (λ p. p.0) same)
+
+  module _ (rules : List Rule) (k : ℕ) (x : Regex) (at : RuleAt rules k x) (first : Option Scan) (behind : Behind rules (suc k) first) where
+    -- the rules from k on, where rule k answers so
+    one_back : (a : Option (List ℕ)) (now : Option Scan) → answer_from text pos at.rule ≡ a → AreAccepted (at.rule ∷ drop (suc k) rules) →
+        option_map shown now ≡ option_map (in_text text) (earliest k (a ∷ map (answer_from text pos) (drop (suc k) rules))) →
+        Behind rules k now
+    one_back a now answers accepted e = record {
+      accepted = subst AreAccepted (sym at.rest) accepted;
+      first = e ∙ ap (λ b. option_map (in_text text) (earliest k (b ∷ map (answer_from text pos) (drop (suc k) rules)))) (sym answers)
+          ∙ ap (λ l. option_map (in_text text) (earliest k (map (answer_from text pos) l))) (sym at.rest);
+    }
+
+    pub back_past_none : FindsCaptures (at.rule).input text (begun_at (at.rule).options pos) (Ok None) → Behind rules k first
+    back_past_none h = one_back None first (none_found (answer_from text pos at.rule) h.1) (h.0, behind.accepted) behind.first
+
+    pub back_past_some : (c : Captures) (now : Scan) → FindsCaptures (at.rule).input text (begun_at (at.rule).options pos) (Ok (Some c)) →
+        ((found : Option Numbered) → captures_text c ≡ text → option_map shown first ≡ option_map (in_text text) found →
+        shown now ≡ in_text text (earlier (k, numbers_in c) found)) →
+        Behind rules k (Some now)
+    back_past_some c now h told =
+        let found = some_found (answer_from text pos at.rule) c h.1 in
+        one_back (Some (numbers_in c)) (Some now) found.0 (h.0, behind.accepted)
+        (ap Some (told (earliest (suc k) (map (answer_from text pos) (drop (suc k) rules))) found.1 behind.first))
+
+  fails_from : (e : Error) (rules : List Rule) (k : ℕ) → FailsBy text pos e (drop k rules) → FailsBy text pos e rules
+  fails_from e rules zero h = h
+  fails_from e [] (suc k) h = h
+  fails_from e (r ∷ rules) (suc k) h = later (fails_from e rules k h)
+
+  pub fails_at : (e : Error) (rules : List Rule) (k : ℕ) (x : Regex) (at : RuleAt rules k x) →
+      Promises (at.rule).input text (begun_at (at.rule).options pos) (Err e) → FailsBy text pos e rules
+  fails_at e rules k x at h = fails_from e rules k (subst (FailsBy text pos e) (sym at.rest) (here h))

@@ -1,0 +1,87 @@
+use Rattle.std.proofs.Common.{◌≡◌, ◌-◌, suc, length, Ok, ◌∙◌, subst, arith}
+use Rattle.std.proofs.lemmas.List.{length-set}
+use Rattle.std.proofs.lemmas.Result.{err_from_is_err_and}
+use Rattle.fancy_matches.specs.Listing.{begun_at}
+use Rattle.fancy_matches.specs.Regexes.{FindsCaptures}
+use Rattle.fancy_scanner.proofs.Rules.{Behind, back_past_none, back_past_some, behind_all, fails_at, rule_at, same_put}
+use Rattle.fancy_scanner.proofs.scanner.Scanner.find_from.Goals as goal
+
+pub trees-init : goal.trees-init
+trees-init c =
+    let v = c.args.self.now.regexes in
+    let all : c.len-index.result ≡ length v.items = c.len-index.ensures ∙ v.ok.0 in
+    record {
+      within = omega (arith, all);
+      same = λ rules h. h;
+      behind = λ rules h. behind_all c.args.text.now c.args.pos rules v.items c.len-index.result h all;
+    }
+
+pub index_mut-requires : goal.index_mut-requires
+index_mut-requires c = omega (arith, c.trees.invariant.within, c.trees-test.true, c.trees.self.regexes.ok.0)
+
+pub returns-in_err-captures-clause-promise : goal.returns-in_err-captures-clause-promise
+returns-in_err-captures-clause-promise c = λ rules h.
+    let i = c.trees.invariant in
+    let k = c.trees.index - 1 in
+    let at = rule_at rules c.trees.self.regexes.items k c.index_mut.result.now (i.same rules h) (omega (arith, i.within, c.trees-test.true))
+    c.index_mut.ensures.value in
+    let p = err_from_is_err_and c.from_residual.result c.from_residual.ensures.1 in
+    rw (p.1, p.2)
+    (fails_at c.args.text.now c.args.pos c.in_err-captures.field-0.0 rules k c.index_mut.result.now at
+    (c.in_err-captures.ensures.promise (at.rule).input (at.rule).options at.of))
+
+pub returns-in_err-captures-clause-same : goal.returns-in_err-captures-clause-same
+returns-in_err-captures-clause-same c = λ rules h.
+    same_put rules c.trees.self.regexes.items (c.trees.index - 1) c.index_mut.result.now c.captures_from.new.self (c.trees.invariant.same rules h)
+    c.index_mut.ensures.value c.captures_from.ensures.same
+
+pub trees-preserved-in-Some : goal.trees-preserved-in-Some
+trees-preserved-in-Some c =
+    let i = c.trees.invariant in
+    let items = c.trees.self.regexes.items in
+    let k = c.trees.index - 1 in
+    let x = c.index_mut.result.now in
+    let y = c.captures_from.new.self in
+    let next : c.trees.index ≡ suc k = omega (arith, c.trees-test.true) in
+    record {
+      within = omega (arith, i.within, length-set items k y);
+      same = λ rules h. same_put rules items k x y (i.same rules h) c.index_mut.ensures.value c.captures_from.ensures.same;
+      behind = λ rules h.
+          let at = rule_at rules items k x (i.same rules h) (omega (arith, i.within, next)) c.index_mut.ensures.value in
+          let text = c.args.text.now in
+          let pos = c.args.pos in
+          back_past_some text pos rules k x at c.trees.first (subst (λ n. Behind text pos rules n c.trees.first) next (i.behind rules h))
+          c.in-Some.captures c.earlier.result
+          (subst (λ found. FindsCaptures (at.rule).input text (begun_at (at.rule).options pos) (Ok found)) c.in-Some.is
+          (c.in_ok-captures.ensures.promise (at.rule).input (at.rule).options at.of))
+          (λ found within before. c.earlier.ensures text found within before);
+    }
+
+pub trees-preserved : goal.trees-preserved
+trees-preserved c =
+    let i = c.trees.invariant in
+    let items = c.trees.self.regexes.items in
+    let k = c.trees.index - 1 in
+    let x = c.index_mut.result.now in
+    let y = c.captures_from.new.self in
+    let next : c.trees.index ≡ suc k = omega (arith, c.trees-test.true) in
+    record {
+      within = omega (arith, i.within, length-set items k y);
+      same = λ rules h. same_put rules items k x y (i.same rules h) c.index_mut.ensures.value c.captures_from.ensures.same;
+      behind = λ rules h.
+          let at = rule_at rules items k x (i.same rules h) (omega (arith, i.within, next)) c.index_mut.ensures.value in
+          let text = c.args.text.now in
+          let pos = c.args.pos in
+          back_past_none text pos rules k x at c.trees.first (subst (λ n. Behind text pos rules n c.trees.first) next (i.behind rules h))
+          (subst (λ found. FindsCaptures (at.rule).input text (begun_at (at.rule).options pos) (Ok found)) c.in_default.is
+          (c.in_ok-captures.ensures.promise (at.rule).input (at.rule).options at.of));
+    }
+
+pub returns-clause-promise : goal.returns-clause-promise
+returns-clause-promise c = λ rules h.
+    let none : c.trees.index ≡ 0 = omega (arith, c.trees-test.false) in
+    let all = subst (λ n. Behind c.args.text.now c.args.pos rules n c.trees.first) none (c.trees.invariant.behind rules h) in
+    (all.accepted, all.first)
+
+pub returns-clause-same : goal.returns-clause-same
+returns-clause-same c = λ rules h. c.trees.invariant.same rules h

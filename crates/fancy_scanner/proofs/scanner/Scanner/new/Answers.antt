@@ -1,0 +1,6 @@
+use Rattle.std.proofs.Common.{[], subst, sym}
+use Rattle.fancy_scanner.specs.Scanning.{AreRegexesOf}
+use Rattle.fancy_scanner.proofs.scanner.Scanner.new.Goals as goal
+
+pub returns : goal.returns
+returns c = subst (AreRegexesOf []) (sym c.new.ensures.items) tt
