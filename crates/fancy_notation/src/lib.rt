@@ -2,11 +2,11 @@
 #![tactic(auto)]
 
 pub mod depth;
-mod forms;
+pub mod forms;
 mod lexer;
 pub mod notation;
 pub mod numbers;
 mod reader;
 mod survey;
-mod tokens;
-mod words;
+pub mod tokens;
+pub mod words;

@@ -1,5 +1,7 @@
 //! Tokens: parentheses, words, quoted texts and broken ones, each with its byte.
 
+pub use crate::lexer::tokens;
+
 /// A token.
 #[derive(Drop)]
 pub enum Token {

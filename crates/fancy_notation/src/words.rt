@@ -10,7 +10,7 @@ use crate::numbers::number;
 use fancy_expr::expr::{Absent, Assertion, BacktrackingControlVerb, Expr, LookAround};
 
 /// The expression that a word alone stands for.
-pub fn leaf(word: &str) -> Option<Expr>
+pub(crate) fn leaf(word: &str) -> Option<Expr>
     ensures { option_map tree_of result ≡ leaf_of word.now }
 {
     match assertion(word) {
@@ -121,7 +121,7 @@ fn other_form(word: &str) -> Option<Form>
 }
 
 /// The verb that a word names.
-pub fn verb(word: &str) -> Option<BacktrackingControlVerb>
+pub(crate) fn verb(word: &str) -> Option<BacktrackingControlVerb>
     ensures { option_map verb_view result ≡ verb_of word.now }
 {
     match word {
@@ -135,7 +135,7 @@ pub fn verb(word: &str) -> Option<BacktrackingControlVerb>
 }
 
 /// The level that digits write, with an optional `-` before them.
-pub fn level(word: &str) -> Option<isize>
+pub(crate) fn level(word: &str) -> Option<isize>
     ensures { result ≡ level_of word.now }
 {
     if word.starts_with('+') {
@@ -145,7 +145,7 @@ pub fn level(word: &str) -> Option<isize>
 }
 
 /// A number of iterations.
-pub fn count(word: &str) -> Option<usize>
+pub(crate) fn count(word: &str) -> Option<usize>
     ensures { result ≡ count_of word.now }
 {
     match number(word) {
@@ -155,7 +155,7 @@ pub fn count(word: &str) -> Option<usize>
 }
 
 /// The greatest number of iterations, at least `lo`, where `*` means that there is none.
-pub fn bound(word: &str, lo: usize) -> Option<usize>
+pub(crate) fn bound(word: &str, lo: usize) -> Option<usize>
     ensures { option_map bound_of result ≡ bound_at_least lo word.now }
 {
     if word == "*" {
@@ -168,7 +168,7 @@ pub fn bound(word: &str, lo: usize) -> Option<usize>
 }
 
 /// The number of a character up to 255.
-pub fn byte(word: &str) -> Option<u8>
+pub(crate) fn byte(word: &str) -> Option<u8>
     ensures { result ≡ byte_of word.now }
 {
     match number(word) {

@@ -1,5 +1,6 @@
 -- Rules and the regexes that were compiled from their trees, one by one; and the answers of the rules from one on.
-use Rattle.std.proofs.Common.{◌≡◌, ℕ, zero, suc, ◌<◌, List, [], ◌∷◌, ◌++◌, length, drop, map, get_or, slice_set, Option, Some, None, option_map, Ok, Err, refl, sym, ap, ◌∙◌, subst, arith}
+use Rattle.std.proofs.Common.{◌≡◌, ℕ, zero, suc, ◌-◌, ◌<◌, ◌≤◌, List, [], ◌∷◌, ◌++◌, length, drop, map, get_or, slice_set, Option, Some, None, option_map, Ok, Err, refl, sym, ap, ◌∙◌, subst, arith}
+use Rattle.std.proofs.lemmas.List.{length-set}
 use Rattle.std.proofs.lemmas.Option.{same_Some}
 use Rattle.fancy_expr.specs.declared.error.Error.{Error}
 use Rattle.fancy_search.specs.Searches.{Promises}
@@ -8,7 +9,7 @@ use Rattle.fancy_matches.specs.Regexes.{FindsCaptures, IsRegexOf, IsSame, captur
 use Rattle.fancy_matches.specs.declared.found.Captures.{Captures}
 use Rattle.fancy_matches.specs.declared.regexes.Regex.{Regex}
 use Rattle.fancy_matches.proofs.Stepping.{of_same}
-use Rattle.fancy_scanner.specs.Scanning.{Rule, AreAccepted, AreRegexesOf, FailsBy, Numbered, answer_from, earlier, earliest, here, in_text, later, shown}
+use Rattle.fancy_scanner.specs.Scanning.{Rule, AreAccepted, AreRegexesOf, FailsForOne, RuleMatch, answer_from, earlier, earliest, here, in_text, later, scan_view}
 use Rattle.fancy_scanner.specs.declared.scanner.Scan.{Scan}
 
 pub one_more : (rules : List Rule) (xs : List Regex) (r : Rule) (x : Regex) → AreRegexesOf rules xs →
@@ -50,7 +51,7 @@ module _ (text : List ℕ) (pos : ℕ) where
   -- the match that begins first of the rules from k on, which are accepted
   pub record Behind (rules : List Rule) (k : ℕ) (scan : Option Scan) : Type 0 where
     pub accepted : AreAccepted (drop k rules)
-    pub first : option_map shown scan ≡ option_map (in_text text) (earliest k (map (answer_from text pos) (drop k rules)))
+    pub first : option_map scan_view scan ≡ option_map (in_text text) (earliest k (map (answer_from text pos) (drop k rules)))
 
   none_behind : (rules : List Rule) (xs : List Regex) → AreRegexesOf rules xs → drop (length xs) rules ≡ []
   none_behind [] [] h = refl
@@ -80,7 +81,7 @@ module _ (text : List ℕ) (pos : ℕ) where
   module _ (rules : List Rule) (k : ℕ) (x : Regex) (at : RuleAt rules k x) (first : Option Scan) (behind : Behind rules (suc k) first) where
     -- the rules from k on, where rule k answers so
     one_back : (a : Option (List ℕ)) (now : Option Scan) → answer_from text pos at.rule ≡ a → AreAccepted (at.rule ∷ drop (suc k) rules) →
-        option_map shown now ≡ option_map (in_text text) (earliest k (a ∷ map (answer_from text pos) (drop (suc k) rules))) →
+        option_map scan_view now ≡ option_map (in_text text) (earliest k (a ∷ map (answer_from text pos) (drop (suc k) rules))) →
         Behind rules k now
     one_back a now answers accepted e = record {
       accepted = subst AreAccepted (sym at.rest) accepted;
@@ -92,19 +93,41 @@ module _ (text : List ℕ) (pos : ℕ) where
     back_past_none h = one_back None first (none_found (answer_from text pos at.rule) h.1) (h.0, behind.accepted) behind.first
 
     pub back_past_some : (c : Captures) (now : Scan) → FindsCaptures (at.rule).input text (begun_at (at.rule).options pos) (Ok (Some c)) →
-        ((found : Option Numbered) → captures_text c ≡ text → option_map shown first ≡ option_map (in_text text) found →
-        shown now ≡ in_text text (earlier (k, numbers_in c) found)) →
+        ((found : Option RuleMatch) → captures_text c ≡ text → option_map scan_view first ≡ option_map (in_text text) found →
+        scan_view now ≡ in_text text (earlier (k, numbers_in c) found)) →
         Behind rules k (Some now)
     back_past_some c now h told =
         let found = some_found (answer_from text pos at.rule) c h.1 in
         one_back (Some (numbers_in c)) (Some now) found.0 (h.0, behind.accepted)
         (ap Some (told (earliest (suc k) (map (answer_from text pos) (drop (suc k) rules))) found.1 behind.first))
 
-  fails_from : (e : Error) (rules : List Rule) (k : ℕ) → FailsBy text pos e (drop k rules) → FailsBy text pos e rules
+  fails_from : (e : Error) (rules : List Rule) (k : ℕ) → FailsForOne text pos e (drop k rules) → FailsForOne text pos e rules
   fails_from e rules zero h = h
   fails_from e [] (suc k) h = h
   fails_from e (r ∷ rules) (suc k) h = later (fails_from e rules k h)
 
   pub fails_at : (e : Error) (rules : List Rule) (k : ℕ) (x : Regex) (at : RuleAt rules k x) →
-      Promises (at.rule).input text (begun_at (at.rule).options pos) (Err e) → FailsBy text pos e rules
-  fails_at e rules k x at h = fails_from e rules k (subst (FailsBy text pos e) (sym at.rest) (here h))
+      Promises (at.rule).input text (begun_at (at.rule).options pos) (Err e) → FailsForOne text pos e rules
+  fails_at e rules k x at h = fails_from e rules k (subst (FailsForOne text pos e) (sym at.rest) (here h))
+
+  -- ---- from one tree to the one before
+
+  -- the trees from number n on were searched for: each regex is still of its tree, and this is the match that begins first
+  pub record ScanFrom (before items : List Regex) (n : ℕ) (scan : Option Scan) : Type 0 where
+    pub within : n ≤ length items
+    pub same : (rules : List Rule) → AreRegexesOf rules before → AreRegexesOf rules items
+    pub behind : (rules : List Rule) → AreRegexesOf rules before → Behind rules n scan
+
+  pub tree_before : (before items : List Regex) (n : ℕ) (first now : Option Scan) (x y : Regex) → ScanFrom before items n first → 0 < n →
+      x ≡ get_or items (n - 1) x → IsSame x y →
+      ((rules : List Rule) (at : RuleAt rules (n - 1) x) → Behind rules (suc (n - 1)) first → Behind rules (n - 1) now) →
+      ScanFrom before (slice_set items (n - 1) y) (n - 1) now
+  tree_before before items n first now x y h some at same back =
+      let next : n ≡ suc (n - 1) = omega (arith, some) in
+      record {
+        within = omega (arith, h.within, length-set items (n - 1) y);
+        same = λ rules of. same_put rules items (n - 1) x y (h.same rules of) at same;
+        behind = λ rules of.
+            back rules (rule_at rules items (n - 1) x (h.same rules of) (omega (arith, h.within, next)) at)
+            (subst (λ m. Behind rules m first) next (h.behind rules of));
+      }

@@ -20,19 +20,19 @@ pub record Rule : Type 0 where
 -- ---- the first of many matches
 
 -- a rule's number, and the numbers of a match of it
-abbrev pub Numbered : Type 0
-Numbered = ℕ × List ℕ
+abbrev pub RuleMatch : Type 0
+RuleMatch = ℕ × List ℕ
 
-abbrev pub start_of : Numbered → ℕ
+abbrev pub start_of : RuleMatch → ℕ
 start_of found = (first_pair found.1).0
 
 -- of two matches the one that begins first, and of equals the first
-abbrev pub earlier : Numbered → Option Numbered → Numbered
+abbrev pub earlier : RuleMatch → Option RuleMatch → RuleMatch
 earlier found None = found
 earlier found (Some other) = if nat_lt (start_of other) (start_of found) then other else found
 
 -- the match that begins first, of equals that of the first rule, where the rules are numbered from n on
-abbrev pub earliest : ℕ → List (Option (List ℕ)) → Option Numbered
+abbrev pub earliest : ℕ → List (Option (List ℕ)) → Option RuleMatch
 earliest n [] = None
 earliest n (None ∷ answers) = earliest (suc n) answers
 earliest n (Some numbers ∷ answers) = Some (earlier (n, numbers) (earliest (suc n) answers))
@@ -44,13 +44,13 @@ abbrev pub answer_from : List ℕ → ℕ → Rule → Option (List ℕ)
 answer_from text pos r = answer (search_of (plan r.input) text (begun_at r.options pos))
 
 -- what is shown of a match: its rule's number with start and end of each group, and the text
-abbrev pub numbered : Scan → Numbered
-numbered s = (s.index, numbers_in s.captures)
+abbrev pub rule_match : Scan → RuleMatch
+rule_match s = (s.index, numbers_in s.captures)
 
-abbrev pub shown : Scan → List ℕ × Numbered
-shown s = (captures_text s.captures, numbered s)
+abbrev pub scan_view : Scan → List ℕ × RuleMatch
+scan_view s = (captures_text s.captures, rule_match s)
 
-abbrev pub in_text : List ℕ → Numbered → List ℕ × Numbered
+abbrev pub in_text : List ℕ → RuleMatch → List ℕ × RuleMatch
 in_text text found = (text, found)
 
 -- each tree is accepted
@@ -59,14 +59,14 @@ AreAccepted [] = Unit {0}
 AreAccepted (r ∷ rules) = IsAccepted r.input (instructions_of r.input) × AreAccepted rules
 
 -- the search for one of the rules answers this error, as is promised
-pub data FailsBy (text : List ℕ) (pos : ℕ) (e : Error) : List Rule → Type 0 where
-  here : {r : Rule} {rules : List Rule} → Promises r.input text (begun_at r.options pos) (Err e) → FailsBy text pos e (r ∷ rules)
-  later : {r : Rule} {rules : List Rule} → FailsBy text pos e rules → FailsBy text pos e (r ∷ rules)
+pub data FailsForOne (text : List ℕ) (pos : ℕ) (e : Error) : List Rule → Type 0 where
+  here : {r : Rule} {rules : List Rule} → Promises r.input text (begun_at r.options pos) (Err e) → FailsForOne text pos e (r ∷ rules)
+  later : {r : Rule} {rules : List Rule} → FailsForOne text pos e rules → FailsForOne text pos e (r ∷ rules)
 
 abbrev pub Scans : List Rule → (text : List ℕ) (pos : ℕ) → Result (Option Scan) Error → Type 0
 Scans rules text pos (Ok found) =
-    AreAccepted rules × (option_map shown found ≡ option_map (in_text text) (earliest 0 (map (answer_from text pos) rules)))
-Scans rules text pos (Err e) = FailsBy text pos e rules
+    AreAccepted rules × (option_map scan_view found ≡ option_map (in_text text) (earliest 0 (map (answer_from text pos) rules)))
+Scans rules text pos (Err e) = FailsForOne text pos e rules
 
 -- ---- a scanner
 

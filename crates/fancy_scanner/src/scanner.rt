@@ -6,7 +6,7 @@ ghost use Rattle.fancy_meaning.specs.Places as places;
 ghost use Rattle.fancy_meaning.specs.Premises.{Input};
 ghost use Rattle.fancy_matches.specs.Regexes.{IsRegexOf, captures_text};
 ghost use Rattle.fancy_scanner.specs.Scanning as scanning;
-ghost use Rattle.fancy_scanner.specs.Scanning.{IsScannerOf, Numbered, Rule, Scans, in_text, numbered, shown, start_of};
+ghost use Rattle.fancy_scanner.specs.Scanning.{IsScannerOf, RuleMatch, Rule, Scans, in_text, rule_match, scan_view, start_of};
 
 use fancy_expr::error::Error;
 use fancy_matches::found::Captures;
@@ -24,7 +24,7 @@ pub struct Scan<'t> {
 impl Scan<'_> {
     /// Where the match begins, in bytes of the text.
     fn start(&self) -> usize
-        ensures { result ≡ start_of (numbered self.now) }
+        ensures { result ≡ start_of (rule_match self.now) }
     {
         self.captures.whole().start()
     }
@@ -84,10 +84,10 @@ impl Scanner {
 
 /// Of two matches the one that begins first, and of equals the first one.
 fn earlier<'t>(scan: Scan<'t>, behind: Option<Scan<'t>>) -> Scan<'t>
-    ensures { (text : List ℕ) (found : Option Numbered)
+    ensures { (text : List ℕ) (found : Option RuleMatch)
         → captures_text scan.entry.captures ≡ text
-        → option_map shown behind.entry ≡ option_map (in_text text) found
-        → shown result ≡ in_text text (scanning.earlier (numbered scan.entry) found) }
+        → option_map scan_view behind.entry ≡ option_map (in_text text) found
+        → scan_view result ≡ in_text text (scanning.earlier (rule_match scan.entry) found) }
 {
     match behind {
         Some(other) => {

@@ -5,6 +5,7 @@ pub mod BeginningLaws
 pub mod StartRunLaws
 pub mod StartsLaws
 pub mod StepLaws
+pub mod WalksLaws
 pub mod BackLaws
 pub mod MeaningLaws
 pub mod MemosLaws

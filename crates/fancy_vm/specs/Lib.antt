@@ -8,3 +8,5 @@ pub mod Beginnings
 pub mod StartRuns
 pub mod Outcomes
 pub mod Means
+pub mod Walks
+pub mod WalkSteps

@@ -14,3 +14,4 @@ mod runs;
 mod starts;
 mod steps;
 pub mod vm;
+mod walk;

@@ -2,5 +2,6 @@
 
 pub use crate::insn::{Insn, Prog, ProgParts};
 pub use crate::runs::{RunOptions, Scratch, run, run_default, run_spans};
+pub use crate::walk::{Progress, Walk};
 pub use fancy_fragments::delegate::{CaptureGroupRange, Delegate};
 pub use fancy_state::state::State;

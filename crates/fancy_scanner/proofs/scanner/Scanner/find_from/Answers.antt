@@ -3,7 +3,7 @@ use Rattle.std.proofs.lemmas.List.{length-set}
 use Rattle.std.proofs.lemmas.Result.{err_from_is_err_and}
 use Rattle.fancy_matches.specs.Listing.{begun_at}
 use Rattle.fancy_matches.specs.Regexes.{FindsCaptures}
-use Rattle.fancy_scanner.proofs.Rules.{Behind, back_past_none, back_past_some, behind_all, fails_at, rule_at, same_put}
+use Rattle.fancy_scanner.proofs.Rules.{Behind, back_past_none, back_past_some, behind_all, fails_at, rule_at, same_put, tree_before}
 use Rattle.fancy_scanner.proofs.scanner.Scanner.find_from.Goals as goal
 
 pub trees-init : goal.trees-init
@@ -37,45 +37,28 @@ returns-in_err-captures-clause-same c = λ rules h.
 
 pub trees-preserved-in-Some : goal.trees-preserved-in-Some
 trees-preserved-in-Some c =
-    let i = c.trees.invariant in
-    let items = c.trees.self.regexes.items in
-    let k = c.trees.index - 1 in
+    let text = c.args.text.now in
+    let pos = c.args.pos in
     let x = c.index_mut.result.now in
-    let y = c.captures_from.new.self in
-    let next : c.trees.index ≡ suc k = omega (arith, c.trees-test.true) in
-    record {
-      within = omega (arith, i.within, length-set items k y);
-      same = λ rules h. same_put rules items k x y (i.same rules h) c.index_mut.ensures.value c.captures_from.ensures.same;
-      behind = λ rules h.
-          let at = rule_at rules items k x (i.same rules h) (omega (arith, i.within, next)) c.index_mut.ensures.value in
-          let text = c.args.text.now in
-          let pos = c.args.pos in
-          back_past_some text pos rules k x at c.trees.first (subst (λ n. Behind text pos rules n c.trees.first) next (i.behind rules h))
-          c.in-Some.captures c.earlier.result
-          (subst (λ found. FindsCaptures (at.rule).input text (begun_at (at.rule).options pos) (Ok found)) c.in-Some.is
-          (c.in_ok-captures.ensures.promise (at.rule).input (at.rule).options at.of))
-          (λ found within before. c.earlier.ensures text found within before);
-    }
+    tree_before text pos c.args.self.now.regexes.items c.trees.self.regexes.items c.trees.index c.trees.first _ x c.captures_from.new.self
+    c.trees.invariant c.trees-test.true c.index_mut.ensures.value c.captures_from.ensures.same
+    (λ rules at behind.
+    back_past_some text pos rules (c.trees.index - 1) x at c.trees.first behind c.in-Some.captures c.earlier.result
+    (subst (λ found. FindsCaptures (at.rule).input text (begun_at (at.rule).options pos) (Ok found)) c.in-Some.is
+    (c.in_ok-captures.ensures.promise (at.rule).input (at.rule).options at.of))
+    (λ found within before. c.earlier.ensures text found within before))
 
 pub trees-preserved : goal.trees-preserved
 trees-preserved c =
-    let i = c.trees.invariant in
-    let items = c.trees.self.regexes.items in
-    let k = c.trees.index - 1 in
+    let text = c.args.text.now in
+    let pos = c.args.pos in
     let x = c.index_mut.result.now in
-    let y = c.captures_from.new.self in
-    let next : c.trees.index ≡ suc k = omega (arith, c.trees-test.true) in
-    record {
-      within = omega (arith, i.within, length-set items k y);
-      same = λ rules h. same_put rules items k x y (i.same rules h) c.index_mut.ensures.value c.captures_from.ensures.same;
-      behind = λ rules h.
-          let at = rule_at rules items k x (i.same rules h) (omega (arith, i.within, next)) c.index_mut.ensures.value in
-          let text = c.args.text.now in
-          let pos = c.args.pos in
-          back_past_none text pos rules k x at c.trees.first (subst (λ n. Behind text pos rules n c.trees.first) next (i.behind rules h))
-          (subst (λ found. FindsCaptures (at.rule).input text (begun_at (at.rule).options pos) (Ok found)) c.in_default.is
-          (c.in_ok-captures.ensures.promise (at.rule).input (at.rule).options at.of));
-    }
+    tree_before text pos c.args.self.now.regexes.items c.trees.self.regexes.items c.trees.index c.trees.first _ x c.captures_from.new.self
+    c.trees.invariant c.trees-test.true c.index_mut.ensures.value c.captures_from.ensures.same
+    (λ rules at behind.
+    back_past_none text pos rules (c.trees.index - 1) x at c.trees.first behind
+    (subst (λ found. FindsCaptures (at.rule).input text (begun_at (at.rule).options pos) (Ok found)) c.in_default.is
+    (c.in_ok-captures.ensures.promise (at.rule).input (at.rule).options at.of)))
 
 pub returns-clause-promise : goal.returns-clause-promise
 returns-clause-promise c = λ rules h.

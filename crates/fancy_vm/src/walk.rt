@@ -1,0 +1,163 @@
+//! A run that is made step by step.
+
+ghost use Rattle.std.specs.Prelude.{◌≡◌, length, IsTrue, IfOk, IfErr};
+ghost use Rattle.fancy_meaning.specs.Fits.{run_fits};
+ghost use Rattle.fancy_meaning.specs.Places.{is_place};
+ghost use Rattle.fancy_state.specs.Refused.{IsMemory};
+ghost use Rattle.fancy_vm.specs.Outcomes.{RunAnswers, ending};
+ghost use Rattle.fancy_vm.specs.Programs.{task_of};
+ghost use Rattle.fancy_vm.specs.Walks.{Begins, IsOnRun, config_in, task_in};
+
+use crate::insn::Prog;
+use crate::longest::Longest;
+use crate::machine::{MAX_BRANCHES, Machine, Next, Task};
+use crate::memos::Memos;
+use crate::runs::RunOptions;
+use fancy_expr::error::{Error, RuntimeError};
+use fancy_state::state::State;
+use std::alloc::Global;
+use std::marker::Model;
+
+/// A run of a program that is made step by step. It comes to what `run` answers.
+// A clause sees what it runs, where it stands, and how many instructions it executed.
+#[derive(Drop)]
+pub struct Walk<'a> {
+    machine: Machine<'a>,
+    memos: Memos,
+    /// How many instructions it executed.
+    steps: u64,
+}
+
+impl<'a> Model for Walk<'a> {
+    ghost use Rattle.std.specs.Coded.{codes};
+    ghost use Rattle.fancy_vm.specs.Walks.{IsWalk, Standing, standing_of};
+    ghost use Rattle.fancy_vm.specs.contracts.insn.Prog as prog;
+
+    ghost Value = { Standing };
+
+    ghost coded = { Prim.hlevel (codes, prog.the_row.coded) };
+
+    ghost view = { λ a. standing_of a.machine a.steps };
+
+    ghost invariant = { λ a. IsWalk a.machine a.memos a.steps };
+}
+
+/// What a step led to.
+#[derive(Drop)]
+pub enum Progress<'a> {
+    /// The run goes on, from where the walk stands now.
+    GoesOn(Walk<'a>),
+    /// The run ended, and this is what `run` answers.
+    Ends(Option<Vec<usize>>),
+}
+
+impl<'a> Walk<'a> {
+    ghost use Rattle.fancy_vm.specs.WalkSteps.{StepsTo};
+
+    /// At the start of the run that `run` makes of these. `Memory` where a request for memory was refused.
+    pub fn new(
+        alloc: Global,
+        prog: &'a Prog,
+        text: &'a str,
+        options: &'a RunOptions,
+    ) -> Result<Walk<'a>, Error>
+        requires { IsTrue (run_fits (task_of prog.now text.now options.now)) }
+        ensures begins { IfOk result (Begins (task_of prog.now text.now options.now)) }
+        ensures err { IfErr result IsMemory }
+    {
+        let task = Task {
+            prog,
+            text,
+            options,
+            alloc,
+        };
+        let state = State::new(alloc, prog.parts.slots, MAX_BRANCHES)?;
+        Ok(Walk {
+            machine: Machine::begin(&task, state, Longest::new(alloc)),
+            memos: Memos::new(alloc),
+            steps: 0,
+        })
+    }
+
+    /// Where in the program it stands, the number of an instruction.
+    pub fn pc(&self) -> usize
+        ensures { result ≡ (config_in self.now).pc }
+    {
+        self.machine.pc
+    }
+
+    /// Where in the text it stands, a byte.
+    pub fn ix(&self) -> usize
+        ensures ix { result ≡ (config_in self.now).ix }
+        ensures place { IsTrue (is_place (task_in self.now).text result) }
+    {
+        self.machine.ix
+    }
+
+    /// How many branches it can fall back to.
+    pub fn branches(&self) -> usize
+        ensures { result ≡ length (config_in self.now).branches }
+    {
+        self.machine.state.backtrack_count()
+    }
+
+    /// How often it fell back to a branch.
+    pub fn backtracks(&self) -> usize
+        ensures { result ≡ (config_in self.now).backtracks }
+    {
+        self.machine.backtracks
+    }
+
+    /// How many instructions it executed, at most as many as `step_limit` allows.
+    pub fn steps(&self) -> u64
+        ensures steps { result ≡ self.now.steps }
+        ensures on_run { IsOnRun (task_in self.now) result (config_in self.now) }
+    {
+        self.steps
+    }
+
+    /// Executes the instruction where it stands, or all those of starts that are passed over together. The walk comes
+    /// back where the run goes on.
+    ///
+    /// A `RuntimeError` tells which limit the run passed, and `Memory` that a request for memory was refused. Either
+    /// ends the walk.
+    pub fn step(self) -> Result<Progress<'a>, Error>
+        ensures { StepsTo self.entry result }
+    {
+        let Walk {
+            mut machine,
+            mut memos,
+            steps,
+        } = self;
+        let options = machine.task.options;
+        let left = options.step_limit - steps;
+        if left == 0 {
+            return Err(Error::RuntimeError(RuntimeError::StepLimitExceeded));
+        }
+        let passed = match machine.step(&mut memos)? {
+            Next::On => 0,
+            Next::Passed => machine.passed,
+            Next::Ends { by_slots } => return Ok(Progress::Ends(machine.ending(by_slots)?)),
+        };
+        if passed >= left {
+            return Err(Error::RuntimeError(RuntimeError::StepLimitExceeded));
+        }
+        Ok(Progress::GoesOn(Walk {
+            machine,
+            memos,
+            steps: steps + passed + 1,
+        }))
+    }
+}
+
+impl Machine<'_> {
+    /// The numbers of a run that ends here: those of the slots, or else of the match that is held, or none.
+    fn ending(&self, by_slots: bool) -> Result<Option<Vec<usize>>, Error>
+        ensures { RunAnswers (ending by_slots self.now) result }
+    {
+        if !by_slots {
+            return Ok(self.longest.to_numbers(self.task.alloc)?);
+        }
+        Ok(Some(self.numbers()?))
+    }
+}

@@ -1,0 +1,147 @@
+//! All matches of a text, marked in its lines.
+
+use crate::excerpt::{columns, push_shown, push_times};
+use crate::find::{push_groups, push_match, read, regex};
+use crate::outcome::Trouble;
+use crate::refusals::refusal;
+use crate::request::Request;
+use std::alloc::{AllocError, Global};
+
+/// Start and end of a match, in bytes of the text.
+type Span = (usize, usize);
+
+/// Writes the lines of a text in which matches stand, with marks below them.
+#[derive(Drop)]
+struct Marker<'s> {
+    alloc: Global,
+    out: String,
+    /// The matches that are not passed, one after the other.
+    left: &'s [Span],
+    colours: bool,
+}
+
+impl Marker<'_> {
+    /// Passes the matches that take nothing from this byte on.
+    fn pass_before(&mut self, at: usize) {
+        let mut left = self.left;
+        while let Some(((start, end), rest)) = left.split_first() {
+            if *end > at || *start >= at {
+                break;
+            }
+            left = rest;
+        }
+        self.left = left;
+    }
+
+    /// Passes the matches before the last one that begins at this byte or before.
+    fn pass_to(&mut self, at: usize) {
+        let mut left = self.left;
+        while let Some((_, rest)) = left.split_first() {
+            match rest.first() {
+                Some((start, _)) if *start <= at => left = rest,
+                _ => break,
+            }
+        }
+        self.left = left;
+    }
+
+    /// Whether a match stands in the bytes from `start` to `end`, or at one of them.
+    fn is_touched(&self, start: usize, end: usize) -> bool {
+        match self.left.first() {
+            Some((first, last)) => *first <= end && (start < *last || start <= *first),
+            None => false,
+        }
+    }
+
+    /// The mark under a character at this byte: `^` where a match begins that takes something, `~` further on in it,
+    /// `|` where an empty one stands.
+    fn mark(&self, at: usize) -> char {
+        match self.left.first() {
+            Some((start, end)) if *start == at && *end == at => '|',
+            Some((start, _)) if *start == at => '^',
+            Some((start, end)) if *start < at && at < *end => '~',
+            _ => ' ',
+        }
+    }
+
+    /// The marks under a line that begins at this byte, up to the last one.
+    fn push_marks(&mut self, line: &str, start: usize) -> Result<(), AllocError> {
+        let mut marks = String::new(self.alloc);
+        for (i, c) in line.char_indices() {
+            let at = start.saturating_add(i);
+            self.pass_to(at);
+            let mark = self.mark(at);
+            marks.push(mark)?;
+            let further = if matches!(mark, '^' | '~') { '~' } else { ' ' };
+            push_times(&mut marks, further, columns(c).saturating_sub(1))?;
+        }
+        let end = start.saturating_add(line.len());
+        self.pass_to(end);
+        if self.mark(end) == '|' {
+            marks.push('|')?;
+        }
+        self.out.push_str(marks.as_str().trim_end())
+    }
+
+    /// The line with its number and its marks, where a match stands in it.
+    fn push_line(&mut self, number: usize, line: &str, start: usize) -> Result<(), AllocError> {
+        self.pass_before(start);
+        if !self.is_touched(start, start.saturating_add(line.len())) {
+            return Ok(());
+        }
+        write!(self.out, "{number:>5} | ")?;
+        push_shown(&mut self.out, line)?;
+        self.out.push_str("\n      | ")?;
+        if self.colours {
+            self.out.push_str("\u{1b}[1;32m")?;
+        }
+        self.push_marks(line, start)?;
+        if self.colours {
+            self.out.push_str("\u{1b}[0m")?;
+        }
+        self.out.push('\n')
+    }
+
+    fn push_lines(&mut self, text: &str) -> Result<(), AllocError> {
+        let mut start: usize = 0;
+        let mut number: usize = 0;
+        for line in text.split('\n') {
+            number = number.saturating_add(1);
+            self.push_line(number, line, start)?;
+            start = start.saturating_add(line.len()).saturating_add(1);
+        }
+        Ok(())
+    }
+}
+
+/// All matches: the lines in which they stand, and then each with its groups.
+pub fn all(alloc: Global, request: &Request, text: &str, colours: bool) -> Result<String, Trouble> {
+    let tree = read(alloc, request)?;
+    let mut regex = regex(alloc, request, &tree)?;
+    let mut spans: Vec<Span> = Vec::new(alloc);
+    let mut list = String::new(alloc);
+    for captures in regex.captures_iter(text) {
+        let captures = match captures {
+            Ok(captures) => captures,
+            Err(error) => return Err(refusal(alloc, request.tree.as_str(), &error)),
+        };
+        let whole = captures.whole();
+        spans.push((whole.start(), whole.end()))?;
+        let number = spans.len();
+        write!(list, "match {number}  ")?;
+        push_match(&mut list, &whole)?;
+        push_groups(&mut list, &captures, tree.total_groups, 2)?;
+    }
+    if spans.is_empty() {
+        list.push_str("no match\n")?;
+    }
+    let mut marker = Marker {
+        alloc,
+        out: String::new(alloc),
+        left: &spans,
+        colours,
+    };
+    marker.push_lines(text)?;
+    marker.out.push_str(list.as_str())?;
+    Ok(marker.out)
+}

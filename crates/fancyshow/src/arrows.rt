@@ -1,0 +1,107 @@
+//! Where the instructions of a program lead, and lanes in which arrows are drawn so that none runs over another.
+
+use fancy_vm::vm::{Insn, Prog};
+use std::alloc::{AllocError, Global};
+
+/// From one place of a program to another; as a branch, it is taken once what was tried first has failed.
+#[derive(Clone, Copy)]
+pub struct Arrow {
+    pub from: usize,
+    pub to: usize,
+    pub is_branch: bool,
+}
+
+impl Arrow {
+    /// It leads to the next instruction.
+    pub fn is_short(&self) -> bool {
+        self.from.checked_add(1) == Some(self.to)
+    }
+
+    /// It leads back, or where it begins.
+    pub fn is_back(&self) -> bool {
+        self.to <= self.from
+    }
+
+    fn top(&self) -> usize {
+        self.from.min(self.to)
+    }
+
+    fn bottom(&self) -> usize {
+        self.from.max(self.to)
+    }
+}
+
+/// An arrow, and the number of its lane.
+#[derive(Clone, Copy)]
+pub struct Lane {
+    pub arrow: Arrow,
+    pub lane: usize,
+}
+
+/// What is gone to first from an instruction, and what is tried after a failure.
+fn targets(place: usize, insn: &Insn) -> (Option<usize>, Option<usize>) {
+    let next = place.checked_add(1);
+    match insn {
+        Insn::End | Insn::Fail | Insn::FailNegativeLookAround => (None, None),
+        Insn::Split(first, second) => (Some(*first), Some(*second)),
+        Insn::SplitUnanchored(first, second) => (Some(*first), Some(*second)),
+        Insn::Jmp(to) => (Some(*to), None),
+        Insn::RepeatGr { next: after, .. } => (next, Some(*after)),
+        Insn::RepeatEpsilonGr { next: after, .. } => (next, Some(*after)),
+        Insn::RepeatNg { next: after, .. } => (Some(*after), next),
+        Insn::RepeatEpsilonNg { next: after, .. } => (Some(*after), next),
+        Insn::AbsentRepeater(_) => (Some(place), next),
+        _ => (next, None),
+    }
+}
+
+/// The arrows of a program, from its first instruction on.
+pub fn arrows(alloc: Global, prog: &Prog) -> Result<Vec<Arrow>, AllocError> {
+    let mut arrows = Vec::new(alloc);
+    for (place, insn) in prog.body().iter().enumerate() {
+        let (first, second) = targets(place, insn);
+        for (to, is_branch) in [(first, false), (second, true)] {
+            if let Some(to) = to {
+                arrows.push(Arrow {
+                    from: place,
+                    to,
+                    is_branch,
+                })?;
+            }
+        }
+    }
+    Ok(arrows)
+}
+
+/// The first lane that ends above this place, of lanes that end at these places.
+fn free_lane(ends: &[usize], top: usize) -> Option<usize> {
+    ends.iter().position(|end| *end < top)
+}
+
+/// Gives each arrow a lane, from the one that begins uppermost on, and none to two that stand beside each other.
+pub fn lanes(alloc: Global, arrows: &[Arrow]) -> Result<Vec<Lane>, AllocError> {
+    let mut sorted = Vec::new(alloc);
+    for arrow in arrows {
+        sorted.push(*arrow)?;
+    }
+    sorted.sort_by_key(|arrow| arrow.top())?;
+    let mut ends: Vec<usize> = Vec::new(alloc);
+    let mut lanes = Vec::new(alloc);
+    for arrow in sorted.iter() {
+        let lane = match free_lane(&ends, arrow.top()) {
+            Some(lane) => lane,
+            None => {
+                ends.push(0)?;
+                ends.len() - 1
+            }
+        };
+        if let Some(end) = ends.get_mut(lane) {
+            *end = arrow.bottom();
+        }
+        lanes.push(Lane {
+            arrow: *arrow,
+            lane,
+        })?;
+    }
+    Ok(lanes)
+}

@@ -1,0 +1,63 @@
+//! Shows what a tree finds in a text, and what becomes of the tree: see README.md.
+#![tactic(auto)]
+
+mod all;
+mod arrows;
+mod batch;
+mod blame;
+mod commands;
+mod dot;
+mod excerpt;
+mod find;
+mod list;
+mod nodes;
+mod outcome;
+mod pieces;
+mod refusals;
+mod request;
+mod show;
+mod svg;
+mod trace;
+mod tree;
+mod wants;
+mod why;
+
+use crate::outcome::Outcome;
+use crate::show::show;
+use std::io::{IsTerminal, Write};
+use std::process::ExitCode;
+use std::{env, io};
+
+/// The words after the program's own name.
+fn words(rt: &HostRuntime) -> io::Result<Vec<String>> {
+    Ok(env::args(rt)?.skip(1).collect(rt.alloc())?)
+}
+
+/// Colours are for a terminal whose user has not set `NO_COLOR`.
+fn has_colours(rt: &HostRuntime) -> bool {
+    rt.stdout().is_terminal() && env::var(rt, "NO_COLOR").is_err()
+}
+
+/// Writes what a command line came to, and answers the status: 3 where a write fails.
+fn write(rt: &HostRuntime, outcome: &Outcome) -> u8 {
+    let out = rt.stdout().write_all(outcome.out.as_bytes());
+    let err = rt.stderr().write_all(outcome.err.as_bytes());
+    if out.is_ok() && err.is_ok() {
+        outcome.status
+    } else {
+        3
+    }
+}
+
+fn main(rt: HostRuntime) -> ExitCode {
+    // Words that cannot be read, as they are no text, ask nothing.
+    let words = words(&rt).unwrap_or(Vec::new(rt.alloc()));
+    let status = match show(&rt, &words, has_colours(&rt)) {
+        Ok(outcome) => write(&rt, &outcome),
+        Err(_) => {
+            let _unwritten = rt.stderr().write_all(b"fancyshow: memory ran out\n");
+            1
+        }
+    };
+    ExitCode::from(status)
+}

@@ -1,0 +1,124 @@
+//! How a node of a tree is called: by the words of the notation, without what is below it.
+
+use fancy_expr::expr::{Absent, Assertion, BacktrackingControlVerb, Expr, LookAround};
+use std::alloc::AllocError;
+
+fn assertion(assertion: Assertion) -> &'static str {
+    match assertion {
+        Assertion::StartText => "start",
+        Assertion::EndText => "end",
+        Assertion::EndTextIgnoreTrailingNewlines { crlf: false } => "endnl",
+        Assertion::EndTextIgnoreTrailingNewlines { crlf: true } => "endcrlf",
+        Assertion::StartLine { crlf: false } => "bol",
+        Assertion::StartLine { crlf: true } => "bolcrlf",
+        Assertion::StartLineOniguruma { crlf: false } => "obol",
+        Assertion::StartLineOniguruma { crlf: true } => "obolcrlf",
+        Assertion::EndLine { crlf: false } => "eol",
+        Assertion::EndLine { crlf: true } => "eolcrlf",
+        Assertion::LeftWordBoundary => "wstart",
+        Assertion::RightWordBoundary => "wend",
+        Assertion::LeftWordHalfBoundary => "whstart",
+        Assertion::RightWordHalfBoundary => "whend",
+        Assertion::WordBoundary => "wb",
+        Assertion::NotWordBoundary => "nwb",
+    }
+}
+
+fn look(look: LookAround) -> &'static str {
+    match look {
+        LookAround::LookAhead => "ahead",
+        LookAround::LookAheadNeg => "nahead",
+        LookAround::LookBehind => "behind",
+        LookAround::LookBehindNeg => "nbehind",
+    }
+}
+
+fn verb(verb: BacktrackingControlVerb) -> &'static str {
+    match verb {
+        BacktrackingControlVerb::Fail => "verb fail",
+        BacktrackingControlVerb::Accept => "verb accept",
+        BacktrackingControlVerb::Commit => "verb commit",
+        BacktrackingControlVerb::Skip => "verb skip",
+        BacktrackingControlVerb::Prune => "verb prune",
+    }
+}
+
+fn any(newline: bool, crlf: bool) -> &'static str {
+    match (newline, crlf) {
+        (true, _) => "any",
+        (false, true) => "dotcrlf",
+        (false, false) => "dot",
+    }
+}
+
+fn absent(absent: &Absent) -> &'static str {
+    match absent {
+        Absent::Repeater(_) => "absent",
+        Absent::Expression { .. } => "absexp",
+        Absent::Stopper(_) => "absstop",
+        Absent::Clear => "absclear",
+    }
+}
+
+fn push_loop(out: &mut String, lo: usize, hi: usize, greedy: bool) -> Result<(), AllocError> {
+    let word = if greedy { "rep" } else { "lazy" };
+    if hi == usize::MAX {
+        write!(out, "{word} {lo} *")
+    } else {
+        write!(out, "{word} {lo} {hi}")
+    }
+}
+
+fn push_bytes(out: &mut String, bytes: &[u8]) -> Result<(), AllocError> {
+    out.push_str("bytes")?;
+    for byte in bytes {
+        write!(out, " {byte}")?;
+    }
+    Ok(())
+}
+
+fn word(expr: &Expr) -> &'static str {
+    match expr {
+        Expr::Empty => "empty",
+        Expr::Any { newline, crlf } => any(*newline, *crlf),
+        Expr::Assertion(asserted) => assertion(*asserted),
+        Expr::GeneralNewline { unicode: true } => "nl",
+        Expr::GeneralNewline { unicode: false } => "nlascii",
+        Expr::Concat(_) => "cat",
+        Expr::Alt(_) => "alt",
+        Expr::LookAround(_, direction) => look(*direction),
+        Expr::AtomicGroup(_) => "atom",
+        Expr::KeepOut => "keep",
+        Expr::ContinueFromPreviousMatchEnd => "cont",
+        Expr::BacktrackingControlVerb(named) => verb(*named),
+        Expr::Conditional { .. } => "if",
+        Expr::Absent(part) => absent(part),
+        Expr::DefineGroup { .. } => "define",
+        _ => "unresolved",
+    }
+}
+
+/// Writes what the node is called. `group` is its number where it is a group.
+pub fn push_node(out: &mut String, expr: &Expr, group: usize) -> Result<(), AllocError> {
+    match expr {
+        Expr::Literal { val, casei: false } => write!(out, "{val:?}"),
+        Expr::Literal { val, casei: true } => write!(out, "i{val:?}"),
+        Expr::LiteralBytes { bytes } => push_bytes(out, bytes),
+        Expr::Group(_) => write!(out, "grp {group}"),
+        Expr::Repeat { lo, hi, greedy, .. } => push_loop(out, *lo, *hi, *greedy),
+        Expr::Delegate {
+            inner,
+            casei: false,
+        } => write!(out, "set {inner:?}"),
+        Expr::Delegate { inner, casei: true } => write!(out, "iset {inner:?}"),
+        Expr::Backref {
+            group,
+            casei: false,
+        } => write!(out, "ref {group}"),
+        Expr::Backref { group, casei: true } => write!(out, "iref {group}"),
+        Expr::BackrefWithRelativeRecursionLevel { group, .. } => write!(out, "reflevel {group}"),
+        Expr::BackrefExistsCondition { group, .. } => write!(out, "has {group}"),
+        Expr::SubroutineCall(group) => write!(out, "call {group}"),
+        _ => out.push_str(word(expr)),
+    }
+}

@@ -1,0 +1,54 @@
+//! What a refusal of the engine says to people.
+
+use crate::excerpt::push_excerpt;
+use crate::outcome::Trouble;
+use crate::wants::wanted;
+use fancy_expr::error::{Error, RuntimeError};
+use std::alloc::{AllocError, Global};
+
+/// Where the tree cannot be read on, and what was wanted there.
+fn fault(alloc: Global, tree: &str, at: usize) -> Result<Trouble, Error> {
+    let wanted = wanted(alloc, tree, at)?;
+    let mut text = format!(in alloc; "the tree cannot be read from byte {at} on")?;
+    push_excerpt(&mut text, tree, at)?;
+    write!(text, "\n  wanted here: {wanted}")?;
+    Ok(Trouble::Refusal(text))
+}
+
+/// What may help a search that gave up.
+fn help(limit: RuntimeError) -> &'static str {
+    match limit {
+        RuntimeError::BacktrackLimitExceeded => "--backtracks N allows more",
+        RuntimeError::StepLimitExceeded => "--steps N allows more",
+        RuntimeError::StackOverflow => "the limit is 1000000",
+    }
+}
+
+fn explained(alloc: Global, tree: &str, error: &Error) -> Result<Trouble, Error> {
+    match error {
+        Error::TreeFault { at } => fault(alloc, tree, *at),
+        Error::CompileError(refused) => Ok(Trouble::Refusal(format!(in alloc;
+            "{refused} ({refused:?})\n  fancyshow tree shows where"
+        )?)),
+        Error::RuntimeError(limit) => {
+            let help = help(*limit);
+            Ok(Trouble::Refusal(format!(in alloc; "{limit} ({limit:?})\n  {help}")?))
+        }
+        Error::Memory => Ok(Trouble::Memory),
+    }
+}
+
+/// The trouble that an error of the engine is, for this text of a tree.
+pub fn refusal(alloc: Global, tree: &str, error: &Error) -> Trouble {
+    match explained(alloc, tree, error) {
+        Ok(trouble) => trouble,
+        Err(_) => Trouble::Memory,
+    }
+}
+
+/// The trouble of a tree that nests too deep.
+pub fn too_deep(alloc: Global, most: usize) -> Result<Trouble, AllocError> {
+    Ok(Trouble::Refusal(format!(in alloc;
+        "more than {most} parentheses are open at one place (RecursionExceeded)"
+    )?))
+}

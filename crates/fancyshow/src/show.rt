@@ -1,0 +1,136 @@
+//! From the words of a command line to what it comes to.
+
+use crate::all::all;
+use crate::batch::{push_outcome, words_of};
+use crate::commands::command;
+use crate::dot::dot;
+use crate::find::find;
+use crate::list::list;
+use crate::outcome::{Outcome, Trouble};
+use crate::pieces::{pieces, replaced};
+use crate::request::{Request, read_file, read_input, text_request, tree_request};
+use crate::svg::svg;
+use crate::trace::trace;
+use crate::tree::tree;
+use crate::why::why;
+use clap::ArgMatches;
+use std::alloc::{AllocError, Global};
+
+/// What the words say, or the help that they ask for.
+fn read_words<'a>(rt: &HostRuntime, words: &'a [String]) -> Result<ArgMatches<'a>, Trouble> {
+    match command(rt.alloc())?.try_get_matches_from(words) {
+        Ok(matches) => Ok(matches),
+        Err(error) => {
+            let message = format!(in rt.alloc(); "{error}")?;
+            if error.use_stderr() {
+                Err(Trouble::Usage(message))
+            } else {
+                Err(Trouble::Help(message))
+            }
+        }
+    }
+}
+
+/// The answer of a part that asks of a tree alone.
+fn tree_answer(
+    alloc: Global,
+    part: &str,
+    request: &Request,
+    is_dot: bool,
+) -> Result<String, Trouble> {
+    match part {
+        "list" => list(alloc, request),
+        "tree" => tree(alloc, request),
+        _ if is_dot => dot(alloc, request),
+        _ => svg(alloc, request),
+    }
+}
+
+/// The answer of a part that asks of a tree and a text.
+fn text_answer(
+    alloc: Global,
+    part: &str,
+    request: &Request,
+    text: &str,
+    colours: bool,
+) -> Result<String, Trouble> {
+    match part {
+        "find" => find(alloc, request, text),
+        "all" => all(alloc, request, text, colours),
+        "why" => why(alloc, request, text),
+        "trace" => trace(alloc, request, text),
+        _ => pieces(alloc, request, text),
+    }
+}
+
+/// The answer of a part other than `batch`.
+fn answer(
+    rt: &HostRuntime,
+    part: &str,
+    matches: &ArgMatches<'_>,
+    colours: bool,
+) -> Result<String, Trouble> {
+    let alloc = rt.alloc();
+    match part {
+        "list" | "tree" | "picture" => {
+            let request = tree_request(rt, matches)?;
+            tree_answer(alloc, part, &request, matches.get_flag("dot"))
+        }
+        "replace" => {
+            let (request, text) = text_request(rt, matches)?;
+            let template = matches.get_str("with").unwrap_or("");
+            replaced(alloc, &request, text.as_str(), template)
+        }
+        "batch" => {
+            let why = "this part cannot stand in a batch";
+            Err(Trouble::Words(String::from_str(alloc, why)?))
+        }
+        _ => {
+            let (request, text) = text_request(rt, matches)?;
+            text_answer(alloc, part, &request, text.as_str(), colours)
+        }
+    }
+}
+
+/// The answer of a command line in a batch.
+fn line_answer(rt: &HostRuntime, words: &[String]) -> Result<String, Trouble> {
+    let matches = read_words(rt, words)?;
+    match matches.subcommand() {
+        Some((part, matches)) => answer(rt, part, matches, false),
+        None => Ok(String::new(rt.alloc())),
+    }
+}
+
+/// What each command line of a file comes to.
+fn batch(rt: &HostRuntime, matches: &ArgMatches<'_>) -> Result<String, Trouble> {
+    let alloc = rt.alloc();
+    let lines = match matches.get_str("FILE") {
+        Some(path) => read_file(rt, path)?,
+        None => read_input(rt)?,
+    };
+    let mut out = String::new(alloc);
+    for line in lines.lines() {
+        if line.is_empty() || line.starts_with('#') {
+            writeln!(out, "{line}")?;
+            continue;
+        }
+        let words = words_of(alloc, line)?;
+        let outcome = Outcome::of(alloc, line_answer(rt, &words))?;
+        push_outcome(&mut out, line, &outcome)?;
+    }
+    Ok(out)
+}
+
+/// What the words come to. Where colours are asked for, those of a terminal mark the matches.
+pub fn show(rt: &HostRuntime, words: &[String], colours: bool) -> Result<Outcome, AllocError> {
+    let matches = match read_words(rt, words) {
+        Ok(matches) => matches,
+        Err(trouble) => return Outcome::of(rt.alloc(), Err(trouble)),
+    };
+    let answer = match matches.subcommand() {
+        Some((part, matches)) if part == "batch" => batch(rt, matches),
+        Some((part, matches)) => answer(rt, part, matches, colours),
+        None => Ok(String::new(rt.alloc())),
+    };
+    Outcome::of(rt.alloc(), answer)
+}

@@ -1,0 +1,162 @@
+//! A tree, node by node, with what the analysis says of each, or with the nodes marked for which it is refused.
+
+use crate::blame::{Whole, is_blamed};
+use crate::excerpt::push_times;
+use crate::find::read;
+use crate::list::compile;
+use crate::nodes::push_node;
+use crate::outcome::Trouble;
+use crate::refusals::refusal;
+use crate::request::Request;
+use fancy_analysis::analyze::analyze;
+use fancy_command::command::MOST_DEPTH;
+use fancy_expr::error::{CompileError, Error};
+use fancy_expr::expr::{Expr, ExprTree};
+use fancy_expr::parts::{part, part_count};
+use fancy_info::info::Info;
+use std::alloc::{AllocError, Global};
+
+/// Where what is said of a node begins.
+const COLUMN: usize = 36;
+
+/// A text that is read is at most `MOST_DEPTH` deep, and its tree two levels deeper.
+const MOST_LEVELS: usize = MOST_DEPTH + 3;
+
+/// A node, its number where it is a group, and what the analysis says of it, where it says anything.
+#[derive(Clone, Copy)]
+struct Node<'i, 'a> {
+    expr: &'a Expr,
+    group: usize,
+    info: Option<&'i Info<'a>>,
+}
+
+/// What is written about a tree.
+#[derive(Drop)]
+struct Page<'r> {
+    alloc: Global,
+    out: String,
+    /// Why the tree is refused.
+    refused: Option<&'r CompileError>,
+    tree: Whole,
+    /// How many nodes were marked.
+    blamed: usize,
+}
+
+/// Writes how many characters a node takes, and what else holds of it.
+fn push_facts(out: &mut String, info: &Info<'_>) -> Result<(), AllocError> {
+    let (least, most) = (info.min_size(), info.max_size());
+    if most == usize::MAX {
+        write!(out, "{least}..")?;
+    } else if least == most {
+        write!(out, "{least}")?;
+    } else {
+        write!(out, "{least}..{most}")?;
+    }
+    out.push_str(if info.hard() { ", hard" } else { ", easy" })?;
+    if info.is_read() {
+        out.push_str(", read")?;
+    }
+    if info.in_look_around() {
+        out.push_str(", in a look-around")?;
+    }
+    Ok(())
+}
+
+impl Page<'_> {
+    fn push_line(&mut self, node: Node<'_, '_>, indent: usize) -> Result<(), AllocError> {
+        let mut line = String::new(self.alloc);
+        push_times(&mut line, ' ', indent)?;
+        push_node(&mut line, node.expr, node.group)?;
+        if let Some(info) = node.info {
+            let count = line.as_str().chars().count();
+            push_times(&mut line, ' ', COLUMN.saturating_sub(count).max(2))?;
+            push_facts(&mut line, info)?;
+        }
+        if let Some(refused) = self.refused {
+            if is_blamed(self.alloc, refused, node.expr, node.group, self.tree)? {
+                write!(line, "  <- {refused}")?;
+                self.blamed = self.blamed.saturating_add(1);
+            }
+        }
+        line.push('\n')?;
+        self.out.push_str(line.as_str())
+    }
+
+    /// Writes the node and those below it, and answers the number of the next group. Past so many levels nothing is
+    /// written.
+    fn push_all(
+        &mut self,
+        node: Node<'_, '_>,
+        indent: usize,
+        levels: usize,
+    ) -> Result<usize, AllocError> {
+        if levels == 0 {
+            return Ok(node.group);
+        }
+        self.push_line(node, indent)?;
+        let mut group = match node.expr {
+            Expr::Group(_) => node.group.saturating_add(1),
+            _ => node.group,
+        };
+        for i in 0..part_count(node.expr) {
+            let below = Node {
+                expr: part(node.expr, i),
+                group,
+                info: node.info.and_then(|info| info.children().get(i)),
+            };
+            group = self.push_all(below, indent.saturating_add(2), levels - 1)?;
+        }
+        Ok(group)
+    }
+}
+
+/// The tree with what the analysis says, where it says anything, and with the nodes marked for which it is refused.
+fn write_page<'a>(
+    alloc: Global,
+    request: &Request,
+    tree: &'a ExprTree,
+    info: Option<&Info<'a>>,
+    refused: Option<&CompileError>,
+) -> Result<String, AllocError> {
+    let root = Node {
+        expr: &tree.expr,
+        group: 1,
+        info,
+    };
+    let mut page = Page {
+        alloc,
+        out: String::new(alloc),
+        refused,
+        tree: Whole {
+            groups: tree.total_groups,
+            longest: request.arguments.longest,
+        },
+        blamed: 0,
+    };
+    page.push_all(root, 0, MOST_LEVELS)?;
+    if let Some(refused) = refused {
+        if page.blamed == 0 {
+            writeln!(page.out, "refused: {refused}")?;
+        }
+    }
+    Ok(page.out)
+}
+
+/// The tree, a node a line.
+pub fn tree(alloc: Global, request: &Request) -> Result<String, Trouble> {
+    let tree = read(alloc, request)?;
+    let info = match analyze(alloc, &tree, request.arguments.analysis()) {
+        Ok(info) => info,
+        Err(Error::CompileError(refused)) => {
+            return Ok(write_page(alloc, request, &tree, None, Some(&refused))?);
+        }
+        Err(error) => return Err(refusal(alloc, request.tree.as_str(), &error)),
+    };
+    match compile(alloc, request, &tree) {
+        Ok(_) => Ok(write_page(alloc, request, &tree, Some(&info), None)?),
+        Err(Error::CompileError(refused)) => {
+            Ok(write_page(alloc, request, &tree, Some(&info), Some(&refused))?)
+        }
+        Err(error) => Err(refusal(alloc, request.tree.as_str(), &error)),
+    }
+}
