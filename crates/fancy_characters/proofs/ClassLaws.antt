@@ -1,14 +1,14 @@
 -- From what `regex` ensures to the class of a text.
-use Rattle.std.proofs.Common.{◌≡◌, ℕ, zero, suc, ◌+◌, ◌/◌, ◌%◌, ◌<◌, ◌≤◌, Bool, true, false, List, [], ◌∷◌, ◌++◌, length, take, get_or, codes, refl, sym, ap, subst, ◌∙◌, arith, Option, Some, None, Result, Ok, Err, is_some, encode_utf8, IsSomeAnd, IfSome, option_and_then, if◌then◌else◌, nat_le, le-leb, inl, inr, ◌≢◌, SomeIff, set, slice_index_or}
-use Rattle.std.proofs.Math.Seq.{take-append_seam}
+use Rattle.std.proofs.Common.{◌≡◌, ℕ, zero, suc, ◌+◌, ◌/◌, ◌%◌, ◌<◌, ◌≤◌, Bool, true, false, List, [], ◌∷◌, length, get_or, refl, sym, ap, subst, ◌∙◌, arith, Option, Some, None, Result, Ok, Err, is_some, encode_utf8, IsSomeAnd, IfSome, option_and_then, if◌then◌else◌, nat_le, le-leb, inl, inr, ◌≢◌, SomeIff, set, slice_index_or}
 use Rattle.std.proofs.lemmas.Bool.{cases_lt}
 use Rattle.std.proofs.lemmas.Bool.Decides.{nat_tests}
 use Rattle.std.proofs.lemmas.Grind.{get_or-set_at}
-use Rattle.std.proofs.lemmas.List.{length-append, get_or-set_other}
+use Rattle.std.proofs.lemmas.List.{get_or-set_other}
 use Rattle.std.proofs.lemmas.Str.{encode_ascii}
-use Rattle.std.specs.Char.{IsScalar, is_ascii}
+use Rattle.std.specs.Char.{IsScalar}
 use Rattle.std.specs.Result.{IfOk}
 use Rattle.regex_hir.proofs.Utf8Lemmas.{encode_two, encode_three, encode_four, InScalarRange-of_IsScalar}
+use Rattle.regex_class.specs.Ranges.{Range}
 use Rattle.regex_class.specs.declared.Class.{Class}
 use Rattle.regex_hir.specs.Find.{find_str}
 use Rattle.regex_hir.specs.declared.hir.Hir.{Hir}
@@ -20,29 +20,14 @@ use Rattle.regex_syntax.specs.Grammar.{Names, group_count}
 use Rattle.regex_syntax.specs.Verdict.{default_config, Reads, Refuses}
 use Rattle.regex_syntax.specs.declared.error.ErrorKind.{ErrorKind}
 use Rattle.regex_syntax.specs.declared.error.ErrorKind.TheVariants.{OutOfMemory}
-use Rattle.regex.specs.Failures.{IsPattern, IsRightKind}
+use Rattle.regex.specs.Failures.{IsPattern}
 use Rattle.regex.specs.Names.{names_of}
-use Rattle.regex.specs.Sources.{IsRefusal}
-use Rattle.regex.specs.declared.error.Error.{Error}
-use Rattle.regex.specs.declared.error.Error.TheVariants as regex_error
-use Rattle.regex.specs.declared.error.Error.TheVariants.{Syntax}
 use Rattle.regex.specs.Strings.{regex_source, regex_config, regex_pattern, IsReadFromSource}
 use Rattle.regex.specs.declared.string.regex.Regex.{Regex}
 use Rattle.regex.proofs.ForCallers.{is_match_alike}
 use Rattle.fancy_meaning.specs.Chars.{class_pattern, class_takes, is_class, pattern_in}
-use Rattle.fancy_characters.specs.Members.{AreMembersOf, AreMembersIn}
-use Rattle.fancy_characters.specs.ClassTexts.{ClassText, text_in, compiled_text, IsRegexOf, ListsMembers}
-
--- ---- the class text in its pattern
-
-cut : (inner rest : List ℕ) (n : ℕ) → n ≡ length inner → take n (inner ++ rest) ≡ inner
-cut inner rest n e = ap (λ m. take m (inner ++ rest)) e ∙ take-append_seam inner rest
-
-pub text_of_pattern : (unicode casei : Bool) (inner : List ℕ) → text_in unicode casei (class_pattern unicode inner casei) ≡ inner
-text_of_pattern true true inner = cut inner (codes ")\\z") _ (omega (arith, length-append inner (codes ")\\z")))
-text_of_pattern true false inner = cut inner (codes ")\\z") _ (omega (arith, length-append inner (codes ")\\z")))
-text_of_pattern false true inner = cut inner (codes ")\\z") _ (omega (arith, length-append inner (codes ")\\z")))
-text_of_pattern false false inner = cut inner (codes ")\\z") _ (omega (arith, length-append inner (codes ")\\z")))
+use Rattle.fancy_characters.specs.Members.{AreMembersBy, AreMembersOf, AreMembersIn}
+use Rattle.fancy_characters.specs.ClassTexts.{ClassText, IsRegexOf}
 
 -- ---- the bytes of a character
 
@@ -106,7 +91,7 @@ pub members_as_read : {E : Type 0} (text : List ℕ) (hir : Hir) (names : Names)
 unfolding Reads
 members_as_read text hir names reads (Ok None) of = of
 members_as_read text hir names reads (Ok (Some class)) of =
-    λ c beyond scalar. of c beyond scalar ∙ matches_as_read (meaning hir) names _ reads (encode_utf8 c) (encoded_below c scalar)
+    λ c scalar. of c scalar ∙ matches_as_read (meaning hir) names _ reads (encode_utf8 c) (encoded_below c scalar)
 members_as_read text hir names reads (Err e) of = of
 
 is_within : (a : Re) (names : Names) (o : Read) → IsReadAs a names o → is_some (within o) ≡ true
@@ -122,11 +107,10 @@ module _ (unicode : Bool) (inner : List ℕ) (casei : Bool) where
   unfolding is_class Reads
   class_of_pattern (hir, names, reads) = is_within (meaning hir) names _ reads
 
-  pub lists_members : (source : List ℕ) → source ≡ class_pattern unicode inner casei → (found : Option Class) →
-      IfSome found (λ class. AreMembersIn (pattern_in source) class.ranges.items) →
-      ListsMembers (record { inner = inner; casei = casei; unicode = unicode }) found
+  pub members_of_class : (source : List ℕ) → source ≡ class_pattern unicode inner casei → (ranges : List Range) →
+      AreMembersIn (pattern_in source) ranges → AreMembersBy (class_takes unicode inner casei) ranges
   unfolding class_takes
-  lists_members source same found of = subst (λ text. IfSome found (λ class. AreMembersIn (pattern_in text) class.ranges.items)) same of
+  members_of_class source same ranges of = subst (λ text. AreMembersIn (pattern_in text) ranges) same of
 
   pub no_class_of_refusal : (kind : ErrorKind) → kind ≢ OutOfMemory → Refuses default_config (class_pattern unicode inner casei) kind →
       is_class unicode inner casei ≡ false
@@ -134,19 +118,6 @@ module _ (unicode : Bool) (inner : List ℕ) (casei : Bool) where
   no_class_of_refusal kind memory (inl none) = absurd (memory none)
   no_class_of_refusal kind memory (inr (inl none)) = ap (λ o. is_some (within o)) none
   no_class_of_refusal kind memory (inr (inr deep)) = too_deep _ deep.1
-
-  pub no_class_of_error : (source : List ℕ) (error : Error) (e : _) → source ≡ class_pattern unicode inner casei →
-      IsRefusal default_config source error → IsRightKind default_config source error → error ≡ Syntax e → is_class unicode inner casei ≡ false
-  no_class_of_error source error e same refused kind is =
-      no_class_of_refusal e.kind (subst (IsRightKind default_config source) is kind)
-      (subst (λ text. Refuses default_config text e.kind) same (refused e is))
-
-  pub class_of_error : (source : List ℕ) (error : Error) → source ≡ class_pattern unicode inner casei →
-      IsRightKind default_config source error → ((e : _) → error ≢ Syntax e) → error ≢ regex_error.OutOfMemory → is_class unicode inner casei ≡ true
-  class_of_error source (Syntax e) same kind syntax memory = absurd (syntax e refl)
-  class_of_error source regex_error.CompiledTooBig same kind syntax memory = class_of_pattern (subst (IsPattern default_config) same kind)
-  class_of_error source regex_error.Internal same kind syntax memory = class_of_pattern (subst (IsPattern default_config) same kind)
-  class_of_error source regex_error.OutOfMemory same kind syntax memory = absurd (memory refl)
 
 module _ (r : Regex) (t : ClassText) (regex_of : IsRegexOf t r) where
   reads : Reads default_config (class_pattern t.unicode t.inner t.casei) r.pattern.program.hir (names_of r.pattern.names.items)
@@ -156,25 +127,14 @@ module _ (r : Regex) (t : ClassText) (regex_of : IsRegexOf t r) where
   unfolding class_takes Reads
   answers_class c scalar = matches_as_read (meaning r.pattern.program.hir) (names_of r.pattern.names.items) _ reads (encode_utf8 c) (encoded_below c scalar)
 
-  pub class_of_regex : is_class t.unicode t.inner t.casei ≡ true
-  class_of_regex = class_of_pattern t.unicode t.inner t.casei (r.pattern.program.hir, names_of r.pattern.names.items, reads)
-
-module _ (r : Regex) (unicode : Bool) (inner : List ℕ) (casei : Bool) (source : regex_source r ≡ class_pattern unicode inner casei) where
-  pub compiled_is : compiled_text r casei unicode ≡ record { inner = inner; casei = casei; unicode = unicode }
-  compiled_is =
-      ap (λ text. record { inner = text; casei = casei; unicode = unicode })
-      (ap (text_in unicode casei) source ∙ text_of_pattern unicode casei inner)
-
-  pub regex_of : regex_config r ≡ default_config → IsReadFromSource r → IsRegexOf (record { inner = inner; casei = casei; unicode = unicode }) r
-  regex_of config read = record { source = source; config = config; read = read }
+pub regex_of : (r : Regex) (unicode : Bool) (inner : List ℕ) (casei : Bool) → regex_source r ≡ class_pattern unicode inner casei →
+    regex_config r ≡ default_config → IsReadFromSource r → IsRegexOf (record { inner = inner; casei = casei; unicode = unicode }) r
+regex_of r unicode inner casei source config read = record { source = source; config = config; read = read }
 
 -- ---- answers, one by one
 
 pub ascii_character : (c : ℕ) → c < 128 → IsScalar c
 ascii_character c h = grind (arith, nat_tests)
-
-pub beyond_ascii : (c : ℕ) → is_ascii c ≡ false → 128 ≤ c
-beyond_ascii c h = grind (arith, nat_tests, h)
 
 pub one_more_answer : (f : ℕ → Bool) (answers : List Bool) (c : ℕ) (b : Bool) → c < length answers → b ≡ f c →
     ((k : ℕ) → k < c → slice_index_or answers k false ≡ f k) → (k : ℕ) → k < c + 1 → slice_index_or (set answers c b) k false ≡ f k

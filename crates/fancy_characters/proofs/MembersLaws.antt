@@ -1,9 +1,9 @@
 -- A set between the ends of the text matches a character exactly where the set alone takes all its bytes.
-use Rattle.std.proofs.Common.{◌≡◌, ℕ, zero, suc, ◌+◌, ◌≤◌, Bool, true, false, List, [], ◌∷◌, ◌++◌, length, refl, sym, ap, ◌∙◌, subst, arith, Option, Some, None, Result, Ok, Err, is_some, encode_utf8, inl, inr, append-nil, drop_of_length-le, ◌≢◌, true≢false}
+use Rattle.std.proofs.Common.{◌≡◌, ℕ, zero, suc, ◌+◌, ◌≤◌, ◌<◌, slice_get, Bool, true, false, List, [], ◌∷◌, ◌++◌, length, refl, sym, ap, ◌∙◌, subst, arith, Option, Some, None, Result, Ok, Err, is_some, encode_utf8, inl, inr, append-nil, drop_of_length-le, ◌≢◌, true≢false}
 use Rattle.std.proofs.lemmas.Bool.{cases_lt}
 use Rattle.std.proofs.lemmas.Bool.Decides.{nat_tests}
 use Rattle.std.proofs.lemmas.Option.{slice_get_past, slice_get-get_or, same_Some}
-use Rattle.std.proofs.lemmas.Str.{IsUtf8-encode, IsCharBoundary-start, length-encode}
+use Rattle.std.proofs.lemmas.Str.{encode_ascii, IsUtf8-encode, IsCharBoundary-start, length-encode}
 use Rattle.std.specs.Char.{IsScalar, len_utf8}
 use Rattle.std.specs.Result.{IfOk}
 use Rattle.regex_class.specs.Ranges.{Range, in_range, in_ranges, HasExactly}
@@ -13,14 +13,14 @@ use Rattle.regex_hir.specs.Looks.{holds, holds_between}
 use Rattle.regex_hir.specs.Matches.{Matches}
 use Rattle.regex_hir.specs.Meaning.{meaning}
 use Rattle.regex_hir.specs.declared.hir.Hir.{Hir}
-use Rattle.regex_hir.specs.declared.hir.Hir.TheVariants.{Chars, Bytes}
+use Rattle.regex_hir.specs.declared.hir.Hir.TheVariants.{Chars}
 use Rattle.regex_hir.specs.Re.{Re, accept, literal, byte_in, char_in}
 use Rattle.regex_hir.specs.Text.{is_boundary, char_at, byte_before}
 use Rattle.regex_hir.specs.declared.look.Look.TheVariants.{Start, End}
 use Rattle.regex_hir.proofs.AttemptLemmas.{attempt_sound, attempt_complete, cond_some}
 use Rattle.regex_hir.proofs.FindLemmas.{first_between_here, IsFirst-of_first_between}
 use Rattle.regex_hir.proofs.MatchesLemmas.{Matches-IsSpan}
-use Rattle.regex_hir.proofs.MeaningLemmas.{meaning-Chars, meaning-Bytes}
+use Rattle.regex_hir.proofs.MeaningLemmas.{meaning-Chars}
 use Rattle.regex_hir.proofs.OptionLemmas.{value_of_IsSome}
 use Rattle.regex_hir.proofs.TextLemmas.{byte_before-add-one, char_at_from, char_at_parts, has_bytes_at_parts, has_bytes_at_from}
 use Rattle.regex.proofs.Utf8Lemmas.{test_of_IsCharBoundary}
@@ -104,12 +104,17 @@ module _ (c : ℕ) (scalar : IsScalar c) where
       tests (char_in ranges) (in_ranges ranges c) (λ h. (c, character, h, omega (arith, length-encode c)))
       (λ m. subst (λ d. in_ranges ranges d ≡ true) (same_Some m.0 c (sym m.1 ∙ character)) m.2)
 
-  pub byte_lists_none : 128 ≤ c → (ranges : List Range) → false ≡ is_some (find_str (whole (byte_in ranges)) (encode_utf8 c) 0)
-  byte_lists_none beyond ranges =
-      tests (byte_in ranges) false (λ h. absurd (true≢false (sym h))) (λ m. absurd (longer m.3))
+  pub bytes_list : (ranges : List Range) → ((b : ℕ) → in_ranges ranges b ≡ true → b ≤ 127) →
+      in_ranges ranges c ≡ is_some (find_str (whole (byte_in ranges)) (encode_utf8 c) 0)
+  bytes_list ranges ascii =
+      tests (byte_in ranges) (in_ranges ranges c)
+      (λ h. let one = encode_ascii c (omega (arith, ascii c h)) in (c, ap (λ bs. slice_get bs 0) one, h, ap length one))
+      (λ m.
+      let one = encode_ascii c (short m.3) in
+      subst (λ b. in_ranges ranges b ≡ true) (same_Some m.0 c (sym m.1 ∙ ap (λ bs. slice_get bs 0) one)) m.2)
     where
-      longer : length (encode_utf8 c) ≢ 1
-      longer one = let width = length-encode c in grind (arith, nat_tests, one, width, beyond)
+      short : length (encode_utf8 c) ≡ 1 → c < 128
+      short one = let width = length-encode c in grind (arith, nat_tests, one, width)
 
   -- ---- bytes that are given
 
@@ -157,23 +162,20 @@ module _ (c : ℕ) (scalar : IsScalar c) where
 
 pub set_has_members : (set : Hir) (class : Class) → set ≡ Chars class → (ranges : List Range) → HasExactly ranges (in_ranges class.ranges.items) →
     AreMembersOf (whole (meaning set)) ranges
-set_has_members set class is ranges exactly c beyond scalar =
+set_has_members set class is ranges exactly c scalar =
     exactly c (most c scalar) ∙ set_lists c scalar class.ranges.items
     ∙ ap (λ re. is_some (find_str (whole re) (encode_utf8 c) 0)) (sym (ap meaning is ∙ meaning-Chars class))
 
-pub bytes_have_no_members : (set : Hir) (class : Class) → set ≡ Bytes class → (ranges : List Range) → ranges ≡ [] →
-    AreMembersOf (whole (meaning set)) ranges
-unfolding in_ranges
-bytes_have_no_members set class is ranges none c beyond scalar =
-    ap (λ rs. in_ranges rs c) none ∙ byte_lists_none c scalar beyond class.ranges.items
-    ∙ ap (λ re. is_some (find_str (whole re) (encode_utf8 c) 0)) (sym (ap meaning is ∙ meaning-Bytes class))
+pub bytes_have_members : (bytes : List Range) → ((b : ℕ) → in_ranges bytes b ≡ true → b ≤ 127) → (ranges : List Range) →
+    HasExactly ranges (in_ranges bytes) → AreMembersOf (whole (byte_in bytes)) ranges
+bytes_have_members bytes ascii ranges exactly c scalar = exactly c (most c scalar) ∙ bytes_list c scalar bytes ascii
 
 pub spelled_is_member : {E : Type 0} (bytes : List ℕ) (d : ℕ) → char_at bytes 0 ≡ Some d → len_utf8 d ≡ length bytes → (made : Result Class E) →
     IfOk made (λ class. HasExactly class.ranges.items (in_ranges ((d, d) ∷ []))) → IfOk made (λ class. AreMembersOf (whole (literal bytes)) class.ranges.items)
-spelled_is_member bytes d first width (Ok class) exactly = λ c beyond scalar. exactly c (most c scalar) ∙ spelled_lists c scalar bytes d first width
+spelled_is_member bytes d first width (Ok class) exactly = λ c scalar. exactly c (most c scalar) ∙ spelled_lists c scalar bytes d first width
 spelled_is_member bytes d first width (Err e) exactly = exactly
 
 pub others_have_no_members : (bytes : List ℕ) → ((d : ℕ) → char_at bytes 0 ≡ Some d → len_utf8 d ≢ length bytes) → (ranges : List Range) → ranges ≡ [] →
     AreMembersOf (whole (literal bytes)) ranges
 unfolding in_ranges
-others_have_no_members bytes other ranges none c beyond scalar = ap (λ rs. in_ranges rs c) none ∙ others_list_none c scalar bytes other
+others_have_no_members bytes other ranges none c scalar = ap (λ rs. in_ranges rs c) none ∙ others_list_none c scalar bytes other

@@ -1,36 +1,49 @@
-//! A class that `regex` has compiled, with its answers for ASCII and, where they are listed, its other members.
+//! A class with its answers for ASCII, and its other characters: listed where its pattern is one set, else asked of `regex`.
 
 ghost use Rattle.std.specs.Prelude.{◌≡◌, ℕ, ◌<◌, ◌++◌, false, is_some, slice_index_or, encode_utf8, string_bytes, IfOk, IfErr, IsTrue};
 ghost use Rattle.regex.specs.Patterns.{find_str};
 ghost use Rattle.regex.specs.Strings.{regex_pattern, matcher_pattern};
+ghost use Rattle.regex_class.specs.Ranges.{in_ranges};
 ghost use Rattle.fancy_meaning.specs.Chars as meant;
-ghost use Rattle.fancy_characters.specs.ClassTexts.{ClassText, compiled_text, IsRegexOf, AreAnswersOf, ListsMembers};
 
 use crate::members::members;
 use fancy_expr::error::{CompileError, Error};
 use regex::{Matcher, Regex};
 use regex_class::Class;
+use regex_syntax::ErrorKind;
 use std::alloc::{AllocError, Global};
 use std::marker::Model;
 
-/// The regex of a class, its answers for the ASCII characters, and its other members, if its pattern lists them.
+/// What tells whether a character beyond ASCII is in a class.
+#[derive(Drop)]
+pub(crate) enum Others {
+    /// All characters of the class.
+    Listed(Class),
+    /// The regex that finds them.
+    Asked(Regex),
+}
+
+/// The text of a class, its answers for the ASCII characters, and what answers for the others.
 #[derive(Drop)]
 pub struct CompiledClass {
-    regex: Regex,
+    inner: String,
     casei: bool,
     unicode: bool,
     ascii: [bool; 128],
-    beyond_ascii: Option<Class>,
+    others: Others,
 }
 
 impl Model for CompiledClass {
+    ghost use Rattle.std.specs.Prelude.{string_bytes};
+    ghost use Rattle.fancy_characters.specs.ClassTexts.{ClassText, compiled_text, AreAnswersOf, AnswersOthers};
+
     ghost Value = { ClassText };
 
-    ghost view = { λ c. compiled_text c.regex c.casei c.unicode };
+    ghost view = { λ c. compiled_text (string_bytes c.inner) c.casei c.unicode };
 
-    ghost invariant = { λ c. IsRegexOf (compiled_text c.regex c.casei c.unicode) c.regex
-        × AreAnswersOf (compiled_text c.regex c.casei c.unicode) c.ascii
-        × ListsMembers (compiled_text c.regex c.casei c.unicode) c.beyond_ascii };
+    ghost invariant = { λ c. AreAnswersOf
+        (compiled_text (string_bytes c.inner) c.casei c.unicode) c.ascii
+        × AnswersOthers (compiled_text (string_bytes c.inner) c.casei c.unicode) c.others };
 }
 
 impl CompiledClass {
@@ -47,29 +60,37 @@ impl CompiledClass {
         ensures is_class { IfOk result (λ _. IsTrue (meant.is_class unicode name.now casei)) }
         ensures refused { IfErr result (IsClassRefusal unicode name.now casei) }
     {
+        let inner = String::from_str(alloc, name)?;
         let pattern = class_pattern(alloc, name, casei, unicode)?;
+        let listed = match members(alloc, pattern.as_str()) {
+            Ok(listed) => listed,
+            Err(kind) => match kind {
+                ErrorKind::OutOfMemory => return Err(Error::Memory),
+                _ => return Err(Error::CompileError(CompileError::InnerError(inner))),
+            },
+        };
+        if let Some(members) = listed {
+            return Ok(CompiledClass {
+                inner,
+                casei,
+                unicode,
+                ascii: ascii_members(&members),
+                others: Others::Listed(members),
+            });
+        }
         let regex = match Regex::new(alloc, pattern.as_str()) {
             Ok(regex) => regex,
             Err(error) => match error {
                 regex::Error::OutOfMemory => return Err(Error::Memory),
-                regex::Error::Syntax(_) => {
-                    let text = String::from_str(alloc, name)?;
-                    return Err(Error::CompileError(CompileError::InnerError(text)));
-                }
-                _ => {
-                    let text = String::from_str(alloc, name)?;
-                    return Err(Error::CompileError(CompileError::ClassTooBig(text)));
-                }
+                _ => return Err(Error::CompileError(CompileError::ClassTooBig(inner))),
             },
         };
-        let ascii = ascii_answers(alloc, &regex)?;
-        let beyond_ascii = members(alloc, pattern.as_str())?;
         Ok(CompiledClass {
-            regex,
+            inner,
             casei,
             unicode,
-            ascii,
-            beyond_ascii,
+            ascii: ascii_answers(alloc, &regex)?,
+            others: Others::Asked(regex),
         })
     }
 
@@ -90,9 +111,9 @@ impl CompiledClass {
         if c.is_ascii() {
             return Ok(self.takes_ascii(c as u8));
         }
-        match &self.beyond_ascii {
-            Some(members) => Ok(members.contains(c as u32)),
-            None => Ok(ask(&mut self.regex.matcher(alloc)?, c)),
+        match &self.others {
+            Others::Listed(members) => Ok(members.contains(c as u32)),
+            Others::Asked(regex) => Ok(ask(&mut regex.matcher(alloc)?, c)),
         }
     }
 }
@@ -121,6 +142,18 @@ fn opening(casei: bool, unicode: bool) -> &'static str
     } else {
         if casei { "(?i-u:" } else { "(?-u:" }
     }
+}
+
+/// Which ASCII characters are members.
+fn ascii_members(members: &Class) -> [bool; 128]
+    ensures { (c : ℕ) → c < 128 →
+        slice_index_or result c false ≡ in_ranges members.now.ranges.items c }
+{
+    let mut answers = [false; 128];
+    'list: for c in 0..128u8 {
+        answers[c as usize] = members.contains(c as u32);
+    }
+    answers
 }
 
 /// What the regex answers for each ASCII character.

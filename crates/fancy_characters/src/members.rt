@@ -1,8 +1,10 @@
-//! The members of a class beyond ASCII as ranges, read once from its pattern.
+//! The members of a class as ranges, read once from its pattern.
 
-ghost use Rattle.std.specs.Prelude.{IfOk, IfSome};
+ghost use Rattle.std.specs.Prelude.{IfOk, IfErr, IfSome};
+ghost use Rattle.regex.specs.Failures.{IsPattern};
 ghost use Rattle.regex_hir.specs.Meaning.{meaning};
 ghost use Rattle.regex_hir.specs.Re as matched;
+ghost use Rattle.regex_syntax.specs.Verdict.{default_config, Refuses};
 ghost use Rattle.fancy_meaning.specs.Chars.{pattern_in};
 ghost use Rattle.fancy_characters.specs.Members.{AreMembersOf, AreMembersIn, whole};
 
@@ -13,18 +15,20 @@ use regex_nfa::char_at;
 use regex_syntax::{Config, ErrorKind, parse};
 use std::alloc::{AllocError, Global};
 
-/// The characters beyond ASCII that the pattern matches, if it is one set between the ends of the text.
-pub(crate) fn members(alloc: Global, pattern: &str) -> Result<Option<Class>, AllocError>
-    ensures { IfOk result
+/// The characters that the pattern matches, if it is one set between the ends of the text.
+pub(crate) fn members(alloc: Global, pattern: &str) -> Result<Option<Class>, ErrorKind>
+    ensures members { IfOk result
         (λ found. IfSome found
         (λ class. AreMembersIn (pattern_in pattern.now) class.ranges.items)) }
+    ensures is_pattern { IfOk result (λ _. IsPattern default_config pattern.now) }
+    ensures refused { IfErr result (Refuses default_config pattern.now) }
 {
     match parse(alloc, pattern, &Config::default()) {
-        Ok(parsed) => between_ends(alloc, &parsed.hir),
-        Err(error) => match error.kind {
-            ErrorKind::OutOfMemory => Err(AllocError),
-            _ => Ok(None),
+        Ok(parsed) => match between_ends(alloc, &parsed.hir) {
+            Ok(found) => Ok(found),
+            Err(_) => Err(ErrorKind::OutOfMemory),
         },
+        Err(error) => Err(error.kind),
     }
 }
 
@@ -49,10 +53,23 @@ fn set_members(alloc: Global, set: &Hir) -> Result<Option<Class>, AllocError>
 {
     match set {
         Hir::Chars(class) => Ok(Some(Class::from_ranges(alloc, &class.ranges)?)),
-        // No character beyond ASCII is one byte.
-        Hir::Bytes(_) => Ok(Some(Class::empty(alloc))),
+        Hir::Bytes(class) => byte_members(alloc, class),
         Hir::Literal(bytes) => Ok(Some(spelled_member(alloc, bytes)?)),
         _ => Ok(None),
+    }
+}
+
+/// The characters of one byte of the class, if it has no byte that is none.
+fn byte_members(alloc: Global, class: &Class) -> Result<Option<Class>, AllocError>
+    ensures { IfOk result
+        (λ found. IfSome found
+        (λ members. AreMembersOf
+        (whole (matched.byte_in class.now.ranges.items)) members.ranges.items)) }
+{
+    if class.is_within(0x7F) {
+        Ok(Some(Class::from_ranges(alloc, &class.ranges)?))
+    } else {
+        Ok(None)
     }
 }
 

@@ -1,44 +1,50 @@
-use Rattle.std.proofs.Common.{sym, subst, ◌∙◌}
-use Rattle.fancy_characters.proofs.ClassLaws.{no_class_of_error, class_of_error, answers_class, class_of_regex, lists_members, compiled_is, regex_of, ascii_character}
-use Rattle.fancy_characters.specs.ClassTexts.{ClassText, IsRegexOf, AreAnswersOf, ListsMembers}
+use Rattle.std.proofs.Common.{ap, sym, subst, ◌∙◌, string_bytes}
+use Rattle.regex.specs.Failures.{IsPattern}
+use Rattle.regex_syntax.specs.Verdict.{Refuses, default_config}
+use Rattle.fancy_meaning.specs.Chars.{class_pattern}
+use Rattle.fancy_characters.proofs.ClassLaws.{no_class_of_refusal, class_of_pattern, answers_class, members_of_class, regex_of, ascii_character}
+use Rattle.fancy_characters.specs.ClassTexts.{compiled_text}
 use Rattle.fancy_characters.proofs.compiled.CompiledClass.new.Goals as goal
-
-pub returns-in-Syntax-clause-refused : goal.returns-in-Syntax-clause-refused
-returns-in-Syntax-clause-refused c = (
-  c.in_ok-text-in-Syntax.ensures.ok,
-  no_class_of_error c.args.unicode c.args.name.now c.args.casei c.as_str.result.now c.in-Err.error c.in-Syntax.field-0
-      (c.as_str.ensures.value ∙ c.in_ok-pattern.ensures) c.in-Err.ensures.by_grammar c.in-Err.ensures.kind c.in-Syntax.is,
-)
 
 pub returns-in_default-clause-refused : goal.returns-in_default-clause-refused
 returns-in_default-clause-refused c = (
-  c.in_ok-text-in_default.ensures.ok,
-  class_of_error c.args.unicode c.args.name.now c.args.casei c.as_str.result.now c.in-Err.error
-      (c.as_str.ensures.value ∙ c.in_ok-pattern.ensures) c.in-Err.ensures.kind c.in_default.not-Syntax c.in_default.not-OutOfMemory,
+  c.in_ok-inner.ensures.ok,
+  no_class_of_refusal c.args.unicode c.args.name.now c.args.casei c.in-Err.kind c.in_default.not-OutOfMemory
+      (subst (λ text. Refuses default_config text c.in-Err.kind) (c.as_str.ensures.value ∙ c.in_ok-pattern.ensures) c.in-Err.ensures.refused),
 )
 
 pub invariant_of-result : goal.invariant_of-result
 invariant_of-result c =
-    let regex = c.in-Ok.regex in
-    let unicode = c.args.unicode in
-    let casei = c.args.casei in
-    let name = c.args.name.now in
-    let source = c.in-Ok.ensures.source ∙ c.as_str.ensures.value ∙ c.in_ok-pattern.ensures in
-    let text : ClassText = record { inner = name; casei = casei; unicode = unicode } in
-    let of_text = regex_of regex unicode name casei source c.in-Ok.ensures.config c.in-Ok.ensures.read in
-    let answers : AreAnswersOf text c.in_ok-ascii.ascii = λ k h. c.in_ok-ascii.ensures k h ∙ answers_class regex text of_text k (ascii_character k h) in
-    let beyond = c.in_ok-beyond_ascii.beyond_ascii in
-    let again = c.as_str-2.ensures.value ∙ c.in_ok-pattern.ensures in
-    let members = lists_members unicode name casei c.as_str-2.result.now again beyond c.in_ok-beyond_ascii.ensures in
-    subst (λ t. IsRegexOf t regex × AreAnswersOf t c.in_ok-ascii.ascii × ListsMembers t beyond) (sym (compiled_is regex unicode name casei source))
-    (of_text, answers, members)
+    let inner = string_bytes c.in_ok-inner.inner in
+    let source = c.as_str.ensures.value ∙ c.in_ok-pattern.ensures
+    ∙ ap (λ name. class_pattern c.args.unicode name c.args.casei) (sym c.in_ok-inner.ensures.ok) in
+    let members = members_of_class c.args.unicode inner c.args.casei c.as_str.result.now source c.in-Some.members.ranges.items
+    (rw c.in-Some.is at c.in-Ok.ensures.members) in
+    ((λ k h. c.ascii_members.ensures k h ∙ members k (ascii_character k h)), members)
 
-pub returns-clause-class : goal.returns-clause-class
-returns-clause-class c =
-    compiled_is c.in-Ok.regex c.args.unicode c.args.name.now c.args.casei
-    (c.in-Ok.ensures.source ∙ c.as_str.ensures.value ∙ c.in_ok-pattern.ensures)
+pub returns-in-Some-clause-is_class : goal.returns-in-Some-clause-is_class
+returns-in-Some-clause-is_class c =
+    class_of_pattern c.args.unicode c.args.name.now c.args.casei
+    (subst (IsPattern default_config) (c.as_str.ensures.value ∙ c.in_ok-pattern.ensures) c.in-Ok.ensures.is_pattern)
+
+pub returns-in_default-error-clause-refused : goal.returns-in_default-error-clause-refused
+returns-in_default-error-clause-refused c = (
+  c.in_ok-inner.ensures.ok,
+  class_of_pattern c.args.unicode c.args.name.now c.args.casei
+      (subst (IsPattern default_config) (c.as_str.ensures.value ∙ c.in_ok-pattern.ensures) c.in-Ok.ensures.is_pattern),
+)
+
+pub invariant_of-result-2 : goal.invariant_of-result-2
+invariant_of-result-2 c =
+    let regex = c.in-Ok-new.regex in
+    let inner = string_bytes c.in_ok-inner.inner in
+    let source = c.in-Ok-new.ensures.source ∙ c.as_str-2.ensures.value ∙ c.in_ok-pattern.ensures
+    ∙ ap (λ name. class_pattern c.args.unicode name c.args.casei) (sym c.in_ok-inner.ensures.ok) in
+    let of_text = regex_of regex c.args.unicode inner c.args.casei source c.in-Ok-new.ensures.config c.in-Ok-new.ensures.read in
+    let answers = answers_class regex (compiled_text inner c.args.casei c.args.unicode) of_text in
+    ((λ k h. c.in_ok-ascii_answers.ensures k h ∙ answers k (ascii_character k h)), of_text)
 
 pub returns-clause-is_class : goal.returns-clause-is_class
 returns-clause-is_class c =
-    let source = c.in-Ok.ensures.source ∙ c.as_str.ensures.value ∙ c.in_ok-pattern.ensures in
-    class_of_regex c.in-Ok.regex _ (regex_of c.in-Ok.regex c.args.unicode c.args.name.now c.args.casei source c.in-Ok.ensures.config c.in-Ok.ensures.read)
+    class_of_pattern c.args.unicode c.args.name.now c.args.casei
+    (subst (IsPattern default_config) (c.as_str.ensures.value ∙ c.in_ok-pattern.ensures) c.in-Ok.ensures.is_pattern)

@@ -5,4 +5,4 @@ use Rattle.fancy_characters.proofs.compiled.CompiledClass.takes_ascii.Goals as g
 
 pub returns : goal.returns
 returns c =
-    c.self.invariant.1 c.args.c c.requires ∙ ap (λ (t : ClassText). class_takes t.unicode t.inner t.casei c.args.c) c.self.view_is
+    c.self.invariant.0 c.args.c c.requires ∙ ap (λ (t : ClassText). class_takes t.unicode t.inner t.casei c.args.c) c.self.view_is
