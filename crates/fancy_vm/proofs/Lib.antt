@@ -7,6 +7,7 @@ pub mod StartsLaws
 pub mod StepLaws
 pub mod WalksLaws
 pub mod BackLaws
+pub mod TailsLaws
 pub mod MeaningLaws
 pub mod MemosLaws
 pub mod PlacesLaws

@@ -6,6 +6,7 @@ pub mod Sound
 pub mod Stops
 pub mod Beginnings
 pub mod StartRuns
+pub mod Tails
 pub mod Outcomes
 pub mod Means
 pub mod Walks

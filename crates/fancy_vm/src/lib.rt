@@ -13,5 +13,6 @@ mod program;
 mod runs;
 mod starts;
 mod steps;
+mod tails;
 pub mod vm;
 mod walk;

@@ -5,10 +5,12 @@ ghost use Rattle.fancy_meaning.specs.Config as config;
 ghost use Rattle.fancy_meaning.specs.Machine as machine;
 ghost use Rattle.fancy_state.specs.Held.{first_held};
 ghost use Rattle.fancy_vm.specs.Sound.{IsSound};
+ghost use Rattle.fancy_vm.specs.Tails.{AreTails};
 
 use crate::insn::Prog;
 use crate::longest::Longest;
 use crate::runs::RunOptions;
+use crate::tails::Tails;
 use fancy_expr::error::{Error, RuntimeError};
 use fancy_state::state::State;
 use std::alloc::{AllocError, Global};
@@ -39,7 +41,10 @@ pub(crate) struct Machine<'a> {
     pub(crate) state: State,
     /// The longest match so far, where the longest is asked for.
     pub(crate) longest: Longest,
+    /// From where on only newlines are left in the text.
+    pub(crate) tails: Tails,
     ghost sound: { IsSound task state },
+    ghost are_tails: { AreTails task.text.now tails },
 }
 
 /// What an instruction led to.
@@ -104,6 +109,7 @@ impl<'a> Machine<'a> {
             passed: 0,
             state,
             longest,
+            tails: Tails::new(),
         }
     }
 
