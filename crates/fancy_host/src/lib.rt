@@ -20,8 +20,8 @@ use std::mem::replace;
 use std::str::from_utf8;
 
 /// The options of a search unless said otherwise: from the text's start, no flag, 1,000,000 backtracks, as many
-/// instructions as can be counted, a program of at most 100,000 instructions, and a tree of at most 50 levels, for which
-/// a stack of 2 MB was enough where nothing is called.
+/// instructions as can be counted, a program of at most 100,000 instructions, and a tree of at most 250 levels, for
+/// which a stack of 2 MB was enough where nothing is called.
 #[unsafe(no_mangle)]
 pub extern "C" fn fancy_default_options() -> FancyOptions
     ensures { result ≡ default_options }
