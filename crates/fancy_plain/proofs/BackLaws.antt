@@ -1,18 +1,20 @@
 -- The way back to what is tried later.
-use Rattle.std.proofs.Common.{◌≡◌, ◌≤◌, ◌+◌, ◌∷◌, ◌++◌, [], ℕ, zero, suc, List, Bool, Some, None, Result, Ok, Err, length, take, reverse, refl, sym, ap, ◌∙◌, subst, arith}
-use Rattle.std.proofs.lemmas.List.{length-take, reverse-append}
+use Rattle.std.proofs.Common.{◌≡◌, ◌≤◌, ◌+◌, ◌∷◌, [], ℕ, zero, suc, List, Bool, Some, None, Result, Ok, Err, length, take, refl, sym, ap, ◌∙◌, subst, arith}
+use Rattle.std.proofs.lemmas.List.{length-take}
 use Rattle.fancy_points.specs.PointSearch as plain
 use Rattle.fancy_points.specs.FirstWays.{search_in}
 use Rattle.std.specs.declared.alloc.AllocError.{AllocError}
 use Rattle.fancy_plain.specs.declared.log.Entry.{Entry}
 use Rattle.fancy_plain.specs.declared.log.Stand.{Stand}
-use Rattle.fancy_plain.specs.declared.search.Choice.{Choice}
+use Rattle.fancy_plain.specs.declared.choices.Choice.{Choice}
 use Rattle.fancy_plain.specs.declared.search.Lead.{Lead}
 use Rattle.fancy_plain.specs.declared.search.Lead.TheVariants as lead
 use Rattle.fancy_plain.specs.declared.search.Memo.{Memo}
 use Rattle.fancy_plain.specs.declared.search.Task.{Task}
 use Rattle.fancy_plain.specs.Paths.{IsStand}
 use Rattle.fancy_plain.specs.Searches.{after_steps_of, leading_of, next_of, Advances, AreKept, EndsAs, GoesBack, HaveFailed, IsHere, IsSearch, Keeps, Leading, Leads}
+use Rattle.fancy_plain.specs.Choices.{choices_of}
+use Rattle.fancy_plain.specs.Runs.{GoesOn}
 use Rattle.fancy_plain.proofs.PathLaws.{agree_cut, kept_agree, stand_agrees}
 
 -- some steps on it still goes back, and the memo stands for it
@@ -36,14 +38,14 @@ pub record IsLast (leading : Leading) (m : Memo) (c : Choice) (cs : List Choice)
   pub keeps : Keeps c.is_untried (leading stand) stand rest f.later
   pub kept : AreKept leading m.log.entries.items c.path cs rest
 
-last_kept : (leading : Leading) (m : Memo) (c : Choice) (cs : List Choice) (f : plain.Search) → reverse m.later.items ≡ c ∷ cs →
+last_kept : (leading : Leading) (m : Memo) (c : Choice) (cs : List Choice) (f : plain.Search) → choices_of m.later ≡ c ∷ cs →
     IsSearch leading m f → IsLast leading m c cs f
 last_kept leading m c cs f e h =
     let k = subst (λ l. AreKept leading m.log.entries.items (length m.log.entries.items) l f.later) e h.later in
     record { within = k.0; stand = k.1.0; rest = k.1.1.0; stands = k.1.1.1.0; keeps = k.1.1.1.1; kept = k.1.1.1.2 }
 
 module _ (leading : Leading) (m cut : Memo) (c : Choice) (cs : List Choice) (f : plain.Search) (last : IsLast leading m c cs f)
-    (later : reverse cut.later.items ≡ cs) (path : cut.log.entries.items ≡ take c.path m.log.entries.items)
+    (later : choices_of cut.later ≡ cs) (path : cut.log.entries.items ≡ take c.path m.log.entries.items)
     (failed : cut.failed ≡ m.failed) (visits : cut.visits ≡ m.visits) (h : IsSearch leading m f) where
   abbrev es : List Entry
   es = m.log.entries.items
@@ -77,12 +79,12 @@ pub record Popped (leading : Leading) (cut : Memo) (c : Choice) (f : plain.Searc
   pub search : IsSearch leading cut (record f { later = rest })
   pub here : IsHere cut c.stand stand
 
-pub popped : (leading : Leading) (m cut : Memo) (c : Choice) (f : plain.Search) → m.later.items ≡ cut.later.items ++ (c ∷ []) →
+pub popped : (leading : Leading) (m cut : Memo) (c : Choice) (f : plain.Search) → choices_of m.later ≡ c ∷ choices_of cut.later →
     cut.log.entries.items ≡ take c.path m.log.entries.items → cut.failed ≡ m.failed → cut.visits ≡ m.visits →
     IsSearch leading m f → Popped leading cut c f
 popped leading m cut c f items path failed visits h =
-    let cs = reverse cut.later.items in
-    let last = last_kept leading m c cs f (ap reverse items ∙ reverse-append cut.later.items (c ∷ [])) h in
+    let cs = choices_of cut.later in
+    let last = last_kept leading m c cs f items h in
     record {
       stand = last.stand;
       rest = last.rest;
@@ -118,7 +120,7 @@ pub search_noted : (leading : Leading) (m new : Memo) (f : plain.Search) (p : pl
     IsSearch leading m f → IsSearch leading new (plain.with_failed p f)
 search_noted leading m new f p same failed h = record {
   later =
-      subst (λ (n : Memo). AreKept leading n.log.entries.items (length n.log.entries.items) (reverse n.later.items) f.later) (sym same) h.later;
+      subst (λ (n : Memo). AreKept leading n.log.entries.items (length n.log.entries.items) (choices_of n.later) f.later) (sym same) h.later;
   failed = failed;
   visits = subst (λ (n : Memo). n.visits ≤ f.visits) (sym same) h.visits;
 }
@@ -133,10 +135,6 @@ back_noted task next steps f s rest e keeps =
 pub none_kept : (leading : Leading) (entries : List Entry) (path : ℕ) (cs : List Choice) (later : List plain.Later) → cs ≡ [] →
     AreKept leading entries path cs later → later ≡ []
 none_kept leading entries path cs later e h = subst (λ l. AreKept leading entries path l later) e h
-
-pub no_items : {A : Type 0} (l : List A) → length l ≡ 0 → l ≡ []
-no_items [] e = refl
-no_items (x ∷ xs) e = absurd (omega (arith, e))
 
 -- ---- from a step to the next
 
@@ -193,12 +191,6 @@ pub ends_err : (task : Task) (k : ℕ) (n w : plain.Next) (here : Stand) (error 
     Advances task here w (Err error) m → EndsAs task n (Err error) m
 ends_err task k n w here error m e (j, h) =
     (k + j, λ p. h p ∙ sym (ap (λ x. (search_in x).failed p) (steps_then task k j n w e)))
-
--- a search that goes on from this stand after some steps
-abbrev pub GoesOn : Task → plain.Next → Memo → Stand → Type 0
-GoesOn task n m here =
-    (steps : ℕ) × ((f : plain.Search) × ((t : plain.Stand) × ((after_steps_of task steps n ≡ plain.TakesUp t f)
-    × IsSearch (leading_of task) m f × IsHere m here t)))
 
 pub goes_further : (task : Task) (k : ℕ) (n w : plain.Next) (here there : Stand) (m : Memo) → after_steps_of task k n ≡ w →
     Advances task here w (Ok (lead.Goes there)) m → GoesOn task n m there

@@ -1,5 +1,5 @@
 -- From the end of a search to what the first way answers.
-use Rattle.std.proofs.Common.{◌≡◌, ◌<◌, ◌≤◌, [], slice_get, slice_index_or, true, nat_lt, if◌then◌else◌, ℕ, zero, suc, Bool, false, List, length, map, reverse, take, Option, Some, None, Result, Ok, Err, IsTrue, option_map, refl, sym, arith, ap, ◌∙◌, subst}
+use Rattle.std.proofs.Common.{◌≡◌, ◌<◌, ◌≤◌, [], slice_get, slice_index_or, true, nat_lt, if◌then◌else◌, ℕ, zero, suc, Bool, false, List, length, map, take, Option, Some, None, Result, Ok, Err, IsTrue, option_map, refl, sym, arith, ap, ◌∙◌, subst}
 use Rattle.std.proofs.lemmas.Bool.Decides.{nat_tests}
 use Rattle.std.proofs.lemmas.List.{take_all}
 use denote.Bor.{Bor}
@@ -26,6 +26,7 @@ use Rattle.fancy_plain.specs.declared.search.Memo.{Memo}
 use Rattle.fancy_plain.specs.declared.search.Task.{Task}
 use Rattle.fancy_plain.specs.Tables.{IsTableOf}
 use Rattle.fancy_plain.specs.Paths.{closed_after}
+use Rattle.fancy_plain.specs.Choices.{choices_of}
 use Rattle.fancy_plain.specs.Searches.{AreKept, EndsAs, HaveFailed, IsHere, IsSearch, Leading, leading_of}
 use Rattle.fancy_plain.specs.Beginnings.{is_begun_by, may_begin}
 use Rattle.fancy_plain.specs.Views.{point_of}
@@ -57,10 +58,10 @@ module _ (text : List ℕ) (unicode : Bool) (points : List Point) where
 -- ---- before the first point
 
 module _ (leading : Leading) (m : Memo) (failed : Pair → Bool) (place : ℕ) (path : m.log.entries.items ≡ [])
-    (later : m.later.items ≡ []) (visits : m.visits ≡ 0) (have : HaveFailed m failed) where
+    (later : choices_of m.later ≡ []) (visits : m.visits ≡ 0) (have : HaveFailed m failed) where
   pub search_at_start : IsSearch leading m (plain.first_search failed)
   search_at_start = record {
-    later = subst (λ choices. AreKept leading m.log.entries.items (length m.log.entries.items) (reverse choices) [])
+    later = subst (λ choices. AreKept leading m.log.entries.items (length m.log.entries.items) choices [])
         (sym later) refl;
     failed = have;
     visits = omega (arith, visits);
@@ -183,7 +184,7 @@ module _ (text : List ℕ) (f : PointTable) (place : ℕ) (failed : Pair → Boo
 module _ (points : Bor (List code.Point)) (text : Bor (List ℕ)) (table : PointTable) (place : ℕ) (old m : Memo)
     (same : points.now ≡ table.points.items) (is_text : IsText text.now) (at : IsTrue (is_place text.now place))
     (memo : IsMemoOf text.now table old) (failed : m.failed ≡ old.failed) (path : m.log.entries.items ≡ [])
-    (later : m.later.items ≡ []) (visits : m.visits ≡ 0) where
+    (later : choices_of m.later ≡ []) (visits : m.visits ≡ 0) where
   abbrev task : Task
   task = record { points = points; unicode = table.unicode; text = text }
 

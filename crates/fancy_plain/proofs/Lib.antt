@@ -9,6 +9,8 @@ pub mod Texts
 pub mod Branches
 pub mod Built
 pub mod BackLaws
+pub mod RunLaws
+pub mod ChoiceLaws
 pub mod WayLaws
 pub mod FirstWayLaws
 pub mod ReadPoints

@@ -11,7 +11,7 @@ use Rattle.fancy_plain.specs.declared.log.Entry.{Entry}
 use Rattle.fancy_plain.specs.declared.log.Entry.TheVariants as entry
 use Rattle.fancy_plain.specs.declared.log.Turn.{Turn}
 use Rattle.fancy_plain.specs.declared.log.Stand.{Stand}
-use Rattle.fancy_plain.specs.declared.search.Choice.{Choice}
+use Rattle.fancy_plain.specs.declared.choices.Choice.{Choice}
 
 -- ---- the numbers of the iterations that a link leads to
 

@@ -1,5 +1,5 @@
 -- What is kept of a search and of a stand when the path grows or is cut.
-use Rattle.std.proofs.Common.{◌≡◌, ◌≤◌, ◌+◌, ◌∷◌, ◌++◌, [], ℕ, min, List, Bool, true, false, Option, Some, None, Result, Ok, option_map, map, length, take, slice_get, reverse, refl, sym, ap, ap₂, ◌∙◌, ◌||◌, subst, arith, nat_lt, if◌then◌else◌, length-append, OnOk, IfOk, Err}
+use Rattle.std.proofs.Common.{◌≡◌, ◌≤◌, ◌+◌, ◌∷◌, ◌++◌, [], ℕ, min, List, Bool, true, false, Option, Some, None, Result, Ok, option_map, map, length, take, slice_get, refl, sym, ap, ap₂, ◌∙◌, ◌||◌, subst, arith, nat_lt, if◌then◌else◌, length-append, OnOk, IfOk, Err}
 use Rattle.std.proofs.lemmas.List.{take_all}
 use Rattle.fancy_points.specs.PointSearch as plain
 use Rattle.std.proofs.lemmas.Option.{slice_get-map, slice_get_past}
@@ -8,6 +8,7 @@ use Rattle.fancy_points.specs.Points.{Loop, Close}
 use Rattle.fancy_points.specs.Points as points
 use Rattle.fancy_plain.specs.declared.search.Lead.TheVariants as lead
 use Rattle.fancy_plain.specs.Paths.{HasTurns, HasOpened, EndsOpened, EndsTurns, IsTurn, IsOpened, IsStand, closed_after, turn_of}
+use Rattle.fancy_plain.specs.Choices.{choices_of}
 use Rattle.fancy_plain.specs.Searches.{HaveFailed, IsHere, IsSearch, Leading, Leads, TurnsBy, leading_of, next_of}
 use Rattle.fancy_plain.specs.declared.search.Turning.{Turning}
 use Rattle.fancy_plain.specs.declared.search.Turning.TheVariants as turning
@@ -48,9 +49,9 @@ module _ (m : Memo) (log : Log) where
 
     pub search_pushed : (leading : Leading) (f : plain.Search) → IsSearch leading m f → IsSearch leading (record m { log = log }) f
     search_pushed leading f h = record {
-      later = kept_longer leading after (length before) (length after) (reverse m.later.items) f.later
+      later = kept_longer leading after (length before) (length after) (choices_of m.later) f.later
           (omega (arith, one_longer))
-          (kept_agree before after leading (length before) (reverse m.later.items) f.later agree h.later);
+          (kept_agree before after leading (length before) (choices_of m.later) f.later agree h.later);
       failed = h.failed;
       visits = h.visits;
     }

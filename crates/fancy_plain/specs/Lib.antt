@@ -2,7 +2,9 @@ pub mod Views
 pub mod Paths
 pub mod PairBits
 pub mod FailedPairs
+pub mod Choices
 pub mod Searches
+pub mod Runs
 pub mod Ways
 pub mod Neighbours
 pub mod ClassTexts

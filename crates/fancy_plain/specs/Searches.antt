@@ -1,5 +1,5 @@
 -- How the search of the code stands for the search of the definition.
-use Rattle.std.specs.Prelude.{◌≡◌, ◌≤◌, ℕ, Bool, true, false, List, [], ◌∷◌, ◌++◌, reverse, length, map, slice_get, nat_lt, Option, Some, None, Result, Ok, Err}
+use Rattle.std.specs.Prelude.{◌≡◌, ◌≤◌, ℕ, Bool, true, false, List, [], ◌∷◌, ◌++◌, length, map, slice_get, nat_lt, Option, Some, None, Result, Ok, Err}
 use Rattle.fancy_points.specs.Points.{Loop}
 use Rattle.fancy_points.specs.PointSearch as plain
 use Rattle.fancy_points.specs.PointSearch.{Pair, Later, Other, Fails, Search, Next, TakesUp, TakesBack, Ends, pair_of, after_steps}
@@ -9,7 +9,7 @@ use Rattle.fancy_expr.specs.declared.error.Error.{Error}
 use Rattle.fancy_expr.specs.declared.error.Error.TheVariants as error
 use Rattle.fancy_plain.specs.declared.log.Entry.{Entry}
 use Rattle.fancy_plain.specs.declared.log.Stand.{Stand}
-use Rattle.fancy_plain.specs.declared.search.Choice.{Choice}
+use Rattle.fancy_plain.specs.declared.choices.Choice.{Choice}
 use Rattle.fancy_plain.specs.declared.search.Lead.{Lead}
 use Rattle.fancy_plain.specs.declared.search.Lead.TheVariants as lead
 use Rattle.fancy_plain.specs.declared.search.Turning.{Turning}
@@ -18,6 +18,7 @@ use Rattle.fancy_plain.specs.declared.search.Memo.{Memo}
 use Rattle.fancy_plain.specs.declared.search.Task.{Task}
 use Rattle.fancy_plain.specs.declared.point.Point.{Point}
 use Rattle.fancy_plain.specs.Views.{point_of, IsPointReadBy}
+use Rattle.fancy_plain.specs.Choices.{choices_of}
 use Rattle.fancy_plain.specs.FailedPairs.{has_pair, key_of}
 use Rattle.fancy_plain.specs.Paths.{IsStand}
 
@@ -59,7 +60,7 @@ abbrev pub HaveFailed : Memo → (Pair → Bool) → Type 0
 HaveFailed m failed = (p : Pair) → has_pair m.failed (key_of p) ≡ failed p
 
 pub record IsSearch (leading : Leading) (m : Memo) (f : Search) : Type 0 where
-  pub later : AreKept leading m.log.entries.items (length m.log.entries.items) (reverse m.later.items) f.later
+  pub later : AreKept leading m.log.entries.items (length m.log.entries.items) (choices_of m.later) f.later
   pub failed : HaveFailed m f.failed
   pub visits : m.visits ≤ f.visits
 

@@ -2,6 +2,7 @@
 #![tactic(auto)]
 
 mod beginnings;
+mod choices;
 mod failed;
 pub mod first_way;
 mod layout;

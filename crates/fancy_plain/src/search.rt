@@ -1,15 +1,18 @@
 //! The plain search: from point to point, with what is tried later on a stack.
 
-ghost use Rattle.std.specs.Prelude.{◌≡◌, ◌≤◌, ◌<◌, ◌+◌, ◌∷◌, ◌++◌, [], ℕ, List, Bool, Option, Some, None, min, true, false, length, map, slice_get, if◌then◌else◌, IfOk, IfErr};
+ghost use Rattle.std.specs.Prelude.{◌≡◌, ◌≤◌, ◌<◌, ◌+◌, ◌∷◌, ◌++◌, [], ℕ, List, Bool, Option, Some, None, min, true, false, length, map, slice_get, if◌then◌else◌, IfOk, IfErr, IfSome};
 ghost use Rattle.fancy_points.specs.PointSearch as plain;
 ghost use Rattle.fancy_points.specs.PointSearch.{Next, Search, TakesBack, TakesUp, pair_of};
 ghost use Rattle.fancy_points.specs.Points as points;
 ghost use Rattle.fancy_plain.specs.FailedPairs.{key_of, turn_numbers};
 ghost use Rattle.fancy_plain.specs.Paths.{HasTurns, turn_of};
 ghost use Rattle.fancy_plain.specs.Views.{loop_of, point_of, IsPointReadBy, IsReadBy, test_of};
+ghost use Rattle.fancy_plain.specs.Choices.{choices_of};
+ghost use Rattle.fancy_plain.specs.Runs.{GoesOn, IsForkOf, IsLoopOver, IsRun, onward, run_search};
 ghost use Rattle.fancy_plain.specs.Ways.{IsMemoOf};
 ghost use Rattle.fancy_plain.specs.Searches.{Advances, EndsAs, GoesBack, HaveFailed, IsHere, IsTask, TurnsBy, fails_before, leading_of, next_of, IsSearch, Keeps, Leading, Leads};
 
+use crate::choices::{Choice, Choices};
 use crate::failed::Failed;
 use crate::log::{Entry, Log, Stand, Turn};
 use crate::point::{CharTest, Loop, Point};
@@ -17,20 +20,12 @@ use crate::table::PointTable;
 use fancy_characters::look::holds;
 use std::alloc::{AllocError, Global};
 
-/// A choice on the path: where it stands, how long the path is, and whether its other way on is still untried.
-#[derive(Clone, Copy)]
-pub(crate) struct Choice {
-    stand: Stand,
-    path: usize,
-    is_untried: bool,
-}
-
 /// What a search keeps from one start to the next: the pairs that have no way, and room.
 #[derive(Drop)]
 pub struct Memo {
     alloc: Global,
     failed: Failed,
-    later: Vec<Choice>,
+    later: Choices,
     log: Log,
     /// Room for the numbers of a pair.
     numbers: Vec<usize>,
@@ -144,7 +139,7 @@ impl Memo {
         Memo {
             alloc,
             failed: Failed::new(alloc, table.pair_bits, pos),
-            later: Vec::new(alloc),
+            later: Choices::new(alloc),
             log: Log::new(alloc),
             numbers: Vec::new(alloc),
             visits: 0,
@@ -160,7 +155,7 @@ impl Memo {
 
     /// Before another search.
     pub(crate) fn start(&mut self)
-        ensures later { self.new.later.items ≡ [] }
+        ensures later { choices_of self.new.later ≡ [] }
         ensures path { self.new.log.entries.items ≡ [] }
         ensures visits { self.new.visits ≡ 0 }
         ensures failed { self.new.failed ≡ self.old.failed }
@@ -207,6 +202,18 @@ impl Memo {
         Ok(self.failed.has(&self.numbers))
     }
 
+    /// Whether the pair of this stand may be known to have no way. Inside loops that count it may, once any pair is.
+    #[inline(always)]
+    fn may_have_failed(&self, stand: Stand) -> bool
+        ensures { result ≡ false → (s : plain.Stand) (failed : plain.Pair → Bool)
+            → IsHere self.now stand s → HaveFailed self.now failed → failed (pair_of s) ≡ false }
+    {
+        if self.failed.is_empty() {
+            return false;
+        }
+        stand.turns != 0 || self.failed.has_outside(stand.at, stand.place)
+    }
+
     /// The pair of this stand has no way.
     fn note_failed(&mut self, stand: Stand) -> Result<(), AllocError>
         ensures ok { IfOk result (λ _. (s : plain.Stand) (f : Search)
@@ -233,12 +240,43 @@ impl Memo {
         ensures rest { self.new ≡ record self.old { later = self.new.later } }
     {
         let path = self.log.len();
-        self.later.push(Choice {
+        let choice = Choice {
             stand,
             path,
             is_untried,
-        })?;
+        };
+        self.later.push(choice, 0)?;
         Ok(())
+    }
+
+    /// Takes up a loop's head and the character there, at this stand and at each of the next bytes, so many in all. A choice
+    /// is kept at each. Goes on behind them.
+    fn keep_run(&mut self, stand: Stand, count: usize) -> Result<Stand, AllocError>
+        requires some { 0 < count }
+        requires fits { stand.place + count ≤ usize.MAX }
+        ensures ok { IfOk result (λ on. (leading : Leading) (f : Search) (s : plain.Stand)
+            (first second : ℕ) → IsSearch leading self.old f → IsHere self.old stand s
+            → IsForkOf leading first second s
+            → IsSearch leading self.new (run_search second count s f)
+            × IsHere self.new on (onward count s)) }
+        ensures rest { self.new
+            ≡ record self.old { later = self.new.later; visits = self.new.visits } }
+    {
+        let end = stand.place + count;
+        let last = Choice {
+            stand: Stand {
+                place: end - 1,
+                ..stand
+            },
+            path: self.log.len(),
+            is_untried: true,
+        };
+        self.later.push(last, count - 1)?;
+        self.visits = self.visits.saturating_add((count as u64).saturating_mul(2));
+        Ok(Stand {
+            place: end,
+            ..stand
+        })
     }
 
     /// Into the loop whose head this stand is at.
@@ -435,6 +473,7 @@ impl Task<'_> {
     {
         let mut stand = start;
         'steps: for _ in 0..u64::MAX {
+            stand = self.past_run(m, stand)?;
             match self.advance(m, stand)? {
                 Lead::Found => return Ok(Some(stand)),
                 Lead::Goes(next) => stand = next,
@@ -442,6 +481,60 @@ impl Task<'_> {
             }
         }
         Err(AllocError)
+    }
+
+    /// At the head of a loop over one character, past the characters from here on that pass: those of ASCII, up to a place
+    /// where the head may have no way. A choice is kept at each.
+    fn past_run(&self, m: &mut Memo, stand: Stand) -> Result<Stand, AllocError>
+        requires { IsTask self.now }
+        ensures ok { IfOk result (λ on. (s : plain.Stand) (f : Search)
+            → IsSearch (leading_of self.now) m.old f → IsHere m.old stand s
+            → GoesOn self.now (TakesUp s f) m.new on) }
+        ensures failed { m.new.failed ≡ m.old.failed }
+    {
+        let Some(test) = self.body_test(stand.at) else {
+            return Ok(stand);
+        };
+        let count = self.run_length(m, test, stand);
+        if count == 0 {
+            return Ok(stand);
+        }
+        m.keep_run(stand, count)
+    }
+
+    /// The test on a character that is the body of the loop whose head is here.
+    #[inline(always)]
+    fn body_test(&self, at: usize) -> Option<&CharTest>
+        ensures { IfSome result (λ test. IsLoopOver self.now.points.now at test.now) }
+    {
+        let Some(Point::Fork(first, _)) = self.points.get(at) else {
+            return None;
+        };
+        let Some(Point::Take(test)) = self.points.get(*first) else {
+            return None;
+        };
+        let Some(Point::Jump(to)) = self.points.get(first.checked_add(1)?) else {
+            return None;
+        };
+        if *to == at { Some(test) } else { None }
+    }
+
+    /// How many characters of ASCII from here on pass the test, up to a place where the head may have no way.
+    fn run_length(&self, m: &Memo, test: &CharTest, stand: Stand) -> usize
+        requires { IsReadBy self.now.unicode test.now }
+        ensures run { IsRun self.now m.now test.now stand result }
+        ensures fits { stand.place + result ≤ usize.MAX }
+    {
+        let text = self.text.as_bytes();
+        let mut at = stand.place;
+        'run: while at < text.len()
+            && text[at] < 128
+            && test.takes_ascii(self.unicode, text[at])
+            && !m.may_have_failed(Stand { place: at, ..stand })
+        {
+            at += 1;
+        }
+        at - stand.place
     }
 
     /// Takes up the point, and where it leads nowhere goes back to what is tried later.

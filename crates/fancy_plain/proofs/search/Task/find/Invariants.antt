@@ -1,7 +1,7 @@
 use Rattle.fancy_points.specs.PointSearch as plain
 use Rattle.fancy_points.specs.PointSearch.{Next, Search, TakesBack, TakesUp, pair_of}
 use Rattle.fancy_plain.specs.Searches.{IsHere, leading_of, IsSearch}
-use Rattle.fancy_plain.proofs.BackLaws.{GoesOn}
+use Rattle.fancy_plain.specs.Runs.{GoesOn}
 use Rattle.fancy_plain.proofs.search.Task.find.Given as goal
 
 abbrev pub invariant-steps : goal.invariant-steps

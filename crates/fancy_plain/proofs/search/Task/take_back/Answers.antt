@@ -1,10 +1,12 @@
-use Rattle.std.proofs.Common.{refl, sym, ap, ◌∙◌, subst, arith, reverse, suc, length-append, append-nil, ◌∷◌, [], true, false, length}
+use Rattle.std.proofs.Common.{refl, sym, ap, ◌∙◌, subst, arith, suc, true, false, length}
 use Rattle.fancy_points.specs.PointSearch as plain
 use Rattle.fancy_points.specs.PointSearch.{Next, Search, TakesBack, TakesUp, pair_of}
 use Rattle.fancy_plain.specs.Searches.{AreKept, fails_before, leading_of, Keeps}
 use Rattle.std.proofs.lemmas.Result.{err_from_is_err_and}
 use Rattle.fancy_plain.specs.declared.search.Memo.{Memo}
-use Rattle.fancy_plain.proofs.BackLaws.{back_noted, goes_back, no_items, none_kept, one_more, popped, search_noted}
+use Rattle.fancy_plain.specs.Choices.{choices_of}
+use Rattle.fancy_plain.proofs.BackLaws.{back_noted, goes_back, none_kept, one_more, popped, search_noted}
+use Rattle.fancy_plain.proofs.ChoiceLaws.{last_choice, no_choice}
 use Rattle.fancy_points.specs.FirstWays.{search_in}
 use Rattle.fancy_plain.proofs.search.Task.take_back.Goals as goal
 
@@ -14,8 +16,8 @@ later-init c = λ f h. (0, (f, (refl, h)))
 
 pub later-smaller : goal.later-smaller
 later-smaller c =
-    let same = ap (λ (m : Memo). length m.later.items) c.note_failed.ensures.rest in
-    let shorter = ap length c.in-Some.ensures.items ∙ length-append c.pop.new.self.items (c.in-Some.choice ∷ []) in
+    let same = ap (λ (m : Memo). length (choices_of m.later)) c.note_failed.ensures.rest in
+    let shorter = ap length (last_choice c.later.m.later c.pop.new.self c.in-Some.choice c.pop.result c.in-Some.is c.pop.ensures) in
     omega (arith, same, shorter)
 
 pub later-preserved : goal.later-preserved
@@ -25,7 +27,8 @@ later-preserved c = λ f h.
     let back = c.later.invariant f h in
     let g = back.1.0 in
     let cut : Memo = record c.later.m { later = c.pop.new.self; log = c.truncate.new.self } in
-    let last = popped leading c.later.m cut c.in-Some.choice g c.in-Some.ensures.items c.truncate.ensures refl refl back.1.1.1 in
+    let last = popped leading c.later.m cut c.in-Some.choice g
+    (last_choice c.later.m.later c.pop.new.self c.in-Some.choice c.pop.result c.in-Some.is c.pop.ensures) c.truncate.ensures refl refl back.1.1.1 in
     let keeps = subst (λ b. Keeps b (leading last.stand) last.stand last.rest g.later) {y = false} c.if-choice.false last.keeps in
     let noted = c.in_ok-note_failed.ensures.ok last.stand (record g { later = last.rest }) last.here last.search.failed in (
       suc back.0,
@@ -45,7 +48,8 @@ returns-in_err-note_failed c = λ f h.
     let back = c.later.invariant f h in
     let g = back.1.0 in
     let cut : Memo = record c.later.m { later = c.pop.new.self; log = c.truncate.new.self } in
-    let last = popped leading c.later.m cut c.in-Some.choice g c.in-Some.ensures.items c.truncate.ensures refl refl back.1.1.1 in
+    let last = popped leading c.later.m cut c.in-Some.choice g
+    (last_choice c.later.m.later c.pop.new.self c.in-Some.choice c.pop.result c.in-Some.is c.pop.ensures) c.truncate.ensures refl refl back.1.1.1 in
     let p = err_from_is_err_and c.from_residual.result c.from_residual.ensures.1 in
     rw p.1 (
       back.0,
@@ -61,7 +65,8 @@ returns-then-choice c = λ f h.
     let back = c.later.invariant f h in
     let g = back.1.0 in
     let cut : Memo = record c.later.m { later = c.pop.new.self; log = c.truncate.new.self } in
-    let last = popped leading c.later.m cut c.in-Some.choice g c.in-Some.ensures.items c.truncate.ensures refl refl back.1.1.1 in
+    let last = popped leading c.later.m cut c.in-Some.choice g
+    (last_choice c.later.m.later c.pop.new.self c.in-Some.choice c.pop.result c.in-Some.is c.pop.ensures) c.truncate.ensures refl refl back.1.1.1 in
     let keeps = subst (λ b. Keeps b (leading last.stand) last.stand last.rest g.later) {y = true} c.if-choice.true last.keeps in
     let is_noted = keeps.0 in
     let other = keeps.1.1.0 in
@@ -76,8 +81,9 @@ returns c = λ f h.
     let back = c.later.invariant f h in
     let g = back.1.0 in
     let k = back.1.1.1 in
+    let no = no_choice c.later.m.later c.pop.new.self c.pop.result c.in_default.is c.pop.ensures in
     let none = none_kept (leading_of task) c.later.m.log.entries.items (length c.later.m.log.entries.items)
-    (reverse c.later.m.later.items) g.later (ap reverse (no_items c.later.m.later.items (sym c.later.m.later.ok.0 ∙ c.in_default.ensures.cases.0))) k.later in (
+    (choices_of c.later.m.later) g.later no.0 k.later in (
       suc back.0,
       (
         g,
@@ -86,7 +92,7 @@ returns c = λ f h.
           record {
             later =
                 subst (λ l. AreKept (leading_of task) c.later.m.log.entries.items (length c.later.m.log.entries.items) l g.later)
-                (ap reverse (c.in_default.ensures.items ∙ append-nil c.pop.new.self.items)) k.later;
+                (no.0 ∙ sym no.1) k.later;
             failed = k.failed;
             visits = k.visits;
           },

@@ -1,0 +1,238 @@
+-- A loop over one character comes in one go to where its iterations come one by one.
+use Rattle.std.proofs.Common.{◌≡◌, ◌≤◌, ◌<◌, ◌+◌, ◌-◌, ◌*◌, ◌++◌, ℕ, zero, suc, Bool, true, false, List, [], ◌∷◌, Some, Result, Ok, Err, IfOk, ⊎_elim, length, slice_get, slice_index_or, refl, sym, ap, ap₂, ◌∙◌, subst, arith}
+use Rattle.std.proofs.lemmas.Bool.{cases_lt, cond-false}
+use Rattle.std.specs.declared.alloc.AllocError.{AllocError}
+use Rattle.fancy_meaning.specs.Moves.{past_char}
+use Rattle.fancy_points.specs.Points as points
+use Rattle.fancy_points.specs.PointSearch as plain
+use Rattle.fancy_points.specs.PointSearch.{Later, Search, TakesUp, goes_to, pair_of, passes}
+use Rattle.fancy_plain.specs.declared.choices.Choice.{Choice}
+use Rattle.fancy_plain.specs.declared.log.Entry.{Entry}
+use Rattle.fancy_plain.specs.declared.log.Log.{Log}
+use Rattle.fancy_plain.specs.declared.log.Stand.{Stand}
+use Rattle.fancy_plain.specs.declared.point.CharTest.{CharTest}
+use Rattle.fancy_plain.specs.declared.point.Point.TheVariants as point
+use Rattle.fancy_plain.specs.declared.search.Memo.{Memo}
+use Rattle.fancy_plain.specs.declared.search.Task.{Task}
+use Rattle.fancy_plain.specs.Choices.{choices_of, run_choices}
+use Rattle.fancy_plain.specs.Paths.{IsStand}
+use Rattle.fancy_plain.specs.Runs.{CanPass, GoesOn, IsForkOf, IsLoopOver, IsRun, onward, run_later, run_search}
+use Rattle.fancy_plain.specs.Searches.{AreKept, HaveFailed, IsHere, IsSearch, Leading, after_steps_of, leading_of, next_of}
+use Rattle.fancy_plain.specs.Views.{test_of}
+use Rattle.fancy_plain.specs.FailedPairs.{has_pair, key_of}
+use Rattle.fancy_plain.proofs.BackLaws.{one_more, steps_then}
+use Rattle.fancy_plain.proofs.BeginningLaws.{at_index, passes_alike, past_ascii}
+use Rattle.fancy_plain.proofs.SearchLaws.{key_outside, leads_by, next_there}
+
+-- ---- the steps of an iteration
+
+module _ (task : Task) (here : Stand) (first second : ℕ) (test : CharTest)
+    (head : slice_get (task.points).now here.at ≡ Some (point.Fork first second))
+    (body : slice_get (task.points).now first ≡ Some (point.Take test))
+    (back : slice_get (task.points).now (first + 1) ≡ Some (point.Jump here.at))
+    (s : plain.Stand) (at : here.at ≡ s.at) where
+  pub fork_of : IsForkOf (leading_of task) first second s
+  fork_of n = leads_by task (point.Fork first second) here (onward n s) at head
+
+  abbrev taken : Search → plain.Stand → Search
+  taken g t = record g {
+    later = plain.Other (goes_to second t) ∷ plain.Fails (pair_of t) ∷ g.later;
+    visits = g.visits + 1;
+  }
+
+  head_step : (n : ℕ) (g : Search) → g.failed (pair_of (onward n s)) ≡ false →
+      next_of task (TakesUp (onward n s) g) ≡ TakesUp (goes_to first (onward n s)) (taken g (onward n s))
+  head_step n g free =
+      next_there task (point.Fork first second) here (onward n s) at head g
+      ∙ cond-false (g.failed (pair_of (onward n s))) _ _ free
+
+  body_step : (t : plain.Stand) (g : Search) →
+      past_char (task.text).now (passes (task.text).now task.unicode (test_of test)) t.place ≡ Some (t.place + 1) →
+      next_of task (TakesUp (goes_to first t) g)
+      ≡ TakesUp (record t { at = first + 1; place = t.place + 1 }) (record g { visits = g.visits + 1 })
+  body_step t g past =
+      next_there task (point.Take test) (record here { at = first }) (goes_to first t) refl body g
+      ∙ ap (λ o. plain.next_by (plain.goes_past (goes_to first t) o) (Some (points.Take (test_of test))) (goes_to first t) g) past
+
+  back_step : (t : plain.Stand) (g : Search) → t.at ≡ first + 1 →
+      next_of task (TakesUp t g) ≡ TakesUp (goes_to here.at t) g
+  back_step t g e = next_there task (point.Jump here.at) (record here { at = first + 1 }) t (sym e) back g
+
+  -- where an iteration after n of them comes to
+  behind : (n : ℕ) (f : Search) →
+      TakesUp (goes_to here.at (record (onward n s) { at = first + 1; place = s.place + n + 1 }))
+      (record (taken (run_search second n s f) (onward n s)) { visits = f.visits + 2 * n + 1 + 1 })
+      ≡ TakesUp (onward (suc n) s) (run_search second (suc n) s f)
+  behind n f =
+      let place : s.place + n + 1 ≡ s.place + suc n = omega arith in
+      let visits : f.visits + 2 * n + 1 + 1 ≡ f.visits + 2 * suc n = omega arith in
+      ap₂ (λ p i. TakesUp (record s { at = p; place = i })
+      (record (taken (run_search second n s f) (onward n s)) { visits = f.visits + 2 * n + 1 + 1 })) at place
+      ∙ ap (λ v. TakesUp (onward (suc n) s) (record (taken (run_search second n s f) (onward n s)) { visits = v })) visits
+
+  pub run_on : (n : ℕ) (f : Search) →
+      ((k : ℕ) → k < n → past_char (task.text).now (passes (task.text).now task.unicode (test_of test)) (s.place + k) ≡ Some (s.place + k + 1)) →
+      ((k : ℕ) → k < n → f.failed (pair_of (onward k s)) ≡ false) →
+      (steps : ℕ) × (after_steps_of task steps (TakesUp s f) ≡ TakesUp (onward n s) (run_search second n s f))
+  run_on zero f past free =
+      let place : s.place ≡ s.place + 0 = omega arith in
+      let visits : f.visits ≡ f.visits + 2 * 0 = omega arith in
+      (0, ap₂ (λ i v. TakesUp (record s { place = i }) (record f { visits = v })) place visits)
+  run_on (suc n) f past free =
+      let on = run_on n f (λ k below. past k (omega (arith, below))) (λ k below. free k (omega (arith, below))) in
+      let g = run_search second n s f in
+      let one = one_more task on.0 (TakesUp s f) (TakesUp (onward n s) g) on.1 ∙ head_step n g (free n (omega arith)) in
+      let two = one_more task (suc on.0) (TakesUp s f) _ one ∙ body_step (onward n s) (taken g (onward n s)) (past n (omega arith)) in
+      let three = one_more task (suc (suc on.0)) (TakesUp s f) _ two ∙ back_step _ _ refl in
+      (suc (suc (suc on.0)), three ∙ behind n f)
+
+-- ---- what is kept
+
+onward_stands : (entries : List Entry) (path : ℕ) (here : Stand) (s : plain.Stand) (place n : ℕ) → place ≡ s.place + n →
+    IsStand entries path here s → IsStand entries path (record here { place = place }) (onward n s)
+onward_stands entries path here s place n e h = record {
+  at = h.at;
+  place = e;
+  turns_link = h.turns_link;
+  opened_link = h.opened_link;
+  turns = h.turns;
+  opened = h.opened;
+  spans = h.spans;
+}
+
+module _ (leading : Leading) (entries : List Entry) (here : Stand) (s : plain.Stand) (first second : ℕ)
+    (forks : IsForkOf leading first second s) (stands : IsStand entries (length entries) here s) (cs : List Choice) (later : List Later)
+    (kept : AreKept leading entries (length entries) cs later) where
+  abbrev choice_at : ℕ → Choice
+  choice_at place = record { stand = record here { place = place }; path = length entries; is_untried = true }
+
+  pub run_kept : (n place : ℕ) → place ≡ s.place + n →
+      AreKept leading entries (length entries) (run_choices n (choice_at place) ++ cs) (run_later second (suc n) s later)
+  run_kept zero place e = (
+    omega arith,
+    (
+      onward 0 s,
+      (
+        later,
+        (
+          onward_stands entries (length entries) here s place 0 e stands,
+          (true, (goes_to first (onward 0 s), (goes_to second (onward 0 s), (forks 0, refl)))),
+          kept,
+        ),
+      ),
+    ),
+  )
+  run_kept (suc n) place e = (
+    omega arith,
+    (
+      onward (suc n) s,
+      (
+        run_later second (suc n) s later,
+        (
+          onward_stands entries (length entries) here s place (suc n) e stands,
+          (true, (goes_to first (onward (suc n) s), (goes_to second (onward (suc n) s), (forks (suc n), refl)))),
+          run_kept n (place - 1) (omega (arith, e)),
+        ),
+      ),
+    ),
+  )
+
+-- the memo behind a run
+pub run_stands : (leading : Leading) (m new : Memo) (here on : Stand) (s : plain.Stand) (f : Search) (first second count place : ℕ) →
+    0 < count → place ≡ here.place + count - 1 → on ≡ record here { place = here.place + count } →
+    choices_of new.later
+    ≡ run_choices (count - 1) (record { stand = record here { place = place }; path = length m.log.entries.items; is_untried = true })
+    ++ choices_of m.later →
+    new ≡ record m { later = new.later; visits = new.visits } → new.visits ≤ m.visits + 2 * count →
+    IsSearch leading m f → IsHere m here s → IsForkOf leading first second s →
+    IsSearch leading new (run_search second count s f) × IsHere new on (onward count s)
+run_stands leading m new here on s f first second zero place some at to items rest visits h stands forks = absurd (omega (arith, some))
+run_stands leading m new here on s f first second (suc n) place some at to items rest visits h stands forks =
+    let es = m.log.entries.items in
+    let log : new.log ≡ m.log = ap (λ (x : Memo). x.log) rest in
+    let same : new.failed ≡ m.failed = ap (λ (x : Memo). x.failed) rest in
+    let kept = run_kept leading es here s first second forks stands (choices_of m.later) f.later h.later n place (let p = stands.place in omega (arith, at, p)) in
+    let count : suc n - 1 ≡ n = omega arith in (
+      record {
+        later =
+            subst (λ cs. AreKept leading new.log.entries.items (length new.log.entries.items) cs (run_later second (suc n) s f.later)) (sym items)
+            (subst (λ k. AreKept leading new.log.entries.items (length new.log.entries.items)
+            (run_choices k (record { stand = record here { place = place }; path = length es; is_untried = true }) ++ choices_of m.later)
+            (run_later second (suc n) s f.later)) (sym count)
+            (subst (λ (l : Log). AreKept leading l.entries.items (length l.entries.items)
+            (run_choices n (record { stand = record here { place = place }; path = length es; is_untried = true }) ++ choices_of m.later)
+            (run_later second (suc n) s f.later)) (sym log) kept));
+        failed = λ p. ap (λ x. has_pair x (key_of p)) same ∙ h.failed p;
+        visits = let v = h.visits in omega (arith, v, visits);
+      },
+      subst (λ x. IsHere new x (onward (suc n) s)) (sym to)
+          (subst (λ (l : Log). IsStand l.entries.items (length l.entries.items)
+          (record here { place = here.place + suc n }) (onward (suc n) s)) (sym log)
+          (onward_stands es (length es) here s (here.place + suc n) (suc n) (ap (λ i. i + suc n) stands.place) stands)),
+    )
+
+-- ---- from a step to the next
+
+pub goes_on_then : (task : Task) (next : plain.Next) (k : ℕ) (f : Search) (s : plain.Stand) (m : Memo) (there : Stand) →
+    after_steps_of task k next ≡ TakesUp s f → GoesOn task (TakesUp s f) m there → GoesOn task next m there
+goes_on_then task next k f s m there e (j, (g, (t, (is, h, stands)))) =
+    (k + j, (g, (t, (steps_then task k j next (TakesUp s f) e ∙ is, h, stands))))
+
+-- a run that was found is passed
+pub past_run : (task : Task) (m new : Memo) (test : CharTest) (here : Stand) (count : ℕ) (r : Result Stand AllocError) →
+    IsLoopOver (task.points).now here.at test → IsRun task m test here count →
+    IfOk r (λ on. (leading : Leading) (f : Search) (s : plain.Stand) (first second : ℕ) → IsSearch leading m f → IsHere m here s →
+    IsForkOf leading first second s → IsSearch leading new (run_search second count s f) × IsHere new on (onward count s)) →
+    IfOk r (λ on. (s : plain.Stand) (f : Search) → IsSearch (leading_of task) m f → IsHere m here s → GoesOn task (TakesUp s f) new on)
+past_run task m new test here count (Err e) over run keeps = tt
+past_run task m new test here count (Ok on) (first, (second, (head, body, back))) run keeps = λ s f h stands.
+    let kept = keeps (leading_of task) f s first second h stands (fork_of task here first second test head body back s stands.at) in
+    let place = stands.place in
+    let steps = run_on task here first second test head body back s stands.at count f
+    (λ k below.
+    subst (λ i. past_char (task.text).now (passes (task.text).now task.unicode (test_of test)) i ≡ Some (i + 1)) {x = here.place + k}
+    (ap (λ i. i + k) place) (run (here.place + k) (omega arith) (omega (arith, below))).passes)
+    (λ k below.
+    (run (here.place + k) (omega arith) (omega (arith, below))).free (onward k s) f.failed
+    (onward_stands m.log.entries.items (length m.log.entries.items) here s (here.place + k) k (ap (λ i. i + k) place) stands) h.failed)
+    in
+    (steps.0, (run_search second count s f, (onward count s, (steps.1, kept.0, kept.1))))
+
+-- ---- where a run goes on
+
+-- one more character may be passed
+pub one_further : (task : Task) (m : Memo) (test : CharTest) (here : Stand) (at : ℕ) → here.place ≤ at →
+    ((i : ℕ) → here.place ≤ i → i < at → CanPass task m test here i) → CanPass task m test here at →
+    (i : ℕ) → here.place ≤ i → i < at + 1 → CanPass task m test here i
+one_further task m test here at on before this i from below =
+    ⊎_elim (λ lt. before i from lt) (λ ge. subst (CanPass task m test here) {x = at} (omega (arith, ge, below)) this) (cases_lt i at)
+
+-- a character of ASCII that passes, where the head may have a way
+may_pass : (task : Task) (m : Memo) (test : CharTest) (here : Stand) (at : ℕ) → at < length (task.text).now →
+    slice_index_or (task.text).now at 0 < 128 →
+    passes [] task.unicode (test_of test) (slice_index_or (task.text).now at 0) ≡ true →
+    ((s : plain.Stand) (failed : plain.Pair → Bool) → IsHere m (record here { place = at }) s → HaveFailed m failed → failed (pair_of s) ≡ false) →
+    CanPass task m test here at
+may_pass task m test here at within ascii takes free = record {
+  passes =
+      past_ascii (task.text).now (passes (task.text).now task.unicode (test_of test)) at (slice_index_or (task.text).now at 0)
+      (at_index (task.text).now at 0 within) ascii true
+      (sym (passes_alike (task.text).now task.unicode (test_of test) (slice_index_or (task.text).now at 0)) ∙ takes);
+  free = free;
+}
+
+-- the same by the bytes of the text
+pub may_pass_by : (bytes : List ℕ) (task : Task) (m : Memo) (test : CharTest) (here : Stand) (at : ℕ) → bytes ≡ (task.text).now →
+    at < length bytes → slice_index_or bytes at 0 < 128 → passes [] task.unicode (test_of test) (slice_index_or bytes at 0) ≡ true →
+    ((s : plain.Stand) (failed : plain.Pair → Bool) → IsHere m (record here { place = at }) s → HaveFailed m failed → failed (pair_of s) ≡ false) →
+    CanPass task m test here at
+may_pass_by bytes task m test here at e within ascii takes =
+    may_pass task m test here at (subst (λ t. at < length t) e within) (subst (λ t. slice_index_or t at 0 < 128) e ascii)
+    (subst (λ t. passes [] task.unicode (test_of test) (slice_index_or t at 0) ≡ true) e takes)
+
+-- ---- a pair that may have a way
+
+pub free_outside : (m : Memo) (here : Stand) → here.turns ≡ 0 → has_pair m.failed (here.at ∷ here.place ∷ []) ≡ false →
+    (s : plain.Stand) (failed : plain.Pair → Bool) → IsHere m here s → HaveFailed m failed → failed (pair_of s) ≡ false
+free_outside m here none free s failed stands have =
+    sym (have (pair_of s)) ∙ ap (has_pair m.failed) (sym (key_outside m here s stands none)) ∙ free

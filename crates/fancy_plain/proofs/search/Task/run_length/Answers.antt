@@ -1,0 +1,19 @@
+use Rattle.std.proofs.Common.{sym, ◌∙◌, arith}
+use Rattle.fancy_plain.proofs.RunLaws.{may_pass_by, one_further}
+use Rattle.fancy_plain.proofs.search.Task.run_length.Goals as goal
+
+pub run-preserved : goal.run-preserved
+run-preserved c =
+    let task = c.args.self.now in
+    let m = c.args.m.now in
+    let test = c.args.test.now in
+    let here = c.args.stand in
+    let on = c.run.invariant.0 in (
+      omega (arith, on),
+      one_further task m test here c.run.at on c.run.invariant.1
+          (may_pass_by c.as_bytes-text.result.now task m test here c.run.at c.as_bytes-text.ensures.value c.run-test.true c.if-text-at-lt128.true
+          (sym c.takes_ascii.ensures ∙ c.if-takes_ascii.true) (c.may_have_failed.ensures c.if-not-may_have_failed.true)),
+    )
+
+pub returns-clause-run : goal.returns-clause-run
+returns-clause-run c i from below = c.run.invariant.1 i from (let on = c.run.invariant.0 in omega (arith, on, below))

@@ -1,0 +1,88 @@
+//! Choices on the path of a search. The last one is taken back first.
+
+use crate::log::Stand;
+use std::alloc::{AllocError, Global};
+
+/// A choice on the path: where it stands, how long the path is, and whether its other way on is still untried.
+#[derive(Clone, Copy)]
+pub(crate) struct Choice {
+    pub(crate) stand: Stand,
+    pub(crate) path: usize,
+    pub(crate) is_untried: bool,
+}
+
+/// A choice, and such a one at each of so many bytes before.
+#[derive(Clone, Copy)]
+struct Run {
+    choice: Choice,
+    before: usize,
+}
+
+/// The choices on a path.
+#[derive(Drop)]
+pub(crate) struct Choices {
+    runs: Vec<Run>,
+}
+
+impl Choice {
+    ghost use Rattle.std.specs.Prelude.{◌≡◌};
+    ghost use Rattle.fancy_plain.specs.Choices.{one_before};
+
+    /// The same one byte before.
+    fn one_before(self) -> Choice
+        ensures { result ≡ one_before self }
+    {
+        Choice {
+            stand: Stand {
+                place: self.stand.place.saturating_sub(1),
+                ..self.stand
+            },
+            ..self
+        }
+    }
+}
+
+impl Choices {
+    ghost use Rattle.std.specs.Prelude.{◌≡◌, ◌++◌, [], OnOk};
+    ghost use Rattle.fancy_plain.specs.Choices.{Pops, choices_of, run_choices};
+
+    pub(crate) fn new(alloc: Global) -> Choices
+        ensures { choices_of result ≡ [] }
+    {
+        Choices {
+            runs: Vec::new(alloc),
+        }
+    }
+
+    pub(crate) fn clear(&mut self)
+        ensures { choices_of self.new ≡ [] }
+    {
+        self.runs.clear();
+    }
+
+    /// One more, and such a one at each of so many bytes before it.
+    pub(crate) fn push(&mut self, choice: Choice, before: usize) -> Result<(), AllocError>
+        ensures { OnOk result
+            (choices_of self.new ≡ run_choices before choice ++ choices_of self.old) }
+    {
+        self.runs.push(Run { choice, before })?;
+        Ok(())
+    }
+
+    /// Takes the last one back.
+    pub(crate) fn pop(&mut self) -> Option<Choice>
+        ensures { Pops (choices_of self.old) result (choices_of self.new) }
+    {
+        let last = self.runs.len().checked_sub(1)?;
+        let Run { choice, before } = self.runs[last];
+        if before == 0 {
+            self.runs.truncate(last);
+        } else {
+            self.runs[last] = Run {
+                choice: choice.one_before(),
+                before: before - 1,
+            };
+        }
+        Some(choice)
+    }
+}
