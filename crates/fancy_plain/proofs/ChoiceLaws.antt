@@ -1,9 +1,8 @@
 -- The last of the choices on a path, and those before it.
-use Rattle.std.proofs.Common.{◌≡◌, ◌++◌, ◌∷◌, [], ℕ, zero, suc, List, Some, None, Option, ◌-◌, flat_map, length, take, reverse, slice_index_or, slice_set, refl, sym, ap, ◌∙◌, subst, arith}
+use Rattle.std.proofs.Common.{◌≡◌, ◌++◌, ◌∷◌, [], ℕ, zero, suc, List, ◌-◌, flat_map, length, take, reverse, slice_index_or, slice_set, refl, sym, ap, ◌∙◌, arith}
 use Rattle.std.proofs.lemmas.List.{reverse-append}
-use Rattle.fancy_plain.specs.Choices.{Pops, choices_in, choices_of, one_before, run_choices}
+use Rattle.fancy_plain.specs.Choices.{choices_in, one_before, run_choices}
 use Rattle.fancy_plain.specs.declared.choices.Choice.{Choice}
-use Rattle.fancy_plain.specs.declared.choices.Choices.{Choices}
 use Rattle.fancy_plain.specs.declared.choices.Run.{Run}
 
 -- the choices of these runs, the last one first
@@ -46,13 +45,3 @@ pub run_taken : (runs : List Run) (n : ℕ) (r : Run) → length runs ≡ suc n 
 run_taken runs n r long at none =
     ap one_by_one (up_to_last runs n r long at) ∙ one_by_one-last (take n runs) r
     ∙ ap (λ k. run_choices k r.choice ++ one_by_one (take n runs)) none
-
--- ---- what taking the last one back tells
-
-pub last_choice : (old new : Choices) (c : Choice) (result : Option Choice) → result ≡ Some c → Pops (choices_of old) result (choices_of new) →
-    choices_of old ≡ c ∷ choices_of new
-last_choice old new c result is pops = subst (λ r. Pops (choices_of old) r (choices_of new)) is pops
-
-pub no_choice : (old new : Choices) (result : Option Choice) → result ≡ None → Pops (choices_of old) result (choices_of new) →
-    (choices_of old ≡ []) × (choices_of new ≡ [])
-no_choice old new result is pops = subst (λ r. Pops (choices_of old) r (choices_of new)) is pops

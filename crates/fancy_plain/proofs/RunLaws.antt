@@ -1,5 +1,5 @@
 -- A loop over one character comes in one go to where its iterations come one by one.
-use Rattle.std.proofs.Common.{◌≡◌, ◌≤◌, ◌<◌, ◌+◌, ◌-◌, ◌*◌, ◌++◌, ℕ, zero, suc, Bool, true, false, List, [], ◌∷◌, Some, Result, Ok, Err, IfOk, ⊎_elim, length, slice_get, slice_index_or, refl, sym, ap, ap₂, ◌∙◌, subst, arith}
+use Rattle.std.proofs.Common.{◌≡◌, ◌≤◌, ◌<◌, ◌+◌, ◌-◌, ◌*◌, ◌++◌, ℕ, zero, suc, Bool, true, false, List, [], ◌∷◌, Some, None, IsTrue, not, true≢false, Result, Ok, Err, IfOk, ⊎_elim, length, slice_get, slice_index_or, refl, sym, ap, ap₂, ◌∙◌, subst, arith}
 use Rattle.std.proofs.lemmas.Bool.{cases_lt, cond-false}
 use Rattle.std.specs.declared.alloc.AllocError.{AllocError}
 use Rattle.fancy_meaning.specs.Moves.{past_char}
@@ -16,13 +16,13 @@ use Rattle.fancy_plain.specs.declared.search.Memo.{Memo}
 use Rattle.fancy_plain.specs.declared.search.Task.{Task}
 use Rattle.fancy_plain.specs.Choices.{choices_of, run_choices}
 use Rattle.fancy_plain.specs.Paths.{IsStand}
-use Rattle.fancy_plain.specs.Runs.{CanPass, GoesOn, IsForkOf, IsLoopOver, IsRun, onward, run_later, run_search}
-use Rattle.fancy_plain.specs.Searches.{AreKept, HaveFailed, IsHere, IsSearch, Leading, after_steps_of, leading_of, next_of}
+use Rattle.fancy_plain.specs.Runs.{CanPass, FailsFrom, GoesOn, IsForkOf, IsLoopOver, IsLostAt, IsRun, Refuses, onward, run_later, run_search}
+use Rattle.fancy_plain.specs.Searches.{AreKept, HaveFailed, IsHere, IsSearch, Keeps, Leading, fails_of, after_steps_of, leading_of, next_of}
 use Rattle.fancy_plain.specs.Views.{test_of}
 use Rattle.fancy_plain.specs.FailedPairs.{has_pair, key_of}
-use Rattle.fancy_plain.proofs.BackLaws.{one_more, steps_then}
-use Rattle.fancy_plain.proofs.BeginningLaws.{at_index, passes_alike, past_ascii}
-use Rattle.fancy_plain.proofs.SearchLaws.{key_outside, leads_by, next_there}
+use Rattle.fancy_plain.proofs.BackLaws.{back_noted, one_more, steps_then}
+use Rattle.fancy_plain.proofs.BeginningLaws.{at_index, passes_alike, past_ascii, past_end}
+use Rattle.fancy_plain.proofs.SearchLaws.{key_outside, leads_by, next_there, same_tries}
 
 -- ---- the steps of an iteration
 
@@ -236,3 +236,89 @@ pub free_outside : (m : Memo) (here : Stand) → here.turns ≡ 0 → has_pair m
     (s : plain.Stand) (failed : plain.Pair → Bool) → IsHere m here s → HaveFailed m failed → failed (pair_of s) ≡ false
 free_outside m here none free s failed stands have =
     sym (have (pair_of s)) ∙ ap (has_pair m.failed) (sym (key_outside m here s stands none)) ∙ free
+
+-- ---- ways out of a loop that fail at once
+
+-- a test that no character passes
+pub test_fails : (task : Task) (test : CharTest) (at place : ℕ) → slice_get (task.points).now at ≡ Some (point.Take test) →
+    Refuses task test place → FailsFrom task at place
+test_fails task test at place there none s f e p =
+    let here : Stand = record { at = at; place = place; turns = 0; opened = 0 } in (
+      1,
+      (
+        1,
+        next_there task (point.Take test) here s (sym e) there f
+            ∙ ap (λ o. plain.next_by (plain.goes_past s o) (Some (points.Take (test_of test))) s f)
+            (ap (past_char (task.text).now (passes (task.text).now task.unicode (test_of test))) p ∙ none),
+      ),
+    )
+
+-- the end of a group goes on to the next point, or is in no group
+pub group_ends : (task : Task) (g at place : ℕ) → slice_get (task.points).now at ≡ Some (point.Close g) →
+    FailsFrom task (at + 1) place → FailsFrom task at place
+group_ends task g at place there fails s f e p = go s.opened refl
+  where
+    here : Stand
+    here = record { at = at; place = place; turns = 0; opened = 0 }
+
+    step : (opened : List ℕ) → s.opened ≡ opened →
+        next_of task (TakesUp s f) ≡ plain.next_by (plain.close_lead g s opened) (Some (points.Close g)) s f
+    step opened is =
+        next_there task (point.Close g) here s (sym e) there f
+        ∙ ap (λ o. plain.next_by (plain.close_lead g s o) (Some (points.Close g)) s f) is
+
+    go : (opened : List ℕ) → s.opened ≡ opened →
+        (steps : ℕ) × ((n : ℕ) × (after_steps_of task steps (TakesUp s f) ≡ plain.TakesBack (record f { visits = f.visits + n })))
+    go [] is =
+        let same : f.visits ≡ f.visits + 0 = omega arith in
+        (1, (0, step [] is ∙ ap (λ v. plain.TakesBack (record f { visits = v })) same))
+    go (from ∷ opened) is =
+        let on = fails (record (plain.forward s) { opened = opened; spans = (g, (from, s.place)) ∷ s.spans }) f (ap (λ k. k + 1) e) p in
+        (suc on.0, (on.1.0, ap (after_steps_of task on.0) (step (from ∷ opened) is) ∙ on.1.1))
+
+-- the last choice is at the head of a loop whose other way on fails: its pair is noted
+pub back_lost : (task : Task) (next : plain.Next) (steps : ℕ) (f : Search) (here : Stand) (s : plain.Stand) (rest : List Later) →
+    after_steps_of task steps next ≡ plain.TakesBack f → here.at ≡ s.at → here.place ≡ s.place → IsLostAt task here.at here.place →
+    Keeps true (leading_of task s) s rest f.later →
+    (k : ℕ) × ((n : ℕ) × (after_steps_of task k next
+    ≡ plain.TakesBack (plain.with_failed (pair_of s) (record f { later = rest; visits = f.visits + n }))))
+back_lost task next steps f here s rest back at place (first, (second, (there, fails))) (is_noted, (one, (other, (lead, later)))) =
+    let same = same_tries is_noted true one other (goes_to first s) (goes_to second s)
+    (sym lead ∙ leads_by task (point.Fork first second) here s at there) in
+    let kept : f.later ≡ plain.Other (goes_to second s) ∷ plain.Fails (pair_of s) ∷ rest =
+    later ∙ ap₂ (λ b t. plain.Other t ∷ (fails_of b s ++ rest)) same.0 same.1 in
+    let g : Search = record f { later = plain.Fails (pair_of s) ∷ rest } in
+    let up = one_more task steps next (plain.TakesBack f) back ∙ ap (λ l. plain.back_to l f) kept in
+    let lost = fails (goes_to second s) g refl (sym place) in
+    let gone = steps_then task (suc steps) lost.0 next (TakesUp (goes_to second s) g) up ∙ lost.1.1 in
+    (suc (suc steps + lost.0), (lost.1.0, one_more task (suc steps + lost.0) next _ gone))
+
+-- the last choice has no way left: its pair is noted
+pub back_gone : (task : Task) (next : plain.Next) (steps : ℕ) (f : Search) (here : Stand) (s : plain.Stand) (rest : List Later) →
+    after_steps_of task steps next ≡ plain.TakesBack f → here.at ≡ s.at → here.place ≡ s.place →
+    (untried : Bool) → (untried ≡ true → IsLostAt task here.at here.place) → Keeps untried (leading_of task s) s rest f.later →
+    (k : ℕ) × ((n : ℕ) × (after_steps_of task k next
+    ≡ plain.TakesBack (plain.with_failed (pair_of s) (record f { later = rest; visits = f.visits + n }))))
+back_gone task next steps f here s rest back at place true lost keeps = back_lost task next steps f here s rest back at place (lost refl) keeps
+back_gone task next steps f here s rest back at place false lost keeps =
+    let same : f.visits ≡ f.visits + 0 = omega arith in (
+      suc steps,
+      (
+        0,
+        back_noted task next steps f s rest back keeps
+            ∙ ap (λ v. plain.TakesBack (plain.with_failed (pair_of s) (record f { later = rest; visits = v }))) same,
+      ),
+    )
+
+pub more_visits : (leading : Leading) (m : Memo) (f : Search) (n : ℕ) → IsSearch leading m f → IsSearch leading m (record f { visits = f.visits + n })
+more_visits leading m f n h = record { later = h.later; failed = h.failed; visits = let v = h.visits in omega (arith, v) }
+
+pub refused_at_end : (task : Task) (test : CharTest) (place : ℕ) → slice_get (task.text).now place ≡ None → Refuses task test place
+refused_at_end task test place none = past_end (task.text).now (passes (task.text).now task.unicode (test_of test)) place none
+
+pub refused_by_test : (task : Task) (test : CharTest) (place b : ℕ) → slice_get (task.text).now place ≡ Some b → b < 128 → (takes : Bool) →
+    IsTrue (not takes) → takes ≡ passes [] task.unicode (test_of test) b → Refuses task test place
+refused_by_test task test place b here small true refuses e = absurd (true≢false (sym refuses))
+refused_by_test task test place b here small false refuses e =
+    past_ascii (task.text).now (passes (task.text).now task.unicode (test_of test)) place b here small false
+    (sym (passes_alike (task.text).now task.unicode (test_of test) b) ∙ sym e)

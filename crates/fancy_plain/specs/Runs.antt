@@ -1,8 +1,8 @@
 -- A loop over one character, many iterations at once.
-use Rattle.std.specs.Prelude.{◌≡◌, ◌≤◌, ◌<◌, ◌+◌, ◌*◌, ℕ, zero, suc, Bool, true, false, List, [], ◌∷◌, Some, slice_get}
+use Rattle.std.specs.Prelude.{◌≡◌, ◌≤◌, ◌<◌, ◌+◌, ◌*◌, ℕ, zero, suc, Bool, true, false, List, [], ◌∷◌, Some, None, slice_get}
 use Rattle.fancy_meaning.specs.Moves.{past_char}
 use Rattle.fancy_points.specs.PointSearch as plain
-use Rattle.fancy_points.specs.PointSearch.{Later, Other, Fails, Next, Pair, Search, TakesUp, goes_to, pair_of, passes}
+use Rattle.fancy_points.specs.PointSearch.{Later, Other, Fails, Next, Pair, Search, TakesBack, TakesUp, goes_to, pair_of, passes}
 use Rattle.fancy_plain.specs.declared.log.Stand.{Stand}
 use Rattle.fancy_plain.specs.declared.point.CharTest.{CharTest}
 use Rattle.fancy_plain.specs.declared.point.Point.{Point}
@@ -52,3 +52,20 @@ abbrev pub GoesOn : Task → Next → Memo → Stand → Type 0
 GoesOn task next m here =
     (steps : ℕ) × ((f : Search) × ((t : plain.Stand) × ((after_steps_of task steps next ≡ TakesUp t f)
     × IsSearch (leading_of task) m f × IsHere m here t)))
+
+-- ---- ways out of a loop that fail at once
+
+-- no character that passes stands at the place
+abbrev pub Refuses : Task → CharTest → (place : ℕ) → Type 0
+Refuses t test place = past_char (t.text).now (passes (t.text).now t.unicode (test_of test)) place ≡ None
+
+-- a search that takes up this point at this place goes back after some steps, and nothing is noted or kept
+abbrev pub FailsFrom : Task → (at place : ℕ) → Type 0
+FailsFrom t at place =
+    (s : plain.Stand) (f : Search) → s.at ≡ at → s.place ≡ place →
+    (steps : ℕ) × ((n : ℕ) × (after_steps_of t steps (TakesUp s f) ≡ TakesBack (record f { visits = f.visits + n })))
+
+-- the point is the head of a loop, and its other way on fails so
+abbrev pub IsLostAt : Task → (at place : ℕ) → Type 0
+IsLostAt t at place =
+    (first : ℕ) × ((second : ℕ) × ((slice_get (t.points).now at ≡ Some (point.Fork first second)) × FailsFrom t second place))

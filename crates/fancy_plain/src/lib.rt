@@ -9,5 +9,6 @@ mod layout;
 mod log;
 mod pair_bits;
 mod point;
+mod runs;
 pub mod search;
 pub mod table;

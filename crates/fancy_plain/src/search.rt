@@ -1,6 +1,6 @@
 //! The plain search: from point to point, with what is tried later on a stack.
 
-ghost use Rattle.std.specs.Prelude.{◌≡◌, ◌≤◌, ◌<◌, ◌+◌, ◌∷◌, ◌++◌, [], ℕ, List, Bool, Option, Some, None, min, true, false, length, map, slice_get, if◌then◌else◌, IfOk, IfErr, IfSome};
+ghost use Rattle.std.specs.Prelude.{◌≡◌, ◌≤◌, ◌<◌, ◌+◌, ◌∷◌, ◌++◌, [], ℕ, List, Bool, Option, Some, None, min, true, false, length, map, slice_get, if◌then◌else◌, IfOk, IfErr};
 ghost use Rattle.fancy_points.specs.PointSearch as plain;
 ghost use Rattle.fancy_points.specs.PointSearch.{Next, Search, TakesBack, TakesUp, pair_of};
 ghost use Rattle.fancy_points.specs.Points as points;
@@ -8,7 +8,7 @@ ghost use Rattle.fancy_plain.specs.FailedPairs.{key_of, turn_numbers};
 ghost use Rattle.fancy_plain.specs.Paths.{HasTurns, turn_of};
 ghost use Rattle.fancy_plain.specs.Views.{loop_of, point_of, IsPointReadBy, IsReadBy, test_of};
 ghost use Rattle.fancy_plain.specs.Choices.{choices_of};
-ghost use Rattle.fancy_plain.specs.Runs.{GoesOn, IsForkOf, IsLoopOver, IsRun, onward, run_search};
+ghost use Rattle.fancy_plain.specs.Runs.{IsForkOf, onward, run_search};
 ghost use Rattle.fancy_plain.specs.Ways.{IsMemoOf};
 ghost use Rattle.fancy_plain.specs.Searches.{Advances, EndsAs, GoesBack, HaveFailed, IsHere, IsTask, TurnsBy, fails_before, leading_of, next_of, IsSearch, Keeps, Leading, Leads};
 
@@ -204,7 +204,7 @@ impl Memo {
 
     /// Whether the pair of this stand may be known to have no way. Inside loops that count it may, once any pair is.
     #[inline(always)]
-    fn may_have_failed(&self, stand: Stand) -> bool
+    pub(crate) fn may_have_failed(&self, stand: Stand) -> bool
         ensures { result ≡ false → (s : plain.Stand) (failed : plain.Pair → Bool)
             → IsHere self.now stand s → HaveFailed self.now failed → failed (pair_of s) ≡ false }
     {
@@ -251,7 +251,7 @@ impl Memo {
 
     /// Takes up a loop's head and the character there, at this stand and at each of the next bytes, so many in all. A choice
     /// is kept at each. Goes on behind them.
-    fn keep_run(&mut self, stand: Stand, count: usize) -> Result<Stand, AllocError>
+    pub(crate) fn keep_run(&mut self, stand: Stand, count: usize) -> Result<Stand, AllocError>
         requires some { 0 < count }
         requires fits { stand.place + count ≤ usize.MAX }
         ensures ok { IfOk result (λ on. (leading : Leading) (f : Search) (s : plain.Stand)
@@ -483,60 +483,6 @@ impl Task<'_> {
         Err(AllocError)
     }
 
-    /// At the head of a loop over one character, past the characters from here on that pass: those of ASCII, up to a place
-    /// where the head may have no way. A choice is kept at each.
-    fn past_run(&self, m: &mut Memo, stand: Stand) -> Result<Stand, AllocError>
-        requires { IsTask self.now }
-        ensures ok { IfOk result (λ on. (s : plain.Stand) (f : Search)
-            → IsSearch (leading_of self.now) m.old f → IsHere m.old stand s
-            → GoesOn self.now (TakesUp s f) m.new on) }
-        ensures failed { m.new.failed ≡ m.old.failed }
-    {
-        let Some(test) = self.body_test(stand.at) else {
-            return Ok(stand);
-        };
-        let count = self.run_length(m, test, stand);
-        if count == 0 {
-            return Ok(stand);
-        }
-        m.keep_run(stand, count)
-    }
-
-    /// The test on a character that is the body of the loop whose head is here.
-    #[inline(always)]
-    fn body_test(&self, at: usize) -> Option<&CharTest>
-        ensures { IfSome result (λ test. IsLoopOver self.now.points.now at test.now) }
-    {
-        let Some(Point::Fork(first, _)) = self.points.get(at) else {
-            return None;
-        };
-        let Some(Point::Take(test)) = self.points.get(*first) else {
-            return None;
-        };
-        let Some(Point::Jump(to)) = self.points.get(first.checked_add(1)?) else {
-            return None;
-        };
-        if *to == at { Some(test) } else { None }
-    }
-
-    /// How many characters of ASCII from here on pass the test, up to a place where the head may have no way.
-    fn run_length(&self, m: &Memo, test: &CharTest, stand: Stand) -> usize
-        requires { IsReadBy self.now.unicode test.now }
-        ensures run { IsRun self.now m.now test.now stand result }
-        ensures fits { stand.place + result ≤ usize.MAX }
-    {
-        let text = self.text.as_bytes();
-        let mut at = stand.place;
-        'run: while at < text.len()
-            && text[at] < 128
-            && test.takes_ascii(self.unicode, text[at])
-            && !m.may_have_failed(Stand { place: at, ..stand })
-        {
-            at += 1;
-        }
-        at - stand.place
-    }
-
     /// Takes up the point, and where it leads nowhere goes back to what is tried later.
     fn advance(&self, m: &mut Memo, stand: Stand) -> Result<Lead, AllocError>
         requires { IsTask self.now }
@@ -639,12 +585,13 @@ impl Task<'_> {
 
     /// Back to the last choice that has an untried way on. Each that was tried on the way back has none.
     fn take_back(&self, m: &mut Memo) -> Result<Lead, AllocError>
+        requires { IsTask self.now }
         ensures { (f : Search) → IsSearch (leading_of self.now) m.old f
             → GoesBack self.now (TakesBack f) result m.new }
     {
         'later: while let Some(choice) = m.later.pop() {
             m.log.truncate(choice.path);
-            if choice.is_untried {
+            if choice.is_untried && !self.is_lost(choice.stand) {
                 return self.take_other(m, choice.stand);
             }
             m.note_failed(choice.stand)?;

@@ -1,0 +1,20 @@
+use Rattle.std.proofs.Common.{Some, length, refl, sym, ap, ◌∙◌}
+use Rattle.std.proofs.lemmas.Bool.{ltb-true}
+use Rattle.std.proofs.lemmas.Option.{slice_get_read}
+use Rattle.fancy_plain.proofs.search.Task.is_lost.Goals as goal
+
+pub returns-in-Some-Fork : goal.returns-in-Some-Fork
+returns-in-Some-Fork c = λ yes.
+    let points = c.args.self.now.points.now in
+    let at = c.args.stand.at in
+    let found = c.in-Some-Fork.ensures.lookup in (
+      c.in-Some-Fork.field-0-0,
+      (
+        c.in-Some-Fork.second,
+        (
+          slice_get_read points (length points) at c.in-Some-Fork.field-0.now refl (ltb-true at (length points) (sym found.0)) found.1
+              ∙ ap Some c.in-Some-Fork.field-0-is,
+          c.fails_at.ensures yes,
+        ),
+      ),
+    )

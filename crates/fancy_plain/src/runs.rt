@@ -1,0 +1,107 @@
+//! Loops over one character: many iterations at once, and ways out of them that fail at their first test.
+
+ghost use Rattle.std.specs.Prelude.{◌≡◌, ◌≤◌, ◌+◌, IsTrue, IfOk, IfSome};
+ghost use Rattle.fancy_points.specs.PointSearch as plain;
+ghost use Rattle.fancy_points.specs.PointSearch.{Search, TakesUp};
+ghost use Rattle.fancy_plain.specs.Views.{IsReadBy};
+ghost use Rattle.fancy_plain.specs.Runs.{FailsFrom, GoesOn, IsLoopOver, IsLostAt, IsRun, Refuses};
+ghost use Rattle.fancy_plain.specs.Searches.{IsHere, IsSearch, IsTask, leading_of};
+
+use crate::log::Stand;
+use crate::point::{CharTest, Point, byte_at};
+use crate::search::{Memo, Task};
+use std::alloc::AllocError;
+
+impl Task<'_> {
+    /// At the head of a loop over one character, past the characters from here on that pass: those of ASCII, up to a place
+    /// where the head may have no way. A choice is kept at each.
+    pub(crate) fn past_run(&self, m: &mut Memo, stand: Stand) -> Result<Stand, AllocError>
+        requires { IsTask self.now }
+        ensures ok { IfOk result (λ on. (s : plain.Stand) (f : Search)
+            → IsSearch (leading_of self.now) m.old f → IsHere m.old stand s
+            → GoesOn self.now (TakesUp s f) m.new on) }
+        ensures failed { m.new.failed ≡ m.old.failed }
+    {
+        let Some(test) = self.body_test(stand.at) else {
+            return Ok(stand);
+        };
+        let count = self.run_length(m, test, stand);
+        if count == 0 {
+            return Ok(stand);
+        }
+        m.keep_run(stand, count)
+    }
+
+    /// The test on a character that is the body of the loop whose head is here.
+    #[inline(always)]
+    fn body_test(&self, at: usize) -> Option<&CharTest>
+        ensures { IfSome result (λ test. IsLoopOver self.now.points.now at test.now) }
+    {
+        let Some(Point::Fork(first, _)) = self.points.get(at) else {
+            return None;
+        };
+        let Some(Point::Take(test)) = self.points.get(*first) else {
+            return None;
+        };
+        let Some(Point::Jump(to)) = self.points.get(first.checked_add(1)?) else {
+            return None;
+        };
+        if *to == at { Some(test) } else { None }
+    }
+
+    /// How many characters of ASCII from here on pass the test, up to a place where the head may have no way.
+    fn run_length(&self, m: &Memo, test: &CharTest, stand: Stand) -> usize
+        requires { IsReadBy self.now.unicode test.now }
+        ensures run { IsRun self.now m.now test.now stand result }
+        ensures fits { stand.place + result ≤ usize.MAX }
+    {
+        let text = self.text.as_bytes();
+        let mut at = stand.place;
+        'run: while at < text.len()
+            && text[at] < 128
+            && test.takes_ascii(self.unicode, text[at])
+            && !m.may_have_failed(Stand { place: at, ..stand })
+        {
+            at += 1;
+        }
+        at - stand.place
+    }
+
+    /// The other way on from the head of a loop fails at its first test.
+    pub(crate) fn is_lost(&self, stand: Stand) -> bool
+        requires { IsTask self.now }
+        ensures { IsTrue result → IsLostAt self.now stand.at stand.place }
+    {
+        match self.points.get(stand.at) {
+            Some(Point::Fork(_, second)) => self.fails_at(*second, stand.place),
+            _ => false,
+        }
+    }
+
+    /// From this point on a test comes first, behind groups that end, and the character here is none that passes: there is
+    /// no more, or it is of ASCII and fails.
+    fn fails_at(&self, at: usize, place: usize) -> bool
+        requires { IsTask self.now }
+        ensures { IsTrue result → FailsFrom self.now at place }
+    {
+        let mut next = at;
+        'groups: while let Some(Point::Close(_)) = self.points.get(next) {
+            next += 1;
+        }
+        match self.points.get(next) {
+            Some(Point::Take(test)) => self.is_refused(test, place),
+            _ => false,
+        }
+    }
+
+    /// There is no character here, or it is of ASCII and fails the test.
+    fn is_refused(&self, test: &CharTest, place: usize) -> bool
+        requires { IsReadBy self.now.unicode test.now }
+        ensures { IsTrue result → Refuses self.now test.now place }
+    {
+        match byte_at(self.text.as_bytes(), place) {
+            None => true,
+            Some(byte) => byte < 128 && !test.takes_ascii(self.unicode, byte),
+        }
+    }
+}
