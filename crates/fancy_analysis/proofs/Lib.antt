@@ -2,6 +2,12 @@ pub mod MadeNodes
 pub mod VisitedParts
 pub mod GroupSizes
 pub mod RoundSizes
+pub mod Parts
+pub mod TargetSizes
+pub mod MadeChanges
+pub mod ListedTargets
+pub mod Bodies
+pub mod RoundSteps
 pub mod ReadNodes
 pub mod NoCalls
 pub mod RefusalNodes

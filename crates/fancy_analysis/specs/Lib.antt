@@ -8,3 +8,6 @@ pub mod LateReads
 pub mod Links
 pub mod Reached
 pub mod Names
+pub mod Targets
+pub mod Dependents
+pub mod Changes

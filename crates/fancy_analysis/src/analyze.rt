@@ -12,7 +12,7 @@ ghost use Rattle.fancy_expr.specs.Views.{parsed_of, tree_of};
 use crate::make::VisitTables;
 use crate::reads::read_flags;
 use crate::refusals::{call_refusal, first_group, refusal};
-use crate::rounds::known_sizes;
+use crate::sizes::known_sizes;
 use crate::visit::visit;
 use fancy_expr::error::Error;
 use fancy_expr::expr::{Assertion, Expr, ExprTree};

@@ -2,6 +2,8 @@
 #![tactic(auto)]
 
 pub mod analyze;
+mod changes;
+mod dependents;
 mod endings;
 mod late_reads;
 mod links;
@@ -11,4 +13,6 @@ mod reads;
 mod recursion;
 mod refusals;
 mod rounds;
+mod sizes;
+mod targets;
 mod visit;

@@ -37,7 +37,7 @@ pub struct VisitTables<'t> {
     pub reads: &'t [bool],
 }
 
-fn known_size(known: &[Size], group: usize) -> Size
+pub fn known_size(known: &[Size], group: usize) -> Size
     ensures { size_of result ≡ size_of_target (map size_of known.now) group }
 {
     match known.get(group) {

@@ -1,4 +1,4 @@
-//! The sizes of groups, round by round, until a round changes nothing.
+//! The sizes of groups, in rounds over the whole tree, until a round changes nothing.
 
 ghost use Rattle.std.specs.Prelude.{◌≡◌, ◌≤◌, ◌++◌, IfOk, IsTrue, map, replicate};
 ghost use Rattle.fancy_meaning.specs.Nodes.{group_count, groups};
@@ -50,7 +50,7 @@ fn add_sizes(info: &Info, table: &mut Vec<Size>) -> Result<(), AllocError>
     Ok(())
 }
 
-fn is_same(a: Size, b: Size) -> bool
+pub fn is_same(a: Size, b: Size) -> bool
     ensures { IsTrue result → size_of a ≡ size_of b }
 {
     a.least == b.least && a.most == b.most && a.is_const == b.is_const
@@ -70,7 +70,7 @@ fn are_same(a: &[Size], b: &[Size]) -> bool
     true
 }
 
-fn unknown_sizes(alloc: Global, count: usize) -> Result<Vec<Size>, AllocError>
+pub fn unknown_sizes(alloc: Global, count: usize) -> Result<Vec<Size>, AllocError>
     ensures { IfOk result (λ v. map size_of v.items ≡ replicate count unknown) }
 {
     let mut sizes = Vec::new(alloc);
@@ -103,7 +103,7 @@ fn sizes_from_0(alloc: Global, info: &Info) -> Result<Vec<Size>, AllocError>
     Ok(table)
 }
 
-fn next_sizes(
+pub fn next_sizes(
     alloc: Global,
     tables: &VisitTables,
     tree: &ExprTree,
@@ -126,7 +126,7 @@ fn next_sizes(
 }
 
 /// The sizes by number that the last round goes by. A round that changes nothing is the last that is needed.
-pub fn known_sizes(
+pub fn sizes_by_rounds(
     alloc: Global,
     tree: &ExprTree,
     context: AnalyzeContext,

@@ -7,7 +7,7 @@ use Rattle.fancy_expr.specs.Views.{tree_of}
 use Rattle.fancy_info.specs.Sized.{size_of}
 use Rattle.fancy_expr.proofs.Numbered.{count-numbered}
 use Rattle.fancy_analysis.proofs.RoundSizes.{settled, last_round}
-use Rattle.fancy_analysis.proofs.rounds.known_sizes.Goals as goal
+use Rattle.fancy_analysis.proofs.rounds.sizes_by_rounds.Goals as goal
 
 pub returns-then-are_same : goal.returns-then-are_same
 returns-then-are_same c =

@@ -1,0 +1,331 @@
+-- A round by changes: what it leaves, and which sizes the next round can change.
+use Rattle.std.proofs.Common.{◌≡◌, ◌≢◌, ℕ, zero, suc, ◌+◌, ◌<◌, ◌≤◌, List, [], ◌∷◌, ◌++◌, length, map, get_or, set, slice_index_or, replicate, All, Contains, Option, Some, None, Vec, Global, false, ◌⊎◌, inl, inr, ⊎_elim, refl, sym, ap, ◌∙◌, subst, arith}
+use Rattle.std.proofs.lemmas.Bool.{cases_lt, cases_eq}
+use Rattle.std.proofs.lemmas.List.{get_or_past, get_or-set_same, get_or-set_other, map-set, length-map, length-set, get_or-map}
+use Rattle.std.proofs.lemmas.List.Elements.{Contains-append_left, Contains-append_right, All-head, All-tail, All-contains}
+use Rattle.fancy_meaning.specs.Tree as plain
+use Rattle.fancy_meaning.specs.Tree.{Tree, Trees, none, more, Within, NoLook, Concat, Alt, Group, LookAround, Repeat, AtomicGroup, DefineGroup, Conditional, AbsentRepeater, AbsentStopper, AbsentExpression, Backref, BackrefWithLevel, SubroutineCall}
+use Rattle.fancy_meaning.specs.Nodes.{nodes, nodes_of_each, group_count, target}
+use Rattle.fancy_meaning.specs.Places.{range_from}
+use Rattle.fancy_meaning.specs.Sizes.{Size, Known, size_by, each_size, sum_of, any_of, times, either, plus, next_round, after_rounds, known_of, size_in_round, size_of_target, unknown}
+use Rattle.fancy_expr.specs.declared.expr.Expr.{Expr}
+use Rattle.fancy_expr.specs.Views.{tree_of}
+use Rattle.fancy_expr.specs.Exprs.{exprs}
+use Rattle.fancy_expr.proofs.Exprs.{nodes-exprs}
+use Rattle.fancy_info.specs.declared.size.Size as code
+use Rattle.fancy_info.specs.Sized.{size_of}
+use Rattle.fancy_analysis.specs.declared.changes.Change.{Change}
+use Rattle.fancy_analysis.specs.Targets.{size_at, sizes_of}
+use Rattle.fancy_analysis.specs.Dependents.{AreDependents, IsListedFor, IsNamedIn, listed, named_by}
+use Rattle.fancy_analysis.proofs.RoundSizes.{last_round}
+use Rattle.fancy_analysis.specs.Changes.{AreAfter, AreTargets, IsFound, IsRight, changed, made}
+
+-- ---- a size goes by those that are named alone
+
+module _ (one two : Known) where
+  abbrev Agrees : Tree → Type 0
+  Agrees x = (h : ℕ) → named_by x ≡ Some h → size_of_target one h ≡ size_of_target two h
+
+  abbrev AllAgree : List Tree → Type 0
+  AllAgree ts = (x : Tree) → Contains ts x → Agrees x
+
+  left_agree : (a b : List Tree) → AllAgree (a ++ b) → AllAgree a
+  left_agree a b f = λ x h. f x (Contains-append_left a b x h)
+
+  right_agree : (a b : List Tree) → AllAgree (a ++ b) → AllAgree b
+  right_agree a b f = λ x h. f x (Contains-append_right a b x h)
+
+  below_agree : (t : Tree) (ts : List Tree) → AllAgree (t ∷ ts) → AllAgree ts
+  below_agree t ts f = right_agree (t ∷ []) ts f
+
+  mutual
+    same_size : (t : Tree) → AllAgree (nodes t) → size_by one t ≡ size_by two t
+    same_size (Concat es) f = ap sum_of (same_sizes es (below_agree (Concat es) (nodes_of_each es) f))
+    same_size (Alt es) f = ap any_of (same_sizes es (below_agree (Alt es) (nodes_of_each es) f))
+    same_size (Group g e) f = same_size e (below_agree (Group g e) (nodes e) f)
+    same_size (LookAround look e) f = refl
+    same_size (Repeat lo hi greedy e) f = ap (times lo hi) (same_size e (below_agree (Repeat lo hi greedy e) (nodes e) f))
+    same_size (AtomicGroup e) f = same_size e (below_agree (AtomicGroup e) (nodes e) f)
+    same_size (DefineGroup e) f = refl
+    same_size (Conditional c t e) f =
+        let all = below_agree (Conditional c t e) (nodes c ++ (nodes t ++ nodes e)) f in
+        let rest = right_agree (nodes c) (nodes t ++ nodes e) all in
+        ap (λ s. either (plus s (size_by one t)) (size_by one e)) (same_size c (left_agree (nodes c) (nodes t ++ nodes e) all))
+        ∙ ap (λ s. either (plus (size_by two c) s) (size_by one e)) (same_size t (left_agree (nodes t) (nodes e) rest))
+        ∙ ap (λ s. either (plus (size_by two c) (size_by two t)) s) (same_size e (right_agree (nodes t) (nodes e) rest))
+    same_size (AbsentRepeater e) f = refl
+    same_size (AbsentStopper e) f = refl
+    same_size (AbsentExpression a e) f =
+        let varying : Size → Size = λ s. record s { is_const = false } in
+        ap varying (same_size e (right_agree (nodes a) (nodes e) (below_agree (AbsentExpression a e) (nodes a ++ nodes e) f)))
+    same_size (Backref zero casei) f = refl
+    same_size (Backref (suc g) casei) f = f (Backref (suc g) casei) (0, omega arith, refl) (suc g) refl
+    same_size (BackrefWithLevel zero level casei) f = refl
+    same_size (BackrefWithLevel (suc g) level casei) f = f (BackrefWithLevel (suc g) level casei) (0, omega arith, refl) (suc g) refl
+    same_size (SubroutineCall g) f = f (SubroutineCall g) (0, omega arith, refl) g refl
+    same_size t f = refl
+
+    same_sizes : (ts : Trees) → AllAgree (nodes_of_each ts) → each_size one ts ≡ each_size two ts
+    same_sizes none f = refl
+    same_sizes (more t ts) f =
+        ap (λ s. s ∷ each_size one ts) (same_size t (left_agree (nodes t) (nodes_of_each ts) f))
+        ∙ ap (λ l. size_by two t ∷ l) (same_sizes ts (right_agree (nodes t) (nodes_of_each ts) f))
+
+  agree_first : (y : Expr) (ts : List Tree) → Agrees (tree_of y) → AllAgree ts → AllAgree (tree_of y ∷ ts)
+  agree_first y ts here rest x (zero, lt, at) = subst Agrees at here
+  agree_first y ts here rest x (suc k, lt, at) = rest x (k, omega arith, at)
+
+  agree_of_exprs : (es : List Expr) → ((y : Expr) → Contains es y → Agrees (tree_of y)) → AllAgree (map tree_of es)
+  agree_of_exprs [] f = λ x h. absurd (omega (arith, h.1))
+  agree_of_exprs (y ∷ es) f =
+      agree_first y (map tree_of es) (f y (0, omega arith, refl)) (agree_of_exprs es (λ z h. f z (Contains-append_right (y ∷ []) es z h)))
+
+  pub same_tree_size : (e : Expr) → ((y : Expr) → Contains (exprs e) y → Agrees (tree_of y)) → size_by one (tree_of e) ≡ size_by two (tree_of e)
+  same_tree_size e f = same_size (tree_of e) (subst AllAgree (nodes-exprs e) (agree_of_exprs (exprs e) f))
+
+  pub same_named_size : (e : Expr) → ((h : ℕ) → IsNamedIn e h → size_of_target one h ≡ size_of_target two h) →
+      size_by one (tree_of e) ≡ size_by two (tree_of e)
+  same_named_size e f = same_tree_size e (λ y there h is. f h (record { node = y; is_there = there; names = is }))
+
+-- either all agree, or a reason stands against one
+module _ (one two : Known) (P : Type 0) where
+  abbrev AgreesOr : Expr → Type 0
+  AgreesOr y = (h : ℕ) → named_by (tree_of y) ≡ Some h → (size_of_target one h ≡ size_of_target two h) ⊎ P
+
+  agrees_here : (y : Expr) (o : Option ℕ) → named_by (tree_of y) ≡ o → AgreesOr y → Agrees one two (tree_of y) ⊎ P
+  agrees_here y None is f = inl (λ h at. cc)
+  agrees_here y (Some g) is f =
+      ⊎_elim (λ same. inl (λ h at. let eq : g ≡ h = cc in subst (λ k. size_of_target one k ≡ size_of_target two k) eq same)) (λ p. inr p) (f g is)
+
+  all_agree_or : (es : List Expr) → ((y : Expr) → Contains es y → AgreesOr y) → ((y : Expr) → Contains es y → Agrees one two (tree_of y)) ⊎ P
+  all_agree_or [] f = inl (λ y h. absurd (omega (arith, h.1)))
+  all_agree_or (x ∷ es) f =
+      ⊎_elim
+      (λ here. ⊎_elim (λ rest. inl (λ y h. both_agree x es here rest y h)) (λ p. inr p) (all_agree_or es (λ y h. f y (Contains-append_right (x ∷ []) es y h))))
+      (λ p. inr p)
+      (agrees_here x (named_by (tree_of x)) refl (f x (0, omega arith, refl)))
+    where
+      both_agree : (x : Expr) (es : List Expr) → Agrees one two (tree_of x) → ((y : Expr) → Contains es y → Agrees one two (tree_of y)) →
+          (y : Expr) → Contains (x ∷ es) y → Agrees one two (tree_of y)
+      both_agree x es here rest y (zero, lt, at) = subst (λ z. Agrees one two (tree_of z)) at here
+      both_agree x es here rest y (suc k, lt, at) = rest y (k, omega arith, at)
+
+  pub same_size_or : (e : Expr) → ((y : Expr) → Contains (exprs e) y → AgreesOr y) → (size_by one (tree_of e) ≡ size_by two (tree_of e)) ⊎ P
+  same_size_or e f = ⊎_elim (λ all. inl (same_tree_size one two e all)) (λ p. inr p) (all_agree_or (exprs e) f)
+
+-- ---- the target of a number
+
+pub at_target : (known : Known) (targets : List Expr) (g : ℕ) (d : Expr) → g < length targets →
+    size_at known targets g ≡ size_by known (tree_of (get_or targets g d))
+at_target known [] g d lt = absurd (omega arith)
+at_target known (e ∷ es) zero d lt = refl
+at_target known (e ∷ es) (suc g) d lt = at_target known es g d (omega arith)
+
+pub past_targets : (known : Known) (targets : List Expr) (g : ℕ) → length targets ≤ g → size_at known targets g ≡ unknown
+past_targets known targets g le =
+    get_or_past (sizes_of known targets) g unknown (omega (arith, length-map targets (λ e. size_by known (tree_of e))))
+
+default_again : (l : List Expr) (g : ℕ) (d : Expr) → g < length l → get_or l g d ≡ get_or l g (get_or l g d)
+default_again [] g d lt = absurd (omega arith)
+default_again (x ∷ l) zero d lt = refl
+default_again (x ∷ l) (suc g) d lt = default_again l g d (omega arith)
+
+-- what agrees on all that is named gives the same sizes
+pub same_at : (e : Expr) (whole : Tree) (targets : List Expr) (one two : Known) → AreTargets e whole targets →
+    ((h : ℕ) → IsNamedIn e h → size_of_target one h ≡ size_of_target two h) → (g : ℕ) → size_at one targets g ≡ size_at two targets g
+same_at e whole targets one two t f g = ⊎_elim
+    (λ lt. at_target one targets g e lt
+    ∙ same_named_size one two (get_or targets g e) (λ h named. f h (t.inside g h (get_or targets g e) lt (default_again targets g e lt) named))
+    ∙ sym (at_target two targets g e lt))
+    (λ le. past_targets one targets g le ∙ sym (past_targets two targets g le)) (cases_lt g (length targets))
+
+-- ---- changes that are made
+
+abbrev at : List code.Size → ℕ → Size
+at sizes g = size_of_target (map size_of sizes) g
+
+set_at_same : (sizes : List code.Size) (n : ℕ) (s : code.Size) → n < length sizes → at (set sizes n s) n ≡ size_of s
+set_at_same sizes n s lt =
+    ap (λ l. get_or l n unknown) (map-set size_of sizes n s)
+    ∙ get_or-set_same (map size_of sizes) n (size_of s) unknown (omega (arith, length-map sizes size_of))
+
+set_at_other : (sizes : List code.Size) (n g : ℕ) (s : code.Size) → g ≢ n → at (set sizes n s) g ≡ at sizes g
+set_at_other sizes n g s ne =
+    ap (λ l. get_or l g unknown) (map-set size_of sizes n s) ∙ get_or-set_other (map size_of sizes) n g (size_of s) unknown ne
+
+past_end : (sizes : List code.Size) (g : ℕ) → length sizes ≤ g → at sizes g ≡ unknown
+past_end sizes g le = get_or_past (map size_of sizes) g unknown (omega (arith, length-map sizes size_of))
+
+set_right : (sizes : List code.Size) (n g : ℕ) (s : code.Size) (to : Size) → (g ≡ n → size_of s ≡ to) → at sizes g ≡ to → at (set sizes n s) g ≡ to
+set_right sizes n g s to is before = ⊎_elim
+    (λ same. ⊎_elim
+    (λ lt. ap (at (set sizes n s)) same ∙ set_at_same sizes n s lt ∙ is same)
+    (λ le. past_end (set sizes n s) g (omega (arith, length-set sizes n s)) ∙ sym (past_end sizes g (omega arith)) ∙ before) (cases_lt n (length sizes)))
+    (λ ne. set_at_other sizes n g s ne ∙ before) (cases_eq g n)
+
+module _ (known : Known) (targets : List Expr) where
+  abbrev to : ℕ → Size
+  to g = size_at known targets g
+
+  -- what is right stays so
+  pub made_keeps : (changes : List Change) (sizes : List code.Size) (g : ℕ) → All (IsRight known targets) changes → at sizes g ≡ to g →
+      at (made changes sizes) g ≡ to g
+  made_keeps [] sizes g right before = before
+  made_keeps (c ∷ changes) sizes g right before =
+      made_keeps changes (set sizes c.number c.size) g (All-tail (IsRight known targets) c changes right)
+      (set_right sizes c.number g c.size (to g)
+      (λ same. All-head (IsRight known targets) c changes right ∙ ap to (sym same)) before)
+
+  -- what is changed becomes so
+  pub made_changes : (changes : List Change) (sizes : List code.Size) (g : ℕ) → All (IsRight known targets) changes → Contains (changed changes) g →
+      g < length sizes → at (made changes sizes) g ≡ to g
+  made_changes [] sizes g right (k, lt, is) fits = absurd (omega (arith, lt))
+  made_changes (c ∷ changes) sizes g right (zero, lt, is) fits =
+      made_keeps changes (set sizes c.number c.size) g (All-tail (IsRight known targets) c changes right)
+      (ap (at (set sizes c.number c.size)) (sym is)
+      ∙ set_at_same sizes c.number c.size (omega (arith, is))
+      ∙ All-head (IsRight known targets) c changes right
+      ∙ ap to is)
+  made_changes (c ∷ changes) sizes g right (suc k, lt, is) fits =
+      made_changes changes (set sizes c.number c.size) g (All-tail (IsRight known targets) c changes right) (k, omega arith, is)
+      (omega (arith, length-set sizes c.number c.size))
+
+-- the others stay
+pub made_others : (changes : List Change) (sizes : List code.Size) (g : ℕ) → (at (made changes sizes) g ≡ at sizes g) ⊎ Contains (changed changes) g
+made_others [] sizes g = inl refl
+made_others (c ∷ changes) sizes g = ⊎_elim
+    (λ same. inr (0, omega arith, sym same))
+    (λ ne. ⊎_elim (λ e. inl (e ∙ set_at_other sizes c.number g c.size ne)) (λ h. inr (Contains-append_right (c.number ∷ []) (changed changes) g h))
+    (made_others changes (set sizes c.number c.size) g)) (cases_eq g c.number)
+
+pub length-made : (changes : List Change) (sizes : List code.Size) → length (made changes sizes) ≡ length sizes
+length-made [] sizes = refl
+length-made (c ∷ changes) sizes = length-made changes (set sizes c.number c.size) ∙ length-set sizes c.number c.size
+
+-- ---- a round
+
+-- what is known before a round, with the numbers of the targets that it looks at
+pub record IsBefore (e : Expr) (whole : Tree) (targets : List Expr) (n : ℕ) (sizes : List code.Size) (numbers : List ℕ) : Type 0 where
+  pub after : AreAfter e whole n (map size_of sizes)
+  pub found : (g : ℕ) → g < length targets → IsNamedIn e g → IsFound (map size_of sizes) targets numbers g
+  pub beyond : (g : ℕ) → length targets ≤ g → at sizes g ≡ unknown
+
+module _ (e : Expr) (whole : Tree) (targets : List Expr) (t : AreTargets e whole targets) (lists : List (Vec ℕ Global))
+    (d : AreDependents e targets lists) (count : length lists ≡ group_count whole + 1) where
+  -- one round more of the definition
+  one_more : (n g : ℕ) (sizes : List code.Size) → AreAfter e whole n (map size_of sizes) →
+      size_at (map size_of sizes) targets g ≡ size_of_target (after_rounds whole (suc n)) g
+  one_more n g sizes after = same_at e whole targets (map size_of sizes) (after_rounds whole n) t after g ∙ sym (t.next (after_rounds whole n) g)
+
+  -- of targets that are named, the changes are found
+  found_named : (n : ℕ) (sizes : List code.Size) (numbers among : List ℕ) → IsBefore e whole targets n sizes numbers →
+      ((k g : ℕ) → Contains numbers k → k < length targets → Contains (listed lists k) g → IsFound (map size_of sizes) targets among k) →
+      (g : ℕ) → g < length targets → IsNamedIn e g → IsFound (map size_of sizes) targets among g
+  found_named n sizes numbers among b found g lt named =
+      ⊎_elim (λ same. inl same) (λ there. found g 0 there lt (d.named g named (omega (arith, d.enough)))) (b.found g lt named)
+
+  -- a round that changes nothing is the last that is needed
+  pub no_changes : (n : ℕ) (sizes : List code.Size) (numbers : List ℕ) → IsBefore e whole targets n sizes numbers →
+      ((k g : ℕ) → Contains numbers k → k < length targets → Contains (listed lists k) g → IsFound (map size_of sizes) targets [] k) →
+      (m : ℕ) → AreAfter e whole (m + n) (map size_of sizes)
+  no_changes n sizes numbers b found zero = let same : n ≡ zero + n = omega arith in subst (λ k. AreAfter e whole k (map size_of sizes)) same b.after
+  no_changes n sizes numbers b found (suc m) =
+      let up : suc (m + n) ≡ suc m + n = omega arith in
+      subst (λ k. AreAfter e whole k (map size_of sizes)) up
+      (λ g named. sym (here g named) ∙ one_more (m + n) g sizes (no_changes n sizes numbers b found m))
+    where
+      here : (g : ℕ) → IsNamedIn e g → size_at (map size_of sizes) targets g ≡ at sizes g
+      here g named = ⊎_elim
+          (λ lt. ⊎_elim (λ same. same) (λ none. absurd (omega (arith, none.1))) (found_named n sizes numbers [] b found g lt named))
+          (λ le. past_targets (map size_of sizes) targets g le ∙ sym (b.beyond g le)) (cases_lt g (length targets))
+
+  module _ (n : ℕ) (sizes : List code.Size) (numbers : List ℕ) (changes : List Change) (b : IsBefore e whole targets n sizes numbers)
+      (enough : length sizes ≡ length lists) (right : All (IsRight (map size_of sizes) targets) changes)
+      (found : (k g : ℕ) → Contains numbers k → k < length targets → Contains (listed lists k) g →
+          IsFound (map size_of sizes) targets (changed changes) k) where
+    abbrev next : List code.Size
+    next = made changes sizes
+
+    beyond_next : (g : ℕ) → length targets ≤ g → at next g ≡ unknown
+    beyond_next g le =
+        let none = past_targets (map size_of sizes) targets g le in
+        made_keeps (map size_of sizes) targets changes sizes g right (b.beyond g le ∙ sym none) ∙ none
+
+    right_next : (g : ℕ) → IsNamedIn e g → at next g ≡ size_at (map size_of sizes) targets g
+    right_next g named = ⊎_elim
+        (λ lt. ⊎_elim (λ same. made_keeps (map size_of sizes) targets changes sizes g right (sym same))
+        (λ there. made_changes (map size_of sizes) targets changes sizes g right there (omega (arith, enough, d.enough)))
+        (found_named n sizes numbers (changed changes) b found g lt named))
+        (λ le. beyond_next g le ∙ sym (past_targets (map size_of sizes) targets g le)) (cases_lt g (length targets))
+
+    abbrev Lists : List ℕ → Type 0
+    Lists ns = (h g : ℕ) → Contains (changed changes) h → Contains (listed lists h) g → Contains ns g
+
+    agrees_or_listed : (ns : List ℕ) → Lists ns → (g : ℕ) (x : Expr) → All (IsListedFor lists g) (exprs x) → (y : Expr) → Contains (exprs x) y →
+        (h : ℕ) → named_by (tree_of y) ≡ Some h → (at next h ≡ at sizes h) ⊎ Contains ns g
+    agrees_or_listed ns lists-ns g x all y there h is = ⊎_elim
+        (λ lt. ⊎_elim (λ same. inl same) (λ is-changed. inr (lists-ns h g is-changed (All-contains (IsListedFor lists g) (exprs x) y all there h is lt)))
+        (made_others changes sizes h))
+        (λ le. inl (past_end next h (omega (arith, enough, length-made changes sizes)) ∙ sym (past_end sizes h (omega (arith, enough)))))
+        (cases_lt h (length lists))
+
+    found_next : (ns : List ℕ) → Lists ns → (g : ℕ) → g < length targets → IsNamedIn e g → IsFound (map size_of next) targets ns g
+    found_next ns lists-ns g lt named =
+        let x = get_or targets g e in
+        ⊎_elim
+        (λ same. inl (at_target (map size_of next) targets g e lt ∙ same ∙ sym (at_target (map size_of sizes) targets g e lt) ∙ sym (right_next g named)))
+        (λ there. inr there)
+        (same_size_or (map size_of next) (map size_of sizes) (Contains ns g) x
+        (agrees_or_listed ns lists-ns g x (d.each g x lt (default_again targets g e lt) named)))
+
+    pub before_next : (ns : List ℕ) → Lists ns → IsBefore e whole targets (suc n) next ns
+    before_next ns lists-ns = record {
+      after = λ g named. right_next g named ∙ one_more n g sizes b.after;
+      found = found_next ns lists-ns;
+      beyond = beyond_next;
+    }
+
+nothing_known : (n g : ℕ) → size_of_target (replicate n unknown) g ≡ unknown
+nothing_known zero g = refl
+nothing_known (suc n) zero = refl
+nothing_known (suc n) (suc g) = nothing_known n g
+
+-- before the first round nothing is known, and all targets are looked at
+pub before_first : (e : Expr) (whole : Tree) (targets : List Expr) (sizes : List code.Size) (numbers : List ℕ) →
+    map size_of sizes ≡ after_rounds whole 0 → ((g : ℕ) → g < length targets → Contains numbers g) → IsBefore e whole targets 0 sizes numbers
+before_first e whole targets sizes numbers is all = record {
+  after = λ g named. ap (λ l. size_of_target l g) is;
+  found = λ g lt named. inr (all g lt);
+  beyond = λ g le. ap (λ l. size_of_target l g) is ∙ nothing_known (suc (group_count whole)) g;
+}
+
+pub none_changed : (changes : List Change) → length changes ≡ 0 → changed changes ≡ []
+none_changed [] long = refl
+none_changed (c ∷ changes) long = absurd (omega arith)
+
+-- ---- the last round
+
+same_list : (l m : List Size) → length l ≡ length m → ((g : ℕ) → size_of_target l g ≡ size_of_target m g) → l ≡ m
+same_list [] [] long same = refl
+same_list [] (y ∷ m) long same = absurd (omega arith)
+same_list (x ∷ l) [] long same = absurd (omega arith)
+same_list (x ∷ l) (y ∷ m) long same =
+    let rest : length l ≡ length m = omega arith in
+    ap (λ z. z ∷ l) (same zero) ∙ ap (λ k. y ∷ k) (same_list l m rest (λ g. same (suc g)))
+
+-- what is right of all that is named gives the next round
+pub next_after : (e : Expr) (whole : Tree) (targets : List Expr) (n : ℕ) (known : Known) → AreTargets e whole targets → AreAfter e whole n known →
+    next_round whole known ≡ after_rounds whole (suc n)
+next_after e whole targets n known t after =
+    let range = range_from 0 (suc (group_count whole)) in
+    same_list _ _
+    (length-map range (λ g. size_in_round known (target whole g)) ∙ sym (length-map range (λ g. size_in_round (after_rounds whole n) (target whole g))))
+    (λ g. t.next known g ∙ same_at e whole targets known (after_rounds whole n) t after g ∙ sym (t.next (after_rounds whole n) g))
+
+pub without_groups : (whole : Tree) → group_count whole ≡ 0 → replicate 1 unknown ≡ known_of whole
+unfolding known_of
+without_groups whole is = ap (λ n. replicate (suc n) unknown) (sym is) ∙ ap (after_rounds whole) (sym is)
+
+pub last_after : (e : Expr) (whole : Tree) (targets : List Expr) (n : ℕ) (known : Known) → AreTargets e whole targets → AreAfter e whole n known →
+    suc n ≡ group_count whole → next_round whole known ≡ known_of whole
+last_after e whole targets n known t after is = next_after e whole targets n known t after ∙ last_round whole (suc n) is

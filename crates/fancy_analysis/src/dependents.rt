@@ -1,0 +1,146 @@
+//! Which targets' sizes go by which: under each number, the targets that name it.
+
+ghost use Rattle.std.specs.Prelude.{◌≡◌, ◌<◌, ◌≤◌, ℕ, IfOk, IfSome, IsFalse, length, replicate, map, []};
+ghost use Rattle.std.specs.List.{All, Contains};
+ghost use Rattle.fancy_expr.specs.Exprs.{exprs};
+ghost use Rattle.fancy_expr.specs.Views.{tree_of};
+ghost use Rattle.fancy_analysis.specs.Dependents.{AreDependents, IsListedFor, KeepsLists, listed, named_by};
+ghost use Rattle.fancy_analysis.specs.Targets.{exprs_at};
+
+use fancy_expr::expr::Expr;
+use fancy_expr::parts::{part, part_count};
+use std::alloc::{AllocError, Global};
+
+/// So many times as many nodes as the tree has are looked at, at most.
+const MOST_LOOKS: usize = 4;
+
+/// The number whose size a node takes.
+fn named_by(expr: &Expr) -> Option<usize>
+    ensures { result ≡ named_by (tree_of expr.now) }
+{
+    match expr {
+        Expr::Backref { group, .. } => Some(*group),
+        Expr::BackrefWithRelativeRecursionLevel { group, .. } => Some(*group),
+        Expr::SubroutineCall(group) => Some(*group),
+        Expr::Absent(_) => None,
+        _ => None,
+    }
+}
+
+/// Lists a target under a number that has a list.
+fn list_under(lists: &mut Vec<Vec<usize>>, number: usize, target: usize) -> Result<(), AllocError>
+    ensures kept { IfOk result (λ _. KeepsLists lists.old.items lists.new.items) }
+    ensures there { IfOk result (λ _. number < length lists.new.items →
+        Contains (listed lists.new.items number) target) }
+{
+    if number < lists.len() {
+        lists[number].push(target)?;
+    }
+    Ok(())
+}
+
+/// Lists a target under the number that a node of it names.
+fn list_node(
+    expr: &Expr,
+    target: usize,
+    lists: &mut Vec<Vec<usize>>,
+) -> Result<(), AllocError>
+    ensures kept { IfOk result (λ _. KeepsLists lists.old.items lists.new.items) }
+    ensures there { IfOk result (λ _. IsListedFor lists.new.items target expr.now) }
+{
+    if let Some(number) = named_by(expr) {
+        list_under(lists, number, target)?;
+    }
+    Ok(())
+}
+
+/// Lists a target under the numbers that are named by a part of it, unless too many nodes are looked at: then none are
+/// left to look at.
+fn list_all(
+    expr: &Expr,
+    target: usize,
+    lists: &mut Vec<Vec<usize>>,
+    left: &mut usize,
+) -> Result<(), AllocError>
+    ensures kept { IfOk result (λ _. KeepsLists lists.old.items lists.new.items) }
+    ensures fewer { left.new ≤ left.old }
+    ensures there { IfOk result (λ _. 0 < left.new →
+        All (IsListedFor lists.new.items target) (exprs expr.now)) }
+{
+    if *left == 0 {
+        return Ok(());
+    }
+    *left -= 1;
+    list_node(expr, target, lists)?;
+    for i in 0..part_count(expr) {
+        list_all(part(expr, i), target, lists, left)?;
+    }
+    Ok(())
+}
+
+/// Whether a target is listed under the number.
+pub fn has_dependents(lists: &[Vec<usize>], number: usize) -> bool
+    ensures { IsFalse result → (g : ℕ) → ¬ Contains (listed lists.now number) g }
+{
+    match lists.get(number) {
+        Some(list) => !list.is_empty(),
+        None => false,
+    }
+}
+
+/// The same for a target that is named.
+fn list_named(
+    expr: &Expr,
+    target: usize,
+    lists: &mut Vec<Vec<usize>>,
+    left: &mut usize,
+) -> Result<(), AllocError>
+    ensures kept { IfOk result (λ _. KeepsLists lists.old.items lists.new.items) }
+    ensures fewer { left.new ≤ left.old }
+    ensures there { IfOk result (λ _. 0 < left.new → (g : ℕ) → Contains (listed lists.old.items target) g →
+        All (IsListedFor lists.new.items target) (exprs expr.now)) }
+{
+    if has_dependents(lists, target) {
+        list_all(expr, target, lists, left)?;
+    }
+    Ok(())
+}
+
+fn no_lists(alloc: Global, count: usize) -> Result<Vec<Vec<usize>>, AllocError>
+    ensures { IfOk result (λ v. length v.items ≡ count) }
+{
+    let mut lists = Vec::new(alloc);
+    for i in 0..count {
+        lists.push(Vec::new(alloc))?;
+    }
+    Ok(lists)
+}
+
+/// Under each of so many numbers, the whole tree and the targets with numbers that name it, if it is named. There is
+/// no answer where too many nodes stand in more than one of these targets.
+pub fn dependents(
+    alloc: Global,
+    expr: &Expr,
+    targets: &[&Expr],
+    count: usize,
+) -> Result<Option<Vec<Vec<usize>>>, AllocError>
+    requires { length targets.now ≤ count }
+    ensures length { IfOk result (λ found. IfSome found (λ v. length v.items ≡ count)) }
+    ensures lists { IfOk result (λ found. IfSome found
+        (λ v. AreDependents expr.now (exprs_at targets.now) v.items)) }
+{
+    let mut lists = no_lists(alloc, count)?;
+    let mut left = usize::MAX;
+    list_all(expr, 0, &mut lists, &mut left)?;
+    if left == 0 {
+        return Ok(None);
+    }
+    left = (usize::MAX - left).saturating_mul(MOST_LOOKS);
+    for target in 0..targets.len() {
+        list_named(targets[target], target, &mut lists, &mut left)?;
+    }
+    if left == 0 {
+        return Ok(None);
+    }
+    Ok(Some(lists))
+}
