@@ -1,5 +1,5 @@
 -- The bodies of groups, node by node.
-use Rattle.std.proofs.Common.{◌≡◌, ℕ, zero, suc, ◌+◌, ◌<◌, ◌≤◌, List, [], ◌∷◌, ◌++◌, length, map, take, drop, get_or, filter_map, option_to_list, Option, Some, None, refl, sym, ap, ◌∙◌, arith, append_assoc}
+use Rattle.std.proofs.Common.{◌≡◌, ℕ, zero, suc, ◌+◌, ◌<◌, ◌≤◌, List, [], ◌∷◌, ◌++◌, length, take, get_or, option_to_list, Option, Some, None, refl, sym, ap, ◌∙◌, arith, append_assoc}
 use Rattle.std.specs.Borrow.{Bor}
 use Rattle.std.specs.List.{cons_option, remove}
 use Rattle.std.proofs.lemmas.List.{take_all}

@@ -1,10 +1,9 @@
 -- A round by changes: what it leaves, and which sizes the next round can change.
-use Rattle.std.proofs.Common.{◌≡◌, ◌≢◌, ℕ, zero, suc, ◌+◌, ◌<◌, ◌≤◌, List, [], ◌∷◌, ◌++◌, length, map, get_or, set, slice_index_or, replicate, All, Contains, Option, Some, None, Vec, Global, false, ◌⊎◌, inl, inr, ⊎_elim, refl, sym, ap, ◌∙◌, subst, arith}
+use Rattle.std.proofs.Common.{◌≡◌, ◌≢◌, ℕ, zero, suc, ◌+◌, ◌<◌, ◌≤◌, List, [], ◌∷◌, ◌++◌, length, map, get_or, set, replicate, All, Contains, Option, Some, None, Vec, Global, false, ◌⊎◌, inl, inr, ⊎_elim, refl, sym, ap, ◌∙◌, subst, arith}
 use Rattle.std.proofs.lemmas.Bool.{cases_lt, cases_eq}
-use Rattle.std.proofs.lemmas.List.{get_or_past, get_or-set_same, get_or-set_other, map-set, length-map, length-set, get_or-map}
+use Rattle.std.proofs.lemmas.List.{get_or_past, get_or-set_same, get_or-set_other, map-set, length-map, length-set}
 use Rattle.std.proofs.lemmas.List.Elements.{Contains-append_left, Contains-append_right, All-head, All-tail, All-contains}
-use Rattle.fancy_meaning.specs.Tree as plain
-use Rattle.fancy_meaning.specs.Tree.{Tree, Trees, none, more, Within, NoLook, Concat, Alt, Group, LookAround, Repeat, AtomicGroup, DefineGroup, Conditional, AbsentRepeater, AbsentStopper, AbsentExpression, Backref, BackrefWithLevel, SubroutineCall}
+use Rattle.fancy_meaning.specs.Tree.{Tree, Trees, none, more, Concat, Alt, Group, LookAround, Repeat, AtomicGroup, DefineGroup, Conditional, AbsentRepeater, AbsentStopper, AbsentExpression, Backref, BackrefWithLevel, SubroutineCall}
 use Rattle.fancy_meaning.specs.Nodes.{nodes, nodes_of_each, group_count, target}
 use Rattle.fancy_meaning.specs.Places.{range_from}
 use Rattle.fancy_meaning.specs.Sizes.{Size, Known, size_by, each_size, sum_of, any_of, times, either, plus, next_round, after_rounds, known_of, size_in_round, size_of_target, unknown}
@@ -242,7 +241,7 @@ module _ (e : Expr) (whole : Tree) (targets : List Expr) (t : AreTargets e whole
   module _ (n : ℕ) (sizes : List code.Size) (numbers : List ℕ) (changes : List Change) (b : IsBefore e whole targets n sizes numbers)
       (enough : length sizes ≡ length lists) (right : All (IsRight (map size_of sizes) targets) changes)
       (found : (k g : ℕ) → Contains numbers k → k < length targets → Contains (listed lists k) g →
-          IsFound (map size_of sizes) targets (changed changes) k) where
+      IsFound (map size_of sizes) targets (changed changes) k) where
     abbrev next : List code.Size
     next = made changes sizes
 

@@ -1,6 +1,5 @@
 -- What stands below a node stands in one piece among the nodes of each node above it.
-use Rattle.std.proofs.Common.{◌≡◌, ℕ, zero, suc, ◌+◌, ◌<◌, ◌≤◌, List, [], ◌∷◌, ◌++◌, length, get_or, slice_index_or, filter_map, All, Contains, Option, Some, None, ◌⊎◌, inl, inr, ⊎_elim, refl, sym, ap, ◌∙◌, subst, arith, append_assoc, append-nil}
-use Rattle.std.specs.List.{cons_option}
+use Rattle.std.proofs.Common.{◌≡◌, zero, suc, ◌≤◌, List, [], ◌∷◌, ◌++◌, Contains, ◌⊎◌, inl, inr, ⊎_elim, refl, sym, ap, ◌∙◌, subst, arith, append_assoc, append-nil}
 use Rattle.std.proofs.lemmas.List.Elements.{Contains-append_left, Contains-append_right, Contains-append_cases}
 use Rattle.fancy_meaning.specs.Nodes.{group_count}
 use Rattle.fancy_expr.specs.declared.expr.Absent.{Absent}
@@ -10,7 +9,6 @@ use Rattle.fancy_expr.specs.declared.expr.Expr.TheVariants as code
 use Rattle.fancy_expr.specs.Views.{tree_of}
 use Rattle.fancy_expr.specs.Exprs.{exprs, exprs_in_row, exprs_in_absent}
 use Rattle.fancy_expr.proofs.Groups.{group_total, total-append, count-total}
-use Rattle.fancy_analysis.specs.Targets.{body_of, bodies_in}
 
 pub record IsPiece (xs ys : List Expr) : Type 0 where
   pub before : List Expr

@@ -1,15 +1,13 @@
 -- The sizes of what numbers name.
-use Rattle.std.proofs.Common.{◌≡◌, ℕ, zero, suc, ◌+◌, ◌<◌, ◌≤◌, List, [], ◌∷◌, ◌++◌, length, map, drop, get_or, slice_index_or, filter_map, All, Contains, Option, Some, None, false, refl, sym, ap, ◌∙◌, subst, arith}
+use Rattle.std.proofs.Common.{◌≡◌, ℕ, zero, suc, ◌+◌, ◌<◌, ◌≤◌, List, [], ◌∷◌, ◌++◌, length, map, drop, get_or, filter_map, Contains, Option, Some, None, false, refl, sym, ap, ◌∙◌, subst, arith}
 use Rattle.std.specs.List.{cons_option}
 use Rattle.std.proofs.lemmas.List.{length-map}
 use Rattle.std.proofs.lemmas.List.Elements.{Contains-append_right, All-contains_itself, All-weaker}
-use Rattle.fancy_meaning.specs.Tree as plain
 use Rattle.fancy_meaning.specs.Tree.{Tree, Trees, none, more, Within, NoLook, Assert, Concat, Alt, Group, LookAround, Repeat, AtomicGroup, DefineGroup, Conditional, AbsentRepeater, AbsentStopper, AbsentExpression}
 use Rattle.fancy_meaning.specs.Nodes.{nodes, as_group, groups, group_count}
 use Rattle.fancy_meaning.specs.Numbering.{numbered_within, each_numbered}
 use Rattle.fancy_meaning.specs.Sizes.{Size, Known, size_by, each_size, sum_of, any_of, times, either, plus, next_round, size_of_target, unknown}
 use Rattle.fancy_meaning.specs.WellFormed.{most_groups}
-use Rattle.fancy_expr.specs.declared.expr.Absent.{Absent}
 use Rattle.fancy_expr.specs.declared.expr.Absent.TheVariants as code_absent
 use Rattle.fancy_expr.specs.declared.expr.Expr.{Expr}
 use Rattle.fancy_expr.specs.declared.expr.Expr.TheVariants as code
@@ -18,7 +16,7 @@ use Rattle.fancy_expr.specs.Exprs.{exprs}
 use Rattle.fancy_expr.proofs.Exprs.{nodes-exprs}
 use Rattle.fancy_expr.proofs.Numbered.{nodes-numbered}
 use Rattle.fancy_expr.proofs.Walks.{itself_contained}
-use Rattle.fancy_analysis.specs.Made.{from_0, from_1, past_first}
+use Rattle.fancy_analysis.specs.Made.{past_first}
 use Rattle.fancy_analysis.specs.Targets.{bodies_in, body_of, left_out, size_at, sizes_of, targets_of}
 use Rattle.fancy_analysis.specs.Dependents.{IsNamedIn}
 use Rattle.fancy_analysis.specs.Changes.{AreSmall, AreTargets}
@@ -167,7 +165,8 @@ small_targets first e few =
     All-weaker (Contains (targets_of first e)) (λ x. group_count (tree_of x) ≤ most_groups)
     (λ x h. omega (arith, fewer_groups e x (targets_inside first e x h))) (targets_of first e) (All-contains_itself (targets_of first e))
 
-named_inside : (first : ℕ) (e : Expr) (g h : ℕ) (x : Expr) → g < length (targets_of first e) → x ≡ get_or (targets_of first e) g x → IsNamedIn x h → IsNamedIn e h
+named_inside : (first : ℕ) (e : Expr) (g h : ℕ) (x : Expr) → g < length (targets_of first e) → x ≡ get_or (targets_of first e) g x →
+    IsNamedIn x h → IsNamedIn e h
 named_inside first e g h x lt at named = record {
   node = named.node;
   is_there = contained_in e x named.node (targets_inside first e x (g, lt, sym at)) named.is_there;

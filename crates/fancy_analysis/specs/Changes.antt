@@ -42,7 +42,8 @@ AreAfter e whole n known =
 -- these are what numbers name in a tree, as an expression and as it is numbered
 pub record AreTargets (e : Expr) (whole : Tree) (targets : List Expr) : Type 0 where
   pub next : (known : Known) (g : ℕ) → size_of_target (next_round whole known) g ≡ size_at known targets g
-  pub inside : (g h : ℕ) (x : Expr) → g < length targets → x ≡ slice_index_or targets g x → IsNamedIn x h → IsNamedIn e h
+  pub inside : (g h : ℕ) (x : Expr) → g < length targets → x ≡ slice_index_or targets g x → IsNamedIn x h →
+      IsNamedIn e h
 
 -- no target has too many groups
 abbrev pub AreSmall : List Expr → Type 0

@@ -1,5 +1,5 @@
 -- Which sizes go by which: the numbers that a part of the tree names, and lists of the targets that name a number.
-use Rattle.std.specs.Prelude.{◌≡◌, ℕ, zero, suc, ◌≤◌, ◌<◌, List, [], ◌∷◌, Option, Some, None, Vec, length, map, slice_index_or}
+use Rattle.std.specs.Prelude.{◌≡◌, ℕ, ◌≤◌, ◌<◌, List, [], Option, Some, None, Vec, length, map, slice_index_or}
 use Rattle.std.specs.Global.{Global}
 use Rattle.std.specs.List.{All, Contains}
 use Rattle.fancy_meaning.specs.Tree.{Tree, Backref, BackrefWithLevel, SubroutineCall}

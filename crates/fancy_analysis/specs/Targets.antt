@@ -1,10 +1,7 @@
 -- What each number names, as an expression: the whole tree, or the body of a group.
-use Rattle.std.specs.Prelude.{◌≡◌, ℕ, zero, suc, ◌++◌, List, [], ◌∷◌, filter_map, map, drop, Option, Some, None, slice_index_or, length, ◌<◌, ◌⊎◌, ◌^◌}
+use Rattle.std.specs.Prelude.{ℕ, zero, suc, List, [], ◌∷◌, filter_map, map, drop, Option, Some, None}
 use Rattle.std.specs.Borrow.{Bor}
-use Rattle.std.specs.List.{All}
-use Rattle.fancy_meaning.specs.Tree.{Tree}
-use Rattle.fancy_meaning.specs.Nodes.{group_count}
-use Rattle.fancy_meaning.specs.Sizes.{Size, Known, size_by, next_round, size_of_target, unknown}
+use Rattle.fancy_meaning.specs.Sizes.{Size, Known, size_by, size_of_target}
 use Rattle.fancy_expr.specs.declared.expr.Expr.{Expr}
 use Rattle.fancy_expr.specs.declared.expr.Expr.TheVariants as code
 use Rattle.fancy_expr.specs.Views.{tree_of}

@@ -73,8 +73,10 @@ fn add_if_named(
     requires { AreSmall (exprs_at targets.now) }
     ensures kept { IfOk result (λ _. KeepsChanges (tables_known tables.now) (exprs_at targets.now)
         changes.old.items changes.new.items) }
-    ensures found { (g : ℕ) → number < length targets.now → Contains (listed dependents.now number) g →
-        IfOk result (λ _. IsFound (tables_known tables.now) (exprs_at targets.now)
+    ensures found { (g : ℕ)
+        → number < length targets.now
+        → Contains (listed dependents.now number) g
+        → IfOk result (λ _. IsFound (tables_known tables.now) (exprs_at targets.now)
         (changed changes.new.items) number) }
 {
     if number < targets.len() && has_dependents(dependents, number) {
@@ -92,10 +94,14 @@ fn changes_among(
     numbers: &[usize],
 ) -> Result<Vec<Change>, AllocError>
     requires { AreSmall (exprs_at targets.now) }
-    ensures right { IfOk result (λ v. All (IsRight (tables_known tables.now) (exprs_at targets.now)) v.items) }
-    ensures found { (k g : ℕ) → Contains numbers.now k → k < length targets.now →
-        Contains (listed dependents.now k) g →
-        IfOk result (λ v. IsFound (tables_known tables.now) (exprs_at targets.now) (changed v.items) k) }
+    ensures right { IfOk result
+        (λ v. All (IsRight (tables_known tables.now) (exprs_at targets.now)) v.items) }
+    ensures found { (k g : ℕ)
+        → Contains numbers.now k
+        → k < length targets.now
+        → Contains (listed dependents.now k) g
+        → IfOk result (λ v. IsFound (tables_known tables.now) (exprs_at targets.now)
+        (changed v.items) k) }
 {
     let mut changes = Vec::new(alloc);
     for number in numbers {
@@ -126,7 +132,8 @@ fn add_listed(
     number: usize,
     numbers: &mut Vec<usize>,
 ) -> Result<(), AllocError>
-    ensures { IfOk result (λ _. numbers.new.items ≡ numbers.old.items ++ listed dependents.now number) }
+    ensures { IfOk result (λ _. numbers.new.items
+        ≡ numbers.old.items ++ listed dependents.now number) }
 {
     if let Some(list) = dependents.get(number) {
         numbers.extend_from_slice(list)?;
@@ -174,9 +181,11 @@ pub fn sizes_by_changes(
 ) -> Result<Vec<Size>, AllocError>
     requires { AreSmall (exprs_at targets.now) }
     ensures length { IfOk result (λ v. length v.items ≡ length dependents.now) }
-    ensures sizes { (e : code.Expr) (whole : plain.Tree) → AreTargets e whole (exprs_at targets.now) →
-        AreDependents e (exprs_at targets.now) dependents.now → length dependents.now ≡ group_count whole + 1 →
-        IfOk result (λ v. AreAfter e whole rounds (map size_of v.items)) }
+    ensures sizes { (e : code.Expr) (whole : plain.Tree)
+        → AreTargets e whole (exprs_at targets.now)
+        → AreDependents e (exprs_at targets.now) dependents.now
+        → length dependents.now ≡ group_count whole + 1
+        → IfOk result (λ v. AreAfter e whole rounds (map size_of v.items)) }
 {
     let mut known = unknown_sizes(alloc, dependents.len())?;
     let mut numbers = numbers_below(alloc, targets.len())?;

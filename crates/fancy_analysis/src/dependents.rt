@@ -40,11 +40,7 @@ fn list_under(lists: &mut Vec<Vec<usize>>, number: usize, target: usize) -> Resu
 }
 
 /// Lists a target under the number that a node of it names.
-fn list_node(
-    expr: &Expr,
-    target: usize,
-    lists: &mut Vec<Vec<usize>>,
-) -> Result<(), AllocError>
+fn list_node(expr: &Expr, target: usize, lists: &mut Vec<Vec<usize>>) -> Result<(), AllocError>
     ensures kept { IfOk result (λ _. KeepsLists lists.old.items lists.new.items) }
     ensures there { IfOk result (λ _. IsListedFor lists.new.items target expr.now) }
 {
@@ -97,8 +93,10 @@ fn list_named(
 ) -> Result<(), AllocError>
     ensures kept { IfOk result (λ _. KeepsLists lists.old.items lists.new.items) }
     ensures fewer { left.new ≤ left.old }
-    ensures there { IfOk result (λ _. 0 < left.new → (g : ℕ) → Contains (listed lists.old.items target) g →
-        All (IsListedFor lists.new.items target) (exprs expr.now)) }
+    ensures there { IfOk result (λ _. 0 < left.new
+        → (g : ℕ)
+        → Contains (listed lists.old.items target) g
+        → All (IsListedFor lists.new.items target) (exprs expr.now)) }
 {
     if has_dependents(lists, target) {
         list_all(expr, target, lists, left)?;

@@ -41,11 +41,7 @@ fn leave_out_0(first: usize, bodies: &mut Vec<&Expr>)
 }
 
 /// What each number names, where this is the number of the first group.
-pub fn targets<'t>(
-    alloc: Global,
-    expr: &'t Expr,
-    first: usize,
-) -> Result<Vec<&'t Expr>, AllocError>
+pub fn targets<'t>(alloc: Global, expr: &'t Expr, first: usize) -> Result<Vec<&'t Expr>, AllocError>
     ensures { IfOk result (λ v. exprs_at v.items ≡ targets_of first expr.now) }
 {
     let mut bodies = Vec::new(alloc);

@@ -1,4 +1,4 @@
-use Rattle.std.proofs.Common.{◌<◌, ◌≡◌, ℕ, length, take, get_or, Contains, ⊎_elim, sym, ap, subst, arith}
+use Rattle.std.proofs.Common.{◌<◌, length, get_or, Contains, ⊎_elim, sym, ap, subst, arith}
 use Rattle.std.proofs.lemmas.List.{take_all}
 use Rattle.fancy_analysis.specs.Made.{tables_known}
 use Rattle.fancy_analysis.specs.Changes.{IsFound, changed}

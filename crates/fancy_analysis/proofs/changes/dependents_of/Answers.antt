@@ -1,4 +1,4 @@
-use Rattle.std.proofs.Common.{◌≡◌, length, eqb, Contains, refl, sym, ap, subst, arith}
+use Rattle.std.proofs.Common.{eqb, Contains, refl, sym, subst, arith}
 use Rattle.std.proofs.lemmas.List.{take_all}
 use Rattle.std.proofs.lemmas.List.Sorted.{Contains-permutation}
 use Rattle.std.proofs.lemmas.List.Kept.{Contains-dedup_nat}

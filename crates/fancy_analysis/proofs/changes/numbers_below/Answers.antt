@@ -1,4 +1,4 @@
-use Rattle.std.proofs.Common.{◌≡◌, ℕ, ◌+◌, ◌<◌, Contains, ⊎_elim, sym, subst, arith}
+use Rattle.std.proofs.Common.{◌≡◌, Contains, ⊎_elim, sym, subst, arith}
 use Rattle.std.proofs.lemmas.Bool.{cases_lt}
 use Rattle.std.proofs.lemmas.List.Elements.{Contains-append_left, Contains-push}
 use Rattle.fancy_analysis.proofs.changes.numbers_below.Goals as goal

@@ -1,4 +1,4 @@
-use Rattle.std.proofs.Common.{ℕ, ◌<◌, ◌≤◌, length, take, All}
+use Rattle.std.proofs.Common.{◌<◌, ◌≤◌, length, take, All}
 use Rattle.fancy_expr.specs.Exprs.{below, exprs, exprs_of_each}
 use Rattle.fancy_analysis.specs.Dependents.{IsListedFor, KeepsLists}
 use Rattle.fancy_analysis.proofs.dependents.+list_all.Given as goal

@@ -1,5 +1,4 @@
-use Rattle.std.proofs.Common.{◌≡◌, ◌<◌, ◌∷◌, [], ◌++◌, length, sym, ap, ◌∙◌, arith}
-use Rattle.fancy_analysis.specs.Dependents.{listed}
+use Rattle.std.proofs.Common.{◌<◌, ◌∷◌, [], ◌++◌, length, sym, ap, ◌∙◌, arith}
 use Rattle.fancy_analysis.proofs.ListedTargets.{keeps_more, listed_at, listed_there}
 use Rattle.fancy_analysis.proofs.dependents.list_under.Goals as goal
 

@@ -1,5 +1,4 @@
-use Rattle.std.proofs.Common.{◌<◌, length, arith}
-use Rattle.fancy_expr.specs.Exprs.{below}
+use Rattle.std.proofs.Common.{arith}
 use Rattle.fancy_expr.proofs.Exprs.{child_smaller}
 use Rattle.fancy_analysis.proofs.Bodies.{bodies_here, bodies_more, bodies_all}
 use Rattle.fancy_analysis.proofs.targets.+add_bodies.Goals as goal
