@@ -6,7 +6,7 @@ use fancy_regex_engine::expr::Assertion;
 use fancy_regex_engine::vm::Insn;
 use fancy_tables::columns::{four, number, pair};
 use std::alloc::Global;
-use std::rc::Rc;
+use std::sync::Arc;
 
 /// The characters, each followed by `+` where it is folded and by `-` where it is not.
 fn folded(alloc: Global, text: &str, unicode: bool) -> Result<Insn, Error> {
@@ -20,7 +20,7 @@ fn folded(alloc: Global, text: &str, unicode: bool) -> Result<Insn, Error> {
 
 /// The class, which another instruction shared.
 fn class(alloc: Global, class: CharClassMatcher) -> Result<Insn, Error> {
-    let class = Rc::new(alloc, class)?;
+    let class = Arc::new(alloc, class)?;
     let _shared = Insn::CharClass(class.clone()?);
     Ok(Insn::CharClass(class))
 }

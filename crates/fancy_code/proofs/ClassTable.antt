@@ -6,7 +6,7 @@ use Rattle.std.specs.Map.{lookup, update}
 use Rattle.std.specs.Cmp.Lexicographic.{slice_cmp}
 use Rattle.std.specs.Ordering.{nat_cmp}
 use Rattle.std.specs.String.{string_cmp}
-use Rattle.std.specs.declared.rc.Rc.{Rc}
+use Rattle.std.specs.declared.sync.Arc.{Arc}
 use Rattle.std.specs.Str.{bytes_eq}
 use Rattle.std.proofs.lemmas.Slice.Eq.{bytes_eq-Decides}
 use Rattle.std.proofs.lemmas.Map.Text.{btree_map_updates_text}
@@ -43,14 +43,14 @@ module _ (unicode casei u c : Bool) (inner other : List ℕ) (same : class_key u
   same_inner : inner ≡ other
   same_inner = sym (key_inner unicode casei inner) ∙ ap (drop 2) same ∙ key_inner u c other
 
-  pub same_class : {Z : Type 0} (class : Rc CharClassMatcher Z) → IsClass unicode casei inner class → IsClass u c other class
+  pub same_class : {Z : Type 0} (class : Arc CharClassMatcher Z) → IsClass unicode casei inner class → IsClass u c other class
   same_class class is =
       subst (λ b. IsClass b c other class) same_unicode
       (subst (λ b. IsClass unicode b other class) same_casei (subst (λ l. IsClass unicode casei l class) same_inner is))
 
 -- ---- the table with one more class
 
-module _ {Y Z : Type 0} (m n : BTreeMap (String Y) (Rc CharClassMatcher Z)) (unicode casei : Bool) (inner : List ℕ) (class : Rc CharClassMatcher Z)
+module _ {Y Z : Type 0} (m n : BTreeMap (String Y) (Arc CharClassMatcher Z)) (unicode casei : Bool) (inner : List ℕ) (class : Arc CharClassMatcher Z)
     (is : IsClass unicode casei inner class)
     (sets : (key : List ℕ) → get_by_text n key ≡ update bytes_eq (get_by_text m) (class_key unicode inner casei) (Some class) key) where
   one_more : AreClasses m → AreClasses n
@@ -65,7 +65,7 @@ module _ {Y Z : Type 0} (m n : BTreeMap (String Y) (Rc CharClassMatcher Z)) (uni
       by_test false other_key h = known u c other found h
 
 -- after an insertion, which may have been refused
-module _ {Y Z : Type 0} (m n : BTreeMap (String Y) (Rc CharClassMatcher Z)) (key : String Y) (class : Rc CharClassMatcher Z) (unicode casei : Bool)
+module _ {Y Z : Type 0} (m n : BTreeMap (String Y) (Arc CharClassMatcher Z)) (key : String Y) (class : Arc CharClassMatcher Z) (unicode casei : Bool)
     (inner : List ℕ)
     (of_key : string_bytes key ≡ class_key unicode inner casei) (is : IsClass unicode casei inner class) (known : AreClasses m) where
   pub classes_with_key : {T E : Type 0} (r : Result T E) → OnOk r (Updates string_cmp m n key (Some class)) → OnErr r (IsUnchanged m n) → AreClasses n

@@ -1,7 +1,7 @@
 -- The delegates that were built, and one that is taken again.
 use Rattle.std.proofs.Common.{◌≡◌, ℕ, zero, suc, Bool, true, false, if◌then◌else◌, List, [], ◌∷◌, ◌++◌, map, Option, refl, sym, ap, ◌∙◌, subst}
 use Rattle.std.specs.Prelude.{unwrap_or}
-use Rattle.std.specs.declared.rc.Rc.{Rc}
+use Rattle.std.specs.declared.sync.Arc.{Arc}
 use Rattle.fancy_meaning.specs.Tree.{trees}
 use Rattle.fancy_meaning.specs.Batches.{fragment, group_range, pattern_of}
 use Rattle.fancy_meaning.specs.Instr.{Instr, Fragment}
@@ -12,7 +12,7 @@ use Rattle.fancy_plain.specs.Tables.{HaveClasses}
 use Rattle.fancy_fragments.specs.declared.delegate.Delegate.{Delegate}
 use Rattle.fancy_code.specs.SharedDelegates.{IsNamed, IsNamedAlike, AreNamedAlike, IsDelegateOf, delegate_of}
 
-pub named_more : {Z : Type 0} (ds : List (Rc Delegate Z)) (d : Rc Delegate Z) → AreNamedAlike ds → IsNamedAlike d → AreNamedAlike (ds ++ d ∷ [])
+pub named_more : {Z : Type 0} (ds : List (Arc Delegate Z)) (d : Arc Delegate Z) → AreNamedAlike ds → IsNamedAlike d → AreNamedAlike (ds ++ d ∷ [])
 named_more [] d h g zero x e = subst IsNamedAlike (ap (λ o. unwrap_or o d) e) g
 named_more [] d h g (suc k) x e = cc
 named_more (c ∷ ds) d h g zero x e = h zero x e
@@ -33,7 +33,7 @@ module _ (unicode : Bool) (is : List Info) where
   }
 
 -- after one was put behind them, which may have been refused
-pub named_push : {Z : Type 0} (ok : Bool) (ds es : List (Rc Delegate Z)) (d : Rc Delegate Z) → es ≡ (if ok then ds ++ d ∷ [] else ds) → AreNamedAlike ds
+pub named_push : {Z : Type 0} (ok : Bool) (ds es : List (Arc Delegate Z)) (d : Arc Delegate Z) → es ≡ (if ok then ds ++ d ∷ [] else ds) → AreNamedAlike ds
     → IsNamedAlike d → AreNamedAlike es
 named_push true ds es d is h g = subst AreNamedAlike (sym is) (named_more ds d h g)
 named_push false ds es d is h g = subst AreNamedAlike (sym is) h

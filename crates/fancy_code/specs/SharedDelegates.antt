@@ -2,7 +2,7 @@
 use Rattle.std.specs.Prelude.{◌≡◌, ℕ, Bool, List, map}
 use Rattle.std.specs.List.{slice_get}
 use Rattle.std.specs.Option.{ForSome}
-use Rattle.std.specs.declared.rc.Rc.{Rc}
+use Rattle.std.specs.declared.sync.Arc.{Arc}
 use Rattle.fancy_meaning.specs.Tree.{Tree, trees}
 use Rattle.fancy_meaning.specs.Batches.{fragment, group_range, pattern_of}
 use Rattle.fancy_meaning.specs.Instr.{Instr}
@@ -21,10 +21,10 @@ IsNamed (Instr.Delegate text f range) =
     × AreClasses f.unicode (texts_in (trees f.nodes))
 IsNamed i = ⊥
 
-abbrev pub IsNamedAlike : {Z : Type 0} → Rc Delegate Z → Type 0
+abbrev pub IsNamedAlike : {Z : Type 0} → Arc Delegate Z → Type 0
 IsNamedAlike d = IsNamed (delegate_instr d.value)
 
-abbrev pub AreNamedAlike : {Z : Type 0} → List (Rc Delegate Z) → Type 0
+abbrev pub AreNamedAlike : {Z : Type 0} → List (Arc Delegate Z) → Type 0
 AreNamedAlike ds = (place : ℕ) → ForSome (slice_get ds place) IsNamedAlike
 
 -- the delegate of these nodes

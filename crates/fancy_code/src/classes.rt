@@ -13,13 +13,13 @@ use fancy_expr::error::Error;
 use fancy_vm::vm::Insn;
 use std::alloc::{AllocError, Global};
 use std::collections::BTreeMap;
-use std::rc::Rc;
+use std::sync::Arc;
 
 /// The classes of a program, each compiled once.
 #[derive(Drop)]
 pub struct SharedClasses {
     /// By how they are read, and their texts.
-    classes: BTreeMap<String, Rc<CharClassMatcher>>,
+    classes: BTreeMap<String, Arc<CharClassMatcher>>,
     ghost known: { AreClasses classes },
 }
 
@@ -58,7 +58,7 @@ impl SharedClasses {
         inner: &str,
         casei: bool,
         unicode: bool,
-    ) -> Result<Rc<CharClassMatcher>, Error>
+    ) -> Result<Arc<CharClassMatcher>, Error>
         ensures class { IfOk result (λ class.
             class_of class.value ≡ Codepoint inner.now casei unicode) }
         ensures is_class { IfOk result (λ _. IsTrue (is_class unicode inner.now casei)) }
@@ -66,12 +66,12 @@ impl SharedClasses {
     {
         let key = class_key(alloc, inner, casei, unicode)?;
         match self.classes.get(key.as_str()) {
-            Some(class) => return Ok(Rc::clone(class)?),
+            Some(class) => return Ok(Arc::clone(class)?),
             None => {}
         }
         let class = CharClassMatcher::codepoint(alloc, inner, casei, unicode)?;
-        let shared = Rc::new(alloc, class)?;
-        self.classes.insert(key, Rc::clone(&shared)?)?;
+        let shared = Arc::new(alloc, class)?;
+        self.classes.insert(key, Arc::clone(&shared)?)?;
         Ok(shared)
     }
 }

@@ -14,7 +14,7 @@ use fancy_fragments::delegate::Delegate;
 use fancy_info::info::Info;
 use std::alloc::Global;
 use std::collections::BTreeMap;
-use std::rc::Rc;
+use std::sync::Arc;
 
 /// What equal delegates have alike: the pattern text, and the number at which their groups begin.
 type Key = (String, Option<usize>);
@@ -22,7 +22,7 @@ type Key = (String, Option<usize>);
 /// The delegates of a program, each built once.
 #[derive(Drop)]
 pub struct SharedDelegates {
-    delegates: Vec<Rc<Delegate>>,
+    delegates: Vec<Arc<Delegate>>,
     /// Where those of this key stand among them.
     places: BTreeMap<Key, Vec<usize>>,
     ghost known: { AreNamedAlike delegates.items },
@@ -71,7 +71,7 @@ impl SharedDelegates {
     }
 
     /// The delegate of these nodes, if it was built.
-    fn find(&self, infos: &[Info], key: &Key, unicode: bool) -> Option<&Rc<Delegate>>
+    fn find(&self, infos: &[Info], key: &Key, unicode: bool) -> Option<&Arc<Delegate>>
         requires { AreEasyNeighbours infos.now }
         ensures { IfSome result (λ d. IsDelegateOf unicode infos.now
             (delegate_instr d.now.value)) }
@@ -92,20 +92,20 @@ impl SharedDelegates {
         infos: &[Info],
         text: String,
         unicode: bool,
-    ) -> Result<Rc<Delegate>, Error>
+    ) -> Result<Arc<Delegate>, Error>
         requires { AreEasyNeighbours infos.now }
         ensures { IsMadeOf unicode infos.now
             (λ d. delegate_instr d.value ≡ delegate_of unicode (map info_tree infos.now)) result }
     {
         let key = (text, first_number(infos));
         match self.find(infos, &key, unicode) {
-            Some(delegate) => return Ok(Rc::clone(delegate)?),
+            Some(delegate) => return Ok(Arc::clone(delegate)?),
             None => {}
         }
         let delegate = Delegate::build(alloc, infos, unicode)?;
-        let shared = Rc::new(alloc, delegate)?;
+        let shared = Arc::new(alloc, delegate)?;
         add_place(&mut self.places, alloc, key, self.delegates.len())?;
-        self.delegates.push(Rc::clone(&shared)?)?;
+        self.delegates.push(Arc::clone(&shared)?)?;
         Ok(shared)
     }
 }

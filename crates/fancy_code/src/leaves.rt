@@ -20,7 +20,7 @@ use fancy_expr::expr::{Assertion, BacktrackingControlVerb, Expr};
 use fancy_expr::text::first_char;
 use fancy_vm::vm::Insn;
 use std::alloc::{AllocError, Global};
-use std::rc::Rc;
+use std::sync::Arc;
 
 /// The instruction for any character.
 pub fn any_insn(newline: bool, crlf: bool) -> Insn
@@ -53,7 +53,7 @@ fn literal_insn(alloc: Global, c: char, casei: bool, unicode: bool) -> Result<In
 fn newline_insn(alloc: Global, unicode: bool) -> Result<Insn, AllocError>
     ensures { IfOk result (λ i. insn_of i ≡ Instr.Class (Newline unicode)) }
 {
-    match Rc::new(alloc, CharClassMatcher::Newline { unicode }) {
+    match Arc::new(alloc, CharClassMatcher::Newline { unicode }) {
         Ok(shared) => Ok(Insn::CharClass(shared)),
         Err(_) => Err(AllocError),
     }

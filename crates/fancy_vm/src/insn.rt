@@ -13,7 +13,7 @@ use fancy_characters::classes::{CaseiLiteral, CharClassMatcher};
 use fancy_characters::look::is_of_end;
 use fancy_expr::expr::Assertion;
 use fancy_fragments::delegate::Delegate;
-use std::rc::Rc;
+use std::sync::Arc;
 
 /// One instruction. Places in the program, and slots, are indices; places in a text are bytes.
 #[derive(Drop)]
@@ -31,7 +31,7 @@ pub enum Insn {
     /// Takes these characters, each folded or not.
     LitCasei(CaseiLiteral),
     /// Takes one character of the class, which instructions of one class share.
-    CharClass(Rc<CharClassMatcher>),
+    CharClass(Arc<CharClassMatcher>),
     /// Fails where the assertion does not hold. One of the text's end that holds sets the text-end flag, if it is there.
     Assertion(Assertion),
     /// Goes on at the first, with a branch at the second.
@@ -99,10 +99,10 @@ pub enum Insn {
     /// Fails where the group was not closed.
     BackrefExistsCondition(usize),
     /// Goes on where the fragment's first way ends, with the pairs of the groups that it sets.
-    Delegate(Rc<Delegate>),
+    Delegate(Arc<Delegate>),
     /// At the text's end, and where the fragment has a way, goes on. Else it takes a character and comes here again,
     /// with a branch that goes on from where it was.
-    AbsentRepeater(Rc<Delegate>),
+    AbsentRepeater(Arc<Delegate>),
     /// Marks how many branches there are.
     BeginAtomic,
     /// Drops the branches since the last mark.
