@@ -7,6 +7,8 @@ pub mod StartsLaws
 pub mod StepLaws
 pub mod WalksLaws
 pub mod BackLaws
+pub mod StretchLaws
+pub mod ThreadsLaws
 pub mod TailsLaws
 pub mod MeaningLaws
 pub mod MemosLaws

@@ -7,6 +7,7 @@ pub mod Stops
 pub mod Beginnings
 pub mod StartRuns
 pub mod Tails
+pub mod Stretches
 pub mod Outcomes
 pub mod Means
 pub mod Walks

@@ -13,6 +13,8 @@ mod program;
 mod runs;
 mod starts;
 mod steps;
+mod stretch;
 mod tails;
+mod threads;
 pub mod vm;
 mod walk;

@@ -5,11 +5,13 @@ ghost use Rattle.fancy_meaning.specs.Config as config;
 ghost use Rattle.fancy_meaning.specs.Machine as machine;
 ghost use Rattle.fancy_state.specs.Held.{first_held};
 ghost use Rattle.fancy_vm.specs.Sound.{IsSound};
+ghost use Rattle.fancy_vm.specs.Stretches.{IsStretch};
 ghost use Rattle.fancy_vm.specs.Tails.{AreTails};
 
 use crate::insn::Prog;
 use crate::longest::Longest;
 use crate::runs::RunOptions;
+use crate::stretch::Stretch;
 use crate::tails::Tails;
 use fancy_expr::error::{Error, RuntimeError};
 use fancy_state::state::State;
@@ -43,8 +45,11 @@ pub(crate) struct Machine<'a> {
     pub(crate) longest: Longest,
     /// From where on only newlines are left in the text.
     pub(crate) tails: Tails,
+    /// How far back the last long step back went.
+    pub(crate) stretch: Stretch,
     ghost sound: { IsSound task state },
     ghost are_tails: { AreTails task.text.now tails },
+    ghost is_stretch: { IsStretch task.text.now stretch },
 }
 
 /// What an instruction led to.
@@ -110,6 +115,7 @@ impl<'a> Machine<'a> {
             state,
             longest,
             tails: Tails::new(),
+            stretch: Stretch::new(),
         }
     }
 

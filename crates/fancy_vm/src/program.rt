@@ -8,6 +8,7 @@ ghost use Rattle.fancy_vm.specs.Programs.{prog_of};
 
 use crate::beginning::Beginning;
 use crate::insn::{Insn, Prog, ProgParts};
+use crate::threads::{crosses_threads, is_shared_by_threads};
 
 impl Prog {
     /// A program of these instructions and parts, which have to fit (`ProgParts::fits`). It keeps exactly what it is
@@ -18,6 +19,8 @@ impl Prog {
         ensures parts { result.parts ≡ parts }
         ensures prog { prog_of result ≡ prog_with body.items parts }
     {
+        crosses_threads::<Prog>();
+        is_shared_by_threads::<Prog>();
         let beginning = Beginning::of(&body);
         Prog {
             body,

@@ -14,6 +14,7 @@ use crate::insn::Prog;
 use crate::longest::Longest;
 use crate::machine::{MAX_BRANCHES, Machine, Next, Stop, Task};
 use crate::memos::Memos;
+use crate::threads::crosses_threads;
 use fancy_characters::places::is_place;
 use fancy_expr::error::{Error, RuntimeError};
 use fancy_state::state::State;
@@ -93,6 +94,7 @@ impl Scratch {
         ensures alloc { allocator_of result ≡ alloc }
         ensures unused { IsUnused result }
     {
+        crosses_threads::<Scratch>();
         Scratch {
             alloc,
             state: None,
