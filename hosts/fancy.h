@@ -58,7 +58,7 @@ struct fancy_program {
 
 /* The options of the compiler and of a search. Begin with fancy_default_options(). */
 struct fancy_options {
-    size_t pos;             /* where the search begins, a byte of the text; 0 */
+    size_t pos;             /* where the search begins, a byte of the text: for fancy_find; 0 */
     size_t max_prog_size;   /* how many instructions a program may have; 100,000 */
     size_t max_nesting;     /* how many nodes may be written out in one another, calls with them; 1,000, for a stack of 2 MB */
     size_t max_depth;       /* how deep a tree may nest, in parentheses; 250, for a stack of 2 MB: see fancy_compile */
@@ -77,9 +77,18 @@ struct fancy_outcome {
     uint32_t code; /* of enum fancy_code */
     size_t byte;   /* where the tree or the text cannot be read */
     size_t group;  /* the group that is not there */
-    size_t count;  /* how many groups there are, with group 0 */
+    size_t count;  /* how many groups there are, with group 0; of fancy_find_all, how many matches were written */
     size_t next;   /* pos of a search for the next match; past the length of the text there is none */
 };
+
+/* Where a list of all matches stands. Begin with FANCY_FIRST, or with another pos, a byte of the text. */
+struct fancy_standing {
+    size_t pos;    /* where the next search begins; no place of the text once the list has ended */
+    size_t last;   /* where the last match ended */
+    bool has_last; /* whether there was one */
+};
+
+#define FANCY_FIRST {0, 0, false}
 
 struct fancy_options fancy_default_options(void);
 
@@ -97,6 +106,21 @@ struct fancy_outcome fancy_compile(const uint8_t *tree, size_t tree_length, cons
  * for them; all of them are 2 * count numbers. Spans are left as they were where the code is not FANCY_OK. */
 struct fancy_outcome fancy_find(struct fancy_program *program, const uint8_t *text, size_t text_length,
                                 const struct fancy_options *options, size_t *spans, size_t spans_length);
+
+/* Searches a text in UTF-8 for all matches, from where their list stands. Start and end of each are written to spans, in
+ * bytes, as many as there is room for, and count says how many matches that are, whatever the code is. The list then
+ * stands behind them, and the same call again goes on:
+ *
+ *   FANCY_OK        there was no room for one more
+ *   FANCY_NO_MATCH  the list has ended
+ *   other codes     why there is no more; of a limit, the call may be made again with a higher one
+ *
+ * Each search begins where the match before it ended, and one character further where that took nothing. An empty match
+ * where the last one ended is left out, and so is one that begins before its search. pos and not_continued of the options
+ * say nothing here. */
+struct fancy_outcome fancy_find_all(struct fancy_program *program, const uint8_t *text, size_t text_length,
+                                    const struct fancy_options *options, struct fancy_standing *standing, size_t *spans,
+                                    size_t spans_length);
 
 /* How many groups the tree has, with group 0; 0 without a tree. */
 size_t fancy_group_count(const struct fancy_program *program);

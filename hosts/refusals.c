@@ -5,6 +5,7 @@
 
 static struct fancy_program program = FANCY_NOTHING;
 static struct fancy_options options;
+static struct fancy_standing standing = FANCY_FIRST;
 static size_t spans[2];
 
 static void print_outcome(const char *what, struct fancy_outcome outcome)
@@ -29,11 +30,20 @@ static void find(const char *what, const char *text)
     print_outcome(what, fancy_find(&program, (const uint8_t *)text, strlen(text), &options, spans, 2));
 }
 
+static void find_all(const char *what, const char *text, size_t room)
+{
+    struct fancy_outcome outcome = fancy_find_all(&program, (const uint8_t *)text, strlen(text), &options, &standing,
+                                                  spans, room);
+    print_outcome(what, outcome);
+    printf("%zu written, then from %zu\n", outcome.count, standing.pos);
+}
+
 int main(void)
 {
     uint8_t name[3] = "---";
     options = fancy_default_options();
     find("a search without a tree", "a");
+    find_all("all matches without a tree", "a", 2);
     compile("a tree that is no UTF-8", "\"a\xff\"");
     compile("a group that is not there", "(cat (grp \"a\") (ref 3))");
     compile("calls that double on each level", "(grp (alt \"a\" (cat (call 1) (call 1) \"b\")))");
@@ -58,6 +68,17 @@ int main(void)
     options.pos = 0;
     options.not_empty = true;
     find("not_empty said to the search alone", "ab");
+    find_all("not_empty said to all searches alone", "ab", 2);
+    options = fancy_default_options();
+    find_all("all matches of a text that is no UTF-8", "a\xc3", 2);
+    find_all("no room for a match", "abac", 1);
+    find_all("the first match", "abac", 2);
+    options.step_limit = 0;
+    find_all("a limit", "abac", 2);
+    options = fancy_default_options();
+    find_all("the same without it", "abac", 2);
+    find_all("the end", "abac", 2);
+    find_all("after the end", "abac", 2);
     fancy_free(&program);
     fancy_free(&program);
     find("a search in what was freed", "a");

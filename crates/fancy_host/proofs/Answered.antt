@@ -17,7 +17,7 @@ use Rattle.fancy_vm.specs.Programs.{prog_of, options_of as run_options_of}
 use Rattle.fancy_search.specs.declared.search.Compiled.{Compiled}
 use Rattle.fancy_search.specs.Searches.{Bounds, IsCompiledFrom, IsRefusedAs, Promises, input_of, program}
 use Rattle.fancy_host.specs.declared.options.FancyOptions.{FancyOptions}
-use Rattle.fancy_host.specs.declared.program.Searcher.{Searcher}
+use Rattle.fancy_host.specs.declared.searches.Searcher.{Searcher}
 use Rattle.fancy_host.specs.declared.outcome.FancyOutcome.{FancyOutcome}
 use Rattle.fancy_notation.specs.Depth.{depth}
 use Rattle.fancy_host.specs.Codes.{no_program, too_deep, unfit}

@@ -28,7 +28,7 @@ use Rattle.fancy_search.specs.declared.search.Compiled.{Compiled}
 use Rattle.fancy_search.specs.Searches.{Bounds, IsCompiledFrom, IsRefusedAs, Promises, input_of, program}
 use Rattle.fancy_host.specs.declared.options.FancyOptions.{FancyOptions}
 use Rattle.fancy_host.specs.declared.outcome.FancyOutcome.{FancyOutcome}
-use Rattle.fancy_host.specs.declared.program.Searcher.{Searcher}
+use Rattle.fancy_host.specs.declared.searches.Searcher.{Searcher}
 use Rattle.fancy_host.specs.Codes.{ok, no_match, no_program, no_text, unfit, too_deep, code_of}
 
 -- ---- options
@@ -85,6 +85,10 @@ running o = record {
 -- a code without details
 abbrev pub coded : ℕ → FancyOutcome
 coded code = record { code = code; byte = usize_max; group = usize_max; count = 0; next = usize_max }
+
+-- the same with so many
+abbrev pub with_count : ℕ → FancyOutcome → FancyOutcome
+with_count count outcome = record outcome { count = count }
 
 -- the bytes are no text from this one on
 abbrev pub not_utf8 : ℕ → FancyOutcome

@@ -1,3 +1,4 @@
 pub mod Codes
 pub mod Hosted
+pub mod Lists
 pub mod Owned

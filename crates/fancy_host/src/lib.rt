@@ -6,15 +6,20 @@ mod loose;
 mod options;
 mod outcome;
 mod program;
+mod searches;
+mod standing;
 
 ghost use Rattle.std.specs.Prelude.{◌≡◌, None, length};
 ghost use Rattle.fancy_host.specs.Codes.{name_of};
 ghost use Rattle.fancy_host.specs.Hosted.{Compiles, Finds, default_options, group_count, over, tree_of};
+ghost use Rattle.fancy_host.specs.Lists.{FindsAll};
 
 use fancy_notation::depth::depth;
 use options::FancyOptions;
 use outcome::{FancyOutcome, NO_PROGRAM, TOO_DEEP, write_name};
-use program::{FancyProgram, compile};
+use program::FancyProgram;
+use searches::Searcher;
+use standing::FancyStanding;
 use std::alloc::Global;
 use std::mem::replace;
 use std::str::from_utf8;
@@ -48,7 +53,7 @@ pub extern "C" fn fancy_compile(
     if depth(text) > options.max_depth {
         return FancyOutcome::coded(TOO_DEEP);
     }
-    match compile(alloc, text, options) {
+    match Searcher::compile(alloc, text, options) {
         Ok(searcher) => {
             let groups = searcher.group_count();
             *program = FancyProgram::of(searcher);
@@ -86,6 +91,44 @@ pub extern "C" fn fancy_find(
     }
     let mut searcher = replace(program, FancyProgram::empty(alloc)).into_searcher();
     let outcome = searcher.find(alloc, text, options, spans);
+    *program = FancyProgram::of(searcher);
+    outcome
+}
+
+/// Searches a text, in UTF-8, for all matches of the tree that a program holds, from where their list stands: writes
+/// start and end of each, in bytes of the text, as many as there is room for in `spans`, and says how many. The list
+/// then stands after them, so a call again goes on. The code is `FANCY_OK` where there was no room for one more, and
+/// `FANCY_NO_MATCH` where the list has ended; after an error the list stands before the search that failed. `pos` and
+/// `not_continued` of the options say nothing here.
+#[unsafe(no_mangle)]
+pub extern "C" fn fancy_find_all(
+    alloc: Global,
+    program: &mut FancyProgram,
+    text: &[u8],
+    options: &FancyOptions,
+    standing: &mut FancyStanding,
+    spans: &mut [usize],
+) -> FancyOutcome
+    ensures finds { FindsAll
+        text.now
+        options.now
+        standing.old
+        spans.old
+        program.old.handle.searcher
+        standing.new
+        spans.new
+        result }
+    ensures keeps { tree_of program.new.handle.searcher ≡ tree_of program.old.handle.searcher }
+{
+    let text = match from_utf8(text) {
+        Ok(text) => text,
+        Err(fault) => return FancyOutcome::not_utf8(fault.valid_up_to()),
+    };
+    if !program.is_set {
+        return FancyOutcome::coded(NO_PROGRAM);
+    }
+    let mut searcher = replace(program, FancyProgram::empty(alloc)).into_searcher();
+    let outcome = searcher.find_all(alloc, text, options, standing, spans);
     *program = FancyProgram::of(searcher);
     outcome
 }

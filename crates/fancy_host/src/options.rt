@@ -3,6 +3,7 @@
 ghost use Rattle.std.specs.Prelude.{◌≡◌};
 ghost use Rattle.fancy_vm.specs.Programs.{options_of as run_options_of};
 ghost use Rattle.fancy_host.specs.Hosted as hosted;
+ghost use Rattle.fancy_host.specs.Lists as lists;
 
 use fancy_analysis::analyze::AnalyzeContext;
 use fancy_compile::compile::{BytesMode, CompileOptions};
@@ -102,6 +103,16 @@ impl FancyOptions {
             leftmost_longest: self.longest,
             backtrack_limit: self.backtrack_limit,
             step_limit: self.step_limit,
+        }
+    }
+
+    /// The same for all matches, which say themselves where a search begins and whether it is continued.
+    pub fn listing(&self) -> RunOptions
+        ensures { run_options_of result ≡ lists.listing self.now }
+    {
+        RunOptions {
+            pos: 0,
+            ..self.running()
         }
     }
 }

@@ -17,15 +17,15 @@ pub struct FancyOutcome {
     pub byte: usize,
     /// The group that is referred to, and is not there.
     pub group: usize,
-    /// How many groups there are, with group 0.
+    /// How many groups there are, with group 0; of a search for all matches, how many were written.
     pub count: usize,
     /// Where a search for the next match begins, a place of the text; past its length there is none.
     pub next: usize,
 }
 
-const OK: u32 = 0;
+pub const OK: u32 = 0;
 
-const NO_MATCH: u32 = 1;
+pub const NO_MATCH: u32 = 1;
 
 pub const NO_PROGRAM: u32 = 2;
 
@@ -159,6 +159,13 @@ impl FancyOutcome {
             count: 0,
             next: usize::MAX,
         }
+    }
+
+    /// The same with so many.
+    pub fn with_count(self, count: usize) -> FancyOutcome
+        ensures { result ≡ hosted.with_count count self }
+    {
+        FancyOutcome { count, ..self }
     }
 
     /// The bytes are no text from this one on.

@@ -11,9 +11,9 @@ use fancy_vm::vm::RunOptions;
 #[derive(Clone, Copy, Debug, Drop)]
 pub struct Standing {
     /// Where the next search begins; no place of the text once the list has ended.
-    pub(crate) pos: usize,
+    pub pos: usize,
     /// Where the last match of the list ended.
-    pub(crate) last: Option<usize>,
+    pub last: Option<usize>,
 }
 
 impl Standing {
@@ -27,7 +27,7 @@ impl Standing {
     }
 
     /// The options of the next search, which is continued where the last match ended, and so is the first.
-    pub(crate) fn options(&self, base: &RunOptions) -> RunOptions
+    pub fn options(&self, base: &RunOptions) -> RunOptions
         ensures { options_of result ≡ list.options_at (options_of base.now) (standing_of self.now) }
     {
         let continued = match self.last {
@@ -43,7 +43,7 @@ impl Standing {
 
     /// Goes past a match that was found, and says whether it is one of the list: it does not begin before its search,
     /// and is not empty where the last match ended.
-    pub(crate) fn pass(&mut self, text: &str, start: usize, end: usize) -> bool
+    pub fn pass(&mut self, text: &str, start: usize, end: usize) -> bool
         requires { end ≤ length text.now }
         ensures listed { result ≡ list.is_listed (standing_of self.old) (start, end) }
         ensures after { standing_of self.new

@@ -36,6 +36,13 @@ pub struct Outcome {
     pub next: usize,
 }
 
+#[repr(C)]
+pub struct Standing {
+    pub pos: usize,
+    pub last: usize,
+    pub has_last: bool,
+}
+
 pub const OK: u32 = 0;
 pub const NO_MATCH: u32 = 1;
 pub const UNSET: usize = usize::MAX;
@@ -55,6 +62,16 @@ extern "C" {
         text: *const u8,
         text_length: usize,
         options: *const Options,
+        spans: *mut usize,
+        spans_length: usize,
+    ) -> Outcome;
+
+    pub fn fancy_find_all(
+        program: *mut Program,
+        text: *const u8,
+        text_length: usize,
+        options: *const Options,
+        standing: *mut Standing,
         spans: *mut usize,
         spans_length: usize,
     ) -> Outcome;

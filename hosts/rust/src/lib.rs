@@ -9,6 +9,7 @@ use std::cell::RefCell;
 use std::fmt;
 use std::ops::Range;
 use std::ptr::null_mut;
+use std::vec::IntoIter;
 
 /// How a tree is compiled and searched for; each field is that of `fancy_options`.
 #[derive(Clone, Copy)]
@@ -126,7 +127,6 @@ impl<'t> Match<'t> {
 pub struct Captures<'t> {
     text: &'t str,
     spans: Vec<usize>,
-    next: usize,
 }
 
 impl<'t> Captures<'t> {
@@ -186,17 +186,19 @@ impl Regex {
         Ok(self.captures(text)?.and_then(|captures| captures.get(0)))
     }
 
-    /// The first match with its groups.
-    pub fn captures<'t>(&self, text: &'t str) -> Result<Option<Captures<'t>>, Error> {
-        self.captures_from(text, self.options)
-    }
-
     /// Every match, from left to right: an empty one directly behind another match is left out.
     pub fn find_iter<'r, 't>(&'r self, text: &'t str) -> Matches<'r, 't> {
-        Matches { regex: self, text, options: self.options, last: None }
+        let standing = host::Standing { pos: self.options.host.pos, last: 0, has_last: false };
+        Matches { regex: self, text, standing, spans: Vec::new().into_iter(), has_ended: false, error: None }
     }
 
-    fn captures_from<'t>(&self, text: &'t str, options: Options) -> Result<Option<Captures<'t>>, Error> {
+    /// All of them.
+    pub fn find_all<'t>(&self, text: &'t str) -> Result<Vec<Match<'t>>, Error> {
+        self.find_iter(text).collect()
+    }
+
+    /// The first match with its groups.
+    pub fn captures<'t>(&self, text: &'t str) -> Result<Option<Captures<'t>>, Error> {
         let mut spans = vec![host::UNSET; 2 * self.group_count()];
         let mut program = self.program.borrow_mut();
         // Safety: the program was made by `fancy_compile` on this thread, no other call has it, and the other pointers are
@@ -206,13 +208,13 @@ impl Regex {
                 &mut *program,
                 text.as_ptr(),
                 text.len(),
-                &options.host,
+                &self.options.host,
                 spans.as_mut_ptr(),
                 spans.len(),
             )
         };
         match outcome.code {
-            host::OK => Ok(Some(Captures { text, spans, next: outcome.next })),
+            host::OK => Ok(Some(Captures { text, spans })),
             host::NO_MATCH => Ok(None),
             _ => Err(Error::of(&outcome)),
         }
@@ -226,34 +228,43 @@ impl Drop for Regex {
     }
 }
 
+/// For how many matches a call has room.
+const ROOM: usize = 64;
+
 /// The matches of a text; the last item is an error if one came.
 pub struct Matches<'r, 't> {
     regex: &'r Regex,
     text: &'t str,
-    options: Options,
-    /// Where the last match ended.
-    last: Option<usize>,
+    standing: host::Standing,
+    /// Start and end of the matches that were found and not given yet.
+    spans: IntoIter<usize>,
+    has_ended: bool,
+    error: Option<Error>,
 }
 
-impl<'t> Matches<'_, 't> {
-    fn step(&mut self) -> Result<Option<Match<'t>>, Error> {
-        while self.options.host.pos <= self.text.len() {
-            if let Some(last) = self.last {
-                self.options.host.not_continued = self.options.host.pos > last;
-            }
-            let Some(captures) = self.regex.captures_from(self.text, self.options)? else {
-                break;
-            };
-            let (start, end) = (captures.spans[0], captures.spans[1]);
-            let is_empty_behind = start == end && self.last == Some(end);
-            self.last = Some(end);
-            self.options.host.pos = captures.next;
-            if !is_empty_behind {
-                return Ok(captures.get(0));
-            }
+impl Matches<'_, '_> {
+    /// Asks for the next matches, as many as there is room for.
+    fn find_more(&mut self) {
+        let mut spans = vec![0; 2 * ROOM];
+        let mut program = self.regex.program.borrow_mut();
+        // Safety: as in `captures`.
+        let outcome = unsafe {
+            host::fancy_find_all(
+                &mut *program,
+                self.text.as_ptr(),
+                self.text.len(),
+                &self.regex.options.host,
+                &mut self.standing,
+                spans.as_mut_ptr(),
+                spans.len(),
+            )
+        };
+        spans.truncate(2 * outcome.count);
+        self.spans = spans.into_iter();
+        self.has_ended = outcome.code != host::OK;
+        if self.has_ended && outcome.code != host::NO_MATCH {
+            self.error = Some(Error::of(&outcome));
         }
-        self.options.host.pos = host::UNSET;
-        Ok(None)
     }
 }
 
@@ -261,10 +272,12 @@ impl<'t> Iterator for Matches<'_, 't> {
     type Item = Result<Match<'t>, Error>;
 
     fn next(&mut self) -> Option<Result<Match<'t>, Error>> {
-        let found = self.step();
-        if found.is_err() {
-            self.options.host.pos = host::UNSET;
+        if self.spans.len() == 0 && !self.has_ended {
+            self.find_more();
         }
-        found.transpose()
+        match (self.spans.next(), self.spans.next()) {
+            (Some(start), Some(end)) => Some(Ok(Match { text: self.text, start, end })),
+            _ => self.error.take().map(Err),
+        }
     }
 }

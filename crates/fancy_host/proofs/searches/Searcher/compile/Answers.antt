@@ -3,7 +3,7 @@ use Rattle.std.proofs.lemmas.Result.{err_from_is_err_and}
 use Rattle.fancy_search.specs.Searches.{IsCompiledFrom}
 use Rattle.fancy_host.specs.Hosted.{asked_of, refused, unread, without_memory}
 use Rattle.fancy_host.proofs.Answered.{compiled_by, refused_by}
-use Rattle.fancy_host.proofs.program.compile.Goals as goal
+use Rattle.fancy_host.proofs.searches.Searcher.compile.Goals as goal
 
 pub returns-in_err-tree : goal.returns-in_err-tree
 returns-in_err-tree c =

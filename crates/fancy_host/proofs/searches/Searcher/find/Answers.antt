@@ -1,7 +1,7 @@
 use Rattle.std.proofs.Common.{◌∙◌, sym, ap, subst}
 use Rattle.fancy_host.specs.Hosted.{Answers, answered, outcome_of, written}
 use Rattle.fancy_host.proofs.Answered.{promised_by, unfit_answers}
-use Rattle.fancy_host.proofs.program.Searcher.find.Goals as goal
+use Rattle.fancy_host.proofs.searches.Searcher.find.Goals as goal
 
 pub returns-then-not-fits-clause-finds : goal.returns-then-not-fits-clause-finds
 returns-then-not-fits-clause-finds c =

@@ -1,0 +1,37 @@
+use Rattle.std.proofs.Common.{◌≡◌, false, true, [], sym, ap, ◌∙◌, subst}
+use Rattle.fancy_meaning.specs.Fits.{run_fits}
+use Rattle.fancy_vm.specs.Programs.{options_of as run_options_of, prog_of}
+use Rattle.fancy_search.specs.Searches.{program}
+use Rattle.fancy_matches.specs.Regexes as matches
+use Rattle.fancy_host.specs.Lists.{Lists, Writes, does_not_fit, listed, listing, standing_of}
+use Rattle.fancy_host.proofs.searches.Searcher.find_all.Goals as goal
+
+pub returns-then-not-fits-clause-lists : goal.returns-then-not-fits-clause-lists
+returns-then-not-fits-clause-lists c =
+    let s = c.args.self.now in
+    let text = c.args.text.now in
+    let o = c.args.options.now in
+    let from = c.args.standing.now in
+    let old = c.args.spans.now in
+    let no = sym c.fits.ensures ∙ c.if-not-fits.true in
+    subst (λ x. Lists s text o from old from old x) (sym c.unfit.ensures)
+    (does_not_fit
+    (subst (λ r. run_fits (record { program = prog_of (program s.compiled); text = []; options = r }) ≡ false) c.listing-listing.ensures no))
+
+pub write_spans-outcome-requires : goal.write_spans-outcome-requires
+write_spans-outcome-requires c = sym c.fits.ensures ∙ c.if-not-fits.false
+
+pub returns-clause-lists : goal.returns-clause-lists
+returns-clause-lists c =
+    let s = c.args.self.now in
+    let text = c.args.text.now in
+    let o = c.args.options.now in
+    let old = c.args.spans.now in
+    let new = c.write_spans-outcome.new.spans in
+    let outcome = c.write_spans-outcome.result in
+    let to = matches.standing_of c.write_spans-outcome.new.standing in
+    listed
+    (subst (λ t. Writes s.compiled text (listing o) (standing_of c.args.standing.now) old t new outcome) (sym c.of.ensures)
+    (subst (λ from. Writes s.compiled text (listing o) from old to new outcome) c.standing-list.ensures
+    (subst (λ r. Writes s.compiled text r (matches.standing_of c.standing-list.result) old to new outcome) c.listing-listing.ensures
+    c.write_spans-outcome.ensures.writes)))

@@ -1,0 +1,13 @@
+use Rattle.std.proofs.Common.{◌≡◌, ◌-◌, suc, [], length}
+use Rattle.fancy_vm.specs.Programs.{options_of as run_options_of}
+use Rattle.fancy_matches.specs.Regexes.{standing_of}
+use Rattle.fancy_host.specs.Lists.{AreFirst}
+use Rattle.fancy_host.proofs.searches.Searcher.next_span.Given as goal
+
+abbrev pub invariant-searches : goal.invariant-searches
+invariant-searches l =
+    AreFirst l.fn.self.compiled l.text (run_options_of l.options) (standing_of l.fn.standing) [] (standing_of l.standing)
+    × (l.self.compiled ≡ l.fn.self.compiled)
+
+abbrev pub decreases-searches : goal.decreases-searches
+decreases-searches l = suc (length l.text) - l.standing.pos

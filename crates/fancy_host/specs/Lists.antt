@@ -1,0 +1,94 @@
+-- What a host is answered that asks for all matches of a text.
+use Rattle.std.specs.Prelude.{◌≡◌, ◌≤◌, ℕ, ◌/◌, IsFalse, IsUtf8, List, [], ◌∷◌, ◌++◌, length, map, Option, None, Some, Result, Ok, Err, if◌then◌else◌}
+use Rattle.std.specs.List.{flat_map}
+use Rattle.std.specs.Str.Lossy.{utf8_valid_len}
+use Rattle.fancy_meaning.specs.Fits.{run_fits}
+use Rattle.fancy_meaning.specs.MatchState.{Span}
+use Rattle.fancy_meaning.specs.Options.{RunOptions}
+use Rattle.fancy_meaning.specs.Premises.{Input, plan}
+use Rattle.fancy_expr.specs.declared.error.Error.{Error}
+use Rattle.fancy_vm.specs.Outcomes.{first_pair}
+use Rattle.fancy_vm.specs.Programs.{prog_of}
+use Rattle.fancy_search.specs.declared.search.Compiled.{Compiled}
+use Rattle.fancy_search.specs.Searches.{IsCompiledFrom, Promises, program}
+use Rattle.fancy_matches.specs.Listing.{Standing, begun_at, left, options_at}
+use Rattle.fancy_host.specs.declared.options.FancyOptions.{FancyOptions}
+use Rattle.fancy_host.specs.declared.outcome.FancyOutcome.{FancyOutcome}
+use Rattle.fancy_host.specs.declared.searches.Searcher.{Searcher}
+use Rattle.fancy_host.specs.declared.standing.FancyStanding.{FancyStanding}
+use Rattle.fancy_host.specs.Codes.{ok, no_match, no_program, unfit}
+use Rattle.fancy_host.specs.Hosted.{coded, failure, not_utf8, over, running, with_count}
+
+-- where the list of a host stands
+abbrev pub standing_of : FancyStanding → Standing
+standing_of s = record { pos = s.pos; last = if s.has_last then Some s.last else None }
+
+-- the options of all its searches but where they begin
+abbrev pub listing : FancyOptions → RunOptions
+listing o = begun_at (running o) 0
+
+-- start and end of each span
+abbrev pub numbers_of : List Span → List ℕ
+numbers_of = flat_map (λ span. span.0 ∷ span.1 ∷ [])
+
+-- how many spans these numbers are
+abbrev pub room : List ℕ → ℕ
+room spans = length spans / 2
+
+-- the spans of the matches that are left where the list stands so
+abbrev pub spans_left : Input → List ℕ → RunOptions → Standing → List Span
+spans_left i text o s = map first_pair (left (plan i) text o s)
+
+-- ---- a tree that is compiled, a text, and the options of all searches
+
+module _ (c : Compiled) (text : List ℕ) (o : RunOptions) where
+  -- These spans are the first of the list that stands at `from`, and the others are the list that stands at `to`.
+  abbrev pub AreFirst : Standing → List Span → Standing → Type 0
+  AreFirst from spans to = (i : Input) → IsCompiledFrom i c → spans_left i text o from ≡ spans ++ spans_left i text o to
+
+  -- the list has ended
+  abbrev pub HasEnded : Standing → Type 0
+  HasEnded s = (i : Input) → IsCompiledFrom i c → spans_left i text o s ≡ []
+
+  -- the next search of the list fails so, as is promised
+  abbrev pub FailsBy : Standing → Error → Type 0
+  FailsBy s e = (i : Input) → IsCompiledFrom i c → Promises i text (options_at o s) (Err e)
+
+  -- the next match of the list, or none, or why it is not known, and where the list then stands
+  abbrev pub StepsTo : Standing → Result (Option Span) Error → Standing → Type 0
+  StepsTo from (Ok None) to = AreFirst from [] to × HasEnded to
+  StepsTo from (Ok (Some span)) to = AreFirst from (span ∷ []) to
+  StepsTo from (Err e) to = AreFirst from [] to × FailsBy to e
+
+  -- why no more than so many matches are written: there is no room for one more, the list has ended, or its next search
+  -- fails
+  pub data Stops (spaces count : ℕ) (to : Standing) : FancyOutcome → Type 0 where
+    is_full : count ≡ spaces → Stops spaces count to (coded ok)
+    has_ended : HasEnded to → Stops spaces count to (coded no_match)
+    fails : (e : Error) → FailsBy to e → Stops spaces count to (failure e)
+
+  -- what is written of the list that stands at `from`, where it then stands, and the outcome
+  pub data Writes (from : Standing) (old : List ℕ) : Standing → List ℕ → FancyOutcome → Type 0 where
+    writes : {to : Standing} {outcome : FancyOutcome} → (spans : List Span) → length spans ≤ room old →
+        AreFirst from spans to → Stops (room old) (length spans) to outcome →
+        Writes from old to (over (numbers_of spans) old) (with_count (length spans) outcome)
+
+-- ---- calls
+
+-- what a program writes of a list, where the list then stands, and the outcome
+pub data Lists (s : Searcher) (text : List ℕ) (o : FancyOptions) (from : FancyStanding) (old : List ℕ) :
+    FancyStanding → List ℕ → FancyOutcome → Type 0 where
+  does_not_fit : IsFalse (run_fits (record { program = prog_of (program s.compiled); text = []; options = listing o })) →
+      Lists s text o from old from old (coded unfit)
+  listed : {to : FancyStanding} {new : List ℕ} {outcome : FancyOutcome} →
+      Writes s.compiled text (listing o) (standing_of from) old (standing_of to) new outcome →
+      Lists s text o from old to new outcome
+
+-- the same by a program that may hold no tree, in bytes that may be no text
+pub data FindsAll (text : List ℕ) (o : FancyOptions) (from : FancyStanding) (old : List ℕ) :
+    Option Searcher → FancyStanding → List ℕ → FancyOutcome → Type 0 where
+  in_no_text : {held : Option Searcher} → ¬ IsUtf8 text →
+      FindsAll text o from old held from old (not_utf8 (utf8_valid_len text))
+  for_no_tree : IsUtf8 text → FindsAll text o from old None from old (coded no_program)
+  found : {s : Searcher} {to : FancyStanding} {new : List ℕ} {outcome : FancyOutcome} → IsUtf8 text →
+      Lists s text o from old to new outcome → FindsAll text o from old (Some s) to new outcome

@@ -1,0 +1,179 @@
+//! A compiled tree, and its searches.
+
+ghost use Rattle.std.specs.Prelude.{◌≡◌, [], IsTrue, MatchResult};
+ghost use Rattle.fancy_meaning.specs.Fits.{run_fits};
+ghost use Rattle.fancy_meaning.specs.Premises.{Input};
+ghost use Rattle.fancy_vm.specs.Programs.{options_of as run_options_of, task_of};
+ghost use Rattle.fancy_search.specs.Searches.{IsCompiledFrom, program};
+ghost use Rattle.fancy_matches.specs.Regexes.{standing_of};
+
+use crate::options::FancyOptions;
+use crate::outcome::{FancyOutcome, NO_MATCH, OK, write_answer};
+use crate::standing::FancyStanding;
+use fancy_characters::places::is_place;
+use fancy_expr::error::Error;
+use fancy_matches::standing::Standing;
+use fancy_notation::notation::read_tree;
+use fancy_search::search::Compiled;
+use fancy_vm::vm::{RunOptions, Scratch, run_spans};
+use std::alloc::Global;
+
+/// A compiled tree, and the memory that its searches use again.
+#[derive(Drop)]
+pub struct Searcher {
+    compiled: Compiled,
+    scratch: Scratch,
+    ghost source: { ∥ ((i : Input) × IsCompiledFrom i compiled) ∥₁ },
+}
+
+impl Searcher {
+    ghost use Rattle.fancy_host.specs.Hosted.{Answers, FailsToCompile, IsMadeFrom};
+    ghost use Rattle.fancy_host.specs.Hosted as hosted;
+    ghost use Rattle.fancy_host.specs.Lists.{Lists, StepsTo, Writes};
+
+    /// Reads and compiles the tree that a text spells.
+    pub fn compile(
+        alloc: Global,
+        tree: &str,
+        options: &FancyOptions,
+    ) -> Result<Box<Searcher>, Error>
+        ensures { MatchResult
+            result
+            (λ searcher. IsMadeFrom tree.now options.now searcher.value)
+            (λ error. FailsToCompile tree.now options.now error) }
+    {
+        let tree = read_tree(alloc, tree)?;
+        let compiled = Compiled::new(alloc, &tree, options.analysis(), options.compilation())?;
+        let scratch = Scratch::new(alloc);
+        Ok(Box::new(alloc, Searcher { compiled, scratch })?)
+    }
+
+    /// How many groups the tree has, with group 0.
+    pub fn group_count(&self) -> usize
+        ensures { result ≡ hosted.groups self.now }
+    {
+        self.compiled.program().total_groups().saturating_add(1)
+    }
+
+    /// Searches the text, and writes the numbers of the answer as far as there is room.
+    pub fn find(
+        &mut self,
+        alloc: Global,
+        text: &str,
+        options: &FancyOptions,
+        spans: &mut [usize],
+    ) -> FancyOutcome
+        ensures finds { Answers self.old text.now options.now spans.old spans.new result }
+        ensures keeps { self.new.compiled ≡ self.old.compiled }
+    {
+        let running = options.running();
+        if !self.compiled.fits(text, &running) {
+            return FancyOutcome::unfit();
+        }
+        let answer = self
+            .compiled
+            .search(alloc, text, &running, &mut self.scratch);
+        write_answer(&answer, spans);
+        FancyOutcome::of_answer(text.as_bytes(), &answer)
+    }
+
+    /// The span of the next match of the list that stands so, which then stands after it; where a search fails, before
+    /// that search.
+    fn next_span(
+        &mut self,
+        alloc: Global,
+        text: &str,
+        options: &RunOptions,
+        standing: &mut Standing,
+    ) -> Result<Option<(usize, usize)>, Error>
+        requires { IsTrue (run_fits (task_of (program self.old.compiled) [] options.now)) }
+        ensures list { StepsTo
+            self.old.compiled
+            text.now
+            (run_options_of options.now)
+            (standing_of standing.old)
+            result
+            (standing_of standing.new) }
+        ensures keeps { self.new.compiled ≡ self.old.compiled }
+    {
+        'searches: while is_place(text.as_bytes(), standing.pos) {
+            let here = standing.options(options);
+            let prog = self.compiled.program();
+            match run_spans(alloc, prog, text, &here, &mut self.scratch)? {
+                None => standing.pos = usize::MAX,
+                Some((start, end)) => {
+                    if standing.pass(text, start, end) {
+                        return Ok(Some((start, end)));
+                    }
+                }
+            }
+        }
+        Ok(None)
+    }
+
+    /// Writes the spans of the matches of the list that stands so, as many as there is room for.
+    fn write_spans(
+        &mut self,
+        alloc: Global,
+        text: &str,
+        options: &RunOptions,
+        standing: &mut Standing,
+        spans: &mut [usize],
+    ) -> FancyOutcome
+        requires { IsTrue (run_fits (task_of (program self.old.compiled) [] options.now)) }
+        ensures writes { Writes
+            self.old.compiled
+            text.now
+            (run_options_of options.now)
+            (standing_of standing.old)
+            spans.old
+            (standing_of standing.new)
+            spans.new
+            result }
+        ensures keeps { self.new.compiled ≡ self.old.compiled }
+    {
+        let room = spans.len() / 2;
+        for count in 0..room {
+            match self.next_span(alloc, text, options, standing) {
+                Ok(None) => return FancyOutcome::coded(NO_MATCH).with_count(count),
+                Ok(Some((start, end))) => {
+                    spans[2 * count] = start;
+                    spans[2 * count + 1] = end;
+                }
+                Err(error) => return FancyOutcome::of_error(&error).with_count(count),
+            }
+        }
+        FancyOutcome::coded(OK).with_count(room)
+    }
+
+    /// Writes the spans of the matches of the list that stands so, as many as there is room for; it then stands after
+    /// them.
+    pub fn find_all(
+        &mut self,
+        alloc: Global,
+        text: &str,
+        options: &FancyOptions,
+        standing: &mut FancyStanding,
+        spans: &mut [usize],
+    ) -> FancyOutcome
+        ensures lists { Lists
+            self.old
+            text.now
+            options.now
+            standing.old
+            spans.old
+            standing.new
+            spans.new
+            result }
+        ensures keeps { self.new.compiled ≡ self.old.compiled }
+    {
+        let listing = options.listing();
+        if !self.compiled.fits("", &listing) {
+            return FancyOutcome::unfit();
+        }
+        let mut list = standing.standing();
+        let outcome = self.write_spans(alloc, text, &listing, &mut list, spans);
+        *standing = FancyStanding::of(&list);
+        outcome
+    }
+}
