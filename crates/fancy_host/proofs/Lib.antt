@@ -4,3 +4,4 @@ pub mod Listed
 pub mod Steps
 pub mod Values
 pub mod Writing
+pub mod HandleLaws

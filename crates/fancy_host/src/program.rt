@@ -24,6 +24,9 @@ impl Model for Handle {
     ghost also_owns = { λ h. owned h.alloc h.at h.searcher };
 }
 
+// What it owns may go to another thread.
+unsafe impl Send for Handle {}
+
 impl Handle {
     fn empty(alloc: Global) -> Handle
         ensures { result.searcher ≡ None }
@@ -69,10 +72,14 @@ pub struct FancyProgram {
     pub ghost counts: { group_count handle.searcher ≡ groups },
 }
 
+/// A value of this type may go to another thread.
+fn crosses_threads<T: Send>() {}
+
 impl FancyProgram {
     pub fn empty(alloc: Global) -> FancyProgram
         ensures { result.handle.searcher ≡ None }
     {
+        crosses_threads::<FancyProgram>();
         FancyProgram {
             is_set: false,
             groups: 0,

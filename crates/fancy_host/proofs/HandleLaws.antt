@@ -1,0 +1,25 @@
+-- What a handle owns says the same to every thread.
+use base.Fraction.{full_share}
+use base.Shift.{Keyless}
+use mir.Raw.{raw}
+use denote.Memory.{lone}
+use denote.Param.Send.{IsSend, part_keyless, sendable}
+use denote.RattleType.{RattleType}
+use denote.RawPtr.{Ptr, block_ptr, null_ptr, lies_at}
+use Rattle.std.specs.Prelude.{Option, None, Some}
+use Rattle.std.specs.Global.{Global}
+use Rattle.std.proofs.Crossing as std
+use Rattle.fancy_vm.proofs.ThreadsLaws.{prog_sends, scratch_sends}
+use Rattle.fancy_host.specs.Owned.{owned}
+use Rattle.fancy_host.specs.contracts.searches.Searcher as Searcher
+
+searcher_sends : IsSend Searcher.the_row
+searcher_sends = search (prog_sends, scratch_sends, std.crosses, sendable) depth 60 fits 20000
+
+lies : (R : RattleType) → IsSend R → (p : Ptr) (x : R.Denot) → Keyless (lies_at R full_share p x)
+lies R s (block_ptr b o) x = part_keyless R s full_share x b o
+lies R s null_ptr x = tt
+
+pub owned_keyless : (alloc : Global) (at : Ptr) (searcher : Option (Searcher.the_row).Denot) → Keyless (owned alloc at searcher)
+owned_keyless alloc at None = tt
+owned_keyless alloc at (Some x) = (lies Searcher.the_row searcher_sends at x, std.frees.frees alloc (raw (lone (Searcher.the_row).mir)) at)
