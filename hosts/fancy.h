@@ -1,8 +1,9 @@
 /* fancy.h: a backtracking regex engine, for programs in C. Kept by hand beside crates/fancy_host/src.
  *
- * A tree is compiled once and searched for many times. A program stays on the thread that made it, and is used by one
- * call at a time; programs of different threads have nothing in common. Each pointer points to its own memory, which no
- * other pointer of the same call reaches. Where a length is 0, the pointer may not be null either.
+ * A tree is compiled once and searched for many times. A program is used by one call at a time and may go from thread to
+ * thread: the host orders the calls, by a lock, or by a thread's start or join. Programs have nothing in common. Each
+ * pointer points to its own memory, which no other pointer of the same call reaches. Where a length is 0, the pointer may
+ * not be null either.
  *
  * The library is crates/fancy_host/out/libfancy_host.a (`rt lib` in crates/fancy_host). It calls malloc, realloc and
  * free, by c/liblibc_c.a of the kit, and nothing else.

@@ -1,7 +1,6 @@
 //! A backtracking regex engine whose patterns are trees: safe Rust over the library that `fancy.h` describes.
 //!
-//! A `Regex` stays on its thread: it is neither `Send` nor `Sync`, since the program behind it counts what it shares
-//! without a lock.
+//! A `Regex` is `Send` and not `Sync`: it may go to another thread, and is used by one at a time.
 
 mod host;
 
@@ -157,6 +156,9 @@ pub struct Regex {
     options: Options,
 }
 
+// Safety: `Send` is proved of the library's handle, and a call has the program to itself, since a `Regex` is not `Sync`.
+unsafe impl Send for Regex {}
+
 impl Regex {
     /// Compiles the tree that a text in the notation spells.
     pub fn new(tree: &str) -> Result<Regex, Error> {
@@ -201,7 +203,7 @@ impl Regex {
     pub fn captures<'t>(&self, text: &'t str) -> Result<Option<Captures<'t>>, Error> {
         let mut spans = vec![host::UNSET; 2 * self.group_count()];
         let mut program = self.program.borrow_mut();
-        // Safety: the program was made by `fancy_compile` on this thread, no other call has it, and the other pointers are
+        // Safety: the program was made by `fancy_compile`, no other call has it, and the other pointers are
         // those of references, each with its length.
         let outcome = unsafe {
             host::fancy_find(
@@ -223,7 +225,7 @@ impl Regex {
 
 impl Drop for Regex {
     fn drop(&mut self) {
-        // Safety: the program was made by `fancy_compile` on this thread.
+        // Safety: the program was made by `fancy_compile`, and no other call has it.
         unsafe { host::fancy_free(self.program.get_mut()) }
     }
 }
