@@ -305,8 +305,11 @@ joins_from text last ((start, end) ∷ spans) within (past, (span, apart)) =
     ∙ ap (λ rest. slice_range text (from_last last) start ++ rest) (sym (drop_split text start end in_order))
     ∙ sym (drop_split text (from_last last) start begins)
 
+pub spans_join : (text : List ℕ) (spans : List Span) → AreApart text None spans → PiecesJoin text spans
+spans_join text spans apart = joins_from text None spans (zero_least (length text)) apart
+
 pub pieces_join : (p : Plan) (text : List ℕ) (o : RunOptions) → IsText text → PiecesJoin text (all_spans p text o)
-pieces_join p text o is = joins_from text None (all_spans p text o) (zero_least (length text)) (matches_apart p text o is)
+pieces_join p text o is = spans_join text (all_spans p text o) (matches_apart p text o is)
 
 -- ---- groups
 

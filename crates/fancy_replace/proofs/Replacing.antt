@@ -1,24 +1,23 @@
 -- A replacement goes on from match to match.
-use Rattle.std.proofs.Common.{IfOk, Result, Ok, Err, ◌≡◌, ◌-◌, ℕ, zero, suc, Bool, true, false, List, [], ◌∷◌, ◌++◌, length, drop, map, Option, Some, None, option_map, ⊎_elim, refl, sym, ap, ap₂, ◌∙◌, subst, arith, append_assoc, append-nil, slice_range}
+use Rattle.std.proofs.Common.{Result, Ok, Err, ◌≡◌, ◌≤◌, ◌<◌, ◌-◌, ℕ, zero, suc, Bool, true, false, List, [], ◌∷◌, ◌++◌, length, drop, take, map, Option, Some, None, option_map, ⊎_elim, refl, sym, ap, ap₂, ◌∙◌, subst, arith, append_assoc, append-nil, slice_range}
 use Rattle.std.proofs.lemmas.Bool.{cases_lt}
-use Rattle.std.proofs.lemmas.List.{drop_all}
+use Rattle.std.proofs.lemmas.List.{drop_all, length-take-le, take-map, take_at}
 use Rattle.std.proofs.lemmas.List.Folds.{drop_split}
 use Rattle.fancy_meaning.specs.Options as plain
 use Rattle.fancy_meaning.specs.Premises.{Input, IsText, plan}
 use Rattle.fancy_expr.specs.declared.error.Error.{Error}
 use Rattle.fancy_vm.specs.Outcomes.{first_pair}
-use Rattle.fancy_matches.specs.Listing.{all_matches, in_turn, part}
+use Rattle.fancy_matches.specs.Listing.{AreApart, PiecesJoin, all_matches, all_spans, in_turn, part}
 use Rattle.fancy_matches.specs.Regexes.{FailsBy, IsRegexOf, IsSame, captures_text, left_of, numbers_in, standing_of}
 use Rattle.fancy_matches.specs.declared.regexes.Regex.{Regex}
 use Rattle.fancy_replace.specs.Pieces.{IsBelow, pieces_between, rewrite, take_limit}
-use Rattle.fancy_replace.specs.Replacements.{FailsAfter, Replaces, WritesMatch, to_replace}
+use Rattle.fancy_replace.specs.Replacements.{FailsAfter, KeepsBefore, WritesMatch, to_replace}
+use Rattle.fancy_replace.specs.Splits.{most_pieces}
 use Rattle.fancy_replace.specs.Steps.{HasAllCuts, IsAhead, IsNextCut, NextCut, StepsToCut, cuts_left, rest_of}
 use Rattle.fancy_replace.specs.declared.cuts.Cut.{Cut}
 use Rattle.fancy_replace.specs.declared.cuts.Cuts.{Cuts}
-use Rattle.std.specs.Cow.{cow_str_bytes}
-use Rattle.std.specs.declared.alloc.Global.{Global}
-use Rattle.std.specs.declared.borrow.CowStr.{CowStr}
-use Rattle.fancy_matches.proofs.Lists.{pieces_join}
+use Rattle.fancy_laws.proofs.Moves.{is_place_parts}
+use Rattle.fancy_matches.proofs.Lists.{matches_apart, spans_join}
 use Rattle.fancy_matches.proofs.Stepping.{of_same}
 use Rattle.fancy_replace.proofs.Cutting.{take_limit-cons}
 
@@ -205,6 +204,34 @@ module _ (r q p : Regex) (text : List ℕ) (most : Option ℕ) (write : List ℕ
     pub some_replaced : is_same ≡ false → ¬ (to_replace i o text most ≡ [])
     some_replaced = (so_far.done i o of).some
 
+-- ---- the first matches lie apart too, so they join with the pieces between them
+
+apart_take : (text : List ℕ) (last : Option ℕ) (n : ℕ) (ms : List (List ℕ)) → AreApart text last (map first_pair ms) →
+    AreApart text last (map first_pair (take n ms))
+apart_take text last zero ms apart = tt
+apart_take text last (suc n) [] apart = tt
+apart_take text last (suc n) (m ∷ ms) apart = (apart.0, (apart.1.0, apart_take text (Some (first_pair m).1) n ms apart.1.1))
+
+apart_limit : (text : List ℕ) (limit : Option ℕ) (ms : List (List ℕ)) → AreApart text None (map first_pair ms) →
+    AreApart text None (map first_pair (take_limit limit ms))
+apart_limit text None ms apart = apart
+apart_limit text (Some n) ms apart = apart_take text None n ms apart
+
+limit_joins : (i : Input) (o : plain.RunOptions) (text : List ℕ) (limit : Option ℕ) → IsText text →
+    PiecesJoin text (map first_pair (to_replace i o text limit))
+limit_joins i o text limit is =
+    let all = all_matches (plan i) text o in
+    spans_join text (map first_pair (take_limit limit all)) (apart_limit text limit all (matches_apart (plan i) text o is))
+
+pub most_join : (i : Input) (o : plain.RunOptions) (text : List ℕ) (limit : ℕ) → IsText text → 0 < limit →
+    in_turn (most_pieces text limit i o) (map (part text) (take (limit - 1) (all_spans (plan i) text o))) ≡ text
+most_join i o text zero is some = absurd (omega (arith, some))
+most_join i o text (suc n) is some =
+    let all = all_matches (plan i) text o in
+    ap (λ k. in_turn (pieces_between text 0 (take n all)) (map (part text) (take k (map first_pair all)))) (omega arith)
+    ∙ ap (λ spans. in_turn (pieces_between text 0 (take n all)) (map (part text) spans)) (take-map first_pair n all)
+    ∙ limit_joins i o text (Some n) is
+
 -- ---- each match in the place of itself
 
 each_itself : (text : List ℕ) (replacement : List ℕ → List ℕ → List ℕ) → WritesMatch replacement text → (ms : List (List ℕ)) →
@@ -212,9 +239,35 @@ each_itself : (text : List ℕ) (replacement : List ℕ → List ℕ → List �
 each_itself text replacement w [] = refl
 each_itself text replacement w (m ∷ ms) = ap₂ (λ x rest. x ∷ rest) (w m) (each_itself text replacement w ms)
 
-pub itself : (i : Input) (o : plain.RunOptions) (text : List ℕ) (replacement : List ℕ → List ℕ → List ℕ) (r : Result (CowStr Global) Error) → IsText text →
-    WritesMatch replacement text → Replaces i o text None replacement r → IfOk r (λ v. cow_str_bytes v ≡ text)
-itself i o text replacement (Ok v) is w h =
-    let all = all_matches (plan i) text o in
-    h.0 ∙ ap (in_turn (pieces_between text 0 all)) (each_itself text replacement w all) ∙ pieces_join (plan i) text o is
-itself i o text replacement (Err e) is w h = tt
+pub itself : (i : Input) (o : plain.RunOptions) (text : List ℕ) (limit : Option ℕ) (write : List ℕ → List ℕ → List ℕ) → IsText text →
+    WritesMatch write text → rewrite (write text) text (to_replace i o text limit) ≡ text
+itself i o text limit write is w =
+    let ms = to_replace i o text limit in
+    ap (in_turn (pieces_between text 0 ms)) (each_itself text write w ms) ∙ limit_joins i o text limit is
+
+-- ---- what is before the first match
+
+begins_so : (text : List ℕ) (start : ℕ) (rest : List ℕ) → start ≤ length text → take start (slice_range text 0 start ++ rest) ≡ take start text
+begins_so text start rest within =
+    let same : start - 0 ≡ start = omega arith in
+    ap (λ n. take start (take n text ++ rest)) same ∙ take_at (take start text) rest start (length-take-le start text within)
+
+first_within : (text : List ℕ) (first : List ℕ) (others : List (List ℕ)) → AreApart text None (map first_pair (first ∷ others)) →
+    (first_pair first).0 ≤ length text
+first_within text first others apart = (is_place_parts text (first_pair first).0 apart.1.0.from).0
+
+rewrite_begins : (text : List ℕ) (write : List ℕ → List ℕ) (limit : Option ℕ) (first : List ℕ) (others : List (List ℕ)) →
+    (first_pair first).0 ≤ length text →
+    take (first_pair first).0 (rewrite write text (take_limit limit (first ∷ others))) ≡ take (first_pair first).0 text
+rewrite_begins text write None first others within =
+    begins_so text (first_pair first).0 (write first ++ rest_rewrite write text (first_pair first).1 others) within
+rewrite_begins text write (Some zero) first others within = ap (take (first_pair first).0) (sym (rewrite-none text write [] refl))
+rewrite_begins text write (Some (suc n)) first others within =
+    begins_so text (first_pair first).0 (write first ++ rest_rewrite write text (first_pair first).1 (take n others)) within
+
+pub before : (i : Input) (o : plain.RunOptions) (text : List ℕ) (limit : Option ℕ) (write : List ℕ → List ℕ → List ℕ) → IsText text →
+    KeepsBefore i o text (rewrite (write text) text (to_replace i o text limit))
+before i o text limit write is first others e =
+    let apart = subst (λ ms. AreApart text None (map first_pair ms)) e (matches_apart (plan i) text o is) in
+    ap (λ ms. take (first_pair first).0 (rewrite (write text) text (take_limit limit ms))) e
+    ∙ rewrite_begins text (write text) limit first others (first_within text first others apart)

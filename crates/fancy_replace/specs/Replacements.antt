@@ -1,5 +1,5 @@
 -- The text after a replacement, and why there is none.
-use Rattle.std.specs.Prelude.{◌≡◌, ◌⊎◌, ℕ, List, [], drop, Option, Result, Ok, Err}
+use Rattle.std.specs.Prelude.{◌≡◌, ◌⊎◌, ℕ, List, [], ◌∷◌, drop, take, Option, Result, Ok, Err}
 use Rattle.std.specs.Cow.{cow_str_bytes, IsOwnedStr}
 use Rattle.std.specs.declared.alloc.Global.{Global}
 use Rattle.std.specs.declared.borrow.CowStr.{CowStr}
@@ -36,3 +36,9 @@ module _ (i : Input) (o : plain.RunOptions) (text : List ℕ) (limit : Option �
 -- what is written for each match is the match
 abbrev pub WritesMatch : (List ℕ → List ℕ → List ℕ) → List ℕ → Type 0
 WritesMatch replacement text = (numbers : List ℕ) → replacement text numbers ≡ part text (first_pair numbers)
+
+-- what is before the first match is as it was
+abbrev pub KeepsBefore : Input → plain.RunOptions → List ℕ → List ℕ → Type 0
+KeepsBefore i o text new =
+    (first : List ℕ) (others : List (List ℕ)) → all_matches (plan i) text o ≡ first ∷ others →
+    take (first_pair first).0 new ≡ take (first_pair first).0 text

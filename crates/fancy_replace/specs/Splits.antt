@@ -1,9 +1,9 @@
 -- What clauses see of the pieces of a text that are left.
-use Rattle.std.specs.Prelude.{◌≡◌, ℕ, suc, List, [], ◌∷◌, Option, Some, None, Result, Ok, Err, if◌then◌else◌}
+use Rattle.std.specs.Prelude.{◌≡◌, ◌<◌, ◌-◌, ℕ, suc, List, [], ◌∷◌, map, take, Option, Some, None, Result, Ok, Err, if◌then◌else◌}
 use Rattle.fancy_meaning.specs.Options as plain
 use Rattle.fancy_meaning.specs.Premises.{Input, plan}
 use Rattle.fancy_expr.specs.declared.error.Error.{Error}
-use Rattle.fancy_matches.specs.Listing.{PiecesJoin, all_matches, all_spans}
+use Rattle.fancy_matches.specs.Listing.{PiecesJoin, all_matches, all_spans, in_turn, part}
 use Rattle.fancy_matches.specs.Regexes.{FailsBy, IsRegexOf, IsSame, standing_of}
 use Rattle.fancy_matches.specs.declared.regexes.Regex.{Regex}
 use Rattle.fancy_replace.specs.Pieces.{at_most_pieces, pieces_between}
@@ -58,3 +58,9 @@ most_pieces text limit i o = at_most_pieces text limit (all_matches (plan i) tex
 abbrev pub PiecesAndMatchesJoin : Regex → List ℕ → Type 0
 PiecesAndMatchesJoin r text =
     (i : Input) (o : plain.RunOptions) → IsRegexOf i o r → PiecesJoin text (all_spans (plan i) text o)
+
+-- and at most so many of them, with the matches between them
+abbrev pub MostPiecesJoin : Regex → List ℕ → ℕ → Type 0
+MostPiecesJoin r text limit =
+    (i : Input) (o : plain.RunOptions) → IsRegexOf i o r → 0 < limit →
+    in_turn (most_pieces text limit i o) (map (part text) (take (limit - 1) (all_spans (plan i) text o))) ≡ text

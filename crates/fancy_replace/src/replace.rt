@@ -6,7 +6,7 @@ ghost use Rattle.fancy_meaning.specs.Options as plain;
 ghost use Rattle.fancy_meaning.specs.Premises.{Input};
 ghost use Rattle.fancy_matches.specs.Regexes.{IsRegexOf, IsSame, captures_text, numbers_in};
 ghost use Rattle.fancy_replace.specs.Pieces.{as_limit};
-ghost use Rattle.fancy_replace.specs.Replacements.{Replaces, WritesMatch};
+ghost use Rattle.fancy_replace.specs.Replacements.{KeepsBefore, Replaces, WritesMatch};
 
 use crate::cuts::{Cut, Cuts};
 use crate::replacer::Replacer;
@@ -26,6 +26,15 @@ pub fn replace<'t, R: Replacer>(
         → (o : plain.RunOptions)
         → IsRegexOf i o regex.old
         → Replaces i o text.now (Some 1) (R.replacement_text replacement.now) result }
+    ensures before { (i : Input)
+        → (o : plain.RunOptions)
+        → IsRegexOf i o regex.old
+        → IfOk result (λ v. KeepsBefore i o text.now (cow_str_bytes v)) }
+    ensures itself { (i : Input)
+        → (o : plain.RunOptions)
+        → IsRegexOf i o regex.old
+        → WritesMatch (R.replacement_text replacement.now) text.now
+        → IfOk result (λ v. cow_str_bytes v ≡ text.now) }
     ensures same { IsSame regex.old regex.new }
 {
     replacen(alloc, regex, text, 1, replacement)
@@ -42,6 +51,10 @@ pub fn replace_all<'t, R: Replacer>(
         → (o : plain.RunOptions)
         → IsRegexOf i o regex.old
         → Replaces i o text.now None (R.replacement_text replacement.now) result }
+    ensures before { (i : Input)
+        → (o : plain.RunOptions)
+        → IsRegexOf i o regex.old
+        → IfOk result (λ v. KeepsBefore i o text.now (cow_str_bytes v)) }
     ensures itself { (i : Input)
         → (o : plain.RunOptions)
         → IsRegexOf i o regex.old
@@ -67,6 +80,15 @@ pub fn replacen<'t, R: Replacer>(
         → (o : plain.RunOptions)
         → IsRegexOf i o regex.old
         → Replaces i o text.now (as_limit limit) (R.replacement_text replacement.now) result }
+    ensures before { (i : Input)
+        → (o : plain.RunOptions)
+        → IsRegexOf i o regex.old
+        → IfOk result (λ v. KeepsBefore i o text.now (cow_str_bytes v)) }
+    ensures itself { (i : Input)
+        → (o : plain.RunOptions)
+        → IsRegexOf i o regex.old
+        → WritesMatch (R.replacement_text replacement.now) text.now
+        → IfOk result (λ v. cow_str_bytes v ≡ text.now) }
     ensures same { IsSame regex.old regex.new }
 {
     let mut cuts = Cuts::new(text, limit_of(limit));

@@ -1,6 +1,7 @@
 //! A text is split at its matches.
 
-ghost use Rattle.fancy_replace.specs.Splits.{HasPieces, PiecesAndMatchesJoin, all_pieces, most_pieces};
+ghost use Rattle.fancy_replace.specs.Splits.{HasPieces, MostPiecesJoin, PiecesAndMatchesJoin};
+ghost use Rattle.fancy_replace.specs.Splits.{all_pieces, most_pieces};
 
 use crate::cuts::Cuts;
 use crate::pieces::Split;
@@ -21,6 +22,7 @@ pub fn split<'r, 't>(regex: &'r mut Regex, text: &'t str) -> Split<'r, 't>
 /// As `split`, but at most `limit` pieces, of which the last is the rest of the text with all its matches.
 pub fn splitn<'r, 't>(regex: &'r mut Regex, text: &'t str, limit: usize) -> Split<'r, 't>
     ensures pieces { HasPieces regex.old (most_pieces text.now limit) result }
+    ensures join { MostPiecesJoin regex.old text.now limit }
 {
     Split {
         regex,

@@ -1,13 +1,16 @@
-use Rattle.std.proofs.Common.{[], ◌∙◌, ◌==◌, Some, refl, ap, arith, if◌then◌else◌}
+use Rattle.std.proofs.Common.{[], ◌∙◌, ◌==◌, ◌<◌, Some, length, refl, ap, arith, if◌then◌else◌}
+use Rattle.fancy_meaning.specs.Numbers.{usize_max}
 use Rattle.fancy_meaning.specs.Premises.{plan}
 use Rattle.fancy_matches.specs.Listing.{all_matches}
 use Rattle.fancy_replace.proofs.Cutting.{first_pieces, pieces_within}
+use Rattle.fancy_replace.proofs.Replacing.{most_join}
 use Rattle.fancy_replace.proofs.split.splitn.Goals as goal
 
 pub returns : goal.returns
 returns c =
     let text = c.args.text.now in
     let cuts = c.saturating_sub.result in
+    let small : length text < usize_max = omega arith in
     record {
       pieces = record {
         pieces = λ i o h.
@@ -16,4 +19,5 @@ returns c =
         regex = refl;
         can = c.new.ensures.ahead c.args.regex.now;
       };
+      join = λ i o h some. most_join i o text c.args.limit (record { utf8 = c.utf8.text; fits = small }) some;
     }
