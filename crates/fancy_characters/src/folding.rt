@@ -81,7 +81,7 @@ pub struct CaseiLiteral {
 }
 
 impl CaseiLiteral {
-    ghost use Rattle.fancy_characters.specs.Literals.{literal_chars, literal_unicode, literal_tests};
+    ghost use Rattle.fancy_characters.specs.Literals.{can_begin_with, literal_chars, literal_unicode, literal_tests};
 
     /// The literal of these characters, each with whether it is folded.
     pub fn new(chars: Vec<(char, bool)>, unicode: bool) -> CaseiLiteral
@@ -89,6 +89,16 @@ impl CaseiLiteral {
         ensures unicode { literal_unicode result ≡ unicode }
     {
         CaseiLiteral { chars, unicode }
+    }
+
+    /// Whether it can take what begins with this character. A literal of no characters can.
+    pub fn can_begin_with(&self, c: u8) -> bool
+        ensures { result ≡ can_begin_with (literal_tests self.now) c }
+    {
+        match self.chars.first() {
+            None => true,
+            Some((first, casei)) => literal_takes(self.unicode, *first as u32, *casei, c as u32),
+        }
     }
 
     /// How many bytes its characters take from `ix` on, if they take what stands there.
