@@ -1,6 +1,7 @@
 //! Places of a text: whether a byte is one, what stands there, and the place past bytes or a character.
 
-ghost use Rattle.std.specs.Prelude.{◌≡◌};
+ghost use Rattle.std.specs.Prelude.{◌≡◌, nat_eq};
+ghost use Rattle.std.specs.List.{starts_with};
 ghost use Rattle.regex_hir.specs.Text.{has_bytes_at};
 ghost use Rattle.fancy_meaning.specs.Assertions as assertions;
 ghost use Rattle.fancy_meaning.specs.Chars.{any_takes};
@@ -48,10 +49,25 @@ pub fn stand_at(text: &[u8], bytes: &[u8], ix: usize) -> bool
     ensures { result ≡ has_bytes_at text.now ix bytes.now }
 {
     if ix <= text.len() {
-        text[ix..].starts_with(bytes)
+        begins_with(&text[ix..], bytes)
     } else {
         bytes.is_empty()
     }
+}
+
+/// Whether the text begins with the bytes. They are compared one by one, since mostly the first ones differ.
+fn begins_with(text: &[u8], bytes: &[u8]) -> bool
+    ensures { result ≡ starts_with nat_eq text.now bytes.now }
+{
+    if text.len() < bytes.len() {
+        return false;
+    }
+    'bytes: for i in 0..bytes.len() {
+        if text[i] != bytes[i] {
+            return false;
+        }
+    }
+    true
 }
 
 /// Past these bytes.

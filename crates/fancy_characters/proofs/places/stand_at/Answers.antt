@@ -7,7 +7,7 @@ use Rattle.fancy_characters.proofs.places.stand_at.Goals as goal
 
 pub returns-then-ix-text : goal.returns-then-ix-text
 unfolding has_bytes_at
-returns-then-ix-text c = c.starts_with.ensures.value ∙ ap (λ l. starts_with nat_eq l c.args.bytes.now) (take_rest c.args.text.now c.args.ix)
+returns-then-ix-text c = c.begins_with.ensures ∙ ap (λ l. starts_with nat_eq l c.args.bytes.now) (take_rest c.args.text.now c.args.ix)
 
 pub returns-else-ix-text : goal.returns-else-ix-text
 returns-else-ix-text c = c.is_empty.ensures ∙ empty_past c.args.text.now c.args.bytes.now c.args.ix (omega arith)
