@@ -77,7 +77,7 @@ impl Fragment {
     /// be none though it can, but where it cannot there is none.
     pub fn can_begin(&self, text: &str, ix: usize) -> bool
         requires place { IsTrue (is_place text.now ix) }
-        ensures told { result ≡ may_begin self.now.table.beginnings text.now ix }
+        ensures told { result ≡ may_begin self.now.table.beginnings.items text.now ix }
         ensures none { result ≡ false → HasNoWayFrom text.now self.now ix }
     {
         self.table.can_begin(text, ix)

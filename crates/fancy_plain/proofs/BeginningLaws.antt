@@ -1,23 +1,24 @@
--- A search whose points are all within some that lead on to each other alone, and take nothing here, finds no way.
-use Rattle.std.proofs.Common.{◌≡◌, ◌<◌, ◌≤◌, ◌+◌, ◌∷◌, ◌++◌, [], ℕ, zero, suc, Bool, true, false, ◌&&◌, List, Option, Some, None, if◌then◌else◌, nat_lt, slice_get, length, map, option_map, inl, inr, arith, refl, sym, ap, ◌∙◌, subst, true≢false}
+-- A search whose points are all such as lead on to each other alone, where no such characters stand, finds no way.
+use Rattle.std.proofs.Common.{◌≡◌, ◌<◌, ◌≤◌, ◌+◌, ◌∷◌, ◌++◌, [], ℕ, zero, suc, Bool, true, false, ◌&&◌, ◌||◌, not, List, Option, Some, None, if◌then◌else◌, ◌==◌, nat_le, nat_lt, slice_get, length, map, drop, option_map, inl, inr, arith, refl, sym, ap, ap₂, ◌∙◌, subst, true≢false, add-one}
 use Rattle.std.specs.Prelude.{slice_index_or}
 use Rattle.std.specs.Char.{len_utf8}
 use Rattle.std.specs.Option.{option_and_then}
-use Rattle.std.proofs.lemmas.Bool.{cases_lt, cond-true, cond-false, ltb-true}
+use Rattle.std.proofs.lemmas.Bool.{cases_lt, cond-true, cond-false, eqb-true, leb-true, ltb-true}
 use Rattle.std.proofs.lemmas.Str.{len_utf8_ascii}
 use Rattle.std.proofs.lemmas.Bool.Decides.{nat_tests}
-use Rattle.std.proofs.lemmas.Option.{slice_get-map}
+use Rattle.std.proofs.lemmas.Option.{slice_get-map, slice_get_past}
 use Rattle.regex_hir.proofs.TextLemmas.{char_at_ascii, char_at_past}
 use Rattle.fancy_meaning.specs.Moves.{past_char}
 use Rattle.fancy_meaning.specs.Assertions.{holds}
 use Rattle.fancy_points.specs.Points as plain
 use Rattle.fancy_points.specs.Points.{Point}
-use Rattle.fancy_points.specs.PointSearch.{Lead, Found, Lost, Goes, Tries, Later, Other, Fails, Next, TakesUp, TakesBack, Ends, Pair, Search, Stand, Turn, after_steps, back_to, choice_lead, close_lead, first_search, first_stand, forward, goes_past, goes_to, head_lead, is_counted, is_over, lead_at, next, next_by, next_turn, others, pair_of, passes, tries, visited, with_later}
+use Rattle.fancy_points.specs.PointSearch as counted
+use Rattle.fancy_points.specs.PointSearch.{Lead, Found, Lost, Goes, Tries, Later, Other, Fails, Next, TakesUp, TakesBack, Ends, Pair, Search, Stand, Turn, after_steps, back_to, choice_lead, close_lead, first_search, first_stand, forward, goes_past, goes_to, has_stayed, head_lead, is_counted, is_last, lead_at, next, next_by, next_count, next_turn, others, pair_of, passes, tries, visited, with_later}
 use Rattle.fancy_plain.specs.declared.point.Point as code
 use Rattle.fancy_plain.specs.declared.point.Point.TheVariants as variant
 use Rattle.fancy_plain.specs.declared.point.CharTest as code_test
 use Rattle.fancy_plain.specs.Views.{point_of}
-use Rattle.fancy_plain.specs.Beginnings.{AreBeginnings, IsWithin, is_begun_by, leads_within, TakesAmong}
+use Rattle.fancy_plain.specs.Beginnings.{AreBeginnings, IsLevel, IsWithin, covers, head_within, is_begun_by, is_over, is_past, is_short, leads_within, may_begin, TakesAmong}
 
 both : (a b : Bool) → (a && b) ≡ true → (a ≡ true) × (b ≡ true)
 both true b e = (refl, e)
@@ -60,32 +61,89 @@ past_ascii text f i b here small passed e =
     ∙ ap (λ n. if f b then Some (i + n) else None) (len_utf8_ascii b small)
     ∙ ap (λ a. if a then Some (i + 1) else None) e
 
--- where no character stands that is among these, none is taken
-module _ (text : List ℕ) (unicode : Bool) (place : ℕ) (ascii : List Bool) (test : plain.CharTest)
-    (among : TakesAmong unicode ascii (plain.Take test)) where
-  abbrev past_by : Option ℕ → Option ℕ
-  past_by = option_and_then (λ c. if passes text unicode test c then Some (place + len_utf8 c) else None)
+-- ---- the iterations that were begun
 
-  fails_test : (b : ℕ) → b < 128 → slice_index_or ascii b false ≡ false → (yes : Bool) → passes text unicode test b ≡ yes → yes ≡ false
-  fails_test b small out true e = absurd (true≢false (sym (among b small (passes_alike text unicode test b ∙ e)) ∙ out))
-  fails_test b small out false e = refl
+-- of the loop around one less than the turn, and the last is not asked whether it moves
+abbrev pub IsIn : (turn : ℕ) → List Turn → Type 0
+IsIn turn [] = ⊥
+IsIn turn (t ∷ ts) = (t.count + 1 ≡ turn) × (t.since ≡ None)
 
-  takes_none : (o : Option ℕ) → slice_get text place ≡ o → is_begun_by ascii o ≡ false →
-      past_char text (passes text unicode test) place ≡ None
-  takes_none None here out = past_end text (passes text unicode test) place here
-  takes_none (Some b) here out = go (nat_lt b 128) refl
-    where
-      go : (small : Bool) → nat_lt b 128 ≡ small → past_char text (passes text unicode test) place ≡ None
-      go true s =
-          let small : b < 128 = ltb-true b 128 s in
-          let other = sym (cond-true (nat_lt b 128) _ _ s) ∙ out in
-          ap past_by (char_at_ascii text place b here small)
-          ∙ cond-false (passes text unicode test b) _ _ (fails_test b small other (passes text unicode test b) refl)
-      go false s = absurd (true≢false (sym (cond-false (nat_lt b 128) _ _ s) ∙ out))
+pub record IsReached (turn : ℕ) (turns : List Turn) : Type 0 where
+  pub comes : 0 < turn
+  pub known : turn < 255 → IsIn turn turns
 
-module _ (text : List ℕ) (unicode : Bool) (points : List Point) (place : ℕ) (reached : ℕ → Bool) where
-  abbrev Inside : Stand → Type 0
-  Inside s = (s.place ≡ place) × (reached s.at ≡ true)
+reached_any : (turns : List Turn) → IsReached 255 turns
+reached_any turns = record { comes = omega arith; known = λ small. absurd (omega (arith, small)) }
+
+reached_there : (there turn : ℕ) (turns : List Turn) → (there == turn || there == 255) ≡ true → IsReached turn turns → IsReached there turns
+reached_there there turn turns e h = go (there == turn) (there == 255) refl refl e
+  where
+    go : (a b : Bool) → (there == turn) ≡ a → (there == 255) ≡ b → (a || b) ≡ true → IsReached there turns
+    go true b p q e = subst (λ w. IsReached w turns) (sym (eqb-true there turn p)) h
+    go false true p q e = subst (λ w. IsReached w turns) (sym (eqb-true there 255 q)) (reached_any turns)
+    go false false p q e = absurd (true≢false (sym e))
+
+past_is_last : (hi : Option ℕ) (count turn : ℕ) → count + 1 ≡ turn → is_last hi count ≡ is_past hi turn
+past_is_last None count turn is = refl
+past_is_last (Some hi) count turn is = grind (arith, nat_tests)
+
+no_since : (asks few : Bool) (place : ℕ) → few ≡ true → (if asks && not few then Some place else None) ≡ None
+no_since true true place e = refl
+no_since true false place e = absurd (true≢false (sym e))
+no_since false few place e = refl
+
+count_next : (lo : ℕ) (hi : Option ℕ) (count : ℕ) → count < lo → next_count lo hi count ≡ count + 1
+count_next lo None count few = omega (arith, few)
+count_next lo (Some hi) count few = refl
+
+-- where so many were begun, the head of the loop goes one way alone
+module _ (l : plain.Loop) (turn : ℕ) (place : ℕ) (t : Turn) (small : turn < 255) (is : t.count + 1 ≡ turn) (none : t.since ≡ None) where
+  over_by : counted.is_over l place t ≡ is_past l.hi turn
+  over_by = ap₂ (λ a b. a || b) (ap (has_stayed place) none) (past_is_last l.hi t.count turn is)
+
+  is_known : nat_lt turn 255 ≡ true
+  is_known = grind (arith, nat_tests)
+
+  over_there : counted.is_over l place t ≡ is_over l turn
+  over_there = over_by ∙ ap (λ a. a && is_past l.hi turn) (sym is_known)
+
+  few_begun : is_short l turn ≡ true → nat_lt t.count l.lo ≡ true
+  few_begun e = let lo = leb-true turn l.lo (both (nat_lt turn 255) (nat_le turn l.lo) e).1 in grind (arith, nat_tests)
+
+  next_reached : (ts : List Turn) → is_short l turn ≡ true → IsReached (turn + 1) (next_turn l place t ∷ ts)
+  next_reached ts e =
+      let few : t.count < l.lo = ltb-true t.count l.lo (few_begun e) in
+      record {
+        comes = omega arith;
+        known = λ more. (ap (λ n. n + 1) (count_next l.lo l.hi t.count few ∙ is), no_since l.asks_moved (nat_lt t.count l.lo) place (few_begun e));
+      }
+
+-- ---- levels
+
+module _ (unicode : Bool) (points : List Point) where
+  -- one level after the other, from points that are reached to those that are reached behind the last
+  abbrev pub AreLevels : (reached : List ℕ) → (levels : List (List Bool)) → (last : List ℕ) → Type 0
+  AreLevels reached [] last = reached ≡ last
+  AreLevels reached (ascii ∷ levels) last =
+      (after : List ℕ) × (IsLevel unicode points reached ascii after × AreLevels after levels last)
+
+  pub one_more : (reached : List ℕ) (levels : List (List Bool)) (last : List ℕ) (ascii : List Bool) (after : List ℕ) →
+      AreLevels reached levels last → IsLevel unicode points last ascii after → AreLevels reached (levels ++ (ascii ∷ [])) after
+  one_more reached [] last ascii after e h = (after, (subst (λ r. IsLevel unicode points r ascii after) (sym e) h, refl))
+  one_more reached (level ∷ levels) last ascii after (next, (is, more)) h =
+      (next, (is, one_more next levels last ascii after more h))
+
+-- ---- where a search stands
+
+module _ (text : List ℕ) (unicode : Bool) (points : List Point) where
+  -- at a point of some level, from which on no such characters stand
+  pub record Inside (s : Stand) : Type 0 where
+    pub reached : List ℕ
+    pub levels : List (List Bool)
+    pub last : List ℕ
+    pub leads : AreLevels unicode points reached levels last
+    pub here : IsReached (slice_index_or reached s.at 0) s.turns
+    pub out : may_begin levels text s.place ≡ false
 
   abbrev AreInside : List Stand → Type 0
   AreInside [] = Unit {0}
@@ -109,61 +167,155 @@ module _ (text : List ℕ) (unicode : Bool) (points : List Point) (place : ℕ) 
   NextInside (Ends (Some s) f) = ⊥
 
   -- ---- what leads on from a point that is reached
-  past_none : (s : Stand) (o : Option ℕ) → o ≡ None → LeadInside (goes_past s o)
-  past_none s None e = tt
-  past_none s (Some i) e = absurd (no_place e)
-    where
-      no_place : Some i ≡ None → ⊥
-      no_place e = cc
-
   holds_inside : (s : Stand) (b : Bool) → Inside (forward s) → LeadInside (if b then Goes (forward s) else Lost)
   holds_inside s true h = h
   holds_inside s false h = tt
 
-  close_inside : (g : ℕ) (s : Stand) (opened : List ℕ) → Inside (forward s) → LeadInside (close_lead g s opened)
-  close_inside g s [] h = tt
-  close_inside g s (i ∷ is) h = h
+  module _ (l : plain.Loop) (on off : Stand) where
+    abbrev head : (over few : Bool) → Lead
+    head over few = if over then Tries true off [] else if few then Tries true on [] else choice_lead l.greedy on off
 
-  head_inside : (l : plain.Loop) (after : ℕ) (s : Stand) (turns : List Turn) → Inside (forward s) → Inside (goes_to after s) →
-      LeadInside (head_lead l after s turns)
-  head_inside l after s [] on off = tt
-  head_inside l after s (t ∷ ts) on off = go (is_over l s.place t) (nat_lt t.count l.lo) l.greedy
+    either_inside : (over few : Bool) → Inside on → Inside off → LeadInside (head over few)
+    either_inside over few h k = go over few l.greedy
+      where
+        go : (over few greedy : Bool) →
+            LeadInside (if over then Tries true off [] else if few then Tries true on [] else choice_lead greedy on off)
+        go true few greedy = (k, tt)
+        go false true greedy = (h, tt)
+        go false false true = (h, (k, tt))
+        go false false false = (k, (h, tt))
+
+    on_inside : (over few : Bool) → over ≡ false → few ≡ true → Inside on → LeadInside (head over few)
+    on_inside true few e f h = absurd (true≢false e)
+    on_inside false true e f h = (h, tt)
+    on_inside false false e f h = absurd (true≢false (sym f))
+
+    off_inside : (over few : Bool) → over ≡ true → Inside off → LeadInside (head over few)
+    off_inside true few e h = (h, tt)
+    off_inside false few e h = absurd (true≢false (sym e))
+
+  module _ (s : Stand) (reached : List ℕ) (ascii : List Bool) (levels : List (List Bool)) (after last : List ℕ)
+      (level : IsLevel unicode points reached ascii after) (more : AreLevels unicode points after levels last)
+      (here : IsReached (slice_index_or reached s.at 0) s.turns)
+      (out : may_begin (ascii ∷ levels) text s.place ≡ false) where
+    abbrev turn : ℕ
+    turn = slice_index_or reached s.at 0
+
+    -- at the same place
+    stays_at : (t : Stand) → t.place ≡ s.place → (w : ℕ) → covers reached t.at w ≡ true → IsReached w t.turns → Inside t
+    stays_at t same w covered there =
+        record {
+          reached = reached;
+          levels = ascii ∷ levels;
+          last = last;
+          leads = (after, (level, more));
+          here = reached_there (slice_index_or reached t.at 0) w t.turns covered there;
+          out = ap (may_begin (ascii ∷ levels) text) same ∙ out;
+        }
+
+    -- past a character
+    goes_on : covers after (s.at + 1) turn ≡ true → may_begin levels text (s.place + 1) ≡ false →
+        Inside (record (forward s) { place = s.place + 1 })
+    goes_on covered rest =
+        record {
+          reached = after;
+          levels = levels;
+          last = last;
+          leads = more;
+          here = reached_there (slice_index_or after (s.at + 1) 0) turn s.turns covered here;
+          out = rest;
+        }
+
+    module _ (test : plain.CharTest) (covered : covers after (s.at + 1) turn ≡ true) (among : TakesAmong unicode ascii (plain.Take test)) where
+      abbrev past : Option ℕ
+      past = past_char text (passes text unicode test) s.place
+
+      by_past : (o : Option ℕ) → past ≡ o → LeadInside (goes_past s o) → LeadInside (goes_past s past)
+      by_past o e h = subst (λ o. LeadInside (goes_past s o)) (sym e) h
+
+      by_passed : (b : ℕ) → slice_get text s.place ≡ Some b → b < 128 → (passed : Bool) → passes text unicode test b ≡ passed →
+          (slice_index_or ascii b false && may_begin levels text (s.place + 1)) ≡ false → LeadInside (goes_past s past)
+      by_passed b at small false e rest = by_past None (past_ascii text (passes text unicode test) s.place b at small false e) tt
+      by_passed b at small true e rest =
+          by_past (Some (s.place + 1)) (past_ascii text (passes text unicode test) s.place b at small true e)
+          (goes_on covered (ap (λ a. a && may_begin levels text (s.place + 1)) (sym (among b small (passes_alike text unicode test b ∙ e))) ∙ rest))
+
+      take_inside : (o : Option ℕ) → slice_get text s.place ≡ o →
+          is_begun_by ascii (may_begin levels text (s.place + 1)) o ≡ false → LeadInside (goes_past s past)
+      take_inside None at none = by_past None (past_end text (passes text unicode test) s.place at) tt
+      take_inside (Some b) at none = go (nat_lt b 128) refl
+        where
+          go : (small : Bool) → nat_lt b 128 ≡ small → LeadInside (goes_past s past)
+          go true e =
+              by_passed b at (ltb-true b 128 e) (passes text unicode test b) refl (sym (cond-true (nat_lt b 128) _ _ e) ∙ none)
+          go false e = absurd (true≢false (sym (cond-false (nat_lt b 128) _ _ e) ∙ none))
+
+    close_inside : (g : ℕ) (opened : List ℕ) → covers reached (s.at + 1) turn ≡ true → LeadInside (close_lead g s opened)
+    close_inside g [] covered = tt
+    close_inside g (i ∷ is) covered =
+        stays_at (record (forward s) { opened = is; spans = (g, (i, s.place)) ∷ s.spans }) refl turn covered here
+
+    module _ (l : plain.Loop) (off : ℕ) (t : Turn) (ts : List Turn) (h : IsReached turn (t ∷ ts)) where
+      abbrev into : Stand
+      into = record (forward s) { turns = next_turn l s.place t ∷ ts }
+
+      abbrev out_of : Stand
+      out_of = record (goes_to off s) { turns = ts }
+
+      turn_inside : (over short : Bool) → is_over l turn ≡ over → is_short l turn ≡ short →
+          head_within reached s.at turn off over short ≡ true → LeadInside (head_lead l off s (t ∷ ts))
+      turn_inside true short o e leads =
+          let small : turn < 255 = ltb-true turn 255 (both (nat_lt turn 255) (is_past l.hi turn) o).0 in
+          let k = h.known small in
+          off_inside l into out_of (counted.is_over l s.place t) (nat_lt t.count l.lo) (over_there l turn s.place t small k.0 k.1 ∙ o)
+          (stays_at out_of refl 255 leads (reached_any ts))
+      turn_inside false true o e leads =
+          let small : turn < 255 = ltb-true turn 255 (both (nat_lt turn 255) (nat_le turn l.lo) e).0 in
+          let k = h.known small in
+          on_inside l into out_of (counted.is_over l s.place t) (nat_lt t.count l.lo) (over_there l turn s.place t small k.0 k.1 ∙ o)
+          (few_begun l turn s.place t small k.0 k.1 e)
+          (stays_at into refl (turn + 1) leads (next_reached l turn s.place t small k.0 k.1 ts e))
+      turn_inside false false o e leads =
+          let r = both (covers reached (s.at + 1) 255) (covers reached off 255) leads in
+          either_inside l into out_of (counted.is_over l s.place t) (nat_lt t.count l.lo)
+          (stays_at into refl 255 r.0 (reached_any (next_turn l s.place t ∷ ts))) (stays_at out_of refl 255 r.1 (reached_any ts))
+
+    head_inside : (l : plain.Loop) (off : ℕ) (turns : List Turn) → IsReached turn turns →
+        head_within reached s.at turn off (is_over l turn) (is_short l turn) ≡ true → LeadInside (head_lead l off s turns)
+    head_inside l off [] h leads = tt
+    head_inside l off (t ∷ ts) h leads = turn_inside l off t ts h (is_over l turn) (is_short l turn) refl refl leads
+
+    two : (a b : ℕ) → (covers reached a turn && covers reached b turn) ≡ true → Inside (goes_to a s) × (Inside (goes_to b s) × Unit {0})
+    two a b e =
+        let r = both (covers reached a turn) (covers reached b turn) e in
+        (stays_at (goes_to a s) refl turn r.0 here, (stays_at (goes_to b s) refl turn r.1 here, tt))
+
+    lead_inside : (o : Option Point) → IsWithin unicode reached ascii after s.at o → LeadInside (lead_at text unicode o s)
+    lead_inside None h = tt
+    lead_inside (Some plain.Stop) h = absurd (true≢false (sym h.0))
+    lead_inside (Some (plain.Take test)) h = take_inside test h.0 h.1 (slice_get text s.place) refl out
+    lead_inside (Some (plain.Holds a)) h = holds_inside s (holds text s.place unicode a) (stays_at (forward s) refl turn h.0 here)
+    lead_inside (Some plain.Open) h = stays_at (record (forward s) { opened = s.place ∷ s.opened }) refl turn h.0 here
+    lead_inside (Some (plain.Close g)) h = close_inside g s.opened h.0
+    lead_inside (Some (plain.Split a b)) h = two a b h.0
+    lead_inside (Some (plain.Or a b)) h = two a b h.0
+    lead_inside (Some (plain.Fork a b)) h = two a b h.0
+    lead_inside (Some (plain.Jump to)) h = stays_at (goes_to to s) refl turn h.0 here
+    lead_inside (Some plain.Join) h = (stays_at (forward s) refl turn h.0 here, tt)
+    lead_inside (Some plain.Enter) h =
+        stays_at (record (forward s) { turns = record { count = 0; since = None } ∷ s.turns }) refl 1 h.0
+        (record { comes = omega arith; known = λ small. (refl, refl) })
+    lead_inside (Some (plain.Head l off)) h = head_inside l off s.turns here h.0
+
+  stand_inside : (s : Stand) → Inside s → LeadInside (lead_at text unicode (slice_get points s.at) s)
+  stand_inside s h = go h.levels h.leads h.out
     where
-      go : (over few greedy : Bool) →
-          LeadInside
-          (if over then Tries true (record (goes_to after s) { turns = ts }) []
-          else if few then Tries true (record (forward s) { turns = next_turn l s.place t ∷ ts }) []
-          else choice_lead greedy (record (forward s) { turns = next_turn l s.place t ∷ ts }) (record (goes_to after s) { turns = ts }))
-      go true few greedy = (off, tt)
-      go false true greedy = (on, tt)
-      go false false true = (on, (off, tt))
-      go false false false = (off, (on, tt))
-
-  module _ (s : Stand) (here : s.place ≡ place) where
-    two : (a b : ℕ) → (reached a && reached b) ≡ true → Inside (goes_to a s) × (Inside (goes_to b s) × Unit {0})
-    two a b e = let r = both (reached a) (reached b) e in ((here, r.0), ((here, r.1), tt))
-
-    pub lead_inside : (o : Option Point) → (leads : (p : Point) → o ≡ Some p → leads_within reached s.at p ≡ true) →
-        ((test : plain.CharTest) → o ≡ Some (plain.Take test) → past_char text (passes text unicode test) place ≡ None) →
-        LeadInside (lead_at text unicode o s)
-    lead_inside None leads none = tt
-    lead_inside (Some plain.Stop) leads none = absurd (true≢false (sym (leads plain.Stop refl)))
-    lead_inside (Some (plain.Take test)) leads none =
-        past_none s (past_char text (passes text unicode test) s.place)
-        (ap (past_char text (passes text unicode test)) here ∙ none test refl)
-    lead_inside (Some (plain.Holds a)) leads none =
-        holds_inside s (holds text s.place unicode a) (here, leads (plain.Holds a) refl)
-    lead_inside (Some plain.Open) leads none = (here, leads plain.Open refl)
-    lead_inside (Some (plain.Close g)) leads none = close_inside g s s.opened (here, leads (plain.Close g) refl)
-    lead_inside (Some (plain.Split a b)) leads none = two a b (leads (plain.Split a b) refl)
-    lead_inside (Some (plain.Or a b)) leads none = two a b (leads (plain.Or a b) refl)
-    lead_inside (Some (plain.Fork a b)) leads none = two a b (leads (plain.Fork a b) refl)
-    lead_inside (Some (plain.Jump to)) leads none = (here, leads (plain.Jump to) refl)
-    lead_inside (Some plain.Join) leads none = ((here, leads plain.Join refl), tt)
-    lead_inside (Some plain.Enter) leads none = (here, leads plain.Enter refl)
-    lead_inside (Some (plain.Head l after)) leads none =
-        let r = both (reached (s.at + 1)) (reached after) (leads (plain.Head l after) refl) in
-        head_inside l after s s.turns (here, r.0) (here, r.1)
+      go : (levels : List (List Bool)) → AreLevels unicode points h.reached levels h.last → may_begin levels text s.place ≡ false →
+          LeadInside (lead_at text unicode (slice_get points s.at) s)
+      go [] leads out = absurd (true≢false out)
+      go (ascii ∷ levels) (after, (level, more)) out =
+          lead_inside s h.reached ascii levels after h.last level more h.here out (slice_get points s.at)
+          (level s.at h.here.comes)
 
   -- ---- a step
   visited_later : (o : Option Point) (f : Search) → (visited o f).later ≡ f.later
@@ -207,53 +359,47 @@ module _ (text : List ℕ) (unicode : Bool) (points : List Point) (place : ℕ) 
   back_inside (Other s ∷ later) f l = l
   back_inside (Fails p ∷ later) f l = l
 
-  module _ (leads : (at : ℕ) (p : Point) → slice_get points at ≡ Some p → reached at ≡ true → leads_within reached at p ≡ true)
-      (none : (at : ℕ) (test : plain.CharTest) → slice_get points at ≡ Some (plain.Take test) → reached at ≡ true →
-      past_char text (passes text unicode test) place ≡ None) where
-    step_inside : (n : Next) → NextInside n → NextInside (next text unicode points n)
-    step_inside (TakesUp s f) (h, l) =
-        by_lead (lead_at text unicode (slice_get points s.at) s) (slice_get points s.at) s f
-        (lead_inside s h.0 (slice_get points s.at) (λ p e. leads s.at p e h.1) (λ test e. none s.at test e h.1)) l
-    step_inside (TakesBack f) l = back_inside f.later f l
-    step_inside (Ends None f) h = tt
-    step_inside (Ends (Some s) f) h = absurd h
+  step_inside : (n : Next) → NextInside n → NextInside (next text unicode points n)
+  step_inside (TakesUp s f) (h, l) =
+      by_lead (lead_at text unicode (slice_get points s.at) s) (slice_get points s.at) s f (stand_inside s h) l
+  step_inside (TakesBack f) l = back_inside f.later f l
+  step_inside (Ends None f) h = tt
+  step_inside (Ends (Some s) f) h = absurd h
 
-    pub steps_inside : (k : ℕ) (n : Next) → NextInside n → NextInside (after_steps text unicode points k n)
-    steps_inside zero n h = h
-    steps_inside (suc k) n h = steps_inside k (next text unicode points n) (step_inside n h)
+  steps_inside : (k : ℕ) (n : Next) → NextInside n → NextInside (after_steps text unicode points k n)
+  steps_inside zero n h = h
+  steps_inside (suc k) n h = steps_inside k (next text unicode points n) (step_inside n h)
 
-pub none_inside : (text : List ℕ) (unicode : Bool) (points : List Point) (place : ℕ) (reached : ℕ → Bool) (way : Option Stand) (f : Search) →
-    NextInside text unicode points place reached (Ends way f) → way ≡ None
-none_inside text unicode points place reached None f h = refl
-none_inside text unicode points place reached (Some s) f h = absurd h
+  none_inside : (way : Option Stand) (f : Search) → NextInside (Ends way f) → way ≡ None
+  none_inside None f h = refl
+  none_inside (Some s) f h = absurd h
 
--- the points that are reached are within, so the characters that they take are beginnings
-pub are_beginnings : (unicode : Bool) (points : List Point) (reached : ℕ → Bool) (ascii : List Bool) → reached 0 ≡ true →
-    ((at : ℕ) → reached at ≡ true → IsWithin unicode reached ascii at (slice_get points at)) →
-    AreBeginnings unicode points (Some ascii)
-are_beginnings unicode points reached ascii first within text place out failed steps way found ends =
-    none_inside text unicode points place reached way found
-    (subst (NextInside text unicode points place reached) ends
-    (steps_inside text unicode points place reached leads none steps (TakesUp (first_stand place) (first_search failed)) ((refl, first), tt)))
+-- the levels that follow on the points reached first are beginnings
+pub are_beginnings : (unicode : Bool) (points : List Point) (reached : List ℕ) (levels : List (List Bool)) (last : List ℕ) →
+    covers reached 0 255 ≡ true → AreLevels unicode points reached levels last → AreBeginnings unicode points levels
+are_beginnings unicode points reached levels last first leads text place out failed steps way found ends =
+    none_inside text unicode points way found
+    (subst (NextInside text unicode points) ends
+    (steps_inside text unicode points steps (TakesUp (first_stand place) (first_search failed)) (begins, tt)))
   where
-    at_point : (at : ℕ) (p : Point) → slice_get points at ≡ Some p → reached at ≡ true →
-        (leads_within reached at p ≡ true) × TakesAmong unicode ascii p
-    at_point at p e r = subst (IsWithin unicode reached ascii at) e (within at r)
+    begins : Inside text unicode points (first_stand place)
+    begins =
+        record {
+          reached = reached;
+          levels = levels;
+          last = last;
+          leads = leads;
+          here = reached_there (slice_index_or reached 0 0) 255 [] first (reached_any []);
+          out = out;
+        }
 
-    leads : (at : ℕ) (p : Point) → slice_get points at ≡ Some p → reached at ≡ true → leads_within reached at p ≡ true
-    leads at p e r = (at_point at p e r).0
+-- ---- points that are reached
 
-    none : (at : ℕ) (test : plain.CharTest) → slice_get points at ≡ Some (plain.Take test) → reached at ≡ true →
-        past_char text (passes text unicode test) place ≡ None
-    none at test e r = takes_none text unicode place ascii test (at_point at (plain.Take test) e r).1 (slice_get text place) refl out
-
--- ---- points that are marked
-
-module _ (unicode : Bool) (points : List code.Point) (reached : List Bool) where
-  -- the marked ones of the first n lead to marked ones alone, unless they take one of these characters
+module _ (unicode : Bool) (points : List code.Point) (reached after : List ℕ) where
+  -- the first n points, as far as they are reached, take these characters alone
   abbrev pub AreWithin : (ascii : List Bool) → (n : ℕ) → Type 0
-  AreWithin ascii n = (i : ℕ) (p : code.Point) → i < n → slice_get points i ≡ Some p → slice_index_or reached i false ≡ true →
-      IsWithin unicode (λ k. slice_index_or reached k false) ascii i (Some (point_of p))
+  AreWithin ascii n = (i : ℕ) (p : code.Point) → i < n → slice_get points i ≡ Some p → 0 < slice_index_or reached i 0 →
+      IsWithin unicode reached ascii after i (Some (point_of p))
 
   among_more : (ascii more : List Bool) → ((c : ℕ) → slice_index_or ascii c false ≡ true → slice_index_or more c false ≡ true) →
       (p : Point) → TakesAmong unicode ascii p → TakesAmong unicode more p
@@ -262,7 +408,7 @@ module _ (unicode : Bool) (points : List code.Point) (reached : List Bool) where
 
   pub within_more : (ascii more : List Bool) (n : ℕ) (q : code.Point) → n < length points → q ≡ slice_index_or points n q →
       ((c : ℕ) → slice_index_or ascii c false ≡ true → slice_index_or more c false ≡ true) → AreWithin ascii n →
-      leads_within (λ k. slice_index_or reached k false) n (point_of q) ≡ true → TakesAmong unicode more (point_of q) →
+      leads_within reached after n (slice_index_or reached n 0) (point_of q) ≡ true → TakesAmong unicode more (point_of q) →
       AreWithin more (n + 1)
   within_more ascii more n q inside is kept before leads takes = λ i p below at r.
       elim (cases_lt i n) [
@@ -272,30 +418,27 @@ module _ (unicode : Bool) (points : List code.Point) (reached : List Bool) where
         | inr last ↦
             let same : n ≡ i = omega (arith, last, below) in
             let there : q ≡ p = some_same (sym (at_index points n q inside ∙ ap Some (sym is)) ∙ ap (slice_get points) same ∙ at) in
-            subst (λ k. IsWithin unicode (λ k. slice_index_or reached k false) more k (Some (point_of p))) same
-            (subst (λ x. IsWithin unicode (λ k. slice_index_or reached k false) more n (Some (point_of x))) there (leads, takes))
+            subst (λ k. IsWithin unicode reached more after k (Some (point_of p))) same
+            (subst (λ x. IsWithin unicode reached more after n (Some (point_of x))) there (leads, takes))
       ]
 
-  pub unmarked_within : (ascii : List Bool) (n : ℕ) → slice_index_or reached n false ≡ false → AreWithin ascii n →
-      AreWithin ascii (n + 1)
-  unmarked_within ascii n out before = λ i p below at r.
+  pub unreached_within : (ascii : List Bool) (n : ℕ) → slice_index_or reached n 0 ≤ 0 → AreWithin ascii n → AreWithin ascii (n + 1)
+  unreached_within ascii n out before = λ i p below at r.
       elim (cases_lt i n) [
         | inl earlier ↦ before i p earlier at r
         | inr last ↦
             let same : i ≡ n = omega (arith, last, below) in
-            absurd (true≢false (sym r ∙ ap (λ k. slice_index_or reached k false) same ∙ out))
+            let none : slice_index_or reached i 0 ≡ slice_index_or reached n 0 = ap (λ k. slice_index_or reached k 0) same in
+            absurd (omega (arith, r, out, none))
       ]
 
-  pub all_within : (ascii : List Bool) (n : ℕ) → length points ≤ n → slice_index_or reached 0 false ≡ true → AreWithin ascii n →
-      AreBeginnings unicode (map point_of points) (Some ascii)
-  all_within ascii n all first within =
-      are_beginnings unicode (map point_of points) (λ k. slice_index_or reached k false) ascii first
-      (λ i r.
-      subst (IsWithin unicode (λ k. slice_index_or reached k false) ascii i) (sym (slice_get-map point_of points i))
-      (go i r (slice_get points i) refl))
+  pub all_within : (ascii : List Bool) (n : ℕ) → length points ≤ n → AreWithin ascii n →
+      IsLevel unicode (map point_of points) reached ascii after
+  all_within ascii n all within = λ i r.
+      subst (IsWithin unicode reached ascii after i) (sym (slice_get-map point_of points i)) (go i r (slice_get points i) refl)
     where
-      go : (i : ℕ) → slice_index_or reached i false ≡ true → (o : Option code.Point) → slice_get points i ≡ o →
-          IsWithin unicode (λ k. slice_index_or reached k false) ascii i (option_map point_of o)
+      go : (i : ℕ) → 0 < slice_index_or reached i 0 → (o : Option code.Point) → slice_get points i ≡ o →
+          IsWithin unicode reached ascii after i (option_map point_of o)
       go i r None e = tt
       go i r (Some p) e =
           let below = some_below points i p e in
@@ -307,16 +450,45 @@ pub no_take : (unicode : Bool) (ascii : List Bool) (p : code.Point) → ((test :
 no_take unicode ascii (variant.Take test) apart = absurd (apart test refl)
 no_take unicode ascii p apart = tt
 
--- ---- the character at the place
+-- ---- the characters at the place
 
-pub begun_small : (ascii : List Bool) (b : ℕ) → b < 128 → is_begun_by ascii (Some b) ≡ slice_index_or ascii b false
-begun_small ascii b h = cond-true (nat_lt b 128) _ _ small
+begun_small : (ascii : List Bool) (rest : Bool) (b : ℕ) → b < 128 → is_begun_by ascii rest (Some b) ≡ (slice_index_or ascii b false && rest)
+begun_small ascii rest b h = cond-true (nat_lt b 128) _ _ small
   where
     small : nat_lt b 128 ≡ true
     small = grind (arith, nat_tests, h)
 
-pub begun_other : (ascii : List Bool) (b : ℕ) → 128 ≤ b → is_begun_by ascii (Some b) ≡ true
-begun_other ascii b h = cond-false (nat_lt b 128) _ _ other
+begun_other : (ascii : List Bool) (rest : Bool) (b : ℕ) → 128 ≤ b → is_begun_by ascii rest (Some b) ≡ true
+begun_other ascii rest b h = cond-false (nat_lt b 128) _ _ other
   where
     other : nat_lt b 128 ≡ false
     other = grind (arith, nat_tests, h)
+
+-- the first of the levels that are left
+first_left : (levels : List (List Bool)) (text : List ℕ) (n at : ℕ) → n < length levels →
+    may_begin (drop n levels) text at ≡ is_begun_by (slice_index_or levels n []) (may_begin (drop (suc n) levels) text (at + 1)) (slice_get text at)
+first_left [] text n at h = absurd (omega (arith, h))
+first_left (l ∷ levels) text zero at h = refl
+first_left (l ∷ levels) text (suc n) at h = first_left levels text n at (omega (arith, h))
+
+module _ (levels : List (List Bool)) (text : List ℕ) (n at : ℕ) (more : n < length levels) where
+  abbrev level : List Bool
+  level = slice_index_or levels n []
+
+  abbrev rest : Bool
+  rest = may_begin (drop (n + 1) levels) text (at + 1)
+
+  asks_level : may_begin (drop n levels) text at ≡ is_begun_by level rest (slice_get text at)
+  asks_level = rw (add-one n) (first_left levels text n at more)
+
+  pub level_at_end : length text ≤ at → may_begin (drop n levels) text at ≡ false
+  level_at_end over = asks_level ∙ ap (is_begun_by level rest) (slice_get_past text at over)
+
+  pub level_passed : at < length text → 128 ≤ slice_index_or text at 0 → may_begin (drop n levels) text at ≡ true
+  level_passed inside other =
+      asks_level ∙ ap (is_begun_by level rest) (at_index text at 0 inside) ∙ begun_other level rest (slice_index_or text at 0) other
+
+  pub level_asked : at < length text → slice_index_or text at 0 < 128 →
+      may_begin (drop n levels) text at ≡ (slice_index_or level (slice_index_or text at 0) false && rest)
+  level_asked inside small =
+      asks_level ∙ ap (is_begun_by level rest) (at_index text at 0 inside) ∙ begun_small level rest (slice_index_or text at 0) small

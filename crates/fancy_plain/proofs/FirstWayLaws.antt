@@ -1,5 +1,5 @@
 -- From the end of a search to what the first way answers.
-use Rattle.std.proofs.Common.{◌≡◌, ◌<◌, ◌≤◌, [], slice_get, slice_index_or, true, nat_lt, if◌then◌else◌, ℕ, zero, suc, Bool, false, List, length, map, take, Option, Some, None, Result, Ok, Err, IsTrue, option_map, refl, sym, arith, ap, ◌∙◌, subst}
+use Rattle.std.proofs.Common.{◌≡◌, ◌<◌, ◌≤◌, ◌+◌, ◌&&◌, [], ◌∷◌, slice_get, slice_index_or, true, nat_lt, if◌then◌else◌, ℕ, zero, suc, Bool, false, List, length, map, take, Option, Some, None, Result, Ok, Err, IsTrue, option_map, refl, sym, arith, ap, ◌∙◌, subst}
 use Rattle.std.proofs.lemmas.Bool.Decides.{nat_tests}
 use Rattle.std.proofs.lemmas.List.{take_all}
 use denote.Bor.{Bor}
@@ -223,7 +223,7 @@ module _ (points : Bor (List code.Point)) (text : Bor (List ℕ)) (table : Point
 
 -- where the first character is none that a way can begin with, the nodes have none
 pub no_way_at : (text : List ℕ) (f : PointTable) (place : ℕ) → IsText text → IsTrue (is_place text place) →
-    may_begin f.beginnings text place ≡ false → HasNoWayAt text f place
+    may_begin f.beginnings.items text place ≡ false → HasNoWayAt text f place
 no_way_at text f place is_text at out = λ a es h pos continued.
     let q : Setting = record { text = text; pos = pos; continued = continued; unicode = f.unicode } in
     let finds : FindsFirst q a es (λ p. false) place = plain_search_finds q a es (λ p. false) place is_text at h.easy no_pairs in
@@ -237,8 +237,13 @@ pub none_first : (text : List ℕ) (f : PointTable) (place : ℕ) → HasNoWayAt
 none_first text f place h = λ a es table.
     ((λ pos continued. subst (IsSeenAs None) (sym (h a es table pos continued)) tt), omega arith)
 
-pub refused_byte : (ascii : List Bool) (byte : ℕ) → byte < 128 → slice_index_or ascii byte false ≡ false → (text : List ℕ) (place : ℕ) →
-    slice_get text place ≡ Some byte → may_begin (Some ascii) text place ≡ false
-refused_byte ascii byte small out text place here =
+pub refused_byte : (levels : List (List Bool)) (ascii : List Bool) (byte : ℕ) → slice_get levels 0 ≡ Some ascii → byte < 128 →
+    slice_index_or ascii byte false ≡ false → (text : List ℕ) (place : ℕ) → slice_get text place ≡ Some byte →
+    may_begin levels text place ≡ false
+refused_byte [] ascii byte is small out text place here = cc
+refused_byte (level ∷ levels) ascii byte is small out text place here =
     let is_ascii : nat_lt byte 128 ≡ true = grind (arith, nat_tests) in
-    ap (is_begun_by ascii) here ∙ ap (λ v. if v then slice_index_or ascii byte false else true) is_ascii ∙ out
+    let rest : Bool = may_begin levels text (place + 1) in
+    let same : level ≡ ascii = cc in
+    ap (is_begun_by level rest) here ∙ ap (λ v. if v then slice_index_or level byte false && rest else true) is_ascii
+    ∙ ap (λ l. slice_index_or l byte false && rest) same ∙ ap (λ b. b && rest) out

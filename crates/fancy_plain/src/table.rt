@@ -25,9 +25,9 @@ pub struct PointTable {
     pub(crate) unicode: bool,
     /// Which bit a pair has that was found to have no way.
     pub(crate) pair_bits: PairBits,
-    /// The ASCII characters that a way can begin with, beside any others. None if one may take nothing.
-    pub(crate) beginnings: Option<[bool; 128]>,
-    ghost begin: { AreBeginnings unicode (map point_of points.items) beginnings },
+    /// The ASCII characters that can stand at a way's first places, level by level, beside any others.
+    pub(crate) beginnings: Vec<[bool; 128]>,
+    ghost begin: { AreBeginnings unicode (map point_of points.items) beginnings.items },
 }
 
 impl PointTable {
@@ -69,7 +69,7 @@ impl PointTable {
     /// be none though it can, but where it cannot there is none.
     pub fn can_begin(&self, text: &str, ix: usize) -> bool
         requires place { IsTrue (is_place text.now ix) }
-        ensures told { result ≡ may_begin self.now.beginnings text.now ix }
+        ensures told { result ≡ may_begin self.now.beginnings.items text.now ix }
         ensures none { result ≡ false → HasNoWayAt text.now self.now ix }
     {
         may_begin(&self.beginnings, text.as_bytes(), ix)
@@ -80,7 +80,7 @@ impl PointTable {
         ensures { IsTrue result → (text : List ℕ) (ix : ℕ) → IsText text → IsTrue (is_place text ix)
             → slice_get text ix ≡ Some byte → HasNoWayAt text self.now ix }
     {
-        match &self.beginnings {
+        match self.beginnings.first() {
             None => false,
             Some(ascii) => byte < 128 && !ascii[byte as usize],
         }

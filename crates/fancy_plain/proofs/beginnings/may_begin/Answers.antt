@@ -1,25 +1,29 @@
-use Rattle.std.proofs.Common.{sym, ap, ◌∙◌, le-leb}
-use Rattle.fancy_plain.specs.Beginnings.{is_begun_by, may_begin}
-use Rattle.fancy_plain.proofs.BeginningLaws.{begun_other, begun_small}
+use Rattle.std.proofs.Common.{◌+◌, ◌&&◌, drop, sym, ap, ◌∙◌}
+use Rattle.fancy_plain.specs.Beginnings.{may_begin}
+use Rattle.fancy_plain.proofs.BeginningLaws.{level_asked, level_at_end, level_passed}
 use Rattle.fancy_plain.proofs.beginnings.may_begin.Goals as goal
 
-pub returns-in-None-byte_at : goal.returns-in-None-byte_at
-returns-in-None-byte_at c =
-    sym
-    (ap (λ o. may_begin o c.args.text.now c.args.ix) c.in-Some.is
-    ∙ ap (is_begun_by c.in-Some.ascii) (sym c.byte_at.ensures ∙ c.in-None-byte_at.is))
+pub returns-then-at-text : goal.returns-then-at-text
+returns-then-at-text c =
+    sym (level_at_end c.args.levels.now c.args.text.now c.levels.level-index c.levels.at c.levels-test.true c.if-at-text.true)
+    ∙ c.levels.invariant
 
 pub returns-then-byte-ge128 : goal.returns-then-byte-ge128
 returns-then-byte-ge128 c =
-    le-leb 128 c.in-Some-byte_at.byte c.if-byte-ge128.true
-    ∙ sym
-    (ap (λ o. may_begin o c.args.text.now c.args.ix) c.in-Some.is
-    ∙ ap (is_begun_by c.in-Some.ascii) (sym c.byte_at.ensures ∙ c.in-Some-byte_at.is)
-    ∙ begun_other c.in-Some.ascii c.in-Some-byte_at.byte c.if-byte-ge128.true)
+    sym (level_passed c.args.levels.now c.args.text.now c.levels.level-index c.levels.at c.levels-test.true c.if-at-text.false
+    c.if-byte-ge128.true)
+    ∙ c.levels.invariant
 
-pub returns-else-byte-ge128 : goal.returns-else-byte-ge128
-returns-else-byte-ge128 c =
-    sym
-    (ap (λ o. may_begin o c.args.text.now c.args.ix) c.in-Some.is
-    ∙ ap (is_begun_by c.in-Some.ascii) (sym c.byte_at.ensures ∙ c.in-Some-byte_at.is)
-    ∙ begun_small c.in-Some.ascii c.in-Some-byte_at.byte c.if-byte-ge128.false)
+pub returns-then-not-level-byte : goal.returns-then-not-level-byte
+returns-then-not-level-byte c =
+    sym (level_asked c.args.levels.now c.args.text.now c.levels.level-index c.levels.at c.levels-test.true c.if-at-text.false
+    c.if-byte-ge128.false
+    ∙ ap (λ a. a && may_begin (drop (c.levels.level-index + 1) c.args.levels.now) c.args.text.now (c.levels.at + 1)) c.if-not-level-byte.true)
+    ∙ c.levels.invariant
+
+pub levels-preserved : goal.levels-preserved
+levels-preserved c =
+    sym (level_asked c.args.levels.now c.args.text.now c.levels.level-index c.levels.at c.levels-test.true c.if-at-text.false
+    c.if-byte-ge128.false
+    ∙ ap (λ a. a && may_begin (drop (c.levels.level-index + 1) c.args.levels.now) c.args.text.now (c.levels.at + 1)) c.if-not-level-byte.false)
+    ∙ c.levels.invariant

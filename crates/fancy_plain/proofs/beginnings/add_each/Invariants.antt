@@ -1,7 +1,7 @@
 use Rattle.std.proofs.Common.{◌≡◌, ℕ, ◌<◌, [], true, false, length, slice_index_or}
 use Rattle.fancy_points.specs.PointSearch.{passes}
 use Rattle.fancy_plain.specs.Views.{test_of}
-use Rattle.fancy_plain.proofs.beginnings.add_taken.Given as goal
+use Rattle.fancy_plain.proofs.beginnings.add_each.Given as goal
 
 abbrev pub invariant-ask : goal.invariant-ask
 invariant-ask l =
