@@ -1,6 +1,8 @@
 -- A loop over one character comes in one go to where its iterations come one by one.
-use Rattle.std.proofs.Common.{◌≡◌, ◌≤◌, ◌<◌, ◌+◌, ◌-◌, ◌*◌, ◌++◌, ℕ, zero, suc, Bool, true, false, List, [], ◌∷◌, Some, None, IsTrue, not, true≢false, Result, Ok, Err, IfOk, ⊎_elim, length, slice_get, slice_index_or, refl, sym, ap, ap₂, ◌∙◌, subst, arith}
+use Rattle.std.proofs.Common.{◌≡◌, ◌≤◌, ◌<◌, ◌+◌, ◌-◌, ◌*◌, ◌++◌, ℕ, zero, suc, Bool, true, false, List, [], ◌∷◌, Option, Some, None, IsTrue, map, min, nat_lt, not, option_map, if◌then◌else◌, true≢false, Result, Ok, Err, IfOk, IfSome, ⊎_elim, length, slice_get, slice_index_or, refl, sym, ap, ap₂, ◌∙◌, subst, arith}
 use Rattle.std.proofs.lemmas.Bool.{cases_lt, cond-false}
+use Rattle.std.proofs.lemmas.Bool.Decides.{nat_tests}
+use Rattle.std.proofs.lemmas.Option.{none-some, slice_get-map}
 use Rattle.std.specs.declared.alloc.AllocError.{AllocError}
 use Rattle.fancy_meaning.specs.Moves.{past_char}
 use Rattle.fancy_points.specs.Points as points
@@ -10,41 +12,94 @@ use Rattle.fancy_plain.specs.declared.choices.Choice.{Choice}
 use Rattle.fancy_plain.specs.declared.log.Entry.{Entry}
 use Rattle.fancy_plain.specs.declared.log.Log.{Log}
 use Rattle.fancy_plain.specs.declared.log.Stand.{Stand}
+use Rattle.fancy_plain.specs.declared.log.Turn.{Turn}
 use Rattle.fancy_plain.specs.declared.point.CharTest.{CharTest}
+use Rattle.fancy_plain.specs.declared.point.Loop as code
+use Rattle.fancy_plain.specs.declared.point.Point.{Point}
 use Rattle.fancy_plain.specs.declared.point.Point.TheVariants as point
 use Rattle.fancy_plain.specs.declared.search.Memo.{Memo}
 use Rattle.fancy_plain.specs.declared.search.Task.{Task}
 use Rattle.fancy_plain.specs.Choices.{choices_of, run_choices}
-use Rattle.fancy_plain.specs.Paths.{IsStand}
-use Rattle.fancy_plain.specs.Runs.{CanPass, FailsFrom, GoesOn, IsForkOf, IsLoopOver, IsLostAt, IsRun, Refuses, onward, run_later, run_search}
-use Rattle.fancy_plain.specs.Searches.{AreKept, HaveFailed, IsHere, IsSearch, Keeps, Leading, fails_of, after_steps_of, leading_of, next_of}
-use Rattle.fancy_plain.specs.Views.{test_of}
+use Rattle.fancy_plain.specs.Paths.{EndsTurns, HasTurns, IsStand, turn_of}
+use Rattle.fancy_plain.specs.Runs.{CanPass, FailsFrom, GoesOn, IsBody, IsForkOf, IsLostAt, IsRun, Refuses, Repeats, RunsOver, onward, run_later, run_search}
+use Rattle.fancy_plain.specs.Searches.{AreKept, HaveFailed, IsHere, IsSearch, IsTask, Keeps, Leading, fails_of, after_steps_of, leading_of, next_of}
+use Rattle.fancy_plain.specs.Views.{IsReadBy, loop_of, point_of, test_of}
 use Rattle.fancy_plain.specs.FailedPairs.{has_pair, key_of}
 use Rattle.fancy_plain.proofs.BackLaws.{back_noted, one_more, steps_then}
 use Rattle.fancy_plain.proofs.BeginningLaws.{at_index, passes_alike, past_ascii, past_end}
-use Rattle.fancy_plain.proofs.SearchLaws.{key_outside, leads_by, next_there, same_tries}
+use Rattle.fancy_plain.proofs.SearchLaws.{inside, key_outside, leads_by, next_there, same_tries}
+
+-- ---- the heads of loops
+
+-- a loop that does not count
+pub fork_of : (task : Task) (here : Stand) (first second : ℕ) → slice_get (task.points).now here.at ≡ Some (point.Fork first second) →
+    (s : plain.Stand) → here.at ≡ s.at → IsForkOf (leading_of task) first (goes_to second) s
+fork_of task here first second head s at n = leads_by task (point.Fork first second) here (onward n s) at head
+
+leads_on : (loop : points.Loop) (after : ℕ) (s : plain.Stand) (t : plain.Turn) (around : List plain.Turn) →
+    loop.greedy ≡ true → loop.hi ≡ None → loop.asks_moved ≡ false → t ≡ record { count = loop.lo; since = None } →
+    plain.head_lead loop after s (t ∷ around)
+    ≡ plain.Tries true (record (plain.forward s) { turns = t ∷ around }) (record (goes_to after s) { turns = around } ∷ [])
+leads_on loop after s t around greedy bound asks is =
+    ap (λ u. plain.head_lead loop after s (u ∷ around)) is ∙ by_parts loop.greedy loop.hi loop.asks_moved greedy bound asks
+    ∙ ap (λ u. plain.Tries true (record (plain.forward s) { turns = u ∷ around }) (record (goes_to after s) { turns = around } ∷ [])) (sym is)
+  where
+    lasting : plain.Turn
+    lasting = record { count = loop.lo; since = None }
+
+    by_parts : (g : Bool) (hi : Option ℕ) (a : Bool) → g ≡ true → hi ≡ None → a ≡ false →
+        plain.head_lead (record { lo = loop.lo; hi = hi; greedy = g; asks_moved = a }) after s (lasting ∷ around)
+        ≡ plain.Tries true (record (plain.forward s) { turns = lasting ∷ around }) (record (goes_to after s) { turns = around } ∷ [])
+    by_parts true None false e f h =
+        cond-false (nat_lt loop.lo loop.lo) _ _ (let no : nat_lt loop.lo loop.lo ≡ false = grind (arith, nat_tests) in no)
+        ∙ ap (λ n. plain.Tries true (record (plain.forward s) { turns = record { count = n; since = None } ∷ around })
+        (record (goes_to after s) { turns = around } ∷ []))
+        (let same : min (loop.lo + 1) loop.lo ≡ loop.lo = omega arith in same)
+    by_parts false hi a e f h = absurd (true≢false (sym e))
+    by_parts true (Some n) a e f h = absurd (none-some n (sym f))
+    by_parts true None true e f h = absurd (true≢false h)
+
+-- a loop that counts, where it counts no more
+pub head_of : (task : Task) (here : Stand) (loop : code.Loop) (after : ℕ) →
+    slice_get (task.points).now here.at ≡ Some (point.Head loop after) →
+    (s : plain.Stand) → here.at ≡ s.at → Repeats (loop_of loop) s.turns →
+    (out : plain.Stand → plain.Stand) × IsForkOf (leading_of task) (here.at + 1) out s
+head_of task here loop after head s at repeats = by_turns s.turns refl repeats
+  where
+    by_turns : (turns : List plain.Turn) → s.turns ≡ turns → Repeats (loop_of loop) turns →
+        (out : plain.Stand → plain.Stand) × IsForkOf (leading_of task) (here.at + 1) out s
+    by_turns [] e h = absurd h
+    by_turns (t ∷ around) e (greedy, bound, asks, is) = (
+      λ x. record (goes_to after x) { turns = around },
+      λ n.
+          leads_by task (point.Head loop after) here (onward n s) at head
+          ∙ ap (plain.head_lead (loop_of loop) after (onward n s)) e
+          ∙ leads_on (loop_of loop) after (onward n s) t around greedy bound asks is
+          ∙ ap₂ (λ p u. plain.Tries true (record (onward n s) { at = p + 1; turns = u }) (record (goes_to after (onward n s)) { turns = around } ∷ []))
+          (sym at) (sym e),
+    )
 
 -- ---- the steps of an iteration
 
-module _ (task : Task) (here : Stand) (first second : ℕ) (test : CharTest)
-    (head : slice_get (task.points).now here.at ≡ Some (point.Fork first second))
+module _ (task : Task) (here : Stand) (first : ℕ) (out : plain.Stand → plain.Stand) (test : CharTest)
     (body : slice_get (task.points).now first ≡ Some (point.Take test))
     (back : slice_get (task.points).now (first + 1) ≡ Some (point.Jump here.at))
-    (s : plain.Stand) (at : here.at ≡ s.at) where
-  pub fork_of : IsForkOf (leading_of task) first second s
-  fork_of n = leads_by task (point.Fork first second) here (onward n s) at head
-
+    (s : plain.Stand) (at : here.at ≡ s.at) (forks : IsForkOf (leading_of task) first out s)
+    (counted : plain.is_counted (slice_get (map point_of (task.points).now) here.at) ≡ true) where
   abbrev taken : Search → plain.Stand → Search
   taken g t = record g {
-    later = plain.Other (goes_to second t) ∷ plain.Fails (pair_of t) ∷ g.later;
+    later = plain.Other (out t) ∷ plain.Fails (pair_of t) ∷ g.later;
     visits = g.visits + 1;
   }
 
   head_step : (n : ℕ) (g : Search) → g.failed (pair_of (onward n s)) ≡ false →
       next_of task (TakesUp (onward n s) g) ≡ TakesUp (goes_to first (onward n s)) (taken g (onward n s))
   head_step n g free =
-      next_there task (point.Fork first second) here (onward n s) at head g
-      ∙ cond-false (g.failed (pair_of (onward n s))) _ _ free
+      let t = onward n s in
+      let all = map point_of (task.points).now in
+      ap (λ l. plain.next_by l (slice_get all s.at) t g) (forks n) ∙ cond-false (g.failed (pair_of t)) _ _ free
+      ∙ ap (λ c. TakesUp (goes_to first t) (plain.with_later (plain.Other (out t) ∷ plain.Fails (pair_of t) ∷ [])
+      (if c then record g { visits = g.visits + 1 } else g))) (ap (λ k. plain.is_counted (slice_get all k)) (sym at) ∙ counted)
 
   body_step : (t : plain.Stand) (g : Search) →
       past_char (task.text).now (passes (task.text).now task.unicode (test_of test)) t.place ≡ Some (t.place + 1) →
@@ -61,26 +116,26 @@ module _ (task : Task) (here : Stand) (first second : ℕ) (test : CharTest)
   -- where an iteration after n of them comes to
   behind : (n : ℕ) (f : Search) →
       TakesUp (goes_to here.at (record (onward n s) { at = first + 1; place = s.place + n + 1 }))
-      (record (taken (run_search second n s f) (onward n s)) { visits = f.visits + 2 * n + 1 + 1 })
-      ≡ TakesUp (onward (suc n) s) (run_search second (suc n) s f)
+      (record (taken (run_search out n s f) (onward n s)) { visits = f.visits + 2 * n + 1 + 1 })
+      ≡ TakesUp (onward (suc n) s) (run_search out (suc n) s f)
   behind n f =
       let place : s.place + n + 1 ≡ s.place + suc n = omega arith in
       let visits : f.visits + 2 * n + 1 + 1 ≡ f.visits + 2 * suc n = omega arith in
       ap₂ (λ p i. TakesUp (record s { at = p; place = i })
-      (record (taken (run_search second n s f) (onward n s)) { visits = f.visits + 2 * n + 1 + 1 })) at place
-      ∙ ap (λ v. TakesUp (onward (suc n) s) (record (taken (run_search second n s f) (onward n s)) { visits = v })) visits
+      (record (taken (run_search out n s f) (onward n s)) { visits = f.visits + 2 * n + 1 + 1 })) at place
+      ∙ ap (λ v. TakesUp (onward (suc n) s) (record (taken (run_search out n s f) (onward n s)) { visits = v })) visits
 
   pub run_on : (n : ℕ) (f : Search) →
       ((k : ℕ) → k < n → past_char (task.text).now (passes (task.text).now task.unicode (test_of test)) (s.place + k) ≡ Some (s.place + k + 1)) →
       ((k : ℕ) → k < n → f.failed (pair_of (onward k s)) ≡ false) →
-      (steps : ℕ) × (after_steps_of task steps (TakesUp s f) ≡ TakesUp (onward n s) (run_search second n s f))
+      (steps : ℕ) × (after_steps_of task steps (TakesUp s f) ≡ TakesUp (onward n s) (run_search out n s f))
   run_on zero f past free =
       let place : s.place ≡ s.place + 0 = omega arith in
       let visits : f.visits ≡ f.visits + 2 * 0 = omega arith in
       (0, ap₂ (λ i v. TakesUp (record s { place = i }) (record f { visits = v })) place visits)
   run_on (suc n) f past free =
       let on = run_on n f (λ k below. past k (omega (arith, below))) (λ k below. free k (omega (arith, below))) in
-      let g = run_search second n s f in
+      let g = run_search out n s f in
       let one = one_more task on.0 (TakesUp s f) (TakesUp (onward n s) g) on.1 ∙ head_step n g (free n (omega arith)) in
       let two = one_more task (suc on.0) (TakesUp s f) _ one ∙ body_step (onward n s) (taken g (onward n s)) (past n (omega arith)) in
       let three = one_more task (suc (suc on.0)) (TakesUp s f) _ two ∙ back_step _ _ refl in
@@ -100,14 +155,14 @@ onward_stands entries path here s place n e h = record {
   spans = h.spans;
 }
 
-module _ (leading : Leading) (entries : List Entry) (here : Stand) (s : plain.Stand) (first second : ℕ)
-    (forks : IsForkOf leading first second s) (stands : IsStand entries (length entries) here s) (cs : List Choice) (later : List Later)
+module _ (leading : Leading) (entries : List Entry) (here : Stand) (s : plain.Stand) (first : ℕ) (out : plain.Stand → plain.Stand)
+    (forks : IsForkOf leading first out s) (stands : IsStand entries (length entries) here s) (cs : List Choice) (later : List Later)
     (kept : AreKept leading entries (length entries) cs later) where
   abbrev choice_at : ℕ → Choice
   choice_at place = record { stand = record here { place = place }; path = length entries; is_untried = true }
 
   pub run_kept : (n place : ℕ) → place ≡ s.place + n →
-      AreKept leading entries (length entries) (run_choices n (choice_at place) ++ cs) (run_later second (suc n) s later)
+      AreKept leading entries (length entries) (run_choices n (choice_at place) ++ cs) (run_later out (suc n) s later)
   run_kept zero place e = (
     omega arith,
     (
@@ -116,7 +171,7 @@ module _ (leading : Leading) (entries : List Entry) (here : Stand) (s : plain.St
         later,
         (
           onward_stands entries (length entries) here s place 0 e stands,
-          (true, (goes_to first (onward 0 s), (goes_to second (onward 0 s), (forks 0, refl)))),
+          (true, (goes_to first (onward 0 s), (out (onward 0 s), (forks 0, refl)))),
           kept,
         ),
       ),
@@ -127,10 +182,10 @@ module _ (leading : Leading) (entries : List Entry) (here : Stand) (s : plain.St
     (
       onward (suc n) s,
       (
-        run_later second (suc n) s later,
+        run_later out (suc n) s later,
         (
           onward_stands entries (length entries) here s place (suc n) e stands,
-          (true, (goes_to first (onward (suc n) s), (goes_to second (onward (suc n) s), (forks (suc n), refl)))),
+          (true, (goes_to first (onward (suc n) s), (out (onward (suc n) s), (forks (suc n), refl)))),
           run_kept n (place - 1) (omega (arith, e)),
         ),
       ),
@@ -138,30 +193,30 @@ module _ (leading : Leading) (entries : List Entry) (here : Stand) (s : plain.St
   )
 
 -- the memo behind a run
-pub run_stands : (leading : Leading) (m new : Memo) (here on : Stand) (s : plain.Stand) (f : Search) (first second count place : ℕ) →
+pub run_stands : (leading : Leading) (m new : Memo) (here on : Stand) (s : plain.Stand) (f : Search) (first : ℕ) (out : plain.Stand → plain.Stand) (count place : ℕ) →
     0 < count → place ≡ here.place + count - 1 → on ≡ record here { place = here.place + count } →
     choices_of new.later
     ≡ run_choices (count - 1) (record { stand = record here { place = place }; path = length m.log.entries.items; is_untried = true })
     ++ choices_of m.later →
     new ≡ record m { later = new.later; visits = new.visits } → new.visits ≤ m.visits + 2 * count →
-    IsSearch leading m f → IsHere m here s → IsForkOf leading first second s →
-    IsSearch leading new (run_search second count s f) × IsHere new on (onward count s)
-run_stands leading m new here on s f first second zero place some at to items rest visits h stands forks = absurd (omega (arith, some))
-run_stands leading m new here on s f first second (suc n) place some at to items rest visits h stands forks =
+    IsSearch leading m f → IsHere m here s → IsForkOf leading first out s →
+    IsSearch leading new (run_search out count s f) × IsHere new on (onward count s)
+run_stands leading m new here on s f first out zero place some at to items rest visits h stands forks = absurd (omega (arith, some))
+run_stands leading m new here on s f first out (suc n) place some at to items rest visits h stands forks =
     let es = m.log.entries.items in
     let log : new.log ≡ m.log = ap (λ (x : Memo). x.log) rest in
     let same : new.failed ≡ m.failed = ap (λ (x : Memo). x.failed) rest in
-    let kept = run_kept leading es here s first second forks stands (choices_of m.later) f.later h.later n place (let p = stands.place in omega (arith, at, p)) in
+    let kept = run_kept leading es here s first out forks stands (choices_of m.later) f.later h.later n place (let p = stands.place in omega (arith, at, p)) in
     let count : suc n - 1 ≡ n = omega arith in (
       record {
         later =
-            subst (λ cs. AreKept leading new.log.entries.items (length new.log.entries.items) cs (run_later second (suc n) s f.later)) (sym items)
+            subst (λ cs. AreKept leading new.log.entries.items (length new.log.entries.items) cs (run_later out (suc n) s f.later)) (sym items)
             (subst (λ k. AreKept leading new.log.entries.items (length new.log.entries.items)
             (run_choices k (record { stand = record here { place = place }; path = length es; is_untried = true }) ++ choices_of m.later)
-            (run_later second (suc n) s f.later)) (sym count)
+            (run_later out (suc n) s f.later)) (sym count)
             (subst (λ (l : Log). AreKept leading l.entries.items (length l.entries.items)
             (run_choices n (record { stand = record here { place = place }; path = length es; is_untried = true }) ++ choices_of m.later)
-            (run_later second (suc n) s f.later)) (sym log) kept));
+            (run_later out (suc n) s f.later)) (sym log) kept));
         failed = λ p. ap (λ x. has_pair x (key_of p)) same ∙ h.failed p;
         visits = let v = h.visits in omega (arith, v, visits);
       },
@@ -180,15 +235,20 @@ goes_on_then task next k f s m there e (j, (g, (t, (is, h, stands)))) =
 
 -- a run that was found is passed
 pub past_run : (task : Task) (m new : Memo) (test : CharTest) (here : Stand) (count : ℕ) (r : Result Stand AllocError) →
-    IsLoopOver (task.points).now here.at test → IsRun task m test here count →
-    IfOk r (λ on. (leading : Leading) (f : Search) (s : plain.Stand) (first second : ℕ) → IsSearch leading m f → IsHere m here s →
-    IsForkOf leading first second s → IsSearch leading new (run_search second count s f) × IsHere new on (onward count s)) →
+    RunsOver task m here test → IsRun task m test here count →
+    IfOk r (λ on. (leading : Leading) (f : Search) (s : plain.Stand) (first : ℕ) (out : plain.Stand → plain.Stand) → IsSearch leading m f →
+    IsHere m here s → IsForkOf leading first out s → IsSearch leading new (run_search out count s f) × IsHere new on (onward count s)) →
     IfOk r (λ on. (s : plain.Stand) (f : Search) → IsSearch (leading_of task) m f → IsHere m here s → GoesOn task (TakesUp s f) new on)
 past_run task m new test here count (Err e) over run keeps = tt
-past_run task m new test here count (Ok on) (first, (second, (head, body, back))) run keeps = λ s f h stands.
-    let kept = keeps (leading_of task) f s first second h stands (fork_of task here first second test head body back s stands.at) in
+past_run task m new test here count (Ok on) over run keeps = λ s f h stands.
+    let loop = over s stands in
+    let first = loop.0 in
+    let out = loop.1.0 in
+    let forks = loop.1.1.0 in
+    let body = loop.1.1.2 in
+    let kept = keeps (leading_of task) f s first out h stands forks in
     let place = stands.place in
-    let steps = run_on task here first second test head body back s stands.at count f
+    let steps = run_on task here first out test body.0 body.1 s stands.at forks loop.1.1.1 count f
     (λ k below.
     subst (λ i. past_char (task.text).now (passes (task.text).now task.unicode (test_of test)) i ≡ Some (i + 1)) {x = here.place + k}
     (ap (λ i. i + k) place) (run (here.place + k) (omega arith) (omega (arith, below))).passes)
@@ -196,7 +256,33 @@ past_run task m new test here count (Ok on) (first, (second, (head, body, back))
     (run (here.place + k) (omega arith) (omega (arith, below))).free (onward k s) f.failed
     (onward_stands m.log.entries.items (length m.log.entries.items) here s (here.place + k) k (ap (λ i. i + k) place) stands) h.failed)
     in
-    (steps.0, (run_search second count s f, (onward count s, (steps.1, kept.0, kept.1))))
+    (steps.0, (run_search out count s f, (onward count s, (steps.1, kept.0, kept.1))))
+
+counted_at : (task : Task) (at : ℕ) (p : Point) → slice_get (task.points).now at ≡ Some p → plain.is_counted (Some (point_of p)) ≡ true →
+    plain.is_counted (slice_get (map point_of (task.points).now) at) ≡ true
+counted_at task at p there counts =
+    ap plain.is_counted (slice_get-map point_of (task.points).now at ∙ ap (option_map point_of) there) ∙ counts
+
+pub fork_runs : (task : Task) (m : Memo) (here : Stand) (test : CharTest) (first second : ℕ) →
+    slice_get (task.points).now here.at ≡ Some (point.Fork first second) → IsBody (task.points).now here.at first test → RunsOver task m here test
+fork_runs task m here test first second head body = λ s stands.
+    (first, (goes_to second, (fork_of task here first second head s stands.at, counted_at task here.at _ head refl, body)))
+
+pub head_runs : (task : Task) (m : Memo) (here : Stand) (test : CharTest) (loop : code.Loop) (after : ℕ) →
+    slice_get (task.points).now here.at ≡ Some (point.Head loop after) →
+    ((s : plain.Stand) → IsHere m here s → Repeats (loop_of loop) s.turns) → IsBody (task.points).now here.at (here.at + 1) test →
+    RunsOver task m here test
+head_runs task m here test loop after head repeats body = λ s stands.
+    let on = head_of task here loop after head s stands.at (repeats s stands) in
+    (here.at + 1, (on.0, (on.1, counted_at task here.at _ head refl, body)))
+
+pub body_read : (task : Task) (head first : ℕ) (test : CharTest) → IsTask task → IsBody (task.points).now head first test →
+    IsReadBy task.unicode test
+body_read task head first test read body = read first (point.Take test) body.0
+
+pub some_then : {A : Type 0} {P Q : A → Type 0} (o : Option A) → ((x : A) → P x → Q x) → IfSome o P → IfSome o Q
+some_then None f h = tt
+some_then (Some x) f h = f x h
 
 -- ---- where a run goes on
 
@@ -237,6 +323,17 @@ pub free_outside : (m : Memo) (here : Stand) → here.turns ≡ 0 → has_pair m
 free_outside m here none free s failed stands have =
     sym (have (pair_of s)) ∙ ap (has_pair m.failed) (sym (key_outside m here s stands none)) ∙ free
 
+-- the same inside one iteration
+pub free_inside : (m : Memo) (here : Stand) (turn : Turn) (outer : ℕ) (numbers : List ℕ) → outer ≡ 0 →
+    ((s : plain.Stand) → here.at ≡ s.at → here.place ≡ s.place → turn_of turn ∷ [] ≡ s.turns → numbers ≡ key_of (pair_of s)) →
+    ((turns : List plain.Turn) → HasTurns m.log.entries.items here.turns turns →
+    EndsTurns m.log.entries.items here.turns turns (Some (turn, outer))) →
+    has_pair m.failed numbers ≡ false →
+    (s : plain.Stand) (failed : plain.Pair → Bool) → IsHere m here s → HaveFailed m failed → failed (pair_of s) ≡ false
+free_inside m here turn outer numbers none are ends free s failed stands have =
+    sym (have (pair_of s))
+    ∙ ap (has_pair m.failed) (sym (are s stands.at stands.place (inside m here turn outer s none stands (ends s.turns stands.turns)))) ∙ free
+
 -- ---- ways out of a loop that fail at once
 
 -- a test that no character passes
@@ -276,22 +373,62 @@ group_ends task g at place there fails s f e p = go s.opened refl
         let on = fails (record (plain.forward s) { opened = opened; spans = (g, (from, s.place)) ∷ s.spans }) f (ap (λ k. k + 1) e) p in
         (suc on.0, (on.1.0, ap (after_steps_of task on.0) (step (from ∷ opened) is) ∙ on.1.1))
 
+pub lost_fork : (task : Task) (at place first second : ℕ) → slice_get (task.points).now at ≡ Some (point.Fork first second) →
+    FailsFrom task second place → IsLostAt task at place
+lost_fork task at place first second there fails = λ s one other is_noted e p lead.
+    let here : Stand = record { at = at; place = place; turns = 0; opened = 0 } in
+    let same = same_tries is_noted true one other (goes_to first s) (goes_to second s)
+    (sym lead ∙ leads_by task (point.Fork first second) here s (sym e) there) in
+    (same.0, ap (λ x. x.place) same.1 ∙ p, subst (λ k. FailsFrom task k place) (sym (ap (λ x. x.at) same.1)) fails)
+
+-- where a loop's head has another way on, it is the way out or into the loop
+head_tries : (loop : points.Loop) (after : ℕ) (s one other : plain.Stand) (is_noted : Bool) (turns : List plain.Turn) →
+    plain.head_lead loop after s turns ≡ plain.Tries is_noted one (other ∷ []) →
+    (is_noted ≡ true) × (other.place ≡ s.place) × (other.at ≡ (if loop.greedy then after else s.at + 1))
+head_tries loop after s one other is_noted [] e = absurd (let no : ⊥ = cc in no)
+head_tries loop after s one other is_noted (t ∷ around) e = go (plain.is_over loop s.place t) (nat_lt t.count loop.lo) loop.greedy e
+  where
+    on : plain.Stand
+    on = record (plain.forward s) { turns = plain.next_turn loop s.place t ∷ around }
+
+    off : plain.Stand
+    off = record (goes_to after s) { turns = around }
+
+    go : (over few greedy : Bool) →
+        (if over then plain.Tries true off [] else if few then plain.Tries true on [] else plain.choice_lead greedy on off)
+        ≡ plain.Tries is_noted one (other ∷ []) →
+        (is_noted ≡ true) × (other.place ≡ s.place) × (other.at ≡ (if greedy then after else s.at + 1))
+    go true few greedy e = absurd (let no : ⊥ = cc in no)
+    go false true greedy e = absurd (let no : ⊥ = cc in no)
+    go false false true e =
+        let same = same_tries is_noted true one other on off (sym e) in
+        (same.0, ap (λ x. x.place) same.1, ap (λ x. x.at) same.1)
+    go false false false e =
+        let same = same_tries is_noted true one other off on (sym e) in
+        (same.0, ap (λ x. x.place) same.1, ap (λ x. x.at) same.1)
+
+pub lost_head : (task : Task) (at place : ℕ) (loop : code.Loop) (after : ℕ) → slice_get (task.points).now at ≡ Some (point.Head loop after) →
+    FailsFrom task (if loop.greedy then after else at + 1) place → IsLostAt task at place
+lost_head task at place loop after there fails = λ s one other is_noted e p lead.
+    let here : Stand = record { at = at; place = place; turns = 0; opened = 0 } in
+    let tries = head_tries (loop_of loop) after s one other is_noted s.turns (sym (leads_by task (point.Head loop after) here s (sym e) there) ∙ lead) in
+    (tries.0, tries.1 ∙ p,
+    subst (λ k. FailsFrom task k place) (sym (tries.2 ∙ ap (λ k. if loop.greedy then after else k + 1) e)) fails)
+
 -- the last choice is at the head of a loop whose other way on fails: its pair is noted
 pub back_lost : (task : Task) (next : plain.Next) (steps : ℕ) (f : Search) (here : Stand) (s : plain.Stand) (rest : List Later) →
     after_steps_of task steps next ≡ plain.TakesBack f → here.at ≡ s.at → here.place ≡ s.place → IsLostAt task here.at here.place →
     Keeps true (leading_of task s) s rest f.later →
     (k : ℕ) × ((n : ℕ) × (after_steps_of task k next
     ≡ plain.TakesBack (plain.with_failed (pair_of s) (record f { later = rest; visits = f.visits + n }))))
-back_lost task next steps f here s rest back at place (first, (second, (there, fails))) (is_noted, (one, (other, (lead, later)))) =
-    let same = same_tries is_noted true one other (goes_to first s) (goes_to second s)
-    (sym lead ∙ leads_by task (point.Fork first second) here s at there) in
-    let kept : f.later ≡ plain.Other (goes_to second s) ∷ plain.Fails (pair_of s) ∷ rest =
-    later ∙ ap₂ (λ b t. plain.Other t ∷ (fails_of b s ++ rest)) same.0 same.1 in
+back_lost task next steps f here s rest back at place lost (is_noted, (one, (other, (lead, later)))) =
+    let is = lost s one other is_noted (sym at) (sym place) lead in
+    let kept : f.later ≡ plain.Other other ∷ plain.Fails (pair_of s) ∷ rest = later ∙ ap (λ b. plain.Other other ∷ (fails_of b s ++ rest)) is.0 in
     let g : Search = record f { later = plain.Fails (pair_of s) ∷ rest } in
     let up = one_more task steps next (plain.TakesBack f) back ∙ ap (λ l. plain.back_to l f) kept in
-    let lost = fails (goes_to second s) g refl (sym place) in
-    let gone = steps_then task (suc steps) lost.0 next (TakesUp (goes_to second s) g) up ∙ lost.1.1 in
-    (suc (suc steps + lost.0), (lost.1.0, one_more task (suc steps + lost.0) next _ gone))
+    let fails = is.2 other g refl is.1 in
+    let gone = steps_then task (suc steps) fails.0 next (TakesUp other g) up ∙ fails.1.1 in
+    (suc (suc steps + fails.0), (fails.1.0, one_more task (suc steps + fails.0) next _ gone))
 
 -- the last choice has no way left: its pair is noted
 pub back_gone : (task : Task) (next : plain.Next) (steps : ℕ) (f : Search) (here : Stand) (s : plain.Stand) (rest : List Later) →

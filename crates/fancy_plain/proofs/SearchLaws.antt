@@ -202,6 +202,16 @@ key_outside m s t h none = go t.turns (h.turns)
     go [] has = ap₂ (λ at place. at ∷ place ∷ []) h.at h.place
     go (u ∷ us) (k, (outer, (e, is, rest))) = absurd (omega (arith, none, e))
 
+-- the iterations of a stand inside one alone
+pub inside : (m : Memo) (s : Stand) (turn : Turn) (outer : ℕ) (t : plain.Stand) → outer ≡ 0 → IsHere m s t →
+    EndsTurns m.log.entries.items s.turns t.turns (Some (turn, outer)) → turn_of turn ∷ [] ≡ t.turns
+inside m s turn outer t none h ends = go t.turns ends
+  where
+    go : (turns : List plain.Turn) → EndsTurns m.log.entries.items s.turns turns (Some (turn, outer)) → turn_of turn ∷ [] ≡ turns
+    go [] e = absurd e
+    go (u ∷ []) e = ap (λ x. x ∷ []) e.0
+    go (u ∷ v ∷ vs) (is, below, (k, (further, (link, at, rest)))) = absurd (omega (arith, none, link))
+
 -- one more pair has no way
 pub noted : (old new : Failed) (f : plain.Search) (k : List ℕ) (p : plain.Pair) → k ≡ key_of p →
     ((n : List ℕ) → has_pair new n ≡ (same_numbers n k || has_pair old n)) →

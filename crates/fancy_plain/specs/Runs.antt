@@ -1,41 +1,53 @@
 -- A loop over one character, many iterations at once.
-use Rattle.std.specs.Prelude.{◌≡◌, ◌≤◌, ◌<◌, ◌+◌, ◌*◌, ℕ, zero, suc, Bool, true, false, List, [], ◌∷◌, Some, None, slice_get}
+use Rattle.std.specs.Prelude.{◌≡◌, ◌≤◌, ◌<◌, ◌+◌, ◌*◌, ℕ, zero, suc, Bool, true, false, List, [], ◌∷◌, Some, None, map, slice_get}
 use Rattle.fancy_meaning.specs.Moves.{past_char}
 use Rattle.fancy_points.specs.PointSearch as plain
-use Rattle.fancy_points.specs.PointSearch.{Later, Other, Fails, Next, Pair, Search, TakesBack, TakesUp, goes_to, pair_of, passes}
+use Rattle.fancy_points.specs.PointSearch.{Later, Other, Fails, Next, Pair, Search, TakesBack, TakesUp, Turn, goes_to, is_counted, pair_of, passes}
+use Rattle.fancy_points.specs.Points.{Loop}
 use Rattle.fancy_plain.specs.declared.log.Stand.{Stand}
-use Rattle.fancy_plain.specs.declared.point.CharTest.{CharTest}
 use Rattle.fancy_plain.specs.declared.point.Point.{Point}
+use Rattle.fancy_plain.specs.declared.point.CharTest.{CharTest}
 use Rattle.fancy_plain.specs.declared.point.Point.TheVariants as point
 use Rattle.fancy_plain.specs.declared.search.Memo.{Memo}
 use Rattle.fancy_plain.specs.declared.search.Task.{Task}
 use Rattle.fancy_plain.specs.Searches.{HaveFailed, IsHere, IsSearch, Leading, after_steps_of, leading_of}
-use Rattle.fancy_plain.specs.Views.{test_of}
+use Rattle.fancy_plain.specs.Views.{point_of, test_of}
 
 -- the same stand so many bytes on
 abbrev pub onward : ℕ → plain.Stand → plain.Stand
 onward n s = record s { place = s.place + n }
 
--- wherever the stand is, it goes on at the first, and later at the second, if its pair may have a way
-abbrev pub IsForkOf : Leading → (first second : ℕ) → plain.Stand → Type 0
-IsForkOf leading first second s =
-    (n : ℕ) → leading (onward n s) ≡ plain.Tries true (goes_to first (onward n s)) (goes_to second (onward n s) ∷ [])
+-- wherever the stand is, it goes on at the first point, and later by the way out, if its pair may have a way
+abbrev pub IsForkOf : Leading → (first : ℕ) → (out : plain.Stand → plain.Stand) → plain.Stand → Type 0
+IsForkOf leading first out s =
+    (n : ℕ) → leading (onward n s) ≡ plain.Tries true (goes_to first (onward n s)) (out (onward n s) ∷ [])
 
 -- behind n iterations the way out of the loop is tried later at each place, the last one first
-abbrev pub run_later : (second : ℕ) → ℕ → plain.Stand → List Later → List Later
-run_later second zero s later = later
-run_later second (suc n) s later =
-    Other (goes_to second (onward n s)) ∷ Fails (pair_of (onward n s)) ∷ run_later second n s later
+abbrev pub run_later : (out : plain.Stand → plain.Stand) → ℕ → plain.Stand → List Later → List Later
+run_later out zero s later = later
+run_later out (suc n) s later = Other (out (onward n s)) ∷ Fails (pair_of (onward n s)) ∷ run_later out n s later
 
 -- each takes up the head and the character
-abbrev pub run_search : (second : ℕ) → ℕ → plain.Stand → Search → Search
-run_search second n s f = record f { later = run_later second n s f.later; visits = f.visits + 2 * n }
+abbrev pub run_search : (out : plain.Stand → plain.Stand) → ℕ → plain.Stand → Search → Search
+run_search out n s f = record f { later = run_later out n s f.later; visits = f.visits + 2 * n }
 
--- the point is the head of a loop whose body is this test
-abbrev pub IsLoopOver : List Point → (at : ℕ) → CharTest → Type 0
-IsLoopOver points at test =
-    (first : ℕ) × ((second : ℕ) × ((slice_get points at ≡ Some (point.Fork first second))
-    × (slice_get points first ≡ Some (point.Take test)) × (slice_get points (first + 1) ≡ Some (point.Jump at))))
+-- past `lo` in a loop without a bound, which goes on first: each iteration from here on is like the one here
+abbrev pub Repeats : Loop → List Turn → Type 0
+Repeats loop [] = ⊥
+Repeats loop (t ∷ turns) =
+    (loop.greedy ≡ true) × (loop.hi ≡ None) × (loop.asks_moved ≡ false) × (t ≡ record { count = loop.lo; since = None })
+
+-- the test at this point is the body of the loop with this head
+abbrev pub IsBody : List Point → (head first : ℕ) → CharTest → Type 0
+IsBody points head first test =
+    (slice_get points first ≡ Some (point.Take test)) × (slice_get points (first + 1) ≡ Some (point.Jump head))
+
+-- the stand is at the head of a loop whose body is this test, and whose way on comes before the way out
+abbrev pub RunsOver : Task → Memo → Stand → CharTest → Type 0
+RunsOver t m here test =
+    (s : plain.Stand) → IsHere m here s →
+    (first : ℕ) × ((out : plain.Stand → plain.Stand) × (IsForkOf (leading_of t) first out s
+    × (is_counted (slice_get (map point_of (t.points).now) here.at) ≡ true) × IsBody (t.points).now here.at first test))
 
 -- a character of one byte stands here and passes, and the head may have a way
 pub record CanPass (t : Task) (m : Memo) (test : CharTest) (here : Stand) (i : ℕ) : Type 0 where
@@ -65,7 +77,8 @@ FailsFrom t at place =
     (s : plain.Stand) (f : Search) → s.at ≡ at → s.place ≡ place →
     (steps : ℕ) × ((n : ℕ) × (after_steps_of t steps (TakesUp s f) ≡ TakesBack (record f { visits = f.visits + n })))
 
--- the point is the head of a loop, and its other way on fails so
+-- where the point is the head of a loop, its other way on fails so
 abbrev pub IsLostAt : Task → (at place : ℕ) → Type 0
 IsLostAt t at place =
-    (first : ℕ) × ((second : ℕ) × ((slice_get (t.points).now at ≡ Some (point.Fork first second)) × FailsFrom t second place))
+    (s one other : plain.Stand) (is_noted : Bool) → s.at ≡ at → s.place ≡ place → leading_of t s ≡ plain.Tries is_noted one (other ∷ []) →
+    (is_noted ≡ true) × (other.place ≡ place) × FailsFrom t other.at place

@@ -4,7 +4,7 @@ ghost use Rattle.std.specs.Prelude.{◌≡◌, ◌≤◌, ◌+◌, IsTrue, IfOk,
 ghost use Rattle.fancy_points.specs.PointSearch as plain;
 ghost use Rattle.fancy_points.specs.PointSearch.{Search, TakesUp};
 ghost use Rattle.fancy_plain.specs.Views.{IsReadBy};
-ghost use Rattle.fancy_plain.specs.Runs.{FailsFrom, GoesOn, IsLoopOver, IsLostAt, IsRun, Refuses};
+ghost use Rattle.fancy_plain.specs.Runs.{FailsFrom, GoesOn, IsBody, IsLostAt, IsRun, Refuses, RunsOver};
 ghost use Rattle.fancy_plain.specs.Searches.{IsHere, IsSearch, IsTask, leading_of};
 
 use crate::log::Stand;
@@ -22,7 +22,7 @@ impl Task<'_> {
             → GoesOn self.now (TakesUp s f) m.new on) }
         ensures failed { m.new.failed ≡ m.old.failed }
     {
-        let Some(test) = self.body_test(stand.at) else {
+        let Some(test) = self.body_test(m, stand) else {
             return Ok(stand);
         };
         let count = self.run_length(m, test, stand);
@@ -32,21 +32,35 @@ impl Task<'_> {
         m.keep_run(stand, count)
     }
 
-    /// The test on a character that is the body of the loop whose head is here.
+    /// The test on a character that is the body of the loop whose head is here, where the way on into it comes first and
+    /// each iteration is like the others.
     #[inline(always)]
-    fn body_test(&self, at: usize) -> Option<&CharTest>
-        ensures { IfSome result (λ test. IsLoopOver self.now.points.now at test.now) }
+    fn body_test(&self, m: &Memo, stand: Stand) -> Option<&CharTest>
+        requires { IsTask self.now }
+        ensures runs { IfSome result (λ test. RunsOver self.now m.now stand test.now) }
+        ensures read { IfSome result (λ test. IsReadBy self.now.unicode test.now) }
     {
-        let Some(Point::Fork(first, _)) = self.points.get(at) else {
-            return None;
-        };
-        let Some(Point::Take(test)) = self.points.get(*first) else {
+        match self.points.get(stand.at) {
+            Some(Point::Fork(first, _)) => self.body_at(*first, stand.at),
+            Some(Point::Head { turns, .. }) if m.repeats(*turns, stand) => {
+                self.body_at(stand.at + 1, stand.at)
+            }
+            _ => None,
+        }
+    }
+
+    /// The test on a character that stands there, where it is the body of the loop with this head.
+    #[inline(always)]
+    fn body_at(&self, first: usize, head: usize) -> Option<&CharTest>
+        ensures { IfSome result (λ test. IsBody self.now.points.now head first test.now) }
+    {
+        let Some(Point::Take(test)) = self.points.get(first) else {
             return None;
         };
         let Some(Point::Jump(to)) = self.points.get(first.checked_add(1)?) else {
             return None;
         };
-        if *to == at { Some(test) } else { None }
+        if *to == head { Some(test) } else { None }
     }
 
     /// How many characters of ASCII from here on pass the test, up to a place where the head may have no way.
@@ -74,6 +88,10 @@ impl Task<'_> {
     {
         match self.points.get(stand.at) {
             Some(Point::Fork(_, second)) => self.fails_at(*second, stand.place),
+            Some(Point::Head { turns, after }) => {
+                let second = turns.second_way(stand.at, *after);
+                self.fails_at(second, stand.place)
+            }
             _ => false,
         }
     }

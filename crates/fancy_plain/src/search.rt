@@ -1,6 +1,6 @@
 //! The plain search: from point to point, with what is tried later on a stack.
 
-ghost use Rattle.std.specs.Prelude.{◌≡◌, ◌≤◌, ◌<◌, ◌+◌, ◌∷◌, ◌++◌, [], ℕ, List, Bool, Option, Some, None, min, true, false, length, map, slice_get, if◌then◌else◌, IfOk, IfErr};
+ghost use Rattle.std.specs.Prelude.{◌≡◌, ◌≤◌, ◌<◌, ◌+◌, ◌∷◌, ◌++◌, [], ℕ, List, Bool, Option, Some, None, min, true, false, length, map, slice_get, if◌then◌else◌, IfOk, IfErr, IsTrue};
 ghost use Rattle.fancy_points.specs.PointSearch as plain;
 ghost use Rattle.fancy_points.specs.PointSearch.{Next, Search, TakesBack, TakesUp, pair_of};
 ghost use Rattle.fancy_points.specs.Points as points;
@@ -8,7 +8,7 @@ ghost use Rattle.fancy_plain.specs.FailedPairs.{key_of, turn_numbers};
 ghost use Rattle.fancy_plain.specs.Paths.{HasTurns, turn_of};
 ghost use Rattle.fancy_plain.specs.Views.{loop_of, point_of, IsPointReadBy, IsReadBy, test_of};
 ghost use Rattle.fancy_plain.specs.Choices.{choices_of};
-ghost use Rattle.fancy_plain.specs.Runs.{IsForkOf, onward, run_search};
+ghost use Rattle.fancy_plain.specs.Runs.{IsForkOf, Repeats, onward, run_search};
 ghost use Rattle.fancy_plain.specs.Ways.{IsMemoOf};
 ghost use Rattle.fancy_plain.specs.Searches.{Advances, EndsAs, GoesBack, HaveFailed, IsHere, IsTask, TurnsBy, fails_before, leading_of, next_of, IsSearch, Keeps, Leading, Leads};
 
@@ -81,6 +81,14 @@ impl Loop {
         turn.since == Some(place) || (self.hi != usize::MAX && turn.count >= self.hi)
     }
 
+    /// Which way is the second one from a head here, where there are two: out of the loop or into it.
+    pub(crate) fn second_way(self, at: usize, after: usize) -> usize
+        requires { at < usize.MAX }
+        ensures { result ≡ (if self.greedy then after else at + 1) }
+    {
+        if self.greedy { after } else { at + 1 }
+    }
+
     /// The iteration that begins here. Past `lo` a loop without a bound counts no more.
     fn next_turn(self, turn: Turn, place: usize) -> Turn
         requires { plain.is_over (loop_of self) place (turn_of turn) ≡ false }
@@ -112,6 +120,15 @@ fn write_numbers(log: &Log, stand: Stand, numbers: &mut Vec<usize>) -> Result<()
     numbers.push(stand.at)?;
     numbers.push(stand.place)?;
     push_turns(log, stand, numbers)
+}
+
+/// The numbers of the pair of this stand, inside this iteration and no other.
+fn numbers_inside(stand: Stand, turn: Turn) -> [usize; 4]
+    ensures { (s : plain.Stand) → stand.at ≡ s.at → stand.place ≡ s.place
+        → turn_of turn ∷ [] ≡ s.turns → result ≡ key_of (pair_of s) }
+{
+    let has_stayed = turn.since == Some(stand.place);
+    [stand.at, stand.place, turn.count, has_stayed as usize]
 }
 
 /// Adds the numbers of the iterations around this stand.
@@ -198,11 +215,14 @@ impl Memo {
         if stand.turns == 0 {
             return Ok(self.failed.has_outside(stand.at, stand.place));
         }
+        if let Some((turn, 0)) = self.log.turn(stand.turns) {
+            return Ok(self.failed.has(&numbers_inside(stand, turn)));
+        }
         write_numbers(&self.log, stand, &mut self.numbers)?;
         Ok(self.failed.has(&self.numbers))
     }
 
-    /// Whether the pair of this stand may be known to have no way. Inside loops that count it may, once any pair is.
+    /// Whether the pair of this stand may be known to have no way. Inside two loops that count it may, once any pair is.
     #[inline(always)]
     pub(crate) fn may_have_failed(&self, stand: Stand) -> bool
         ensures { result ≡ false → (s : plain.Stand) (failed : plain.Pair → Bool)
@@ -211,7 +231,28 @@ impl Memo {
         if self.failed.is_empty() {
             return false;
         }
-        stand.turns != 0 || self.failed.has_outside(stand.at, stand.place)
+        if stand.turns == 0 {
+            return self.failed.has_outside(stand.at, stand.place);
+        }
+        match self.log.turn(stand.turns) {
+            Some((turn, 0)) => self.failed.has(&numbers_inside(stand, turn)),
+            _ => true,
+        }
+    }
+
+    /// At the head of this loop each iteration from here on is like the one here, and the way on into it comes first.
+    #[inline(always)]
+    pub(crate) fn repeats(&self, turns: Loop, stand: Stand) -> bool
+        ensures { IsTrue result → (s : plain.Stand) → IsHere self.now stand s
+            → Repeats (loop_of turns) s.turns }
+    {
+        if !turns.greedy || turns.asks_moved || turns.hi != usize::MAX {
+            return false;
+        }
+        match self.log.turn(stand.turns) {
+            Some((turn, _)) => turn.count == turns.lo && turn.since.is_none(),
+            None => false,
+        }
     }
 
     /// The pair of this stand has no way.
@@ -226,6 +267,9 @@ impl Memo {
     {
         if stand.turns == 0 {
             return self.failed.add(self.alloc, &[stand.at, stand.place]);
+        }
+        if let Some((turn, 0)) = self.log.turn(stand.turns) {
+            return self.failed.add(self.alloc, &numbers_inside(stand, turn));
         }
         write_numbers(&self.log, stand, &mut self.numbers)?;
         self.failed.add(self.alloc, &self.numbers)
@@ -255,9 +299,9 @@ impl Memo {
         requires some { 0 < count }
         requires fits { stand.place + count ≤ usize.MAX }
         ensures ok { IfOk result (λ on. (leading : Leading) (f : Search) (s : plain.Stand)
-            (first second : ℕ) → IsSearch leading self.old f → IsHere self.old stand s
-            → IsForkOf leading first second s
-            → IsSearch leading self.new (run_search second count s f)
+            (first : ℕ) (out : plain.Stand → plain.Stand) → IsSearch leading self.old f
+            → IsHere self.old stand s → IsForkOf leading first out s
+            → IsSearch leading self.new (run_search out count s f)
             × IsHere self.new on (onward count s)) }
         ensures rest { self.new
             ≡ record self.old { later = self.new.later; visits = self.new.visits } }
