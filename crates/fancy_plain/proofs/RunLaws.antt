@@ -411,9 +411,11 @@ pub lost_head : (task : Task) (at place : ℕ) (loop : code.Loop) (after : ℕ) 
     FailsFrom task (if loop.greedy then after else at + 1) place → IsLostAt task at place
 lost_head task at place loop after there fails = λ s one other is_noted e p lead.
     let here : Stand = record { at = at; place = place; turns = 0; opened = 0 } in
-    let tries = head_tries (loop_of loop) after s one other is_noted s.turns (sym (leads_by task (point.Head loop after) here s (sym e) there) ∙ lead) in
-    (tries.0, tries.1 ∙ p,
-    subst (λ k. FailsFrom task k place) (sym (tries.2 ∙ ap (λ k. if loop.greedy then after else k + 1) e)) fails)
+    let tries = head_tries (loop_of loop) after s one other is_noted s.turns (sym (leads_by task (point.Head loop after) here s (sym e) there) ∙ lead) in (
+      tries.0,
+      tries.1 ∙ p,
+      subst (λ k. FailsFrom task k place) (sym (tries.2 ∙ ap (λ k. if loop.greedy then after else k + 1) e)) fails,
+    )
 
 -- the last choice is at the head of a loop whose other way on fails: its pair is noted
 pub back_lost : (task : Task) (next : plain.Next) (steps : ℕ) (f : Search) (here : Stand) (s : plain.Stand) (rest : List Later) →
