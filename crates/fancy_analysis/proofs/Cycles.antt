@@ -32,7 +32,7 @@ module _ (links : List Link) where
         rest = inr (elim b.rest [ inl e ↦ subst (λ x. LeadsOn links x c) e q | inr on ↦ by_more on q ]);
       }
 
-  cycle_begins : (n : ℕ) → LeadsIntoCycle links n → (m : ℕ) × IsLinkedAtOnce links n m × LeadsIntoCycle links m
+  pub cycle_begins : (n : ℕ) → LeadsIntoCycle links n → (m : ℕ) × IsLinkedAtOnce links n m × LeadsIntoCycle links m
   cycle_begins n c =
       let from : LeadsOn links n c.on_cycle = elim c.leads [ inl e ↦ subst (λ x. LeadsOn links x c.on_cycle) e c.cycle | inr on ↦ on ] in
       let b = begins n c.on_cycle from in

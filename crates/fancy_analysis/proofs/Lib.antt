@@ -16,6 +16,7 @@ pub mod Members
 pub mod CallLinks
 pub mod Flags
 pub mod Cycles
+pub mod CallerCounts
 pub mod LinkRounds
 pub mod LeastNames
 pub mod CallRefusals

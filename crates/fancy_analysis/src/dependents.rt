@@ -104,8 +104,9 @@ fn list_named(
     Ok(())
 }
 
-fn no_lists(alloc: Global, count: usize) -> Result<Vec<Vec<usize>>, AllocError>
-    ensures { IfOk result (λ v. length v.items ≡ count) }
+pub fn no_lists(alloc: Global, count: usize) -> Result<Vec<Vec<usize>>, AllocError>
+    ensures length { IfOk result (λ v. length v.items ≡ count) }
+    ensures none { IfOk result (λ v. All (λ list. list.items ≡ []) v.items) }
 {
     let mut lists = Vec::new(alloc);
     for i in 0..count {

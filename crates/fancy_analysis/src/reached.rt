@@ -1,6 +1,7 @@
 //! The targets that links reach, and those that lead into a cycle, as sets of flags.
 
-ghost use Rattle.std.specs.Prelude.{◌≡◌, ◌<◌, ◌≤◌, ◌↔◌, ◌&&◌, ◌⊎◌, ℕ, Bool, All, IfOk, IsFalse, IsTrue, MatchBool, MatchOption, length, true};
+ghost use Rattle.std.specs.Prelude.{◌≡◌, ◌<◌, ◌≤◌, ◌↔◌, ℕ, All, IfOk, IsFalse, IsTrue, MatchBool, MatchOption, false, length, true};
+ghost use Rattle.fancy_analysis.specs.Callers.{count_at};
 ghost use Rattle.fancy_analysis.specs.Reached.{
   AreReached,
   HasRoom,
@@ -9,13 +10,12 @@ ghost use Rattle.fancy_analysis.specs.Reached.{
   LeadsOut,
   LeadIntoCycles,
   LeadsIntoCycle,
-  LeadsToSet,
   StaysWithin,
   flag,
-  set_count,
   unset_count,
 };
 
+use crate::callers::counts_into_cycles;
 use crate::links::Link;
 use std::alloc::{AllocError, Global};
 
@@ -28,27 +28,27 @@ fn is_set(flags: &[bool], number: usize) -> bool
     }
 }
 
-/// Adds flags up to that of a number.
-fn add_flags(flags: &mut Vec<bool>, number: usize, value: bool) -> Result<(), AllocError>
+/// Adds clear flags up to that of a number.
+fn add_flags(flags: &mut Vec<bool>, number: usize) -> Result<(), AllocError>
     ensures room { IfOk result (λ _. number < length flags.new.items) }
     ensures more { length flags.old.items ≤ length flags.new.items }
-    ensures same { All (λ b. b ≡ value) flags.old.items → All (λ b. b ≡ value) flags.new.items }
+    ensures clear { All (λ b. b ≡ false) flags.old.items → All (λ b. b ≡ false) flags.new.items }
 {
     while flags.len() <= number {
-        flags.push(value)?;
+        flags.push(false)?;
     }
     Ok(())
 }
 
-/// A flag for 0 and for each number from which a link leads, and for all below.
-fn flags_for(alloc: Global, links: &[Link], value: bool) -> Result<Vec<bool>, AllocError>
+/// A clear flag for 0 and for each number from which a link leads, and for all below.
+fn flags_for(alloc: Global, links: &[Link]) -> Result<Vec<bool>, AllocError>
     ensures room { IfOk result (λ v. HasRoom links.now v.items) }
-    ensures same { IfOk result (λ v. All (λ b. b ≡ value) v.items) }
+    ensures clear { IfOk result (λ v. All (λ b. b ≡ false) v.items) }
 {
     let mut flags = Vec::new(alloc);
-    flags.push(value)?;
+    flags.push(false)?;
     for link in links {
-        add_flags(&mut flags, link.from, value)?;
+        add_flags(&mut flags, link.from)?;
     }
     Ok(flags)
 }
@@ -82,66 +82,38 @@ fn reach_on(flags: &mut [bool], links: &[Link]) -> bool
 pub fn reached(alloc: Global, links: &[Link]) -> Result<Vec<bool>, AllocError>
     ensures { IfOk result (λ v. AreReached links.now v.items) }
 {
-    let mut flags = flags_for(alloc, links, false)?;
+    let mut flags = flags_for(alloc, links)?;
     flags[0] = true;
     while reach_on(&mut flags, links) {}
     Ok(flags)
 }
 
-fn leads_to_set(flags: &[bool], link: Link) -> bool
-    ensures { result ≡ (link.at_once && flag flags.now link.to) }
+fn is_counted(counts: &[usize], number: usize) -> bool
+    ensures { IsTrue result ↔ (0 < count_at counts.now number) }
 {
-    link.at_once && is_set(flags, link.to)
-}
-
-/// Those from which a link at once leads to one that is set.
-fn lead_to_set(alloc: Global, flags: &[bool], links: &[Link]) -> Result<Vec<bool>, AllocError>
-    ensures { IfOk result (λ v. (n : ℕ) →
-        (flag v.items n ≡ true) ↔ LeadsToSet links.now flags.now n) }
-{
-    let mut leads = flags_for(alloc, links, false)?;
-    for link in links {
-        if leads_to_set(flags, *link) {
-            leads[link.from] = true;
-        }
+    match counts.get(number) {
+        Some(count) => *count > 0,
+        None => false,
     }
-    Ok(leads)
 }
 
-/// Clears the flags of all that are not set in the other, and says whether one was cleared.
-fn clear_others(flags: &mut [bool], kept: &[bool]) -> bool
-    ensures each { (n : ℕ) → flag flags.new n ≡ (flag flags.old n && flag kept.now n) }
-    ensures shrunk { IsTrue result → set_count flags.new < set_count flags.old }
-    ensures done { IsFalse result → flags.new ≡ flags.old }
+/// Sets the flags of all that have a count, and clears the others.
+fn flag_counted(counts: &[usize], flags: &mut [bool])
+    ensures { (n : ℕ) → (flag flags.new n ≡ true) ↔
+        ((n < length flags.old) × (0 < count_at counts.now n)) }
 {
-    let mut has_shrunk = false;
     for i in 0..flags.len() {
-        if flags[i] && !is_set(kept, i) {
-            flags[i] = false;
-            has_shrunk = true;
-        }
+        flags[i] = is_counted(counts, i);
     }
-    has_shrunk
-}
-
-/// Clears the flags of all from which no link at once leads to one that is set, and says whether one was cleared.
-fn thin_out(alloc: Global, flags: &mut [bool], links: &[Link]) -> Result<bool, AllocError>
-    ensures kept { (n : ℕ) → flag flags.old n ≡ true → LeadsToSet links.now flags.old n →
-        flag flags.new n ≡ true }
-    ensures shrunk { IfOk result (λ b. IsTrue b → set_count flags.new < set_count flags.old) }
-    ensures done { IfOk result (λ b. IsFalse b → (n : ℕ) → flag flags.new n ≡ true →
-        LeadsToSet links.now flags.new n) }
-{
-    let leads = lead_to_set(alloc, flags, links)?;
-    Ok(clear_others(flags, &leads))
 }
 
 /// From which targets links at once lead into a cycle.
 pub fn into_cycles(alloc: Global, links: &[Link]) -> Result<Vec<bool>, AllocError>
     ensures { IfOk result (λ v. LeadIntoCycles links.now v.items) }
 {
-    let mut flags = flags_for(alloc, links, true)?;
-    while thin_out(alloc, &mut flags, links)? {}
+    let mut flags = flags_for(alloc, links)?;
+    let counts = counts_into_cycles(alloc, links, flags.len())?;
+    flag_counted(&counts, &mut flags);
     Ok(flags)
 }
 

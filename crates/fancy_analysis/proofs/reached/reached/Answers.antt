@@ -4,7 +4,7 @@ use Rattle.fancy_analysis.proofs.LinkRounds.{written_back, only_whole, room_kept
 use Rattle.fancy_analysis.proofs.reached.reached.Goals as goal
 
 pub loop-init : goal.loop-init
-loop-init c = only_whole c.args.links.now c.in_ok-flags.flags.items c.in_ok-flags.ensures.room c.in_ok-flags.ensures.same
+loop-init c = only_whole c.args.links.now c.in_ok-flags.flags.items c.in_ok-flags.ensures.room c.in_ok-flags.ensures.clear
 
 pub returns : goal.returns
 returns c =
