@@ -9,8 +9,9 @@ use Rattle.std.proofs.lemmas.List.Sums.{sum_by-cons, sum_by_push, sum_by-set}
 use Rattle.fancy_analysis.specs.declared.links.Link.{Link}
 use Rattle.fancy_analysis.specs.Callers.{AreAllListed, AreCounted, AreLeft, IsListedLink, count_at, listed_count, total_count}
 use Rattle.fancy_analysis.specs.Dependents.{KeepsLists, listed}
-use Rattle.fancy_analysis.specs.Reached.{IsLinkedAtOnce, LeadsIntoCycle, LeadsToSet, flag}
-use Rattle.fancy_analysis.proofs.Cycles.{cycle_begins, leads_into_cycle}
+use Rattle.fancy_analysis.specs.Reached.{IsLinkedAtOnce, LeadsIntoCycle, flag}
+use Rattle.fancy_analysis.proofs.Cycles.{LeadsToSet, cycle_begins, leads_into_cycle}
+use Rattle.fancy_analysis.proofs.ListedTargets.{listed_none}
 use Rattle.fancy_analysis.proofs.Members.{contains_cases, contains_first, contains_later}
 
 abbrev Lists : Type 0
@@ -364,14 +365,9 @@ pub counted_first : (links : List Link) (lists : Lists) (numbers : ℕ) → leng
     AreCounted links lists (replicate numbers 0)
 counted_first links lists numbers long none = record {
   length = length-replicate numbers 0 ∙ sym long;
-  only = λ n m there. absurd (none_in m (subst (λ xs. Contains xs m) (empty lists none n) there));
+  only = λ n m there. absurd (none_in m (subst (λ xs. Contains xs m) (listed_none lists none n) there));
   each = λ n. zeros numbers n ∙ sym (uncounted lists none n);
 } where
-  empty : (lists : Lists) → All (λ list. list.items ≡ []) lists → (n : ℕ) → listed lists n ≡ []
-  empty [] all n = refl
-  empty (v ∷ lists) all zero = All-head (λ list. list.items ≡ []) v lists all
-  empty (v ∷ lists) all (suc n) = empty lists (All-tail (λ list. list.items ≡ []) v lists all) n
-
   uncounted : (lists : Lists) → All (λ list. list.items ≡ []) lists → (n : ℕ) → listed_count lists n ≡ 0
   uncounted [] all n = refl
   uncounted (v ∷ lists) all n =

@@ -17,7 +17,7 @@ pub mod CallLinks
 pub mod Flags
 pub mod Cycles
 pub mod CallerCounts
-pub mod LinkRounds
+pub mod LinkFlags
 pub mod LeastNames
 pub mod CallRefusals
 pub mod WholeNodes

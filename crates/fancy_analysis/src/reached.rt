@@ -1,21 +1,21 @@
 //! The targets that links reach, and those that lead into a cycle, as sets of flags.
 
-ghost use Rattle.std.specs.Prelude.{◌≡◌, ◌<◌, ◌≤◌, ◌↔◌, ℕ, All, IfOk, IsFalse, IsTrue, MatchBool, MatchOption, false, length, true};
+ghost use Rattle.std.specs.Prelude.{◌≡◌, ◌<◌, ◌≤◌, ◌↔◌, ◌∷◌, ℕ, [], All, IfOk, IsTrue, MatchOption, false, length, true};
 ghost use Rattle.fancy_analysis.specs.Callers.{count_at};
 ghost use Rattle.fancy_analysis.specs.Reached.{
   AreReached,
+  AreWays,
   HasRoom,
   IsLeastIntoCycle,
   IsReached,
-  LeadsOut,
   LeadIntoCycles,
   LeadsIntoCycle,
-  StaysWithin,
+  Reaches,
   flag,
-  unset_count,
 };
 
 use crate::callers::counts_into_cycles;
+use crate::dependents::{list_under, no_lists};
 use crate::links::Link;
 use std::alloc::{AllocError, Global};
 
@@ -53,29 +53,40 @@ fn flags_for(alloc: Global, links: &[Link]) -> Result<Vec<bool>, AllocError>
     Ok(flags)
 }
 
-/// Whether a link leads from a number that is set to one that is not.
-fn leads_out(flags: &[bool], link: Link) -> bool
-    ensures { MatchBool result (LeadsOut flags.now link) (StaysWithin flags.now link) }
+/// Under each of so many numbers, to where links lead from it.
+fn ways(alloc: Global, links: &[Link], numbers: usize) -> Result<Vec<Vec<usize>>, AllocError>
+    requires { All (λ link. link.from < numbers) links.now }
+    ensures length { IfOk result (λ v. length v.items ≡ numbers) }
+    ensures ways { IfOk result (λ v. AreWays links.now v.items) }
 {
-    is_set(flags, link.from) && link.to < flags.len() && !is_set(flags, link.to)
+    let mut ways = no_lists(alloc, numbers)?;
+    for link in links {
+        list_under(&mut ways, link.from, link.to)?;
+    }
+    Ok(ways)
 }
 
-/// Sets the flags of all to which links lead from what is set, and says whether one was set.
-fn reach_on(flags: &mut [bool], links: &[Link]) -> bool
-    ensures kept { (n : ℕ) → flag flags.old n ≡ true → flag flags.new n ≡ true }
-    ensures only { ((n : ℕ) → flag flags.old n ≡ true → IsReached links.now n) → (n : ℕ) →
-        flag flags.new n ≡ true → IsReached links.now n }
-    ensures grown { IsTrue result → unset_count flags.new < unset_count flags.old }
-    ensures done { IsFalse result → All (StaysWithin flags.new) links.now }
+/// Sets the flag of a number, if it has one, and adds the number if its flag was clear.
+fn reach(number: usize, flags: &mut [bool], next: &mut Vec<usize>) -> Result<(), AllocError>
+    ensures { IfOk result (λ _. Reaches (number ∷ []) flags.old flags.new next.old.items
+        next.new.items) }
 {
-    let mut has_grown = false;
-    for link in links {
-        if leads_out(flags, *link) {
-            flags[link.to] = true;
-            has_grown = true;
-        }
+    if number < flags.len() && !flags[number] {
+        flags[number] = true;
+        next.push(number)?;
     }
-    has_grown
+    Ok(())
+}
+
+/// The same for each of these numbers.
+fn reach_all(numbers: &[usize], flags: &mut [bool], next: &mut Vec<usize>) -> Result<(), AllocError>
+    ensures { IfOk result (λ _. Reaches numbers.now flags.old flags.new next.old.items
+        next.new.items) }
+{
+    for number in numbers {
+        reach(*number, flags, next)?;
+    }
+    Ok(())
 }
 
 /// Which targets are reached from the whole tree.
@@ -83,8 +94,12 @@ pub fn reached(alloc: Global, links: &[Link]) -> Result<Vec<bool>, AllocError>
     ensures { IfOk result (λ v. AreReached links.now v.items) }
 {
     let mut flags = flags_for(alloc, links)?;
-    flags[0] = true;
-    while reach_on(&mut flags, links) {}
+    let ways = ways(alloc, links, flags.len())?;
+    let mut next = Vec::new(alloc);
+    reach(0, &mut flags, &mut next)?;
+    while let Some(number) = next.pop() {
+        reach_all(&ways[number], &mut flags, &mut next)?;
+    }
     Ok(flags)
 }
 

@@ -2,7 +2,7 @@ use Rattle.std.proofs.Common.{◌≡◌, ◌<◌, ◌∷◌, ◌++◌, [], take,
 use Rattle.std.proofs.lemmas.List.Elements.{Contains-push}
 use Rattle.fancy_analysis.specs.Callers.{AreCounted, AreLeft}
 use Rattle.fancy_analysis.proofs.CallerCounts.{AreUncounted, counted_first, left_first, left_into_cycles, left_next, no_more}
-use Rattle.fancy_analysis.proofs.LinkRounds.{written_back}
+use Rattle.fancy_analysis.proofs.LinkFlags.{written_back}
 use Rattle.fancy_analysis.proofs.callers.counts_into_cycles.Goals as goal
 
 pub add_callers-requires-clause-none : goal.add_callers-requires-clause-none

@@ -1,5 +1,5 @@
 use Rattle.std.proofs.Common.{arith}
-use Rattle.fancy_analysis.proofs.LinkRounds.{flagged_all, flagged_more}
+use Rattle.fancy_analysis.proofs.LinkFlags.{flagged_all, flagged_more}
 use Rattle.fancy_analysis.proofs.reached.flag_counted.Goals as goal
 
 pub loop-i-preserved : goal.loop-i-preserved

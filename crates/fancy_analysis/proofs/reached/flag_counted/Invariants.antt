@@ -1,4 +1,4 @@
-use Rattle.fancy_analysis.proofs.LinkRounds.{AreFlagged}
+use Rattle.fancy_analysis.proofs.LinkFlags.{AreFlagged}
 use Rattle.fancy_analysis.proofs.reached.flag_counted.Given as goal
 
 abbrev pub invariant-loop-i : goal.invariant-loop-i

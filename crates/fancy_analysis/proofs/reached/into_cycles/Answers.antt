@@ -2,7 +2,7 @@ use Rattle.std.proofs.Common.{◌≡◌, ◌<◌, ◌++◌, take, drop, length, 
 use Rattle.fancy_analysis.specs.Callers.{count_at}
 use Rattle.fancy_analysis.specs.Reached.{LeadIntoCycles}
 use Rattle.fancy_analysis.proofs.Cycles.{cycle_inside}
-use Rattle.fancy_analysis.proofs.LinkRounds.{written_back}
+use Rattle.fancy_analysis.proofs.LinkFlags.{written_back}
 use Rattle.fancy_analysis.proofs.reached.into_cycles.Goals as goal
 
 pub returns : goal.returns
