@@ -1,12 +1,23 @@
 -- Links that lead on for ever lead into a cycle.
 use Rattle.std.proofs.Common.{◌≡◌, ℕ, zero, suc, ◌<◌, Bool, true, false, List, length, Option, Some, None, MatchOption, replicate, refl, sym, ◌∙◌, subst, arith, inl, inr, ◌⊎◌}
+use Rattle.std.specs.List.{count_by}
 use Rattle.std.proofs.Math.ListN.{set}
 use Rattle.std.proofs.lemmas.Bool.{cases_Bool}
 use Rattle.std.proofs.lemmas.List.{length-set, get_or-replicate, length-replicate}
 use Rattle.std.proofs.lemmas.List.Elements.{All-contains}
 use Rattle.fancy_analysis.specs.declared.links.Link.{Link}
-use Rattle.fancy_analysis.specs.Reached.{IsLinkedAtOnce, LeadsOn, by_one, by_more, LeadsIntoCycle, flag, set_count, HasRoom, LeadsToSet, IsReached, AreReached, LeadIntoCycles, IsLeastIntoCycle}
+use Rattle.fancy_analysis.specs.Reached.{IsLinkedAtOnce, LeadsOn, by_one, by_more, LeadsIntoCycle, flag, HasRoom, IsReached, AreReached, LeadIntoCycles, IsLeastIntoCycle}
 use Rattle.fancy_analysis.proofs.Flags.{one_less, flag_inside, flag_written}
+
+-- so many are set
+abbrev set_count : List Bool → ℕ
+set_count flags = count_by (λ b. b) flags
+
+-- a link at once leads to one that is set
+pub record LeadsToSet (links : List Link) (flags : List Bool) (n : ℕ) : Type 0 where
+  pub to : ℕ
+  pub link : IsLinkedAtOnce links n to
+  pub is_set : flag flags to ≡ true
 
 module _ (links : List Link) where
   cycle_before : (n m : ℕ) → IsLinkedAtOnce links n m → LeadsIntoCycle links m → LeadsIntoCycle links n
@@ -32,7 +43,7 @@ module _ (links : List Link) where
         rest = inr (elim b.rest [ inl e ↦ subst (λ x. LeadsOn links x c) e q | inr on ↦ by_more on q ]);
       }
 
-  cycle_begins : (n : ℕ) → LeadsIntoCycle links n → (m : ℕ) × IsLinkedAtOnce links n m × LeadsIntoCycle links m
+  pub cycle_begins : (n : ℕ) → LeadsIntoCycle links n → (m : ℕ) × IsLinkedAtOnce links n m × LeadsIntoCycle links m
   cycle_begins n c =
       let from : LeadsOn links n c.on_cycle = elim c.leads [ inl e ↦ subst (λ x. LeadsOn links x c.on_cycle) e c.cycle | inr on ↦ on ] in
       let b = begins n c.on_cycle from in
@@ -44,12 +55,6 @@ module _ (links : List Link) where
         let b = cycle_begins n c in
         let h = All-contains (λ link. link.from < length flags) links b.1.link room.each b.1.is_there in
         subst (λ x. x < length flags) b.1.leads_from h
-
-    -- one that leads into a cycle leads to another, so that neither is ever removed
-    pub cycle_leads_on : ((n : ℕ) → LeadsIntoCycle links n → flag flags n ≡ true) → (n : ℕ) → LeadsIntoCycle links n → LeadsToSet links flags n
-    cycle_leads_on all n c =
-        let b = cycle_begins n c in
-        record { to = b.0; link = b.1; is_set = all b.0 b.2 }
 
     module _ (closed : (n : ℕ) → flag flags n ≡ true → LeadsToSet links flags n) where
       -- what was seen leads to the number where the walk stands

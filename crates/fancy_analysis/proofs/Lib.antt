@@ -16,7 +16,8 @@ pub mod Members
 pub mod CallLinks
 pub mod Flags
 pub mod Cycles
-pub mod LinkRounds
+pub mod CallerCounts
+pub mod LinkFlags
 pub mod LeastNames
 pub mod CallRefusals
 pub mod WholeNodes

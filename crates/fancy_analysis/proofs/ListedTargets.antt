@@ -1,9 +1,9 @@
 -- Lists of targets, to which one is added after the other.
-use Rattle.std.proofs.Common.{◌≡◌, ℕ, zero, suc, ◌+◌, ◌<◌, List, [], ◌∷◌, ◌++◌, length, map, get_or, set, All, Contains, Vec, Global, ⊎_elim, refl, sym, ap, ◌∙◌, subst, arith}
+use Rattle.std.proofs.Common.{◌≡◌, ℕ, zero, suc, ◌+◌, ◌<◌, List, [], ◌∷◌, ◌++◌, length, map, get_or, set, All, Contains, Vec, Global, ◌⊎◌, inl, inr, ⊎_elim, refl, sym, ap, ◌∙◌, subst, arith}
 use Rattle.std.specs.Borrow.{Bor}
 use Rattle.std.proofs.lemmas.Bool.{cases_eq, cases_lt}
 use Rattle.std.proofs.lemmas.List.{get_or-set_same, get_or-set_other, map-set, length-map, length-set}
-use Rattle.std.proofs.lemmas.List.Elements.{Contains-append_left, Contains-push, All-contains, All-weaker}
+use Rattle.std.proofs.lemmas.List.Elements.{Contains-append_left, Contains-push, Contains-push_cases, All-contains, All-head, All-tail, All-weaker}
 use Rattle.fancy_expr.specs.declared.expr.Expr.{Expr}
 use Rattle.fancy_expr.specs.Exprs.{exprs}
 use Rattle.fancy_analysis.specs.Dependents.{IsListedFor, IsNamedIn, KeepsLists, listed}
@@ -46,6 +46,23 @@ keeps_more lists n x v lt is = record {
       (sym (ap (λ l. get_or l h []) (map-set (λ w. w.items) lists n v) ∙ get_or-set_other (map (λ w. w.items) lists) n h v.items [] ne)) there)
       (cases_eq h n);
 }
+
+pub listed_only : (lists : Lists) (n x : ℕ) (v : Vec ℕ Global) → n < length lists → v.items ≡ listed lists n ++ x ∷ [] →
+    (h g : ℕ) → Contains (listed (set lists n v) h) g → Contains (listed lists h) g ⊎ ((h ≡ n) × (g ≡ x))
+listed_only lists n x v lt is h g there = ⊎_elim
+    (λ same. ⊎_elim
+    (λ old. inl (subst (λ k. Contains (listed lists k) g) (sym same) old))
+    (λ e. inr (same, sym e))
+    (Contains-push_cases (listed lists n) x g (subst (λ l. Contains l g) (ap (listed (set lists n v)) same ∙ listed_same lists n v lt ∙ is) there)))
+    (λ ne. inl (subst (λ l. Contains l g)
+    (ap (λ l. get_or l h []) (map-set (λ w. w.items) lists n v) ∙ get_or-set_other (map (λ w. w.items) lists) n h v.items [] ne) there))
+    (cases_eq h n)
+
+-- at first none are listed
+pub listed_none : (lists : Lists) → All (λ list. list.items ≡ []) lists → (n : ℕ) → listed lists n ≡ []
+listed_none [] all n = refl
+listed_none (v ∷ lists) all zero = All-head (λ list. list.items ≡ []) v lists all
+listed_none (v ∷ lists) all (suc n) = listed_none lists (All-tail (λ list. list.items ≡ []) v lists all) n
 
 -- the list of a number that has one
 pub listed_at : (lists : Lists) (n : ℕ) (v : Vec ℕ Global) → n < length lists → v ≡ get_or lists n v → listed lists n ≡ v.items

@@ -11,3 +11,4 @@ pub mod Names
 pub mod Targets
 pub mod Dependents
 pub mod Changes
+pub mod Callers

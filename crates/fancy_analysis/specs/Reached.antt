@@ -1,6 +1,8 @@
 -- Flags of targets: those that links reach, and those that lead into a cycle.
-use Rattle.std.specs.Prelude.{◌≡◌, ℕ, ◌<◌, Bool, true, false, not, ◌⊎◌, ◌↔◌, List, length, Contains, All, slice_index_or, count_by}
+use Rattle.std.specs.Prelude.{◌≡◌, ℕ, ◌<◌, Bool, true, false, not, ◌⊎◌, ◌↔◌, ◌+◌, ◌≤◌, List, Vec, length, Contains, All, slice_index_or, count_by}
+use Rattle.std.specs.Global.{Global}
 use Rattle.fancy_analysis.specs.declared.links.Link.{Link}
+use Rattle.fancy_analysis.specs.Dependents.{listed}
 
 -- a link leads from one number to another
 pub record IsLinked (links : List Link) (from to : ℕ) : Type 0 where
@@ -37,11 +39,7 @@ pub record LeadsIntoCycle (links : List Link) (n : ℕ) : Type 0 where
 abbrev pub flag : List Bool → ℕ → Bool
 flag flags n = slice_index_or flags n false
 
--- so many are set
-abbrev pub set_count : List Bool → ℕ
-set_count flags = count_by (λ b. b) flags
-
--- so many are not
+-- so many are not set
 abbrev pub unset_count : List Bool → ℕ
 unset_count flags = count_by not flags
 
@@ -50,21 +48,22 @@ pub record HasRoom (links : List Link) (flags : List Bool) : Type 0 where
   pub whole : 0 < length flags
   pub each : All (λ link. link.from < length flags) links
 
--- where it leads from one that is set, it leads to one that is set, if that has a flag
-abbrev pub StaysWithin : List Bool → Link → Type 0
-StaysWithin flags link = flag flags link.from ≡ true → link.to < length flags → flag flags link.to ≡ true
+-- under each number, to where links lead from it
+pub record AreWays (links : List Link) (ways : List (Vec ℕ Global)) : Type 0 where
+  pub only : (g h : ℕ) → Contains (listed ways g) h → IsLinked links g h
+  pub all : All (λ link. Contains (listed ways link.from) link.to) links
 
--- it leads from one that is set to one that is not, and has a flag
-pub record LeadsOut (flags : List Bool) (link : Link) : Type 0 where
-  pub is_set : flag flags link.from ≡ true
-  pub within : link.to < length flags
-  pub is_unset : flag flags link.to ≡ false
-
--- a link at once leads to one that is set
-pub record LeadsToSet (links : List Link) (flags : List Bool) (n : ℕ) : Type 0 where
-  pub to : ℕ
-  pub link : IsLinkedAtOnce links n to
-  pub is_set : flag flags to ≡ true
+-- the flags of these numbers are set, and the numbers whose flags were not yet set are added to those that come next
+pub record Reaches (numbers : List ℕ) (before after : List Bool) (old new : List ℕ) : Type 0 where
+  pub same_length : length after ≡ length before
+  pub kept : (n : ℕ) → flag before n ≡ true → flag after n ≡ true
+  pub only : (n : ℕ) → flag after n ≡ true → (flag before n ≡ true) ⊎ Contains numbers n
+  pub there : (n : ℕ) → Contains numbers n → n < length before → flag after n ≡ true
+  pub waits : (n : ℕ) → flag after n ≡ true → (flag before n ≡ true) ⊎ Contains new n
+  pub still : (n : ℕ) → Contains old n → Contains new n
+  pub is_set : (n : ℕ) → Contains new n → Contains old n ⊎ (flag after n ≡ true)
+  -- each that is added had a flag that was not set
+  pub fewer : unset_count after + length new ≤ unset_count before + length old
 
 -- the numbers that are set are those that are reached, of all that have a flag
 pub record AreReached (links : List Link) (flags : List Bool) : Type 0 where

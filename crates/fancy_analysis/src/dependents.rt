@@ -1,6 +1,6 @@
 //! Which targets' sizes go by which: under each number, the targets that name it.
 
-ghost use Rattle.std.specs.Prelude.{◌≡◌, ◌<◌, ◌≤◌, ℕ, IfOk, IfSome, IsFalse, length, replicate, map, []};
+ghost use Rattle.std.specs.Prelude.{◌≡◌, ◌<◌, ◌≤◌, ◌⊎◌, ℕ, IfOk, IfSome, IsFalse, length, replicate, map, []};
 ghost use Rattle.std.specs.List.{All, Contains};
 ghost use Rattle.fancy_expr.specs.Exprs.{exprs};
 ghost use Rattle.fancy_expr.specs.Views.{tree_of};
@@ -28,10 +28,17 @@ fn named_by(expr: &Expr) -> Option<usize>
 }
 
 /// Lists a target under a number that has a list.
-fn list_under(lists: &mut Vec<Vec<usize>>, number: usize, target: usize) -> Result<(), AllocError>
+pub fn list_under(
+    lists: &mut Vec<Vec<usize>>,
+    number: usize,
+    target: usize,
+) -> Result<(), AllocError>
     ensures kept { IfOk result (λ _. KeepsLists lists.old.items lists.new.items) }
     ensures there { IfOk result (λ _. number < length lists.new.items →
         Contains (listed lists.new.items number) target) }
+    ensures only { IfOk result (λ _. (h g : ℕ)
+        → Contains (listed lists.new.items h) g
+        → Contains (listed lists.old.items h) g ⊎ ((h ≡ number) × (g ≡ target))) }
 {
     if number < lists.len() {
         lists[number].push(target)?;
@@ -104,8 +111,9 @@ fn list_named(
     Ok(())
 }
 
-fn no_lists(alloc: Global, count: usize) -> Result<Vec<Vec<usize>>, AllocError>
-    ensures { IfOk result (λ v. length v.items ≡ count) }
+pub fn no_lists(alloc: Global, count: usize) -> Result<Vec<Vec<usize>>, AllocError>
+    ensures length { IfOk result (λ v. length v.items ≡ count) }
+    ensures none { IfOk result (λ v. All (λ list. list.items ≡ []) v.items) }
 {
     let mut lists = Vec::new(alloc);
     for i in 0..count {

@@ -2,6 +2,7 @@
 #![tactic(auto)]
 
 pub mod analyze;
+mod callers;
 mod changes;
 mod dependents;
 mod endings;

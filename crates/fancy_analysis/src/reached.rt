@@ -1,21 +1,21 @@
 //! The targets that links reach, and those that lead into a cycle, as sets of flags.
 
-ghost use Rattle.std.specs.Prelude.{◌≡◌, ◌<◌, ◌≤◌, ◌↔◌, ◌&&◌, ◌⊎◌, ℕ, Bool, All, IfOk, IsFalse, IsTrue, MatchBool, MatchOption, length, true};
+ghost use Rattle.std.specs.Prelude.{◌≡◌, ◌<◌, ◌≤◌, ◌↔◌, ◌∷◌, ℕ, [], All, IfOk, IsTrue, MatchOption, false, length, true};
+ghost use Rattle.fancy_analysis.specs.Callers.{count_at};
 ghost use Rattle.fancy_analysis.specs.Reached.{
   AreReached,
+  AreWays,
   HasRoom,
   IsLeastIntoCycle,
   IsReached,
-  LeadsOut,
   LeadIntoCycles,
   LeadsIntoCycle,
-  LeadsToSet,
-  StaysWithin,
+  Reaches,
   flag,
-  set_count,
-  unset_count,
 };
 
+use crate::callers::counts_into_cycles;
+use crate::dependents::{list_under, no_lists};
 use crate::links::Link;
 use std::alloc::{AllocError, Global};
 
@@ -28,120 +28,107 @@ fn is_set(flags: &[bool], number: usize) -> bool
     }
 }
 
-/// Adds flags up to that of a number.
-fn add_flags(flags: &mut Vec<bool>, number: usize, value: bool) -> Result<(), AllocError>
+/// Adds clear flags up to that of a number.
+fn add_flags(flags: &mut Vec<bool>, number: usize) -> Result<(), AllocError>
     ensures room { IfOk result (λ _. number < length flags.new.items) }
     ensures more { length flags.old.items ≤ length flags.new.items }
-    ensures same { All (λ b. b ≡ value) flags.old.items → All (λ b. b ≡ value) flags.new.items }
+    ensures clear { All (λ b. b ≡ false) flags.old.items → All (λ b. b ≡ false) flags.new.items }
 {
     while flags.len() <= number {
-        flags.push(value)?;
+        flags.push(false)?;
     }
     Ok(())
 }
 
-/// A flag for 0 and for each number from which a link leads, and for all below.
-fn flags_for(alloc: Global, links: &[Link], value: bool) -> Result<Vec<bool>, AllocError>
+/// A clear flag for 0 and for each number from which a link leads, and for all below.
+fn flags_for(alloc: Global, links: &[Link]) -> Result<Vec<bool>, AllocError>
     ensures room { IfOk result (λ v. HasRoom links.now v.items) }
-    ensures same { IfOk result (λ v. All (λ b. b ≡ value) v.items) }
+    ensures clear { IfOk result (λ v. All (λ b. b ≡ false) v.items) }
 {
     let mut flags = Vec::new(alloc);
-    flags.push(value)?;
+    flags.push(false)?;
     for link in links {
-        add_flags(&mut flags, link.from, value)?;
+        add_flags(&mut flags, link.from)?;
     }
     Ok(flags)
 }
 
-/// Whether a link leads from a number that is set to one that is not.
-fn leads_out(flags: &[bool], link: Link) -> bool
-    ensures { MatchBool result (LeadsOut flags.now link) (StaysWithin flags.now link) }
+/// Under each of so many numbers, to where links lead from it.
+fn ways(alloc: Global, links: &[Link], numbers: usize) -> Result<Vec<Vec<usize>>, AllocError>
+    requires { All (λ link. link.from < numbers) links.now }
+    ensures length { IfOk result (λ v. length v.items ≡ numbers) }
+    ensures ways { IfOk result (λ v. AreWays links.now v.items) }
 {
-    is_set(flags, link.from) && link.to < flags.len() && !is_set(flags, link.to)
+    let mut ways = no_lists(alloc, numbers)?;
+    for link in links {
+        list_under(&mut ways, link.from, link.to)?;
+    }
+    Ok(ways)
 }
 
-/// Sets the flags of all to which links lead from what is set, and says whether one was set.
-fn reach_on(flags: &mut [bool], links: &[Link]) -> bool
-    ensures kept { (n : ℕ) → flag flags.old n ≡ true → flag flags.new n ≡ true }
-    ensures only { ((n : ℕ) → flag flags.old n ≡ true → IsReached links.now n) → (n : ℕ) →
-        flag flags.new n ≡ true → IsReached links.now n }
-    ensures grown { IsTrue result → unset_count flags.new < unset_count flags.old }
-    ensures done { IsFalse result → All (StaysWithin flags.new) links.now }
+/// Sets the flag of a number, if it has one, and adds the number if its flag was clear.
+fn reach(number: usize, flags: &mut [bool], next: &mut Vec<usize>) -> Result<(), AllocError>
+    ensures { IfOk result (λ _. Reaches (number ∷ []) flags.old flags.new next.old.items
+        next.new.items) }
 {
-    let mut has_grown = false;
-    for link in links {
-        if leads_out(flags, *link) {
-            flags[link.to] = true;
-            has_grown = true;
-        }
+    if number < flags.len() && !flags[number] {
+        flags[number] = true;
+        next.push(number)?;
     }
-    has_grown
+    Ok(())
+}
+
+/// The same for each of these numbers.
+fn reach_all(numbers: &[usize], flags: &mut [bool], next: &mut Vec<usize>) -> Result<(), AllocError>
+    ensures { IfOk result (λ _. Reaches numbers.now flags.old flags.new next.old.items
+        next.new.items) }
+{
+    for number in numbers {
+        reach(*number, flags, next)?;
+    }
+    Ok(())
 }
 
 /// Which targets are reached from the whole tree.
 pub fn reached(alloc: Global, links: &[Link]) -> Result<Vec<bool>, AllocError>
     ensures { IfOk result (λ v. AreReached links.now v.items) }
 {
-    let mut flags = flags_for(alloc, links, false)?;
-    flags[0] = true;
-    while reach_on(&mut flags, links) {}
+    let mut flags = flags_for(alloc, links)?;
+    let ways = ways(alloc, links, flags.len())?;
+    let mut next = Vec::new(alloc);
+    reach(0, &mut flags, &mut next)?;
+    while let Some(number) = next.pop() {
+        reach_all(&ways[number], &mut flags, &mut next)?;
+    }
     Ok(flags)
 }
 
-fn leads_to_set(flags: &[bool], link: Link) -> bool
-    ensures { result ≡ (link.at_once && flag flags.now link.to) }
+fn is_counted(counts: &[usize], number: usize) -> bool
+    ensures { IsTrue result ↔ (0 < count_at counts.now number) }
 {
-    link.at_once && is_set(flags, link.to)
-}
-
-/// Those from which a link at once leads to one that is set.
-fn lead_to_set(alloc: Global, flags: &[bool], links: &[Link]) -> Result<Vec<bool>, AllocError>
-    ensures { IfOk result (λ v. (n : ℕ) →
-        (flag v.items n ≡ true) ↔ LeadsToSet links.now flags.now n) }
-{
-    let mut leads = flags_for(alloc, links, false)?;
-    for link in links {
-        if leads_to_set(flags, *link) {
-            leads[link.from] = true;
-        }
+    match counts.get(number) {
+        Some(count) => *count > 0,
+        None => false,
     }
-    Ok(leads)
 }
 
-/// Clears the flags of all that are not set in the other, and says whether one was cleared.
-fn clear_others(flags: &mut [bool], kept: &[bool]) -> bool
-    ensures each { (n : ℕ) → flag flags.new n ≡ (flag flags.old n && flag kept.now n) }
-    ensures shrunk { IsTrue result → set_count flags.new < set_count flags.old }
-    ensures done { IsFalse result → flags.new ≡ flags.old }
+/// Sets the flags of all that have a count, and clears the others.
+fn flag_counted(counts: &[usize], flags: &mut [bool])
+    ensures { (n : ℕ) → (flag flags.new n ≡ true) ↔
+        ((n < length flags.old) × (0 < count_at counts.now n)) }
 {
-    let mut has_shrunk = false;
     for i in 0..flags.len() {
-        if flags[i] && !is_set(kept, i) {
-            flags[i] = false;
-            has_shrunk = true;
-        }
+        flags[i] = is_counted(counts, i);
     }
-    has_shrunk
-}
-
-/// Clears the flags of all from which no link at once leads to one that is set, and says whether one was cleared.
-fn thin_out(alloc: Global, flags: &mut [bool], links: &[Link]) -> Result<bool, AllocError>
-    ensures kept { (n : ℕ) → flag flags.old n ≡ true → LeadsToSet links.now flags.old n →
-        flag flags.new n ≡ true }
-    ensures shrunk { IfOk result (λ b. IsTrue b → set_count flags.new < set_count flags.old) }
-    ensures done { IfOk result (λ b. IsFalse b → (n : ℕ) → flag flags.new n ≡ true →
-        LeadsToSet links.now flags.new n) }
-{
-    let leads = lead_to_set(alloc, flags, links)?;
-    Ok(clear_others(flags, &leads))
 }
 
 /// From which targets links at once lead into a cycle.
 pub fn into_cycles(alloc: Global, links: &[Link]) -> Result<Vec<bool>, AllocError>
     ensures { IfOk result (λ v. LeadIntoCycles links.now v.items) }
 {
-    let mut flags = flags_for(alloc, links, true)?;
-    while thin_out(alloc, &mut flags, links)? {}
+    let mut flags = flags_for(alloc, links)?;
+    let counts = counts_into_cycles(alloc, links, flags.len())?;
+    flag_counted(&counts, &mut flags);
     Ok(flags)
 }
 

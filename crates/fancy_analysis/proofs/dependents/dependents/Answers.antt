@@ -5,7 +5,7 @@ use Rattle.fancy_analysis.proofs.dependents.dependents.Goals as goal
 
 pub loop-target-init : goal.loop-target-init
 loop-target-init c = record {
-  count = c.in_ok-list_all.ensures.kept.length ∙ c.in_ok-lists.ensures;
+  count = c.in_ok-list_all.ensures.kept.length ∙ c.in_ok-lists.ensures.length;
   named = listed_whole c.list_all.new.lists.items c.args.expr.now (c.in_ok-list_all.ensures.there (omega arith));
   each = λ some g e lt is named. absurd (omega arith);
 }

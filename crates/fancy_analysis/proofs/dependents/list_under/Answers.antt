@@ -1,5 +1,5 @@
 use Rattle.std.proofs.Common.{◌<◌, ◌∷◌, [], ◌++◌, length, sym, ap, ◌∙◌, arith}
-use Rattle.fancy_analysis.proofs.ListedTargets.{keeps_more, listed_at, listed_there}
+use Rattle.fancy_analysis.proofs.ListedTargets.{keeps_more, listed_at, listed_only, listed_there}
 use Rattle.fancy_analysis.proofs.dependents.list_under.Goals as goal
 
 pub returns-in_ok-push-clause-kept : goal.returns-in_ok-push-clause-kept
@@ -16,4 +16,12 @@ returns-in_ok-push-clause-there c = λ _.
     let n = c.args.number in
     let lt : n < length lists = omega arith in
     listed_there lists n c.args.target c.push.new.self lt
+    (c.in_ok-push.ensures.items ∙ ap (λ l. l ++ c.args.target ∷ []) (sym (listed_at lists n c.index_mut.result.now lt c.index_mut.ensures.value)))
+
+pub returns-in_ok-push-clause-only : goal.returns-in_ok-push-clause-only
+returns-in_ok-push-clause-only c =
+    let lists = c.args.lists.now.items in
+    let n = c.args.number in
+    let lt : n < length lists = omega arith in
+    listed_only lists n c.args.target c.push.new.self lt
     (c.in_ok-push.ensures.items ∙ ap (λ l. l ++ c.args.target ∷ []) (sym (listed_at lists n c.index_mut.result.now lt c.index_mut.ensures.value)))

@@ -1,8 +1,7 @@
-use Rattle.std.proofs.Common.{◌≡◌, ℕ, zero, suc, ◌-◌, ◌<◌, List, [], ◌∷◌, length, map, get_or, drop, refl, ap, ◌∙◌, sym, subst, arith}
+use Rattle.std.proofs.Common.{◌≡◌, ℕ, zero, suc, ◌-◌, ◌<◌, List, [], ◌∷◌, length, map, get_or, drop, refl, ap, ◌∙◌, sym, arith}
 use Rattle.fancy_meaning.specs.Sizes.{any_of, either}
 use Rattle.fancy_info.specs.declared.info.Info.{Info}
 use Rattle.fancy_info.specs.Infos.{info_size}
-use Rattle.fancy_info.specs.Sized.{size_of}
 use Rattle.fancy_analysis.proofs.make.any_of_sizes.Goals as goal
 
 last : (is : List Info) (i : ℕ) (d : Info) → suc i ≡ length is → info_size (get_or is i d) ≡ any_of (map info_size (drop i is))

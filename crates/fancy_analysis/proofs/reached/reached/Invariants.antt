@@ -1,13 +1,14 @@
-use Rattle.std.proofs.Common.{◌≡◌, ℕ, true}
-use Rattle.fancy_analysis.specs.Reached.{HasRoom, IsReached, flag, unset_count}
+use Rattle.std.proofs.Common.{◌≡◌, ◌+◌, length}
+use Rattle.fancy_analysis.specs.Reached.{HasRoom, unset_count}
+use Rattle.fancy_analysis.proofs.LinkFlags.{IsReaching}
 use Rattle.fancy_analysis.proofs.reached.reached.Given as goal
 
-abbrev pub invariant-loop : goal.invariant-loop
-invariant-loop l = record {
+abbrev pub invariant-loop-number : goal.invariant-loop-number
+invariant-loop-number l = record {
+  same_length : length l.flags.items ≡ length l.ways.items;
   room : HasRoom l.links l.flags.items;
-  whole : flag l.flags.items 0 ≡ true;
-  only : (n : ℕ) → flag l.flags.items n ≡ true → IsReached l.links n;
+  reaching : IsReaching l.links l.ways.items l.flags.items l.next.items;
 }
 
-abbrev pub decreases-loop : goal.decreases-loop
-decreases-loop l = unset_count l.flags.items
+abbrev pub decreases-loop-number : goal.decreases-loop-number
+decreases-loop-number l = unset_count l.flags.items + length l.next.items

@@ -1,0 +1,45 @@
+use Rattle.std.proofs.Common.{◌<◌, All, Contains, length, take, get_or, false, inl, inr, sym, ◌∙◌, subst, arith}
+use Rattle.std.proofs.lemmas.List.{take_all}
+use Rattle.std.proofs.lemmas.List.Elements.{All-more, All-weaker, Contains-get_or}
+use Rattle.fancy_analysis.specs.declared.links.Link.{Link}
+use Rattle.fancy_analysis.specs.Dependents.{listed}
+use Rattle.fancy_analysis.proofs.ListedTargets.{listed_none}
+use Rattle.fancy_analysis.proofs.reached.ways.Goals as goal
+
+pub loop-link-init : goal.loop-link-init
+loop-link-init c = record {
+  same_length = c.in_ok-ways.ensures.length;
+  only = λ g h there.
+      let bad = subst (λ l. Contains l h) (listed_none c.in_ok-ways.ways.items c.in_ok-ways.ensures.none g) there in
+      absurd (omega (arith, bad.1));
+  all = λ k d lt. absurd (omega arith);
+}
+
+pub loop-link-preserved : goal.loop-link-preserved
+loop-link-preserved c =
+    let links = c.args.links.now in
+    let i = c.loop-link.link-index in
+    let none : Link = record { from = 0; to = 0; at_once = false } in
+    let link = get_or links i none in
+    let old = c.loop-link.ways.items in
+    let new = c.list_under.new.lists.items in
+    let lt : i < length links = omega arith in
+    let e = c.in_ok-list_under.ensures in
+    record {
+      same_length = e.kept.length ∙ c.loop-link.invariant.same_length;
+      only = λ g h there. elim (e.only g h there) [
+        | inl before ↦ c.loop-link.invariant.only g h before
+        | inr is ↦ record { link = link; is_there = Contains-get_or links i none lt; leads_from = sym is.0; leads_to = sym is.1 }
+      ];
+      all = All-more (λ l. Contains (listed new l.from) l.to) links i none lt
+          (All-weaker (λ l. Contains (listed old l.from) l.to) (λ l. Contains (listed new l.from) l.to) (λ l there. e.kept.each l.from l.to there)
+          (take i links) c.loop-link.invariant.all)
+          (e.there (omega (arith, c.requires i none lt, e.kept.length, c.loop-link.invariant.same_length)));
+    }
+
+pub returns-clause-ways : goal.returns-clause-ways
+returns-clause-ways c = record {
+  only = c.loop-link.invariant.only;
+  all = subst (All (λ l. Contains (listed c.loop-link.ways.items l.from) l.to)) (take_all c.loop-link.link-index c.args.links.now (omega arith))
+      c.loop-link.invariant.all;
+}
