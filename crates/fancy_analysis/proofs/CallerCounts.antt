@@ -199,7 +199,8 @@ module _ (links : List Link) (lists : Lists) (counts ended : List ℕ) where
     none_left = λ n there. l.none_left n (⊎_elim
         (λ e. subst (Contains (ended ++ k ∷ [])) e (Contains-push ended k)) (λ h. Contains-append_left ended (k ∷ []) n h) (contains_cases k n ended there));
     off = λ n none. ⊎_elim
-        (λ there. inl (⊎_elim (λ h. contains_later k n ended h) (λ e. subst (Contains (k ∷ ended)) e (contains_first k ended)) (Contains-push_cases ended k n there)))
+        (λ there. inl (⊎_elim (λ h. contains_later k n ended h) (λ e. subst (Contains (k ∷ ended)) e (contains_first k ended))
+        (Contains-push_cases ended k n there)))
         (λ e. inr e) (l.off n none);
   }
 

@@ -20,7 +20,8 @@ count_off-requires c =
     let k = c.args.number in
     let m = c.in-Some.caller in
     let lt : k < length lists = omega (arith, c.loop-caller.invariant.same_length, c.requires.within) in
-    let is : listed lists k ≡ c.pop.new.self.items ++ m ∷ [] = listed_at lists k c.index_mut.result.now lt c.index_mut.ensures.value ∙ c.in-Some.ensures.items in
+    let is : listed lists k ≡ c.pop.new.self.items ++ m ∷ [] =
+    listed_at lists k c.index_mut.result.now lt c.index_mut.ensures.value ∙ c.in-Some.ensures.items in
     let some = contain_lists m k lists (subst (λ l. Contains l m) (sym is) (Contains-push c.pop.new.self.items m)) in
     omega (arith, some, c.loop-caller.invariant.counted m)
 
@@ -70,7 +71,8 @@ returns c =
     let v = c.pop.new.self in
     let lt : k < length lists = omega (arith, c.loop-caller.invariant.same_length, c.requires.within) in
     let is : v.items ≡ [] = no_more v.items (omega (arith, c.in_default.ensures.cases.1, v.ok.0)) in
-    let all : listed lists k ≡ v.items = listed_at lists k c.index_mut.result.now lt c.index_mut.ensures.value ∙ c.in_default.ensures.items ∙ append-nil v.items in
+    let all : listed lists k ≡ v.items =
+    listed_at lists k c.index_mut.result.now lt c.index_mut.ensures.value ∙ c.in_default.ensures.items ∙ append-nil v.items in
     record {
       left = λ links l. left_done links lists counts ended k v lt (all ∙ is) is (c.loop-caller.invariant.left links l);
       fewer = let fewer = c.loop-caller.invariant.fewer in let same = total_same lists k c.args.number v lt all in omega arith;

@@ -17,6 +17,8 @@ returns c =
     let into = c.in_ok-counts.ensures n in
     let here : count_at c.deref.result.now n ≡ count_at c.in_ok-counts.counts.items n = ap (λ l. count_at l n) c.deref.ensures.value in (
       λ at. into.0 (subst (λ x. 0 < x) here (w.0 at).1),
-      λ leads. w.1
-          (let lt = cycle_inside links before c.in_ok-flags.ensures.room n leads in omega (arith, ap length entry), subst (λ x. 0 < x) (sym here) (into.1 leads)),
+      λ leads. w.1 (
+        let lt = cycle_inside links before c.in_ok-flags.ensures.room n leads in omega (arith, ap length entry),
+        subst (λ x. 0 < x) (sym here) (into.1 leads),
+      ),
     ))
