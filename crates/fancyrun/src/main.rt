@@ -2,6 +2,7 @@
 #![tactic(auto)]
 
 use fancy_regex_engine::command::command;
+use std::io::{ErrorKind, Write};
 use std::process::ExitCode;
 use std::{env, io};
 
@@ -10,9 +11,21 @@ fn words(rt: &HostRuntime) -> io::Result<Vec<String>> {
     Ok(env::args(rt)?.skip(1).collect(rt.alloc())?)
 }
 
+/// The words could not be read for want of memory.
+fn refuse(rt: &HostRuntime) -> u8 {
+    match rt.stdout().write_all(b"Memory\n") {
+        Ok(()) => 1,
+        Err(_) => 3,
+    }
+}
+
 fn main(rt: HostRuntime) -> ExitCode {
-    // Words that cannot be read, as they are no text, ask nothing.
-    let words = words(&rt).unwrap_or(Vec::new(rt.alloc()));
+    let words = match words(&rt) {
+        Ok(words) => words,
+        Err(error) if error.kind() == ErrorKind::OutOfMemory => return ExitCode::from(refuse(&rt)),
+        // Words that cannot be read, as they are no text, ask nothing.
+        Err(_) => Vec::new(rt.alloc()),
+    };
     let status = command(rt.alloc(), &words, &mut rt.stdout(), &mut rt.stderr());
     ExitCode::from(status)
 }
