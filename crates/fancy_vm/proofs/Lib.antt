@@ -4,6 +4,7 @@ pub mod NumbersLaws
 pub mod BeginningLaws
 pub mod StartRunLaws
 pub mod StartsLaws
+pub mod AttemptLaws
 pub mod StepLaws
 pub mod WalksLaws
 pub mod BackLaws

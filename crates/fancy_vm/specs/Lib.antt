@@ -6,6 +6,7 @@ pub mod Sound
 pub mod Stops
 pub mod Beginnings
 pub mod StartRuns
+pub mod Attempts
 pub mod Tails
 pub mod Stretches
 pub mod Outcomes

@@ -5,7 +5,7 @@ ghost use Rattle.std.specs.Prelude.{◌≡◌, List, ◌+◌, ◌-◌, ◌*◌, 
 ghost use Rattle.std.specs.List.{list_all};
 ghost use Rattle.fancy_meaning.specs.Fits.{answer_fits, flag_fits, instr_fits, is_end_instr, program_fits, slots_fit, targets_fit};
 ghost use Rattle.fancy_vm.specs.declared.insn.Insn.{Insn};
-ghost use Rattle.fancy_vm.specs.Beginnings.{BeginsWith};
+ghost use Rattle.fancy_vm.specs.Attempts.{IsBeginningOf};
 ghost use Rattle.fancy_vm.specs.Insns.{insn_of, prog_with};
 
 use crate::beginning::Beginning;
@@ -148,8 +148,7 @@ pub struct Prog {
     /// What lets a run pass over starts, if the program has it.
     pub(crate) beginning: Option<Beginning>,
     ghost fits: { IsTrue (program_fits (prog_with body.items parts)) },
-    ghost begins: { ForSome beginning (λ b. (3 < b.instructions)
-        × ∥ BeginsWith (map insn_of body.items) b.refused (b.instructions - 3) ∥₁) },
+    ghost begins: { ForSome beginning (IsBeginningOf (map insn_of body.items)) },
 }
 
 impl ProgParts {

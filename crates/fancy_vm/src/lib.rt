@@ -1,6 +1,7 @@
 //! The machine: instructions, programs, states and runs.
 #![tactic(auto)]
 
+mod attempt;
 mod beginning;
 mod delegates;
 mod insn;
