@@ -4,18 +4,16 @@
 mod comparison;
 mod instructions;
 mod layouts;
-mod memory;
 mod misuses;
 mod programs;
 mod searches;
 mod states;
 
 use fancy_regex_engine::vm::Scratch;
-use fancy_tables::columns::number;
 use fancy_tables::tables::{Table, print_table};
 use std::alloc::{AllocError, Global};
 use std::rt::Files;
-use std::{env, io};
+use std::io;
 
 /// One scratch serves all rows.
 #[derive(Drop)]
@@ -68,13 +66,6 @@ fn print_tables(rt: &(impl Files + Print + AllocGlobal)) -> io::Result<()> {
     Ok(())
 }
 
-/// The tables; with the words NUMBER, TREE and TEXT, one search made twice after so many requests for memory.
 fn main(rt: HostRuntime) -> io::Result<()> {
-    let mut words = env::args(&rt)?.skip(1);
-    match (words.next(), words.next(), words.next()) {
-        (Some(times), Some(tree), Some(text)) => {
-            memory::search_twice(&rt, number(times.as_str()), tree.as_str(), text.as_str())
-        }
-        _ => print_tables(&rt),
-    }
+    print_tables(&rt)
 }

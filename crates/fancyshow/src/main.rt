@@ -24,7 +24,7 @@ mod why;
 
 use crate::outcome::Outcome;
 use crate::show::show;
-use std::io::{IsTerminal, Write};
+use std::io::{ErrorKind, IsTerminal, Write};
 use std::process::ExitCode;
 use std::{env, io};
 
@@ -49,15 +49,22 @@ fn write(rt: &HostRuntime, outcome: &Outcome) -> u8 {
     }
 }
 
+/// Memory ran out, and there is nothing to write but that.
+fn refuse(rt: &HostRuntime) -> u8 {
+    let _unwritten = rt.stderr().write_all(b"fancyshow: memory ran out\n");
+    1
+}
+
 fn main(rt: HostRuntime) -> ExitCode {
-    // Words that cannot be read, as they are no text, ask nothing.
-    let words = words(&rt).unwrap_or(Vec::new(rt.alloc()));
+    let words = match words(&rt) {
+        Ok(words) => words,
+        Err(error) if error.kind() == ErrorKind::OutOfMemory => return ExitCode::from(refuse(&rt)),
+        // Words that cannot be read, as they are no text, ask nothing.
+        Err(_) => Vec::new(rt.alloc()),
+    };
     let status = match show(&rt, &words, has_colours(&rt)) {
         Ok(outcome) => write(&rt, &outcome),
-        Err(_) => {
-            let _unwritten = rt.stderr().write_all(b"fancyshow: memory ran out\n");
-            1
-        }
+        Err(_) => refuse(&rt),
     };
     ExitCode::from(status)
 }
