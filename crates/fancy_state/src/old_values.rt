@@ -55,6 +55,7 @@ fn push(log: &mut Vec<Old>, old: Old) -> Result<(), AllocError>
     Ok(log.push(old)?)
 }
 
+#[cold]
 #[inline(never)]
 fn push_and_grow(log: &mut Vec<Old>, old: Old) -> Result<(), AllocError>
     ensures items { log.new.items
