@@ -32,6 +32,11 @@ row_set f v k i (suc n) (suc s) is less =
     ap₂ ◌∷◌ (put_off f k v i (λ same. omega (arith, is, same)))
     (row_set f v k (i + 1) n s (omega (arith, is)) (omega (arith, less)))
 
+-- the last of equal numbers is set
+pub last_of_same : (n : ℕ) → slice_set (replicate (suc n) usize_max) n 0 ≡ replicate n usize_max ++ 0 ∷ []
+last_of_same zero = refl
+last_of_same (suc n) = ap (λ l. usize_max ∷ l) (last_of_same n)
+
 row_of : (xs : List ℕ) (i n : ℕ) → i + n ≤ length xs → map (values_of xs) (range_with_len i n) ≡ take n (drop i xs)
 row_of xs i zero fits = refl
 row_of xs i (suc n) fits =

@@ -1,6 +1,6 @@
 //! Cells, and what they held before they were changed.
 
-ghost use Rattle.std.specs.Prelude.{◌≡◌, [], ◌<◌, ◌≤◌, IsTrue, length, drop, take, slice_set, OnOk, OnErr, IfOk, MatchOption};
+ghost use Rattle.std.specs.Prelude.{◌≡◌, [], ◌∷◌, ◌++◌, ◌<◌, ◌≤◌, IsTrue, is_ok, if◌then◌else◌, length, drop, take, slice_set, OnOk, OnErr, IfOk, MatchOption};
 ghost use Rattle.fancy_state.specs.OldValues.{Agrees, IsSettled, values_of, first_cells};
 
 use std::alloc::{AllocError, Global};
@@ -43,6 +43,27 @@ fn is_logged(log: &[Old], mark: usize, place: usize, cell: usize) -> bool
     mark <= place && place < log.len() && log[place].cell == cell
 }
 
+/// Adds an old value to the log. Where the log has to grow it does so apart from here, which is seldom.
+#[inline(always)]
+fn push(log: &mut Vec<Old>, old: Old) -> Result<(), AllocError>
+    ensures items { log.new.items
+        ≡ (if is_ok result then log.old.items ++ old ∷ [] else log.old.items) }
+{
+    if log.len() == log.capacity() {
+        return push_and_grow(log, old);
+    }
+    Ok(log.push(old)?)
+}
+
+#[cold]
+#[inline(never)]
+fn push_and_grow(log: &mut Vec<Old>, old: Old) -> Result<(), AllocError>
+    ensures items { log.new.items
+        ≡ (if is_ok result then log.old.items ++ old ∷ [] else log.old.items) }
+{
+    Ok(log.push(old)?)
+}
+
 impl Cells {
     /// So many cells that hold `usize::MAX`, and one that holds 0.
     pub(crate) fn new(alloc: Global, count: usize) -> Result<Cells, AllocError>
@@ -59,6 +80,7 @@ impl Cells {
     }
 
     /// Makes them as `new` does, in the memory that they have.
+    #[inline(never)]
     pub(crate) fn renew(self, count: usize) -> Result<Cells, AllocError>
         ensures ok { IfOk result (λ cells. cells ≡ first_cells count) }
     {
@@ -78,6 +100,17 @@ impl Cells {
             places,
             log,
         })
+    }
+
+    /// Makes them as `new` does, where so many and one more are there. It takes no memory.
+    pub(crate) fn restart(&mut self, count: usize)
+        requires { count < length self.old.values }
+        ensures { self.new ≡ first_cells count }
+    {
+        self.log.clear();
+        self.values.truncate(count + 1);
+        self.values.fill(usize::MAX);
+        self.values[count] = 0;
     }
 
     /// What a cell holds.
@@ -140,11 +173,12 @@ impl Cells {
                 if !is_logged(&self.log, mark, before, cell) {
                     let place = self.log.len();
                     let value = self.values[cell];
-                    self.log.push(Old {
+                    let old = Old {
                         cell,
                         value,
                         before,
-                    })?;
+                    };
+                    push(&mut self.log, old)?;
                     self.places[cell] = place;
                 }
             }

@@ -71,17 +71,29 @@ impl State {
     }
 
     /// Makes it as `new` does, in the memory that it has.
+    #[inline(always)]
     pub fn renew(self, n_saves: usize, max_stack: usize) -> Result<State, Error>
         ensures ok { IfOk result (λ s. s ≡ first_held n_saves max_stack) }
         ensures err { IfErr result IsMemory }
     {
         let State {
             alloc,
-            cells,
+            slot_count,
+            mut cells,
             mut branches,
             ..
         } = self;
         branches.clear();
+        if n_saves == slot_count {
+            cells.restart(n_saves);
+            return Ok(State {
+                alloc,
+                slot_count,
+                cells,
+                branches,
+                max_stack,
+            });
+        }
         Ok(State {
             alloc,
             slot_count: n_saves,

@@ -58,8 +58,10 @@ pub(crate) enum Next {
     On,
     /// Starts were passed over.
     Passed,
-    /// The match of the machine's slots is answered, or else the one that is held, or none.
-    Ends { by_slots: bool },
+    /// The match of the machine's slots is answered.
+    Matches,
+    /// The match that is held is answered, or none.
+    Ends,
 }
 
 /// Why a run stops without an answer: it passed a limit, or a request for memory was refused.
@@ -128,13 +130,14 @@ impl<'a> Machine<'a> {
     }
 
     /// Falls back to the last branch.
+    #[inline(always)]
     pub(crate) fn fail(&mut self) -> Result<Next, Stop>
         ensures task { self.new.task ≡ self.old.task }
         ensures leads { StepAnswers
             (machine.fail (plain_task self.old.task) (config_of self.old)) result self.new }
     {
         if self.state.backtrack_count() == 0 {
-            return Ok(Next::Ends { by_slots: false });
+            return Ok(Next::Ends);
         }
         if self.backtracks >= self.task.options.backtrack_limit {
             return Err(Stop::Limit(RuntimeError::BacktrackLimitExceeded));
@@ -145,6 +148,7 @@ impl<'a> Machine<'a> {
     }
 
     /// Goes on at the next instruction where the test holds, and else fails.
+    #[inline(always)]
     pub(crate) fn goes_if(&mut self, test: bool) -> Result<Next, Stop>
         requires pc { self.old.pc < usize.MAX }
         ensures task { self.new.task ≡ self.old.task }
@@ -159,6 +163,7 @@ impl<'a> Machine<'a> {
     }
 
     /// Goes on at the next instruction from this place, and fails where there is none.
+    #[inline(always)]
     pub(crate) fn goes_from(&mut self, to: Option<usize>) -> Result<Next, Stop>
         requires pc { self.old.pc < usize.MAX }
         ensures task { self.new.task ≡ self.old.task }
@@ -188,6 +193,7 @@ impl<'a> Machine<'a> {
     }
 
     /// Adds a branch of this machine at another place of the program.
+    #[inline(always)]
     pub(crate) fn push(&mut self, pc: usize) -> Result<(), Stop>
         ensures task { self.new.task ≡ self.old.task }
         ensures room { OnOk result (length (config_of self.old).branches < config.most_branches) }

@@ -55,7 +55,32 @@ pub(crate) fn past_literal(literal: &CaseiLiteral, text: &str, ix: usize) -> Opt
 }
 
 /// Past one character of the class.
+#[inline(always)]
 pub(crate) fn past_class(
+    alloc: Global,
+    class: &CharClassMatcher,
+    text: &str,
+    ix: usize,
+) -> Result<Option<usize>, AllocError>
+    ensures { IfOk result
+        (λ to. to ≡ moves.past_char text.now (class_test (class_of class.now)) ix) }
+{
+    let Some(byte) = text.as_bytes().get(ix) else {
+        return Ok(None);
+    };
+    if *byte >= 128 {
+        return past_other(alloc, class, text, ix);
+    }
+    if class.takes_ascii(*byte) {
+        Ok(Some(ix + 1))
+    } else {
+        Ok(None)
+    }
+}
+
+/// The same, whatever character stands there.
+#[inline(never)]
+fn past_other(
     alloc: Global,
     class: &CharClassMatcher,
     text: &str,

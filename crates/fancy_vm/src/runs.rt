@@ -182,6 +182,7 @@ impl Scratch {
     ghost use Rattle.fancy_vm.specs.declared.machine.Task as tasks;
 
     /// A machine at the start of the task, with the scratch's memory.
+    #[inline(always)]
     fn begin<'a>(&mut self, task: Task<'a>) -> Result<Machine<'a>, Error>
         requires { task.prog.now.parts.explicit_group_0 ≡ false }
         ensures task { IfOk result (λ m. m.task ≡ task.entry) }
@@ -210,6 +211,7 @@ impl Scratch {
     }
 
     /// Memos of a run of which nothing is noted yet, with the scratch's memory.
+    #[inline(always)]
     fn take_memos(&mut self) -> Memos
         ensures { (task : tasks.Task) → AreMemosOf task result }
     {
@@ -220,6 +222,7 @@ impl Scratch {
     }
 
     /// Keeps the memory of a run for the next one.
+    #[inline(always)]
     fn keep(&mut self, m: Machine<'_>, memos: Memos) {
         let Machine { state, longest, .. } = m;
         self.state = Some(state);
@@ -231,6 +234,7 @@ impl Scratch {
 impl Machine<'_> {
     /// Steps until the match of the slots is to be answered, or the run ends: then the match that is held is to be
     /// answered, or none.
+    #[inline(never)]
     fn run(&mut self, memos: &mut Memos) -> Result<bool, Stop>
         requires begins { config_of self.old ≡ machine.begin (plain_task self.old.task) }
         requires text { IsUtf8 self.old.task.text.now }
@@ -245,7 +249,8 @@ impl Machine<'_> {
             match self.step(memos)? {
                 Next::On => {}
                 Next::Passed => left = left.saturating_sub(self.passed),
-                Next::Ends { by_slots } => return Ok(by_slots),
+                Next::Matches => return Ok(true),
+                Next::Ends => return Ok(false),
             }
         }
         Err(Stop::Limit(RuntimeError::StepLimitExceeded))

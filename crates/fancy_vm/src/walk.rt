@@ -137,7 +137,8 @@ impl<'a> Walk<'a> {
         let passed = match machine.step(&mut memos)? {
             Next::On => 0,
             Next::Passed => machine.passed,
-            Next::Ends { by_slots } => return Ok(Progress::Ends(machine.ending(by_slots)?)),
+            Next::Matches => return Ok(Progress::Ends(machine.ending(true)?)),
+            Next::Ends => return Ok(Progress::Ends(machine.ending(false)?)),
         };
         if passed >= left {
             return Err(Error::RuntimeError(RuntimeError::StepLimitExceeded));

@@ -1,4 +1,4 @@
-use Rattle.std.proofs.Common.{◌≡◌, ◌-◌, ℕ, sym, ap, ◌∙◌, subst, refl, Err, IsTrue}
+use Rattle.std.proofs.Common.{◌≡◌, ◌-◌, ℕ, sym, ap, ◌∙◌, subst, refl, Err, IsTrue, true, false}
 use Rattle.std.proofs.lemmas.Result.{err_from_is_err_and}
 use Rattle.fancy_meaning.specs.Config.{Ends, Goes, Outcome}
 use Rattle.fancy_meaning.specs.Machine as machine
@@ -86,6 +86,19 @@ returns-in_err-step-clause-finds c =
 pub returns-in_err-step-clause-task : goal.returns-in_err-step-clause-task
 returns-in_err-step-clause-task c = c.in_err-step.ensures.task ∙ c.steps.invariant.task
 
+pub returns-in-Matches-clause-task : goal.returns-in-Matches-clause-task
+returns-in-Matches-clause-task c = c.in_ok-step.ensures.task ∙ c.steps.invariant.task
+
+pub returns-in-Matches-clause-finds : goal.returns-in-Matches-clause-finds
+returns-in-Matches-clause-finds c =
+    let task = c.args.self.now.task in
+    let now = config_of c.steps.self in
+    let left : ℕ = c.steps.left in
+    let end = Ends (ending true c.step.new.self) in
+    let leads : next_of (plain_task task) now ≡ end =
+    subst (λ (t : Task). next_of (plain_task t) now ≡ end) c.steps.invariant.task (rw c.in-Matches.is at c.in_ok-step.ensures.leads) in
+    sym c.steps.invariant.same ∙ runs_out (plain_task task) now left _ c.steps-test.true leads
+
 pub returns-in-Ends-clause-task : goal.returns-in-Ends-clause-task
 returns-in-Ends-clause-task c = c.in_ok-step.ensures.task ∙ c.steps.invariant.task
 
@@ -94,7 +107,7 @@ returns-in-Ends-clause-finds c =
     let task = c.args.self.now.task in
     let now = config_of c.steps.self in
     let left : ℕ = c.steps.left in
-    let end = Ends (ending c.in-Ends.by_slots c.step.new.self) in
+    let end = Ends (ending false c.step.new.self) in
     let leads : next_of (plain_task task) now ≡ end =
     subst (λ (t : Task). next_of (plain_task t) now ≡ end) c.steps.invariant.task (rw c.in-Ends.is at c.in_ok-step.ensures.leads) in
     sym c.steps.invariant.same ∙ runs_out (plain_task task) now left _ c.steps-test.true leads

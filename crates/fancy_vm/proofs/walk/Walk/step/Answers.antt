@@ -1,4 +1,4 @@
-use Rattle.std.proofs.Common.{◌+◌, ◌-◌, ◌<◌, ℕ, sym, ap, ◌∙◌, subst, refl, Ok, Err, IsTrue, IsUtf8, arith}
+use Rattle.std.proofs.Common.{◌+◌, ◌-◌, ◌<◌, ℕ, sym, ap, ◌∙◌, subst, refl, true, false, Ok, Err, IsTrue, IsUtf8, arith}
 use Rattle.std.proofs.lemmas.Result.{err_from_is_err_and}
 use Rattle.fancy_meaning.specs.Config.{Outcome}
 use Rattle.fancy_meaning.specs.Fits.{run_fits}
@@ -29,12 +29,22 @@ returns-in_err-step c =
     (subst (λ (w : Standing). RunAnswers (machine.run (task_in w)) (Err (error_of c.in_err-step.field-0.0))) c.self.view_is
     (stops_so t c.self.inside.steps (config_of m) c.step.new.self c.in_err-step.field-0.0 c.self.invariant.on_run some c.in_err-step.ensures.leads))
 
+pub returns-in-Matches : goal.returns-in-Matches
+returns-in-Matches c =
+    let m = c.self.inside.machine in
+    let t = plain_task m.task in
+    let some : 0 < t.step_limit - c.self.inside.steps = omega (arith, c.if-left-eq0.false) in
+    let same = ends_so t c.self.inside.steps (config_of m) (ending true c.step.new.self) c.self.invariant.on_run some
+    (rw c.in-Matches.is at c.in_ok-step.ensures.leads) in
+    subst (λ (w : Standing). RunAnswers (machine.run (task_in w)) (Ok c.in_ok-ending-in-Matches.field-0)) c.self.view_is
+    (subst (λ (o : Outcome). RunAnswers o (Ok c.in_ok-ending-in-Matches.field-0)) (sym same) c.in_ok-ending-in-Matches.ensures)
+
 pub returns-in-Ends : goal.returns-in-Ends
 returns-in-Ends c =
     let m = c.self.inside.machine in
     let t = plain_task m.task in
     let some : 0 < t.step_limit - c.self.inside.steps = omega (arith, c.if-left-eq0.false) in
-    let same = ends_so t c.self.inside.steps (config_of m) (ending c.in-Ends.by_slots c.step.new.self) c.self.invariant.on_run some
+    let same = ends_so t c.self.inside.steps (config_of m) (ending false c.step.new.self) c.self.invariant.on_run some
     (rw c.in-Ends.is at c.in_ok-step.ensures.leads) in
     subst (λ (w : Standing). RunAnswers (machine.run (task_in w)) (Ok c.in_ok-ending-in-Ends.field-0)) c.self.view_is
     (subst (λ (o : Outcome). RunAnswers o (Ok c.in_ok-ending-in-Ends.field-0)) (sym same) c.in_ok-ending-in-Ends.ensures)
