@@ -4,7 +4,9 @@ pub mod NumbersLaws
 pub mod BeginningLaws
 pub mod StartRunLaws
 pub mod StartsLaws
+pub mod CountLaws
 pub mod AttemptLaws
+pub mod LazyLoopsLaws
 pub mod StepLaws
 pub mod WalksLaws
 pub mod BackLaws

@@ -7,6 +7,7 @@ pub mod Stops
 pub mod Beginnings
 pub mod StartRuns
 pub mod Attempts
+pub mod LazyLoops
 pub mod Tails
 pub mod Stretches
 pub mod Outcomes

@@ -5,6 +5,7 @@ mod attempt;
 mod beginning;
 mod delegates;
 mod insn;
+mod lazy;
 mod listing;
 mod longest;
 mod machine;

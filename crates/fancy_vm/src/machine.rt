@@ -38,7 +38,7 @@ pub(crate) struct Machine<'a> {
     /// Where the attempt began.
     pub(crate) start: usize,
     pub(crate) backtracks: usize,
-    /// How many instructions after the first one stand for the last step that passed over starts.
+    /// How many instructions after the first one stand for the last step that passed over starts or rounds of a loop.
     pub(crate) passed: u64,
     pub(crate) state: State,
     /// The longest match so far, where the longest is asked for.
@@ -56,7 +56,7 @@ pub(crate) struct Machine<'a> {
 #[derive(Clone, Copy)]
 pub(crate) enum Next {
     On,
-    /// Starts were passed over.
+    /// Starts, or rounds of a loop, were passed over.
     Passed,
     /// The match of the machine's slots is answered.
     Matches,

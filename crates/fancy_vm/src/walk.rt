@@ -116,8 +116,8 @@ impl<'a> Walk<'a> {
         self.steps
     }
 
-    /// Executes the instruction where it stands, or all those of starts that are passed over together. The walk comes
-    /// back where the run goes on.
+    /// Executes the instruction where it stands, or all those of starts or of rounds of a lazy loop that are passed
+    /// over together. The walk comes back where the run goes on.
     ///
     /// A `RuntimeError` tells which limit the run passed, and `Memory` that a request for memory was refused. Either
     /// ends the walk.
