@@ -1,5 +1,5 @@
 -- A loop over one character comes in one go to where its iterations come one by one.
-use Rattle.std.proofs.Common.{◌≡◌, ◌≤◌, ◌<◌, ◌+◌, ◌-◌, ◌*◌, ◌++◌, ℕ, zero, suc, Bool, true, false, List, [], ◌∷◌, Option, Some, None, IsTrue, map, min, nat_lt, not, option_map, if◌then◌else◌, true≢false, Result, Ok, Err, IfOk, IfSome, ⊎_elim, length, slice_get, slice_index_or, refl, sym, ap, ap₂, ◌∙◌, subst, arith}
+use Rattle.std.proofs.Common.{◌≡◌, ◌≤◌, ◌<◌, ◌+◌, ◌-◌, ◌*◌, ◌++◌, ℕ, zero, suc, Bool, true, false, List, [], ◌∷◌, Option, Some, None, IsTrue, map, min, nat_lt, not, option_map, if◌then◌else◌, true≢false, Result, Ok, Err, IfErr, IfOk, IfSome, ⊎_elim, length, slice_get, slice_index_or, refl, sym, ap, ap₂, ◌∙◌, subst, arith}
 use Rattle.std.proofs.lemmas.Bool.{cases_lt, cond-false}
 use Rattle.std.proofs.lemmas.Bool.Decides.{nat_tests}
 use Rattle.std.proofs.lemmas.Option.{none-some, slice_get-map}
@@ -17,17 +17,19 @@ use Rattle.fancy_plain.specs.declared.point.CharTest.{CharTest}
 use Rattle.fancy_plain.specs.declared.point.Loop as code
 use Rattle.fancy_plain.specs.declared.point.Point.{Point}
 use Rattle.fancy_plain.specs.declared.point.Point.TheVariants as point
+use Rattle.fancy_plain.specs.declared.search.Lead.{Lead}
+use Rattle.fancy_plain.specs.declared.search.Lead.TheVariants as lead
 use Rattle.fancy_plain.specs.declared.search.Memo.{Memo}
 use Rattle.fancy_plain.specs.declared.search.Task.{Task}
 use Rattle.fancy_plain.specs.Choices.{choices_of, run_choices}
 use Rattle.fancy_plain.specs.Paths.{EndsTurns, HasTurns, IsStand, turn_of}
-use Rattle.fancy_plain.specs.Runs.{CanPass, FailsFrom, GoesOn, IsBody, IsForkOf, IsLostAt, IsRun, Refuses, Repeats, RunsOver, onward, run_later, run_search}
-use Rattle.fancy_plain.specs.Searches.{AreKept, HaveFailed, IsHere, IsSearch, IsTask, Keeps, Leading, fails_of, after_steps_of, leading_of, next_of}
+use Rattle.fancy_plain.specs.Runs.{CanPass, FailsFrom, GoesOn, IsBody, IsForkOf, IsLostAt, IsRun, Passes, Refuses, Repeats, RunsOver, onward, run_later, run_search}
+use Rattle.fancy_plain.specs.Searches.{AreKept, HaveFailed, IsHere, IsSearch, IsTask, Keeps, Leading, Leads, fails_of, after_steps_of, leading_of, next_of}
 use Rattle.fancy_plain.specs.Views.{IsReadBy, loop_of, point_of, test_of}
 use Rattle.fancy_plain.specs.FailedPairs.{has_pair, key_of}
 use Rattle.fancy_plain.proofs.BackLaws.{back_noted, one_more, steps_then}
 use Rattle.fancy_plain.proofs.BeginningLaws.{at_index, passes_alike, past_ascii, past_end}
-use Rattle.fancy_plain.proofs.SearchLaws.{inside, key_outside, leads_by, next_there, same_tries}
+use Rattle.fancy_plain.proofs.SearchLaws.{here_by, here_past, inside, key_outside, leads_by, more_points, next_there, one_visit, same_tries}
 
 -- ---- the heads of loops
 
@@ -112,6 +114,31 @@ module _ (task : Task) (here : Stand) (first : ℕ) (out : plain.Stand → plain
   back_step : (t : plain.Stand) (g : Search) → t.at ≡ first + 1 →
       next_of task (TakesUp t g) ≡ TakesUp (goes_to here.at t) g
   back_step t g e = next_there task (point.Jump here.at) (record here { at = first + 1 }) t (sym e) back g
+
+  -- where no character passes, it goes on by the way out
+  pub body_fails : (f : Search) → f.failed (pair_of s) ≡ false → Refuses task test s.place →
+      (leading_of task s ≡ plain.Tries true (goes_to first s) (out s ∷ []))
+      × (after_steps_of task 3 (TakesUp s f)
+      ≡ TakesUp (out s) (record f { later = plain.Fails (pair_of s) ∷ f.later; visits = f.visits + 2 }))
+  body_fails f free none =
+      let same : s.place + 0 ≡ s.place = omega arith in
+      let lead : leading_of task s ≡ plain.Tries true (goes_to first s) (out s ∷ []) =
+      subst (λ i. leading_of task (record s { place = i }) ≡ plain.Tries true (goes_to first (record s { place = i })) (out (record s { place = i }) ∷ []))
+      same (forks 0) in
+      let all = map point_of (task.points).now in
+      let g = taken f s in
+      let up : next_of task (TakesUp s f) ≡ TakesUp (goes_to first s) g =
+      ap (λ l. plain.next_by l (slice_get all s.at) s f) lead ∙ cond-false (f.failed (pair_of s)) _ _ free
+      ∙ ap (λ c. TakesUp (goes_to first s) (plain.with_later (plain.Other (out s) ∷ plain.Fails (pair_of s) ∷ [])
+      (if c then record f { visits = f.visits + 1 } else f))) (ap (λ k. plain.is_counted (slice_get all k)) (sym at) ∙ counted) in
+      let gone : next_of task (TakesUp (goes_to first s) g) ≡ plain.TakesBack (record g { visits = g.visits + 1 }) =
+      next_there task (point.Take test) (record here { at = first }) (goes_to first s) refl body g
+      ∙ ap (λ o. plain.next_by (plain.goes_past (goes_to first s) o) (Some (points.Take (test_of test))) (goes_to first s) g) none in
+      let two : f.visits + 1 + 1 ≡ f.visits + 2 = omega arith in (
+        lead,
+        ap (after_steps_of task 2) up ∙ ap (next_of task) gone
+            ∙ ap (λ v. TakesUp (out s) (record f { later = plain.Fails (pair_of s) ∷ f.later; visits = v })) two,
+      )
 
   -- where an iteration after n of them comes to
   behind : (n : ℕ) (f : Search) →
@@ -293,19 +320,27 @@ pub one_further : (task : Task) (m : Memo) (test : CharTest) (here : Stand) (at 
 one_further task m test here at on before this i from below =
     ⊎_elim (λ lt. before i from lt) (λ ge. subst (CanPass task m test here) {x = at} (omega (arith, ge, below)) this) (cases_lt i at)
 
+-- a character of ASCII that passes
+passes_at : (task : Task) (test : CharTest) (at : ℕ) → at < length (task.text).now → slice_index_or (task.text).now at 0 < 128 →
+    passes [] task.unicode (test_of test) (slice_index_or (task.text).now at 0) ≡ true → Passes task test at
+passes_at task test at within ascii takes =
+    past_ascii (task.text).now (passes (task.text).now task.unicode (test_of test)) at (slice_index_or (task.text).now at 0)
+    (at_index (task.text).now at 0 within) ascii true
+    (sym (passes_alike (task.text).now task.unicode (test_of test) (slice_index_or (task.text).now at 0)) ∙ takes)
+
+pub passes_by : (bytes : List ℕ) (task : Task) (test : CharTest) (at : ℕ) → bytes ≡ (task.text).now → at < length bytes →
+    slice_index_or bytes at 0 < 128 → passes [] task.unicode (test_of test) (slice_index_or bytes at 0) ≡ true → Passes task test at
+passes_by bytes task test at e within ascii takes =
+    passes_at task test at (subst (λ t. at < length t) e within) (subst (λ t. slice_index_or t at 0 < 128) e ascii)
+    (subst (λ t. passes [] task.unicode (test_of test) (slice_index_or t at 0) ≡ true) e takes)
+
 -- a character of ASCII that passes, where the head may have a way
 may_pass : (task : Task) (m : Memo) (test : CharTest) (here : Stand) (at : ℕ) → at < length (task.text).now →
     slice_index_or (task.text).now at 0 < 128 →
     passes [] task.unicode (test_of test) (slice_index_or (task.text).now at 0) ≡ true →
     ((s : plain.Stand) (failed : plain.Pair → Bool) → IsHere m (record here { place = at }) s → HaveFailed m failed → failed (pair_of s) ≡ false) →
     CanPass task m test here at
-may_pass task m test here at within ascii takes free = record {
-  passes =
-      past_ascii (task.text).now (passes (task.text).now task.unicode (test_of test)) at (slice_index_or (task.text).now at 0)
-      (at_index (task.text).now at 0 within) ascii true
-      (sym (passes_alike (task.text).now task.unicode (test_of test) (slice_index_or (task.text).now at 0)) ∙ takes);
-  free = free;
-}
+may_pass task m test here at within ascii takes free = record { passes = passes_at task test at within ascii takes; free = free }
 
 -- the same by the bytes of the text
 pub may_pass_by : (bytes : List ℕ) (task : Task) (m : Memo) (test : CharTest) (here : Stand) (at : ℕ) → bytes ≡ (task.text).now →
@@ -461,3 +496,101 @@ refused_by_test task test place b here small true refuses e = absurd (true≢fal
 refused_by_test task test place b here small false refuses e =
     past_ascii (task.text).now (passes (task.text).now task.unicode (test_of test)) place b here small false
     (sym (passes_alike (task.text).now task.unicode (test_of test) b) ∙ sym e)
+
+-- ---- tests one by one
+
+-- past a test that passes
+pub test_passed : (task : Task) (m counted : Memo) (on : Stand) (test : CharTest) (t : plain.Stand) (g : Search) (most : ℕ) →
+    slice_get (task.points).now on.at ≡ Some (point.Take test) → Passes task test on.place →
+    counted ≡ record m { visits = min most (m.visits + 1) } → IsSearch (leading_of task) m g → IsHere m on t →
+    GoesOn task (TakesUp t g) counted (record on { at = on.at + 1; place = on.place + 1 })
+test_passed task m counted on test t g most there pass more h here =
+    let past = past_char (task.text).now (passes (task.text).now task.unicode (test_of test)) in (
+      1,
+      (
+        record g { visits = g.visits + 1 },
+        (
+          record (plain.forward t) { place = on.place + 1 },
+          (
+            next_there task (point.Take test) on t here.at there g
+                ∙ ap (λ o. plain.next_by (plain.goes_past t o) (Some (points.Take (test_of test))) t g) (ap past (sym here.place) ∙ pass),
+            one_visit (leading_of task) m g h counted most more,
+            here_past counted on t (on.place + 1) (here_by m counted on t (ap (λ (x : Memo). x.log) more) here),
+          ),
+        ),
+      ),
+    )
+
+-- ---- out of a loop over one character
+
+-- the other way on is taken up, where the pair is kept to be noted and two points were taken up
+abbrev pub out_of : plain.Stand → plain.Stand → Search → plain.Next
+out_of s other f = TakesUp other (record f { later = plain.Fails (pair_of s) ∷ f.later; visits = f.visits + 2 })
+
+-- where the search is when the loop is left: what take_other is asked, and how it came there
+pub record Left (task : Task) (counted : Memo) (here : Stand) (s : plain.Stand) (f : Search) : Type 0 where
+  pub one : plain.Stand
+  pub other : plain.Stand
+  pub steps : ℕ
+  pub lead : leading_of task s ≡ plain.Tries true one (other ∷ [])
+  pub comes : after_steps_of task steps (TakesUp s f) ≡ out_of s other f
+  pub search : IsSearch (leading_of task) counted (record f { visits = f.visits + 2 })
+  pub stands : IsHere counted here s
+
+pub body_left : (task : Task) (m counted : Memo) (here : Stand) (test : CharTest) (s : plain.Stand) (f : Search) (most : ℕ) →
+    RunsOver task m here test → Refuses task test here.place →
+    ((s : plain.Stand) (failed : plain.Pair → Bool) → IsHere m here s → HaveFailed m failed → failed (pair_of s) ≡ false) →
+    counted ≡ record m { visits = min most (m.visits + 2) } → IsSearch (leading_of task) m f → IsHere m here s →
+    Left task counted here s f
+body_left task m counted here test s f most over none free more h stands =
+    let loop = over s stands in
+    let first = loop.0 in
+    let out = loop.1.0 in
+    let body = loop.1.1.2 in
+    let fails = body_fails task here first out test body.0 body.1 s stands.at loop.1.1.0 loop.1.1.1 f (free s f.failed stands h.failed)
+    (subst (λ i. Refuses task test i) stands.place none) in
+    record {
+      one = goes_to first s;
+      other = out s;
+      steps = 3;
+      lead = fails.0;
+      comes = fails.1;
+      search = more_points (leading_of task) m f h counted most 2 more;
+      stands = here_by m counted here s (ap (λ (x : Memo). x.log) more) stands;
+    }
+
+-- where a point is taken up, a step leads there
+pub never_lost : (task : Task) (s other : plain.Stand) (here : Stand) (failed : plain.Pair → Bool) (g : Search) (l : Lead) (m : Memo) →
+    ((x : Stand) → l ≡ lead.Goes x → ⊥) → Leads (leading_of task) s here failed (TakesUp other g) (Ok l) m → ⊥
+never_lost task s other here failed g lead.Found m not (x, (is, h, stands)) = no_end is
+  where
+    no_end : TakesUp other g ≡ plain.Ends (Some s) x → ⊥
+    no_end is = cc
+never_lost task s other here failed g lead.Lost m not (x, (is, rest)) = no_back is
+  where
+    no_back : TakesUp other g ≡ plain.TakesBack x → ⊥
+    no_back is = cc
+never_lost task s other here failed g (lead.Goes there) m not h = not there refl
+
+-- past a run, and then out of the loop
+pub past_loop : (task : Task) (m between new : Memo) (here on : Stand) (r : Result Stand AllocError) →
+    ((s : plain.Stand) (f : Search) → IsSearch (leading_of task) m f → IsHere m here s → GoesOn task (TakesUp s f) between on) →
+    IfOk r (λ out. (s : plain.Stand) (f : Search) → IsSearch (leading_of task) between f → IsHere between on s →
+    GoesOn task (TakesUp s f) new out) →
+    IfOk r (λ out. (s : plain.Stand) (f : Search) → IsSearch (leading_of task) m f → IsHere m here s → GoesOn task (TakesUp s f) new out)
+past_loop task m between new here on (Err e) first further = tt
+past_loop task m between new here on (Ok out) first further = λ s f h stands.
+    let one = first s f h stands in
+    goes_on_then task (TakesUp s f) one.0 one.1.0 one.1.1.0 new out one.1.1.1.0 (further one.1.1.0 one.1.0 one.1.1.1.1 one.1.1.1.2)
+
+-- where memory is refused then
+pub past_loop_refused : (task : Task) (m between new : Memo) (here on : Stand) (r : Result Stand AllocError) →
+    between.failed ≡ m.failed →
+    ((s : plain.Stand) (f : Search) → IsSearch (leading_of task) m f → IsHere m here s → GoesOn task (TakesUp s f) between on) →
+    IfErr r (λ _. (s : plain.Stand) (f : Search) → IsSearch (leading_of task) between f → IsHere between on s → HaveFailed new f.failed) →
+    IfErr r (λ _. (s : plain.Stand) (f : Search) → IsSearch (leading_of task) m f → IsHere m here s → HaveFailed new f.failed)
+past_loop_refused task m between new here on (Ok out) same first further = tt
+past_loop_refused task m between new here on (Err e) same first further = λ s f h stands p.
+    let one = first s f h stands in
+    further one.1.1.0 one.1.0 one.1.1.1.1 one.1.1.1.2 p ∙ sym (one.1.1.1.1.failed p)
+    ∙ ap (λ x. has_pair x (key_of p)) same ∙ h.failed p

@@ -239,14 +239,18 @@ module _ (leading : Leading) (m : Memo) (f : plain.Search) (h : IsSearch leading
   pub renumbered : (new : Memo) → new ≡ record m { numbers = new.numbers } → IsSearch leading new f
   renumbered new e = subst (λ n. IsSearch leading n f) (sym e) (record { later = h.later; failed = h.failed; visits = h.visits })
 
-  pub one_visit : (new : Memo) (most : ℕ) → new ≡ record m { visits = min most (m.visits + 1) } →
-      IsSearch leading new (record f { visits = f.visits + 1 })
-  one_visit new most e =
-      subst (λ n. IsSearch leading n (record f { visits = f.visits + 1 })) (sym e)
+  pub more_points : (new : Memo) (most n : ℕ) → new ≡ record m { visits = min most (m.visits + n) } →
+      IsSearch leading new (record f { visits = f.visits + n })
+  more_points new most n e =
+      subst (λ x. IsSearch leading x (record f { visits = f.visits + n })) (sym e)
       (record { later = h.later; failed = h.failed; visits = fewer })
     where
-      fewer : min most (m.visits + 1) ≤ f.visits + 1
+      fewer : min most (m.visits + n) ≤ f.visits + n
       fewer = let v = h.visits in omega (arith, v)
+
+  pub one_visit : (new : Memo) (most : ℕ) → new ≡ record m { visits = min most (m.visits + 1) } →
+      IsSearch leading new (record f { visits = f.visits + 1 })
+  one_visit new most e = more_points new most 1 e
 
 -- the same stand, where the path is the same
 pub here_by : (m n : Memo) (s : Stand) (t : plain.Stand) → n.log ≡ m.log → IsHere m s t → IsHere n s t

@@ -82,3 +82,9 @@ abbrev pub IsLostAt : Task → (at place : ℕ) → Type 0
 IsLostAt t at place =
     (s one other : plain.Stand) (is_noted : Bool) → s.at ≡ at → s.place ≡ place → leading_of t s ≡ plain.Tries is_noted one (other ∷ []) →
     (is_noted ≡ true) × (other.place ≡ place) × FailsFrom t other.at place
+
+-- ---- tests one by one
+
+-- a character of one byte that passes stands at the place
+abbrev pub Passes : Task → CharTest → (place : ℕ) → Type 0
+Passes t test place = past_char (t.text).now (passes (t.text).now t.unicode (test_of test)) place ≡ Some (place + 1)

@@ -71,6 +71,25 @@ pub fn first_way_with(
             visits: 0,
         });
     }
+    first_way_from(alloc, table, text, ix, memo)
+}
+
+/// The same where it was asked whether a way can begin there.
+pub fn first_way_from(
+    alloc: Global,
+    table: &PointTable,
+    text: &str,
+    ix: usize,
+    memo: &mut Memo,
+) -> Result<FirstWay, Error>
+    requires place { IsTrue (is_place text.now ix) }
+    requires table { ∥ IsOfNodes table.now ∥₁ }
+    requires memo { IsMemoOf text.now table.now memo.old }
+    ensures first { IfOk result (IsFirstWay text.now table.now ix) }
+    ensures ascends { IfOk result HasAscending }
+    ensures memo { IsMemoOf text.now table.now memo.new }
+    ensures refused { IfErr result IsMemory }
+{
     let task = Task {
         points: &table.points,
         unicode: table.unicode,
@@ -97,6 +116,27 @@ pub fn first_way_with(
 
 /// The last span of each group that was closed, by ascending number.
 fn spans(alloc: Global, entries: &[Entry]) -> Result<Vec<(usize, usize, usize)>, AllocError>
+    ensures listed { IfOk result (λ spans. (g : ℕ) → listed spans.items g
+        ≡ spans_of (closed_after [] entries.now) g) }
+    ensures ascends { IfOk result (λ spans. Ascends spans.items) }
+{
+    let mut spans = Vec::new(alloc);
+    let mut behind = 0;
+    for entry in entries {
+        if let Entry::Closed { group, from, to } = entry {
+            if *group < behind || *group == usize::MAX {
+                return spans_by_map(alloc, entries);
+            }
+            spans.push((*group, *from, *to))?;
+            behind = *group + 1;
+        }
+    }
+    Ok(spans)
+}
+
+/// The same, whatever the order in which they were closed.
+#[inline(never)]
+fn spans_by_map(alloc: Global, entries: &[Entry]) -> Result<Vec<(usize, usize, usize)>, AllocError>
     ensures listed { IfOk result (λ spans. (g : ℕ) → listed spans.items g
         ≡ spans_of (closed_after [] entries.now) g) }
     ensures ascends { IfOk result (λ spans. Ascends spans.items) }

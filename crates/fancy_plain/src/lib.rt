@@ -12,3 +12,4 @@ mod point;
 mod runs;
 pub mod search;
 pub mod table;
+mod tests;

@@ -1,21 +1,40 @@
 //! Loops over one character: many iterations at once, and ways out of them that fail at their first test.
 
-ghost use Rattle.std.specs.Prelude.{◌≡◌, ◌≤◌, ◌+◌, IsTrue, IfOk, IfSome};
+ghost use Rattle.std.specs.Prelude.{◌≡◌, ◌≤◌, ◌+◌, IsTrue, IfErr, IfOk, IfSome};
 ghost use Rattle.fancy_points.specs.PointSearch as plain;
 ghost use Rattle.fancy_points.specs.PointSearch.{Search, TakesUp};
 ghost use Rattle.fancy_plain.specs.Views.{IsReadBy};
 ghost use Rattle.fancy_plain.specs.Runs.{FailsFrom, GoesOn, IsBody, IsLostAt, IsRun, Refuses, RunsOver};
-ghost use Rattle.fancy_plain.specs.Searches.{IsHere, IsSearch, IsTask, leading_of};
+ghost use Rattle.fancy_plain.specs.Searches.{HaveFailed, IsHere, IsSearch, IsTask, leading_of};
 
 use crate::log::Stand;
 use crate::point::{CharTest, Point, byte_at};
-use crate::search::{Memo, Task};
+use crate::search::{Lead, Memo, Task};
 use std::alloc::AllocError;
 
 impl Task<'_> {
+    /// At the head of a loop over one character, past the characters that pass, and out of the loop where one fails.
+    #[inline(always)]
+    pub(crate) fn past_loop(&self, m: &mut Memo, stand: Stand) -> Result<Stand, AllocError>
+        requires { IsTask self.now }
+        ensures ok { IfOk result (λ on. (s : plain.Stand) (f : Search)
+            → IsSearch (leading_of self.now) m.old f → IsHere m.old stand s
+            → GoesOn self.now (TakesUp s f) m.new on) }
+        ensures failed { IfErr result (λ _. (s : plain.Stand) (f : Search)
+            → IsSearch (leading_of self.now) m.old f → IsHere m.old stand s
+            → HaveFailed m.new f.failed) }
+    {
+        if self.body_test(m, stand).is_none() {
+            return Ok(stand);
+        }
+        let on = self.past_run(m, stand)?;
+        self.past_body(m, on)
+    }
+
     /// At the head of a loop over one character, past the characters from here on that pass: those of ASCII, up to a place
     /// where the head may have no way. A choice is kept at each.
-    pub(crate) fn past_run(&self, m: &mut Memo, stand: Stand) -> Result<Stand, AllocError>
+    #[inline(always)]
+    fn past_run(&self, m: &mut Memo, stand: Stand) -> Result<Stand, AllocError>
         requires { IsTask self.now }
         ensures ok { IfOk result (λ on. (s : plain.Stand) (f : Search)
             → IsSearch (leading_of self.now) m.old f → IsHere m.old stand s
@@ -30,6 +49,31 @@ impl Task<'_> {
             return Ok(stand);
         }
         m.keep_run(stand, count)
+    }
+
+    /// At the head of a loop over one character where none is that passes, out of the loop if that does not fail at once,
+    /// and past the tests behind it.
+    #[inline(always)]
+    fn past_body(&self, m: &mut Memo, stand: Stand) -> Result<Stand, AllocError>
+        requires { IsTask self.now }
+        ensures ok { IfOk result (λ on. (s : plain.Stand) (f : Search)
+            → IsSearch (leading_of self.now) m.old f → IsHere m.old stand s
+            → GoesOn self.now (TakesUp s f) m.new on) }
+        ensures failed { IfErr result (λ _. (s : plain.Stand) (f : Search)
+            → IsSearch (leading_of self.now) m.old f → IsHere m.old stand s
+            → HaveFailed m.new f.failed) }
+    {
+        let Some(test) = self.body_test(m, stand) else {
+            return Ok(stand);
+        };
+        if !self.is_refused(test, stand.place) || m.may_have_failed(stand) || self.is_lost(stand) {
+            return Ok(stand);
+        }
+        m.count_more(2);
+        match self.take_other(m, stand)? {
+            Lead::Goes(out) => Ok(self.past_tests(m, out)),
+            _ => Ok(stand),
+        }
     }
 
     /// The test on a character that is the body of the loop whose head is here, where the way on into it comes first and
@@ -113,6 +157,7 @@ impl Task<'_> {
     }
 
     /// There is no character here, or it is of ASCII and fails the test.
+    #[inline(always)]
     fn is_refused(&self, test: &CharTest, place: usize) -> bool
         requires { IsReadBy self.now.unicode test.now }
         ensures { IsTrue result → Refuses self.now test.now place }

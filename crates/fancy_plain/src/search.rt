@@ -197,10 +197,17 @@ impl Memo {
     }
 
     /// One more point is taken up.
-    fn count(&mut self)
+    pub(crate) fn count(&mut self)
         ensures { self.new ≡ record self.old { visits = min u64.MAX (self.old.visits + 1) } }
     {
         self.visits = self.visits.saturating_add(1);
+    }
+
+    /// So many more points are taken up.
+    pub(crate) fn count_more(&mut self, points: u64)
+        ensures { self.new ≡ record self.old { visits = min u64.MAX (self.old.visits + points) } }
+    {
+        self.visits = self.visits.saturating_add(points);
     }
 
     /// Whether the pair of this stand is known to have no way.
@@ -515,9 +522,9 @@ impl Task<'_> {
             → IsSearch (leading_of self.now) m.old f → IsHere m.old start s
             → EndsAs self.now (TakesUp s f) result m.new }
     {
-        let mut stand = start;
+        let mut stand = self.past_tests(m, start);
         'steps: for _ in 0..u64::MAX {
-            stand = self.past_run(m, stand)?;
+            stand = self.past_loop(m, stand)?;
             match self.advance(m, stand)? {
                 Lead::Found => return Ok(Some(stand)),
                 Lead::Goes(next) => stand = next,
@@ -644,7 +651,8 @@ impl Task<'_> {
     }
 
     /// On at the other way from this stand.
-    fn take_other(&self, m: &mut Memo, stand: Stand) -> Result<Lead, AllocError>
+    #[inline(always)]
+    pub(crate) fn take_other(&self, m: &mut Memo, stand: Stand) -> Result<Lead, AllocError>
         ensures { (s first other : plain.Stand) (is_noted : Bool) (f : Search)
             (rest : List plain.Later)
             → IsSearch (leading_of self.now) m.old (record f { later = rest })
@@ -660,6 +668,7 @@ impl Task<'_> {
     }
 
     /// On at the other way from this point.
+    #[inline(always)]
     fn other_from(&self, point: &Point, m: &mut Memo, stand: Stand) -> Result<Lead, AllocError>
         requires { slice_get self.now.points.now stand.at ≡ Some point.now }
         ensures { (s first other : plain.Stand) (is_noted : Bool) (f : Search)

@@ -1,36 +1,53 @@
-use Rattle.std.proofs.Common.{◌≡◌, [], ◌++◌, map, arith, sym, ap, ◌∙◌, append-nil}
+use Rattle.std.proofs.Common.{◌+◌, [], ℕ, sym, ap, ◌∙◌, subst, arith}
+use Rattle.std.specs.Global.{Vec}
 use Rattle.std.proofs.lemmas.List.{take_all}
-use Rattle.std.specs.BTreeMap as tree
-use Rattle.std.specs.Map.{lookup}
-use Rattle.std.specs.Ordering.{nat_cmp}
 use Rattle.fancy_points.specs.FirstWays.{spans_of}
 use Rattle.fancy_plain.specs.Paths.{closed_after}
-use Rattle.fancy_plain.specs.Ways.{span_entry}
-use Rattle.fancy_plain.proofs.WayLaws.{lookup_tied, spans_put, spans_stay}
+use Rattle.fancy_plain.specs.Ways.{listed}
+use Rattle.fancy_plain.proofs.WayLaws.{AreBelow, Rise, ascends_by, below_more, closed_put, rise_more, spans_stay}
 use Rattle.fancy_plain.proofs.first_way.spans.Goals as goal
-use Rattle.fancy_plain.proofs.first_way.spans.Goals.{in-Closed+in_ok-insert, in_default}
+use Rattle.fancy_plain.proofs.first_way.spans.Goals.{in-Closed+else-group-behind+else-group+in_ok-push, in_default}
+
+abbrev Spans : Type 0
+Spans = Vec (ℕ × ℕ × ℕ)
+
+pub loop-entry-init : goal.loop-entry-init
+loop-entry-init c =
+    let none = sym c.new-spans.ensures.items in
+    (subst (AreBelow 0) none tt, subst Rise none tt, λ g. ap (λ l. listed l g) c.new-spans.ensures.items)
 
 pub loop-entry-preserved : goal.loop-entry-preserved
-loop-entry-preserved c = λ g.
-    let had = tree.get nat_cmp c.loop-entry.last g in
+loop-entry-preserved c =
+    let had = c.loop-entry.invariant in
     elim c.match-entry.branch [
-      | in-Closed+in_ok-insert w ↦
-          ap (λ m. tree.get nat_cmp m g) w.last-is
-          ∙ spans_put c.args.entries.now c.loop-entry.entry-index g had (tree.get nat_cmp w.insert.new.self g)
-          c.loop-entry-test.true (c.loop-entry.invariant g)
-          _ w.in-Closed.group w.in-Closed.from w.in-Closed.to w.in-Closed.is (w.in_ok-insert.ensures.updates.0 g)
+      | in-Closed+else-group-behind+else-group+in_ok-push w ↦
+          let group = w.in-Closed.group in
+          let items = ap (λ (v : Spans). v.items) w.spans-is ∙ w.in_ok-push.ensures.items in
+          let le = w.if-group-behind.false in (
+            subst (λ n. AreBelow n c.match-entry.spans.items) (sym w.behind-is)
+                (subst (AreBelow (group + 1)) (sym items) (below_more c.loop-entry.behind group w.in-Closed.from w.in-Closed.to le _ had.0)),
+            subst Rise (sym items) (rise_more c.loop-entry.behind group w.in-Closed.from w.in-Closed.to le _ had.0 had.1),
+            λ g.
+                ap (λ l. listed l g) items
+                ∙ closed_put c.args.entries.now c.loop-entry.entry-index g c.loop-entry.behind group w.in-Closed.from w.in-Closed.to
+                c.loop-entry.spans.items _ c.loop-entry-test.true le had.0 (had.2 g) w.in-Closed.is,
+          )
       | in_default w ↦
-          ap (λ m. tree.get nat_cmp m g) w.last-is
-          ∙ spans_stay c.args.entries.now c.loop-entry.entry-index g had had
-          c.loop-entry-test.true (c.loop-entry.invariant g) _ w.in_default.not-Closed
+          let items = ap (λ (v : Spans). v.items) w.spans-is in (
+            subst (λ n. AreBelow n c.match-entry.spans.items) (sym w.behind-is) (subst (AreBelow c.loop-entry.behind) (sym items) had.0),
+            subst Rise (sym items) had.1,
+            λ g.
+                ap (λ l. listed l g) items
+                ∙ spans_stay c.args.entries.now c.loop-entry.entry-index g (listed c.loop-entry.spans.items g)
+                (listed c.loop-entry.spans.items g) c.loop-entry-test.true (had.2 g) _ w.in_default.not-Closed,
+          )
     ]
+
+pub returns-clause-ascends : goal.returns-clause-ascends
+returns-clause-ascends c = ascends_by c.loop-entry.spans.items c.loop-entry.invariant.1
 
 pub returns-clause-listed : goal.returns-clause-listed
 returns-clause-listed c = λ g.
-    let entries = map span_entry c.loop-group.spans.items in
-    let whole : entries ≡ c.loop-entry.last.entries =
-    sym (append-nil entries) ∙ ap (λ rest. entries ++ rest) (sym c.in-None.ensures.steps.0)
-    ∙ c.loop-group.invariant ∙ c.into_iter-group-iterator.ensures.into_iter_gives.0 in
-    lookup_tied g entries ∙ ap (λ es. lookup (tree.is_at (nat_cmp g)) es) whole ∙ c.loop-entry.invariant g
+    c.loop-entry.invariant.2 g
     ∙ ap (λ es. spans_of (closed_after [] es) g)
     (take_all c.loop-entry.entry-index c.args.entries.now (omega (arith, c.loop-entry-test.false)))

@@ -1,13 +1,11 @@
-use Rattle.std.proofs.Common.{◌≡◌, ◌++◌, ℕ, [], map, take}
-use Rattle.std.specs.BTreeMap as tree
-use Rattle.std.specs.Ordering.{nat_cmp}
+use Rattle.std.proofs.Common.{◌≡◌, ℕ, [], take}
 use Rattle.fancy_points.specs.FirstWays.{spans_of}
 use Rattle.fancy_plain.specs.Paths.{closed_after}
-use Rattle.fancy_plain.specs.Ways.{span_entry}
+use Rattle.fancy_plain.specs.Ways.{listed}
+use Rattle.fancy_plain.proofs.WayLaws.{AreBelow, Rise}
 use Rattle.fancy_plain.proofs.first_way.spans.Given as goal
 
 abbrev pub invariant-loop-entry : goal.invariant-loop-entry
-invariant-loop-entry l = (g : ℕ) → tree.get nat_cmp l.last g ≡ spans_of (closed_after [] (take l.entry-index l.entries)) g
-
-abbrev pub invariant-loop-group : goal.invariant-loop-group
-invariant-loop-group l = map span_entry l.spans.items ++ l.group-iterator ≡ l.initial.group-iterator
+invariant-loop-entry l =
+    AreBelow l.behind l.spans.items × Rise l.spans.items
+    × ((g : ℕ) → listed l.spans.items g ≡ spans_of (closed_after [] (take l.entry-index l.entries)) g)

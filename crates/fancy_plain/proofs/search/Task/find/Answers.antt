@@ -1,32 +1,31 @@
-use Rattle.std.proofs.Common.{Ok, refl, sym, ap, ◌∙◌, subst}
+use Rattle.std.proofs.Common.{Ok, sym, ap, ◌∙◌, subst}
 use Rattle.std.proofs.lemmas.Result.{err_from_is_err_and}
 use Rattle.fancy_points.specs.FirstWays.{search_in}
 use Rattle.fancy_points.specs.PointSearch.{TakesUp}
-use Rattle.fancy_plain.specs.FailedPairs.{has_pair, key_of}
 use Rattle.fancy_plain.specs.Searches.{Advances}
 use Rattle.fancy_plain.proofs.BackLaws.{ends_err, ends_found, ends_lost, goes_further}
 use Rattle.fancy_plain.proofs.RunLaws.{goes_on_then}
 use Rattle.fancy_plain.proofs.search.Task.find.Goals as goal
 
 pub steps-init : goal.steps-init
-steps-init c = λ s f h here. (0, (f, (s, (refl, h, here))))
+steps-init c = c.past_tests-stand.ensures.on
 
 pub returns-in_err-stand : goal.returns-in_err-stand
 returns-in_err-stand c = λ s f h here.
-    let on = c.steps.invariant s f h here in
+    let was = c.steps.invariant s f h here in
     let p = err_from_is_err_and c.from_residual.result c.from_residual.ensures.1 in
     rw p.1 (
-      on.0,
+      was.0,
       λ q.
-          ap (λ x. has_pair x (key_of q)) c.in_err-stand.ensures.failed ∙ on.1.1.1.1.failed q
-          ∙ sym (ap (λ x. (search_in x).failed q) on.1.1.1.0),
+          c.in_err-stand.ensures.failed was.1.1.0 was.1.0 was.1.1.1.1 was.1.1.1.2 q
+          ∙ sym (ap (λ x. (search_in x).failed q) was.1.1.1.0),
     )
 
 pub returns-in_err-advance : goal.returns-in_err-advance
 returns-in_err-advance c = λ s f h here.
     let task = c.args.self.now in
     let was = c.steps.invariant s f h here in
-    let on = goes_on_then task (TakesUp s f) was.0 was.1.0 was.1.1.0 c.past_run.new.m c.in_ok-stand.stand was.1.1.1.0
+    let on = goes_on_then task (TakesUp s f) was.0 was.1.0 was.1.1.0 c.past_loop.new.m c.in_ok-stand.stand was.1.1.1.0
     (c.in_ok-stand.ensures.ok was.1.1.0 was.1.0 was.1.1.1.1 was.1.1.1.2) in
     let p = err_from_is_err_and c.from_residual-in_err-advance.result c.from_residual-in_err-advance.ensures.1 in
     rw p.1
@@ -37,7 +36,7 @@ pub returns-in-Found : goal.returns-in-Found
 returns-in-Found c = λ s f h here.
     let task = c.args.self.now in
     let was = c.steps.invariant s f h here in
-    let on = goes_on_then task (TakesUp s f) was.0 was.1.0 was.1.1.0 c.past_run.new.m c.in_ok-stand.stand was.1.1.1.0
+    let on = goes_on_then task (TakesUp s f) was.0 was.1.0 was.1.1.0 c.past_loop.new.m c.in_ok-stand.stand was.1.1.1.0
     (c.in_ok-stand.ensures.ok was.1.1.0 was.1.0 was.1.1.1.1 was.1.1.1.2) in
     ends_found task on.0 (TakesUp s f) (TakesUp on.1.1.0 on.1.0) c.in_ok-stand.stand c.advance.new.m on.1.1.1.0
     (subst (λ l. Advances task c.in_ok-stand.stand (TakesUp on.1.1.0 on.1.0) (Ok l) c.advance.new.m) c.in-Found.is
@@ -47,7 +46,7 @@ pub returns-in-Lost : goal.returns-in-Lost
 returns-in-Lost c = λ s f h here.
     let task = c.args.self.now in
     let was = c.steps.invariant s f h here in
-    let on = goes_on_then task (TakesUp s f) was.0 was.1.0 was.1.1.0 c.past_run.new.m c.in_ok-stand.stand was.1.1.1.0
+    let on = goes_on_then task (TakesUp s f) was.0 was.1.0 was.1.1.0 c.past_loop.new.m c.in_ok-stand.stand was.1.1.1.0
     (c.in_ok-stand.ensures.ok was.1.1.0 was.1.0 was.1.1.1.1 was.1.1.1.2) in
     ends_lost task on.0 (TakesUp s f) (TakesUp on.1.1.0 on.1.0) c.in_ok-stand.stand c.advance.new.m on.1.1.1.0
     (subst (λ l. Advances task c.in_ok-stand.stand (TakesUp on.1.1.0 on.1.0) (Ok l) c.advance.new.m) c.in-Lost.is
@@ -57,7 +56,7 @@ pub steps-preserved : goal.steps-preserved
 steps-preserved c = λ s f h here.
     let task = c.args.self.now in
     let was = c.steps.invariant s f h here in
-    let on = goes_on_then task (TakesUp s f) was.0 was.1.0 was.1.1.0 c.past_run.new.m c.in_ok-stand.stand was.1.1.1.0
+    let on = goes_on_then task (TakesUp s f) was.0 was.1.0 was.1.1.0 c.past_loop.new.m c.in_ok-stand.stand was.1.1.1.0
     (c.in_ok-stand.ensures.ok was.1.1.0 was.1.0 was.1.1.1.1 was.1.1.1.2) in
     goes_further task on.0 (TakesUp s f) (TakesUp on.1.1.0 on.1.0) c.in_ok-stand.stand c.in-Goes.next c.advance.new.m on.1.1.1.0
     (subst (λ l. Advances task c.in_ok-stand.stand (TakesUp on.1.1.0 on.1.0) (Ok l) c.advance.new.m) c.in-Goes.is
