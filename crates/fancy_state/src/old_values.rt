@@ -152,6 +152,7 @@ impl Cells {
     }
 
     /// Changes a cell. Where there is a mark, what it held is logged, once since then.
+    #[inline(always)]
     pub(crate) fn set(
         &mut self,
         mark: Option<usize>,

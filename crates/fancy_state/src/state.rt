@@ -167,6 +167,7 @@ impl State {
     }
 
     /// Sets a slot as `save` does.
+    #[inline(always)]
     pub fn set_slot(&mut self, slot: usize, value: usize) -> Result<(), AllocError>
         requires { slot < length self.old.slots }
         ensures ok { OnOk result

@@ -181,6 +181,7 @@ impl<'a> Machine<'a> {
     }
 
     /// Sets a slot.
+    #[inline(always)]
     pub(crate) fn put(&mut self, slot: usize, value: usize) -> Result<(), AllocError>
         requires { slot < length self.old.state.slots }
         ensures task { self.new.task ≡ self.old.task }
