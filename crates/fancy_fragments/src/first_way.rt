@@ -46,3 +46,21 @@ pub fn first_way_with(
 {
     fancy_plain::first_way::first_way_with(alloc, &fragment.table, text, ix, memo)
 }
+
+/// The same where it was asked whether a way can begin there.
+pub fn first_way_from(
+    alloc: Global,
+    fragment: &Fragment,
+    text: &str,
+    ix: usize,
+    memo: &mut Memo,
+) -> Result<FirstWay, Error>
+    requires place { IsTrue (is_place text.now ix) }
+    requires memo { IsMemoFor text.now fragment.now memo.old }
+    ensures first { IfOk result (IsFirstWayOf text.now fragment.now ix) }
+    ensures ascends { IfOk result HasAscending }
+    ensures memo { IsMemoFor text.now fragment.now memo.new }
+    ensures refused { IfErr result IsMemory }
+{
+    fancy_plain::first_way::first_way_from(alloc, &fragment.table, text, ix, memo)
+}
