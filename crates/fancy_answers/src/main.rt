@@ -12,8 +12,8 @@ mod states;
 use fancy_regex_engine::vm::Scratch;
 use fancy_tables::tables::{Table, print_table};
 use std::alloc::{AllocError, Global};
-use std::rt::Files;
 use std::io;
+use std::rt::Files;
 
 /// One scratch serves all rows.
 #[derive(Drop)]
