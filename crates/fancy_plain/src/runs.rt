@@ -24,26 +24,27 @@ impl Task<'_> {
             → IsSearch (leading_of self.now) m.old f → IsHere m.old stand s
             → HaveFailed m.new f.failed) }
     {
-        if self.body_test(m, stand).is_none() {
+        let Some(test) = self.body_test(m, stand) else {
             return Ok(stand);
+        };
+        let on = self.past_run(m, test, stand)?;
+        if !self.is_refused(test, on.place) {
+            return Ok(on);
         }
-        let on = self.past_run(m, stand)?;
         self.past_body(m, on)
     }
 
-    /// At the head of a loop over one character, past the characters from here on that pass: those of ASCII, up to a place
+    /// At the head of a loop over this test, past the characters from here on that pass: those of ASCII, up to a place
     /// where the head may have no way. A choice is kept at each.
     #[inline(always)]
-    fn past_run(&self, m: &mut Memo, stand: Stand) -> Result<Stand, AllocError>
-        requires { IsTask self.now }
+    fn past_run(&self, m: &mut Memo, test: &CharTest, stand: Stand) -> Result<Stand, AllocError>
+        requires runs { RunsOver self.now m.old stand test.now }
+        requires read { IsReadBy self.now.unicode test.now }
         ensures ok { IfOk result (λ on. (s : plain.Stand) (f : Search)
             → IsSearch (leading_of self.now) m.old f → IsHere m.old stand s
             → GoesOn self.now (TakesUp s f) m.new on) }
         ensures failed { m.new.failed ≡ m.old.failed }
     {
-        let Some(test) = self.body_test(m, stand) else {
-            return Ok(stand);
-        };
         let count = self.run_length(m, test, stand);
         if count == 0 {
             return Ok(stand);
@@ -108,6 +109,7 @@ impl Task<'_> {
     }
 
     /// How many characters of ASCII from here on pass the test, up to a place where the head may have no way.
+    #[inline(always)]
     fn run_length(&self, m: &Memo, test: &CharTest, stand: Stand) -> usize
         requires { IsReadBy self.now.unicode test.now }
         ensures run { IsRun self.now m.now test.now stand result }
@@ -126,6 +128,7 @@ impl Task<'_> {
     }
 
     /// The other way on from the head of a loop fails at its first test.
+    #[inline(always)]
     pub(crate) fn is_lost(&self, stand: Stand) -> bool
         requires { IsTask self.now }
         ensures { IsTrue result → IsLostAt self.now stand.at stand.place }
@@ -142,6 +145,7 @@ impl Task<'_> {
 
     /// From this point on a test comes first, behind groups that end, and the character here is none that passes: there is
     /// no more, or it is of ASCII and fails.
+    #[inline(always)]
     fn fails_at(&self, at: usize, place: usize) -> bool
         requires { IsTask self.now }
         ensures { IsTrue result → FailsFrom self.now at place }

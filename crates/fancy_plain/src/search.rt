@@ -535,6 +535,7 @@ impl Task<'_> {
     }
 
     /// Takes up the point, and where it leads nowhere goes back to what is tried later.
+    #[inline(always)]
     fn advance(&self, m: &mut Memo, stand: Stand) -> Result<Lead, AllocError>
         requires { IsTask self.now }
         ensures { (s : plain.Stand) (f : Search)
@@ -548,6 +549,7 @@ impl Task<'_> {
     }
 
     /// Takes up the point.
+    #[inline(always)]
     fn take_up(&self, m: &mut Memo, stand: Stand) -> Result<Lead, AllocError>
         requires { IsTask self.now }
         ensures { (s : plain.Stand) (f : Search)
@@ -564,6 +566,7 @@ impl Task<'_> {
         }
     }
 
+    #[inline(always)]
     fn take_up_point(&self, point: &Point, m: &mut Memo, stand: Stand) -> Result<Lead, AllocError>
         requires at { slice_get self.now.points.now stand.at ≡ Some point.now }
         requires read { IsPointReadBy self.now.unicode point.now }
@@ -613,6 +616,7 @@ impl Task<'_> {
     }
 
     /// Past one character that passes the test.
+    #[inline(always)]
     fn take(&self, test: &CharTest, m: &mut Memo, stand: Stand) -> Result<Lead, AllocError>
         requires at { stand.at < usize.MAX }
         requires read { IsReadBy self.now.unicode test.now }
@@ -635,6 +639,7 @@ impl Task<'_> {
     }
 
     /// Back to the last choice that has an untried way on. Each that was tried on the way back has none.
+    #[inline(always)]
     fn take_back(&self, m: &mut Memo) -> Result<Lead, AllocError>
         requires { IsTask self.now }
         ensures { (f : Search) → IsSearch (leading_of self.now) m.old f
