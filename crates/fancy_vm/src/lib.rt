@@ -6,6 +6,7 @@ mod beginning;
 mod delegates;
 mod insn;
 mod lazy;
+mod limits;
 mod listing;
 mod longest;
 mod machine;
