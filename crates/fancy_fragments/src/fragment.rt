@@ -1,6 +1,6 @@
 //! Fragments: neighbouring easy nodes that are searched for plainly.
 
-ghost use Rattle.std.specs.Prelude.{◌≡◌, ◌*◌, ℕ, List, Some, false, IfOk, IfErr, IsTrue, map, nat_le, slice_get};
+ghost use Rattle.std.specs.Prelude.{◌≡◌, ◌<◌, ◌*◌, ◌+◌, ℕ, List, Some, false, IfOk, IfErr, IsTrue, map, nat_le, slice_get};
 ghost use Rattle.fancy_meaning.specs.Fits.{fragment_fits};
 ghost use Rattle.fancy_meaning.specs.Places.{is_place};
 ghost use Rattle.fancy_meaning.specs.Premises.{IsText};
@@ -89,6 +89,15 @@ impl Fragment {
             → slice_get text ix ≡ Some byte → HasNoWayFrom text self.now ix }
     {
         self.table.refuses(byte)
+    }
+
+    /// Whether no way can begin where this byte stands behind an ASCII character.
+    pub fn refuses_next(&self, byte: u8) -> bool
+        ensures { IsTrue result → (text : List ℕ) (ix first : ℕ) → IsText text
+            → IsTrue (is_place text ix) → slice_get text ix ≡ Some first → first < 128
+            → slice_get text (ix + 1) ≡ Some byte → HasNoWayFrom text self.now ix }
+    {
+        self.table.refuses_next(byte)
     }
 
     /// What searches of the fragment in one text, from `pos` on, have noted: nothing yet.

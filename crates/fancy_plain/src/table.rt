@@ -1,6 +1,6 @@
 //! Fragments: neighbouring easy nodes, laid out as points.
 
-ghost use Rattle.std.specs.Prelude.{◌≡◌, ℕ, List, Some, false, IfErr, IfOk, IsTrue, map, slice_get};
+ghost use Rattle.std.specs.Prelude.{◌≡◌, ◌<◌, ◌+◌, ℕ, List, Some, false, IfErr, IfOk, IsTrue, map, slice_get};
 ghost use Rattle.fancy_info.specs.Infos.{info_tree};
 ghost use Rattle.fancy_expr.specs.Each.{Each};
 ghost use Rattle.fancy_meaning.specs.Options.{Analysis};
@@ -83,6 +83,18 @@ impl PointTable {
         match self.beginnings.first() {
             None => false,
             Some(ascii) => byte < 128 && !ascii[byte as usize],
+        }
+    }
+
+    /// Whether no way can begin where this byte stands behind an ASCII character.
+    pub fn refuses_next(&self, byte: u8) -> bool
+        ensures { IsTrue result → (text : List ℕ) (ix first : ℕ) → IsText text
+            → IsTrue (is_place text ix) → slice_get text ix ≡ Some first → first < 128
+            → slice_get text (ix + 1) ≡ Some byte → HasNoWayAt text self.now ix }
+    {
+        match self.beginnings.get(1) {
+            None => false,
+            Some(second) => byte < 128 && !second[byte as usize],
         }
     }
 }
