@@ -103,6 +103,23 @@ impl State {
         })
     }
 
+    /// How many slots there are.
+    pub fn slot_count(&self) -> usize
+        ensures { result ≡ length self.now.slots }
+    {
+        self.slot_count
+    }
+
+    /// Makes it as `new` does, with as many slots as it has. It takes no memory.
+    #[inline(always)]
+    pub fn restart(&mut self, max_stack: usize)
+        ensures { self.new ≡ first_held (length self.old.slots) max_stack }
+    {
+        self.branches.clear();
+        self.max_stack = max_stack;
+        self.cells.restart(self.slot_count);
+    }
+
     /// Adds a branch at a place of the program and a byte of the text; it keeps the slots and the explicit stack.
     /// `StackOverflow` exactly where `max_stack` branches are held, and `Memory` where a request for memory was refused;
     /// the state is then as before.

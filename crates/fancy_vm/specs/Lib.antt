@@ -2,6 +2,7 @@ pub mod Insns
 pub mod Programs
 pub mod MemoRuns
 pub mod Memos
+pub mod Ready
 pub mod Sound
 pub mod Stops
 pub mod Beginnings

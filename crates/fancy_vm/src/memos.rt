@@ -66,15 +66,13 @@ impl Memos {
     }
 
     /// For another run, of which nothing is noted yet.
-    pub(crate) fn renew(self, alloc: Global) -> Memos
-        ensures { (task : tasks.Task) → AreMemosOf task result }
+    #[inline(always)]
+    pub(crate) fn restart(&mut self, alloc: Global)
+        ensures { (task : tasks.Task) → AreMemosOf task self.new }
     {
         match self.run.checked_add(1) {
-            None => Memos::new(alloc),
-            Some(run) => Memos {
-                by_place: self.by_place,
-                run,
-            },
+            None => *self = Memos::new(alloc),
+            Some(run) => self.run = run,
         }
     }
 

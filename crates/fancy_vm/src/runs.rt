@@ -1,12 +1,13 @@
 //! Runs of a program.
 
-ghost use Rattle.std.specs.Prelude.{◌≡◌, IsTrue, IsUtf8, IfOk, IfErr, None, false};
+ghost use Rattle.std.specs.Prelude.{◌≡◌, IsTrue, IsUtf8, IfOk, IfErr, OnOk, length};
 ghost use Rattle.fancy_meaning.specs.Places.{is_place};
 ghost use Rattle.fancy_meaning.specs.Machine as machine;
 ghost use Rattle.fancy_meaning.specs.Fits.{run_fits};
 ghost use Rattle.fancy_vm.specs.Memos.{AreMemosOf};
 ghost use Rattle.fancy_vm.specs.Means.{IsMeaning, IsMeaningPair, numbers_of};
-ghost use Rattle.fancy_vm.specs.Outcomes.{Finds, RunAnswers, RunAnswersPair, config_of, held_match, plain_task};
+ghost use Rattle.fancy_vm.specs.Outcomes.{Finds, RunAnswers, RunAnswersPair, config_of, plain_task};
+ghost use Rattle.fancy_vm.specs.Ready.{AreReady, IsReady};
 ghost use Rattle.fancy_state.specs.Refused.{IsMemory};
 ghost use Rattle.fancy_vm.specs.Programs.{IsUnused, allocator_of, default_at, default_task, options_of, prog_of, task_of};
 
@@ -83,9 +84,15 @@ impl Default for RunOptions {
 #[derive(Drop)]
 pub struct Scratch {
     alloc: Global,
-    state: Option<State>,
-    memos: Option<Memos>,
-    longest: Option<Longest>,
+    parts: Option<Parts>,
+}
+
+/// What a run has in memory.
+#[derive(Drop)]
+pub(crate) struct Parts {
+    pub(crate) state: State,
+    pub(crate) longest: Longest,
+    pub(crate) memos: Memos,
 }
 
 impl Scratch {
@@ -95,12 +102,7 @@ impl Scratch {
         ensures unused { IsUnused result }
     {
         crosses_threads::<Scratch>();
-        Scratch {
-            alloc,
-            state: None,
-            memos: None,
-            longest: None,
-        }
+        Scratch { alloc, parts: None }
     }
 }
 
@@ -129,8 +131,13 @@ pub fn run(
         options,
         alloc,
     };
-    let mut m = scratch.begin(task)?;
-    let mut memos = scratch.take_memos();
+    scratch.renew(prog.parts.slots)?;
+    let Parts {
+        state,
+        longest,
+        mut memos,
+    } = scratch.take(prog.parts.slots);
+    let mut m = Machine::begin(&task, state, longest);
     let answer = m.answer(&mut memos);
     scratch.keep(m, memos);
     answer
@@ -155,8 +162,13 @@ pub fn run_spans(
         options,
         alloc,
     };
-    let mut m = scratch.begin(task)?;
-    let mut memos = scratch.take_memos();
+    scratch.renew(prog.parts.slots)?;
+    let Parts {
+        state,
+        longest,
+        mut memos,
+    } = scratch.take(prog.parts.slots);
+    let mut m = Machine::begin(&task, state, longest);
     let answer = m.answer_pair(&mut memos);
     scratch.keep(m, memos);
     answer
@@ -179,55 +191,101 @@ pub fn run_default(
 }
 
 impl Scratch {
-    ghost use Rattle.fancy_vm.specs.declared.machine.Task as tasks;
-
-    /// A machine at the start of the task, with the scratch's memory.
+    /// What a run of a program of so many slots begins with, in the memory that is there.
     #[inline(always)]
-    fn begin<'a>(&mut self, task: Task<'a>) -> Result<Machine<'a>, Error>
-        requires { task.prog.now.parts.explicit_group_0 ≡ false }
-        ensures task { IfOk result (λ m. m.task ≡ task.entry) }
-        ensures begins { IfOk result (λ m. config_of m ≡ machine.begin (plain_task m.task)) }
+    fn renew(&mut self, slots: usize) -> Result<(), Error>
+        ensures ready { OnOk result (IsReady slots self.new.parts) }
         ensures err { IfErr result IsMemory }
     {
-        let slots = task.prog.parts.slots;
-        let state = match self.state.take() {
-            None => State::new(self.alloc, slots, MAX_BRANCHES)?,
-            Some(state) => state.renew(slots, MAX_BRANCHES)?,
-        };
-        Ok(Machine::begin(&task, state, self.take_longest()))
-    }
-
-    /// No match is held, with the scratch's memory.
-    fn take_longest(&mut self) -> Longest
-        ensures { held_match result ≡ None }
-    {
-        match self.longest.take() {
-            None => Longest::new(self.alloc),
-            Some(mut longest) => {
-                longest.forget();
-                longest
+        let alloc = self.alloc;
+        if let Some(parts) = &mut self.parts {
+            if parts.state.slot_count() == slots {
+                parts.restart(alloc);
+                return Ok(());
             }
         }
+        self.make(slots)
     }
 
-    /// Memos of a run of which nothing is noted yet, with the scratch's memory.
-    #[inline(always)]
-    fn take_memos(&mut self) -> Memos
-        ensures { (task : tasks.Task) → AreMemosOf task result }
+    /// The same for another number of slots than before.
+    #[cold]
+    #[inline(never)]
+    fn make(&mut self, slots: usize) -> Result<(), Error>
+        ensures ready { OnOk result (IsReady slots self.new.parts) }
+        ensures err { IfErr result IsMemory }
     {
-        match self.memos.take() {
-            None => Memos::new(self.alloc),
-            Some(memos) => memos.renew(self.alloc),
-        }
+        let alloc = self.alloc;
+        let parts = match self.parts.take() {
+            None => Parts::new(alloc, slots)?,
+            Some(parts) => parts.resized(alloc, slots)?,
+        };
+        self.parts = Some(parts);
+        Ok(())
+    }
+
+    /// Takes out what a run begins with.
+    #[inline(always)]
+    fn take(&mut self, slots: usize) -> Parts
+        requires { IsReady slots self.old.parts }
+        ensures { AreReady slots result }
+    {
+        let Some(parts) = self.parts.take() else {
+            unreachable!()
+        };
+        parts
     }
 
     /// Keeps the memory of a run for the next one.
     #[inline(always)]
     fn keep(&mut self, m: Machine<'_>, memos: Memos) {
         let Machine { state, longest, .. } = m;
-        self.state = Some(state);
-        self.longest = Some(longest);
-        self.memos = Some(memos);
+        self.parts = Some(Parts {
+            state,
+            longest,
+            memos,
+        });
+    }
+}
+
+impl Parts {
+    fn new(alloc: Global, slots: usize) -> Result<Parts, Error>
+        ensures ready { IfOk result (AreReady slots) }
+        ensures err { IfErr result IsMemory }
+    {
+        Ok(Parts {
+            state: State::new(alloc, slots, MAX_BRANCHES)?,
+            longest: Longest::new(alloc),
+            memos: Memos::new(alloc),
+        })
+    }
+
+    /// For a run of a program of so many slots.
+    fn resized(self, alloc: Global, slots: usize) -> Result<Parts, Error>
+        ensures ready { IfOk result (AreReady slots) }
+        ensures err { IfErr result IsMemory }
+    {
+        let Parts {
+            state,
+            mut longest,
+            mut memos,
+        } = self;
+        longest.forget();
+        memos.restart(alloc);
+        Ok(Parts {
+            state: state.renew(slots, MAX_BRANCHES)?,
+            longest,
+            memos,
+        })
+    }
+
+    /// For another run of a program of as many slots.
+    #[inline(always)]
+    fn restart(&mut self, alloc: Global)
+        ensures { AreReady (length self.old.state.slots) self.new }
+    {
+        self.state.restart(MAX_BRANCHES);
+        self.longest.forget();
+        self.memos.restart(alloc);
     }
 }
 
