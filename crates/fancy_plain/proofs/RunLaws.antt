@@ -285,6 +285,44 @@ past_run task m new test here count (Ok on) over run keeps = λ s f h stands.
     in
     (steps.0, (run_search out count s f, (onward count s, (steps.1, kept.0, kept.1))))
 
+-- a loop is gone over where a run of it ends as where it began
+pub runs_onward : (task : Task) (m new : Memo) (here : Stand) (test : CharTest) (count : ℕ) → new.log ≡ m.log →
+    RunsOver task m here test → RunsOver task new (record here { place = here.place + count }) test
+runs_onward task m new here test count log over = λ s stands.
+    let began : plain.Stand = record s { place = here.place } in
+    let first_here : IsHere m here began =
+    at_beginning m.log.entries.items (length m.log.entries.items)
+    (subst (λ (l : Log). IsStand l.entries.items (length l.entries.items) (record here { place = here.place + count }) s) log stands) in
+    let loop = over began first_here in
+    let first = loop.0 in
+    let out = loop.1.0 in
+    let forks : IsForkOf (leading_of task) first out s =
+    λ n.
+    let same : here.place + (count + n) ≡ s.place + n = let p = stands.place in omega (arith, p) in
+    subst (λ i. leading_of task (record s { place = i }) ≡ plain.Tries true (goes_to first (record s { place = i })) (out (record s { place = i }) ∷ []))
+    same (loop.1.1.0 (count + n)) in
+    (first, (out, (forks, loop.1.1.1, loop.1.1.2)))
+  where
+    at_beginning : (entries : List Entry) (path : ℕ) → {s : plain.Stand} → IsStand entries path (record here { place = here.place + count }) s →
+        IsStand entries path here (record s { place = here.place })
+    at_beginning entries path h = record {
+      at = h.at;
+      place = refl;
+      turns_link = h.turns_link;
+      opened_link = h.opened_link;
+      turns = h.turns;
+      opened = h.opened;
+      spans = h.spans;
+    }
+
+-- the same for where it went
+pub run_over : (task : Task) (m new : Memo) (here : Stand) (test : CharTest) (count : ℕ) (r : Result Stand AllocError) →
+    new.log ≡ m.log → RunsOver task m here test → IfOk r (λ on. on ≡ record here { place = here.place + count }) →
+    IfOk r (λ on. RunsOver task new on test)
+run_over task m new here test count (Err e) log over is = tt
+run_over task m new here test count (Ok on) log over is =
+    subst (λ x. RunsOver task new x test) (sym is) (runs_onward task m new here test count log over)
+
 counted_at : (task : Task) (at : ℕ) (p : Point) → slice_get (task.points).now at ≡ Some p → plain.is_counted (Some (point_of p)) ≡ true →
     plain.is_counted (slice_get (map point_of (task.points).now) at) ≡ true
 counted_at task at p there counts =

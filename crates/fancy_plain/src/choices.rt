@@ -1,6 +1,7 @@
 //! Choices on the path of a search. The last one is taken back first.
 
 use crate::log::Stand;
+use crate::room::push;
 use std::alloc::{AllocError, Global};
 
 /// A choice on the path: where it stands, how long the path is, and whether its other way on is still untried.
@@ -61,15 +62,16 @@ impl Choices {
     }
 
     /// One more, and such a one at each of so many bytes before it.
+    #[inline(always)]
     pub(crate) fn push(&mut self, choice: Choice, before: usize) -> Result<(), AllocError>
         ensures { OnOk result
             (choices_of self.new ≡ run_choices before choice ++ choices_of self.old) }
     {
-        self.runs.push(Run { choice, before })?;
-        Ok(())
+        push(&mut self.runs, Run { choice, before })
     }
 
     /// Takes the last one back.
+    #[inline(always)]
     pub(crate) fn pop(&mut self) -> Option<Choice>
         ensures { Pops (choices_of self.old) result (choices_of self.new) }
     {

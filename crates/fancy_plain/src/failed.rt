@@ -50,6 +50,7 @@ impl Failed {
     }
 
     /// Nothing was noted.
+    #[inline(always)]
     pub(crate) fn is_empty(&self) -> bool
         ensures { IsTrue result → (k : List ℕ) → has_pair self.now k ≡ false }
     {
@@ -67,6 +68,7 @@ impl Failed {
     }
 
     /// The same of a pair outside all loops that count.
+    #[inline(always)]
     pub(crate) fn has_outside(&self, at: usize, place: usize) -> bool
         ensures { result ≡ has_pair self.now (at ∷ place ∷ []) }
     {
@@ -77,6 +79,7 @@ impl Failed {
     }
 
     /// One more.
+    #[inline(never)]
     pub(crate) fn add(&mut self, alloc: Global, pair: &[usize]) -> Result<(), AllocError>
         ensures ok { OnOk result ((k : List ℕ) → has_pair self.new k
             ≡ (same_numbers k pair.now || has_pair self.old k)) }
@@ -91,8 +94,27 @@ impl Failed {
             }
         }
     }
+
+    /// One more, outside all loops that count.
+    #[inline(always)]
+    pub(crate) fn add_outside(
+        &mut self,
+        alloc: Global,
+        at: usize,
+        place: usize,
+    ) -> Result<(), AllocError>
+        ensures ok { OnOk result ((k : List ℕ) → has_pair self.new k
+            ≡ (same_numbers k (at ∷ place ∷ []) || has_pair self.old k)) }
+        ensures err { OnErr result ((k : List ℕ) → has_pair self.new k ≡ has_pair self.old k) }
+    {
+        match self.pair_bits.bit_outside(self.base, at, place) {
+            Some(bit) => set_bit(&mut self.bits, bit),
+            None => self.add(alloc, &[at, place]),
+        }
+    }
 }
 
+#[inline(always)]
 fn has_bit(bits: &[u64], bit: usize) -> bool
     ensures { result ≡ bit_is_set bits.now bit }
 {

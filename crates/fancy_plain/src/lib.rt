@@ -9,6 +9,7 @@ mod layout;
 mod log;
 mod pair_bits;
 mod point;
+mod room;
 mod runs;
 pub mod search;
 pub mod table;

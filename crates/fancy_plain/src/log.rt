@@ -4,6 +4,7 @@ ghost use Rattle.std.specs.Prelude.{◌≡◌, ◌++◌, ◌∷◌, [], ◌≤�
 ghost use Rattle.fancy_points.specs.PointSearch as plain;
 ghost use Rattle.fancy_plain.specs.Paths.{HasTurns, HasOpened, EndsTurns, EndsOpened};
 
+use crate::room::push;
 use std::alloc::{AllocError, Global};
 
 /// One entry of the path. A link to an entry is its index and one more; 0 is no link.
@@ -90,6 +91,7 @@ impl Log {
         self.entries.len()
     }
 
+    #[inline(always)]
     pub(crate) fn truncate(&mut self, len: usize)
         ensures { self.new.entries.items ≡ take len self.old.entries.items }
     {
@@ -97,16 +99,18 @@ impl Log {
     }
 
     /// One more entry, and the link to it.
+    #[inline(always)]
     pub(crate) fn push(&mut self, entry: Entry) -> Result<usize, AllocError>
         ensures link { IfOk result (λ link. link ≡ length self.old.entries.items + 1) }
         ensures entries { IfOk result (λ _. self.new.entries.items
             ≡ self.old.entries.items ++ (entry ∷ [])) }
     {
-        self.entries.push(entry)?;
+        push(&mut self.entries, entry)?;
         Ok(self.entries.len())
     }
 
     /// The iteration that is linked to, and the link to the one around.
+    #[inline(always)]
     pub(crate) fn turn(&self, link: usize) -> Option<(Turn, usize)>
         ensures turns { (turns : List plain.Turn) → HasTurns self.now.entries.items link turns
             → EndsTurns self.now.entries.items link turns result }
@@ -119,6 +123,7 @@ impl Log {
     }
 
     /// Where the group that is linked to began, and the link to the one around.
+    #[inline(always)]
     pub(crate) fn opened(&self, link: usize) -> Option<(usize, usize)>
         ensures { (opened : List ℕ) → HasOpened self.now.entries.items link opened
             → EndsOpened self.now.entries.items link opened result }

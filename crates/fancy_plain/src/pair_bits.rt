@@ -169,6 +169,7 @@ impl PairBits {
     }
 
     /// The bit of a pair outside all loops that count.
+    #[inline(always)]
     pub(crate) fn bit_outside(self, base: usize, at: usize, place: usize) -> Option<usize>
         ensures { result ≡ pair_bit self base (at ∷ place ∷ []) }
     {
@@ -180,6 +181,7 @@ impl PairBits {
     }
 
     /// The bit with this number among those of its place.
+    #[inline(always)]
     fn place_bit(self, base: usize, place: usize, number: usize) -> Option<usize>
         ensures { result ≡ place_bit self.width base place number }
     {

@@ -64,6 +64,7 @@ pub(crate) enum Point {
 
 impl CharTest {
     /// Whether this ASCII character passes.
+    #[inline(always)]
     pub(crate) fn takes_ascii(&self, unicode: bool, c: u8) -> bool
         requires small { c < 128 }
         requires read { IsReadBy unicode self.now }
@@ -72,7 +73,11 @@ impl CharTest {
         match self {
             CharTest::Any { newline, crlf } => *newline || !(c == 10 || (*crlf && c == 13)),
             CharTest::One { c: one, casei } => {
-                literal_takes(unicode, *one as u32, *casei, c as u32)
+                if *casei {
+                    literal_takes(unicode, *one as u32, true, c as u32)
+                } else {
+                    *one as u32 == c as u32
+                }
             }
             CharTest::Class(class) => class.takes_ascii(c),
         }

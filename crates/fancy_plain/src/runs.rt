@@ -31,7 +31,7 @@ impl Task<'_> {
         if !self.is_refused(test, on.place) {
             return Ok(on);
         }
-        self.past_body(m, on)
+        self.past_body(m, test, on)
     }
 
     /// At the head of a loop over this test, past the characters from here on that pass: those of ASCII, up to a place
@@ -43,6 +43,7 @@ impl Task<'_> {
         ensures ok { IfOk result (λ on. (s : plain.Stand) (f : Search)
             → IsSearch (leading_of self.now) m.old f → IsHere m.old stand s
             → GoesOn self.now (TakesUp s f) m.new on) }
+        ensures runs { IfOk result (λ on. RunsOver self.now m.new on test.now) }
         ensures failed { m.new.failed ≡ m.old.failed }
     {
         let count = self.run_length(m, test, stand);
@@ -55,8 +56,10 @@ impl Task<'_> {
     /// At the head of a loop over one character where none is that passes, out of the loop if that does not fail at once,
     /// and past the tests behind it.
     #[inline(always)]
-    fn past_body(&self, m: &mut Memo, stand: Stand) -> Result<Stand, AllocError>
-        requires { IsTask self.now }
+    fn past_body(&self, m: &mut Memo, test: &CharTest, stand: Stand) -> Result<Stand, AllocError>
+        requires task { IsTask self.now }
+        requires runs { RunsOver self.now m.old stand test.now }
+        requires refused { Refuses self.now test.now stand.place }
         ensures ok { IfOk result (λ on. (s : plain.Stand) (f : Search)
             → IsSearch (leading_of self.now) m.old f → IsHere m.old stand s
             → GoesOn self.now (TakesUp s f) m.new on) }
@@ -64,10 +67,7 @@ impl Task<'_> {
             → IsSearch (leading_of self.now) m.old f → IsHere m.old stand s
             → HaveFailed m.new f.failed) }
     {
-        let Some(test) = self.body_test(m, stand) else {
-            return Ok(stand);
-        };
-        if !self.is_refused(test, stand.place) || m.may_have_failed(stand) || self.is_lost(stand) {
+        if m.may_have_failed(stand) || self.is_lost(stand) {
             return Ok(stand);
         }
         m.count_more(2);

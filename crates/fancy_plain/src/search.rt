@@ -211,6 +211,7 @@ impl Memo {
     }
 
     /// Whether the pair of this stand is known to have no way.
+    #[inline(always)]
     fn has_failed(&mut self, stand: Stand) -> Result<bool, AllocError>
         ensures ok { IfOk result (λ yes. (s : plain.Stand) (failed : plain.Pair → Bool)
             → IsHere self.old stand s → HaveFailed self.old failed → yes ≡ failed (pair_of s)) }
@@ -222,6 +223,16 @@ impl Memo {
         if stand.turns == 0 {
             return Ok(self.failed.has_outside(stand.at, stand.place));
         }
+        self.has_failed_inside(stand)
+    }
+
+    /// The same, inside a loop that counts.
+    #[inline(never)]
+    fn has_failed_inside(&mut self, stand: Stand) -> Result<bool, AllocError>
+        ensures ok { IfOk result (λ yes. (s : plain.Stand) (failed : plain.Pair → Bool)
+            → IsHere self.old stand s → HaveFailed self.old failed → yes ≡ failed (pair_of s)) }
+        ensures rest { self.new ≡ record self.old { numbers = self.new.numbers } }
+    {
         if let Some((turn, 0)) = self.log.turn(stand.turns) {
             return Ok(self.failed.has(&numbers_inside(stand, turn)));
         }
@@ -263,6 +274,7 @@ impl Memo {
     }
 
     /// The pair of this stand has no way.
+    #[inline(always)]
     fn note_failed(&mut self, stand: Stand) -> Result<(), AllocError>
         ensures ok { IfOk result (λ _. (s : plain.Stand) (f : Search)
             → IsHere self.old stand s → HaveFailed self.old f.failed
@@ -273,8 +285,22 @@ impl Memo {
             ≡ record self.old { numbers = self.new.numbers; failed = self.new.failed } }
     {
         if stand.turns == 0 {
-            return self.failed.add(self.alloc, &[stand.at, stand.place]);
+            return self.failed.add_outside(self.alloc, stand.at, stand.place);
         }
+        self.note_failed_inside(stand)
+    }
+
+    /// The same, inside a loop that counts.
+    #[inline(never)]
+    fn note_failed_inside(&mut self, stand: Stand) -> Result<(), AllocError>
+        ensures ok { IfOk result (λ _. (s : plain.Stand) (f : Search)
+            → IsHere self.old stand s → HaveFailed self.old f.failed
+            → HaveFailed self.new (plain.with_failed (pair_of s) f).failed) }
+        ensures err { IfErr result (λ _. (failed : plain.Pair → Bool)
+            → HaveFailed self.old failed → HaveFailed self.new failed) }
+        ensures rest { self.new
+            ≡ record self.old { numbers = self.new.numbers; failed = self.new.failed } }
+    {
         if let Some((turn, 0)) = self.log.turn(stand.turns) {
             return self.failed.add(self.alloc, &numbers_inside(stand, turn));
         }
@@ -283,6 +309,7 @@ impl Memo {
     }
 
     /// Keeps a choice for later.
+    #[inline(always)]
     fn keep(&mut self, stand: Stand, is_untried: bool) -> Result<(), AllocError>
         ensures ok { IfOk result (λ _. (leading : Leading) (f : Search) (s : plain.Stand)
             (later : List plain.Later) → IsSearch leading self.old f → IsHere self.old stand s
@@ -310,6 +337,8 @@ impl Memo {
             → IsHere self.old stand s → IsForkOf leading first out s
             → IsSearch leading self.new (run_search out count s f)
             × IsHere self.new on (onward count s)) }
+        ensures on { IfOk result
+            (λ on. on ≡ record stand { place = stand.place + count }) }
         ensures rest { self.new
             ≡ record self.old { later = self.new.later; visits = self.new.visits } }
     {
