@@ -1,9 +1,8 @@
 //! The longest match that a run has come to, where it is asked for.
 
-ghost use Rattle.std.specs.Prelude.{◌≡◌, ◌<◌, ◌≤◌, ◌∷◌, [], List, ℕ, None, Some, true, false, length, take, slice_index_or, slice_set, is_some, option_map, IfOk, OnOk};
+ghost use Rattle.std.specs.Prelude.{◌≡◌, ◌<◌, ◌≤◌, ◌∷◌, [], List, ℕ, None, Some, true, false, length, take, slice_index_or, slice_set, is_some, option_map, if◌then◌else◌, IfOk, OnOk};
 ghost use Rattle.fancy_meaning.specs.Config as config;
 ghost use Rattle.fancy_vm.specs.Outcomes.{first_pair, held_match};
-ghost use Rattle.fancy_vm.specs.Means.{numbers_of};
 
 use fancy_state::state::State;
 use std::alloc::{AllocError, Global};
@@ -71,14 +70,17 @@ impl Longest {
         }
     }
 
-    /// All numbers.
-    pub(crate) fn to_numbers(&self, alloc: Global) -> Result<Option<Vec<usize>>, AllocError>
-        ensures { IfOk result (λ found. numbers_of found ≡ held_match self.now) }
+    /// Writes all numbers over these, if a match is held.
+    pub(crate) fn copy_numbers(&self, numbers: &mut Vec<usize>) -> Result<bool, AllocError>
+        ensures { IfOk result (λ found.
+            held_match self.now ≡ (if found then Some numbers.new.items else None)) }
     {
         if !self.is_held {
-            return Ok(None);
+            return Ok(false);
         }
-        Ok(Some(Vec::from_slice(alloc, &self.numbers)?))
+        numbers.clear();
+        numbers.extend_from_slice(&self.numbers)?;
+        Ok(true)
     }
 
     /// A match with this first pair is longer, or the first one.

@@ -1,13 +1,15 @@
 //! Runs of a program.
 
-ghost use Rattle.std.specs.Prelude.{◌≡◌, IsTrue, IsUtf8, IfOk, IfErr, OnOk, length};
+ghost use Rattle.std.specs.Prelude.{◌≡◌, IsTrue, IsUtf8, IfOk, IfErr, OnOk, None};
+ghost use Rattle.fancy_meaning.specs.Config as config;
 ghost use Rattle.fancy_meaning.specs.Places.{is_place};
 ghost use Rattle.fancy_meaning.specs.Machine as machine;
 ghost use Rattle.fancy_meaning.specs.Fits.{run_fits};
 ghost use Rattle.fancy_vm.specs.Memos.{AreMemosOf};
-ghost use Rattle.fancy_vm.specs.Means.{IsMeaning, IsMeaningPair, numbers_of};
-ghost use Rattle.fancy_vm.specs.Outcomes.{Finds, RunAnswers, RunAnswersPair, config_of, plain_task};
-ghost use Rattle.fancy_vm.specs.Ready.{AreReady, IsReady};
+ghost use Rattle.fancy_vm.specs.Means.{IsMeaning, IsMeaningPair, answer_in, numbers_of};
+ghost use Rattle.fancy_vm.specs.Outcomes.{Finds, RunAnswers, RunAnswersPair, config_of, held_match, plain_task};
+ghost use Rattle.fancy_vm.specs.Ready.{AreFresh, IsReady};
+ghost use Rattle.fancy_state.specs.Held.{first_held};
 ghost use Rattle.fancy_state.specs.Refused.{IsMemory};
 ghost use Rattle.fancy_vm.specs.Programs.{IsUnused, allocator_of, default_at, default_task, options_of, prog_of, task_of};
 
@@ -84,15 +86,9 @@ impl Default for RunOptions {
 #[derive(Drop)]
 pub struct Scratch {
     alloc: Global,
-    parts: Option<Parts>,
-}
-
-/// What a run has in memory.
-#[derive(Drop)]
-pub(crate) struct Parts {
-    pub(crate) state: State,
-    pub(crate) longest: Longest,
-    pub(crate) memos: Memos,
+    state: Option<State>,
+    memos: Option<Memos>,
+    longest: Option<Longest>,
 }
 
 impl Scratch {
@@ -102,7 +98,12 @@ impl Scratch {
         ensures unused { IsUnused result }
     {
         crosses_threads::<Scratch>();
-        Scratch { alloc, parts: None }
+        Scratch {
+            alloc,
+            state: None,
+            memos: None,
+            longest: None,
+        }
     }
 }
 
@@ -125,6 +126,30 @@ pub fn run(
     ensures headline { IfOk result (λ found.
         IsMeaning (prog_of prog.now) text.now (options_of options.now) (numbers_of found)) }
 {
+    let mut numbers = Vec::new(alloc);
+    if !run_into(alloc, prog, text, options, scratch, &mut numbers)? {
+        return Ok(None);
+    }
+    Ok(Some(numbers))
+}
+
+/// As `run`, but it answers whether there is a match, and writes its numbers over these, in the memory that they have.
+/// Without a match, and with an error, nothing is said of the numbers.
+pub fn run_into(
+    alloc: Global,
+    prog: &Prog,
+    text: &str,
+    options: &RunOptions,
+    scratch: &mut Scratch,
+    numbers: &mut Vec<usize>,
+) -> Result<bool, Error>
+    requires { IsTrue (run_fits (task_of prog.now text.now options.now)) }
+    ensures machine { RunAnswers
+        (machine.run (task_of prog.now text.now options.now))
+        (answer_in result numbers.new) }
+    ensures headline { IfOk (answer_in result numbers.new) (λ found.
+        IsMeaning (prog_of prog.now) text.now (options_of options.now) (numbers_of found)) }
+{
     let task = Task {
         prog,
         text,
@@ -132,14 +157,16 @@ pub fn run(
         alloc,
     };
     scratch.renew(prog.parts.slots)?;
-    let Parts {
-        state,
-        longest,
-        mut memos,
-    } = scratch.take(prog.parts.slots);
-    let mut m = Machine::begin(&task, state, longest);
-    let answer = m.answer(&mut memos);
-    scratch.keep(m, memos);
+    let mut m = Machine::begin(
+        &task,
+        scratch.take_state(prog.parts.slots),
+        scratch.take_longest(),
+    );
+    let Some(memos) = &mut scratch.memos else {
+        unreachable!()
+    };
+    let answer = m.answer(memos, numbers);
+    scratch.keep(m);
     answer
 }
 
@@ -163,14 +190,16 @@ pub fn run_spans(
         alloc,
     };
     scratch.renew(prog.parts.slots)?;
-    let Parts {
-        state,
-        longest,
-        mut memos,
-    } = scratch.take(prog.parts.slots);
-    let mut m = Machine::begin(&task, state, longest);
-    let answer = m.answer_pair(&mut memos);
-    scratch.keep(m, memos);
+    let mut m = Machine::begin(
+        &task,
+        scratch.take_state(prog.parts.slots),
+        scratch.take_longest(),
+    );
+    let Some(memos) = &mut scratch.memos else {
+        unreachable!()
+    };
+    let answer = m.answer_pair(memos);
+    scratch.keep(m);
     answer
 }
 
@@ -194,98 +223,93 @@ impl Scratch {
     /// What a run of a program of so many slots begins with, in the memory that is there.
     #[inline(always)]
     fn renew(&mut self, slots: usize) -> Result<(), Error>
-        ensures ready { OnOk result (IsReady slots self.new.parts) }
+        ensures state { OnOk result (IsReady slots self.new.state) }
+        ensures memos { OnOk result (AreFresh self.new.memos) }
         ensures err { IfErr result IsMemory }
     {
+        self.renew_memos();
+        self.renew_state(slots)
+    }
+
+    /// Nothing is noted of the run.
+    #[inline(always)]
+    fn renew_memos(&mut self)
+        ensures { AreFresh self.new.memos }
+    {
         let alloc = self.alloc;
-        if let Some(parts) = &mut self.parts {
-            if parts.state.slot_count() == slots {
-                parts.restart(alloc);
+        if let Some(memos) = &mut self.memos {
+            memos.restart(alloc);
+            return;
+        }
+        self.memos = Some(Memos::new(alloc));
+    }
+
+    /// So many slots are not set.
+    #[inline(always)]
+    fn renew_state(&mut self, slots: usize) -> Result<(), Error>
+        ensures state { OnOk result (IsReady slots self.new.state) }
+        ensures memos { self.new.memos ≡ self.old.memos }
+        ensures err { IfErr result IsMemory }
+    {
+        if let Some(state) = &mut self.state {
+            if state.slot_count() == slots {
+                state.restart(MAX_BRANCHES);
                 return Ok(());
             }
         }
-        self.make(slots)
+        self.make_state(slots)
     }
 
     /// The same for another number of slots than before.
     #[cold]
     #[inline(never)]
-    fn make(&mut self, slots: usize) -> Result<(), Error>
-        ensures ready { OnOk result (IsReady slots self.new.parts) }
+    fn make_state(&mut self, slots: usize) -> Result<(), Error>
+        ensures state { OnOk result (IsReady slots self.new.state) }
+        ensures memos { self.new.memos ≡ self.old.memos }
         ensures err { IfErr result IsMemory }
     {
-        let alloc = self.alloc;
-        let parts = match self.parts.take() {
-            None => Parts::new(alloc, slots)?,
-            Some(parts) => parts.resized(alloc, slots)?,
+        let state = match self.state.take() {
+            None => State::new(self.alloc, slots, MAX_BRANCHES)?,
+            Some(state) => state.renew(slots, MAX_BRANCHES)?,
         };
-        self.parts = Some(parts);
+        self.state = Some(state);
         Ok(())
     }
 
-    /// Takes out what a run begins with.
+    /// Takes out the state that a run begins with.
     #[inline(always)]
-    fn take(&mut self, slots: usize) -> Parts
-        requires { IsReady slots self.old.parts }
-        ensures { AreReady slots result }
+    fn take_state(&mut self, slots: usize) -> State
+        requires { IsReady slots self.old.state }
+        ensures state { result ≡ first_held slots config.most_branches }
+        ensures memos { self.new.memos ≡ self.old.memos }
     {
-        let Some(parts) = self.parts.take() else {
+        let Some(state) = self.state.take() else {
             unreachable!()
         };
-        parts
+        state
+    }
+
+    /// No match is held, with the scratch's memory.
+    #[inline(always)]
+    fn take_longest(&mut self) -> Longest
+        ensures longest { held_match result ≡ None }
+        ensures memos { self.new.memos ≡ self.old.memos }
+    {
+        match self.longest.take() {
+            None => Longest::new(self.alloc),
+            Some(mut longest) => {
+                longest.forget();
+                longest
+            }
+        }
     }
 
     /// Keeps the memory of a run for the next one.
     #[inline(always)]
-    fn keep(&mut self, m: Machine<'_>, memos: Memos) {
+    fn keep(&mut self, m: Machine<'_>) {
         let Machine { state, longest, .. } = m;
-        self.parts = Some(Parts {
-            state,
-            longest,
-            memos,
-        });
-    }
-}
-
-impl Parts {
-    fn new(alloc: Global, slots: usize) -> Result<Parts, Error>
-        ensures ready { IfOk result (AreReady slots) }
-        ensures err { IfErr result IsMemory }
-    {
-        Ok(Parts {
-            state: State::new(alloc, slots, MAX_BRANCHES)?,
-            longest: Longest::new(alloc),
-            memos: Memos::new(alloc),
-        })
-    }
-
-    /// For a run of a program of so many slots.
-    fn resized(self, alloc: Global, slots: usize) -> Result<Parts, Error>
-        ensures ready { IfOk result (AreReady slots) }
-        ensures err { IfErr result IsMemory }
-    {
-        let Parts {
-            state,
-            mut longest,
-            mut memos,
-        } = self;
-        longest.forget();
-        memos.restart(alloc);
-        Ok(Parts {
-            state: state.renew(slots, MAX_BRANCHES)?,
-            longest,
-            memos,
-        })
-    }
-
-    /// For another run of a program of as many slots.
-    #[inline(always)]
-    fn restart(&mut self, alloc: Global)
-        ensures { AreReady (length self.old.state.slots) self.new }
-    {
-        self.state.restart(MAX_BRANCHES);
-        self.longest.forget();
-        self.memos.restart(alloc);
+        self.state = Some(state);
+        self.longest = Some(longest);
     }
 }
 
@@ -314,18 +338,21 @@ impl Machine<'_> {
         Err(Stop::Limit(RuntimeError::StepLimitExceeded))
     }
 
-    /// The numbers that the run answers.
-    fn answer(&mut self, memos: &mut Memos) -> Result<Option<Vec<usize>>, Error>
+    /// Writes the numbers that the run answers over these.
+    fn answer(&mut self, memos: &mut Memos, numbers: &mut Vec<usize>) -> Result<bool, Error>
         requires begins { config_of self.old ≡ machine.begin (plain_task self.old.task) }
         requires text { IsUtf8 self.old.task.text.now }
         requires place { IsTrue (is_place self.old.task.text.now self.old.task.options.now.pos) }
         requires memos { AreMemosOf self.old.task memos.old }
-        ensures { RunAnswers (machine.run (plain_task self.old.task)) result }
+        ensures { RunAnswers
+            (machine.run (plain_task self.old.task))
+            (answer_in result numbers.new) }
     {
         if !self.run(memos)? {
-            return Ok(self.longest.to_numbers(self.task.alloc)?);
+            return Ok(self.longest.copy_numbers(numbers)?);
         }
-        Ok(Some(self.numbers()?))
+        self.copy_numbers(numbers)?;
+        Ok(true)
     }
 
     /// The first pair of the numbers that the run answers.

@@ -156,9 +156,14 @@ impl Machine<'_> {
     fn ending(&self, by_slots: bool) -> Result<Option<Vec<usize>>, Error>
         ensures { RunAnswers (ending by_slots self.now) result }
     {
-        if !by_slots {
-            return Ok(self.longest.to_numbers(self.task.alloc)?);
+        let mut numbers = Vec::new(self.task.alloc);
+        if by_slots {
+            self.copy_numbers(&mut numbers)?;
+            return Ok(Some(numbers));
         }
-        Ok(Some(self.numbers()?))
+        if !self.longest.copy_numbers(&mut numbers)? {
+            return Ok(None);
+        }
+        Ok(Some(numbers))
     }
 }
