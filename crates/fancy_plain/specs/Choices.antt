@@ -1,5 +1,5 @@
 -- The choices on a path one by one, the last one first.
-use Rattle.std.specs.Prelude.{◌≡◌, ◌-◌, ℕ, zero, suc, List, [], ◌∷◌, flat_map, reverse, Option, Some, None}
+use Rattle.std.specs.Prelude.{◌≡◌, ◌-◌, ℕ, zero, suc, List, [], ◌∷◌, flat_map, reverse, take, Option, Some, None}
 use Rattle.fancy_plain.specs.declared.choices.Choice.{Choice}
 use Rattle.fancy_plain.specs.declared.choices.Choices.{Choices}
 use Rattle.fancy_plain.specs.declared.choices.Run.{Run}
@@ -17,7 +17,7 @@ abbrev pub choices_in : Run → List Choice
 choices_in r = run_choices r.before r.choice
 
 abbrev pub choices_of : Choices → List Choice
-choices_of c = flat_map choices_in (reverse c.runs.items)
+choices_of c = flat_map choices_in (reverse (take c.len c.runs.items))
 
 -- the last one is taken back, if there is one
 abbrev pub Pops : List Choice → Option Choice → List Choice → Type 0

@@ -1,7 +1,6 @@
 //! Choices on the path of a search. The last one is taken back first.
 
 use crate::log::Stand;
-use crate::room::push;
 use std::alloc::{AllocError, Global};
 
 /// A choice on the path: where it stands, how long the path is, and whether its other way on is still untried.
@@ -19,10 +18,11 @@ struct Run {
     before: usize,
 }
 
-/// The choices on a path.
+/// The choices on a path: the first `len` of the runs. Those behind are left from before.
 #[derive(Drop)]
 pub(crate) struct Choices {
     runs: Vec<Run>,
+    len: usize,
 }
 
 impl Choice {
@@ -44,21 +44,22 @@ impl Choice {
 }
 
 impl Choices {
-    ghost use Rattle.std.specs.Prelude.{◌≡◌, ◌++◌, [], OnOk};
-    ghost use Rattle.fancy_plain.specs.Choices.{Pops, choices_of, run_choices};
+    ghost use Rattle.std.specs.Prelude.{◌≡◌, ◌≤◌, ◌++◌, [], length, OnOk};
+    ghost use Rattle.fancy_plain.specs.Choices.{Pops, choices_in, choices_of, run_choices};
 
     pub(crate) fn new(alloc: Global) -> Choices
         ensures { choices_of result ≡ [] }
     {
         Choices {
             runs: Vec::new(alloc),
+            len: 0,
         }
     }
 
     pub(crate) fn clear(&mut self)
         ensures { choices_of self.new ≡ [] }
     {
-        self.runs.clear();
+        self.len = 0;
     }
 
     /// One more, and such a one at each of so many bytes before it.
@@ -67,7 +68,25 @@ impl Choices {
         ensures { OnOk result
             (choices_of self.new ≡ run_choices before choice ++ choices_of self.old) }
     {
-        push(&mut self.runs, Run { choice, before })
+        let run = Run { choice, before };
+        if self.len >= self.runs.len() {
+            return self.push_and_grow(run);
+        }
+        self.runs[self.len] = run;
+        self.len += 1;
+        Ok(())
+    }
+
+    /// The same, behind all runs.
+    #[cold]
+    #[inline(never)]
+    fn push_and_grow(&mut self, run: Run) -> Result<(), AllocError>
+        requires { length self.old.runs.items ≤ self.old.len }
+        ensures { OnOk result (choices_of self.new ≡ choices_in run ++ choices_of self.old) }
+    {
+        self.runs.push(run)?;
+        self.len = self.runs.len();
+        Ok(())
     }
 
     /// Takes the last one back.
@@ -75,10 +94,10 @@ impl Choices {
     pub(crate) fn pop(&mut self) -> Option<Choice>
         ensures { Pops (choices_of self.old) result (choices_of self.new) }
     {
-        let last = self.runs.len().checked_sub(1)?;
+        let last = self.len.min(self.runs.len()).checked_sub(1)?;
         let Run { choice, before } = self.runs[last];
         if before == 0 {
-            self.runs.truncate(last);
+            self.len = last;
         } else {
             self.runs[last] = Run {
                 choice: choice.one_before(),

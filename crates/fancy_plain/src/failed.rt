@@ -1,6 +1,6 @@
 //! The pairs of a point and a place that have no way.
 
-ghost use Rattle.std.specs.Prelude.{◌≡◌, ℕ, ◌∷◌, [], ◌||◌, ◌==◌, false, List, IsTrue, OnOk, OnErr};
+ghost use Rattle.std.specs.Prelude.{◌≡◌, ◌≤◌, ◌<◌, ◌+◌, ◌-◌, ◌++◌, ℕ, ◌∷◌, [], ◌||◌, ◌==◌, false, length, replicate, List, IsTrue, OnOk, OnErr};
 ghost use Rattle.fancy_plain.specs.FailedPairs.{same_numbers, bit_is_set, has_pair};
 
 use crate::pair_bits::PairBits;
@@ -124,6 +124,7 @@ fn has_bit(bits: &[u64], bit: usize) -> bool
     }
 }
 
+#[inline(always)]
 fn set_bit(bits: &mut Vec<u64>, bit: usize) -> Result<(), AllocError>
     ensures ok { OnOk result ((n : ℕ) → bit_is_set bits.new.items n
         ≡ (n == bit || bit_is_set bits.old.items n)) }
@@ -131,8 +132,22 @@ fn set_bit(bits: &mut Vec<u64>, bit: usize) -> Result<(), AllocError>
 {
     let word = bit / 64;
     if bits.len() <= word {
-        bits.resize(word + 1, 0)?;
+        grow(bits, word)?;
     }
     bits[word] |= 1 << (bit % 64);
     Ok(())
+}
+
+/// Makes room for this word.
+#[cold]
+#[inline(never)]
+fn grow(bits: &mut Vec<u64>, word: usize) -> Result<(), AllocError>
+    requires small { length bits.old.items ≤ word }
+    requires fits { word < usize.MAX }
+    ensures items { OnOk result (bits.new.items
+        ≡ bits.old.items ++ replicate (word + 1 - length bits.old.items) 0) }
+    ensures len { OnOk result (length bits.new.items ≡ word + 1) }
+    ensures err { OnErr result (bits.new.items ≡ bits.old.items) }
+{
+    bits.resize(word + 1, 0)
 }

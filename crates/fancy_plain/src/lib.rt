@@ -9,7 +9,6 @@ mod layout;
 mod log;
 mod pair_bits;
 mod point;
-mod room;
 mod runs;
 pub mod search;
 pub mod table;

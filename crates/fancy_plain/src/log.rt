@@ -4,7 +4,6 @@ ghost use Rattle.std.specs.Prelude.{◌≡◌, ◌++◌, ◌∷◌, [], ◌≤�
 ghost use Rattle.fancy_points.specs.PointSearch as plain;
 ghost use Rattle.fancy_plain.specs.Paths.{HasTurns, HasOpened, EndsTurns, EndsOpened};
 
-use crate::room::push;
 use std::alloc::{AllocError, Global};
 
 /// One entry of the path. A link to an entry is its index and one more; 0 is no link.
@@ -99,13 +98,12 @@ impl Log {
     }
 
     /// One more entry, and the link to it.
-    #[inline(always)]
     pub(crate) fn push(&mut self, entry: Entry) -> Result<usize, AllocError>
         ensures link { IfOk result (λ link. link ≡ length self.old.entries.items + 1) }
         ensures entries { IfOk result (λ _. self.new.entries.items
             ≡ self.old.entries.items ++ (entry ∷ [])) }
     {
-        push(&mut self.entries, entry)?;
+        self.entries.push(entry)?;
         Ok(self.entries.len())
     }
 
