@@ -33,6 +33,16 @@ impl FewBytes {
     {
         self.second == 128 && self.third == 128
     }
+
+    /// One of them stands often in many texts, so that it is worth while to look at the byte behind it at once.
+    pub(crate) fn are_common(self) -> bool {
+        is_common(self.first) || is_common(self.second) || is_common(self.third)
+    }
+}
+
+/// The byte is a small letter, a digit or a space, as most of many texts are.
+fn is_common(byte: u8) -> bool {
+    matches!(byte, b'a'..=b'z' | b'0'..=b'9' | b' ')
 }
 
 impl Stops {
