@@ -3,6 +3,7 @@ pub mod FitsLaws
 pub mod NumbersLaws
 pub mod BeginningLaws
 pub mod StartRunLaws
+pub mod BlockLaws
 pub mod StartsLaws
 pub mod CountLaws
 pub mod AttemptLaws

@@ -3,6 +3,7 @@
 
 mod attempt;
 mod beginning;
+mod blocks;
 mod delegates;
 mod insn;
 mod lazy;
