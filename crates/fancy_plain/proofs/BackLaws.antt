@@ -1,5 +1,5 @@
 -- The way back to what is tried later.
-use Rattle.std.proofs.Common.{◌≡◌, ◌≤◌, ◌+◌, ◌∷◌, [], ℕ, zero, suc, List, Bool, Some, None, Result, Ok, Err, length, take, refl, sym, ap, ◌∙◌, subst, arith}
+use Rattle.std.proofs.Common.{◌≡◌, ◌≤◌, ◌+◌, ◌∷◌, [], ℕ, zero, suc, List, Some, None, Result, Ok, Err, length, take, refl, sym, ap, ◌∙◌, subst, arith}
 use Rattle.std.proofs.lemmas.List.{length-take}
 use Rattle.fancy_points.specs.PointSearch as plain
 use Rattle.fancy_points.specs.FirstWays.{search_in}
@@ -12,7 +12,7 @@ use Rattle.fancy_plain.specs.declared.search.Lead.TheVariants as lead
 use Rattle.fancy_plain.specs.declared.search.Memo.{Memo}
 use Rattle.fancy_plain.specs.declared.search.Task.{Task}
 use Rattle.fancy_plain.specs.Paths.{IsStand}
-use Rattle.fancy_plain.specs.Searches.{after_steps_of, leading_of, next_of, Advances, AreKept, EndsAs, GoesBack, HaveFailed, IsHere, IsSearch, Keeps, Leading, Leads}
+use Rattle.fancy_plain.specs.Searches.{after_steps_of, leading_of, next_of, Advances, AreKept, ComesTo, EndsAs, GoesBack, HaveFailed, IsHere, IsSearch, Keeps, Leading, Leads}
 use Rattle.fancy_plain.specs.Choices.{choices_of}
 use Rattle.fancy_plain.specs.Runs.{GoesOn}
 use Rattle.fancy_plain.proofs.PathLaws.{agree_cut, kept_agree, stand_agrees}
@@ -94,21 +94,21 @@ popped leading m cut c f items path failed visits h =
     }
 
 -- what the other way on answers is what going back answers
-pub goes_back : (task : Task) (next : plain.Next) (steps : ℕ) (s other : plain.Stand) (here : Stand) (f g : plain.Search)
+pub goes_back : (task : Task) (next : plain.Next) (steps : ℕ) (s other : plain.Stand) (f g : plain.Search)
     (result : Result Lead AllocError) (m : Memo) → after_steps_of task steps next ≡ plain.TakesBack f →
     next_of task (plain.TakesBack f) ≡ plain.TakesUp other g → g.failed ≡ f.failed →
-    Leads (leading_of task) s here f.failed (plain.TakesUp other g) result m → GoesBack task next result m
-goes_back task next steps s other here f g (Ok lead.Found) m e up same (x, (is, h, stands)) = absurd (no_end is)
+    Leads (leading_of task) s f.failed (plain.TakesUp other g) result m → GoesBack task next result m
+goes_back task next steps s other f g (Ok (lead.Found there)) m e up same (x, (is, h, stands)) = absurd (no_end is)
   where
     no_end : plain.TakesUp other g ≡ plain.Ends (Some s) x → ⊥
     no_end is = cc
-goes_back task next steps s other here f g (Ok lead.Lost) m e up same (x, (is, rest)) = absurd (no_back is)
+goes_back task next steps s other f g (Ok lead.Lost) m e up same (x, (is, rest)) = absurd (no_back is)
   where
     no_back : plain.TakesUp other g ≡ plain.TakesBack x → ⊥
     no_back is = cc
-goes_back task next steps s other here f g (Ok (lead.Goes there)) m e up same (x, (t, (is, h, stands))) =
+goes_back task next steps s other f g (Ok (lead.Goes there)) m e up same (x, (t, (is, h, stands))) =
     (suc steps, (x, (t, (one_more task steps next (plain.TakesBack f) e ∙ up ∙ is, h, stands))))
-goes_back task next steps s other here f g (Err error) m e up same failed = (
+goes_back task next steps s other f g (Err error) m e up same failed = (
   suc steps,
   λ p.
       failed p ∙ sym (ap (λ v. v p) (ap (λ n. (search_in n).failed) (one_more task steps next (plain.TakesBack f) e ∙ up) ∙ same)),
@@ -147,52 +147,62 @@ steps_then task (suc k) j n w e =
     let same : suc k + j ≡ suc (k + j) = omega arith in
     ap (λ i. after_steps_of task i n) same ∙ steps_then task k j (next_of task n) w e
 
--- a step that goes on, and a way back from there
-pub leads_back : (task : Task) (s : plain.Stand) (here : Stand) (failed : plain.Pair → Bool) (n w : plain.Next)
-    (result : Result Lead AllocError) (m : Memo) → next_of task n ≡ w → GoesBack task w result m → GoesBack task n result m
-leads_back task s here failed n w (Ok lead.Found) m e h = h
-leads_back task s here failed n w (Ok lead.Lost) m e (k, (f, (is, h))) = (suc k, (f, (ap (after_steps_of task k) e ∙ is, h)))
-leads_back task s here failed n w (Ok (lead.Goes there)) m e (k, (f, (t, (is, h, stands)))) =
-    (suc k, (f, (t, (ap (after_steps_of task k) e ∙ is, h, stands))))
-leads_back task s here failed n w (Err error) m e (k, h) =
-    (suc k, λ p. h p ∙ sym (ap (λ x. (search_in (after_steps_of task k x)).failed p) e))
-
 -- one step alone
-pub leads_on : (task : Task) (s : plain.Stand) (here : Stand) (f : plain.Search) (result : Result Lead AllocError) (m : Memo) →
-    (result ≡ Ok lead.Lost → ⊥) →
-    Leads (leading_of task) s here f.failed (next_of task (plain.TakesUp s f)) result m →
-    Advances task here (plain.TakesUp s f) result m
-leads_on task s here f (Ok lead.Found) m w (g, (is, h, stands)) = (1, (g, (s, (is, h, stands))))
-leads_on task s here f (Ok lead.Lost) m w h = absurd (w refl)
-leads_on task s here f (Ok (lead.Goes there)) m w (g, (t, (is, h, stands))) = (1, (g, (t, (is, h, stands))))
-leads_on task s here f (Err error) m w h = (0, h)
+pub comes_by : (task : Task) (s : plain.Stand) (f : plain.Search) (result : Result Lead AllocError) (m : Memo) →
+    Leads (leading_of task) s f.failed (next_of task (plain.TakesUp s f)) result m → ComesTo task (plain.TakesUp s f) result m
+comes_by task s f (Ok (lead.Found there)) m (g, (is, h, stands)) = (1, (g, (s, (is, h, stands))))
+comes_by task s f (Ok lead.Lost) m (g, (is, h)) = (1, (g, (is, h)))
+comes_by task s f (Ok (lead.Goes there)) m (g, (t, (is, h, stands))) = (1, (g, (t, (is, h, stands))))
+comes_by task s f (Err error) m h = (0, h)
 
-pub back_advances : (task : Task) (here : Stand) (n : plain.Next) (result : Result Lead AllocError) (m : Memo) →
-    GoesBack task n result m → Advances task here n result m
-back_advances task here n (Ok lead.Found) m h = absurd h
-back_advances task here n (Ok lead.Lost) m h = h
-back_advances task here n (Ok (lead.Goes there)) m h = h
-back_advances task here n (Err error) m h = h
+-- some steps, and more from there
+pub comes_further : (task : Task) (k : ℕ) (n w : plain.Next) (result : Result Lead AllocError) (m : Memo) → after_steps_of task k n ≡ w →
+    ComesTo task w result m → ComesTo task n result m
+comes_further task k n w (Ok (lead.Found there)) m e (j, (f, (t, (is, h, stands)))) =
+    (k + j, (f, (t, (steps_then task k j n w e ∙ is, h, stands))))
+comes_further task k n w (Ok lead.Lost) m e (j, (f, (is, h))) = (k + j, (f, (steps_then task k j n w e ∙ is, h)))
+comes_further task k n w (Ok (lead.Goes there)) m e (j, (f, (t, (is, h, stands)))) =
+    (k + j, (f, (t, (steps_then task k j n w e ∙ is, h, stands))))
+comes_further task k n w (Err error) m e (j, h) =
+    (k + j, λ p. h p ∙ sym (ap (λ x. (search_in x).failed p) (steps_then task k j n w e)))
+
+-- some steps, and a way back from there
+pub comes_back : (task : Task) (k : ℕ) (n w : plain.Next) (result : Result Lead AllocError) (m : Memo) → after_steps_of task k n ≡ w →
+    GoesBack task w result m → Advances task n result m
+comes_back task k n w (Ok (lead.Found there)) m e h = absurd h
+comes_back task k n w (Ok lead.Lost) m e (j, (f, (is, h))) = (k + j, (f, (steps_then task k j n w e ∙ is, h)))
+comes_back task k n w (Ok (lead.Goes there)) m e (j, (f, (t, (is, h, stands)))) =
+    (k + j, (f, (t, (steps_then task k j n w e ∙ is, h, stands))))
+comes_back task k n w (Err error) m e (j, h) =
+    (k + j, λ p. h p ∙ sym (ap (λ x. (search_in x).failed p) (steps_then task k j n w e)))
+
+-- no way back is needed
+pub comes_on : (task : Task) (n : plain.Next) (result : Result Lead AllocError) (m : Memo) → (result ≡ Ok lead.Lost → ⊥) →
+    ComesTo task n result m → Advances task n result m
+comes_on task n (Ok (lead.Found there)) m w h = h
+comes_on task n (Ok lead.Lost) m w h = absurd (w refl)
+comes_on task n (Ok (lead.Goes there)) m w h = h
+comes_on task n (Err error) m w h = h
 
 pub ok_same : {l k : Lead} → (let r : Result Lead AllocError = Ok l in r) ≡ Ok k → l ≡ k
 ok_same e = cc
 
 -- from a step of the search to its end
 pub ends_found : (task : Task) (k : ℕ) (n w : plain.Next) (here : Stand) (m : Memo) → after_steps_of task k n ≡ w →
-    Advances task here w (Ok lead.Found) m → EndsAs task n (Ok (Some here)) m
+    Advances task w (Ok (lead.Found here)) m → EndsAs task n (Ok (Some here)) m
 ends_found task k n w here m e (j, (f, (t, (is, h, stands)))) =
     (k + j, (f, (t, (steps_then task k j n w e ∙ is, h, stands))))
 
-pub ends_lost : (task : Task) (k : ℕ) (n w : plain.Next) (here : Stand) (m : Memo) → after_steps_of task k n ≡ w →
-    Advances task here w (Ok lead.Lost) m → EndsAs task n (Ok None) m
-ends_lost task k n w here m e (j, (f, (is, h))) = (k + j, (f, (steps_then task k j n w e ∙ is, h)))
+pub ends_lost : (task : Task) (k : ℕ) (n w : plain.Next) (m : Memo) → after_steps_of task k n ≡ w →
+    Advances task w (Ok lead.Lost) m → EndsAs task n (Ok None) m
+ends_lost task k n w m e (j, (f, (is, h))) = (k + j, (f, (steps_then task k j n w e ∙ is, h)))
 
-pub ends_err : (task : Task) (k : ℕ) (n w : plain.Next) (here : Stand) (error : AllocError) (m : Memo) → after_steps_of task k n ≡ w →
-    Advances task here w (Err error) m → EndsAs task n (Err error) m
-ends_err task k n w here error m e (j, h) =
+pub ends_err : (task : Task) (k : ℕ) (n w : plain.Next) (error : AllocError) (m : Memo) → after_steps_of task k n ≡ w →
+    Advances task w (Err error) m → EndsAs task n (Err error) m
+ends_err task k n w error m e (j, h) =
     (k + j, λ p. h p ∙ sym (ap (λ x. (search_in x).failed p) (steps_then task k j n w e)))
 
-pub goes_further : (task : Task) (k : ℕ) (n w : plain.Next) (here there : Stand) (m : Memo) → after_steps_of task k n ≡ w →
-    Advances task here w (Ok (lead.Goes there)) m → GoesOn task n m there
-goes_further task k n w here there m e (j, (f, (t, (is, h, stands)))) =
+pub goes_further : (task : Task) (k : ℕ) (n w : plain.Next) (there : Stand) (m : Memo) → after_steps_of task k n ≡ w →
+    Advances task w (Ok (lead.Goes there)) m → GoesOn task n m there
+goes_further task k n w there m e (j, (f, (t, (is, h, stands)))) =
     (k + j, (f, (t, (steps_then task k j n w e ∙ is, h, stands))))

@@ -598,17 +598,17 @@ body_left task m counted here test s f most over none free more h stands =
     }
 
 -- where a point is taken up, a step leads there
-pub never_lost : (task : Task) (s other : plain.Stand) (here : Stand) (failed : plain.Pair → Bool) (g : Search) (l : Lead) (m : Memo) →
-    ((x : Stand) → l ≡ lead.Goes x → ⊥) → Leads (leading_of task) s here failed (TakesUp other g) (Ok l) m → ⊥
-never_lost task s other here failed g lead.Found m not (x, (is, h, stands)) = no_end is
+pub never_lost : (task : Task) (s other : plain.Stand) (failed : plain.Pair → Bool) (g : Search) (l : Lead) (m : Memo) →
+    ((x : Stand) → l ≡ lead.Goes x → ⊥) → Leads (leading_of task) s failed (TakesUp other g) (Ok l) m → ⊥
+never_lost task s other failed g (lead.Found there) m not (x, (is, h, stands)) = no_end is
   where
     no_end : TakesUp other g ≡ plain.Ends (Some s) x → ⊥
     no_end is = cc
-never_lost task s other here failed g lead.Lost m not (x, (is, rest)) = no_back is
+never_lost task s other failed g lead.Lost m not (x, (is, rest)) = no_back is
   where
     no_back : TakesUp other g ≡ plain.TakesBack x → ⊥
     no_back is = cc
-never_lost task s other here failed g (lead.Goes there) m not h = not there refl
+never_lost task s other failed g (lead.Goes there) m not h = not there refl
 
 -- past a run, and then out of the loop
 pub past_loop : (task : Task) (m between new : Memo) (here on : Stand) (r : Result Stand AllocError) →

@@ -169,12 +169,12 @@ pub close_leads : (m : Memo) (log : Log) (s : Stand) (t : plain.Stand) (leading 
     ((opened : List ℕ) → HasOpened m.log.entries.items s.opened opened →
     EndsOpened m.log.entries.items s.opened opened (Some (from, outer))) →
     log.entries.items ≡ m.log.entries.items ++ (entry.Closed group from s.place ∷ []) →
-    Leads leading t s f.failed (plain.next_by (plain.close_lead group t t.opened) (Some (Close group)) t f)
+    Leads leading t f.failed (plain.next_by (plain.close_lead group t t.opened) (Some (Close group)) t f)
     (Ok (lead.Goes (record s { at = s.at + 1; opened = outer }))) (record m { log = log })
 close_leads m log s t leading f group from outer h here ends e = go t.opened here.opened
   where
     go : (opened : List ℕ) → HasOpened m.log.entries.items s.opened opened →
-        Leads leading t s f.failed (plain.next_by (plain.close_lead group t opened) (Some (Close group)) t f)
+        Leads leading t f.failed (plain.next_by (plain.close_lead group t opened) (Some (Close group)) t f)
         (Ok (lead.Goes (record s { at = s.at + 1; opened = outer }))) (record m { log = log })
     go [] has = absurd (ends [] has)
     go (i ∷ is) has =
@@ -507,15 +507,15 @@ head_notes l after s first other (t ∷ ts) n e = go (plain.is_over l s.place t)
 -- a step from a stand by the point that is there
 module _ (task : Task) (p : Point) (here : Stand) (s : plain.Stand) (f : plain.Search) (at : here.at ≡ s.at)
     (there : slice_get (task.points).now here.at ≡ Some p) (result : Result Lead AllocError) (m : Memo) where
-  pub at_point : Leads (leading_of task) s here f.failed
+  pub at_point : Leads (leading_of task) s f.failed
       (plain.next_by (plain.lead_by (task.text).now task.unicode (point_of p) s) (Some (point_of p)) s f) result m →
-      Leads (leading_of task) s here f.failed (next_of task (plain.TakesUp s f)) result m
-  at_point h = subst (λ n. Leads (leading_of task) s here f.failed n result m) (sym (next_there task p here s at there f)) h
+      Leads (leading_of task) s f.failed (next_of task (plain.TakesUp s f)) result m
+  at_point h = subst (λ n. Leads (leading_of task) s f.failed n result m) (sym (next_there task p here s at there f)) h
 
-  pub at_lead : Leads (leading_of task) s here f.failed (plain.next_by (leading_of task s) (Some (point_of p)) s f) result m →
-      Leads (leading_of task) s here f.failed (next_of task (plain.TakesUp s f)) result m
+  pub at_lead : Leads (leading_of task) s f.failed (plain.next_by (leading_of task s) (Some (point_of p)) s f) result m →
+      Leads (leading_of task) s f.failed (next_of task (plain.TakesUp s f)) result m
   at_lead h =
-      subst (λ o. Leads (leading_of task) s here f.failed (plain.next_by (leading_of task s) o s f) result m)
+      subst (λ o. Leads (leading_of task) s f.failed (plain.next_by (leading_of task s) o s f) result m)
       (sym (plain_there task p here s at there)) h
 
 -- what holds where a list was added

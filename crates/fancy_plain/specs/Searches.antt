@@ -69,14 +69,14 @@ abbrev pub IsHere : Memo → Stand → plain.Stand → Type 0
 IsHere m s t = IsStand m.log.entries.items (length m.log.entries.items) s t
 
 -- a step from this stand, which is to come to `next`, answered this
-abbrev pub Leads : Leading → plain.Stand → Stand → (Pair → Bool) → Next → Result Lead AllocError → Memo → Type 0
-Leads leading s here failed next (Ok lead.Found) m =
-    (f : Search) × ((next ≡ Ends (Some s) f) × IsSearch leading m f × IsHere m here s)
-Leads leading s here failed next (Ok lead.Lost) m =
+abbrev pub Leads : Leading → plain.Stand → (Pair → Bool) → Next → Result Lead AllocError → Memo → Type 0
+Leads leading s failed next (Ok (lead.Found there)) m =
+    (f : Search) × ((next ≡ Ends (Some s) f) × IsSearch leading m f × IsHere m there s)
+Leads leading s failed next (Ok lead.Lost) m =
     (f : Search) × ((next ≡ TakesBack f) × IsSearch leading m f)
-Leads leading s here failed next (Ok (lead.Goes there)) m =
+Leads leading s failed next (Ok (lead.Goes there)) m =
     (f : Search) × ((t : plain.Stand) × ((next ≡ TakesUp t f) × IsSearch leading m f × IsHere m there t))
-Leads leading s here failed next (Err e) m = HaveFailed m failed
+Leads leading s failed next (Err e) m = HaveFailed m failed
 
 -- ---- at the head of a loop
 
@@ -106,7 +106,7 @@ IsTask t = (i : ℕ) (p : Point) → slice_get (t.points).now i ≡ Some p → I
 
 -- what is tried later answered this, after some steps from `next`
 abbrev pub GoesBack : Task → Next → Result Lead AllocError → Memo → Type 0
-GoesBack task next (Ok lead.Found) m = ⊥
+GoesBack task next (Ok (lead.Found there)) m = ⊥
 GoesBack task next (Ok lead.Lost) m =
     (steps : ℕ) × ((f : Search) × ((after_steps_of task steps next ≡ Ends None f) × IsSearch (leading_of task) m f))
 GoesBack task next (Ok (lead.Goes there)) m =
@@ -115,14 +115,22 @@ GoesBack task next (Ok (lead.Goes there)) m =
 GoesBack task next (Err e) m =
     (steps : ℕ) × HaveFailed m (search_in (after_steps_of task steps next)).failed
 
--- a search that is to go on by `next` from this stand came to this, after some steps
-abbrev pub Advances : Task → Stand → Next → Result Lead AllocError → Memo → Type 0
-Advances task here next (Ok lead.Found) m =
+-- a search that is to go on by `next` came to its end or to this stand, after some steps
+abbrev pub Advances : Task → Next → Result Lead AllocError → Memo → Type 0
+Advances task next (Ok (lead.Found there)) m =
     (steps : ℕ) × ((f : Search) × ((s : plain.Stand) × ((after_steps_of task steps next ≡ Ends (Some s) f)
-    × IsSearch (leading_of task) m f × IsHere m here s)))
-Advances task here next (Ok lead.Lost) m = GoesBack task next (Ok lead.Lost) m
-Advances task here next (Ok (lead.Goes there)) m = GoesBack task next (Ok (lead.Goes there)) m
-Advances task here next (Err e) m = GoesBack task next (Err e) m
+    × IsSearch (leading_of task) m f × IsHere m there s)))
+Advances task next (Ok lead.Lost) m = GoesBack task next (Ok lead.Lost) m
+Advances task next (Ok (lead.Goes there)) m = GoesBack task next (Ok (lead.Goes there)) m
+Advances task next (Err e) m = GoesBack task next (Err e) m
+
+-- the same, but where nothing leads on what is tried later is still to be taken back
+abbrev pub ComesTo : Task → Next → Result Lead AllocError → Memo → Type 0
+ComesTo task next (Ok (lead.Found there)) m = Advances task next (Ok (lead.Found there)) m
+ComesTo task next (Ok lead.Lost) m =
+    (steps : ℕ) × ((f : Search) × ((after_steps_of task steps next ≡ TakesBack f) × IsSearch (leading_of task) m f))
+ComesTo task next (Ok (lead.Goes there)) m = GoesBack task next (Ok (lead.Goes there)) m
+ComesTo task next (Err e) m = GoesBack task next (Err e) m
 
 -- a search that is to go on by `next` ended so, after some steps
 abbrev pub EndsAs : Task → Next → Result (Option Stand) AllocError → Memo → Type 0

@@ -7,10 +7,11 @@ ghost use Rattle.fancy_points.specs.Points as points;
 ghost use Rattle.fancy_plain.specs.FailedPairs.{key_of, turn_numbers};
 ghost use Rattle.fancy_plain.specs.Paths.{HasTurns, turn_of};
 ghost use Rattle.fancy_plain.specs.Views.{loop_of, point_of, IsPointReadBy, IsReadBy, test_of};
+ghost use Rattle.fancy_plain.specs.declared.point.Point.TheVariants as point;
 ghost use Rattle.fancy_plain.specs.Choices.{choices_of};
 ghost use Rattle.fancy_plain.specs.Runs.{IsForkOf, Repeats, onward, run_search};
 ghost use Rattle.fancy_plain.specs.Ways.{IsMemoOf};
-ghost use Rattle.fancy_plain.specs.Searches.{Advances, EndsAs, GoesBack, HaveFailed, IsHere, IsTask, TurnsBy, fails_before, leading_of, next_of, IsSearch, Keeps, Leading, Leads};
+ghost use Rattle.fancy_plain.specs.Searches.{Advances, ComesTo, EndsAs, GoesBack, HaveFailed, IsHere, IsTask, TurnsBy, fails_before, leading_of, next_of, IsSearch, Keeps, Leading, Leads};
 
 use crate::choices::{Choice, Choices};
 use crate::failed::Failed;
@@ -36,7 +37,7 @@ pub struct Memo {
 /// What a point leads to.
 #[derive(Clone, Copy)]
 pub(crate) enum Lead {
-    Found,
+    Found(Stand),
     Lost,
     Goes(Stand),
 }
@@ -383,7 +384,7 @@ impl Memo {
         requires { stand.at < usize.MAX }
         ensures { (leading : Leading) (s : plain.Stand) (f : Search)
             → IsSearch leading self.old f → IsHere self.old stand s
-            → Leads leading s stand f.failed
+            → Leads leading s f.failed
             (TakesUp (record (plain.forward s) { opened = s.place ∷ s.opened }) f) result self.new }
     {
         let opened = self.log.push(Entry::Opened {
@@ -402,7 +403,7 @@ impl Memo {
         requires { stand.at < usize.MAX }
         ensures { (leading : Leading) (s : plain.Stand) (f : Search)
             → IsSearch leading self.old f → IsHere self.old stand s
-            → Leads leading s stand f.failed (plain.next_by (plain.close_lead group s s.opened)
+            → Leads leading s f.failed (plain.next_by (plain.close_lead group s s.opened)
             (Some (points.Close group)) s f) result self.new }
     {
         let Some((from, outer)) = self.log.opened(stand.opened) else {
@@ -425,7 +426,7 @@ impl Memo {
         ensures { (leading : Leading) (s : plain.Stand) (f : Search) (later : List plain.Later)
             → IsSearch leading self.old f → IsHere self.old stand s
             → Keeps true (leading s) s f.later later
-            → Leads leading s stand f.failed
+            → Leads leading s f.failed
             (TakesUp (plain.goes_to first s) (record f { later = later })) result self.new }
     {
         self.keep(stand, true)?;
@@ -437,7 +438,7 @@ impl Memo {
         ensures { (leading : Leading) (s : plain.Stand) (second : ℕ) (f : Search)
             → IsSearch leading self.old f → IsHere self.old stand s
             → leading s ≡ plain.Tries true (plain.goes_to first s) (plain.goes_to second s ∷ [])
-            → Leads leading s stand f.failed
+            → Leads leading s f.failed
             (plain.next_by (leading s) (Some (points.Fork first second)) s f) result self.new }
     {
         if self.has_failed(stand)? {
@@ -453,7 +454,7 @@ impl Memo {
         ensures { (leading : Leading) (s : plain.Stand) (f : Search)
             → IsSearch leading self.old f → IsHere self.old stand s
             → leading s ≡ plain.Tries true (plain.forward s) []
-            → Leads leading s stand f.failed
+            → Leads leading s f.failed
             (plain.next_by (leading s) (Some points.Join) s f) result self.new }
     {
         if self.has_failed(stand)? {
@@ -469,7 +470,7 @@ impl Memo {
         ensures { (leading : Leading) (s : plain.Stand) (f : Search)
             → IsSearch leading self.old f → IsHere self.old stand s
             → leading s ≡ plain.head_lead (loop_of turns) after s s.turns
-            → Leads leading s stand f.failed
+            → Leads leading s f.failed
             (plain.next_by (leading s) (Some (points.Head (loop_of turns) after)) s f)
             result self.new }
     {
@@ -507,7 +508,7 @@ impl Memo {
         ensures { (leading : Leading) (s first other : plain.Stand) (f : Search)
             → IsSearch leading self.old f → IsHere self.old stand s
             → plain.head_lead (loop_of turns) after s s.turns ≡ plain.Tries true first (other ∷ [])
-            → Leads leading s stand f.failed (TakesUp other f) result self.new }
+            → Leads leading s f.failed (TakesUp other f) result self.new }
     {
         let Some((turn, outer)) = self.log.turn(stand.turns) else {
             return Ok(Lead::Lost);
@@ -533,7 +534,7 @@ impl Memo {
             → IsSearch leading self.old f → IsHere self.old stand s
             → outer ≤ length self.old.log.entries.items
             → HasTurns self.old.log.entries.items outer around
-            → Leads leading s stand f.failed (TakesUp (record (plain.forward s)
+            → Leads leading s f.failed (TakesUp (record (plain.forward s)
             { turns = plain.next_turn (loop_of turns) s.place (turn_of turn) ∷ around }) f)
             result self.new }
     {
@@ -553,9 +554,8 @@ impl Task<'_> {
     {
         let mut stand = self.past_tests(m, start);
         'steps: for _ in 0..u64::MAX {
-            stand = self.past_loop(m, stand)?;
             match self.advance(m, stand)? {
-                Lead::Found => return Ok(Some(stand)),
+                Lead::Found(there) => return Ok(Some(there)),
                 Lead::Goes(next) => stand = next,
                 Lead::Lost => return Ok(None),
             }
@@ -569,7 +569,7 @@ impl Task<'_> {
         requires { IsTask self.now }
         ensures { (s : plain.Stand) (f : Search)
             → IsSearch (leading_of self.now) m.old f → IsHere m.old stand s
-            → Advances self.now stand (TakesUp s f) result m.new }
+            → Advances self.now (TakesUp s f) result m.new }
     {
         match self.take_up(m, stand)? {
             Lead::Lost => self.take_back(m),
@@ -583,8 +583,7 @@ impl Task<'_> {
         requires { IsTask self.now }
         ensures { (s : plain.Stand) (f : Search)
             → IsSearch (leading_of self.now) m.old f → IsHere m.old stand s
-            → Leads (leading_of self.now) s stand f.failed
-            (next_of self.now (TakesUp s f)) result m.new }
+            → ComesTo self.now (TakesUp s f) result m.new }
     {
         match self.points.get(stand.at) {
             None => {
@@ -597,21 +596,21 @@ impl Task<'_> {
 
     #[inline(always)]
     fn take_up_point(&self, point: &Point, m: &mut Memo, stand: Stand) -> Result<Lead, AllocError>
+        requires task { IsTask self.now }
         requires at { slice_get self.now.points.now stand.at ≡ Some point.now }
         requires read { IsPointReadBy self.now.unicode point.now }
         ensures { (s : plain.Stand) (f : Search)
             → IsSearch (leading_of self.now) m.old f → IsHere m.old stand s
-            → Leads (leading_of self.now) s stand f.failed
-            (next_of self.now (TakesUp s f)) result m.new }
+            → ComesTo self.now (TakesUp s f) result m.new }
     {
         match point {
             Point::Take(test) => self.take(test, m, stand),
-            Point::Fork(first, _) => m.fork(stand, *first),
+            Point::Fork(first, _) => self.take_up_fork(m, stand, *first),
             Point::Jump(to) => Ok(Lead::Goes(stand.goes_to(*to))),
             Point::Or(first, _) => m.choose(stand, *first),
             Point::Close(group) => m.close(stand, *group),
             Point::Join => m.join(stand),
-            Point::Head { turns, after } => m.turn(stand, *turns, *after),
+            Point::Head { turns, after } => self.take_up_head(m, stand, *turns, *after),
             Point::Split(first, _) => {
                 m.count();
                 m.choose(stand, *first)
@@ -639,9 +638,48 @@ impl Task<'_> {
             }
             Point::Stop => {
                 m.count();
-                Ok(Lead::Found)
+                Ok(Lead::Found(stand))
             }
         }
+    }
+
+    /// At the head of a loop that does not count, past it or past what it goes over in one go.
+    #[inline(always)]
+    fn take_up_fork(&self, m: &mut Memo, stand: Stand, first: usize) -> Result<Lead, AllocError>
+        requires task { IsTask self.now }
+        requires at { (second : ℕ)
+            × (slice_get self.now.points.now stand.at ≡ Some (point.Fork first second)) }
+        ensures { (s : plain.Stand) (f : Search)
+            → IsSearch (leading_of self.now) m.old f → IsHere m.old stand s
+            → ComesTo self.now (TakesUp s f) result m.new }
+    {
+        let on = self.past_loop(m, stand)?;
+        if on.at != stand.at {
+            return Ok(Lead::Goes(on));
+        }
+        m.fork(on, first)
+    }
+
+    /// The same at the head of a loop that counts.
+    #[inline(always)]
+    fn take_up_head(
+        &self,
+        m: &mut Memo,
+        stand: Stand,
+        turns: Loop,
+        after: usize,
+    ) -> Result<Lead, AllocError>
+        requires task { IsTask self.now }
+        requires at { slice_get self.now.points.now stand.at ≡ Some (point.Head turns after) }
+        ensures { (s : plain.Stand) (f : Search)
+            → IsSearch (leading_of self.now) m.old f → IsHere m.old stand s
+            → ComesTo self.now (TakesUp s f) result m.new }
+    {
+        let on = self.past_loop(m, stand)?;
+        if on.at != stand.at {
+            return Ok(Lead::Goes(on));
+        }
+        m.turn(on, turns, after)
     }
 
     /// Past one character that passes the test.
@@ -651,7 +689,7 @@ impl Task<'_> {
         requires read { IsReadBy self.now.unicode test.now }
         ensures { (s : plain.Stand) (f : Search)
             → IsSearch (leading_of self.now) m.old f → IsHere m.old stand s
-            → Leads (leading_of self.now) s stand f.failed
+            → Leads (leading_of self.now) s f.failed
             (plain.next_by (plain.lead_by self.now.text.now self.now.unicode
             (points.Take (test_of test.now)) s) (Some (points.Take (test_of test.now))) s f)
             result m.new }
@@ -692,7 +730,7 @@ impl Task<'_> {
             → IsSearch (leading_of self.now) m.old (record f { later = rest })
             → IsHere m.old stand s
             → leading_of self.now s ≡ plain.Tries is_noted first (other ∷ [])
-            → Leads (leading_of self.now) s stand f.failed
+            → Leads (leading_of self.now) s f.failed
             (TakesUp other (record f { later = fails_before is_noted s rest })) result m.new }
     {
         match self.points.get(stand.at) {
@@ -710,7 +748,7 @@ impl Task<'_> {
             → IsSearch (leading_of self.now) m.old (record f { later = rest })
             → IsHere m.old stand s
             → leading_of self.now s ≡ plain.Tries is_noted first (other ∷ [])
-            → Leads (leading_of self.now) s stand f.failed
+            → Leads (leading_of self.now) s f.failed
             (TakesUp other (record f { later = fails_before is_noted s rest })) result m.new }
     {
         match point {

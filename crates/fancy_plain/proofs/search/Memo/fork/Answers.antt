@@ -24,7 +24,7 @@ returns c = λ leading s second f h here e.
     let same = c.has_failed.ensures.rest in
     let later = plain.Other (plain.goes_to second s) ∷ plain.Fails (pair_of s) ∷ f.later in
     let counted = record f { visits = f.visits + 1 } in
-    subst (λ n. Leads leading s c.args.stand f.failed n c.choose.result c.choose.new.self)
+    subst (λ n. Leads leading s f.failed n c.choose.result c.choose.new.self)
     (sym (tries_anew leading s _ _ f e (Some (points.Fork c.args.first second))
     (sym (c.in_ok-has_failed.ensures.ok s f.failed here h.failed) ∙ c.if-branch.false)))
     (c.choose.ensures leading s counted later

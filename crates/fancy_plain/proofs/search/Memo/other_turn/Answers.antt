@@ -42,7 +42,7 @@ returns-in-OutOrIn c = λ leading s first other f h here e.
     let around = ends.0 in
     let l = loop_of c.args.turns in
     let led = head_by l c.args.after s t around c.args.stand.place s.turns turning.OutOrIn here.place ends.1.0 c.in-OutOrIn.ensures in
-    subst (λ o. Leads leading s c.args.stand f.failed (TakesUp o f) c.turn_in.result c.turn_in.new.self)
+    subst (λ o. Leads leading s f.failed (TakesUp o f) c.turn_in.result c.turn_in.new.self)
     (sym (one_other _ first other _ (on l c.args.after s t around) e led))
     (c.turn_in.ensures leading s f around h here (omega (arith, ends.1.1, here.turns_link)) ends.1.2)
 

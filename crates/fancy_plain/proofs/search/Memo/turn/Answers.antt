@@ -80,7 +80,7 @@ returns-in_ok-keep-in-In c = λ leading s f h here e.
     let later = plain.Fails (pair_of s) ∷ f.later in
     let kept = c.in_ok-keep-in-In.ensures.ok leading counted s later pair.search pair.before refl in
     let inside = pair.link c.in-Some.outer (omega (arith, ends.1.1, here.turns_link)) in
-    subst (λ n. Leads leading s c.args.stand f.failed n c.turn_in.result c.turn_in.new.self) (sym anew)
+    subst (λ n. Leads leading s f.failed n c.turn_in.result c.turn_in.new.self) (sym anew)
     (c.turn_in.ensures leading s (record counted { later = later }) around kept pair.here inside (pair.turns c.in-Some.outer around ends.1.2))
 
 pub returns-in_ok-keep-in-InOrOut : goal.returns-in_ok-keep-in-InOrOut
@@ -99,7 +99,7 @@ returns-in_ok-keep-in-InOrOut c = λ leading s f h here e.
     let later = plain.Other (off (loop_of c.args.turns) c.args.after s t around) ∷ plain.Fails (pair_of s) ∷ f.later in
     let kept = c.in_ok-keep-in-InOrOut.ensures.ok leading counted s later pair.search pair.before (true, (_, (_, (led, refl)))) in
     let inside = pair.link c.in-Some.outer (omega (arith, ends.1.1, here.turns_link)) in
-    subst (λ n. Leads leading s c.args.stand f.failed n c.turn_in-in-InOrOut.result c.turn_in-in-InOrOut.new.self) (sym anew)
+    subst (λ n. Leads leading s f.failed n c.turn_in-in-InOrOut.result c.turn_in-in-InOrOut.new.self) (sym anew)
     (c.turn_in-in-InOrOut.ensures leading s (record counted { later = later }) around kept pair.here inside (pair.turns c.in-Some.outer around ends.1.2))
 
 pub returns-in_ok-keep-in-OutOrIn : goal.returns-in_ok-keep-in-OutOrIn

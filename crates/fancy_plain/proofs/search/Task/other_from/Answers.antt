@@ -36,7 +36,7 @@ returns-in_ok-keep-in-Head c = λ s first other is_noted f rest h here e.
     let task = c.args.self.now in
     let by = leads_by task (point.Head c.in-Head.turns c.in-Head.after) c.args.stand s here.at (c.requires ∙ ap Some c.in-Head.is) in
     let noted = head_notes (loop_of c.in-Head.turns) c.in-Head.after s first other s.turns is_noted (sym by ∙ e) in
-    subst (λ n. Leads (leading_of task) s c.args.stand f.failed (TakesUp other (record f { later = fails_before n s rest }))
+    subst (λ n. Leads (leading_of task) s f.failed (TakesUp other (record f { later = fails_before n s rest }))
     c.other_turn.result c.other_turn.new.self) (sym noted)
     (c.other_turn.ensures (leading_of task) s first other (record f { later = plain.Fails (pair_of s) ∷ rest })
     (c.in_ok-keep-in-Head.ensures.ok (leading_of task) (record f { later = rest }) s (plain.Fails (pair_of s) ∷ rest) h here refl)

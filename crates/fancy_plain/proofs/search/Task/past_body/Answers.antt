@@ -18,7 +18,7 @@ returns-in-Goes-clause-ok c = λ s f h here.
     let task = c.args.self.now in
     let left = body_left task c.args.m.now c.count_more.new.self c.args.stand c.args.test.now s f _ c.requires.runs
     c.requires.refused (c.may_have_failed.ensures c.if-may_have_failed.false) c.count_more.ensures h here in
-    let led = subst (λ l. Leads (leading_of task) s c.args.stand f.failed (out_of s left.other f) (Ok l) c.take_other.new.m) c.in-Goes.is
+    let led = subst (λ l. Leads (leading_of task) s f.failed (out_of s left.other f) (Ok l) c.take_other.new.m) c.in-Goes.is
     (c.in_ok-out.ensures s left.one left.other true (record f { visits = f.visits + 2 }) f.later left.search left.stands left.lead) in
     goes_on_then task (TakesUp s f) left.steps led.0 led.1.0 c.past_tests.new.m c.past_tests.result (left.comes ∙ led.1.1.0)
     (c.past_tests.ensures.on led.1.0 led.0 led.1.1.1 led.1.1.2)
@@ -29,7 +29,7 @@ returns-in_default c = record {
       let task = c.args.self.now in
       let left = body_left task c.args.m.now c.count_more.new.self c.args.stand c.args.test.now s f _ c.requires.runs
       c.requires.refused (c.may_have_failed.ensures c.if-may_have_failed.false) c.count_more.ensures h here in
-      absurd (never_lost task s left.other c.args.stand f.failed _ c.in_ok-out.field-0 c.take_other.new.m c.in_default.not-Goes
+      absurd (never_lost task s left.other f.failed _ c.in_ok-out.field-0 c.take_other.new.m c.in_default.not-Goes
       (c.in_ok-out.ensures s left.one left.other true (record f { visits = f.visits + 2 }) f.later left.search left.stands left.lead));
   failed = tt;
 }

@@ -78,7 +78,7 @@ returns-then-not-is_lost c = λ f h.
     let keeps = subst (λ b. Keeps b (leading last.stand) last.stand last.rest g.later) {y = true} c.if-choice.true last.keeps in
     let is_noted = keeps.0 in
     let other = keeps.1.1.0 in
-    goes_back task (TakesBack f) back.0 last.stand other c.in-Some.choice.stand g
+    goes_back task (TakesBack f) back.0 last.stand other g
     (record g { later = fails_before is_noted last.stand last.rest }) c.take_other.result c.take_other.new.m back.1.1.0
     (ap (λ l. plain.back_to l g) keeps.1.1.1.1) refl
     (c.take_other.ensures last.stand keeps.1.0 other is_noted g last.rest last.search last.here keeps.1.1.1.0)

@@ -9,10 +9,13 @@ pub returns-in-None : goal.returns-in-None
 returns-in-None c = λ s f h here.
     let task = c.args.self.now in
     let past : length task.points.now ≤ c.args.stand.at = ltb-false c.args.stand.at (length task.points.now) (sym c.in-None.ensures.lookup.0) in (
-      record f { visits = f.visits + 1 },
+      1,
       (
-        nothing_there task c.args.stand s f here.at past,
-        one_visit (leading_of task) c.args.m.now f h c.count.new.self _ c.count.ensures,
+        record f { visits = f.visits + 1 },
+        (
+          nothing_there task c.args.stand s f here.at past,
+          one_visit (leading_of task) c.args.m.now f h c.count.new.self _ c.count.ensures,
+        ),
       ),
     )
 

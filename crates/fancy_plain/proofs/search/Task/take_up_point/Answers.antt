@@ -12,17 +12,9 @@ use Rattle.fancy_plain.specs.declared.log.Log.{Log}
 use Rattle.fancy_plain.specs.declared.log.Stand.{Stand}
 use Rattle.fancy_plain.specs.declared.search.Memo.{Memo}
 use Rattle.std.proofs.lemmas.Result.{err_from_is_err_and}
+use Rattle.fancy_plain.proofs.BackLaws.{comes_by}
 use Rattle.fancy_plain.proofs.SearchLaws.{at_lead, at_point, failed_by, here_at, here_by, leads_by, next_there, one_visit}
 use Rattle.fancy_plain.proofs.search.Task.take_up_point.Goals as goal
-
--- src/search.rt:443:5
-pub returns-in-Fork : goal.returns-in-Fork
-returns-in-Fork c = λ s f h here.
-    let task = c.args.self.now in
-    let p = point.Fork c.in-Fork.first c.in-Fork.field-1 in
-    let there = c.requires.at ∙ ap Some c.in-Fork.is in
-    at_lead task p c.args.stand s f here.at there c.fork.result c.fork.new.self
-    (c.fork.ensures (leading_of task) s c.in-Fork.field-1 f h here (leads_by task p c.args.stand s here.at there))
 
 -- src/search.rt:443:5
 pub returns-in-Jump : goal.returns-in-Jump
@@ -30,14 +22,17 @@ returns-in-Jump c = λ s f h here.
     let task = c.args.self.now in
     let p = point.Jump c.in-Jump.to in
     let there = c.requires.at ∙ ap Some c.in-Jump.is in (
-      f,
+      1,
       (
-        plain.goes_to c.in-Jump.to s,
+        f,
         (
-          next_there task p c.args.stand s here.at there f,
-          h,
-          subst (λ (x : Stand). IsHere c.args.m.now x (plain.goes_to c.in-Jump.to s)) (sym c.goes_to.ensures)
-              (here_at c.args.m.now c.args.stand s c.in-Jump.to c.in-Jump.to refl here),
+          plain.goes_to c.in-Jump.to s,
+          (
+            next_there task p c.args.stand s here.at there f,
+            h,
+            subst (λ (x : Stand). IsHere c.args.m.now x (plain.goes_to c.in-Jump.to s)) (sym c.goes_to.ensures)
+                (here_at c.args.m.now c.args.stand s c.in-Jump.to c.in-Jump.to refl here),
+          ),
         ),
       ),
     )
@@ -49,34 +44,25 @@ returns-in-Or c = λ s f h here.
     let p = point.Or c.in-Or.first c.in-Or.field-1 in
     let there = c.requires.at ∙ ap Some c.in-Or.is in
     let other = plain.goes_to c.in-Or.field-1 s in
-    at_point task p c.args.stand s f here.at there c.choose.result c.choose.new.self
+    comes_by c.args.self.now s f c.choose.result c.choose.new.self (at_point task p c.args.stand s f here.at there c.choose.result c.choose.new.self
     (c.choose.ensures (leading_of task) s f (plain.Other other ∷ f.later) h here
-    (false, (plain.goes_to c.in-Or.first s, (other, (leads_by task p c.args.stand s here.at there, refl)))))
+    (false, (plain.goes_to c.in-Or.first s, (other, (leads_by task p c.args.stand s here.at there, refl))))))
 
 -- src/search.rt:443:5
 pub returns-in-Close : goal.returns-in-Close
 returns-in-Close c = λ s f h here.
     let task = c.args.self.now in
     let p = point.Close c.in-Close.group in
-    at_point task p c.args.stand s f here.at (c.requires.at ∙ ap Some c.in-Close.is) c.close.result c.close.new.self
-    (c.close.ensures (leading_of task) s f h here)
+    comes_by c.args.self.now s f c.close.result c.close.new.self (at_point task p c.args.stand s f here.at (c.requires.at ∙ ap Some c.in-Close.is) c.close.result c.close.new.self
+    (c.close.ensures (leading_of task) s f h here))
 
 -- src/search.rt:443:5
 pub returns-in-Join : goal.returns-in-Join
 returns-in-Join c = λ s f h here.
     let task = c.args.self.now in
     let there = c.requires.at ∙ ap Some c.in-Join.is in
-    at_lead task point.Join c.args.stand s f here.at there c.join.result c.join.new.self
-    (c.join.ensures (leading_of task) s f h here (leads_by task point.Join c.args.stand s here.at there))
-
--- src/search.rt:443:5
-pub returns-in-Head : goal.returns-in-Head
-returns-in-Head c = λ s f h here.
-    let task = c.args.self.now in
-    let p = point.Head c.in-Head.turns c.in-Head.after in
-    let there = c.requires.at ∙ ap Some c.in-Head.is in
-    at_lead task p c.args.stand s f here.at there c.turn.result c.turn.new.self
-    (c.turn.ensures (leading_of task) s f h here (leads_by task p c.args.stand s here.at there))
+    comes_by c.args.self.now s f c.join.result c.join.new.self (at_lead task point.Join c.args.stand s f here.at there c.join.result c.join.new.self
+    (c.join.ensures (leading_of task) s f h here (leads_by task point.Join c.args.stand s here.at there)))
 
 -- src/search.rt:443:5
 pub returns-in-Split : goal.returns-in-Split
@@ -85,20 +71,20 @@ returns-in-Split c = λ s f h here.
     let p = point.Split c.in-Split.first c.in-Split.field-1 in
     let there = c.requires.at ∙ ap Some c.in-Split.is in
     let other = plain.goes_to c.in-Split.field-1 s in
-    at_point task p c.args.stand s f here.at there c.choose-in-Split.result c.choose-in-Split.new.self
+    comes_by c.args.self.now s f c.choose-in-Split.result c.choose-in-Split.new.self (at_point task p c.args.stand s f here.at there c.choose-in-Split.result c.choose-in-Split.new.self
     (c.choose-in-Split.ensures (leading_of task) s (record f { visits = f.visits + 1 }) (plain.Other other ∷ f.later)
     (one_visit (leading_of task) c.args.m.now f h c.count.new.self _ c.count.ensures)
     (here_by c.args.m.now c.count.new.self c.args.stand s (ap (λ (m : Memo). m.log) c.count.ensures) here)
-    (false, (plain.goes_to c.in-Split.first s, (other, (leads_by task p c.args.stand s here.at there, refl)))))
+    (false, (plain.goes_to c.in-Split.first s, (other, (leads_by task p c.args.stand s here.at there, refl))))))
 
 -- src/search.rt:443:5
 pub returns-in-Open : goal.returns-in-Open
 returns-in-Open c = λ s f h here.
     let task = c.args.self.now in
-    at_point task point.Open c.args.stand s f here.at (c.requires.at ∙ ap Some c.in-Open.is) c.open.result c.open.new.self
+    comes_by c.args.self.now s f c.open.result c.open.new.self (at_point task point.Open c.args.stand s f here.at (c.requires.at ∙ ap Some c.in-Open.is) c.open.result c.open.new.self
     (c.open.ensures (leading_of task) s (record f { visits = f.visits + 1 })
     (one_visit (leading_of task) c.args.m.now f h c.count-in-Open.new.self _ c.count-in-Open.ensures)
-    (here_by c.args.m.now c.count-in-Open.new.self c.args.stand s (ap (λ (m : Memo). m.log) c.count-in-Open.ensures) here))
+    (here_by c.args.m.now c.count-in-Open.new.self c.args.stand s (ap (λ (m : Memo). m.log) c.count-in-Open.ensures) here)))
 
 -- src/search.rt:443:5
 pub returns-in_ok-next-in-Enter : goal.returns-in_ok-next-in-Enter
@@ -107,16 +93,19 @@ returns-in_ok-next-in-Enter c = λ s f h here.
     let m = c.count-in-Enter.new.self in
     let log = ap (λ (m : Memo). m.log) c.count-in-Enter.ensures in
     let first : plain.Turn = record { count = 0; since = None } in (
-      record f { visits = f.visits + 1 },
+      1,
       (
-        record (plain.forward s) { turns = first ∷ s.turns },
+        record f { visits = f.visits + 1 },
         (
-          next_there task point.Enter c.args.stand s here.at (c.requires.at ∙ ap Some c.in-Enter.is) f,
-          c.in_ok-next-in-Enter.ensures.search (leading_of task) (record f { visits = f.visits + 1 })
-              (one_visit (leading_of task) c.args.m.now f h m _ c.count-in-Enter.ensures),
-          c.in_ok-next-in-Enter.ensures.here s s.turns (here_by c.args.m.now m c.args.stand s log here)
-              (subst (λ (l : Log). c.args.stand.turns ≤ length l.entries.items) (sym log) here.turns_link)
-              (subst (λ (l : Log). HasTurns l.entries.items c.args.stand.turns s.turns) (sym log) here.turns),
+          record (plain.forward s) { turns = first ∷ s.turns },
+          (
+            next_there task point.Enter c.args.stand s here.at (c.requires.at ∙ ap Some c.in-Enter.is) f,
+            c.in_ok-next-in-Enter.ensures.search (leading_of task) (record f { visits = f.visits + 1 })
+                (one_visit (leading_of task) c.args.m.now f h m _ c.count-in-Enter.ensures),
+            c.in_ok-next-in-Enter.ensures.here s s.turns (here_by c.args.m.now m c.args.stand s log here)
+                (subst (λ (l : Log). c.args.stand.turns ≤ length l.entries.items) (sym log) here.turns_link)
+                (subst (λ (l : Log). HasTurns l.entries.items c.args.stand.turns s.turns) (sym log) here.turns),
+          ),
         ),
       ),
     )
@@ -129,16 +118,19 @@ returns-then-holds c = λ s f h here.
     let text = task.text.now in
     let yes_here = ap (λ i. holds text i task.unicode (assertion_of c.in-Holds.assertion)) (sym here.place) ∙ sym c.holds.ensures ∙ c.if-holds.true in
     let m = c.count-in-Holds.new.self in (
-      record f { visits = f.visits + 1 },
+      1,
       (
-        plain.forward s,
+        record f { visits = f.visits + 1 },
         (
-          next_there task p c.args.stand s here.at (c.requires.at ∙ ap Some c.in-Holds.is) f
-              ∙ ap (λ l. plain.next_by l (Some (point_of p)) s f) (cond-true _ _ _ yes_here),
-          one_visit (leading_of task) c.args.m.now f h m _ c.count-in-Holds.ensures,
-          subst (λ (x : Stand). IsHere m x (plain.forward s)) (sym c.forward.ensures)
-              (here_at m c.args.stand s (c.args.stand.at + 1) (s.at + 1) (ap (λ n. n + 1) here.at)
-              (here_by c.args.m.now m c.args.stand s (ap (λ (n : Memo). n.log) c.count-in-Holds.ensures) here)),
+          plain.forward s,
+          (
+            next_there task p c.args.stand s here.at (c.requires.at ∙ ap Some c.in-Holds.is) f
+                ∙ ap (λ l. plain.next_by l (Some (point_of p)) s f) (cond-true _ _ _ yes_here),
+            one_visit (leading_of task) c.args.m.now f h m _ c.count-in-Holds.ensures,
+            subst (λ (x : Stand). IsHere m x (plain.forward s)) (sym c.forward.ensures)
+                (here_at m c.args.stand s (c.args.stand.at + 1) (s.at + 1) (ap (λ n. n + 1) here.at)
+                (here_by c.args.m.now m c.args.stand s (ap (λ (n : Memo). n.log) c.count-in-Holds.ensures) here)),
+          ),
         ),
       ),
     )
@@ -150,11 +142,14 @@ returns-else-holds c = λ s f h here.
     let p = point.Holds c.in-Holds.assertion in
     let text = task.text.now in
     let not_here = ap (λ i. holds text i task.unicode (assertion_of c.in-Holds.assertion)) (sym here.place) ∙ sym c.holds.ensures ∙ c.if-holds.false in (
-      record f { visits = f.visits + 1 },
+      1,
       (
-        next_there task p c.args.stand s here.at (c.requires.at ∙ ap Some c.in-Holds.is) f
-            ∙ ap (λ l. plain.next_by l (Some (point_of p)) s f) (cond-false _ _ _ not_here),
-        one_visit (leading_of task) c.args.m.now f h c.count-in-Holds.new.self _ c.count-in-Holds.ensures,
+        record f { visits = f.visits + 1 },
+        (
+          next_there task p c.args.stand s here.at (c.requires.at ∙ ap Some c.in-Holds.is) f
+              ∙ ap (λ l. plain.next_by l (Some (point_of p)) s f) (cond-false _ _ _ not_here),
+          one_visit (leading_of task) c.args.m.now f h c.count-in-Holds.new.self _ c.count-in-Holds.ensures,
+        ),
       ),
     )
 
@@ -162,22 +157,31 @@ returns-else-holds c = λ s f h here.
 pub returns-in-Stop : goal.returns-in-Stop
 returns-in-Stop c = λ s f h here.
     let task = c.args.self.now in (
-      record f { visits = f.visits + 1 },
+      1,
       (
-        next_there task point.Stop c.args.stand s here.at (c.requires.at ∙ ap Some c.in-Stop.is) f,
-        one_visit (leading_of task) c.args.m.now f h c.count-in-Stop.new.self _ c.count-in-Stop.ensures,
-        here_by c.args.m.now c.count-in-Stop.new.self c.args.stand s (ap (λ (m : Memo). m.log) c.count-in-Stop.ensures) here,
+        record f { visits = f.visits + 1 },
+        (
+          s,
+          ((
+            next_there task point.Stop c.args.stand s here.at (c.requires.at ∙ ap Some c.in-Stop.is) f,
+            one_visit (leading_of task) c.args.m.now f h c.count-in-Stop.new.self _ c.count-in-Stop.ensures,
+            here_by c.args.m.now c.count-in-Stop.new.self c.args.stand s (ap (λ (m : Memo). m.log) c.count-in-Stop.ensures) here,
+          )
+              ),
+        ),
       ),
     )
 
 pub returns-in-Take : goal.returns-in-Take
 returns-in-Take c = λ s f h here.
-    at_point c.args.self.now (point.Take c.in-Take.test) c.args.stand s f here.at (c.requires.at ∙ ap Some c.in-Take.is) c.take.result c.take.new.m
-    (c.take.ensures s f h here)
+    comes_by c.args.self.now s f c.take.result c.take.new.m (at_point c.args.self.now (point.Take c.in-Take.test) c.args.stand s f here.at (c.requires.at ∙ ap Some c.in-Take.is) c.take.result c.take.new.m
+    (c.take.ensures s f h here))
 
 pub returns-in_err-next-in-Enter : goal.returns-in_err-next-in-Enter
 returns-in_err-next-in-Enter c = λ s f h here.
     let p = err_from_is_err_and c.from_residual.result c.from_residual.ensures.1 in
-    rw p.1
-    (failed_by c.args.m.now c.begin_turn.new.self f.failed
-    (ap (λ (m : Memo). m.failed) c.begin_turn.ensures.rest ∙ ap (λ (m : Memo). m.failed) c.count-in-Enter.ensures) h.failed)
+    rw p.1 (
+      0,
+      failed_by c.args.m.now c.begin_turn.new.self f.failed
+          (ap (λ (m : Memo). m.failed) c.begin_turn.ensures.rest ∙ ap (λ (m : Memo). m.failed) c.count-in-Enter.ensures) h.failed,
+    )
