@@ -66,6 +66,9 @@ fn ascii_lower(c: u32) -> u32
 fn folds_to(unicode: bool, a: u32, b: u32) -> bool
     ensures { result ≡ meant.folds_to unicode a b }
 {
+    if a == b {
+        return true;
+    }
     if unicode {
         fold_code(a) == fold_code(b)
     } else {
