@@ -56,6 +56,7 @@ impl Passes<'_> {
         compiled: &Compiled,
         pos: usize,
         scratch: &mut Scratch,
+        numbers: &mut Vec<usize>,
     ) -> Result<Option<(usize, usize)>, Error> {
         let options = RunOptions {
             pos,
@@ -67,8 +68,10 @@ impl Passes<'_> {
         if self.spans {
             return run_spans(alloc, compiled.program(), self.text, &options, scratch);
         }
-        let numbers = compiled.search(alloc, self.text, &options, scratch)?;
-        Ok(numbers.and_then(|numbers| first_pair(&numbers)))
+        if !compiled.search_into(alloc, self.text, &options, scratch, numbers)? {
+            return Ok(None);
+        }
+        Ok(first_pair(numbers))
     }
 
     /// Where the next search begins: where the match ended, or one character further if it was empty.
@@ -86,6 +89,7 @@ impl Passes<'_> {
         alloc: Global,
         compiled: &Compiled,
         scratch: &mut Scratch,
+        numbers: &mut Vec<usize>,
         tally: &mut Tally,
     ) -> Result<(), Error> {
         let mut next = Some(self.pos);
@@ -94,7 +98,7 @@ impl Passes<'_> {
             let Some(pos) = next else {
                 break;
             };
-            let Some((start, end)) = self.find(alloc, compiled, pos, scratch)? else {
+            let Some((start, end)) = self.find(alloc, compiled, pos, scratch, numbers)? else {
                 break;
             };
             tally.add(start, end);
@@ -118,8 +122,9 @@ impl Passes<'_> {
             count: 0,
             sum: 0,
         };
+        let mut numbers = Vec::new(alloc);
         for _ in 0..self.count {
-            self.pass(alloc, compiled, scratch, &mut tally)?;
+            self.pass(alloc, compiled, scratch, &mut numbers, &mut tally)?;
         }
         Ok(tally)
     }

@@ -7,6 +7,7 @@ ghost use Rattle.fancy_meaning.specs.Premises.{Input};
 ghost use Rattle.fancy_info.specs.Infos.{analysis_options_of};
 ghost use Rattle.fancy_compile.specs.Compiled.{compile_options_of};
 ghost use Rattle.fancy_expr.specs.Sound.{IsWellFormedTree};
+ghost use Rattle.fancy_vm.specs.Means.{answer_in};
 ghost use Rattle.fancy_vm.specs.Programs.{default_at, options_of as run_options_of, task_of};
 ghost use Rattle.fancy_search.specs.Searches.{Bounds, IsCompiledFrom, IsRefusedAs, Promises, input_of, program, search_fits};
 ghost use Rattle.fancy_search.specs.Searches as searches;
@@ -16,7 +17,7 @@ use fancy_characters::places::is_place;
 use fancy_compile::compile::{CompileOptions, compile};
 use fancy_expr::error::Error;
 use fancy_expr::expr::ExprTree;
-use fancy_vm::vm::{Prog, RunOptions, Scratch, run};
+use fancy_vm::vm::{Prog, RunOptions, Scratch, run, run_into};
 use std::alloc::Global;
 
 /// The options of the three stages of a search.
@@ -156,6 +157,27 @@ impl Compiled {
             → Bounds i text.now (run_options_of options.now) result }
     {
         run(alloc, &self.prog, text, options, scratch)
+    }
+
+    /// As `search`, but it answers whether there is a match, and writes its numbers over these, in the memory that they
+    /// have. Without a match, and with an error, nothing is said of the numbers.
+    pub fn search_into(
+        &self,
+        alloc: Global,
+        text: &str,
+        options: &RunOptions,
+        scratch: &mut Scratch,
+        numbers: &mut Vec<usize>,
+    ) -> Result<bool, Error>
+        requires { IsTrue (run_fits (task_of (program self.now) text.now options.now)) }
+        ensures promise { (i : Input)
+            → IsCompiledFrom i self.now
+            → Promises i text.now (run_options_of options.now) (answer_in result numbers.new) }
+        ensures bounds { (i : Input)
+            → IsCompiledFrom i self.now
+            → Bounds i text.now (run_options_of options.now) (answer_in result numbers.new) }
+    {
+        run_into(alloc, &self.prog, text, options, scratch, numbers)
     }
 }
 

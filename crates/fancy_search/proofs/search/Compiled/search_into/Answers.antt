@@ -1,0 +1,17 @@
+use Rattle.std.proofs.Common.{◌<◌, length, arith}
+use Rattle.fancy_meaning.specs.Numbers.{usize_max}
+use Rattle.fancy_vm.specs.Means.{answer_in}
+use Rattle.fancy_search.proofs.Bounded.{run_bounds}
+use Rattle.fancy_search.proofs.Searched.{run_promises}
+use Rattle.fancy_search.proofs.search.Compiled.search_into.Goals as goal
+
+pub returns-clause-promise : goal.returns-clause-promise
+returns-clause-promise c i from =
+    run_promises i c.args.self.now c.args.text.now c.args.options.now from c.requires (answer_in c.run_into.result c.run_into.new.numbers)
+    c.run_into.ensures.machine c.run_into.ensures.headline
+
+pub returns-clause-bounds : goal.returns-clause-bounds
+returns-clause-bounds c i from =
+    let small : length c.args.text.now < usize_max = omega arith in
+    run_bounds i c.args.self.now c.args.text.now c.args.options.now from c.requires c.utf8.text small (answer_in c.run_into.result c.run_into.new.numbers)
+    c.run_into.ensures.machine
