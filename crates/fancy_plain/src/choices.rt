@@ -68,11 +68,10 @@ impl Choices {
         ensures { OnOk result
             (choices_of self.new ≡ run_choices before choice ++ choices_of self.old) }
     {
-        let run = Run { choice, before };
         if self.len >= self.runs.len() {
-            return self.push_and_grow(run);
+            return self.push_and_grow(Run { choice, before });
         }
-        self.runs[self.len] = run;
+        self.runs[self.len] = Run { choice, before };
         self.len += 1;
         Ok(())
     }

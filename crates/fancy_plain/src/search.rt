@@ -11,7 +11,7 @@ ghost use Rattle.fancy_plain.specs.declared.point.Point.TheVariants as point;
 ghost use Rattle.fancy_plain.specs.Choices.{choices_of};
 ghost use Rattle.fancy_plain.specs.Runs.{IsForkOf, Repeats, onward, run_search};
 ghost use Rattle.fancy_plain.specs.Ways.{IsMemoOf};
-ghost use Rattle.fancy_plain.specs.Searches.{Advances, ComesTo, EndsAs, GoesBack, HaveFailed, IsHere, IsTask, TurnsBy, fails_before, leading_of, next_of, IsSearch, Keeps, Leading, Leads};
+ghost use Rattle.fancy_plain.specs.Searches.{Advances, ComesTo, EndsAs, GoesBack, HaveFailed, IsHere, IsTask, TurnsBy, fails_before, leading_of, IsSearch, Keeps, Leading, Leads};
 
 use crate::choices::{Choice, Choices};
 use crate::failed::Failed;
@@ -224,7 +224,7 @@ impl Memo {
         if stand.turns == 0 {
             return Ok(self.failed.has_outside(stand.at, stand.place));
         }
-        self.has_failed_inside(stand)
+        self.has_failed_inside(Stand { ..stand })
     }
 
     /// The same, inside a loop that counts.
@@ -288,7 +288,7 @@ impl Memo {
         if stand.turns == 0 {
             return self.failed.add_outside(self.alloc, stand.at, stand.place);
         }
-        self.note_failed_inside(stand)
+        self.note_failed_inside(Stand { ..stand })
     }
 
     /// The same, inside a loop that counts.
