@@ -122,14 +122,6 @@ impl Cells {
         self.values[cell]
     }
 
-    /// What the first cells hold.
-    pub(crate) fn first(&self, alloc: Global, count: usize) -> Result<Vec<usize>, AllocError>
-        requires { count ≤ length self.now.values }
-        ensures ok { IfOk result (λ v. v.items ≡ take count self.now.values) }
-    {
-        Vec::from_slice(alloc, &self.values[..count])
-    }
-
     /// Writes what the first cells hold over these numbers.
     pub(crate) fn copy_first(
         &self,

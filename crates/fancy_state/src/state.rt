@@ -204,16 +204,6 @@ impl State {
         self.cells.get(slot)
     }
 
-    /// The first slots as numbers.
-    pub fn first_slots(&self, alloc: Global, count: usize) -> Result<Vec<usize>, Error>
-        requires { count ≤ length self.now.slots }
-        ensures ok { IfOk result (λ v. v.items ≡ take count self.now.slots) }
-        ensures err { IfErr result IsMemory }
-    {
-        let slots = self.cells.first(alloc, count)?;
-        Ok(slots)
-    }
-
     /// Writes the first slots as numbers over these, in the memory that they have.
     pub fn copy_slots(&self, count: usize, numbers: &mut Vec<usize>) -> Result<(), AllocError>
         requires { count ≤ length self.now.slots }
