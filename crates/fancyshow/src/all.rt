@@ -1,10 +1,12 @@
 //! All matches of a text, marked in its lines.
 
 use crate::excerpt::{columns, push_shown, push_times};
-use crate::find::{push_groups, push_match, read, regex};
+use crate::find::{Searcher, push_found, searcher_of};
 use crate::outcome::Trouble;
 use crate::refusals::refusal;
 use crate::request::Request;
+use fancy_expr::error::Error;
+use fancy_matches::found::Captures;
 use std::alloc::{AllocError, Global};
 
 /// Start and end of a match, in bytes of the text.
@@ -114,34 +116,67 @@ impl Marker<'_> {
     }
 }
 
-/// All matches: the lines in which they stand, and then each with its groups.
-pub fn all(alloc: Global, request: &Request, text: &str, colours: bool) -> Result<String, Trouble> {
-    let tree = read(alloc, request)?;
-    let mut regex = regex(alloc, request, &tree)?;
-    let mut spans: Vec<Span> = Vec::new(alloc);
-    let mut list = String::new(alloc);
-    for captures in regex.captures_iter(text) {
-        let captures = match captures {
-            Ok(captures) => captures,
-            Err(error) => return Err(refusal(alloc, request.tree.as_str(), &error)),
-        };
+/// The matches of a text, and what is written of each and its groups.
+#[derive(Drop)]
+struct Found {
+    spans: Vec<Span>,
+    list: String,
+}
+
+impl Found {
+    fn push(&mut self, captures: &Captures<'_>, groups: usize) -> Result<(), AllocError> {
         let whole = captures.whole();
-        spans.push((whole.start(), whole.end()))?;
-        let number = spans.len();
-        write!(list, "match {number}  ")?;
-        push_match(&mut list, &whole)?;
-        push_groups(&mut list, &captures, tree.total_groups, 2)?;
+        self.spans.push((whole.start(), whole.end()))?;
+        let number = self.spans.len();
+        write!(self.list, "match {number}  ")?;
+        push_found(&mut self.list, captures, groups, 2)
     }
-    if spans.is_empty() {
-        list.push_str("no match\n")?;
+
+    fn push_all(&mut self, searcher: &mut Searcher, text: &str) -> Result<(), Error> {
+        let groups = searcher.groups;
+        for captures in searcher.regex.captures_iter(text) {
+            match captures {
+                Ok(captures) => self.push(&captures, groups)?,
+                Err(error) => return Err(error),
+            }
+        }
+        Ok(())
+    }
+}
+
+fn found_by(alloc: Global, searcher: &mut Searcher, text: &str) -> Result<Found, Error> {
+    let mut found = Found {
+        spans: Vec::new(alloc),
+        list: String::new(alloc),
+    };
+    found.push_all(searcher, text)?;
+    Ok(found)
+}
+
+/// The lines in which the matches stand, and then what is written of each.
+fn page(alloc: Global, found: &Found, text: &str, colours: bool) -> Result<String, AllocError> {
+    if found.spans.is_empty() {
+        return String::from_str(alloc, "no match\n");
     }
     let mut marker = Marker {
         alloc,
         out: String::new(alloc),
-        left: &spans,
+        left: &found.spans,
         colours,
     };
     marker.push_lines(text)?;
-    marker.out.push_str(list.as_str())?;
+    marker.out.push_str(found.list.as_str())?;
     Ok(marker.out)
+}
+
+/// All matches: the lines in which they stand, and then each with its groups.
+pub fn all(alloc: Global, request: &Request, text: &str, colours: bool) -> Result<String, Trouble> {
+    let found = {
+        let mut searcher = searcher_of(alloc, request)?;
+        found_by(alloc, &mut searcher, text)
+    };
+    match found {
+        Ok(found) => Ok(page(alloc, &found, text, colours)?),
+        Err(error) => Err(refusal(alloc, request.tree.as_str(), &error)),
+    }
 }

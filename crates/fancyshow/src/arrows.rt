@@ -78,30 +78,49 @@ fn free_lane(ends: &[usize], top: usize) -> Option<usize> {
     ends.iter().position(|end| *end < top)
 }
 
-/// Gives each arrow a lane, from the one that begins uppermost on, and none to two that stand beside each other.
-pub fn lanes(alloc: Global, arrows: &[Arrow]) -> Result<Vec<Lane>, AllocError> {
+/// Those of the arrows that are not short and lead back, or those that lead on, from the one that begins uppermost on.
+fn sorted(alloc: Global, arrows: &[Arrow], are_back: bool) -> Result<Vec<Arrow>, AllocError> {
     let mut sorted = Vec::new(alloc);
     for arrow in arrows {
-        sorted.push(*arrow)?;
+        if !arrow.is_short() && arrow.is_back() == are_back {
+            sorted.push(*arrow)?;
+        }
     }
     sorted.sort_by_key(|arrow| arrow.top())?;
-    let mut ends: Vec<usize> = Vec::new(alloc);
-    let mut lanes = Vec::new(alloc);
-    for arrow in sorted.iter() {
-        let lane = match free_lane(&ends, arrow.top()) {
-            Some(lane) => lane,
-            None => {
-                ends.push(0)?;
-                ends.len() - 1
-            }
-        };
-        if let Some(end) = ends.get_mut(lane) {
-            *end = arrow.bottom();
+    Ok(sorted)
+}
+
+/// A lane for an arrow, of lanes that end at these places.
+fn take_lane(ends: &mut Vec<usize>, arrow: Arrow) -> Result<Lane, AllocError> {
+    let lane = match free_lane(ends, arrow.top()) {
+        Some(lane) => lane,
+        None => {
+            ends.push(0)?;
+            ends.len() - 1
         }
-        lanes.push(Lane {
-            arrow: *arrow,
-            lane,
-        })?;
+    };
+    if let Some(end) = ends.get_mut(lane) {
+        *end = arrow.bottom();
     }
+    Ok(Lane { arrow, lane })
+}
+
+fn push_lanes(
+    lanes: &mut Vec<Lane>,
+    ends: &mut Vec<usize>,
+    sorted: &[Arrow],
+) -> Result<(), AllocError> {
+    for arrow in sorted {
+        lanes.push(take_lane(ends, *arrow)?)?;
+    }
+    Ok(())
+}
+
+/// Gives each long arrow that leads back, or each that leads on, a lane, and none to two that stand beside each other.
+pub fn lanes(alloc: Global, arrows: &[Arrow], are_back: bool) -> Result<Vec<Lane>, AllocError> {
+    let sorted = sorted(alloc, arrows, are_back)?;
+    let mut ends = Vec::new(alloc);
+    let mut lanes = Vec::new(alloc);
+    push_lanes(&mut lanes, &mut ends, &sorted)?;
     Ok(lanes)
 }

@@ -14,156 +14,219 @@ const WHY: &str = "Why there is no match: how much of the tree matches, and what
 
 const TRACE: &str = "Each instruction that a run executes, 1000 at most without --steps";
 
-const LIST: &str = "The program of the tree, instruction by instruction";
-
 const NODES: &str = "What is known of each node of the tree, or which node is refused";
 
-/// The options that say how a tree is analysed and compiled.
-const TREE_FLAGS: [(&str, &str); 5] = [
-    ("compile-anchored", "Compile for the first place alone"),
-    ("not-empty", "A match has to take something"),
+const PICTURE: &str = "The program of the tree as a picture, in SVG or for Graphviz";
+
+const BATCH: &str = "Each line of a file as a command line of its own, in which ' quotes";
+
+const WITH: &str = "What is written for a match: $1 is its group 1, $0 all of it, $$ a dollar sign";
+
+/// What a part takes.
+#[derive(Clone, Copy, PartialEq, Eq)]
+enum Takes {
+    Tree,
+    /// A tree, and how it is drawn.
+    Picture,
+    /// A tree and a text.
+    Text,
+    /// A tree, a text and what is written for matches.
+    Template,
+    /// A tree, a text and the place where the search begins.
+    Place,
+    /// A file of command lines.
+    Lines,
+}
+
+impl Takes {
+    /// It takes what the other one stands for.
+    fn has(self, other: Takes) -> bool {
+        match other {
+            Takes::Tree => self != Takes::Lines,
+            Takes::Text => matches!(self, Takes::Text | Takes::Template | Takes::Place),
+            _ => self == other,
+        }
+    }
+}
+
+/// What is written for an argument: itself, where no option is named.
+#[derive(Clone, Copy)]
+enum Kind {
+    Word,
+    Flag,
+    Number,
+    File,
+    Template,
+}
+
+/// Each part: its name, what it takes, and what it is for.
+const PARTS: [(&str, Takes, &str); 10] = [
+    ("find", Takes::Place, "The first match and its groups"),
+    ("why", Takes::Place, WHY),
+    ("all", Takes::Text, "All matches, each marked in the text"),
+    (
+        "split",
+        Takes::Text,
+        "The pieces of the text between its matches",
+    ),
+    (
+        "replace",
+        Takes::Template,
+        "The text with its matches replaced",
+    ),
+    ("trace", Takes::Place, TRACE),
+    (
+        "list",
+        Takes::Tree,
+        "The program of the tree, instruction by instruction",
+    ),
+    ("tree", Takes::Tree, NODES),
+    ("picture", Takes::Picture, PICTURE),
+    ("batch", Takes::Lines, BATCH),
+];
+
+/// Each argument: its name, the parts that take it, what is written, and what it says.
+const ARGUMENTS: [(&str, Takes, Kind, &str); 18] = [
+    ("TREE", Takes::Tree, Kind::Word, "The tree"),
+    (
+        "tree-file",
+        Takes::Tree,
+        Kind::File,
+        "Read the tree from a file, in which line ends separate too",
+    ),
+    (
+        "compile-anchored",
+        Takes::Tree,
+        Kind::Flag,
+        "Compile for the first place alone",
+    ),
+    (
+        "not-empty",
+        Takes::Tree,
+        Kind::Flag,
+        "A match has to take something",
+    ),
     (
         "end-text",
+        Takes::Tree,
+        Kind::Flag,
         "No empty match at the end of a text after a newline",
     ),
-    ("ascii", "Folding, word characters and classes go by ASCII"),
+    (
+        "ascii",
+        Takes::Tree,
+        Kind::Flag,
+        "Folding, word characters and classes go by ASCII",
+    ),
     (
         "longest",
+        Takes::Tree,
+        Kind::Flag,
         "Of the matches at the earliest start, the longest",
     ),
-];
-
-/// The options that say how a text is searched.
-const SEARCH_FLAGS: [(&str, &str); 2] = [
-    ("anchored", "Try the first place alone"),
-    ("not-continued", "No match ended where the search begins"),
-];
-
-const SEARCH_LIMITS: [(&str, &str); 2] = [
+    (
+        "max-prog",
+        Takes::Tree,
+        Kind::Number,
+        "At most so many instructions in the program",
+    ),
+    (
+        "TEXT",
+        Takes::Text,
+        Kind::Word,
+        "The text; standard input if it is left out",
+    ),
+    ("file", Takes::Text, Kind::File, "Read the text from a file"),
+    (
+        "anchored",
+        Takes::Text,
+        Kind::Flag,
+        "Try the first place alone",
+    ),
+    (
+        "not-continued",
+        Takes::Text,
+        Kind::Flag,
+        "No match ended where the search begins",
+    ),
     (
         "backtracks",
+        Takes::Text,
+        Kind::Number,
         "At most so many backtracks [1000000 if left out]",
     ),
-    ("steps", "At most so many instructions"),
+    (
+        "steps",
+        Takes::Text,
+        Kind::Number,
+        "At most so many instructions",
+    ),
+    (
+        "pos",
+        Takes::Place,
+        Kind::Number,
+        "Begin at this byte of the text",
+    ),
+    ("with", Takes::Template, Kind::Template, WITH),
+    (
+        "dot",
+        Takes::Picture,
+        Kind::Flag,
+        "Write DOT in place of SVG",
+    ),
+    (
+        "FILE",
+        Takes::Lines,
+        Kind::Word,
+        "The file; standard input if it is left out",
+    ),
 ];
 
-fn flag<'a>(alloc: Global, name: &'a str, help: &'a str) -> Arg<'a> {
-    Arg::new(alloc, name)
-        .long(name)
-        .action(ArgAction::SetTrue)
-        .help(help)
-}
-
-fn limit<'a>(alloc: Global, name: &'a str, help: &'a str) -> Arg<'a> {
-    Arg::new(alloc, name)
-        .long(name)
-        .value_name("N")
-        .value_parser(value_parser!(u64))
-        .help(help)
-}
-
-fn file<'a>(alloc: Global, name: &'a str, help: &'a str) -> Arg<'a> {
-    Arg::new(alloc, name)
-        .long(name)
-        .value_name("FILE")
-        .help(help)
-}
-
-/// With the tree, and how it is analysed and compiled.
-fn with_tree<'a>(alloc: Global, part: Command<'a>) -> Result<Command<'a>, AllocError> {
-    let mut part = part
-        .arg(Arg::new(alloc, "TREE").help("The tree"))?
-        .arg(file(
-            alloc,
-            "tree-file",
-            "Read the tree from a file, in which line ends separate too",
-        ))?;
-    for (name, help) in TREE_FLAGS {
-        part = part.arg(flag(alloc, name, help))?;
+fn argument<'a>(alloc: Global, name: &'a str, kind: Kind, help: &'a str) -> Arg<'a> {
+    let word = Arg::new(alloc, name).help(help);
+    match kind {
+        Kind::Word => word,
+        Kind::Flag => word.long(name).action(ArgAction::SetTrue),
+        Kind::Number => word
+            .long(name)
+            .value_name("N")
+            .value_parser(value_parser!(u64)),
+        Kind::File => word.long(name).value_name("FILE"),
+        Kind::Template => word
+            .long(name)
+            .value_name("TEMPLATE")
+            .required(true)
+            .allow_hyphen_values(true),
     }
-    part.arg(limit(
-        alloc,
-        "max-prog",
-        "At most so many instructions in the program",
-    ))
 }
 
-/// With the text too, and how it is searched.
-fn with_text<'a>(alloc: Global, part: Command<'a>) -> Result<Command<'a>, AllocError> {
-    let mut part = with_tree(alloc, part)?
-        .arg(Arg::new(alloc, "TEXT").help("The text; standard input if it is left out"))?
-        .arg(file(alloc, "file", "Read the text from a file"))?;
-    for (name, help) in SEARCH_FLAGS {
-        part = part.arg(flag(alloc, name, help))?;
-    }
-    for (name, help) in SEARCH_LIMITS {
-        part = part.arg(limit(alloc, name, help))?;
+/// The part with what it takes.
+fn part<'a>(
+    alloc: Global,
+    name: &'a str,
+    takes: Takes,
+    about: &'a str,
+) -> Result<Command<'a>, AllocError> {
+    let mut part = Command::new(alloc, name).about(about);
+    for (name, of, kind, help) in ARGUMENTS {
+        if takes.has(of) {
+            part = part.arg(argument(alloc, name, kind, help))?;
+        }
     }
     Ok(part)
 }
 
-fn part<'a>(alloc: Global, name: &'a str, about: &'a str) -> Command<'a> {
-    Command::new(alloc, name).about(about)
-}
-
-/// With the place where the search begins as well.
-fn with_pos<'a>(alloc: Global, part: Command<'a>) -> Result<Command<'a>, AllocError> {
-    with_text(alloc, part)?.arg(limit(alloc, "pos", "Begin at this byte of the text"))
-}
-
-fn replace<'a>(alloc: Global) -> Result<Command<'a>, AllocError> {
-    let about = "The text with its matches replaced";
-    let with = Arg::new(alloc, "with")
-        .long("with")
-        .value_name("TEMPLATE")
-        .required(true)
-        .allow_hyphen_values(true)
-        .help("What is written for a match: $1 is its group 1, $0 all of it, $$ a dollar sign");
-    with_text(alloc, part(alloc, "replace", about))?.arg(with)
-}
-
-fn picture<'a>(alloc: Global) -> Result<Command<'a>, AllocError> {
-    let about = "The program of the tree as a picture, in SVG or for Graphviz";
-    let dot = flag(alloc, "dot", "Write DOT in place of SVG");
-    with_tree(alloc, part(alloc, "picture", about))?.arg(dot)
-}
-
-fn batch<'a>(alloc: Global) -> Result<Command<'a>, AllocError> {
-    let about = "Each line of a file as a command line of its own, in which ' quotes";
-    let lines = Arg::new(alloc, "FILE").help("The file; standard input if it is left out");
-    part(alloc, "batch", about).arg(lines)
-}
-
-/// With the parts that ask of a tree and a text.
-fn with_text_parts<'a>(alloc: Global, command: Command<'a>) -> Result<Command<'a>, AllocError> {
-    let find = part(alloc, "find", "The first match and its groups");
-    let why = part(alloc, "why", WHY);
-    let all = part(alloc, "all", "All matches, each marked in the text");
-    let split = part(alloc, "split", "The pieces of the text between its matches");
-    let trace = part(alloc, "trace", TRACE);
-    command
-        .subcommand(with_pos(alloc, find)?)?
-        .subcommand(with_pos(alloc, why)?)?
-        .subcommand(with_text(alloc, all)?)?
-        .subcommand(with_text(alloc, split)?)?
-        .subcommand(replace(alloc)?)?
-        .subcommand(with_pos(alloc, trace)?)
-}
-
 /// The whole command.
 pub fn command<'a>(alloc: Global) -> Result<Command<'a>, AllocError> {
-    let command = Command::new(alloc, "fancyshow")
+    let mut command = Command::new(alloc, "fancyshow")
         .about(ABOUT)
         .after_help(AFTER)
         .bin_name("fancyshow")?
         .no_binary_name(true)
         .subcommand_required(true)
         .arg_required_else_help(true);
-    let list = part(alloc, "list", LIST);
-    let tree = part(alloc, "tree", NODES);
-    with_text_parts(alloc, command)?
-        .subcommand(with_tree(alloc, list)?)?
-        .subcommand(with_tree(alloc, tree)?)?
-        .subcommand(picture(alloc)?)?
-        .subcommand(batch(alloc)?)
+    for (name, takes, about) in PARTS {
+        command = command.subcommand(part(alloc, name, takes, about)?)?;
+    }
+    Ok(command)
 }

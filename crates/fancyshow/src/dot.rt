@@ -1,11 +1,8 @@
 //! A program for Graphviz.
 
-use crate::arrows::arrows;
-use crate::list::program;
-use crate::outcome::Trouble;
-use crate::request::Request;
-use fancy_vm::vm::Insn;
-use std::alloc::Global;
+use crate::arrows::{Arrow, arrows};
+use fancy_vm::vm::{Insn, Prog};
+use std::alloc::{AllocError, Global};
 
 /// How the node of an instruction is drawn.
 fn style(insn: &Insn) -> &'static str {
@@ -17,27 +14,42 @@ fn style(insn: &Insn) -> &'static str {
     }
 }
 
-/// The program as a graph: an instruction a node, branches dashed.
-pub fn dot(alloc: Global, request: &Request) -> Result<String, Trouble> {
-    let prog = program(alloc, request)?;
-    let mut out = String::from_str(
-        alloc,
-        "digraph program {\n  node [shape=box, fontname=monospace];\n",
-    )?;
+fn push_node(alloc: Global, out: &mut String, place: usize, insn: &Insn) -> Result<(), AllocError> {
+    let style = style(insn);
+    let label = format!(in alloc; "{place} {insn}")?;
+    writeln!(out, "  {place} [label={label:?}{style}];")
+}
+
+fn push_edge(out: &mut String, arrow: Arrow) -> Result<(), AllocError> {
+    let Arrow { from, to, .. } = arrow;
+    let style = if arrow.is_branch {
+        " [style=dashed]"
+    } else {
+        ""
+    };
+    writeln!(out, "  {from} -> {to}{style};")
+}
+
+fn push_graph(
+    alloc: Global,
+    out: &mut String,
+    prog: &Prog,
+    arrows: &[Arrow],
+) -> Result<(), AllocError> {
+    out.push_str("digraph program {\n  node [shape=box, fontname=monospace];\n")?;
     for (place, insn) in prog.body().iter().enumerate() {
-        let style = style(insn);
-        let label = format!(in alloc; "{place} {insn}")?;
-        writeln!(out, "  {place} [label={label:?}{style}];")?;
+        push_node(alloc, out, place, insn)?;
     }
-    for arrow in arrows(alloc, &prog)?.iter() {
-        let (from, to) = (arrow.from, arrow.to);
-        let style = if arrow.is_branch {
-            " [style=dashed]"
-        } else {
-            ""
-        };
-        writeln!(out, "  {from} -> {to}{style};")?;
+    for arrow in arrows {
+        push_edge(out, *arrow)?;
     }
-    out.push_str("}\n")?;
+    out.push_str("}\n")
+}
+
+/// The program as a graph: an instruction a node, branches dashed.
+pub fn dot(alloc: Global, prog: &Prog) -> Result<String, AllocError> {
+    let arrows = arrows(alloc, prog)?;
+    let mut out = String::new(alloc);
+    push_graph(alloc, &mut out, prog, &arrows)?;
     Ok(out)
 }

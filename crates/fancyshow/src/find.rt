@@ -15,6 +15,7 @@ use fancy_matches::regexes::Regex;
 use fancy_notation::depth::depth;
 use fancy_notation::notation::read_tree;
 use std::alloc::{AllocError, Global};
+use std::collections::BTreeMap;
 
 /// How many characters of what a match takes are shown.
 const SHOWN: usize = 60;
@@ -34,7 +35,7 @@ pub fn read(alloc: Global, request: &Request) -> Result<ExprTree, Trouble>
 }
 
 /// The tree, compiled for searches.
-pub fn regex(alloc: Global, request: &Request, tree: &ExprTree) -> Result<Regex, Trouble>
+fn regex(alloc: Global, request: &Request, tree: &ExprTree) -> Result<Regex, Trouble>
     requires { IsWellFormedTree tree.now }
 {
     let options = request.options();
@@ -45,6 +46,27 @@ pub fn regex(alloc: Global, request: &Request, tree: &ExprTree) -> Result<Regex,
         Ok(regex) => Ok(regex),
         Err(error) => Err(refusal(alloc, request.tree.as_str(), &error)),
     }
+}
+
+/// A tree that is compiled for searches, and what of the tree their answers speak of.
+#[derive(Drop)]
+pub struct Searcher {
+    pub regex: Regex,
+    /// How many groups there are.
+    pub groups: usize,
+    /// The numbers of each name.
+    pub names: BTreeMap<String, Vec<usize>>,
+}
+
+/// The tree that is asked about, compiled for searches.
+pub fn searcher_of(alloc: Global, request: &Request) -> Result<Searcher, Trouble> {
+    let tree = read(alloc, request)?;
+    let regex = regex(alloc, request, &tree)?;
+    Ok(Searcher {
+        regex,
+        groups: tree.total_groups,
+        names: tree.named_groups,
+    })
 }
 
 /// Writes what the match takes, in quotes, or its beginning.
@@ -101,25 +123,34 @@ pub fn captures<'t>(
     if !is_place(text.as_bytes(), pos) {
         return Err(no_place(alloc, pos)?);
     }
-    let tree = read(alloc, request)?;
-    let mut regex = regex(alloc, request, &tree)?;
-    match regex.captures_from(text, pos) {
-        Ok(found) => Ok((found, tree.total_groups)),
+    let (found, groups) = {
+        let mut searcher = searcher_of(alloc, request)?;
+        (searcher.regex.captures_from(text, pos), searcher.groups)
+    };
+    match found {
+        Ok(found) => Ok((found, groups)),
         Err(error) => Err(refusal(alloc, request.tree.as_str(), &error)),
     }
+}
+
+/// Writes the match, and then each of its groups after so many spaces.
+pub fn push_found(
+    out: &mut String,
+    captures: &Captures<'_>,
+    groups: usize,
+    indent: usize,
+) -> Result<(), AllocError> {
+    push_match(out, &captures.whole())?;
+    push_groups(out, captures, groups, indent)
 }
 
 /// The first match from a place on, with its groups.
 pub fn find(alloc: Global, request: &Request, text: &str) -> Result<String, Trouble> {
     let (found, groups) = captures(alloc, request, text)?;
-    let mut out = String::new(alloc);
-    match found {
-        Some(captures) => {
-            out.push_str("match  ")?;
-            push_match(&mut out, &captures.whole())?;
-            push_groups(&mut out, &captures, groups, 0)?;
-        }
-        None => out.push_str("no match\n")?,
-    }
+    let Some(captures) = found else {
+        return Ok(String::from_str(alloc, "no match\n")?);
+    };
+    let mut out = String::from_str(alloc, "match  ")?;
+    push_found(&mut out, &captures, groups, 0)?;
     Ok(out)
 }

@@ -98,27 +98,40 @@ fn word(expr: &Expr) -> &'static str {
     }
 }
 
+/// The word and the number of a node that has one. `group` is its number where it is a group.
+fn numbered(expr: &Expr, group: usize) -> Option<(&'static str, usize)> {
+    match expr {
+        Expr::Group(_) => Some(("grp", group)),
+        Expr::Backref { group, casei, .. } => Some((if *casei { "iref" } else { "ref" }, *group)),
+        Expr::BackrefWithRelativeRecursionLevel { group, .. } => Some(("reflevel", *group)),
+        Expr::BackrefExistsCondition { group, .. } => Some(("has", *group)),
+        Expr::SubroutineCall(group) => Some(("call", *group)),
+        _ => None,
+    }
+}
+
+/// What stands before the quoted text of a node that has one, and the text.
+fn quoted(expr: &Expr) -> Option<(&'static str, &str)> {
+    match expr {
+        Expr::Literal { val, casei } => Some((if *casei { "i" } else { "" }, val.as_str())),
+        Expr::Delegate { inner, casei } => {
+            Some((if *casei { "iset " } else { "set " }, inner.as_str()))
+        }
+        _ => None,
+    }
+}
+
 /// Writes what the node is called. `group` is its number where it is a group.
 pub fn push_node(out: &mut String, expr: &Expr, group: usize) -> Result<(), AllocError> {
+    if let Some((word, number)) = numbered(expr, group) {
+        return write!(out, "{word} {number}");
+    }
+    if let Some((before, text)) = quoted(expr) {
+        return write!(out, "{before}{text:?}");
+    }
     match expr {
-        Expr::Literal { val, casei: false } => write!(out, "{val:?}"),
-        Expr::Literal { val, casei: true } => write!(out, "i{val:?}"),
         Expr::LiteralBytes { bytes } => push_bytes(out, bytes),
-        Expr::Group(_) => write!(out, "grp {group}"),
         Expr::Repeat { lo, hi, greedy, .. } => push_loop(out, *lo, *hi, *greedy),
-        Expr::Delegate {
-            inner,
-            casei: false,
-        } => write!(out, "set {inner:?}"),
-        Expr::Delegate { inner, casei: true } => write!(out, "iset {inner:?}"),
-        Expr::Backref {
-            group,
-            casei: false,
-        } => write!(out, "ref {group}"),
-        Expr::Backref { group, casei: true } => write!(out, "iref {group}"),
-        Expr::BackrefWithRelativeRecursionLevel { group, .. } => write!(out, "reflevel {group}"),
-        Expr::BackrefExistsCondition { group, .. } => write!(out, "has {group}"),
-        Expr::SubroutineCall(group) => write!(out, "call {group}"),
         _ => out.push_str(word(expr)),
     }
 }

@@ -5,7 +5,7 @@ use crate::batch::{push_outcome, words_of};
 use crate::commands::command;
 use crate::dot::dot;
 use crate::find::find;
-use crate::list::list;
+use crate::list::{list, program};
 use crate::outcome::{Outcome, Trouble};
 use crate::pieces::{pieces, replaced};
 use crate::request::{Request, read_file, read_input, text_request, tree_request};
@@ -14,6 +14,7 @@ use crate::trace::trace;
 use crate::tree::tree;
 use crate::why::why;
 use clap::ArgMatches;
+use fancy_vm::vm::Prog;
 use std::alloc::{AllocError, Global};
 
 /// What the words say, or the help that they ask for.
@@ -31,6 +32,20 @@ fn read_words<'a>(rt: &HostRuntime, words: &'a [String]) -> Result<ArgMatches<'a
     }
 }
 
+/// The answer of a part that asks of a program.
+fn program_answer(
+    alloc: Global,
+    part: &str,
+    prog: &Prog,
+    is_dot: bool,
+) -> Result<String, AllocError> {
+    match part {
+        "list" => list(alloc, prog),
+        _ if is_dot => dot(alloc, prog),
+        _ => svg(alloc, prog),
+    }
+}
+
 /// The answer of a part that asks of a tree alone.
 fn tree_answer(
     alloc: Global,
@@ -38,12 +53,14 @@ fn tree_answer(
     request: &Request,
     is_dot: bool,
 ) -> Result<String, Trouble> {
-    match part {
-        "list" => list(alloc, request),
-        "tree" => tree(alloc, request),
-        _ if is_dot => dot(alloc, request),
-        _ => svg(alloc, request),
+    if part == "tree" {
+        return tree(alloc, request);
     }
+    let answer = {
+        let prog = program(alloc, request)?;
+        program_answer(alloc, part, &prog, is_dot)
+    };
+    Ok(answer?)
 }
 
 /// The answer of a part that asks of a tree and a text.
@@ -101,23 +118,31 @@ fn line_answer(rt: &HostRuntime, words: &[String]) -> Result<String, Trouble> {
     }
 }
 
+/// Writes a line of a batch, and what it comes to where it is a command line.
+fn push_answer(rt: &HostRuntime, out: &mut String, line: &str) -> Result<(), AllocError> {
+    if line.is_empty() || line.starts_with('#') {
+        return writeln!(out, "{line}");
+    }
+    let words = words_of(rt.alloc(), line)?;
+    let outcome = Outcome::of(rt.alloc(), line_answer(rt, &words))?;
+    push_outcome(out, line, &outcome)
+}
+
+fn push_answers(rt: &HostRuntime, out: &mut String, lines: &str) -> Result<(), AllocError> {
+    for line in lines.lines() {
+        push_answer(rt, out, line)?;
+    }
+    Ok(())
+}
+
 /// What each command line of a file comes to.
 fn batch(rt: &HostRuntime, matches: &ArgMatches<'_>) -> Result<String, Trouble> {
-    let alloc = rt.alloc();
     let lines = match matches.get_str("FILE") {
         Some(path) => read_file(rt, path)?,
         None => read_input(rt)?,
     };
-    let mut out = String::new(alloc);
-    for line in lines.lines() {
-        if line.is_empty() || line.starts_with('#') {
-            writeln!(out, "{line}")?;
-            continue;
-        }
-        let words = words_of(alloc, line)?;
-        let outcome = Outcome::of(alloc, line_answer(rt, &words))?;
-        push_outcome(&mut out, line, &outcome)?;
-    }
+    let mut out = String::new(rt.alloc());
+    push_answers(rt, &mut out, lines.as_str())?;
     Ok(out)
 }
 

@@ -2,9 +2,6 @@
 //! ones at the left, branches dashed.
 
 use crate::arrows::{Arrow, Lane, arrows, lanes};
-use crate::list::program;
-use crate::outcome::Trouble;
-use crate::request::Request;
 use fancy_vm::vm::{Insn, Prog};
 use std::alloc::{AllocError, Global};
 
@@ -76,12 +73,12 @@ fn push_box(
     let Frame { left, width } = frame;
     let top = box_top(place);
     let class = class(insn);
-    writeln!(
-        out,
-        "<rect x=\"{left}\" y=\"{top}\" width=\"{width}\" height=\"{BOX_HEIGHT}\"{class}/>"
-    )?;
     let (x, y) = (left.saturating_add(CHARACTER), top.saturating_add(16));
-    write!(out, "<text x=\"{x}\" y=\"{y}\">")?;
+    write!(
+        out,
+        "<rect x=\"{left}\" y=\"{top}\" width=\"{width}\" height=\"{BOX_HEIGHT}\"{class}/>\n\
+<text x=\"{x}\" y=\"{y}\">"
+    )?;
     push_escaped(out, label)?;
     out.push_str("</text>\n")
 }
@@ -138,35 +135,6 @@ fn lane_count(lanes: &[Lane]) -> usize {
     count
 }
 
-/// What is drawn of the arrows: short ones, those further on, those back.
-#[derive(Drop)]
-struct Drawing {
-    short: Vec<Arrow>,
-    on: Vec<Lane>,
-    back: Vec<Lane>,
-}
-
-/// The arrows of the program, each with a lane where it needs one.
-fn draw(alloc: Global, prog: &Prog) -> Result<Drawing, AllocError> {
-    let mut short = Vec::new(alloc);
-    let mut on = Vec::new(alloc);
-    let mut back = Vec::new(alloc);
-    for arrow in arrows(alloc, prog)?.iter() {
-        if arrow.is_short() {
-            short.push(*arrow)?;
-        } else if arrow.is_back() {
-            back.push(*arrow)?;
-        } else {
-            on.push(*arrow)?;
-        }
-    }
-    Ok(Drawing {
-        short,
-        on: lanes(alloc, &on)?,
-        back: lanes(alloc, &back)?,
-    })
-}
-
 /// What stands in the box of each instruction.
 fn labels(alloc: Global, prog: &Prog) -> Result<Vec<String>, AllocError> {
     let mut labels = Vec::new(alloc);
@@ -190,34 +158,77 @@ fn beside(lanes: &[Lane]) -> usize {
         .saturating_add(MARGIN)
 }
 
-/// The program as a picture in SVG.
-pub fn svg(alloc: Global, request: &Request) -> Result<String, Trouble> {
-    let prog = program(alloc, request)?;
-    let drawing = draw(alloc, &prog)?;
-    let labels = labels(alloc, &prog)?;
-    let frame = Frame {
-        left: beside(&drawing.back),
-        width: widest(&labels).saturating_add(2).saturating_mul(CHARACTER),
-    };
-    let width = frame.right().saturating_add(beside(&drawing.on));
-    let height = box_top(labels.len()).saturating_add(MARGIN);
-    let mut out = format!(in alloc;
-        "<svg xmlns=\"http://www.w3.org/2000/svg\" width=\"{width}\" height=\"{height}\">\n"
-    )?;
-    out.push_str(STYLE)?;
-    out.push_str(HEADS)?;
+/// Writes the boxes.
+fn push_boxes(
+    out: &mut String,
+    frame: Frame,
+    prog: &Prog,
+    labels: &[String],
+) -> Result<(), AllocError> {
     for ((place, insn), label) in prog.body().iter().enumerate().zip(labels.iter()) {
-        push_box(&mut out, frame, place, insn, label.as_str())?;
+        push_box(out, frame, place, insn, label.as_str())?;
     }
-    for arrow in drawing.short.iter() {
-        push_short(&mut out, frame, *arrow)?;
+    Ok(())
+}
+
+fn push_shorts(out: &mut String, frame: Frame, arrows: &[Arrow]) -> Result<(), AllocError> {
+    for arrow in arrows {
+        if arrow.is_short() {
+            push_short(out, frame, *arrow)?;
+        }
     }
-    for lane in drawing.on.iter() {
-        push_long(&mut out, frame, *lane)?;
+    Ok(())
+}
+
+fn push_longs(out: &mut String, frame: Frame, lanes: &[Lane]) -> Result<(), AllocError> {
+    for lane in lanes {
+        push_long(out, frame, *lane)?;
     }
-    for lane in drawing.back.iter() {
-        push_long(&mut out, frame, *lane)?;
-    }
-    out.push_str("</svg>\n")?;
+    Ok(())
+}
+
+/// What is drawn: the boxes' texts, all arrows, and lanes for those further on and for those back.
+#[derive(Clone, Copy)]
+struct Drawing<'d> {
+    labels: &'d [String],
+    arrows: &'d [Arrow],
+    on: &'d [Lane],
+    back: &'d [Lane],
+}
+
+fn push_drawing(out: &mut String, prog: &Prog, drawing: Drawing<'_>) -> Result<(), AllocError> {
+    let frame = Frame {
+        left: beside(drawing.back),
+        width: widest(drawing.labels)
+            .saturating_add(2)
+            .saturating_mul(CHARACTER),
+    };
+    let width = frame.right().saturating_add(beside(drawing.on));
+    let height = box_top(drawing.labels.len()).saturating_add(MARGIN);
+    write!(
+        out,
+        "<svg xmlns=\"http://www.w3.org/2000/svg\" width=\"{width}\" height=\"{height}\">\n{STYLE}{HEADS}"
+    )?;
+    push_boxes(out, frame, prog, drawing.labels)?;
+    push_shorts(out, frame, drawing.arrows)?;
+    push_longs(out, frame, drawing.on)?;
+    push_longs(out, frame, drawing.back)?;
+    out.push_str("</svg>\n")
+}
+
+/// The program as a picture in SVG.
+pub fn svg(alloc: Global, prog: &Prog) -> Result<String, AllocError> {
+    let labels = labels(alloc, prog)?;
+    let arrows = arrows(alloc, prog)?;
+    let on = lanes(alloc, &arrows, false)?;
+    let back = lanes(alloc, &arrows, true)?;
+    let mut out = String::new(alloc);
+    let drawing = Drawing {
+        labels: &labels,
+        arrows: &arrows,
+        on: &on,
+        back: &back,
+    };
+    push_drawing(&mut out, prog, drawing)?;
     Ok(out)
 }

@@ -5,6 +5,7 @@ use crate::list::program;
 use crate::outcome::Trouble;
 use crate::refusals::refusal;
 use crate::request::Request;
+use fancy_expr::error::Error;
 use fancy_vm::vm::{Prog, Progress, RunOptions, Walk};
 use std::alloc::{AllocError, Global};
 
@@ -52,32 +53,47 @@ fn options(request: &Request) -> RunOptions {
     }
 }
 
-/// Each instruction that the run executes, and last what it answers.
-pub fn trace(alloc: Global, request: &Request, text: &str) -> Result<String, Trouble> {
-    let prog = program(alloc, request)?;
-    let options = options(request);
-    if !options.fits(&prog, text) {
-        return Err(no_place(alloc, options.pos)?);
-    }
-    let tree = request.tree.as_str();
-    let mut out = String::from_str(alloc, HEAD)?;
-    let mut walk = match Walk::new(alloc, &prog, text, &options) {
-        Ok(walk) => walk,
-        Err(error) => return Err(refusal(alloc, tree, &error)),
-    };
-    for _ in 0..=options.step_limit {
-        push_standing(&mut out, &prog, &walk)?;
+/// Writes each instruction that the walk executes, so many at most and one more, and last what it answers.
+fn push_steps(out: &mut String, prog: &Prog, walk: Walk<'_>, most: u64) -> Result<(), AllocError> {
+    out.push_str(HEAD)?;
+    let mut walk = walk;
+    for _ in 0..=most {
+        push_standing(out, prog, &walk)?;
         match walk.step() {
             Ok(Progress::GoesOn(further)) => walk = further,
-            Ok(Progress::Ends(found)) => {
-                push_numbers(&mut out, &found)?;
-                return Ok(out);
-            }
-            Err(error) => {
-                writeln!(out, "{error}")?;
-                return Ok(out);
-            }
+            Ok(Progress::Ends(found)) => return push_numbers(out, &found),
+            Err(error) => return writeln!(out, "{error}"),
         }
     }
-    Ok(out)
+    Ok(())
+}
+
+/// What is written of a run, and nothing where it cannot begin at its place.
+fn written(
+    alloc: Global,
+    prog: &Prog,
+    text: &str,
+    options: &RunOptions,
+) -> Result<Option<String>, Error> {
+    if !options.fits(prog, text) {
+        return Ok(None);
+    }
+    let walk = Walk::new(alloc, prog, text, options)?;
+    let mut out = String::new(alloc);
+    push_steps(&mut out, prog, walk, options.step_limit)?;
+    Ok(Some(out))
+}
+
+/// Each instruction that the run executes, and last what it answers.
+pub fn trace(alloc: Global, request: &Request, text: &str) -> Result<String, Trouble> {
+    let options = options(request);
+    let written = {
+        let prog = program(alloc, request)?;
+        written(alloc, &prog, text, &options)
+    };
+    match written {
+        Ok(Some(written)) => Ok(written),
+        Ok(None) => Err(no_place(alloc, options.pos)?),
+        Err(error) => Err(refusal(alloc, request.tree.as_str(), &error)),
+    }
 }

@@ -1,5 +1,7 @@
 //! A tree, node by node, with what the analysis says of each, or with the nodes marked for which it is refused.
 
+ghost use Rattle.fancy_expr.specs.Sound.{IsWellFormedTree};
+
 use crate::blame::{Whole, is_blamed};
 use crate::excerpt::push_times;
 use crate::find::read;
@@ -42,44 +44,61 @@ struct Page<'r> {
     blamed: usize,
 }
 
+/// Writes how many characters a node takes.
+fn push_sizes(out: &mut String, least: usize, most: usize) -> Result<(), AllocError> {
+    if most == usize::MAX {
+        write!(out, "{least}..")
+    } else if least == most {
+        write!(out, "{least}")
+    } else {
+        write!(out, "{least}..{most}")
+    }
+}
+
+/// The words where the fact holds, and the others where it does not.
+fn words(holds: bool, words: &'static str, others: &'static str) -> &'static str {
+    if holds { words } else { others }
+}
+
 /// Writes how many characters a node takes, and what else holds of it.
 fn push_facts(out: &mut String, info: &Info<'_>) -> Result<(), AllocError> {
-    let (least, most) = (info.min_size(), info.max_size());
-    if most == usize::MAX {
-        write!(out, "{least}..")?;
-    } else if least == most {
-        write!(out, "{least}")?;
-    } else {
-        write!(out, "{least}..{most}")?;
-    }
-    out.push_str(if info.hard() { ", hard" } else { ", easy" })?;
-    if info.is_read() {
-        out.push_str(", read")?;
-    }
-    if info.in_look_around() {
-        out.push_str(", in a look-around")?;
-    }
-    Ok(())
+    push_sizes(out, info.min_size(), info.max_size())?;
+    let hard = words(info.hard(), "hard", "easy");
+    let read = words(info.is_read(), ", read", "");
+    let around = words(info.in_look_around(), ", in a look-around", "");
+    write!(out, ", {hard}{read}{around}")
 }
 
 impl Page<'_> {
-    fn push_line(&mut self, node: Node<'_, '_>, indent: usize) -> Result<(), AllocError> {
-        let mut line = String::new(self.alloc);
-        push_times(&mut line, ' ', indent)?;
-        push_node(&mut line, node.expr, node.group)?;
+    /// Writes what the node is called, and what the analysis says of it.
+    fn push_said(&mut self, node: Node<'_, '_>, indent: usize) -> Result<(), AllocError> {
+        let start = self.out.len();
+        push_times(&mut self.out, ' ', indent)?;
+        push_node(&mut self.out, node.expr, node.group)?;
         if let Some(info) = node.info {
-            let count = line.as_str().chars().count();
-            push_times(&mut line, ' ', COLUMN.saturating_sub(count).max(2))?;
-            push_facts(&mut line, info)?;
+            let line = self.out.as_str().get(start..).unwrap_or("");
+            let count = line.chars().count();
+            push_times(&mut self.out, ' ', COLUMN.saturating_sub(count).max(2))?;
+            push_facts(&mut self.out, info)?;
         }
+        Ok(())
+    }
+
+    /// Marks the node where the refusal speaks of it.
+    fn push_blame(&mut self, node: Node<'_, '_>) -> Result<(), AllocError> {
         if let Some(refused) = self.refused {
             if is_blamed(self.alloc, refused, node.expr, node.group, self.tree)? {
-                write!(line, "  <- {refused}")?;
                 self.blamed = self.blamed.saturating_add(1);
+                write!(self.out, "  <- {refused}")?;
             }
         }
-        line.push('\n')?;
-        self.out.push_str(line.as_str())
+        Ok(())
+    }
+
+    fn push_line(&mut self, node: Node<'_, '_>, indent: usize) -> Result<(), AllocError> {
+        self.push_said(node, indent)?;
+        self.push_blame(node)?;
+        self.out.push('\n')
     }
 
     /// Writes the node and those below it, and answers the number of the next group. Past so many levels nothing is
@@ -142,21 +161,48 @@ fn write_page<'a>(
     Ok(page.out)
 }
 
+/// The refused tree, or the trouble of another error.
+fn refused_page<'a>(
+    alloc: Global,
+    request: &Request,
+    tree: &'a ExprTree,
+    info: Option<&Info<'a>>,
+    error: &Error,
+) -> Result<String, Trouble> {
+    match error {
+        Error::CompileError(refused) => {
+            Ok(write_page(alloc, request, tree, info, Some(refused))?)
+        }
+        _ => Err(refusal(alloc, request.tree.as_str(), error)),
+    }
+}
+
+/// The tree with what the analysis says.
+fn analysed_page<'a>(
+    alloc: Global,
+    request: &Request,
+    tree: &'a ExprTree,
+    info: &Info<'a>,
+) -> Result<String, Trouble>
+    requires { IsWellFormedTree tree.now }
+{
+    match compile(alloc, request, tree) {
+        Ok(_) => Ok(write_page(alloc, request, tree, Some(info), None)?),
+        Err(error) => refused_page(alloc, request, tree, Some(info), &error),
+    }
+}
+
+fn page_of(alloc: Global, request: &Request, tree: &ExprTree) -> Result<String, Trouble>
+    requires { IsWellFormedTree tree.now }
+{
+    match analyze(alloc, tree, request.arguments.analysis()) {
+        Ok(info) => analysed_page(alloc, request, tree, &info),
+        Err(error) => refused_page(alloc, request, tree, None, &error),
+    }
+}
+
 /// The tree, a node a line.
 pub fn tree(alloc: Global, request: &Request) -> Result<String, Trouble> {
     let tree = read(alloc, request)?;
-    let info = match analyze(alloc, &tree, request.arguments.analysis()) {
-        Ok(info) => info,
-        Err(Error::CompileError(refused)) => {
-            return Ok(write_page(alloc, request, &tree, None, Some(&refused))?);
-        }
-        Err(error) => return Err(refusal(alloc, request.tree.as_str(), &error)),
-    };
-    match compile(alloc, request, &tree) {
-        Ok(_) => Ok(write_page(alloc, request, &tree, Some(&info), None)?),
-        Err(Error::CompileError(refused)) => {
-            Ok(write_page(alloc, request, &tree, Some(&info), Some(&refused))?)
-        }
-        Err(error) => Err(refusal(alloc, request.tree.as_str(), &error)),
-    }
+    page_of(alloc, request, &tree)
 }

@@ -70,18 +70,9 @@ fn node<'t>(text: &'t str, placed: &[Placed], number: usize) -> &'t str {
     text.get(begin..end).unwrap_or("").trim_end()
 }
 
-/// Where this beginning of the tree matches first, if it is accepted and does.
-fn found(
-    alloc: Global,
-    request: &Request,
-    tree: String,
-    text: &str,
-) -> Result<Option<(usize, usize)>, Trouble> {
-    let beginning = Request {
-        tree,
-        arguments: request.arguments,
-    };
-    match captures(alloc, &beginning, text) {
+/// Where a beginning of the tree matches first, if it is accepted and does.
+fn found(alloc: Global, request: &Request, text: &str) -> Result<Option<(usize, usize)>, Trouble> {
+    match captures(alloc, request, text) {
         Ok((Some(captures), _)) => {
             let whole = captures.whole();
             Ok(Some((whole.start(), whole.end())))
@@ -99,11 +90,10 @@ fn report(
     beginning: &str,
     next: &str,
 ) -> Result<String, AllocError> {
-    let mut out = format!(in alloc;
-        "no match\nthis beginning of the tree matches:\n  {beginning}\n"
-    )?;
     let taken = text.get(start..end).unwrap_or("");
-    write!(out, "at {start}..{end}  ")?;
+    let mut out = format!(in alloc;
+        "no match\nthis beginning of the tree matches:\n  {beginning}\nat {start}..{end}  "
+    )?;
     push_taken(&mut out, taken)?;
     write!(out, "\nand this does not follow:\n  {next}")?;
     push_excerpt(&mut out, text, end)?;
@@ -111,22 +101,54 @@ fn report(
     Ok(out)
 }
 
-/// The longest beginning of the tree that matches, which has no match itself, and what does not follow.
-fn explain(alloc: Global, request: &Request, text: &str) -> Result<String, Trouble> {
+/// What there is to say of this beginning of the tree, if it matches.
+fn explain_cut(
+    alloc: Global,
+    request: &Request,
+    text: &str,
+    placed: &[Placed],
+    cut: Cut,
+) -> Result<Option<String>, Trouble> {
     let tree = request.tree.as_str();
-    let placed = match tokens(alloc, tree) {
-        Ok(placed) => placed,
-        Err(error) => return Err(refusal(alloc, tree, &error)),
+    let shorter = Request {
+        tree: beginning(alloc, tree, placed, cut)?,
+        arguments: request.arguments,
     };
-    for cut in cuts(alloc, &placed)?.iter().rev().skip(1) {
-        let shorter = beginning(alloc, tree, &placed, *cut)?;
-        let shown = String::from_str(alloc, shorter.as_str())?;
-        if let Some(span) = found(alloc, request, shorter, text)? {
-            let next = node(tree, &placed, cut.tokens);
-            return Ok(report(alloc, text, span, shown.as_str(), next)?);
+    match found(alloc, &shorter, text)? {
+        Some(span) => {
+            let next = node(tree, placed, cut.tokens);
+            Ok(Some(report(alloc, text, span, shorter.tree.as_str(), next)?))
+        }
+        None => Ok(None),
+    }
+}
+
+/// What there is to say of the longest beginning that matches, of these from the shortest on.
+fn explain_longest(
+    alloc: Global,
+    request: &Request,
+    text: &str,
+    placed: &[Placed],
+    cuts: &[Cut],
+) -> Result<String, Trouble> {
+    for cut in cuts.iter().rev().skip(1) {
+        if let Some(said) = explain_cut(alloc, request, text, placed, *cut)? {
+            return Ok(said);
         }
     }
     Ok(String::from_str(alloc, "no match, and no beginning of the tree matches\n")?)
+}
+
+/// The longest beginning of the tree that matches, which has no match itself, and what does not follow.
+fn explain(alloc: Global, request: &Request, text: &str) -> Result<String, Trouble> {
+    let tree = request.tree.as_str();
+    match tokens(alloc, tree) {
+        Ok(placed) => {
+            let cuts = cuts(alloc, &placed)?;
+            explain_longest(alloc, request, text, &placed, &cuts)
+        }
+        Err(error) => Err(refusal(alloc, tree, &error)),
+    }
 }
 
 /// Why a text has no match: the longest beginning of the tree that has one, and what does not follow there.
