@@ -1,17 +1,21 @@
 -- The first way by the table is that of the nodes.
-use Rattle.std.proofs.Common.{◌≤◌, ◌-◌, ℕ, List, length, Option, Some, None, Result, Ok, Err, IfOk, sym, subst}
+use Rattle.std.proofs.Common.{◌≡◌, ◌≤◌, ◌-◌, ℕ, List, length, Option, Some, None, Result, Ok, Err, IfOk, sym, subst}
 use Rattle.std.proofs.Math.Logic.{∥∥₁_elim, ∥∥₁_map}
 use Rattle.std.specs.Coded.{×_prop, Π_prop, Unit-prop, le_prop, Coded-set, coded_option, coded×, coded_ℕ}
 use Rattle.std.proofs.Props.{props}
+use Rattle.std.specs.declared.alloc.AllocError.{AllocError}
 use Rattle.fancy_expr.specs.declared.error.Error.{Error}
 use Rattle.fancy_points.specs.FirstWays.{Seen, first_seen}
 use Rattle.fancy_plain.specs.declared.first_way.FirstWay.{FirstWay}
 use Rattle.fancy_plain.specs.declared.first_way.Way.{Way}
+use Rattle.fancy_plain.specs.declared.straight.Straight.{Straight}
+use Rattle.fancy_plain.specs.declared.straight.Straight.TheVariants as straight
+use Rattle.fancy_plain.specs.Straight.{IsStraight}
 use Rattle.fancy_plain.specs.Tables.{IsTableOf}
 use Rattle.fancy_plain.specs.Ways.{HasNoWayAt, IsFirstWay, IsOfNodes, IsSeenAs}
 use Rattle.fancy_fragments.specs.declared.fragment.Fragment.{Fragment}
 use Rattle.fancy_fragments.specs.Nodes.{IsLaidOut}
-use Rattle.fancy_fragments.specs.Fragments.{nodes_of, HasNoWayFrom, IsFirstWayOf}
+use Rattle.fancy_fragments.specs.Fragments.{nodes_of, HasNoWayFrom, IsFirstWayOf, IsStraightOf}
 use Rattle.fancy_fragments.proofs.EasySizes.{bound_alike}
 
 -- it can be seen in one way only
@@ -53,6 +57,21 @@ module _ (f : Fragment) where
       (λ u. IsSeenAs None (first_seen (record { text = text; pos = pos; continued = continued; unicode = u }) (nodes_of f) place))
       laid.1.unicode
       (subst (IsSeenAs None) (sym (h laid.0 (nodes_of f) (by_option laid) pos continued)) tt))
+
+  straight_from : (text : List ℕ) (place : ℕ) (s : Straight) → IsStraight text f.table place s → IsStraightOf text f place s
+  straight_from text place (straight.Ends end) h = λ pos continued.
+      ∥∥₁_elim f.laid_out (Prim.hlevel props) (λ laid.
+      subst
+      (λ u. first_seen (record { text = text; pos = pos; continued = continued; unicode = u }) (nodes_of f) place ≡ Some (end, λ g. None))
+      laid.1.unicode
+      (h laid.0 (nodes_of f) (by_option laid) pos continued))
+  straight_from text place straight.Fails h = no_way_from text place h
+  straight_from text place straight.Unknown h = h
+
+pub found_straight : (text : List ℕ) (f : Fragment) (place : ℕ) (result : Result Straight AllocError) →
+    IfOk result (IsStraight text f.table place) → IfOk result (IsStraightOf text f place)
+found_straight text f place (Ok s) h = straight_from f text place s h
+found_straight text f place (Err e) h = h
 
 pub found_first : (text : List ℕ) (f : Fragment) (place : ℕ) (result : Result FirstWay Error) → IfOk result (IsFirstWay text f.table place) →
     IfOk result (IsFirstWayOf text f place)

@@ -1,5 +1,5 @@
 -- What a fragment stands for, and what its search answers.
-use Rattle.std.specs.Prelude.{◌≤◌, ◌-◌, ℕ, Bool, List, length, None}
+use Rattle.std.specs.Prelude.{◌≡◌, ◌≤◌, ◌-◌, ℕ, Bool, List, length, None, Some}
 use Rattle.fancy_meaning.specs.Tree.{Tree}
 use Rattle.fancy_meaning.specs.Instr as plain
 use Rattle.fancy_meaning.specs.Options.{Analysis}
@@ -8,6 +8,8 @@ use Rattle.fancy_points.specs.FirstWays.{AreEasy, first_seen}
 use Rattle.fancy_expr.specs.Walk.{within_of}
 use Rattle.fancy_plain.specs.declared.first_way.FirstWay.{FirstWay}
 use Rattle.fancy_plain.specs.declared.search.Memo.{Memo}
+use Rattle.fancy_plain.specs.declared.straight.Straight.{Straight}
+use Rattle.fancy_plain.specs.declared.straight.Straight.TheVariants as straight
 use Rattle.fancy_plain.specs.Ways.{IsMemoOf, IsSeenAs}
 use Rattle.fancy_fragments.specs.declared.fragment.Fragment.{Fragment}
 use Rattle.fancy_fragments.specs.Nodes.{nodes_over}
@@ -33,6 +35,14 @@ abbrev pub HasNoWayFrom : (text : List ℕ) → Fragment → (place : ℕ) → T
 HasNoWayFrom text f place = (pos : ℕ) (continued : Bool) →
     IsSeenAs None
     (first_seen (record { text = text; pos = pos; continued = continued; unicode = f.unicode }) (nodes_of f) place)
+
+-- the first way of the nodes, wherever the search of the whole pattern began, as far as it is known
+abbrev pub IsStraightOf : (text : List ℕ) → Fragment → (place : ℕ) → Straight → Type 0
+IsStraightOf text f place (straight.Ends end) = (pos : ℕ) (continued : Bool) →
+    first_seen (record { text = text; pos = pos; continued = continued; unicode = f.unicode }) (nodes_of f) place
+    ≡ Some (end, λ g. None)
+IsStraightOf text f place straight.Fails = HasNoWayFrom text f place
+IsStraightOf text f place straight.Unknown = Unit {0}
 
 -- it knows what searches of this fragment in this text have noted, and no more
 abbrev pub IsMemoFor : (text : List ℕ) → Fragment → Memo → Type 0

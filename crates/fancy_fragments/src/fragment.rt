@@ -18,6 +18,7 @@ use fancy_expr::expr::Expr;
 use fancy_expr::walk::Within;
 use fancy_info::info::Info;
 use fancy_plain::search::Memo;
+use fancy_plain::straight::{Straight, straight_end};
 use fancy_plain::table::PointTable;
 use std::alloc::{AllocError, Global};
 use std::fmt;
@@ -40,7 +41,7 @@ pub struct Fragment {
 }
 
 impl Fragment {
-    ghost use Rattle.fancy_fragments.specs.Fragments.{HasNoWayFrom, IsMemoFor, fragment_of};
+    ghost use Rattle.fancy_fragments.specs.Fragments.{HasNoWayFrom, IsMemoFor, IsStraightOf, fragment_of};
 
     /// The fragment of neighbouring nodes of one analysed tree, none of them hard.
     ///
@@ -98,6 +99,27 @@ impl Fragment {
             → slice_get text (ix + 1) ≡ Some byte → HasNoWayFrom text self.now ix }
     {
         self.table.refuses_next(byte)
+    }
+
+    /// Ways seem to need no choice.
+    pub fn is_straight(&self) -> bool
+        ensures { result ≡ self.now.table.is_straight }
+    {
+        self.table.is_straight()
+    }
+
+    /// The first way from `ix`, a character boundary of the text, as far as no choice is needed for it. An error is a
+    /// request for memory that was refused.
+    pub fn straight_end(
+        &self,
+        alloc: Global,
+        text: &str,
+        ix: usize,
+    ) -> Result<Straight, AllocError>
+        requires place { IsTrue (is_place text.now ix) }
+        ensures { IfOk result (IsStraightOf text.now self.now ix) }
+    {
+        straight_end(alloc, &self.table, text, ix)
     }
 
     /// What searches of the fragment in one text, from `pos` on, have noted: nothing yet.

@@ -34,7 +34,7 @@ use Rattle.fancy_plain.specs.Ways.{HasNoWayAt, IsFirstWay, IsMemoOf, IsSeenAs, l
 
 -- ---- a search has one end
 
-abbrev way_at : Next → Option plain.Stand
+abbrev pub way_at : Next → Option plain.Stand
 way_at (TakesUp s found) = None
 way_at (TakesBack found) = None
 way_at (Ends way found) = way
@@ -98,11 +98,11 @@ module _ (text : List ℕ) (f : PointTable) (place : ℕ) (failed : Pair → Boo
     abbrev q : Setting
     q = record { text = text; pos = pos; continued = continued; unicode = f.unicode }
 
-    finds : FindsFirst q a es failed place
+    pub finds : FindsFirst q a es failed place
     finds = plain_search_finds q a es failed place is_text at h.easy
         (subst (λ points. AreNoted text f.unicode points failed) h.points noted)
 
-    same_end : (steps : ℕ) (way : Option plain.Stand) (found : Search) → run steps ≡ Ends way found →
+    pub same_end : (steps : ℕ) (way : Option plain.Stand) (found : Search) → run steps ≡ Ends way found →
         Ends way found ≡ Ends finds.way finds.found
     same_end steps way found e =
         one_end text f.unicode (points_of a.tree es) steps finds.steps

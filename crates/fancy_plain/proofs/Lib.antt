@@ -15,3 +15,4 @@ pub mod WayLaws
 pub mod FirstWayLaws
 pub mod ReadPoints
 pub mod BeginningLaws
+pub mod StraightLaws

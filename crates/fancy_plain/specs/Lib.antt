@@ -12,3 +12,4 @@ pub mod Shapes
 pub mod Layouts
 pub mod Tables
 pub mod Beginnings
+pub mod Straight

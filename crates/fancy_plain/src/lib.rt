@@ -11,5 +11,6 @@ mod pair_bits;
 mod point;
 mod runs;
 pub mod search;
+pub mod straight;
 pub mod table;
 mod tests;

@@ -84,6 +84,7 @@ impl CharTest {
     }
 
     /// Past the character at `ix`, if it passes. `Memory` where a request for memory was refused.
+    #[inline(always)]
     pub(crate) fn past(
         &self,
         alloc: Global,
@@ -110,6 +111,7 @@ impl CharTest {
     }
 
     /// The same, whatever character stands there.
+    #[inline(never)]
     fn past_other(
         &self,
         alloc: Global,

@@ -96,7 +96,7 @@ impl Task<'_> {
 
     /// The test on a character that stands there, where it is the body of the loop with this head.
     #[inline(always)]
-    fn body_at(&self, first: usize, head: usize) -> Option<&CharTest>
+    pub(crate) fn body_at(&self, first: usize, head: usize) -> Option<&CharTest>
         ensures { IfSome result (λ test. IsBody self.now.points.now head first test.now) }
     {
         let Some(Point::Take(test)) = self.points.get(first) else {
@@ -146,7 +146,7 @@ impl Task<'_> {
     /// From this point on a test comes first, behind groups that end, and the character here is none that passes: there is
     /// no more, or it is of ASCII and fails.
     #[inline(always)]
-    fn fails_at(&self, at: usize, place: usize) -> bool
+    pub(crate) fn fails_at(&self, at: usize, place: usize) -> bool
         requires { IsTask self.now }
         ensures { IsTrue result → FailsFrom self.now at place }
     {

@@ -14,6 +14,7 @@ use crate::beginnings::{beginnings, may_begin};
 use crate::layout::Layout;
 use crate::pair_bits::PairBits;
 use crate::point::Point;
+use crate::search::Task;
 use fancy_expr::error::Error;
 use fancy_info::info::Info;
 use std::alloc::Global;
@@ -27,6 +28,8 @@ pub struct PointTable {
     pub(crate) pair_bits: PairBits,
     /// The ASCII characters that can stand at a way's first places, level by level, beside any others.
     pub(crate) beginnings: Vec<[bool; 128]>,
+    /// Whether ways seem to need no choice.
+    pub(crate) is_straight: bool,
     ghost begin: { AreBeginnings unicode (map point_of points.items) beginnings.items },
 }
 
@@ -57,11 +60,18 @@ impl PointTable {
         points.push(Point::Stop)?;
         let pair_bits = PairBits::of(&points);
         let beginnings = beginnings(alloc, &points, unicode)?;
+        let task = Task {
+            points: &points,
+            unicode,
+            text: "",
+        };
+        let is_straight = task.is_straight();
         Ok(PointTable {
             points,
             unicode,
             pair_bits,
             beginnings,
+            is_straight,
         })
     }
 
@@ -73,6 +83,13 @@ impl PointTable {
         ensures none { result ≡ false → HasNoWayAt text.now self.now ix }
     {
         may_begin(&self.beginnings, text.as_bytes(), ix)
+    }
+
+    /// Ways seem to need no choice.
+    pub fn is_straight(&self) -> bool
+        ensures { result ≡ self.now.is_straight }
+    {
+        self.is_straight
     }
 
     /// Whether no way can begin where this byte stands.

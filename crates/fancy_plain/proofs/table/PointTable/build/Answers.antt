@@ -45,3 +45,15 @@ returns-clause-table c = λ a each fine.
 
 pub returns-clause-classes : goal.returns-clause-classes
 returns-clause-classes c = (c.in_ok-lay_each.ensures c.requires.0 c.requires.1).classes
+
+pub is_straight-is_straight-requires : goal.is_straight-is_straight-requires
+is_straight-is_straight-requires c = λ i p at.
+    let adds = c.in_ok-lay_each.ensures c.requires.0 c.requires.1 in
+    let t = c.lay_each.new.self in
+    let none = c.new-points.ensures.items in
+    let more = c.in_ok-push.ensures.items in
+    let reads = subst (Each (IsPointReadBy c.args.unicode)) (sym more)
+    (each_more (IsPointReadBy c.args.unicode) t.points.items code.Stop
+    (adds.added.reads (subst (Each (IsPointReadBy c.args.unicode)) (sym none) tt)) tt) in
+    read_at (IsPointReadBy c.args.unicode) c.push.new.self.items i p reads
+    (ap (λ l. slice_get l i) (sym c.deref-3.ensures.value) ∙ at)

@@ -1,0 +1,33 @@
+use Rattle.std.proofs.Common.{Some, length, refl, sym, ap, ◌∙◌}
+use Rattle.std.proofs.lemmas.Bool.{ltb-true}
+use Rattle.std.proofs.lemmas.Option.{slice_get_read}
+use Rattle.fancy_plain.specs.declared.point.Point.TheVariants as point
+use Rattle.fancy_plain.specs.Straight.{stand_at}
+use Rattle.fancy_plain.proofs.StraightLaws.{goes, jump_fails, stays}
+use Rattle.fancy_plain.proofs.search.Task.behind_jump.Goals as goal
+
+pub returns-in-Some-Jump-clause-walks : goal.returns-in-Some-Jump-clause-walks
+returns-in-Some-Jump-clause-walks c = λ place.
+    let points = c.args.self.now.points.now in
+    let at = c.args.at in
+    let to = c.in-Some-Jump.to in
+    let found = c.in-Some-Jump.ensures.lookup in
+    let there = slice_get_read points (length points) at c.in-Some-Jump.field-0.now refl (ltb-true at (length points) (sym found.0)) found.1
+    ∙ ap Some c.in-Some-Jump.field-0-is in
+    goes c.args.self.now (point.Jump to) (stand_at at place) there (stand_at to place) refl
+
+pub returns-in-Some-Jump-clause-fails : goal.returns-in-Some-Jump-clause-fails
+returns-in-Some-Jump-clause-fails c = λ place.
+    let points = c.args.self.now.points.now in
+    let at = c.args.at in
+    let to = c.in-Some-Jump.to in
+    let found = c.in-Some-Jump.ensures.lookup in
+    let there = slice_get_read points (length points) at c.in-Some-Jump.field-0.now refl (ltb-true at (length points) (sym found.0)) found.1
+    ∙ ap Some c.in-Some-Jump.field-0-is in
+    jump_fails c.args.self.now at to place there
+
+pub returns-in_default-clause-walks : goal.returns-in_default-clause-walks
+returns-in_default-clause-walks c = λ place. stays c.args.self.now (stand_at c.args.at place)
+
+pub returns-in_default-2-clause-walks : goal.returns-in_default-2-clause-walks
+returns-in_default-2-clause-walks c = λ place. stays c.args.self.now (stand_at c.args.at place)
