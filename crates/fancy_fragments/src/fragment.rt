@@ -110,12 +110,7 @@ impl Fragment {
 
     /// The first way from `ix`, a character boundary of the text, as far as no choice is needed for it. An error is a
     /// request for memory that was refused.
-    pub fn straight_end(
-        &self,
-        alloc: Global,
-        text: &str,
-        ix: usize,
-    ) -> Result<Straight, AllocError>
+    pub fn straight_end(&self, alloc: Global, text: &str, ix: usize) -> Result<Straight, AllocError>
         requires place { IsTrue (is_place text.now ix) }
         ensures { IfOk result (IsStraightOf text.now self.now ix) }
     {
