@@ -18,3 +18,4 @@ pub mod MeaningLaws
 pub mod MemosLaws
 pub mod PlacesLaws
 pub mod PairsLaws
+pub mod WholeLaws

@@ -15,3 +15,4 @@ pub mod Outcomes
 pub mod Means
 pub mod Walks
 pub mod WalkSteps
+pub mod Wholes

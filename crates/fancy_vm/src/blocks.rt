@@ -187,7 +187,10 @@ impl Stops {
 pub(crate) fn few_others(set: &[bool; 256]) -> Option<FewBytes>
     ensures { IfSome result (λ few. HasOthers set.now few) }
 {
-    three_others(set).or(range_of_others(set))
+    if let Some(few) = three_others(set) {
+        return Some(few);
+    }
+    range_of_others(set)
 }
 
 /// The same where they are at most three.

@@ -147,6 +147,8 @@ pub struct Prog {
     pub(crate) parts: ProgParts,
     /// What lets a run pass over starts, if the program has it.
     pub(crate) beginning: Option<Beginning>,
+    /// Whether its runs are likely to need no machine.
+    pub(crate) is_whole: bool,
     ghost fits: { IsTrue (program_fits (prog_with body.items parts)) },
     ghost begins: { ForSome beginning (IsBeginningOf (map insn_of body.items)) },
 }

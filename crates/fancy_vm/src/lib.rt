@@ -22,3 +22,4 @@ mod tails;
 mod threads;
 pub mod vm;
 mod walk;
+mod whole;

@@ -76,6 +76,15 @@ impl Memos {
         }
     }
 
+    /// A search of the fragment that stands there was made in this run.
+    #[inline(always)]
+    pub(crate) fn have_noted(&self, pc: usize) -> bool {
+        match self.by_place.get(pc) {
+            Some(Some(memo)) => memo.run == self.run,
+            _ => false,
+        }
+    }
+
     /// The first way from `ix` of the fragment that stands at `pc` in the program, by what this run noted of it.
     pub(crate) fn first_way(
         &mut self,

@@ -9,6 +9,7 @@ ghost use Rattle.fancy_vm.specs.Programs.{prog_of};
 use crate::beginning::Beginning;
 use crate::insn::{Insn, Prog, ProgParts};
 use crate::threads::{crosses_threads, is_shared_by_threads};
+use crate::whole::is_whole;
 
 impl Prog {
     /// A program of these instructions and parts, which have to fit (`ProgParts::fits`). It keeps exactly what it is
@@ -22,10 +23,12 @@ impl Prog {
         crosses_threads::<Prog>();
         is_shared_by_threads::<Prog>();
         let beginning = Beginning::of(&body);
+        let is_whole = is_whole(&body);
         Prog {
             body,
             parts,
             beginning,
+            is_whole,
         }
     }
 

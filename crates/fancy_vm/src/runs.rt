@@ -18,6 +18,7 @@ use crate::longest::Longest;
 use crate::machine::{MAX_BRANCHES, Machine, Next, Stop, Task};
 use crate::memos::Memos;
 use crate::threads::crosses_threads;
+use crate::whole::Found;
 use fancy_characters::places::is_place;
 use fancy_expr::error::{Error, RuntimeError};
 use fancy_state::state::State;
@@ -156,18 +157,14 @@ pub fn run_into(
         options,
         alloc,
     };
-    scratch.renew(prog.parts.slots)?;
-    let mut m = Machine::begin(
-        &task,
-        scratch.take_state(prog.parts.slots),
-        scratch.take_longest(),
-    );
-    let Some(memos) = &mut scratch.memos else {
-        unreachable!()
-    };
-    let answer = m.answer(memos, numbers);
-    scratch.keep(m);
-    answer
+    match task.search_whole()? {
+        Found::Match(start, end) => {
+            task.write_pair(numbers, start, end)?;
+            Ok(true)
+        }
+        Found::NoMatch => Ok(false),
+        Found::Unknown => scratch.answer(&task, numbers),
+    }
 }
 
 /// As `run`, with the first pair of its numbers for an answer: start and end of the match in bytes.
@@ -189,18 +186,11 @@ pub fn run_spans(
         options,
         alloc,
     };
-    scratch.renew(prog.parts.slots)?;
-    let mut m = Machine::begin(
-        &task,
-        scratch.take_state(prog.parts.slots),
-        scratch.take_longest(),
-    );
-    let Some(memos) = &mut scratch.memos else {
-        unreachable!()
-    };
-    let answer = m.answer_pair(memos);
-    scratch.keep(m);
-    answer
+    match task.search_whole()? {
+        Found::Match(start, end) => Ok(Some((start.min(end), end))),
+        Found::NoMatch => Ok(None),
+        Found::Unknown => scratch.answer_pair(&task),
+    }
 }
 
 /// As `run` with default options from `pos` on, a byte of the text, and with memory of its own.
@@ -220,6 +210,40 @@ pub fn run_default(
 }
 
 impl Scratch {
+    /// The machine's answer, whose numbers are written over these.
+    #[inline(never)]
+    fn answer(&mut self, task: &Task<'_>, numbers: &mut Vec<usize>) -> Result<bool, Error>
+        requires { IsTrue (run_fits (plain_task task.now)) }
+        ensures { RunAnswers (machine.run (plain_task task.now)) (answer_in result numbers.new) }
+    {
+        let slots = task.prog.parts.slots;
+        self.renew(slots)?;
+        let mut m = Machine::begin(task, self.take_state(slots), self.take_longest());
+        let Some(memos) = &mut self.memos else {
+            unreachable!()
+        };
+        let answer = m.answer(memos, numbers);
+        self.keep(m);
+        answer
+    }
+
+    /// The first pair of the machine's answer.
+    #[inline(never)]
+    fn answer_pair(&mut self, task: &Task<'_>) -> Result<Option<(usize, usize)>, Error>
+        requires { IsTrue (run_fits (plain_task task.now)) }
+        ensures { RunAnswersPair (machine.run (plain_task task.now)) result }
+    {
+        let slots = task.prog.parts.slots;
+        self.renew(slots)?;
+        let mut m = Machine::begin(task, self.take_state(slots), self.take_longest());
+        let Some(memos) = &mut self.memos else {
+            unreachable!()
+        };
+        let answer = m.answer_pair(memos);
+        self.keep(m);
+        answer
+    }
+
     /// What a run of a program of so many slots begins with, in the memory that is there.
     #[inline(always)]
     fn renew(&mut self, slots: usize) -> Result<(), Error>

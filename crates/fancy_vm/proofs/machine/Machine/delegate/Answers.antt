@@ -4,17 +4,26 @@ use Rattle.fancy_meaning.specs.Machine.{first_way}
 use Rattle.fancy_laws.proofs.Every.{All-every}
 use Rattle.fancy_points.specs.FirstWays.{seen}
 use Rattle.fancy_plain.specs.Ways.{IsSeenAs, listed}
-use Rattle.fancy_fragments.specs.Fragments.{fragment_of}
+use Rattle.fancy_fragments.specs.Fragments.{IsStraightOf, fragment_of}
 use Rattle.fancy_vm.specs.Outcomes.{StepAnswers, config_of, plain_task}
 use Rattle.fancy_vm.proofs.PairsLaws.{takes_none, takes_some, way_fits}
 use Rattle.fancy_vm.proofs.machine.Machine.delegate.Goals as goal
+
+pub returns-in-Fails-clause-leads : goal.returns-in-Fails-clause-leads
+returns-in-Fails-clause-leads c =
+    let t = plain_task c.args.self.now.task in
+    let f = c.args.delegate.now.fragment in
+    let ix = c.args.self.now.ix in
+    let none = subst (IsStraightOf t.text f ix) c.in-Fails.is c.in_ok-end.ensures in
+    subst (λ to. StepAnswers to c.fail.result c.fail.new.self)
+    (sym (takes_none t (config_of c.args.self.now) (first_way t (fragment_of f) ix) (none t.pos t.continued))) c.fail.ensures.leads
 
 pub returns-in-None-clause-leads : goal.returns-in-None-clause-leads
 returns-in-None-clause-leads c =
     let t = plain_task c.args.self.now.task in
     let way = first_way t (fragment_of c.args.delegate.now.fragment) c.args.self.now.ix in
     let found = subst (λ w. IsSeenAs w (option_map seen way)) c.in-None.is c.in_ok-first_way.ensures.seen in
-    subst (λ to. StepAnswers to c.fail.result c.fail.new.self) (sym (takes_none t (config_of c.args.self.now) way found)) c.fail.ensures.leads
+    subst (λ to. StepAnswers to c.fail-in-None.result c.fail-in-None.new.self) (sym (takes_none t (config_of c.args.self.now) way found)) c.fail-in-None.ensures.leads
 
 pub set_pairs-requires-clause-slots : goal.set_pairs-requires-clause-slots
 set_pairs-requires-clause-slots c =

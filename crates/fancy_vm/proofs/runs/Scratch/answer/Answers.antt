@@ -1,0 +1,21 @@
+use Rattle.std.proofs.Common.{subst, sym, IsTrue}
+use Rattle.fancy_meaning.specs.Machine as machine
+use Rattle.fancy_meaning.specs.Places.{is_place}
+use Rattle.fancy_vm.specs.Means.{answer_in}
+use Rattle.fancy_vm.specs.Outcomes.{RunAnswers, plain_task}
+use Rattle.fancy_vm.specs.declared.machine.Task.{Task}
+use Rattle.fancy_vm.proofs.FitsLaws.{run_implicit, run_place}
+use Rattle.fancy_vm.proofs.runs.Scratch.answer.Goals as goal
+
+pub begin-m-requires-clause-implicit : goal.begin-m-requires-clause-implicit
+begin-m-requires-clause-implicit c = run_implicit (plain_task c.args.task.now) c.requires
+
+pub answer-answer-requires-clause-place : goal.answer-answer-requires-clause-place
+answer-answer-requires-clause-place c =
+    subst (λ (t : Task). IsTrue (is_place (t.text).now ((t.options).now).pos)) (sym c.begin-m.ensures.task)
+    (run_place (plain_task c.args.task.now) c.requires)
+
+pub returns : goal.returns
+returns c =
+    subst (λ (t : Task). RunAnswers (machine.run (plain_task t)) (answer_in c.answer-answer.result c.answer-answer.new.numbers))
+    c.begin-m.ensures.task c.answer-answer.ensures
