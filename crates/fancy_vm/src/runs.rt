@@ -13,7 +13,7 @@ ghost use Rattle.fancy_state.specs.Held.{first_held};
 ghost use Rattle.fancy_state.specs.Refused.{IsMemory};
 ghost use Rattle.fancy_vm.specs.Programs.{IsUnused, allocator_of, default_at, default_task, options_of, prog_of, task_of};
 
-use crate::insn::Prog;
+use crate::insn::{Insn, Prog};
 use crate::longest::Longest;
 use crate::machine::{MAX_BRANCHES, Machine, Next, Stop, Task};
 use crate::memos::Memos;
@@ -350,9 +350,11 @@ impl Machine<'_> {
         ensures finds { Finds (machine.run (plain_task self.old.task)) result self.new }
     {
         let mut left = self.task.options.step_limit;
+        let prog = self.task.prog;
+        let body: &[Insn] = &prog.body;
         'steps: while left > 0 {
             left -= 1;
-            match self.step(memos)? {
+            match self.step(body, memos)? {
                 Next::On => {}
                 Next::Passed => left = left.saturating_sub(self.passed),
                 Next::Matches => return Ok(true),

@@ -134,7 +134,8 @@ impl<'a> Walk<'a> {
         if left == 0 {
             return Err(Error::RuntimeError(RuntimeError::StepLimitExceeded));
         }
-        let passed = match machine.step(&mut memos)? {
+        let prog = machine.task.prog;
+        let passed = match machine.step(&prog.body, &mut memos)? {
             Next::On => 0,
             Next::Passed => machine.passed,
             Next::Matches => return Ok(Progress::Ends(machine.ending(true)?)),
