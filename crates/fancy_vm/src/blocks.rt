@@ -92,21 +92,24 @@ impl Stops {
         }
     }
 
-    /// How many places of the block from this one on come before one that stops. The byte behind the block is read too.
+    /// How many places of the block from this one on come before one that stops, if one does. The byte behind the block
+    /// is read too.
     #[inline(always)]
-    pub(crate) fn count_before(self, text: &[u8], at: usize, shape: Shape) -> usize
+    pub(crate) fn first_in(self, text: &[u8], at: usize, shape: Shape) -> Option<usize>
         requires room { at + BLOCK < length text.now }
         requires single { IsTrue shape.is_single → AreSingle self }
         requires bare { IsTrue shape.is_bare → AreBare self }
-        ensures within { result ≤ BLOCK }
-        ensures before { (k : ℕ) → at ≤ k → k < at + result
+        ensures none { result ≡ None → (k : ℕ) → at ≤ k → k < at + BLOCK
             → stops_at self text.now k ≡ false }
+        ensures within { IfSome result (λ count. count ≤ BLOCK) }
+        ensures before { IfSome result (λ count. (k : ℕ) → at ≤ k → k < at + count
+            → stops_at self text.now k ≡ false) }
     {
         let places = self.places(text, at, shape);
         if places == 0 {
-            return BLOCK;
+            return None;
         }
-        places.trailing_zeros() as usize
+        Some(places.trailing_zeros() as usize)
     }
 
     /// A bit for each place of the block that stops.

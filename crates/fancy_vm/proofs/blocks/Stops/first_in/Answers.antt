@@ -1,9 +1,9 @@
 use Rattle.fancy_vm.specs.StartRuns.{stops_at}
 use Rattle.fancy_vm.proofs.BlockLaws.{first_marked_within, none_before_marked, none_marked}
-use Rattle.fancy_vm.proofs.blocks.Stops.count_before.Goals as goal
+use Rattle.fancy_vm.proofs.blocks.Stops.first_in.Goals as goal
 
-pub returns-then-places-eq0-clause-before : goal.returns-then-places-eq0-clause-before
-returns-then-places-eq0-clause-before c =
+pub returns-then-places-eq0-clause-none : goal.returns-then-places-eq0-clause-none
+returns-then-places-eq0-clause-none c none =
     none_marked (stops_at c.args.self c.args.text.now) c.args.at c.places-places.result c.places-places.ensures c.if-places-eq0.true
 
 pub returns-clause-within : goal.returns-clause-within
