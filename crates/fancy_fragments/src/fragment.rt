@@ -1,6 +1,6 @@
 //! Fragments: neighbouring easy nodes that are searched for plainly.
 
-ghost use Rattle.std.specs.Prelude.{◌≡◌, ◌<◌, ◌*◌, ◌+◌, ℕ, List, Some, false, IfOk, IfErr, IsTrue, map, nat_le, slice_get};
+ghost use Rattle.std.specs.Prelude.{◌≡◌, ◌<◌, ◌≤◌, ◌*◌, ◌+◌, ℕ, List, Some, false, IfOk, IfErr, IsTrue, map, nat_le, slice_get};
 ghost use Rattle.fancy_meaning.specs.Fits.{fragment_fits};
 ghost use Rattle.fancy_meaning.specs.Places.{is_place};
 ghost use Rattle.fancy_meaning.specs.Premises.{IsText};
@@ -8,6 +8,7 @@ ghost use Rattle.fancy_expr.specs.Views.{tree_of};
 ghost use Rattle.fancy_expr.specs.Walk.{within_of};
 ghost use Rattle.fancy_info.specs.Infos.{info_tree};
 ghost use Rattle.fancy_plain.specs.Beginnings.{may_begin};
+ghost use Rattle.fancy_plain.specs.Needed.{lacks_any};
 ghost use Rattle.fancy_plain.specs.Tables.{HaveClasses, IsRefusedFor};
 ghost use Rattle.fancy_fragments.specs.Nodes.{AreEasyNeighbours, BeginAt, IsLaidOut, fits_over, nodes_over, plain_tree};
 
@@ -17,6 +18,7 @@ use fancy_expr::error::Error;
 use fancy_expr::expr::Expr;
 use fancy_expr::walk::Within;
 use fancy_info::info::Info;
+use fancy_plain::needed::lacks_needed;
 use fancy_plain::search::Memo;
 use fancy_plain::straight::{Straight, straight_end};
 use fancy_plain::table::PointTable;
@@ -82,6 +84,16 @@ impl Fragment {
         ensures none { result ≡ false → HasNoWayFrom text.now self.now ix }
     {
         self.table.can_begin(text, ix)
+    }
+
+    /// Whether the text from `from` on, in bytes, has none of the bytes of which every way takes one: then no way begins
+    /// there or behind it. Where no such bytes are known it is false.
+    pub fn lacks_needed(&self, text: &str, from: usize) -> bool
+        ensures told { result ≡ lacks_any self.now.table.needed text.now from }
+        ensures none { IsTrue result → (place : ℕ) → from ≤ place
+            → IsTrue (is_place text.now place) → HasNoWayFrom text.now self.now place }
+    {
+        lacks_needed(&self.table, text, from)
     }
 
     /// Whether no way can begin where this byte stands.

@@ -13,12 +13,13 @@ use Rattle.fancy_meaning.specs.Assertions.{holds}
 use Rattle.fancy_points.specs.Points as plain
 use Rattle.fancy_points.specs.Points.{Point}
 use Rattle.fancy_points.specs.PointSearch as counted
-use Rattle.fancy_points.specs.PointSearch.{Lead, Found, Lost, Goes, Tries, Later, Other, Fails, Next, TakesUp, TakesBack, Ends, Pair, Search, Stand, Turn, after_steps, back_to, choice_lead, close_lead, first_search, first_stand, forward, goes_past, goes_to, has_stayed, head_lead, is_counted, is_last, lead_at, next, next_by, next_count, next_turn, others, pair_of, passes, tries, visited, with_later}
+use Rattle.fancy_points.specs.PointSearch.{Lead, Lost, Goes, Tries, Stand, Turn, choice_lead, close_lead, first_stand, forward, goes_past, goes_to, has_stayed, head_lead, is_last, lead_at, next, next_count, next_turn, passes}
 use Rattle.fancy_plain.specs.declared.point.Point as code
 use Rattle.fancy_plain.specs.declared.point.Point.TheVariants as variant
 use Rattle.fancy_plain.specs.declared.point.CharTest as code_test
 use Rattle.fancy_plain.specs.Views.{point_of}
 use Rattle.fancy_plain.specs.Beginnings.{AreBeginnings, IsLevel, IsWithin, covers, head_within, is_begun_by, is_over, is_past, is_short, leads_within, may_begin, TakesAmong}
+use Rattle.fancy_plain.proofs.KeptLaws.{LeadKeeps, finds_none}
 
 both : (a b : Bool) → (a && b) ≡ true → (a ≡ true) × (b ≡ true)
 both true b e = (refl, e)
@@ -145,26 +146,8 @@ module _ (text : List ℕ) (unicode : Bool) (points : List Point) where
     pub here : IsReached (slice_index_or reached s.at 0) s.turns
     pub out : may_begin levels text s.place ≡ false
 
-  abbrev AreInside : List Stand → Type 0
-  AreInside [] = Unit {0}
-  AreInside (s ∷ ss) = Inside s × AreInside ss
-
-  abbrev LaterInside : List Later → Type 0
-  LaterInside [] = Unit {0}
-  LaterInside (Other s ∷ later) = Inside s × LaterInside later
-  LaterInside (Fails p ∷ later) = LaterInside later
-
   abbrev LeadInside : Lead → Type 0
-  LeadInside Found = ⊥
-  LeadInside Lost = Unit {0}
-  LeadInside (Goes t) = Inside t
-  LeadInside (Tries is_noted t ts) = Inside t × AreInside ts
-
-  abbrev pub NextInside : Next → Type 0
-  NextInside (TakesUp s f) = Inside s × LaterInside f.later
-  NextInside (TakesBack f) = LaterInside f.later
-  NextInside (Ends None f) = Unit {0}
-  NextInside (Ends (Some s) f) = ⊥
+  LeadInside = LeadKeeps Inside
 
   -- ---- what leads on from a point that is reached
   holds_inside : (s : Stand) (b : Bool) → Inside (forward s) → LeadInside (if b then Goes (forward s) else Lost)
@@ -317,70 +300,11 @@ module _ (text : List ℕ) (unicode : Bool) (points : List Point) where
           lead_inside s h.reached ascii levels after h.last level more h.here out (slice_get points s.at)
           (level s.at h.here.comes)
 
-  -- ---- a step
-  visited_later : (o : Option Point) (f : Search) → (visited o f).later ≡ f.later
-  visited_later o f = go (is_counted o)
-    where
-      go : (b : Bool) → (let g : Search = if b then record f { visits = f.visits + 1 } else f in g.later) ≡ f.later
-      go true = refl
-      go false = refl
-
-  visited_inside : (o : Option Point) (f : Search) → LaterInside f.later → LaterInside (visited o f).later
-  visited_inside o f h = subst LaterInside (sym (visited_later o f)) h
-
-  others_inside : (ts : List Stand) (later : List Later) → AreInside ts → LaterInside later → LaterInside (others ts ++ later)
-  others_inside [] later h l = l
-  others_inside (t ∷ ts) later h l = (h.0, others_inside ts later h.1 l)
-
-  noted_inside : (ts : List Stand) (p : Pair) (later : List Later) → AreInside ts → LaterInside later →
-      LaterInside ((others ts ++ (Fails p ∷ [])) ++ later)
-  noted_inside [] p later h l = l
-  noted_inside (t ∷ ts) p later h l = (h.0, noted_inside ts p later h.1 l)
-
-  tries_inside : (is_noted : Bool) (pair : Pair) (t : Stand) (ts : List Stand) (o : Option Point) (f : Search) →
-      Inside t → AreInside ts → LaterInside f.later → NextInside (tries is_noted pair t ts o f)
-  tries_inside false pair t ts o f h hs l = (h, others_inside ts (visited o f).later hs (visited_inside o f l))
-  tries_inside true pair t ts o f h hs l = go (f.failed pair)
-    where
-      go : (b : Bool) →
-          NextInside (if b then TakesBack f else TakesUp t (with_later (others ts ++ (Fails pair ∷ [])) (visited o f)))
-      go true = l
-      go false = (h, noted_inside ts pair (visited o f).later hs (visited_inside o f l))
-
-  by_lead : (lead : Lead) (o : Option Point) (s : Stand) (f : Search) → LeadInside lead → LaterInside f.later →
-      NextInside (next_by lead o s f)
-  by_lead Found o s f h l = absurd h
-  by_lead Lost o s f h l = visited_inside o f l
-  by_lead (Goes t) o s f h l = (h, visited_inside o f l)
-  by_lead (Tries is_noted t ts) o s f h l = tries_inside is_noted (pair_of s) t ts o f h.0 h.1 l
-
-  back_inside : (later : List Later) (f : Search) → LaterInside later → NextInside (back_to later f)
-  back_inside [] f l = tt
-  back_inside (Other s ∷ later) f l = l
-  back_inside (Fails p ∷ later) f l = l
-
-  step_inside : (n : Next) → NextInside n → NextInside (next text unicode points n)
-  step_inside (TakesUp s f) (h, l) =
-      by_lead (lead_at text unicode (slice_get points s.at) s) (slice_get points s.at) s f (stand_inside s h) l
-  step_inside (TakesBack f) l = back_inside f.later f l
-  step_inside (Ends None f) h = tt
-  step_inside (Ends (Some s) f) h = absurd h
-
-  steps_inside : (k : ℕ) (n : Next) → NextInside n → NextInside (after_steps text unicode points k n)
-  steps_inside zero n h = h
-  steps_inside (suc k) n h = steps_inside k (next text unicode points n) (step_inside n h)
-
-  none_inside : (way : Option Stand) (f : Search) → NextInside (Ends way f) → way ≡ None
-  none_inside None f h = refl
-  none_inside (Some s) f h = absurd h
-
 -- the levels that follow on the points reached first are beginnings
 pub are_beginnings : (unicode : Bool) (points : List Point) (reached : List ℕ) (levels : List (List Bool)) (last : List ℕ) →
     covers reached 0 255 ≡ true → AreLevels unicode points reached levels last → AreBeginnings unicode points levels
-are_beginnings unicode points reached levels last first leads text place out failed steps way found ends =
-    none_inside text unicode points way found
-    (subst (NextInside text unicode points) ends
-    (steps_inside text unicode points steps (TakesUp (first_stand place) (first_search failed)) (begins, tt)))
+are_beginnings unicode points reached levels last first leads text place out =
+    finds_none (Inside text unicode points) text unicode points (stand_inside text unicode points) place begins
   where
     begins : Inside text unicode points (first_stand place)
     begins =

@@ -1,5 +1,5 @@
 -- From the end of a search to what the first way answers.
-use Rattle.std.proofs.Common.{◌≡◌, ◌<◌, ◌≤◌, ◌+◌, ◌&&◌, [], ◌∷◌, slice_get, slice_index_or, true, nat_lt, if◌then◌else◌, ℕ, zero, suc, Bool, false, List, length, map, take, Option, Some, None, Result, Ok, Err, IsTrue, option_map, refl, sym, arith, ap, ◌∙◌, subst}
+use Rattle.std.proofs.Common.{◌≡◌, ◌<◌, ◌≤◌, ◌+◌, ◌&&◌, [], ◌∷◌, slice_get, slice_index_or, true, nat_lt, if◌then◌else◌, ℕ, zero, suc, Bool, false, List, length, map, take, Option, Some, None, Result, Ok, Err, IfSome, IsTrue, option_map, refl, sym, arith, ap, ◌∙◌, subst}
 use Rattle.std.proofs.lemmas.Bool.Decides.{nat_tests}
 use Rattle.std.proofs.lemmas.List.{take_all}
 use denote.Bor.{Bor}
@@ -29,8 +29,10 @@ use Rattle.fancy_plain.specs.Paths.{closed_after}
 use Rattle.fancy_plain.specs.Choices.{choices_of}
 use Rattle.fancy_plain.specs.Searches.{AreKept, EndsAs, HaveFailed, IsHere, IsSearch, Leading, leading_of}
 use Rattle.fancy_plain.specs.Beginnings.{is_begun_by, may_begin}
+use Rattle.fancy_plain.specs.Needed.{AreNeeded, lacks}
 use Rattle.fancy_plain.specs.Views.{point_of}
 use Rattle.fancy_plain.specs.Ways.{HasNoWayAt, IsFirstWay, IsMemoOf, IsSeenAs, listed}
+use Rattle.fancy_plain.proofs.NeededLaws.{lacks_left}
 
 -- ---- a search has one end
 
@@ -221,16 +223,29 @@ module _ (points : Bor (List code.Point)) (text : Bor (List ℕ)) (table : Point
 
 -- ---- where no way can begin
 
--- where the first character is none that a way can begin with, the nodes have none
-pub no_way_at : (text : List ℕ) (f : PointTable) (place : ℕ) → IsText text → IsTrue (is_place text place) →
-    may_begin f.beginnings.items text place ≡ false → HasNoWayAt text f place
-no_way_at text f place is_text at out = λ a es h pos continued.
+-- where no search finds a way, the nodes have none
+no_way_found : (text : List ℕ) (f : PointTable) (place : ℕ) → IsText text → IsTrue (is_place text place) →
+    ((failed : Pair → Bool) (steps : ℕ) (way : Option plain.Stand) (found : Search) →
+    searched text f.unicode (map point_of f.points.items) failed place steps ≡ Ends way found → way ≡ None) →
+    HasNoWayAt text f place
+no_way_found text f place is_text at finds_none = λ a es h pos continued.
     let q : Setting = record { text = text; pos = pos; continued = continued; unicode = f.unicode } in
     let finds : FindsFirst q a es (λ p. false) place = plain_search_finds q a es (λ p. false) place is_text at h.easy no_pairs in
     let ends = subst (λ points. searched text f.unicode points (λ p. false) place finds.steps ≡ Ends finds.way finds.found)
     (sym h.points) finds.ends in
-    let none : finds.way ≡ None = f.begin text place out (λ p. false) finds.steps finds.way finds.found ends in
-    sym finds.first ∙ ap (option_map seen_of) none
+    sym finds.first ∙ ap (option_map seen_of) (finds_none (λ p. false) finds.steps finds.way finds.found ends)
+
+-- where the first character is none that a way can begin with
+pub no_way_at : (text : List ℕ) (f : PointTable) (place : ℕ) → IsText text → IsTrue (is_place text place) →
+    may_begin f.beginnings.items text place ≡ false → HasNoWayAt text f place
+no_way_at text f place is_text at out = no_way_found text f place is_text at (f.begin text place out)
+
+-- where none of the bytes stands of which every way takes one, neither from the place on nor behind it
+pub no_way_behind : (text : List ℕ) (f : PointTable) (bytes : List Bool) (from : ℕ) → IsText text → f.needed ≡ Some bytes →
+    lacks bytes text from ≡ true → (place : ℕ) → from ≤ place → IsTrue (is_place text place) → HasNoWayAt text f place
+no_way_behind text f bytes from is_text is out place behind at =
+    no_way_found text f place is_text at
+    (subst (λ o. IfSome o (AreNeeded f.unicode (map point_of f.points.items))) is f.need text place (lacks_left bytes text from place behind out))
 
 pub none_first : (text : List ℕ) (f : PointTable) (place : ℕ) → HasNoWayAt text f place →
     IsFirstWay text f place (record { way = None; visits = 0 })

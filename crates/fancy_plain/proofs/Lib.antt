@@ -14,5 +14,8 @@ pub mod ChoiceLaws
 pub mod WayLaws
 pub mod FirstWayLaws
 pub mod ReadPoints
+pub mod KeptLaws
 pub mod BeginningLaws
+pub mod NeededLaws
 pub mod StraightLaws
+pub mod CountedLaws

@@ -21,6 +21,7 @@ use Rattle.fancy_plain.specs.declared.search.Lead.{Lead}
 use Rattle.fancy_plain.specs.declared.search.Lead.TheVariants as lead
 use Rattle.fancy_plain.specs.declared.search.Memo.{Memo}
 use Rattle.fancy_plain.specs.declared.search.Task.{Task}
+use Rattle.fancy_plain.specs.AsciiRuns.{AllPass}
 use Rattle.fancy_plain.specs.Choices.{choices_of, run_choices}
 use Rattle.fancy_plain.specs.Paths.{EndsTurns, HasTurns, IsStand, turn_of}
 use Rattle.fancy_plain.specs.Runs.{CanPass, FailsFrom, GoesOn, IsBody, IsForkOf, IsLostAt, IsRun, Passes, Refuses, Repeats, RunsOver, onward, run_later, run_search}
@@ -388,6 +389,15 @@ pub may_pass_by : (bytes : List ℕ) (task : Task) (m : Memo) (test : CharTest) 
 may_pass_by bytes task m test here at e within ascii takes =
     may_pass task m test here at (subst (λ t. at < length t) e within) (subst (λ t. slice_index_or t at 0 < 128) e ascii)
     (subst (λ t. passes [] task.unicode (test_of test) (slice_index_or t at 0) ≡ true) e takes)
+
+-- characters of ASCII that pass, where no pair is known
+pub blank_run : (bytes : List ℕ) (task : Task) (m : Memo) (test : CharTest) (here : Stand) (to : ℕ) → bytes ≡ (task.text).now →
+    AllPass (passes [] task.unicode (test_of test)) bytes here.place to → here.place ≤ to →
+    ((failed : plain.Pair → Bool) → HaveFailed m failed → (p : plain.Pair) → failed p ≡ false) →
+    IsRun task m test here (to - here.place)
+blank_run bytes task m test here to e all ordered blank i from below =
+    let h = all i from (omega (arith, ordered, below)) in
+    may_pass_by bytes task m test here i e h.0 h.1 h.2 (λ s failed stands have. blank failed have (pair_of s))
 
 -- ---- a pair that may have a way
 

@@ -1,5 +1,5 @@
 -- Ways that a search comes to without taking a choice back.
-use Rattle.std.proofs.Common.{◌≡◌, ◌<◌, ◌+◌, ◌&&◌, ◌∷◌, ◌++◌, ℕ, true≢false, Bool, true, false, List, [], Option, Some, None, Result, Ok, Err, IfOk, IsTrue, if◌then◌else◌, option_map, map, slice_get, refl, sym, ap, ◌∙◌, subst, arith}
+use Rattle.std.proofs.Common.{◌≡◌, ◌≤◌, ◌<◌, ◌+◌, ◌-◌, ◌&&◌, ◌∷◌, ◌++◌, ℕ, zero, suc, true≢false, Bool, true, false, List, [], Option, Some, None, Result, Ok, Err, IfOk, IsTrue, if◌then◌else◌, option_map, map, slice_get, refl, sym, ap, ◌∙◌, subst, arith}
 use Rattle.std.proofs.lemmas.Bool.{cond-false}
 use Rattle.std.proofs.lemmas.Str.{len_utf8_bounds}
 use denote.Bor.{Bor}
@@ -22,13 +22,15 @@ use Rattle.fancy_plain.specs.declared.search.Task.{Task}
 use Rattle.fancy_plain.specs.declared.straight.Straight.{Straight}
 use Rattle.fancy_plain.specs.declared.straight.Straight.TheVariants as straight
 use Rattle.fancy_plain.specs.declared.table.PointTable.{PointTable}
-use Rattle.fancy_plain.specs.Runs.{FailsFrom, IsBody}
+use Rattle.fancy_plain.specs.AsciiRuns.{AllPass}
+use Rattle.fancy_plain.specs.Runs.{FailsFrom, IsBody, Passes}
 use Rattle.fancy_plain.specs.Searches.{after_steps_of, next_of}
-use Rattle.fancy_plain.specs.Straight.{EndsStraight, Finds, IsBlank, IsStraight, RunsOn, RunsPast, Walks, stand_at}
+use Rattle.fancy_plain.specs.Straight.{AreFails, EndsStraight, Finds, IsBlank, IsStraight, Loses, RunsOn, RunsPast, Walks, stand_at}
 use Rattle.fancy_plain.specs.Tables.{IsTableOf}
 use Rattle.fancy_plain.specs.Views.{point_of, test_of}
 use Rattle.fancy_plain.proofs.BackLaws.{steps_then}
 use Rattle.fancy_plain.proofs.FirstWayLaws.{finds, same_end, way_at}
+use Rattle.fancy_plain.proofs.RunLaws.{passes_by}
 use Rattle.fancy_plain.proofs.SearchLaws.{next_there}
 
 -- a character that is taken moves on
@@ -47,13 +49,13 @@ not_sure : {A : Type 0} → false ≡ true → A
 not_sure e = cc
 
 module _ (task : Task) where
-  abbrev Test : CharTest → ℕ → Bool
+  abbrev pub Test : CharTest → ℕ → Bool
   Test test = passes (task.text).now task.unicode (test_of test)
 
   -- ---- one walk behind another
 
   pub stays : (s : plain.Stand) → Walks task true s s
-  stays s f blank = (0, (f, (refl, blank, λ e. refl)))
+  stays s f blank = (0, (f, (refl, blank, λ e h. h)))
 
   pub joined : (b c d : Bool) (s t u : plain.Stand) → (d ≡ true → (b ≡ true) × (c ≡ true)) →
       Walks task b s t → Walks task c t u → Walks task d s u
@@ -66,14 +68,57 @@ module _ (task : Task) where
           (
             steps_then task x.0 y.0 (TakesUp s f) (TakesUp t x.1.0) x.1.1.0 ∙ y.1.1.0,
             y.1.1.1,
-            λ e. y.1.1.2 (sure e).1 ∙ x.1.1.2 (sure e).0,
+            λ e h. y.1.1.2 (sure e).1 (x.1.1.2 (sure e).0 h),
           ),
         ),
       )
 
+  -- what is sure is also not sure
+  pub unsure : (s t : plain.Stand) → Walks task true s t → Walks task false s t
+  unsure s t w = joined true true false s t t (λ e. not_sure e) w (stays t)
+
+  pub remains : (b : Bool) (s : plain.Stand) → Walks task b s s
+  remains true s = stays s
+  remains false s = unsure s s (stays s)
+
   -- on without a choice
   pub onward : (b : Bool) (s t u : plain.Stand) → Walks task b s t → Walks task true t u → Walks task b s u
   onward b s t u w v = joined b true b s t u (λ e. (e, refl)) w v
+
+  -- and where that leads nowhere
+  pub loses_behind : (s t : plain.Stand) → Walks task true s t → Loses task t → Loses task s
+  loses_behind s t w v f blank =
+      let x = w f blank in
+      let y = v x.1.0 x.1.1.1 in (
+        x.0 + y.0,
+        (
+          y.1.0,
+          (
+            steps_then task x.0 y.0 (TakesUp s f) (TakesUp t x.1.0) x.1.1.0 ∙ y.1.1.0,
+            λ h. y.1.1.1 (x.1.1.2 refl h),
+          ),
+        ),
+      )
+
+  -- back to the beginning
+  goes_back : (later : List plain.Later) (f : Search) → f.later ≡ later → AreFails later →
+      (steps : ℕ) × ((g : Search) × (after_steps_of task steps (TakesBack f) ≡ Ends None g))
+  goes_back [] f e h = (1, (f, ap (λ l. plain.back_to l f) e))
+  goes_back (Other s ∷ later) f e h = absurd h
+  goes_back (Fails p ∷ later) f e h =
+      let x = goes_back later (plain.with_failed p (record f { later = later })) refl h in
+      (suc x.0, (x.1.0, ap (λ l. after_steps_of task x.0 (plain.back_to l f)) e ∙ x.1.1))
+
+  pub finds_none : (ix : ℕ) (s : plain.Stand) → Walks task true (stand_at 0 ix) s → Loses task s → Finds task ix None
+  finds_none ix s w v =
+      let x = loses_behind (stand_at 0 ix) s w v (first_search (λ q. false)) (λ q. refl) in
+      let y = goes_back x.1.0.later x.1.0 refl (x.1.1.1 tt) in (
+        x.0 + y.0,
+        (
+          y.1.0,
+          steps_then task x.0 y.0 (TakesUp (stand_at 0 ix) (first_search (λ q. false))) (TakesBack x.1.0) x.1.1.0 ∙ y.1.1,
+        ),
+      )
 
   -- on with one
   pub by_choice : (b c : Bool) (s t u : plain.Stand) → Walks task b s t → Walks task c t u → Walks task false s u
@@ -88,9 +133,9 @@ module _ (task : Task) where
   counted_blank true f blank = blank
   counted_blank false f blank = blank
 
-  counted_later : (c : Bool) (f : Search) → (if c then record f { visits = f.visits + 1 } else f).later ≡ f.later
-  counted_later true f = refl
-  counted_later false f = refl
+  counted_fails : (c : Bool) (f : Search) → AreFails f.later → AreFails (if c then record f { visits = f.visits + 1 } else f).later
+  counted_fails true f h = h
+  counted_fails false f h = h
 
   -- but for the visits it is the same
   counted_visits : (c : Bool) (f : Search) →
@@ -109,7 +154,7 @@ module _ (task : Task) where
     pub goes : (t : plain.Stand) → plain.lead_by (task.text).now task.unicode (point_of p) s ≡ Goes t → Walks task true s t
     goes t leads f blank =
         let c = plain.is_counted (Some (point_of p)) in
-        (1, (plain.visited (Some (point_of p)) f, (stepped f (Goes t) leads, counted_blank c f blank, λ e. counted_later c f)))
+        (1, (plain.visited (Some (point_of p)) f, (stepped f (Goes t) leads, counted_blank c f blank, λ e. counted_fails c f)))
 
     -- where it is the end
     pub ends : (b : Bool) (ix : ℕ) → plain.lead_by (task.text).now task.unicode (point_of p) s ≡ plain.Found →
@@ -125,17 +170,27 @@ module _ (task : Task) where
         )
 
     -- where it leads nowhere
+    pub loses : plain.lead_by (task.text).now task.unicode (point_of p) s ≡ Lost → Loses task s
+    loses leads f blank =
+        (1, (plain.visited (Some (point_of p)) f, (stepped f Lost leads, counted_fails (plain.is_counted (Some (point_of p))) f)))
+
     pub lost : (ix : ℕ) → plain.lead_by (task.text).now task.unicode (point_of p) s ≡ Lost →
         Walks task true (stand_at 0 ix) s → Finds task ix None
-    lost ix leads w =
-        let x = w (first_search (λ q. false)) (λ q. refl) in
-        let g = plain.visited (Some (point_of p)) x.1.0 in
-        let none : g.later ≡ [] = counted_later (plain.is_counted (Some (point_of p))) x.1.0 ∙ x.1.1.2 refl in (
-          x.0 + 2,
+    lost ix leads w = finds_none ix s w (loses leads)
+
+    -- on at the only way, where the pair is one that is noted
+    pub tries_only : (t : plain.Stand) → plain.lead_by (task.text).now task.unicode (point_of p) s ≡ plain.Tries true t [] →
+        Walks task true s t
+    tries_only t leads f blank =
+        let c = plain.is_counted (Some (point_of p)) in (
+          1,
           (
-            g,
-            steps_then task x.0 2 (TakesUp (stand_at 0 ix) (first_search (λ q. false))) (TakesUp s x.1.0) x.1.1.0
-                ∙ ap (next_of task) (stepped x.1.0 Lost leads) ∙ ap (λ l. plain.back_to l g) none,
+            plain.with_later (Fails (pair_of s) ∷ []) (plain.visited (Some (point_of p)) f),
+            (
+              stepped f (plain.Tries true t []) leads ∙ cond-false (f.failed (pair_of s)) _ _ (blank (pair_of s)),
+              counted_blank c f blank,
+              λ e. counted_fails c f,
+            ),
           ),
         )
 
@@ -179,14 +234,14 @@ module _ (task : Task) where
             (
               steps_then task (1 + x.0) 1 (TakesUp s f) (TakesBack (record g { visits = g.visits + x.1.0 })) gone,
               counted_blank c f blank,
-              λ e. counted_later c f,
+              λ e. counted_fails c f,
             ),
           ),
         )
 
     -- the same where the pair is one that is noted
     pub tries_noted : (t u : plain.Stand) → plain.lead_by (task.text).now task.unicode (point_of p) s ≡ plain.Tries true t (u ∷ []) →
-        FailsFrom task t.at t.place → Walks task false s u
+        FailsFrom task t.at t.place → Walks task true s u
     tries_noted t u leads fails f blank =
         let c = plain.is_counted (Some (point_of p)) in
         let v = plain.visited (Some (point_of p)) f in
@@ -202,7 +257,7 @@ module _ (task : Task) where
             (
               steps_then task (1 + x.0) 1 (TakesUp s f) (TakesBack (record g { visits = g.visits + x.1.0 })) gone,
               counted_blank c f blank,
-              λ e. not_sure e,
+              λ e. counted_fails c f,
             ),
           ),
         )
@@ -223,7 +278,7 @@ module _ (task : Task) where
   -- at the head of a loop
   pub chosen_at_head : (head first second place : ℕ) (is_lost : Bool) → slice_get (task.points).now head ≡ Some (point.Fork first second) →
       (is_lost ≡ true → FailsFrom task first place) →
-      Walks task false (stand_at head place) (stand_at (if is_lost then second else first) place)
+      Walks task is_lost (stand_at head place) (stand_at (if is_lost then second else first) place)
   chosen_at_head head first second place true there fails =
       tries_noted (point.Fork first second) (stand_at head place) there (stand_at first place) (stand_at second place) refl (fails refl)
   chosen_at_head head first second place false there fails =
@@ -331,6 +386,23 @@ module _ (task : Task) where
   pub runs_none : (test : CharTest) (i : ℕ) → RunsOn task test i i
   runs_none test i = λ head first second fork body.
       by_choice true true (stand_at head i) (stand_at head i) (stand_at head i) (stays (stand_at head i)) (stays (stand_at head i))
+
+  -- over each character up to a place
+  pub runs_over : (test : CharTest) (from n : ℕ) → ((i : ℕ) → from ≤ i → i < from + n → Passes task test i) → RunsOn task test from (from + n)
+  runs_over test from zero each = subst (RunsOn task test from) {x = from} (omega arith) (runs_none test from)
+  runs_over test from (suc n) each =
+      subst (RunsOn task test from) {x = from + n + 1} (omega arith)
+      (runs_further test from (from + n) (from + n + 1) (runs_over test from n (λ i on below. each i on (omega (arith, below))))
+      (each (from + n) (omega arith) (omega arith)))
+
+  -- over characters of ASCII that pass
+  pub runs_ascii : (bytes : List ℕ) (test : CharTest) (from to : ℕ) → bytes ≡ (task.text).now →
+      AllPass (passes [] task.unicode (test_of test)) bytes from to → from ≤ to → RunsOn task test from to
+  runs_ascii bytes test from to e all on =
+      subst (RunsOn task test from) {x = from + (to - from)} (omega (arith, on))
+      (runs_over test from (to - from)
+      (λ i further below.
+      let h = all i further (omega (arith, on, below)) in passes_by bytes task test i e h.0 h.1 h.2))
 
   -- and out of the loop
   pub runs_out : (test : CharTest) (from i : ℕ) → RunsOn task test from i → past_char (task.text).now (Test test) i ≡ None →

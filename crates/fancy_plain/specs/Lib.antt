@@ -13,3 +13,6 @@ pub mod Layouts
 pub mod Tables
 pub mod Beginnings
 pub mod Straight
+pub mod AsciiRuns
+pub mod CountedWays
+pub mod Needed

@@ -1,8 +1,8 @@
 -- Ways that a search comes to without taking a choice back.
-use Rattle.std.specs.Prelude.{◌≡◌, ℕ, Bool, true, false, List, [], Option, Some, None, slice_get}
+use Rattle.std.specs.Prelude.{◌≡◌, ℕ, Bool, true, false, List, [], ◌∷◌, Option, Some, None, slice_get}
 use Rattle.fancy_meaning.specs.Tree.{Tree}
 use Rattle.fancy_meaning.specs.Options.{Analysis}
-use Rattle.fancy_points.specs.PointSearch.{Ends, Pair, Search, Stand, TakesUp, first_search}
+use Rattle.fancy_points.specs.PointSearch.{Ends, Fails, Later, Other, Pair, Search, Stand, TakesBack, TakesUp, first_search}
 use Rattle.fancy_points.specs.FirstWays.{first_seen}
 use Rattle.fancy_plain.specs.declared.point.CharTest.{CharTest}
 use Rattle.fancy_plain.specs.declared.point.Point.TheVariants as point
@@ -23,13 +23,26 @@ stand_at at place = record { at = at; place = place; turns = []; opened = []; sp
 abbrev pub IsBlank : Search → Type 0
 IsBlank f = (p : Pair) → f.failed p ≡ false
 
--- A search that knows of no pair goes on from the one stand to the other. Where that is sure, it keeps nothing for
+-- what is kept for later has no way
+abbrev pub AreFails : List Later → Type 0
+AreFails [] = Unit {0}
+AreFails (Other s ∷ later) = ⊥
+AreFails (Fails p ∷ later) = AreFails later
+
+-- A search that knows of no pair goes on from the one stand to the other. Where that is sure, it keeps no way for
 -- later.
 abbrev pub Walks : Task → (is_sure : Bool) → (from to : Stand) → Type 0
 Walks t is_sure from to =
     (f : Search) → IsBlank f →
     (steps : ℕ) × ((g : Search) × ((after_steps_of t steps (TakesUp from f) ≡ TakesUp to g)
-    × IsBlank g × (is_sure ≡ true → g.later ≡ f.later)))
+    × IsBlank g × (is_sure ≡ true → AreFails f.later → AreFails g.later)))
+
+-- it goes back from the stand, and keeps no way for later
+abbrev pub Loses : Task → Stand → Type 0
+Loses t from =
+    (f : Search) → IsBlank f →
+    (steps : ℕ) × ((g : Search) × ((after_steps_of t steps (TakesUp from f) ≡ TakesBack g)
+    × (AreFails f.later → AreFails g.later)))
 
 -- it goes so over a loop over this test, from its head to its head
 abbrev pub RunsOn : Task → CharTest → (from to : ℕ) → Type 0

@@ -116,6 +116,9 @@ impl Task<'_> {
         ensures fits { stand.place + result ≤ usize.MAX }
     {
         let text = self.text.as_bytes();
+        if m.is_blank() {
+            return test.past_ascii(self.unicode, text, stand.place) - stand.place;
+        }
         let mut at = stand.place;
         'run: while at < text.len()
             && text[at] < 128

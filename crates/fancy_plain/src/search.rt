@@ -241,6 +241,15 @@ impl Memo {
         Ok(self.failed.has(&self.numbers))
     }
 
+    /// No pair is known to have no way.
+    #[inline(always)]
+    pub(crate) fn is_blank(&self) -> bool
+        ensures { IsTrue result → (failed : plain.Pair → Bool) → HaveFailed self.now failed
+            → (p : plain.Pair) → failed p ≡ false }
+    {
+        self.failed.is_empty()
+    }
+
     /// Whether the pair of this stand may be known to have no way. Inside two loops that count it may, once any pair is.
     #[inline(always)]
     pub(crate) fn may_have_failed(&self, stand: Stand) -> bool

@@ -9,7 +9,8 @@ ghost use Rattle.fancy_plain.specs.Straight.{EndsStraight, Finds, IsStraight, Ru
 ghost use Rattle.fancy_plain.specs.Views.{IsReadBy};
 ghost use Rattle.fancy_plain.specs.Ways.{IsOfNodes};
 
-use crate::point::{CharTest, Point};
+use crate::counted_ways::Passed;
+use crate::point::{CharTest, Loop, Point};
 use crate::search::Task;
 use crate::table::PointTable;
 use fancy_characters::look::holds;
@@ -50,8 +51,8 @@ pub fn straight_end(
 }
 
 impl Task<'_> {
-    /// Ways seem to need no choice that is taken back: there are no groups and no loops that count, and what may be tried
-    /// at one place begins with other characters each.
+    /// Ways seem to need no choice that is taken back: there are no groups, loops that count are over one character,
+    /// and what may be tried at one place begins with other characters each.
     pub(crate) fn is_straight(&self) -> bool
         requires { IsTask self.now }
     {
@@ -59,7 +60,8 @@ impl Task<'_> {
             let is_straight = match self.points.get(at) {
                 Some(Point::Fork(first, second)) => self.are_apart(*first, *second),
                 Some(Point::Split(first, second)) => self.are_apart(*first, *second),
-                Some(Point::Open | Point::Close(_) | Point::Enter | Point::Head { .. }) => false,
+                Some(Point::Head { turns, after }) => self.is_alone(at, *turns, *after),
+                Some(Point::Open | Point::Close(_)) => false,
                 _ => true,
             };
             if !is_straight {
@@ -67,6 +69,27 @@ impl Task<'_> {
             }
         }
         true
+    }
+
+    /// The loop that counts with this head is over one character, and it takes so many and no more, or what comes
+    /// behind it begins with others.
+    fn is_alone(&self, head: usize, turns: Loop, after: usize) -> bool
+        requires { IsTask self.now }
+    {
+        self.counted_test(head, turns).is_some()
+            && (turns.lo == turns.hi || self.are_apart(head + 1, self.behind_joins(after)))
+    }
+
+    /// Behind the ends and the heads of loops that stand there, on into the last of these.
+    fn behind_joins(&self, at: usize) -> usize {
+        let mut next = at;
+        'joins: while let Some(Point::Join | Point::Enter | Point::Head { .. }) = self
+            .points
+            .get(next)
+        {
+            next += 1;
+        }
+        next
     }
 
     /// No character of ASCII passes the tests at two of these points and of the branches behind the second one.
@@ -173,8 +196,23 @@ impl Task<'_> {
                 }
                 Some(Point::Join) => {
                     at = head + 1;
-                    is_sure = false;
                     continue 'points;
+                }
+                Some(Point::Enter) => {
+                    match self.past_counted(alloc, head, place)? {
+                        Passed::Unknown => return Ok(Straight::Unknown),
+                        Passed::Fails => return Ok(without_a_way(is_sure)),
+                        Passed::On {
+                            at: after,
+                            place: end,
+                            is_sure: is_exact,
+                        } => {
+                            at = after;
+                            place = end;
+                            is_sure = are_both(is_sure, is_exact);
+                            continue 'points;
+                        }
+                    }
                 }
                 _ => return Ok(Straight::Unknown),
             }
@@ -254,15 +292,7 @@ impl Task<'_> {
         ensures on { RunsOn self.now test.now from result }
         ensures further { from ≤ result }
     {
-        let text = self.text.as_bytes();
-        let mut place = from;
-        'run: while place < text.len()
-            && text[place] < 128
-            && test.takes_ascii(self.unicode, text[place])
-        {
-            place += 1;
-        }
-        place
+        test.past_ascii(self.unicode, self.text.as_bytes(), from)
     }
 }
 

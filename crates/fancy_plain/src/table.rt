@@ -1,17 +1,20 @@
 //! Fragments: neighbouring easy nodes, laid out as points.
 
-ghost use Rattle.std.specs.Prelude.{◌≡◌, ◌<◌, ◌+◌, ℕ, List, Some, false, IfErr, IfOk, IsTrue, map, slice_get};
+ghost use Rattle.std.specs.Prelude.{◌≡◌, ◌<◌, ◌+◌, ℕ, List, Some, false, IfErr, IfOk, IfSome, IsTrue, map, slice_get};
 ghost use Rattle.fancy_info.specs.Infos.{info_tree};
 ghost use Rattle.fancy_expr.specs.Each.{Each};
 ghost use Rattle.fancy_meaning.specs.Options.{Analysis};
 ghost use Rattle.fancy_meaning.specs.Places.{is_place};
 ghost use Rattle.fancy_meaning.specs.Premises.{IsText};
 ghost use Rattle.fancy_plain.specs.Beginnings.{may_begin, AreBeginnings};
+ghost use Rattle.fancy_plain.specs.Needed.{AreNeeded};
 ghost use Rattle.fancy_plain.specs.Neighbours.{AreNeighbours, IsEasy};
 ghost use Rattle.fancy_plain.specs.Views.{point_of};
+ghost use Rattle.std.proofs.Props.{props};
 
 use crate::beginnings::{beginnings, may_begin};
 use crate::layout::Layout;
+use crate::needed::needed;
 use crate::pair_bits::PairBits;
 use crate::point::Point;
 use crate::search::Task;
@@ -30,7 +33,10 @@ pub struct PointTable {
     pub(crate) beginnings: Vec<[bool; 128]>,
     /// Whether ways seem to need no choice.
     pub(crate) is_straight: bool,
+    /// Bytes of which every way takes one, if some are known.
+    pub(crate) needed: Option<[bool; 256]>,
     ghost begin: { AreBeginnings unicode (map point_of points.items) beginnings.items },
+    ghost need: { IfSome needed (AreNeeded unicode (map point_of points.items)) } by { Prim.hlevel props },
 }
 
 impl PointTable {
@@ -60,6 +66,7 @@ impl PointTable {
         points.push(Point::Stop)?;
         let pair_bits = PairBits::of(&points);
         let beginnings = beginnings(alloc, &points, unicode)?;
+        let needed = needed(&points, unicode);
         let task = Task {
             points: &points,
             unicode,
@@ -72,6 +79,7 @@ impl PointTable {
             pair_bits,
             beginnings,
             is_straight,
+            needed,
         })
     }
 

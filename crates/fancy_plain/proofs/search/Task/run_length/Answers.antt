@@ -1,5 +1,5 @@
 use Rattle.std.proofs.Common.{sym, ◌∙◌, arith}
-use Rattle.fancy_plain.proofs.RunLaws.{may_pass_by, one_further}
+use Rattle.fancy_plain.proofs.RunLaws.{blank_run, may_pass_by, one_further}
 use Rattle.fancy_plain.proofs.search.Task.run_length.Goals as goal
 
 pub run-preserved : goal.run-preserved
@@ -17,3 +17,8 @@ run-preserved c =
 
 pub returns-clause-run : goal.returns-clause-run
 returns-clause-run c i from below = c.run.invariant.1 i from (let on = c.run.invariant.0 in omega (arith, on, below))
+
+pub returns-then-is_blank-clause-run : goal.returns-then-is_blank-clause-run
+returns-then-is_blank-clause-run c =
+    blank_run c.as_bytes-text.result.now c.args.self.now c.args.m.now c.args.test.now c.args.stand c.past_ascii.result
+    c.as_bytes-text.ensures.value c.past_ascii.ensures.pass c.past_ascii.ensures.further (c.is_blank.ensures c.if-is_blank.true)

@@ -1,11 +1,12 @@
-use Rattle.std.proofs.Common.{◌+◌, ◌&&◌, [], Some, true, false, length, refl, sym, ap, ◌∙◌, subst, if◌then◌else◌}
+use Rattle.std.proofs.Common.{◌+◌, ◌&&◌, Some, true, false, length, refl, sym, ap, ◌∙◌, subst, if◌then◌else◌}
 use Rattle.std.proofs.lemmas.Bool.{ltb-true}
 use Rattle.std.proofs.lemmas.Option.{slice_get_read}
 use Rattle.fancy_points.specs.PointSearch as plain
 use Rattle.fancy_plain.specs.declared.point.Point.TheVariants as point
+use Rattle.fancy_plain.specs.CountedWays.{ComesPast}
 use Rattle.fancy_plain.specs.Straight.{Walks, stand_at}
 use Rattle.fancy_plain.specs.Views.{IsPointReadBy}
-use Rattle.fancy_plain.proofs.StraightLaws.{both_sure, by_choice, chosen_at_head, chosen_of, ends, goes, lost, onward, stays, tries_first}
+use Rattle.fancy_plain.proofs.StraightLaws.{both_sure, by_choice, chosen_at_head, chosen_of, ends, finds_none, goes, lost, onward, stays, tries_only}
 use Rattle.fancy_plain.proofs.search.Task.walk.Goals as goal
 
 pub points-init : goal.points-init
@@ -141,7 +142,7 @@ points-preserved-in-Some-Fork c =
     let second = c.in-Some-Fork.second in
     let is_lost = c.fails_from.result in
     subst (λ i. Walks task false start (stand_at i place)) (sym c.chosen-at.ensures)
-    (by_choice task sure false start here (stand_at (if is_lost then second else first) place)
+    (by_choice task sure is_lost start here (stand_at (if is_lost then second else first) place)
     (onward task sure start (stand_at c.points.at place) here c.points.invariant (c.behind_jump-head.ensures.walks place))
     (chosen_at_head task head first second place is_lost there c.fails_from.ensures))
 
@@ -187,8 +188,8 @@ points-preserved-in-Some-Or c =
     (onward task sure start (stand_at c.points.at place) here c.points.invariant (c.behind_jump-head.ensures.walks place))
     (chosen_of task (point.Or first second) head first second place is_lost there refl c.fails_from-is_lost-in-Some-Or.ensures)))
 
-pub points-preserved : goal.points-preserved
-points-preserved c =
+pub points-preserved-in-Some-Join : goal.points-preserved-in-Some-Join
+points-preserved-in-Some-Join c =
     let task = c.args.self.now in
     let points = task.points.now in
     let head = c.behind_jump-head.result in
@@ -199,6 +200,40 @@ points-preserved c =
     let found = c.in-Some-Join.ensures.lookup in
     let there = slice_get_read points (length points) head c.in-Some-Join.field-0.now refl (ltb-true head (length points) (sym found.0)) found.1
     ∙ ap Some c.in-Some-Join.field-0-is in
-    by_choice task sure false start here (stand_at (head + 1) place)
+    onward task sure start here (stand_at (head + 1) place)
     (onward task sure start (stand_at c.points.at place) here c.points.invariant (c.behind_jump-head.ensures.walks place))
-    (tries_first task point.Join here there true (stand_at (head + 1) place) [] refl)
+    (tries_only task point.Join here there (stand_at (head + 1) place) refl)
+
+pub past_counted-requires-clause-at : goal.past_counted-requires-clause-at
+past_counted-requires-clause-at c =
+    let points = c.args.self.now.points.now in
+    let head = c.behind_jump-head.result in
+    let found = c.in-Some-Enter.ensures.lookup in
+    slice_get_read points (length points) head c.in-Some-Enter.field-0.now refl (ltb-true head (length points) (sym found.0)) found.1
+    ∙ ap Some c.in-Some-Enter.field-0-is
+
+pub returns-in-Fails : goal.returns-in-Fails
+returns-in-Fails c =
+    let task = c.args.self.now in
+    let place = c.points.place in
+    let here = stand_at c.behind_jump-head.result place in
+    c.without_a_way-in-Fails.ensures task c.args.ix
+    (λ sure.
+    finds_none task c.args.ix here
+    (onward task true (stand_at 0 c.args.ix) (stand_at c.points.at place) here
+    (subst (λ b. Walks task b (stand_at 0 c.args.ix) (stand_at c.points.at place)) sure c.points.invariant)
+    (c.behind_jump-head.ensures.walks place))
+    (subst (ComesPast task here) c.in-Fails.is c.in_ok-past_counted-in-Some-Enter.ensures))
+
+pub points-preserved : goal.points-preserved
+points-preserved c =
+    let task = c.args.self.now in
+    let place = c.points.place in
+    let sure = c.points.is_sure in
+    let start = stand_at 0 c.args.ix in
+    let here = stand_at c.behind_jump-head.result place in
+    let there = stand_at c.in-On.after c.in-On.end in
+    subst (λ b. Walks task b start there) (sym c.are_both-is_sure-in-On.ensures)
+    (both_sure task sure c.in-On.is_exact start here there
+    (onward task sure start (stand_at c.points.at place) here c.points.invariant (c.behind_jump-head.ensures.walks place))
+    (subst (ComesPast task here) c.in-On.is c.in_ok-past_counted-in-Some-Enter.ensures))

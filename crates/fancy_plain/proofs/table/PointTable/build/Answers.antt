@@ -26,6 +26,18 @@ beginnings-requires c = λ i p at.
     read_at (IsPointReadBy c.args.unicode) c.push.new.self.items i p reads
     (ap (λ l. slice_get l i) (sym c.deref-2.ensures.value) ∙ at)
 
+pub needed-needed-requires : goal.needed-needed-requires
+needed-needed-requires c = λ i p at.
+    let adds = c.in_ok-lay_each.ensures c.requires.0 c.requires.1 in
+    let t = c.lay_each.new.self in
+    let none = c.new-points.ensures.items in
+    let more = c.in_ok-push.ensures.items in
+    let reads = subst (Each (IsPointReadBy c.args.unicode)) (sym more)
+    (each_more (IsPointReadBy c.args.unicode) t.points.items code.Stop
+    (adds.added.reads (subst (Each (IsPointReadBy c.args.unicode)) (sym none) tt)) tt) in
+    read_at (IsPointReadBy c.args.unicode) c.push.new.self.items i p reads
+    (ap (λ l. slice_get l i) (sym c.deref-3.ensures.value) ∙ at)
+
 pub returns-clause-table : goal.returns-clause-table
 returns-clause-table c = λ a each fine.
     let infos = c.args.infos.now in
@@ -56,4 +68,4 @@ is_straight-is_straight-requires c = λ i p at.
     (each_more (IsPointReadBy c.args.unicode) t.points.items code.Stop
     (adds.added.reads (subst (Each (IsPointReadBy c.args.unicode)) (sym none) tt)) tt) in
     read_at (IsPointReadBy c.args.unicode) c.push.new.self.items i p reads
-    (ap (λ l. slice_get l i) (sym c.deref-3.ensures.value) ∙ at)
+    (ap (λ l. slice_get l i) (sym c.deref-4.ensures.value) ∙ at)

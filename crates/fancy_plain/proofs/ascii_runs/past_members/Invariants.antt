@@ -1,0 +1,11 @@
+use Rattle.std.proofs.Common.{◌≤◌, ◌-◌, length}
+use Rattle.fancy_meaning.specs.Machine.{class_test}
+use Rattle.fancy_characters.specs.Classes.{class_of}
+use Rattle.fancy_plain.specs.AsciiRuns.{AllPass}
+use Rattle.fancy_plain.proofs.ascii_runs.past_members.Given as goal
+
+abbrev pub invariant-run : goal.invariant-run
+invariant-run l = AllPass (class_test (class_of l.class)) l.text l.from l.at × (l.from ≤ l.at)
+
+abbrev pub decreases-run : goal.decreases-run
+decreases-run l = length l.text - l.at

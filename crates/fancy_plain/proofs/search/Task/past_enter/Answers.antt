@@ -1,0 +1,40 @@
+use Rattle.std.proofs.Common.{◌+◌, Some, length, leb-true, refl, sym, ap, ◌∙◌, arith}
+use Rattle.std.proofs.lemmas.Bool.{ltb-true}
+use Rattle.std.proofs.lemmas.Option.{slice_get_read}
+use Rattle.fancy_plain.proofs.RunLaws.{body_read}
+use Rattle.fancy_plain.proofs.CountedLaws.{comes_past, falls_short}
+use Rattle.fancy_plain.proofs.search.Task.past_enter.Goals as goal
+use Rattle.fancy_plain.proofs.search.Task.past_enter.Goals.{else-left-gt0-via-then-left-gt0+else-count-turns, else-left-gt0-via-else-left-gt0}
+
+pub past_at_most-requires : goal.past_at_most-requires
+past_at_most-requires c = body_read c.args.self.now (c.args.enter + 1) (c.args.enter + 1 + 1) c.in-Some.test.now c.requires.task c.in-Some.ensures.body
+
+pub returns-then-count-turns : goal.returns-then-count-turns
+returns-then-count-turns c =
+    let task = c.args.self.now in
+    let points = task.points.now in
+    let head = c.args.enter + 1 in
+    let found = c.in-Some-Head.ensures.lookup in
+    let there = slice_get_read points (length points) head c.in-Some-Head.field-0.now refl (ltb-true head (length points) (sym found.0)) found.1
+    ∙ ap Some c.in-Some-Head.field-0-is in
+    falls_short task c.in-Some-Head.turns head c.in-Some-Head.after c.in-Some.test.now there c.in-Some.ensures.body c.in-Some.ensures.greedy
+    c.in-Some.ensures.asks c.args.enter c.requires.at refl c.args.place c.in_ok-end.end c.in_ok-end.left c.in_ok-end.ensures
+    c.if-left-gt0.true c.if-count-turns.true
+
+pub returns : goal.returns
+returns c =
+    let task = c.args.self.now in
+    let points = task.points.now in
+    let turns = c.in-Some-Head.turns in
+    let head = c.args.enter + 1 in
+    let found = c.in-Some-Head.ensures.lookup in
+    let there = slice_get_read points (length points) head c.in-Some-Head.field-0.now refl (ltb-true head (length points) (sym found.0)) found.1
+    ∙ ap Some c.in-Some-Head.field-0-is in
+    comes_past task turns head c.in-Some-Head.after c.in-Some.test.now there c.in-Some.ensures.body c.in-Some.ensures.greedy
+    c.in-Some.ensures.asks c.args.enter c.requires.at refl c.args.place c.in_ok-end.end c.in_ok-end.left c.in_ok-end.ensures _
+    (leb-true _ turns.lo)
+    (elim c.else-left-gt0.branch [
+      | else-left-gt0-via-then-left-gt0+else-count-turns w ↦ λ some. w.if-count-turns.false
+      | else-left-gt0-via-else-left-gt0 w ↦ λ some. let none = w.if-left-gt0.false in omega (arith, none, some)
+    ])
+    (omega arith) (omega arith)

@@ -1,0 +1,29 @@
+-- Loops that count over one character, where no choice in them is taken back.
+use Rattle.std.specs.Prelude.{◌≡◌, ◌≤◌, ◌<◌, ◌-◌, ℕ, zero, suc, Some}
+use Rattle.fancy_meaning.specs.Moves.{past_char}
+use Rattle.fancy_points.specs.PointSearch.{Stand, passes}
+use Rattle.fancy_plain.specs.declared.counted_ways.Passed.{Passed}
+use Rattle.fancy_plain.specs.declared.counted_ways.Passed.TheVariants as passed
+use Rattle.fancy_plain.specs.declared.point.CharTest.{CharTest}
+use Rattle.fancy_plain.specs.declared.search.Task.{Task}
+use Rattle.fancy_plain.specs.Runs.{Refuses}
+use Rattle.fancy_plain.specs.Straight.{Loses, Walks, stand_at}
+use Rattle.fancy_plain.specs.Views.{test_of}
+
+-- so many characters that pass stand between these places
+abbrev pub PassesSome : Task → CharTest → (count : ℕ) → (from to : ℕ) → Type 0
+PassesSome t test zero from to = from ≡ to
+PassesSome t test (suc n) from to =
+    (i : ℕ) × (PassesSome t test n from i
+    × (past_char (t.text).now (passes (t.text).now t.unicode (test_of test)) i ≡ Some to))
+
+-- the characters that pass end there, or these are as many as may be, so many less than that
+abbrev pub PassesMost : Task → CharTest → (most : ℕ) → (from to left : ℕ) → Type 0
+PassesMost t test most from to left =
+    (left ≤ most) × PassesSome t test (most - left) from to × (0 < left → Refuses t test to)
+
+-- what a search that knows of no pair comes to from the stand
+abbrev pub ComesPast : Task → (from : Stand) → Passed → Type 0
+ComesPast t from (passed.On at place is_sure) = Walks t is_sure from (stand_at at place)
+ComesPast t from passed.Fails = Loses t from
+ComesPast t from passed.Unknown = Unit {0}

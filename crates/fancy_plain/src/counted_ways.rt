@@ -1,0 +1,149 @@
+//! Loops that count over one character, where no choice in them is taken back.
+
+ghost use Rattle.std.specs.Prelude.{◌≡◌, ◌≤◌, ◌+◌, ◌-◌, false, true, IfOk, IfSome, Some, slice_get};
+ghost use Rattle.fancy_plain.specs.declared.point.Point.TheVariants as point;
+ghost use Rattle.fancy_plain.specs.CountedWays.{ComesPast, PassesMost, PassesSome};
+ghost use Rattle.fancy_plain.specs.Runs.{IsBody};
+ghost use Rattle.fancy_plain.specs.Searches.{IsTask};
+ghost use Rattle.fancy_plain.specs.Straight.{stand_at};
+ghost use Rattle.fancy_plain.specs.Views.{IsReadBy};
+
+use crate::point::{CharTest, Loop, Point};
+use crate::search::Task;
+use std::alloc::{AllocError, Global};
+
+/// What a loop comes to.
+#[derive(Clone, Copy)]
+pub(crate) enum Passed {
+    /// On at this point and place. That is sure where it took no more characters than it has to.
+    On {
+        at: usize,
+        place: usize,
+        is_sure: bool,
+    },
+    /// Too few characters pass.
+    Fails,
+    /// It is another kind of loop.
+    Unknown,
+}
+
+impl Task<'_> {
+    /// The test of the loop that counts with this head, where it is over one character, goes on first, and asks no
+    /// iteration whether it moves.
+    pub(crate) fn counted_test(&self, head: usize, turns: Loop) -> Option<&CharTest>
+        ensures body { IfSome result (λ test. IsBody self.now.points.now head (head + 1) test.now) }
+        ensures greedy { IfSome result (λ _. turns.greedy ≡ true) }
+        ensures asks { IfSome result (λ _. turns.asks_moved ≡ false) }
+    {
+        if !turns.greedy || turns.asks_moved {
+            return None;
+        }
+        self.body_at(head.checked_add(1)?, head)
+    }
+
+    /// Past the loop that begins here, where it is such a loop.
+    #[inline(always)]
+    pub(crate) fn past_counted(
+        &self,
+        alloc: Global,
+        enter: usize,
+        place: usize,
+    ) -> Result<Passed, AllocError>
+        requires task { IsTask self.now }
+        requires at { slice_get self.now.points.now enter ≡ Some point.Enter }
+        ensures { IfOk result (ComesPast self.now (stand_at enter place)) }
+    {
+        let task = Task { ..*self };
+        task.past_enter(alloc, enter, place)
+    }
+
+    /// The same out of line.
+    #[inline(never)]
+    fn past_enter(&self, alloc: Global, enter: usize, place: usize) -> Result<Passed, AllocError>
+        requires task { IsTask self.now }
+        requires at { slice_get self.now.points.now enter ≡ Some point.Enter }
+        ensures { IfOk result (ComesPast self.now (stand_at enter place)) }
+    {
+        let head = enter + 1;
+        let Some(Point::Head { turns, after }) = self.points.get(head) else {
+            return Ok(Passed::Unknown);
+        };
+        let Some(test) = self.counted_test(head, *turns) else {
+            return Ok(Passed::Unknown);
+        };
+        let (end, left) = self.past_at_most(alloc, test, place, turns.hi)?;
+        let count = turns.hi - left;
+        if left > 0 && count < turns.lo {
+            return Ok(Passed::Fails);
+        }
+        Ok(Passed::On {
+            at: *after,
+            place: end,
+            is_sure: count <= turns.lo,
+        })
+    }
+
+    /// Past at most so many characters from this place on that pass the test, and how many less these were.
+    #[inline(always)]
+    fn past_at_most(
+        &self,
+        alloc: Global,
+        test: &CharTest,
+        from: usize,
+        most: usize,
+    ) -> Result<(usize, usize), AllocError>
+        requires { IsReadBy self.now.unicode test.now }
+        ensures { IfOk result (λ to. PassesMost self.now test.now most from to.0 to.1) }
+    {
+        let mut place = self.past_ascii_within(test, from, most);
+        let mut left = most - (place - from);
+        'run: while left > 0 {
+            let Some(next) = test.past(alloc, self.unicode, self.text, place)? else {
+                return Ok((place, left));
+            };
+            place = self.past_ascii_within(test, next, left - 1);
+            left = left - 1 - (place - next);
+        }
+        Ok((place, left))
+    }
+
+    /// Past at most so many characters of ASCII from this place on that pass the test.
+    #[inline(always)]
+    fn past_ascii_within(&self, test: &CharTest, from: usize, most: usize) -> usize
+        requires { IsReadBy self.now.unicode test.now }
+        ensures some { PassesSome self.now test.now (result - from) from result }
+        ensures further { from ≤ result }
+        ensures within { result ≤ from + most }
+    {
+        match test {
+            CharTest::Any { newline, crlf } => {
+                let any = CharTest::Any {
+                    newline: *newline,
+                    crlf: *crlf,
+                };
+                self.past_ascii_by(&any, from, most)
+            }
+            _ => self.past_ascii_by(test, from, most),
+        }
+    }
+
+    /// The same, where it helps to know which test it is.
+    #[inline(always)]
+    fn past_ascii_by(&self, test: &CharTest, from: usize, most: usize) -> usize
+        requires { IsReadBy self.now.unicode test.now }
+        ensures some { PassesSome self.now test.now (result - from) from result }
+        ensures further { from ≤ result }
+        ensures within { result ≤ from + most }
+    {
+        let text = self.text.as_bytes();
+        let end = text.len().min(from.saturating_add(most));
+        let mut place = from;
+        'run: while place < end
+            && text[place] < 128
+            && test.takes_ascii(self.unicode, text[place])
+        {
+            place += 1;
+        }
+        place
+    }
+}
