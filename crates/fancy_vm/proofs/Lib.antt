@@ -19,3 +19,4 @@ pub mod MemosLaws
 pub mod PlacesLaws
 pub mod PairsLaws
 pub mod WholeLaws
+pub mod DirectLaws

@@ -16,3 +16,4 @@ pub mod Means
 pub mod Walks
 pub mod WalkSteps
 pub mod Wholes
+pub mod Directs

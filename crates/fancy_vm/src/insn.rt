@@ -149,6 +149,8 @@ pub struct Prog {
     pub(crate) beginning: Option<Beginning>,
     /// Whether its runs are likely to need no machine.
     pub(crate) is_whole: bool,
+    /// Its attempts seem to hold one branch at most, and to set no group.
+    pub(crate) is_direct: bool,
     ghost fits: { IsTrue (program_fits (prog_with body.items parts)) },
     ghost begins: { ForSome beginning (IsBeginningOf (map insn_of body.items)) },
 }

@@ -5,6 +5,7 @@ mod attempt;
 mod beginning;
 mod blocks;
 mod delegates;
+mod direct;
 mod insn;
 mod lazy;
 mod limits;

@@ -7,6 +7,7 @@ ghost use Rattle.fancy_vm.specs.Insns.{insn_of, prog_with};
 ghost use Rattle.fancy_vm.specs.Programs.{prog_of};
 
 use crate::beginning::Beginning;
+use crate::direct::is_direct;
 use crate::insn::{Insn, Prog, ProgParts};
 use crate::threads::{crosses_threads, is_shared_by_threads};
 use crate::whole::is_whole;
@@ -24,11 +25,13 @@ impl Prog {
         is_shared_by_threads::<Prog>();
         let beginning = Beginning::of(&body);
         let is_whole = is_whole(&body);
+        let is_direct = !is_whole && is_direct(&body);
         Prog {
             body,
             parts,
             beginning,
             is_whole,
+            is_direct,
         }
     }
 
