@@ -1,15 +1,15 @@
 //! A class with its answers for ASCII, and its other characters: listed where its pattern is one set, else asked of `regex`.
 
-ghost use Rattle.std.specs.Prelude.{◌≡◌, ℕ, ◌<◌, ◌++◌, false, is_some, slice_index_or, encode_utf8, string_bytes, IfOk, IfErr, IsTrue};
+ghost use Rattle.std.specs.Prelude.{◌≡◌, ℕ, ◌<◌, ◌++◌, ◌||◌, false, is_some, slice_index_or, encode_utf8, string_bytes, IfOk, IfErr, IsTrue};
 ghost use Rattle.regex.specs.Patterns.{find_str};
 ghost use Rattle.regex.specs.Strings.{regex_pattern, matcher_pattern};
-ghost use Rattle.regex_class.specs.Ranges.{in_ranges};
+ghost use Rattle.regex_class.specs.Ranges.{in_range, in_ranges};
 ghost use Rattle.fancy_meaning.specs.Chars as meant;
 
 use crate::members::members;
 use fancy_expr::error::{CompileError, Error};
 use regex::{Matcher, Regex};
-use regex_class::Class;
+use regex_class::{Class, ClassRange};
 use regex_syntax::ErrorKind;
 use std::alloc::{AllocError, Global};
 use std::marker::Model;
@@ -150,10 +150,23 @@ fn ascii_members(members: &Class) -> [bool; 128]
         slice_index_or result c false ≡ in_ranges members.now.ranges.items c }
 {
     let mut answers = [false; 128];
-    'list: for c in 0..128u8 {
-        answers[c as usize] = members.contains(c as u32);
+    'list: for range in members.ranges.iter() {
+        if range.0 >= 128 {
+            break;
+        }
+        say_yes(&mut answers, *range);
     }
     answers
+}
+
+/// Says yes to the ASCII characters of the range.
+fn say_yes(answers: &mut [bool; 128], range: ClassRange)
+    ensures { (c : ℕ) → c < 128 → slice_index_or answers.new c false
+        ≡ (slice_index_or answers.old c false || in_range range c) }
+{
+    'fill: for c in range.0..range.1.min(127) + 1 {
+        answers[c as usize] = true;
+    }
 }
 
 /// What the regex answers for each ASCII character.
