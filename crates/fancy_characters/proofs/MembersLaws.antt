@@ -160,15 +160,13 @@ module _ (c : ℕ) (scalar : IsScalar c) where
   most : c ≤ 0x10_FFFF
   most = grind (arith, nat_tests, scalar)
 
-pub set_has_members : (set : Hir) (class : Class) → set ≡ Chars class → (ranges : List Range) → HasExactly ranges (in_ranges class.ranges.items) →
-    AreMembersOf (whole (meaning set)) ranges
-set_has_members set class is ranges exactly c scalar =
-    exactly c (most c scalar) ∙ set_lists c scalar class.ranges.items
+pub set_has_members : (set : Hir) (class : Class) → set ≡ Chars class → AreMembersOf (whole (meaning set)) class.ranges.items
+set_has_members set class is c scalar =
+    set_lists c scalar class.ranges.items
     ∙ ap (λ re. is_some (find_str (whole re) (encode_utf8 c) 0)) (sym (ap meaning is ∙ meaning-Chars class))
 
-pub bytes_have_members : (bytes : List Range) → ((b : ℕ) → in_ranges bytes b ≡ true → b ≤ 127) → (ranges : List Range) →
-    HasExactly ranges (in_ranges bytes) → AreMembersOf (whole (byte_in bytes)) ranges
-bytes_have_members bytes ascii ranges exactly c scalar = exactly c (most c scalar) ∙ bytes_list c scalar bytes ascii
+pub bytes_have_members : (bytes : List Range) → ((b : ℕ) → in_ranges bytes b ≡ true → b ≤ 127) → AreMembersOf (whole (byte_in bytes)) bytes
+bytes_have_members bytes ascii c scalar = bytes_list c scalar bytes ascii
 
 pub spelled_is_member : {E : Type 0} (bytes : List ℕ) (d : ℕ) → char_at bytes 0 ≡ Some d → len_utf8 d ≡ length bytes → (made : Result Class E) →
     IfOk made (λ class. HasExactly class.ranges.items (in_ranges ((d, d) ∷ []))) → IfOk made (λ class. AreMembersOf (whole (literal bytes)) class.ranges.items)

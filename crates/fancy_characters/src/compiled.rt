@@ -1,6 +1,6 @@
 //! A class with its answers for ASCII, and its other characters: listed where its pattern is one set, else asked of `regex`.
 
-ghost use Rattle.std.specs.Prelude.{◌≡◌, ℕ, ◌<◌, ◌++◌, ◌||◌, false, is_some, slice_index_or, encode_utf8, string_bytes, IfOk, IfErr, IsTrue};
+ghost use Rattle.std.specs.Prelude.{◌≡◌, ℕ, ◌<◌, ◌≤◌, ◌++◌, ◌||◌, false, is_some, slice_index_or, length, encode_utf8, string_bytes, IfOk, IfErr, IsTrue};
 ghost use Rattle.regex.specs.Patterns.{find_str};
 ghost use Rattle.regex.specs.Strings.{regex_pattern, matcher_pattern};
 ghost use Rattle.regex_class.specs.Ranges.{in_range, in_ranges};
@@ -127,15 +127,19 @@ fn class_pattern(
 ) -> Result<String, AllocError>
     ensures { IfOk result (λ p. string_bytes p ≡ meant.class_pattern unicode name.now casei) }
 {
-    let mut pattern = String::from_str(alloc, "\\A")?;
-    pattern.push_str(opening(casei, unicode))?;
+    let opening = opening(casei, unicode);
+    // The text's start, and the parenthesis with the text's end, are five bytes.
+    let mut pattern = String::with_capacity(alloc, opening.len() + name.len() + 5)?;
+    pattern.push_str("\\A")?;
+    pattern.push_str(opening)?;
     pattern.push_str(name)?;
     pattern.push_str(")\\z")?;
     Ok(pattern)
 }
 
 fn opening(casei: bool, unicode: bool) -> &'static str
-    ensures { result.now ≡ meant.class_opening unicode casei }
+    ensures opening { result.now ≡ meant.class_opening unicode casei }
+    ensures short { length result.now ≤ 7 }
 {
     if unicode {
         if casei { "(?i:" } else { "(?:" }

@@ -24,7 +24,7 @@ pub(crate) fn members(alloc: Global, pattern: &str) -> Result<Option<Class>, Err
     ensures refused { IfErr result (Refuses default_config pattern.now) }
 {
     match parse(alloc, pattern, &Config::default()) {
-        Ok(parsed) => match between_ends(alloc, &parsed.hir) {
+        Ok(parsed) => match between_ends(alloc, parsed.hir) {
             Ok(found) => Ok(found),
             Err(_) => Err(ErrorKind::OutOfMemory),
         },
@@ -33,43 +33,44 @@ pub(crate) fn members(alloc: Global, pattern: &str) -> Result<Option<Class>, Err
 }
 
 /// The members of the set that stands between the start and the end of the text.
-fn between_ends(alloc: Global, hir: &Hir) -> Result<Option<Class>, AllocError>
+fn between_ends(alloc: Global, hir: Hir) -> Result<Option<Class>, AllocError>
     ensures { IfOk result
-        (λ found. IfSome found (λ class. AreMembersOf (meaning hir.now) class.ranges.items)) }
+        (λ found. IfSome found (λ class. AreMembersOf (meaning hir) class.ranges.items)) }
 {
     let Hir::Concat(parts) = hir else {
         return Ok(None);
     };
-    match parts.as_slice() {
-        [Hir::Look(Look::Start), set, Hir::Look(Look::End)] => set_members(alloc, set),
+    let mut parts = parts.into_iter();
+    match (parts.next(), parts.next(), parts.next(), parts.next()) {
+        (Some(Hir::Look(Look::Start)), Some(set), Some(Hir::Look(Look::End)), None) => {
+            set_members(alloc, set)
+        }
         _ => Ok(None),
     }
 }
 
-fn set_members(alloc: Global, set: &Hir) -> Result<Option<Class>, AllocError>
+fn set_members(alloc: Global, set: Hir) -> Result<Option<Class>, AllocError>
     ensures { IfOk result
         (λ found. IfSome found
-        (λ class. AreMembersOf (whole (meaning set.now)) class.ranges.items)) }
+        (λ class. AreMembersOf (whole (meaning set)) class.ranges.items)) }
 {
     match set {
-        Hir::Chars(class) => Ok(Some(Class::from_ranges(alloc, &class.ranges)?)),
-        Hir::Bytes(class) => byte_members(alloc, class),
-        Hir::Literal(bytes) => Ok(Some(spelled_member(alloc, bytes)?)),
+        Hir::Chars(class) => Ok(Some(class)),
+        Hir::Bytes(class) => Ok(byte_members(class)),
+        Hir::Literal(bytes) => Ok(Some(spelled_member(alloc, &bytes)?)),
         _ => Ok(None),
     }
 }
 
 /// The characters of one byte of the class, if it has no byte that is none.
-fn byte_members(alloc: Global, class: &Class) -> Result<Option<Class>, AllocError>
-    ensures { IfOk result
-        (λ found. IfSome found
-        (λ members. AreMembersOf
-        (whole (matched.byte_in class.now.ranges.items)) members.ranges.items)) }
+fn byte_members(class: Class) -> Option<Class>
+    ensures { IfSome result (λ members. AreMembersOf
+        (whole (matched.byte_in class.ranges.items)) members.ranges.items) }
 {
     if class.is_within(0x7F) {
-        Ok(Some(Class::from_ranges(alloc, &class.ranges)?))
+        Some(class)
     } else {
-        Ok(None)
+        None
     }
 }
 
