@@ -1,26 +1,29 @@
 -- A set between the ends of the text matches a character exactly where the set alone takes all its bytes.
-use Rattle.std.proofs.Common.{◌≡◌, ℕ, zero, suc, ◌+◌, ◌≤◌, ◌<◌, slice_get, Bool, true, false, List, [], ◌∷◌, ◌++◌, length, refl, sym, ap, ◌∙◌, subst, arith, Option, Some, None, Result, Ok, Err, is_some, encode_utf8, inl, inr, append-nil, drop_of_length-le, ◌≢◌, true≢false}
-use Rattle.std.proofs.lemmas.Bool.{cases_lt}
+use Rattle.std.proofs.Common.{◌||◌, ⊎_elim, ap₂, map, Box, Global, ◌≡◌, ℕ, zero, suc, ◌+◌, ◌≤◌, ◌<◌, slice_get, Bool, true, false, List, [], ◌∷◌, ◌++◌, length, refl, sym, ap, ◌∙◌, subst, arith, Option, Some, None, Result, Ok, Err, is_some, encode_utf8, inl, inr, append-nil, drop_of_length-le, ◌≢◌, true≢false}
+use Rattle.std.proofs.lemmas.Bool.{cases_lt, or_cases, or_left, or_right}
+use Rattle.std.proofs.lemmas.List.{map_push}
 use Rattle.std.proofs.lemmas.Bool.Decides.{nat_tests}
 use Rattle.std.proofs.lemmas.Option.{slice_get_past, slice_get-get_or, same_Some}
 use Rattle.std.proofs.lemmas.Str.{encode_ascii, IsUtf8-encode, IsCharBoundary-start, length-encode}
 use Rattle.std.specs.Char.{IsScalar, len_utf8}
+use Rattle.std.specs.Option.{IfSome}
 use Rattle.std.specs.Result.{IfOk}
 use Rattle.regex_class.specs.Ranges.{Range, in_range, in_ranges, HasExactly}
 use Rattle.regex_class.specs.declared.Class.{Class}
+use Rattle.regex_class.proofs.RangesLemmas.{in_ranges-append, or_assoc, or-false}
 use Rattle.regex_hir.specs.Find.{find_str}
 use Rattle.regex_hir.specs.Looks.{holds, holds_between}
 use Rattle.regex_hir.specs.Matches.{Matches}
-use Rattle.regex_hir.specs.Meaning.{meaning}
+use Rattle.regex_hir.specs.Meaning.{meaning, alt_all}
 use Rattle.regex_hir.specs.declared.hir.Hir.{Hir}
-use Rattle.regex_hir.specs.declared.hir.Hir.TheVariants.{Chars}
-use Rattle.regex_hir.specs.Re.{Re, accept, literal, byte_in, char_in}
+use Rattle.regex_hir.specs.declared.hir.Hir.TheVariants.{Chars, Capture}
+use Rattle.regex_hir.specs.Re.{Re, accept, literal, byte_in, char_in, alt, group}
 use Rattle.regex_hir.specs.Text.{is_boundary, char_at, byte_before}
 use Rattle.regex_hir.specs.declared.look.Look.TheVariants.{Start, End}
 use Rattle.regex_hir.proofs.AttemptLemmas.{attempt_sound, attempt_complete, cond_some}
 use Rattle.regex_hir.proofs.FindLemmas.{first_between_here, IsFirst-of_first_between}
 use Rattle.regex_hir.proofs.MatchesLemmas.{Matches-IsSpan}
-use Rattle.regex_hir.proofs.MeaningLemmas.{meaning-Chars}
+use Rattle.regex_hir.proofs.MeaningLemmas.{meaning-Chars, meaning-Capture}
 use Rattle.regex_hir.proofs.OptionLemmas.{value_of_IsSome}
 use Rattle.regex_hir.proofs.TextLemmas.{byte_before-add-one, char_at_from, char_at_parts, has_bytes_at_parts, has_bytes_at_from}
 use Rattle.regex.proofs.Utf8Lemmas.{test_of_IsCharBoundary}
@@ -154,6 +157,36 @@ module _ (c : ℕ) (scalar : IsScalar c) where
       tests (literal bytes) false (λ h. absurd (true≢false (sym h)))
       (λ m. let same = all_bytes bytes m in absurd (other c (first_of bytes same) (sym (length-encode c) ∙ ap length same)))
 
+-- ---- a group, and one of several
+
+module _ (c : ℕ) (scalar : IsScalar c) where
+  -- whether the pattern takes all bytes of the character
+  abbrev takes : Re → Bool
+  takes re = is_some (find_str (whole re) (encode_utf8 c) 0)
+
+  in_group : (index : ℕ) (re : Re) → takes re ≡ takes (group index re)
+  in_group index re =
+      tests c scalar (group index re) (takes re) (whole_found (encode_utf8 c) re) (found_whole (encode_utf8 c) re (boundary c scalar))
+
+  in_either : (a b : Re) → (takes a || takes b) ≡ takes (alt a b)
+  in_either a b =
+      tests c scalar (alt a b) (takes a || takes b)
+      (λ h. ⊎_elim (λ left. inl (whole_found (encode_utf8 c) a left)) (λ right. inr (whole_found (encode_utf8 c) b right)) (or_cases (takes a) (takes b) h))
+      (λ m. ⊎_elim (λ left. or_left (takes a) (takes b) (found_whole (encode_utf8 c) a (boundary c scalar) left))
+      (λ right. or_right (takes a) (takes b) (found_whole (encode_utf8 c) b (boundary c scalar) right)) m)
+
+  in_none : false ≡ takes (alt_all [])
+  unfolding in_ranges
+  in_none = bytes_list c scalar [] (λ b h. absurd (true≢false (sym h)))
+
+  in_last : (front : List Re) (re : Re) → (takes (alt_all front) || takes re) ≡ takes (alt_all (front ++ re ∷ []))
+  in_last [] re =
+      ap (λ b. b || takes re) (sym in_none) ∙ sym (or-false (takes re)) ∙ ap (λ b. takes re || b) in_none ∙ in_either re (alt_all [])
+  in_last (a ∷ front) re =
+      ap (λ b. b || takes re) (sym (in_either a (alt_all front)))
+      ∙ sym (or_assoc (takes a) (takes (alt_all front)) (takes re))
+      ∙ ap (λ b. takes a || b) (in_last front re) ∙ in_either a (alt_all (front ++ re ∷ []))
+
 -- ---- what the functions ensure
 
 module _ (c : ℕ) (scalar : IsScalar c) where
@@ -177,3 +210,30 @@ pub others_have_no_members : (bytes : List ℕ) → ((d : ℕ) → char_at bytes
     AreMembersOf (whole (literal bytes)) ranges
 unfolding in_ranges
 others_have_no_members bytes other ranges none c scalar = ap (λ rs. in_ranges rs c) none ∙ others_list_none c scalar bytes other
+
+-- the result is that of the pattern
+abbrev pub MadeOf : {E : Type 0} → Re → Result (Option Class) E → Type 0
+MadeOf re made = IfOk made (λ found. IfSome found (λ class. AreMembersOf (whole re) class.ranges.items))
+
+pub group_has_members : {E : Type 0} (set : Hir) (index : ℕ) (sub : Box Hir Global) → set ≡ Capture index sub → (inner : Hir) → inner ≡ sub.value →
+    (made : Result (Option Class) E) → MadeOf (meaning inner) made → MadeOf (meaning set) made
+group_has_members set index sub is inner same (Ok (Some class)) of =
+    λ c scalar. of c scalar ∙ in_group c scalar index (meaning inner)
+    ∙ ap (λ re. is_some (find_str (whole re) (encode_utf8 c) 0))
+    (ap (λ h. group index (meaning h)) same ∙ sym (ap meaning is ∙ meaning-Capture index sub))
+group_has_members set index sub is inner same (Ok None) of = of
+group_has_members set index sub is inner same (Err e) of = of
+
+pub none_have_no_members : AreMembersOf (whole (alt_all [])) []
+unfolding in_ranges
+none_have_no_members c scalar = in_none c scalar
+
+pub one_more_has_members : (sets : List Hir) (set : Hir) (ranges more : List Range) → AreMembersOf (whole (alt_all (map meaning sets))) ranges →
+    AreMembersOf (whole (meaning set)) more → AreMembersOf (whole (alt_all (map meaning (sets ++ set ∷ [])))) (ranges ++ more)
+one_more_has_members sets set ranges more before here c scalar =
+    in_ranges-append ranges more c ∙ ap₂ ◌||◌ (before c scalar) (here c scalar) ∙ in_last c scalar (map meaning sets) (meaning set)
+    ∙ ap (λ res. is_some (find_str (whole (alt_all res)) (encode_utf8 c) 0)) (sym (map_push meaning sets set))
+
+pub any_have_members : (sets : List Hir) (ranges : List Range) → AreMembersOf (whole (alt_all (map meaning sets))) ranges → (class : Class) →
+    HasExactly class.ranges.items (in_ranges ranges) → AreMembersOf (whole (alt_all (map meaning sets))) class.ranges.items
+any_have_members sets ranges of class exactly c scalar = exactly c (most c scalar) ∙ of c scalar

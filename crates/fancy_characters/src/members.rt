@@ -1,8 +1,8 @@
 //! The members of a class as ranges, read once from its pattern.
 
-ghost use Rattle.std.specs.Prelude.{IfOk, IfErr, IfSome};
+ghost use Rattle.std.specs.Prelude.{map, IfOk, IfErr, IfSome};
 ghost use Rattle.regex.specs.Failures.{IsPattern};
-ghost use Rattle.regex_hir.specs.Meaning.{meaning};
+ghost use Rattle.regex_hir.specs.Meaning.{meaning, alt_all};
 ghost use Rattle.regex_hir.specs.Re as matched;
 ghost use Rattle.regex_syntax.specs.Verdict.{default_config, Refuses};
 ghost use Rattle.fancy_meaning.specs.Chars.{pattern_in};
@@ -49,6 +49,8 @@ fn between_ends(alloc: Global, hir: Hir) -> Result<Option<Class>, AllocError>
     }
 }
 
+/// The members of a set, of the set that a group stands around, or of any of several sets.
+#[cycle(set_members)]
 fn set_members(alloc: Global, set: Hir) -> Result<Option<Class>, AllocError>
     ensures { IfOk result
         (λ found. IfSome found
@@ -58,8 +60,27 @@ fn set_members(alloc: Global, set: Hir) -> Result<Option<Class>, AllocError>
         Hir::Chars(class) => Ok(Some(class)),
         Hir::Bytes(class) => Ok(byte_members(class)),
         Hir::Literal(bytes) => Ok(Some(spelled_member(alloc, &bytes)?)),
+        Hir::Capture { sub, .. } => set_members(alloc, Box::into_inner(sub)),
+        Hir::Alternation(sets) => members_of_any(alloc, sets),
         _ => Ok(None),
     }
+}
+
+/// The members of all the sets together, if each is one.
+#[cycle(set_members)]
+fn members_of_any(alloc: Global, sets: Vec<Hir>) -> Result<Option<Class>, AllocError>
+    ensures { IfOk result
+        (λ found. IfSome found
+        (λ class. AreMembersOf (whole (alt_all (map meaning sets.items))) class.ranges.items)) }
+{
+    let mut ranges = Vec::new(alloc);
+    'sets: for set in sets {
+        match set_members(alloc, set)? {
+            Some(members) => ranges.extend_from_slice(&members.ranges)?,
+            None => return Ok(None),
+        }
+    }
+    Ok(Some(Class::new(ranges)?))
 }
 
 /// The characters of one byte of the class, if it has no byte that is none.
