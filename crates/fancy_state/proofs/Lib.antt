@@ -1,3 +1,4 @@
+pub mod LogLaws
 pub mod OldLaws
 pub mod CellLaws
 pub mod HeldLaws

@@ -1,4 +1,5 @@
 pub mod Held
+pub mod LogView
 pub mod OldValues
 pub mod CellsView
 pub mod View
