@@ -89,10 +89,10 @@ fn past_other(
     ensures { IfOk result
         (λ to. to ≡ moves.past_char text.now (class_test (class_of class.now)) ix) }
 {
-    match class.match_len(alloc, text, ix) {
-        Ok(None) => Ok(None),
-        Ok(Some(len)) => Ok(Some(ix + len)),
-        Err(_) => Err(AllocError),
+    match class.match_len(alloc, text, ix).ok() {
+        None => Err(AllocError),
+        Some(None) => Ok(None),
+        Some(Some(len)) => Ok(Some(ix + len)),
     }
 }
 

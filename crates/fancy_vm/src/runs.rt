@@ -157,7 +157,7 @@ pub fn run_into(
         options,
         alloc,
     };
-    match task.search_whole()? {
+    match task.run_without_machine()? {
         Found::Match(start, end) => {
             task.write_pair(numbers, start, end)?;
             Ok(true)
@@ -186,7 +186,7 @@ pub fn run_spans(
         options,
         alloc,
     };
-    match task.search_whole()? {
+    match task.run_without_machine()? {
         Found::Match(start, end) => Ok(Some((start.min(end), end))),
         Found::NoMatch => Ok(None),
         Found::Unknown => scratch.answer_pair(&task),

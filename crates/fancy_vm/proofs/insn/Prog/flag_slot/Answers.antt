@@ -1,4 +1,4 @@
-use Rattle.std.proofs.Common.{arith}
+use Rattle.std.proofs.Common.{arith, refl}
 use Rattle.fancy_vm.specs.Programs.{prog_of}
 use Rattle.fancy_vm.proofs.FitsLaws.{fits_explicit, fits_implicit}
 use Rattle.fancy_vm.proofs.insn.Prog.flag_slot.Goals as goal
@@ -12,4 +12,11 @@ overflow_mul-result c =
     elim c.if-parts.branch [
       | then-parts w ↦ omega (arith, w.result-is, fits_explicit (prog_of c.args.self.now) c.args.self.now.fits w.if-parts.true)
       | else-parts w ↦ omega (arith, w.result-is, fits_implicit (prog_of c.args.self.now) c.args.self.now.fits w.if-parts.false)
+    ]
+
+pub returns : goal.returns
+returns c =
+    elim c.if-parts.branch [
+      | then-parts w ↦ rw (w.result-is, w.if-parts.true) refl
+      | else-parts w ↦ rw (w.result-is, w.if-parts.false) refl
     ]
