@@ -20,7 +20,7 @@ pub(crate) struct Entry {
     cell: u32,
     /// The lower half of the value.
     low: u32,
-    /// Where the cell was logged before, if it was; where that needs more than 32 bits, 0.
+    /// Where the cell was logged before, if it was, by its lower 32 bits: a hint.
     before: u32,
 }
 
@@ -58,11 +58,11 @@ fn is_narrow(value: usize) -> bool
 
 /// An entry alone holds all of the change.
 #[inline(always)]
-fn is_usual(old: Old, before: usize) -> bool
+fn is_usual(old: Old) -> bool
     ensures cell { IsTrue result → old.cell < 2 ^ 32 }
     ensures narrow { IsTrue result → value_in None (old.value % 2 ^ 32) ≡ old.value }
 {
-    old.cell < HALF && before < HALF && is_narrow(old.value)
+    old.cell < HALF && is_narrow(old.value)
 }
 
 /// The value that its lower half tells, with no branch: `u32::MAX` wraps to 0, and that to `usize::MAX`.
@@ -151,7 +151,7 @@ fn entry_of(old: Old, before: usize) -> Entry
     Entry {
         cell: old.cell as u32,
         low: (old.value % HALF) as u32,
-        before: if before < HALF { before as u32 } else { 0 },
+        before: (before % HALF) as u32,
     }
 }
 
@@ -194,7 +194,7 @@ impl Log {
     pub(crate) fn push(&mut self, old: Old, before: usize) -> Result<(), AllocError>
         ensures { self.new ≡ (if is_ok result then self.old ++ old ∷ [] else self.old) }
     {
-        if is_usual(old, before) && self.entries.len() < self.entries.capacity() {
+        if is_usual(old) && self.entries.len() < self.entries.capacity() {
             return Ok(self.entries.push(entry_of(old, before))?);
         }
         self.push_apart(old, before)
