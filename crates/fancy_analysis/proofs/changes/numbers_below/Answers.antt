@@ -10,3 +10,9 @@ loop-number-preserved c = λ g lt.
     subst (λ l. Contains l g) (sym c.in_ok-push.ensures.items)
     (⊎_elim (λ less. Contains-append_left before _ g (c.loop-number.invariant g less))
     (λ le. let same : n ≡ g = omega arith in subst (Contains _) same (Contains-push before n)) (cases_lt g n))
+
+pub loop-number-init : goal.loop-number-init
+loop-number-init c = λ g lt. absurd (omega arith)
+
+pub returns : goal.returns
+returns c = λ g lt. c.loop-number.invariant g (omega arith)

@@ -13,3 +13,12 @@ returns-in-Absent c =
       | code_absent.Stopper' b y ↦ refl
       | code_absent.Clear ↦ refl
     ])
+
+pub returns-in-Backref : goal.returns-in-Backref
+returns-in-Backref c = ap (λ x. named_by (tree_of x)) (sym c.in-Backref.is)
+
+pub returns-in-SubroutineCall : goal.returns-in-SubroutineCall
+returns-in-SubroutineCall c = ap (λ x. named_by (tree_of x)) (sym c.in-SubroutineCall.is)
+
+pub returns-in-BackrefWithRelativeRecursionLevel : goal.returns-in-BackrefWithRelativeRecursionLevel
+returns-in-BackrefWithRelativeRecursionLevel c = ap (λ x. named_by (tree_of x)) (sym c.in-BackrefWithRelativeRecursionLevel.is)

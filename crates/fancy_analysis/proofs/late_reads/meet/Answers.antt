@@ -16,3 +16,21 @@ returns-in-Absent c =
       | code_absent.Stopper' b y ↦ refl
       | code_absent.Clear ↦ refl
     ])
+
+pub returns-then-met : goal.returns-then-met
+returns-then-met c = rw (c.in-SubroutineCall.is, c.if-met.true)
+
+pub returns-then-own : goal.returns-then-own
+returns-then-own c = rw (c.in-SubroutineCall.is, c.if-met.false, c.if-own.true)
+
+pub returns-else-own : goal.returns-else-own
+returns-else-own c = rw (c.in-SubroutineCall.is, c.if-met.false, c.if-own.false)
+
+pub returns-then-met-2 : goal.returns-then-met-2
+returns-then-met-2 c = rw (c.in-Backref.is, c.if-met-2.true)
+
+pub returns-then-met-3 : goal.returns-then-met-3
+returns-then-met-3 c = rw (c.in-Backref.is, c.if-met-2.false, c.if-met-3.true)
+
+pub returns-else-met-3 : goal.returns-else-met-3
+returns-else-met-3 c = rw (c.in-Backref.is, c.if-met-2.false, c.if-met-3.false)
