@@ -1,4 +1,4 @@
-use Rattle.std.proofs.Common.{◌≡◌, [], ◌++◌, map, arith, sym, ap, ◌∙◌, append-nil}
+use Rattle.std.proofs.Common.{◌≡◌, [], ◌++◌, map, arith, sym, ap, ◌∙◌, append-nil, append_assoc}
 use Rattle.std.proofs.lemmas.List.{take_all}
 use Rattle.std.specs.BTreeMap as tree
 use Rattle.std.specs.Map.{lookup}
@@ -7,6 +7,7 @@ use Rattle.fancy_points.specs.FirstWays.{spans_of}
 use Rattle.fancy_plain.specs.Paths.{closed_after}
 use Rattle.fancy_plain.specs.Ways.{span_entry}
 use Rattle.fancy_plain.proofs.WayLaws.{lookup_tied, spans_put, spans_stay}
+use Rattle.std.proofs.lemmas.List.{map-append}
 use Rattle.fancy_plain.proofs.first_way.spans_by_map.Goals as goal
 use Rattle.fancy_plain.proofs.first_way.spans_by_map.Goals.{in-Closed+in_ok-insert, in_default}
 
@@ -34,3 +35,6 @@ returns-clause-listed c = λ g.
     lookup_tied g entries ∙ ap (λ es. lookup (tree.is_at (nat_cmp g)) es) whole ∙ c.loop-entry.invariant g
     ∙ ap (λ es. spans_of (closed_after [] es) g)
     (take_all c.loop-entry.entry-index c.args.entries.now (omega (arith, c.loop-entry-test.false)))
+
+pub loop-group-preserved : goal.loop-group-preserved
+loop-group-preserved c = grind (arith, map-append, append_assoc)

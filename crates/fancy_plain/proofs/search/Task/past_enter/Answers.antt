@@ -3,6 +3,8 @@ use Rattle.std.proofs.lemmas.Bool.{ltb-true}
 use Rattle.std.proofs.lemmas.Option.{slice_get_read}
 use Rattle.fancy_plain.proofs.RunLaws.{body_read}
 use Rattle.fancy_plain.proofs.CountedLaws.{comes_past, falls_short}
+use Rattle.fancy_plain.specs.declared.point.Point.TheVariants as point
+use Rattle.fancy_plain.proofs.BeginningLaws.{some_below}
 use Rattle.fancy_plain.proofs.search.Task.past_enter.Goals as goal
 use Rattle.fancy_plain.proofs.search.Task.past_enter.Goals.{else-left-gt0-via-then-left-gt0+else-count-turns, else-left-gt0-via-else-left-gt0}
 
@@ -38,3 +40,8 @@ returns c =
       | else-left-gt0-via-else-left-gt0 w ↦ λ some. let none = w.if-left-gt0.false in omega (arith, none, some)
     ])
     (omega arith) (omega arith)
+
+pub overflow_add-head : goal.overflow_add-head
+overflow_add-head c =
+    let inside = some_below c.args.self.now.points.now c.args.enter point.Enter c.requires.at in
+    omega (arith, inside)

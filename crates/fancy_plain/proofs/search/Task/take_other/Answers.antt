@@ -1,7 +1,9 @@
-use Rattle.std.proofs.Common.{sym, ◌≤◌, length}
+use Rattle.std.proofs.Common.{sym, ◌≤◌, length, refl}
 use Rattle.std.proofs.lemmas.Bool.{ltb-false}
 use Rattle.fancy_plain.specs.Searches.{leading_of}
 use Rattle.fancy_plain.proofs.SearchLaws.{lost_past, no_tries}
+use Rattle.std.proofs.lemmas.Bool.{ltb-true}
+use Rattle.std.proofs.lemmas.Option.{slice_get_read}
 use Rattle.fancy_plain.proofs.search.Task.take_other.Goals as goal
 
 pub returns-in-None : goal.returns-in-None
@@ -13,3 +15,10 @@ returns-in-None c = λ s first other is_noted f rest h here e.
 
 pub returns-in-Some : goal.returns-in-Some
 returns-in-Some c = c.other_from.ensures
+
+pub other_from-requires : goal.other_from-requires
+other_from-requires c =
+    let points = c.args.self.now.points.now in
+    let at = c.args.stand.at in
+    let found = c.in-Some.ensures.lookup in
+    slice_get_read points (length points) at c.in-Some.point.now refl (ltb-true at (length points) (sym found.0)) found.1

@@ -1,7 +1,9 @@
-use Rattle.std.proofs.Common.{sym, ◌≤◌, ◌+◌, length}
+use Rattle.std.proofs.Common.{sym, ◌≤◌, ◌+◌, length, refl}
 use Rattle.fancy_plain.specs.Searches.{leading_of}
 use Rattle.std.proofs.lemmas.Bool.{ltb-false}
 use Rattle.fancy_plain.proofs.SearchLaws.{nothing_there, one_visit}
+use Rattle.std.proofs.lemmas.Bool.{ltb-true}
+use Rattle.std.proofs.lemmas.Option.{slice_get_read}
 use Rattle.fancy_plain.proofs.search.Task.take_up.Goals as goal
 
 -- src/search.rt:428:5
@@ -21,3 +23,10 @@ returns-in-None c = λ s f h here.
 
 pub returns-in-Some : goal.returns-in-Some
 returns-in-Some c = c.take_up_point.ensures
+
+pub take_up_point-requires-clause-at : goal.take_up_point-requires-clause-at
+take_up_point-requires-clause-at c =
+    let points = c.args.self.now.points.now in
+    let at = c.args.stand.at in
+    let found = c.in-Some.ensures.lookup in
+    slice_get_read points (length points) at c.in-Some.point.now refl (ltb-true at (length points) (sym found.0)) found.1
