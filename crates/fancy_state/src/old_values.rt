@@ -164,6 +164,8 @@ impl Cells {
     }
 
     /// Gives the cells their old values back, until so many are logged.
+    // Not inlined, so that a step of the machine stays small enough to be inlined where it is made.
+    #[inline(never)]
     pub(crate) fn unwind(&mut self, mark: usize)
         requires { mark ≤ length self.old.log }
         ensures agrees { Agrees mark
