@@ -5,7 +5,7 @@ use Rattle.std.proofs.lemmas.List.{reverse-append, length-reverse, length-map, t
 use Rattle.std.proofs.Math.Seq.{take-suc, drop-append_seam}
 use Rattle.fancy_state.specs.Held.{below}
 use Rattle.fancy_state.specs.OldValues.{Values, since, old_at, slots_in, stack_in, held_at, held_branches, IsRoomy, Falls, IsNewest, Agrees}
-use Rattle.fancy_state.specs.declared.log.Old.{Old}
+use Rattle.fancy_state.specs.declared.old_values.Old.{Old}
 use Rattle.fancy_state.specs.declared.state.Branch.{Branch}
 
 pub length-held : (n : ℕ) (olds : List Old) (f : Values) (bs : List Branch) → length (held_branches n olds f bs) ≡ length bs

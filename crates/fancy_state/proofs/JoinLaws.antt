@@ -3,7 +3,7 @@ use Rattle.std.proofs.Common.{◌≡◌, ℕ, suc, ◌+◌, ◌<◌, ◌≤◌, 
 use Rattle.std.proofs.Math.Path.{fun_ext}
 use Rattle.std.proofs.lemmas.List.{drop-append-le, take_more_set, drop-set-lt}
 use Rattle.fancy_state.specs.OldValues.{Values, Agrees, IsSettled, old_at}
-use Rattle.fancy_state.specs.declared.log.Old.{Old}
+use Rattle.fancy_state.specs.declared.old_values.Old.{Old}
 use Rattle.fancy_state.proofs.OldLaws.{settled_drop, left_out}
 
 module _ (log : List Old) (e : Old) where

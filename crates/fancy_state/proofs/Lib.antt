@@ -1,4 +1,3 @@
-pub mod LogLaws
 pub mod OldLaws
 pub mod CellLaws
 pub mod HeldLaws

@@ -6,7 +6,7 @@ use Rattle.std.proofs.lemmas.Bool.{cond-true}
 use Rattle.std.proofs.lemmas.Bool.Decides.{eqb_tells}
 use Rattle.fancy_meaning.specs.MatchState.{put}
 use Rattle.fancy_state.specs.OldValues.{Values, values_of, old_at, AreInside, IsSettled, Agrees}
-use Rattle.fancy_state.specs.declared.log.Old.{Old}
+use Rattle.fancy_state.specs.declared.old_values.Old.{Old}
 
 pub same_of : (a b : ℕ) → (a == b) ≡ true → a ≡ b
 same_of a b is = ⊎_elim (λ h. h.1) (λ h. absurd (true≢false (sym is ∙ h.0))) (eqb_tells a b)

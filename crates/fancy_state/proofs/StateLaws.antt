@@ -5,7 +5,7 @@ use Rattle.fancy_meaning.specs.MatchState.{put}
 use Rattle.fancy_state.specs.Held.{Held, HeldBranch, first_held}
 use Rattle.fancy_meaning.specs.Numbers.{usize_max}
 use Rattle.fancy_state.specs.OldValues.{Values, values_of, since, slots_in, stack_in, held_branches, IsRoomy, Falls, IsNewest, Agrees, IsSound}
-use Rattle.fancy_state.specs.declared.log.Old.{Old}
+use Rattle.fancy_state.specs.declared.old_values.Old.{Old}
 use Rattle.fancy_state.specs.declared.state.Branch.{Branch}
 use Rattle.fancy_state.proofs.OldLaws.{set_put}
 use Rattle.fancy_state.proofs.CellLaws.{length-slots, length-stack, slots_put, slots_above, stack_below, stack_above, stack_pushed, stack_popped, put_at, put_off, first_slots, first_stack}

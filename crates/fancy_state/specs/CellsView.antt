@@ -4,8 +4,8 @@ use Rattle.fancy_state.specs.OldValues.{Cells, AreInside}
 use Rattle.fancy_state.specs.declared.old_values.Cells.TheInside.{Inside}
 
 abbrev pub cells_in : Inside → Cells
-cells_in c = record { values = c.values.items; log = c.log }
+cells_in c = record { values = c.values.items; log = c.log.items }
 
 pub record AreLogged (c : Inside) : Type 0 where
   pub places : length c.values.items ≤ length c.places.items
-  pub inside : AreInside (length c.values.items) c.log
+  pub inside : AreInside (length c.values.items) c.log.items

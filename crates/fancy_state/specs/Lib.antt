@@ -1,5 +1,4 @@
 pub mod Held
-pub mod LogView
 pub mod OldValues
 pub mod CellsView
 pub mod View

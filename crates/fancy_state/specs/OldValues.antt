@@ -4,7 +4,7 @@ use Rattle.std.specs.List.{range_with_len}
 use Rattle.fancy_meaning.specs.Numbers.{usize_max}
 use Rattle.fancy_state.specs.Held.{HeldBranch}
 use Rattle.fancy_state.specs.declared.state.Branch.{Branch}
-use Rattle.fancy_state.specs.declared.log.Old.{Old}
+use Rattle.fancy_state.specs.declared.old_values.Old.{Old}
 
 -- what each cell holds; those that are not there yet hold 0
 abbrev pub Values : Type 0

@@ -1,11 +1,19 @@
 //! Cells, and what they held before they were changed.
 
-ghost use Rattle.std.specs.Prelude.{◌≡◌, [], ◌<◌, ◌≤◌, IsTrue, length, drop, take, slice_set, OnOk, OnErr, IfOk, MatchOption};
+ghost use Rattle.std.specs.Prelude.{◌≡◌, [], ◌∷◌, ◌++◌, ◌<◌, ◌≤◌, IsTrue, is_ok, if◌then◌else◌, length, drop, take, slice_set, OnOk, OnErr, IfOk, MatchOption};
 ghost use Rattle.fancy_state.specs.OldValues.{Agrees, IsSettled, values_of, first_cells};
 
-use crate::log::{Log, Old};
 use std::alloc::{AllocError, Global};
 use std::marker::Model;
+
+/// What a cell held before a change.
+#[derive(Clone, Copy)]
+pub(crate) struct Old {
+    cell: usize,
+    value: usize,
+    /// Where the cell was logged before, if it was.
+    before: usize,
+}
 
 /// Cells, and a log of what they held before they were changed.
 #[derive(Drop)]
@@ -13,7 +21,7 @@ pub(crate) struct Cells {
     values: Vec<usize>,
     /// Where each cell was last logged.
     places: Vec<usize>,
-    log: Log,
+    log: Vec<Old>,
 }
 
 impl Model for Cells {
@@ -28,12 +36,32 @@ impl Model for Cells {
     ghost invariant = { AreLogged };
 }
 
-/// The cell's last change is logged at this place, since the mark and among the first `count` changes.
-fn is_logged(log: &Log, mark: usize, count: usize, place: usize, cell: usize) -> bool
-    requires { count ≤ length log.now }
-    ensures { IsTrue result → IsSettled (drop mark (take count log.now)) cell }
+/// The cell's last change is logged at this place, since the mark.
+fn is_logged(log: &[Old], mark: usize, place: usize, cell: usize) -> bool
+    ensures { IsTrue result → IsSettled (drop mark log.now) cell }
 {
-    mark <= place && place < count && log.get(place).0.cell == cell
+    mark <= place && place < log.len() && log[place].cell == cell
+}
+
+/// Adds an old value to the log. Where the log has to grow it does so apart from here, which is seldom.
+#[inline(always)]
+fn push(log: &mut Vec<Old>, old: Old) -> Result<(), AllocError>
+    ensures items { log.new.items
+        ≡ (if is_ok result then log.old.items ++ old ∷ [] else log.old.items) }
+{
+    if log.len() == log.capacity() {
+        return push_and_grow(log, old);
+    }
+    Ok(log.push(old)?)
+}
+
+#[cold]
+#[inline(never)]
+fn push_and_grow(log: &mut Vec<Old>, old: Old) -> Result<(), AllocError>
+    ensures items { log.new.items
+        ≡ (if is_ok result then log.old.items ++ old ∷ [] else log.old.items) }
+{
+    Ok(log.push(old)?)
 }
 
 impl Cells {
@@ -47,7 +75,7 @@ impl Cells {
         Ok(Cells {
             values,
             places,
-            log: Log::new(alloc),
+            log: Vec::new(alloc),
         })
     }
 
@@ -135,10 +163,15 @@ impl Cells {
             None => {}
             Some(mark) => {
                 let before = self.places[cell];
-                let place = self.log.len();
-                if !is_logged(&self.log, mark, place, before, cell) {
+                if !is_logged(&self.log, mark, before, cell) {
+                    let place = self.log.len();
                     let value = self.values[cell];
-                    self.log.push(Old { cell, value }, before)?;
+                    let old = Old {
+                        cell,
+                        value,
+                        before,
+                    };
+                    push(&mut self.log, old)?;
                     self.places[cell] = place;
                 }
             }
@@ -164,8 +197,6 @@ impl Cells {
     }
 
     /// Gives the cells their old values back, until so many are logged.
-    // Not inlined, so that a step of the machine stays small enough to be inlined where it is made.
-    #[inline(never)]
     pub(crate) fn unwind(&mut self, mark: usize)
         requires { mark ≤ length self.old.log }
         ensures agrees { Agrees mark
@@ -174,11 +205,11 @@ impl Cells {
         ensures values { length self.new.values ≡ length self.old.values }
     {
         'undo: while self.log.len() > mark {
-            let Some((old, before)) = self.log.pop() else {
+            let Some(old) = self.log.pop() else {
                 unreachable!()
             };
             self.values[old.cell] = old.value;
-            self.places[old.cell] = before;
+            self.places[old.cell] = old.before;
         }
     }
 
@@ -194,16 +225,16 @@ impl Cells {
     {
         let mut kept = first;
         'join: for next in first..self.log.len() {
-            let (old, before) = self.log.get(next);
-            let place = if before < first {
-                before
+            let old = self.log[next];
+            let place = if old.before < first {
+                old.before
             } else {
                 self.places[old.cell]
             };
-            if is_logged(&self.log, mark, kept, place, old.cell) {
+            if is_logged(&self.log[..kept], mark, place, old.cell) {
                 self.places[old.cell] = place;
             } else {
-                self.log.move_back(next, kept);
+                self.log[kept] = old;
                 self.places[old.cell] = kept;
                 kept += 1;
             }

@@ -10,8 +10,8 @@ invariant-join l =
     record {
       first : l.first ≤ l.kept;
       kept : l.kept ≤ l.next;
-      len : length s.log ≡ length l.initial.self-inside.log;
+      len : length s.log.items ≡ length l.initial.self-inside.log.items;
       values : s.values.items ≡ l.initial.self-inside.values.items;
       logged : AreLogged s;
-      agrees : Agrees l.mark l.initial.self-inside.log now (take l.kept s.log ++ drop l.next s.log) now;
+      agrees : Agrees l.mark l.initial.self-inside.log.items now (take l.kept s.log.items ++ drop l.next s.log.items) now;
     }

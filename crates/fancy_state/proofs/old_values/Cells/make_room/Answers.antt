@@ -11,5 +11,5 @@ invariant_of-self-2 c =
     let s = c.self.inside in
     record {
       places = omega (arith, c.self.invariant.places, ap length c.in_ok-push.ensures.items, ap length c.in_ok-push-2.ensures.items, length-append s.places.items (0 ∷ []), length-append s.values.items (0 ∷ []));
-      inside = inside_more s.log _ _ (omega (arith, ap length c.in_ok-push-2.ensures.items, length-append s.values.items (0 ∷ []))) c.self.invariant.inside;
+      inside = inside_more s.log.items _ _ (omega (arith, ap length c.in_ok-push-2.ensures.items, length-append s.values.items (0 ∷ []))) c.self.invariant.inside;
     }

@@ -1,6 +1,5 @@
 use Rattle.std.proofs.Common.{◌<◌, length, arith, refl, sym, subst}
 use Rattle.std.proofs.lemmas.List.{length-set}
-use Rattle.std.proofs.Math.Seq.{take-length}
 use Rattle.fancy_state.specs.OldValues.{AreInside, Cells, values_of}
 use Rattle.fancy_state.proofs.OldLaws.{agrees_still, agrees_logged, read_now, set_put, inside_append}
 use Rattle.fancy_state.proofs.old_values.Cells.set.Goals as goal
@@ -15,12 +14,12 @@ returns-clause-agrees c =
     elim c.match-mark.branch [
       | in-None w ↦ rw w.in-None.is tt
       | in-Some+then-not-is_logged+in_ok-push-in-Some w ↦
-          rw (← c.self.view_is, w.in-Some.is, w.self-inside-is, w.in_ok-push-in-Some.ensures, set_put values c.args.cell c.args.value here)
-          (agrees_logged s.log now w.in-Some.mark _ c.args.value (rw (← c.self.view_is, w.in-Some.is) at c.requires.mark)
+          rw (← c.self.view_is, w.in-Some.is, w.self-inside-is, w.in_ok-push-in-Some.ensures.items, set_put values c.args.cell c.args.value here)
+          (agrees_logged s.log.items now w.in-Some.mark _ c.args.value (rw (← c.self.view_is, w.in-Some.is) at c.requires.mark)
           (read_now values c.args.cell _ here w.index-value.ensures))
       | in-Some+else-not-is_logged w ↦
           rw (← c.self.view_is, w.in-Some.is, w.self-inside-is, set_put values c.args.cell c.args.value here)
-          (agrees_still s.log now w.in-Some.mark c.args.cell c.args.value (rw (w.len-place.ensures, take-length) at (w.if-not-is_logged.ensures refl)))
+          (agrees_still s.log.items now w.in-Some.mark c.args.cell c.args.value (rw w.deref.ensures.value at (w.if-not-is_logged.ensures refl)))
     ]
 
 pub invariant_of-self-2 : goal.invariant_of-self-2
@@ -35,18 +34,18 @@ invariant_of-self-2 c =
           rw w.self-inside-is
           (record {
             places = omega (arith, len, inv.places);
-            inside = subst (λ k. AreInside k s.log) (sym len) inv.inside;
+            inside = subst (λ k. AreInside k s.log.items) (sym len) inv.inside;
           })
       | in-Some+then-not-is_logged+in_ok-push-in-Some w ↦
           rw w.self-inside-is
           (record {
             places = omega (arith, len, length-set s.places.items c.args.cell w.len-place.result, inv.places);
-            inside = rw (w.in_ok-push-in-Some.ensures, len) (inside_append s.log _ (length values) inv.inside (here, tt));
+            inside = rw (w.in_ok-push-in-Some.ensures.items, len) (inside_append s.log.items _ (length values) inv.inside (here, tt));
           })
       | in-Some+else-not-is_logged w ↦
           rw w.self-inside-is
           (record {
             places = omega (arith, len, inv.places);
-            inside = subst (λ k. AreInside k s.log) (sym len) inv.inside;
+            inside = subst (λ k. AreInside k s.log.items) (sym len) inv.inside;
           })
     ]

@@ -7,11 +7,11 @@ abbrev pub invariant-undo : goal.invariant-undo
 invariant-undo l =
     let s = l.self-inside in
     record {
-      mark : l.mark ≤ length s.log;
+      mark : l.mark ≤ length s.log.items;
       values : length s.values.items ≡ length l.initial.self-inside.values.items;
       logged : AreLogged s;
-      agrees : Agrees l.mark l.initial.self-inside.log (values_of l.initial.self-inside.values.items) s.log (values_of s.values.items);
+      agrees : Agrees l.mark l.initial.self-inside.log.items (values_of l.initial.self-inside.values.items) s.log.items (values_of s.values.items);
     }
 
 abbrev pub decreases-undo : goal.decreases-undo
-decreases-undo l = length l.self-inside.log
+decreases-undo l = length l.self-inside.log.items

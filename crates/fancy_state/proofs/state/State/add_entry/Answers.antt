@@ -1,7 +1,7 @@
 use Rattle.std.proofs.Common.{List, reverse, sym, ap, ◌∙◌, subst}
 use Rattle.std.proofs.lemmas.Result.{err_from_is_err_and}
 use Rattle.fancy_state.specs.OldValues.{Cells, IsSound}
-use Rattle.fancy_state.specs.declared.log.Old.{Old}
+use Rattle.fancy_state.specs.declared.old_values.Old.{Old}
 use Rattle.fancy_state.proofs.StateLaws.{held_of, grown_sound, grown_held, second_sound, second_held, third_sound, third_held}
 use Rattle.fancy_state.proofs.state.State.add_entry.Goals as goal
 
