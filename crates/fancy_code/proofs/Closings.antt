@@ -15,7 +15,7 @@ use Rattle.fancy_code.specs.declared.around.Start.{Start}
 use Rattle.fancy_code.specs.Arounds.{IsStart, around_code, opening, open_split, ahead, behind, not_ahead, not_behind}
 use Rattle.fancy_code.specs.declared.writer.CodeWriter.{CodeWriter}
 use Rattle.fancy_code.specs.Drafts.{Draft, Adds, Writes, with_patch, draft_of}
-use Rattle.fancy_vm.specs.Insns.{insn_of}
+use Rattle.fancy_program.specs.Insns.{insn_of}
 use Rattle.std.proofs.lemmas.List.{length-map}
 use Rattle.fancy_code.proofs.Writing.{extended_length, adds_to, wrote_then}
 

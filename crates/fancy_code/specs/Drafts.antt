@@ -9,7 +9,7 @@ use Rattle.fancy_meaning.specs.Hard.{is_hard}
 use Rattle.fancy_meaning.specs.Options.{Analysis}
 use Rattle.fancy_meaning.specs.Layout.{written}
 use Rattle.fancy_meaning.specs.AnalysisRefusals as plain
-use Rattle.fancy_vm.specs.Insns.{insn_of}
+use Rattle.fancy_program.specs.Insns.{insn_of}
 use Rattle.fancy_expr.specs.declared.error.Error.{Error}
 use Rattle.fancy_expr.specs.declared.error.Error.TheVariants as error
 use Rattle.fancy_code.specs.declared.writer.CodeWriter.{CodeWriter}

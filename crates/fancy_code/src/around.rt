@@ -5,7 +5,7 @@ ghost use Rattle.std.specs.Prelude.{[], ◌-◌, ◌<◌, ◌^◌};
 use crate::looks::LookKind;
 use crate::loops::LoopKind;
 use crate::writer::CodeWriter;
-use fancy_vm::vm::Insn;
+use fancy_program::insn::Insn;
 
 /// What stands around a node.
 #[derive(Clone, Copy)]

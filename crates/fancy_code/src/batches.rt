@@ -6,7 +6,7 @@ ghost use Rattle.fancy_code.specs.Neighbours.{IsMadeOf};
 ghost use Rattle.fancy_fragments.specs.Nodes.{AreEasyNeighbours};
 ghost use Rattle.fancy_info.specs.Infos.{info_tree};
 ghost use Rattle.fancy_meaning.specs.Batches.{all_joined, batch, batch_code, delegate_code, literal_chars, literal_instr};
-ghost use Rattle.fancy_vm.specs.Insns.{insn_of};
+ghost use Rattle.fancy_program.specs.Insns.{insn_of};
 ghost use Rattle.std.specs.List.{list_any};
 ghost use Rattle.std.specs.Prelude.{IfOk, None, [], map, ◌∷◌, ◌≡◌};
 
@@ -20,7 +20,7 @@ use fancy_expr::expr::Expr;
 use fancy_expr::text::first_char;
 use fancy_fragments::delegate::pattern_text;
 use fancy_info::info::Info;
-use fancy_vm::vm::Insn;
+use fancy_program::insn::Insn;
 use std::alloc::{AllocError, Global};
 
 /// Puts the characters of the node's literals behind `chars`, each with whether it is folded, as far as the first part that is

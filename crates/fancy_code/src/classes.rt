@@ -10,7 +10,7 @@ ghost use Rattle.std.specs.Prelude.{IfErr, IfOk, IsTrue, string_bytes, ◌≡◌
 use crate::writer::CodeWriter;
 use fancy_characters::classes::CharClassMatcher;
 use fancy_expr::error::Error;
-use fancy_vm::vm::Insn;
+use fancy_program::insn::Insn;
 use std::alloc::{AllocError, Global};
 use std::collections::BTreeMap;
 use std::sync::Arc;

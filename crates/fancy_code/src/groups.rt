@@ -9,7 +9,7 @@ ghost use Rattle.fancy_code.specs.Drafts.{Writes, draft_of};
 
 use crate::around::Start;
 use crate::writer::CodeWriter;
-use fancy_vm::vm::Insn;
+use fancy_program::insn::Insn;
 
 impl CodeWriter {
     pub fn begin_group(&mut self, group: usize)

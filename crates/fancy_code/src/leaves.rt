@@ -1,7 +1,7 @@
 //! Nodes that are written by themselves.
 
 ghost use Rattle.std.specs.Prelude.{◌≡◌, ◌^◌, List, [], ◌∷◌, IfOk, encode_utf8_all, nat_le, slice_index, string_bytes, chars, true};
-ghost use Rattle.fancy_vm.specs.Insns.{insn_of};
+ghost use Rattle.fancy_program.specs.Insns.{insn_of};
 ghost use Rattle.fancy_meaning.specs.Batches.{any_instr, literal_instr};
 ghost use Rattle.fancy_meaning.specs.Code.{one};
 ghost use Rattle.fancy_meaning.specs.Instr.{Instr, Newline};
@@ -18,7 +18,7 @@ use fancy_characters::classes::{CaseiLiteral, CharClassMatcher};
 use fancy_expr::error::{CompileError, Error};
 use fancy_expr::expr::{Assertion, BacktrackingControlVerb, Expr};
 use fancy_expr::text::first_char;
-use fancy_vm::vm::Insn;
+use fancy_program::insn::Insn;
 use std::alloc::{AllocError, Global};
 use std::sync::Arc;
 

@@ -8,7 +8,7 @@ ghost use Rattle.std.specs.Prelude.{ℕ, []};
 
 use crate::around::Start;
 use crate::writer::CodeWriter;
-use fancy_vm::vm::Insn;
+use fancy_program::insn::Insn;
 
 /// How a look-around looks; behind means so many characters back.
 #[derive(Clone, Copy)]

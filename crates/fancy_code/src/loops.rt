@@ -8,12 +8,12 @@ ghost use Rattle.fancy_code.specs.Sites.{Site};
 ghost use Rattle.fancy_expr.specs.Views.{bound_of};
 ghost use Rattle.fancy_meaning.specs.Constructs.{split};
 ghost use Rattle.fancy_meaning.specs.Instr.{Instr};
-ghost use Rattle.fancy_vm.specs.Insns.{insn_of};
+ghost use Rattle.fancy_program.specs.Insns.{insn_of};
 ghost use Rattle.std.specs.Prelude.{[], ◌≡◌};
 
 use crate::around::Start;
 use crate::writer::CodeWriter;
-use fancy_vm::vm::Insn;
+use fancy_program::insn::Insn;
 
 /// How a loop is written. Without `Counted` there is no bound but that of the name.
 #[derive(Clone, Copy)]

@@ -6,7 +6,7 @@ ghost use Rattle.std.specs.Option.{ForSome};
 use crate::classes::SharedClasses;
 use crate::delegates::SharedDelegates;
 use fancy_expr::error::{CompileError, Error};
-use fancy_vm::vm::Insn;
+use fancy_program::insn::Insn;
 use std::alloc::Global;
 
 /// A program in the making. After a fault nothing more is written.
@@ -29,7 +29,7 @@ pub struct CodeWriter {
 }
 
 impl CodeWriter {
-    ghost use Rattle.fancy_vm.specs.Insns.{insn_of};
+    ghost use Rattle.fancy_program.specs.Insns.{insn_of};
     ghost use Rattle.fancy_meaning.specs.Code.{Laid, one};
     ghost use Rattle.fancy_meaning.specs.Tree.{Tree};
     ghost use Rattle.fancy_code.specs.Sites.{Site};

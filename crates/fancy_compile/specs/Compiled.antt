@@ -8,8 +8,8 @@ use Rattle.fancy_meaning.specs.AnalysisRefusals as refusal
 use Rattle.fancy_meaning.specs.AnalysisRefusals.{AnalysisRefuses}
 use Rattle.fancy_meaning.specs.CompileRefusals.{CompileRefuses, MayBeTooBig}
 use Rattle.fancy_meaning.specs.Layout.{first_fresh, layout, program_code}
-use Rattle.fancy_vm.specs.Programs.{prog_of}
-use Rattle.fancy_vm.specs.declared.insn.Prog.{Prog}
+use Rattle.fancy_program.specs.Programs.{prog_of}
+use Rattle.fancy_program.specs.declared.insn.Prog.{Prog}
 use Rattle.fancy_expr.specs.declared.error.Error.{Error}
 use Rattle.fancy_expr.specs.declared.error.Error.TheVariants as error
 use Rattle.fancy_info.specs.declared.info.Info.{Info}

@@ -13,7 +13,7 @@ use fancy_expr::error::CompileError;
 use fancy_expr::expr::Absent;
 use fancy_info::info::Info;
 use fancy_nodes::absents::is_refused_body;
-use fancy_vm::vm::Insn;
+use fancy_program::insn::Insn;
 
 pub fn is_repeater(absent: &Absent) -> bool
     ensures { result ≡ is_repeater absent.now }

@@ -11,7 +11,7 @@ use fancy_code::looks::LookKind;
 use fancy_code::writer::CodeWriter;
 use fancy_expr::error::Error;
 use fancy_info::info::Info;
-use fancy_vm::vm::Insn;
+use fancy_program::insn::Insn;
 
 /// Writes the end of the code into jumps.
 fn patch_jumps(writer: &mut CodeWriter, jumps: Vec<usize>)

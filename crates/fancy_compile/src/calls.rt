@@ -9,7 +9,7 @@ use crate::scope::Scope;
 use fancy_code::writer::CodeWriter;
 use fancy_expr::error::CompileError;
 use fancy_nodes::group_table::is_marked;
-use fancy_vm::vm::Insn;
+use fancy_program::insn::Insn;
 
 /// So deep are calls of one group written out.
 const CALL_DEPTH: usize = 19;

@@ -19,7 +19,7 @@ use fancy_expr::error::{CompileError, Error};
 use fancy_info::info::Info;
 use fancy_nodes::group_table::GroupTable;
 use fancy_nodes::keeps::has_keep_out;
-use fancy_vm::vm::{Insn, Prog, ProgParts};
+use fancy_program::insn::{Insn, Prog, ProgParts};
 use std::alloc::Global;
 
 fn is_unicode(mode: BytesMode) -> bool

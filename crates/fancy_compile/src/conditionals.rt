@@ -6,7 +6,7 @@ ghost use Rattle.fancy_compile.specs.Nodes.{IsWhole, WritesConditional};
 use crate::scope::Scope;
 use fancy_code::writer::CodeWriter;
 use fancy_info::info::Info;
-use fancy_vm::vm::Insn;
+use fancy_program::insn::Insn;
 
 impl<'t, 'i, 'a, 'o> Scope<'t, 'i, 'a, 'o> {
     /// The second after the first, or else the third.

@@ -9,7 +9,8 @@ use denote.RawPtr.{Ptr, block_ptr, null_ptr, lies_at}
 use Rattle.std.specs.Prelude.{Option, None, Some}
 use Rattle.std.specs.Global.{Global}
 use Rattle.std.proofs.Crossing as std
-use Rattle.fancy_vm.proofs.ThreadsLaws.{prog_sends, scratch_sends}
+use Rattle.fancy_program.proofs.ThreadsLaws.{prog_sends}
+use Rattle.fancy_vm.proofs.ThreadsLaws.{scratch_sends}
 use Rattle.fancy_host.specs.Owned.{owned}
 use Rattle.fancy_host.specs.contracts.searches.Searcher as Searcher
 

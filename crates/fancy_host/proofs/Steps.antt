@@ -14,8 +14,9 @@ use Rattle.fancy_laws.proofs.Moves.{is_place_parts}
 use Rattle.fancy_expr.specs.declared.error.Error.{Error}
 use Rattle.fancy_vm.specs.Means.{IsMeaningPair}
 use Rattle.fancy_vm.specs.Outcomes.{RunAnswersPair, first_pair}
-use Rattle.fancy_vm.specs.Programs.{options_of as run_options_of, prog_of, task_of}
-use Rattle.fancy_vm.specs.declared.insn.Prog.{Prog}
+use Rattle.fancy_program.specs.Programs.{prog_of}
+use Rattle.fancy_vm.specs.Tasks.{options_of as run_options_of, task_of}
+use Rattle.fancy_program.specs.declared.insn.Prog.{Prog}
 use Rattle.fancy_vm.specs.declared.runs.RunOptions.{RunOptions}
 use Rattle.fancy_search.specs.declared.search.Compiled.{Compiled}
 use Rattle.fancy_search.specs.Searches.{IsCompiledFrom, Promises, program}

@@ -8,7 +8,7 @@ use Rattle.fancy_meaning.specs.Options.{RunOptions}
 use Rattle.fancy_meaning.specs.Premises.{Input, plan}
 use Rattle.fancy_expr.specs.declared.error.Error.{Error}
 use Rattle.fancy_vm.specs.Outcomes.{first_pair}
-use Rattle.fancy_vm.specs.Programs.{prog_of}
+use Rattle.fancy_program.specs.Programs.{prog_of}
 use Rattle.fancy_search.specs.declared.search.Compiled.{Compiled}
 use Rattle.fancy_search.specs.Searches.{IsCompiledFrom, Promises, program}
 use Rattle.fancy_matches.specs.Listing.{Standing, begun_at, left, options_at}

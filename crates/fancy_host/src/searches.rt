@@ -3,7 +3,7 @@
 ghost use Rattle.std.specs.Prelude.{◌≡◌, [], IsTrue, MatchResult};
 ghost use Rattle.fancy_meaning.specs.Fits.{run_fits};
 ghost use Rattle.fancy_meaning.specs.Premises.{Input};
-ghost use Rattle.fancy_vm.specs.Programs.{options_of as run_options_of, task_of};
+ghost use Rattle.fancy_vm.specs.Tasks.{options_of as run_options_of, task_of};
 ghost use Rattle.fancy_search.specs.Searches.{IsCompiledFrom, program};
 ghost use Rattle.fancy_matches.specs.Regexes.{standing_of};
 

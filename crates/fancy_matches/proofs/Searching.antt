@@ -20,13 +20,14 @@ use Rattle.fancy_expr.specs.declared.error.Error.{Error}
 use Rattle.fancy_expr.specs.declared.error.Error.TheVariants as error
 use Rattle.fancy_vm.specs.Means.{IsMeaningPair}
 use Rattle.fancy_vm.specs.Outcomes.{RunAnswers, RunAnswersPair, first_pair}
-use Rattle.fancy_vm.specs.Programs.{options_of as run_options_of, prog_of, task_of}
-use Rattle.fancy_vm.specs.declared.insn.Prog.{Prog}
+use Rattle.fancy_program.specs.Programs.{prog_of}
+use Rattle.fancy_vm.specs.Tasks.{options_of as run_options_of, task_of}
+use Rattle.fancy_program.specs.declared.insn.Prog.{Prog}
 use Rattle.fancy_vm.specs.declared.runs.RunOptions.{RunOptions}
 use Rattle.fancy_search.specs.declared.search.Compiled.{Compiled}
 use Rattle.fancy_search.specs.Searches.{IsCompiledFrom, Promises, instructions_of, program, program_of}
 use Rattle.fancy_search.proofs.Searched.{accepted_input, run_promises}
-use Rattle.fancy_vm.proofs.FitsLaws.{run_place}
+use Rattle.fancy_program.proofs.FitsLaws.{run_place}
 use Rattle.fancy_matches.specs.Listing.{AreSpans}
 use Rattle.fancy_matches.specs.Regexes.{shown_match, with_numbers, with_span}
 use Rattle.fancy_matches.specs.declared.found.Match.{Match}

@@ -17,7 +17,7 @@ use Rattle.fancy_matches.specs.declared.regexes.Regex.{Regex}
 use Rattle.fancy_search.specs.Searches.{IsCompiledFrom}
 use Rattle.fancy_expr.specs.declared.error.Error.{Error}
 use Rattle.fancy_laws.proofs.Moves.{is_place_parts}
-use Rattle.fancy_vm.specs.Programs.{options_of as run_options_of}
+use Rattle.fancy_vm.specs.Tasks.{options_of as run_options_of}
 use Rattle.fancy_vm.specs.declared.runs.RunOptions.{RunOptions}
 use Rattle.fancy_matches.proofs.Lists.{ended, finds_further, finds_listed, finds_none, finds_passed, no_place_ends}
 

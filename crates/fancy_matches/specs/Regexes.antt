@@ -7,7 +7,7 @@ use Rattle.fancy_meaning.specs.Options as plain
 use Rattle.fancy_meaning.specs.Premises.{Input, plan, IsAccepted}
 use Rattle.fancy_expr.specs.declared.error.Error.{Error}
 use Rattle.fancy_vm.specs.Outcomes.{first_pair}
-use Rattle.fancy_vm.specs.Programs.{options_of as run_options_of}
+use Rattle.fancy_vm.specs.Tasks.{options_of as run_options_of}
 use Rattle.fancy_search.specs.Searches.{IsCompiledFrom, Promises, instructions_of}
 use Rattle.fancy_matches.specs.Listing.{Standing, all_matches, left, options_at}
 use Rattle.fancy_matches.specs.declared.found.Captures.{Captures}

@@ -10,7 +10,7 @@ use Rattle.fancy_meaning.specs.Premises.{Input, IsText, plan}
 use Rattle.fancy_expr.specs.declared.error.Error.{Error}
 use Rattle.fancy_search.specs.Searches.{IsCompiledFrom}
 use Rattle.fancy_vm.specs.Outcomes.{first_pair}
-use Rattle.fancy_vm.specs.Programs.{options_of as run_options_of}
+use Rattle.fancy_vm.specs.Tasks.{options_of as run_options_of}
 use Rattle.fancy_matches.specs.Listing.{AreApart, Standing, all_matches}
 use Rattle.fancy_matches.specs.Regexes.{FailsBy, IsRegexOf, StepsTo, captures_text, left_of, numbers_in, standing_of, with_numbers}
 use Rattle.fancy_matches.specs.declared.found.Captures.{Captures}

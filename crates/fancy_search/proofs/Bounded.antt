@@ -17,11 +17,12 @@ use Rattle.fancy_expr.specs.declared.error.Error.{Error}
 use Rattle.fancy_expr.specs.declared.error.Error.TheVariants as error
 use Rattle.fancy_expr.specs.declared.error.RuntimeError.{RuntimeError}
 use Rattle.fancy_expr.specs.declared.error.RuntimeError.TheVariants as limit
-use Rattle.fancy_vm.proofs.FitsLaws.{run_implicit, run_place, run_not_empty, run_longest}
+use Rattle.fancy_program.proofs.FitsLaws.{run_implicit, run_place, run_not_empty, run_longest}
 use Rattle.fancy_vm.specs.declared.runs.RunOptions.{RunOptions}
 use Rattle.fancy_vm.specs.Outcomes.{RunAnswers}
 use Rattle.fancy_vm.specs.Stops.{outcome_of}
-use Rattle.fancy_vm.specs.Programs.{prog_of, task_of, options_of as run_options_of}
+use Rattle.fancy_program.specs.Programs.{prog_of}
+use Rattle.fancy_vm.specs.Tasks.{task_of, options_of as run_options_of}
 use Rattle.fancy_search.specs.declared.search.Compiled.{Compiled}
 use Rattle.fancy_search.specs.Searches.{IsBelowBound, IsCompiledFrom, Bounds, limit_of, program}
 use Rattle.fancy_search.proofs.Searched.{accepted_input}

@@ -21,8 +21,8 @@ use Rattle.fancy_expr.specs.Views.{parsed_of}
 use Rattle.fancy_info.specs.declared.context.AnalyzeContext.{AnalyzeContext}
 use Rattle.fancy_info.specs.Infos.{analysis_options_of}
 use Rattle.fancy_vm.specs.Means.{numbers_of}
-use Rattle.fancy_vm.specs.declared.insn.Prog.{Prog}
-use Rattle.fancy_vm.specs.Programs.{prog_of}
+use Rattle.fancy_program.specs.declared.insn.Prog.{Prog}
+use Rattle.fancy_program.specs.Programs.{prog_of}
 use Rattle.fancy_compile.specs.declared.options.CompileOptions.{CompileOptions}
 use Rattle.fancy_compile.specs.Compiled.{compile_options_of}
 use Rattle.fancy_expr.specs.Errors.{error_of}

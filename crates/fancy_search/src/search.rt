@@ -8,7 +8,7 @@ ghost use Rattle.fancy_info.specs.Infos.{analysis_options_of};
 ghost use Rattle.fancy_compile.specs.Compiled.{compile_options_of};
 ghost use Rattle.fancy_expr.specs.Sound.{IsWellFormedTree};
 ghost use Rattle.fancy_vm.specs.Means.{answer_in};
-ghost use Rattle.fancy_vm.specs.Programs.{default_at, options_of as run_options_of, task_of};
+ghost use Rattle.fancy_vm.specs.Tasks.{default_at, options_of as run_options_of, task_of};
 ghost use Rattle.fancy_search.specs.Searches.{Bounds, IsCompiledFrom, IsRefusedAs, Promises, input_of, program, search_fits};
 ghost use Rattle.fancy_search.specs.Searches as searches;
 

@@ -8,12 +8,12 @@ ghost use Rattle.fancy_vm.specs.Sound.{IsSound};
 ghost use Rattle.fancy_vm.specs.Stretches.{IsStretch};
 ghost use Rattle.fancy_vm.specs.Tails.{AreTails};
 
-use crate::insn::Prog;
 use crate::longest::Longest;
 use crate::runs::RunOptions;
 use crate::stretch::Stretch;
 use crate::tails::Tails;
 use fancy_expr::error::{Error, RuntimeError};
+use fancy_program::insn::Prog;
 use fancy_state::state::State;
 use std::alloc::{AllocError, Global};
 

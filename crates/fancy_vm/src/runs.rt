@@ -11,16 +11,17 @@ ghost use Rattle.fancy_vm.specs.Outcomes.{Finds, RunAnswers, RunAnswersPair, con
 ghost use Rattle.fancy_vm.specs.Ready.{AreFresh, IsReady};
 ghost use Rattle.fancy_state.specs.Held.{first_held};
 ghost use Rattle.fancy_state.specs.Refused.{IsMemory};
-ghost use Rattle.fancy_vm.specs.Programs.{IsUnused, allocator_of, default_at, default_task, options_of, prog_of, task_of};
+ghost use Rattle.fancy_program.specs.Programs.{prog_of};
+ghost use Rattle.fancy_vm.specs.Tasks.{IsUnused, allocator_of, default_at, default_task, options_of, task_of};
 
-use crate::insn::{Insn, Prog};
 use crate::longest::Longest;
 use crate::machine::{MAX_BRANCHES, Machine, Next, Stop, Task};
 use crate::memos::Memos;
-use crate::threads::crosses_threads;
 use crate::whole::Found;
 use fancy_characters::places::is_place;
 use fancy_expr::error::{Error, RuntimeError};
+use fancy_program::insn::{Insn, Prog};
+use fancy_program::threads::crosses_threads;
 use fancy_state::state::State;
 use std::alloc::Global;
 

@@ -5,15 +5,15 @@ ghost use Rattle.fancy_meaning.specs.Fits.{run_fits};
 ghost use Rattle.fancy_meaning.specs.Places.{is_place};
 ghost use Rattle.fancy_state.specs.Refused.{IsMemory};
 ghost use Rattle.fancy_vm.specs.Outcomes.{RunAnswers, ending};
-ghost use Rattle.fancy_vm.specs.Programs.{task_of};
+ghost use Rattle.fancy_vm.specs.Tasks.{task_of};
 ghost use Rattle.fancy_vm.specs.Walks.{Begins, IsOnRun, config_in, task_in};
 
-use crate::insn::Prog;
 use crate::longest::Longest;
 use crate::machine::{MAX_BRANCHES, Machine, Next, Task};
 use crate::memos::Memos;
 use crate::runs::RunOptions;
 use fancy_expr::error::{Error, RuntimeError};
+use fancy_program::insn::Prog;
 use fancy_state::state::State;
 use std::alloc::Global;
 use std::marker::Model;
@@ -31,7 +31,7 @@ pub struct Walk<'a> {
 impl<'a> Model for Walk<'a> {
     ghost use Rattle.std.specs.Coded.{codes};
     ghost use Rattle.fancy_vm.specs.Walks.{IsWalk, Standing, standing_of};
-    ghost use Rattle.fancy_vm.specs.contracts.insn.Prog as prog;
+    ghost use Rattle.fancy_program.specs.contracts.insn.Prog as prog;
 
     ghost Value = { Standing };
 

@@ -1,7 +1,7 @@
 use Rattle.std.proofs.Common.{◌≤◌, length, ap, ◌∙◌, arith}
 use Rattle.std.specs.Option.{ForSome}
 use Rattle.std.proofs.lemmas.List.{length-map}
-use Rattle.fancy_vm.specs.Insns.{insn_of}
+use Rattle.fancy_program.specs.Insns.{insn_of}
 use Rattle.fancy_meaning.specs.Fits.{program_fits}
 use Rattle.fancy_compile.specs.Compiled.{plan_with}
 use Rattle.fancy_code.specs.Drafts.{draft_of}

@@ -2,7 +2,7 @@ use Rattle.std.specs.Prelude.{IfOk}
 use Rattle.std.proofs.Common.{subst}
 use Rattle.fancy_meaning.specs.Options.{RunOptions}
 use Rattle.fancy_vm.specs.Means.{IsMeaning, numbers_of}
-use Rattle.fancy_vm.specs.Programs.{prog_of}
+use Rattle.fancy_program.specs.Programs.{prog_of}
 use Rattle.fancy_vm.proofs.runs.run_default.Goals as goal
 
 pub returns-clause-headline : goal.returns-clause-headline

@@ -2,8 +2,9 @@ use Rattle.std.proofs.Common.{◌<◌, ◌∙◌, None, Ok, Some, length, arith,
 use Rattle.fancy_meaning.specs.Config as config
 use Rattle.fancy_meaning.specs.Numbers.{usize_max}
 use Rattle.fancy_vm.specs.Means.{answer_in}
-use Rattle.fancy_vm.specs.Programs.{prog_of, options_of, task_of}
-use Rattle.fancy_vm.specs.Wholes.{IsFound}
+use Rattle.fancy_program.specs.Programs.{prog_of}
+use Rattle.fancy_vm.specs.Tasks.{options_of, task_of}
+use Rattle.fancy_vm.specs.Founds.{IsFound}
 use Rattle.fancy_vm.proofs.MeaningLaws.{run_means}
 use Rattle.fancy_vm.proofs.runs.run_into.Goals as goal
 

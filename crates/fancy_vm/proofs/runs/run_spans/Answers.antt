@@ -1,7 +1,8 @@
 use Rattle.std.proofs.Common.{◌<◌, None, Ok, Some, length, arith, subst}
 use Rattle.fancy_meaning.specs.Numbers.{usize_max}
-use Rattle.fancy_vm.specs.Programs.{prog_of, options_of, task_of}
-use Rattle.fancy_vm.specs.Wholes.{IsFound}
+use Rattle.fancy_program.specs.Programs.{prog_of}
+use Rattle.fancy_vm.specs.Tasks.{options_of, task_of}
+use Rattle.fancy_vm.specs.Founds.{IsFound}
 use Rattle.fancy_vm.proofs.MeaningLaws.{run_means_pair}
 use Rattle.fancy_vm.proofs.WholeLaws.{found_pair}
 use Rattle.fancy_vm.proofs.runs.run_spans.Goals as goal

@@ -3,7 +3,7 @@ use Rattle.fancy_info.specs.Infos.{info_tree}
 use Rattle.fancy_meaning.specs.Batches.{batch}
 use Rattle.fancy_meaning.specs.Code.{nothing, one}
 use Rattle.fancy_plain.specs.Tables.{HaveClasses, IsRefusedFor}
-use Rattle.fancy_vm.specs.Insns.{insn_of}
+use Rattle.fancy_program.specs.Insns.{insn_of}
 use Rattle.fancy_code.specs.Batches.{code_of}
 use Rattle.fancy_code.specs.Drafts.{draft_of, Writes}
 use Rattle.fancy_code.proofs.EasyClasses.{wrote_easy, refused_easy}

@@ -1,5 +1,5 @@
 use Rattle.std.proofs.Common.{None, map, ap}
-use Rattle.fancy_vm.specs.Insns.{insn_of}
+use Rattle.fancy_program.specs.Insns.{insn_of}
 use Rattle.fancy_code.specs.Drafts.{Draft}
 use Rattle.fancy_code.proofs.writer.CodeWriter.new.Goals as goal
 

@@ -1,6 +1,6 @@
 use Rattle.std.proofs.Common.{List, ap}
 use Rattle.std.proofs.lemmas.List.{map-set}
-use Rattle.fancy_vm.specs.Insns.{insn_of}
+use Rattle.fancy_program.specs.Insns.{insn_of}
 use Rattle.fancy_meaning.specs.Instr.{Instr}
 use Rattle.fancy_code.specs.Drafts.{Draft, draft_of}
 use Rattle.fancy_code.proofs.writer.CodeWriter.patch.Goals as goal

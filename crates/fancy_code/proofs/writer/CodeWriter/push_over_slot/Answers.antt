@@ -1,6 +1,6 @@
 use Rattle.std.proofs.Common.{[], arith, refl}
 use Rattle.std.proofs.lemmas.List.{length-map}
-use Rattle.fancy_vm.specs.Insns.{insn_of}
+use Rattle.fancy_program.specs.Insns.{insn_of}
 use Rattle.fancy_code.specs.Drafts.{draft_of}
 use Rattle.fancy_code.proofs.Writing.{adds_to, extended_length}
 use Rattle.fancy_code.proofs.writer.CodeWriter.push_over_slot.Goals as goal

@@ -1,6 +1,7 @@
 use Rattle.std.proofs.Common.{◌≡◌, false, true, [], sym, ap, ◌∙◌, subst}
 use Rattle.fancy_meaning.specs.Fits.{run_fits}
-use Rattle.fancy_vm.specs.Programs.{options_of as run_options_of, prog_of}
+use Rattle.fancy_program.specs.Programs.{prog_of}
+use Rattle.fancy_vm.specs.Tasks.{options_of as run_options_of}
 use Rattle.fancy_search.specs.Searches.{program}
 use Rattle.fancy_matches.specs.Regexes as matches
 use Rattle.fancy_host.specs.Lists.{Lists, Writes, does_not_fit, listed, listing, standing_of}

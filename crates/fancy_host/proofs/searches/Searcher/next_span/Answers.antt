@@ -5,7 +5,8 @@ use Rattle.fancy_meaning.specs.Places.{is_place}
 use Rattle.fancy_meaning.specs.Premises.{IsText}
 use Rattle.fancy_laws.proofs.Moves.{is_place_parts}
 use Rattle.fancy_vm.specs.Means.{IsMeaningPair}
-use Rattle.fancy_vm.specs.Programs.{options_of as run_options_of, prog_of}
+use Rattle.fancy_program.specs.Programs.{prog_of}
+use Rattle.fancy_vm.specs.Tasks.{options_of as run_options_of}
 use Rattle.fancy_search.specs.Searches.{program}
 use Rattle.fancy_matches.specs.Listing.{after, is_listed}
 use Rattle.fancy_matches.specs.Regexes.{standing_of}

@@ -1,5 +1,5 @@
 use Rattle.std.proofs.Common.{◌≡◌, ◌-◌, suc, [], length}
-use Rattle.fancy_vm.specs.Programs.{options_of as run_options_of}
+use Rattle.fancy_vm.specs.Tasks.{options_of as run_options_of}
 use Rattle.fancy_matches.specs.Regexes.{standing_of}
 use Rattle.fancy_host.specs.Lists.{AreFirst}
 use Rattle.fancy_host.proofs.searches.Searcher.next_span.Given as goal

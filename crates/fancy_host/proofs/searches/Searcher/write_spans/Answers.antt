@@ -1,6 +1,6 @@
 use Rattle.std.proofs.Common.{◌≡◌, true, ◌<◌, ◌≤◌, [], ◌∷◌, None, Some, Ok, Err, refl, sym, ap, ◌∙◌, subst, arith}
 use Rattle.fancy_meaning.specs.Fits.{run_fits}
-use Rattle.fancy_vm.specs.Programs.{options_of as run_options_of, task_of}
+use Rattle.fancy_vm.specs.Tasks.{options_of as run_options_of, task_of}
 use Rattle.fancy_search.specs.Searches.{program}
 use Rattle.fancy_matches.specs.Regexes.{standing_of}
 use Rattle.fancy_host.specs.Codes.{no_match, ok}

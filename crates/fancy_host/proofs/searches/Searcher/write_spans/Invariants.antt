@@ -1,5 +1,5 @@
 use Rattle.std.proofs.Common.{◌≡◌}
-use Rattle.fancy_vm.specs.Programs.{options_of as run_options_of}
+use Rattle.fancy_vm.specs.Tasks.{options_of as run_options_of}
 use Rattle.fancy_matches.specs.Regexes.{standing_of}
 use Rattle.fancy_host.proofs.Writing.{Written}
 use Rattle.fancy_host.proofs.searches.Searcher.write_spans.Given as goal

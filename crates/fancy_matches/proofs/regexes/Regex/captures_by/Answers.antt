@@ -2,8 +2,8 @@ use Rattle.std.proofs.Common.{Ok, length, ◌<◌, arith, subst}
 use Rattle.fancy_meaning.specs.Numbers.{usize_max}
 use Rattle.fancy_meaning.specs.Premises.{IsText}
 use Rattle.fancy_search.specs.Searches.{Promises, program}
-use Rattle.fancy_vm.specs.Programs.{options_of as run_options_of, task_of}
-use Rattle.fancy_vm.proofs.FitsLaws.{run_place}
+use Rattle.fancy_vm.specs.Tasks.{options_of as run_options_of, task_of}
+use Rattle.fancy_program.proofs.FitsLaws.{run_place}
 use Rattle.fancy_matches.proofs.Searching.{captures_sound}
 use Rattle.fancy_matches.proofs.regexes.Regex.captures_by.Goals as goal
 

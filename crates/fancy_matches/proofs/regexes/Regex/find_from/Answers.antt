@@ -7,8 +7,9 @@ use Rattle.fancy_meaning.specs.Numbers.{usize_max}
 use Rattle.fancy_meaning.specs.Premises.{IsAccepted, IsText, plan}
 use Rattle.fancy_vm.specs.Means.{IsMeaningPair}
 use Rattle.fancy_vm.specs.Outcomes.{RunAnswersPair}
-use Rattle.fancy_vm.specs.Programs.{options_of as run_options_of, prog_of, task_of}
-use Rattle.fancy_vm.specs.declared.insn.Prog.{Prog}
+use Rattle.fancy_program.specs.Programs.{prog_of}
+use Rattle.fancy_vm.specs.Tasks.{options_of as run_options_of, task_of}
+use Rattle.fancy_program.specs.declared.insn.Prog.{Prog}
 use Rattle.fancy_vm.specs.declared.runs.RunOptions.{RunOptions}
 use Rattle.fancy_search.specs.Searches.{Promises, instructions_of, program}
 use Rattle.fancy_matches.specs.Listing.{begun_at}

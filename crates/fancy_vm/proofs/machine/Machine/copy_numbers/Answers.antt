@@ -1,6 +1,6 @@
 use Rattle.std.proofs.Common.{arith, ap, length, length-take}
-use Rattle.fancy_vm.specs.Programs.{prog_of}
-use Rattle.fancy_vm.proofs.FitsLaws.{fits_flag}
+use Rattle.fancy_program.specs.Programs.{prog_of}
+use Rattle.fancy_program.proofs.FitsLaws.{fits_flag}
 use Rattle.fancy_vm.proofs.NumbersLaws.{numbers_are}
 use Rattle.fancy_vm.proofs.machine.Machine.copy_numbers.Goals as goal
 

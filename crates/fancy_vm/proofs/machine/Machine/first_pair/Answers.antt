@@ -1,8 +1,8 @@
 use Rattle.std.proofs.Common.{arith, ap₂, ◌∙◌, sym}
 use Rattle.fancy_meaning.specs.Numbers.{usize_max}
 use Rattle.fancy_meaning.specs.Machine.{flag_slot}
-use Rattle.fancy_vm.specs.Programs.{prog_of}
-use Rattle.fancy_vm.proofs.FitsLaws.{fits_two, flag_two}
+use Rattle.fancy_program.specs.Programs.{prog_of}
+use Rattle.fancy_program.proofs.FitsLaws.{fits_two, flag_two}
 use Rattle.fancy_vm.proofs.NumbersLaws.{first_two}
 use Rattle.fancy_vm.proofs.machine.Machine.first_pair.Goals as goal
 

@@ -7,8 +7,8 @@ use Rattle.fancy_laws.proofs.Every.{no_item}
 use Rattle.fancy_vm.specs.Memos.{AreMemosOf}
 use Rattle.fancy_vm.specs.Outcomes.{StepAnswers, config_of, ending, plain_task, Finds}
 use Rattle.fancy_vm.specs.declared.machine.Task.{Task}
-use Rattle.fancy_vm.proofs.PlacesLaws.{GoesToPlaces, IsAtPlaces, step_at_leads}
-use Rattle.fancy_vm.proofs.StartsLaws.{all_at_places, runs_past}
+use Rattle.fancy_program.proofs.PlacesLaws.{GoesToPlaces, IsAtPlaces, step_at_leads}
+use Rattle.fancy_program.proofs.StartsLaws.{all_at_places, runs_past}
 use Rattle.fancy_vm.proofs.StepLaws.{exec_step, next_of, runs_on, runs_out, stop_finds}
 use Rattle.fancy_vm.proofs.machine.Machine.run.Goals as goal
 

@@ -2,7 +2,7 @@ use Rattle.std.proofs.Common.{◌≡◌}
 use Rattle.fancy_meaning.specs.Machine as machine
 use Rattle.fancy_vm.specs.Memos.{AreMemosOf}
 use Rattle.fancy_vm.specs.Outcomes.{config_of, plain_task}
-use Rattle.fancy_vm.proofs.PlacesLaws.{IsAtPlaces}
+use Rattle.fancy_program.proofs.PlacesLaws.{IsAtPlaces}
 use Rattle.fancy_vm.proofs.machine.Machine.run.Given as goal
 
 abbrev pub invariant-steps : goal.invariant-steps

@@ -3,7 +3,7 @@ use Rattle.fancy_meaning.specs.Machine as machine
 use Rattle.fancy_meaning.specs.Places.{is_place}
 use Rattle.fancy_vm.specs.Outcomes.{RunAnswersPair, plain_task}
 use Rattle.fancy_vm.specs.declared.machine.Task.{Task}
-use Rattle.fancy_vm.proofs.FitsLaws.{run_implicit, run_place}
+use Rattle.fancy_program.proofs.FitsLaws.{run_implicit, run_place}
 use Rattle.fancy_vm.proofs.runs.Scratch.answer_pair.Goals as goal
 
 pub begin-m-requires-clause-implicit : goal.begin-m-requires-clause-implicit

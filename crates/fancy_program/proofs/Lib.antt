@@ -1,0 +1,10 @@
+pub mod FitsLaws
+pub mod BeginningLaws
+pub mod StartRunLaws
+pub mod BlockLaws
+pub mod StartsLaws
+pub mod AttemptLaws
+pub mod LazyLoopsLaws
+pub mod BackLaws
+pub mod ThreadsLaws
+pub mod PlacesLaws

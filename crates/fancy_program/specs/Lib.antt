@@ -1,0 +1,7 @@
+pub mod Insns
+pub mod Programs
+pub mod Beginnings
+pub mod StartRuns
+pub mod Attempts
+pub mod LazyLoops
+pub mod Wholes

@@ -1,0 +1,13 @@
+//! Programs: instructions, what a run reads beside them, and what their shape tells.
+#![tactic(auto)]
+
+mod attempt;
+pub mod beginning;
+mod blocks;
+pub mod hints;
+pub mod insn;
+pub mod lazy;
+mod listing;
+pub mod moves;
+mod program;
+pub mod threads;

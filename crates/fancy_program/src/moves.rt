@@ -1,0 +1,108 @@
+//! One step in a text: from a place the place after what is taken, if it is there.
+
+ghost use Rattle.std.specs.Prelude.{◌≡◌, ◌&&◌, nat_le, IfOk};
+ghost use Rattle.fancy_meaning.specs.Moves as moves;
+ghost use Rattle.fancy_meaning.specs.Places as place;
+ghost use Rattle.fancy_meaning.specs.Machine.{class_test};
+ghost use Rattle.fancy_characters.specs.Classes.{class_of};
+ghost use Rattle.fancy_characters.specs.Literals.{literal_tests};
+
+use fancy_characters::classes::{CaseiLiteral, CharClassMatcher};
+use fancy_characters::places::is_place;
+use std::alloc::{AllocError, Global};
+
+/// A step back by so many characters is a long one.
+pub const LONG_STEP: usize = 64;
+
+/// The place this many characters before. A character has a byte at least, so there is none where the bytes are fewer.
+pub fn back_by(text: &[u8], chars: usize, ix: usize) -> Option<usize>
+    ensures { result ≡ place.back_by text.now chars ix }
+{
+    if chars > ix {
+        return None;
+    }
+    let mut left = chars;
+    let mut at = ix;
+    'back: loop {
+        if is_place(text, at) {
+            if left == 0 {
+                return Some(at);
+            }
+            left -= 1;
+        }
+        if at == 0 {
+            return None;
+        }
+        at -= 1;
+    }
+}
+
+/// How many characters stand between two bytes of the text.
+pub fn chars_between(text: &[u8], from: usize, to: usize) -> usize
+    ensures { result ≡ place.chars_between text.now from to }
+{
+    let mut count = 0;
+    'places: for at in from..to {
+        if is_place(text, at + 1) {
+            count += 1;
+        }
+    }
+    count
+}
+
+/// Past the characters of the literal.
+pub fn past_literal(literal: &CaseiLiteral, text: &str, ix: usize) -> Option<usize>
+    ensures { result ≡ moves.past_chars text.now (literal_tests literal.now) ix }
+{
+    Some(ix + literal.match_len(text, ix)?)
+}
+
+/// Past one character of the class.
+#[inline(always)]
+pub fn past_class(
+    alloc: Global,
+    class: &CharClassMatcher,
+    text: &str,
+    ix: usize,
+) -> Result<Option<usize>, AllocError>
+    ensures { IfOk result
+        (λ to. to ≡ moves.past_char text.now (class_test (class_of class.now)) ix) }
+{
+    let Some(byte) = text.as_bytes().get(ix) else {
+        return Ok(None);
+    };
+    if *byte >= 128 {
+        return past_other(alloc, class, text, ix);
+    }
+    if class.takes_ascii(*byte) {
+        Ok(Some(ix + 1))
+    } else {
+        Ok(None)
+    }
+}
+
+/// The same, whatever character stands there.
+#[inline(never)]
+fn past_other(
+    alloc: Global,
+    class: &CharClassMatcher,
+    text: &str,
+    ix: usize,
+) -> Result<Option<usize>, AllocError>
+    ensures { IfOk result
+        (λ to. to ≡ moves.past_char text.now (class_test (class_of class.now)) ix) }
+{
+    match class.match_len(alloc, text, ix).ok() {
+        None => Err(AllocError),
+        Some(None) => Ok(None),
+        Some(Some(len)) => Ok(Some(ix + len)),
+    }
+}
+
+/// The two are places of the text, in order.
+pub fn is_span(text: &[u8], from: usize, to: usize) -> bool
+    ensures { result ≡ (nat_le from to
+        && (place.is_place text.now from && place.is_place text.now to)) }
+{
+    from <= to && is_place(text, from) && is_place(text, to)
+}
