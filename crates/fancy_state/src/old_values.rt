@@ -9,11 +9,14 @@ use std::marker::Model;
 /// What a cell held before a change.
 #[derive(Clone, Copy)]
 pub(crate) struct Old {
-    cell: usize,
     value: usize,
-    /// Where the cell was logged before, if it was.
-    before: usize,
+    cell: u32,
+    /// Where the cell was logged before, if it was, by its lower 32 bits: a hint.
+    before: u32,
 }
+
+/// There are never more cells: what would need more counts as want of memory, since these take 64 GiB.
+const MOST_CELLS: usize = 1 << 32;
 
 /// Cells, and a log of what they held before they were changed.
 #[derive(Drop)]
@@ -37,7 +40,7 @@ impl Model for Cells {
 }
 
 /// The cell's last change is logged at this place, since the mark.
-fn is_logged(log: &[Old], mark: usize, place: usize, cell: usize) -> bool
+fn is_logged(log: &[Old], mark: usize, place: usize, cell: u32) -> bool
     ensures { IsTrue result → IsSettled (drop mark log.now) cell }
 {
     mark <= place && place < log.len() && log[place].cell == cell
@@ -69,6 +72,9 @@ impl Cells {
     pub(crate) fn new(alloc: Global, count: usize) -> Result<Cells, AllocError>
         ensures ok { IfOk result (λ cells. cells ≡ first_cells count) }
     {
+        if count >= MOST_CELLS {
+            return Err(AllocError);
+        }
         let mut values = vec![in alloc; usize::MAX; count]?;
         values.push(0)?;
         let places = vec![in alloc; 0; values.len()]?;
@@ -84,6 +90,9 @@ impl Cells {
     pub(crate) fn renew(self, count: usize) -> Result<Cells, AllocError>
         ensures ok { IfOk result (λ cells. cells ≡ first_cells count) }
     {
+        if count >= MOST_CELLS {
+            return Err(AllocError);
+        }
         let Cells {
             mut values,
             mut places,
@@ -163,13 +172,13 @@ impl Cells {
             None => {}
             Some(mark) => {
                 let before = self.places[cell];
-                if !is_logged(&self.log, mark, before, cell) {
+                if !is_logged(&self.log, mark, before, cell as u32) {
                     let place = self.log.len();
                     let value = self.values[cell];
                     let old = Old {
-                        cell,
                         value,
-                        before,
+                        cell: cell as u32,
+                        before: (before % (1 << 32)) as u32,
                     };
                     push(&mut self.log, old)?;
                     self.places[cell] = place;
@@ -191,6 +200,9 @@ impl Cells {
         if cell < self.values.len() {
             return Ok(());
         }
+        if cell >= MOST_CELLS {
+            return Err(AllocError);
+        }
         self.places.push(0)?;
         self.values.push(0)?;
         Ok(())
@@ -208,8 +220,8 @@ impl Cells {
             let Some(old) = self.log.pop() else {
                 unreachable!()
             };
-            self.values[old.cell] = old.value;
-            self.places[old.cell] = old.before;
+            self.values[old.cell as usize] = old.value;
+            self.places[old.cell as usize] = old.before as usize;
         }
     }
 
@@ -226,16 +238,18 @@ impl Cells {
         let mut kept = first;
         'join: for next in first..self.log.len() {
             let old = self.log[next];
-            let place = if old.before < first {
-                old.before
+            let cell = old.cell as usize;
+            let before = old.before as usize;
+            let place = if before < first {
+                before
             } else {
-                self.places[old.cell]
+                self.places[cell]
             };
             if is_logged(&self.log[..kept], mark, place, old.cell) {
-                self.places[old.cell] = place;
+                self.places[cell] = place;
             } else {
                 self.log[kept] = old;
-                self.places[old.cell] = kept;
+                self.places[cell] = kept;
                 kept += 1;
             }
         }

@@ -56,7 +56,7 @@ fn newest_mark(branches: &[Branch]) -> Option<usize>
 
 impl State {
     /// A state of `n_saves` slots that are not set, which may hold `max_stack` branches. `Memory` where a request for
-    /// memory was refused.
+    /// memory was refused, as one for 2^32 slots is.
     pub fn new(alloc: Global, n_saves: usize, max_stack: usize) -> Result<State, Error>
         ensures ok { IfOk result (λ s. s ≡ first_held n_saves max_stack) }
         ensures err { IfErr result IsMemory }

@@ -51,7 +51,8 @@ join-preserved c =
             len = inv.len;
             values = inv.values;
             logged = record {
-              places = omega (arith, length-set s.places.items e.cell c.if-old-first.place, inv.logged.places);
+              few = inv.logged.few;
+              places = omega (arith, length-set s.places.items e.cell c.if-before-first.place, inv.logged.places);
               inside = inv.logged.inside;
             };
             agrees =
@@ -67,6 +68,7 @@ join-preserved c =
             len = length-set log kept e ∙ inv.len;
             values = inv.values;
             logged = record {
+              few = inv.logged.few;
               places = omega (arith, length-set s.places.items e.cell kept, inv.logged.places);
               inside = inside_set log _ kept e inv.logged.inside (old_inside log _ next e inv.logged.inside here c.index-old.ensures);
             };
@@ -80,6 +82,7 @@ pub invariant_of-self : goal.invariant_of-self
 invariant_of-self c =
     let inv = c.join.invariant in
     record {
+      few = inv.logged.few;
       places = inv.logged.places;
       inside = rw c.truncate.ensures.items (inside_take c.join.self-inside.log.items _ c.join.kept inv.logged.inside);
     }

@@ -10,6 +10,7 @@ pub invariant_of-self-2 : goal.invariant_of-self-2
 invariant_of-self-2 c =
     let s = c.self.inside in
     record {
+      few = omega (arith, ap length c.in_ok-push-2.ensures.items, length-append s.values.items (0 ∷ []));
       places = omega (arith, c.self.invariant.places, ap length c.in_ok-push.ensures.items, ap length c.in_ok-push-2.ensures.items, length-append s.places.items (0 ∷ []), length-append s.values.items (0 ∷ []));
       inside = inside_more s.log.items _ _ (omega (arith, ap length c.in_ok-push-2.ensures.items, length-append s.values.items (0 ∷ []))) c.self.invariant.inside;
     }

@@ -33,18 +33,21 @@ invariant_of-self-2 c =
       | in-None w ↦
           rw w.self-inside-is
           (record {
+            few = omega (arith, len, inv.few);
             places = omega (arith, len, inv.places);
             inside = subst (λ k. AreInside k s.log.items) (sym len) inv.inside;
           })
       | in-Some+then-not-is_logged+in_ok-push-in-Some w ↦
           rw w.self-inside-is
           (record {
+            few = omega (arith, len, inv.few);
             places = omega (arith, len, length-set s.places.items c.args.cell w.len-place.result, inv.places);
             inside = rw (w.in_ok-push-in-Some.ensures.items, len) (inside_append s.log.items _ (length values) inv.inside (here, tt));
           })
       | in-Some+else-not-is_logged w ↦
           rw w.self-inside-is
           (record {
+            few = omega (arith, len, inv.few);
             places = omega (arith, len, inv.places);
             inside = subst (λ k. AreInside k s.log.items) (sym len) inv.inside;
           })

@@ -38,6 +38,7 @@ undo-preserved c =
       mark = low;
       values = length-set s.values.items e.cell e.value ∙ c.undo.invariant.values;
       logged = record {
+        few = omega (arith, length-set s.values.items e.cell e.value, c.undo.invariant.logged.few);
         places = omega (arith, length-set s.values.items e.cell e.value, length-set s.places.items e.cell e.before, c.undo.invariant.logged.places);
         inside = subst (λ k. AreInside k log) (sym (length-set s.values.items e.cell e.value)) (inside_front log (e ∷ []) room inside);
       };
