@@ -2,6 +2,9 @@
 #![tactic(auto)]
 
 mod lists;
+mod regexes;
+mod replacements;
+mod rows;
 mod scans;
 
 use fancy_tables::tables::{Table, print_table};
@@ -14,16 +17,10 @@ struct ListTables;
 
 impl Table for ListTables {
     fn outcome(&mut self, alloc: Global, table: &str, key: &str) -> Result<String, AllocError> {
-        let line = match table {
-            "matches" => lists::matches(alloc, key),
-            "splits" => lists::pieces(alloc, key),
-            "replacements" => lists::replacement(alloc, key),
-            _ => scans::scans(alloc, key),
-        };
-        match line {
-            Ok(line) => Ok(line),
-            Err(error) => lists::refusal(alloc, &error),
-        }
+        let mut line = String::new(alloc);
+        let outcome = rows::push_outcome(&mut line, alloc, table, key);
+        rows::finish(&mut line, outcome)?;
+        Ok(line)
     }
 }
 
