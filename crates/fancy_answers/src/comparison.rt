@@ -38,6 +38,20 @@ fn asked(arguments: &Arguments, pos: usize) -> SearchOptions {
     }
 }
 
+/// The numbers that the plain program answers are these, or a limit was passed.
+fn is_meant(
+    alloc: Global,
+    tree: &ExprTree,
+    text: &str,
+    options: &SearchOptions,
+    found: &Result<Option<Vec<usize>>, Error>,
+) -> bool {
+    if matches!(found, Err(Error::RuntimeError(_))) {
+        return true;
+    }
+    is_well_formed(tree) && equal(found, &answer(alloc, tree, options, text))
+}
+
 /// The run from this place answers as the plain program does, or passes a limit.
 fn is_answered_as_meant(
     alloc: Global,
@@ -51,14 +65,11 @@ fn is_answered_as_meant(
         pos,
         ..arguments.running()
     };
-    if !options.fits(prog, text) || !is_well_formed(tree) {
+    if !options.fits(prog, text) {
         return false;
     }
-    let mut scratch = Scratch::new(alloc);
-    match run(alloc, prog, text, &options, &mut scratch) {
-        Err(Error::RuntimeError(_)) => true,
-        found => equal(&found, &answer(alloc, tree, &asked(arguments, pos), text)),
-    }
+    let found = run(alloc, prog, text, &options, &mut Scratch::new(alloc));
+    is_meant(alloc, tree, text, &asked(arguments, pos), &found)
 }
 
 /// From each place of the text the program of the tree answers as the plain one does.

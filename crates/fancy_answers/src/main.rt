@@ -13,7 +13,6 @@ use fancy_regex_engine::vm::Scratch;
 use fancy_tables::tables::{Table, print_table};
 use std::alloc::{AllocError, Global};
 use std::io;
-use std::rt::Files;
 
 /// One scratch serves all rows.
 #[derive(Drop)]
@@ -56,16 +55,12 @@ const TABLES: [&str; 14] = [
     "chance",
 ];
 
-fn print_tables(rt: &(impl Files + Print + AllocGlobal)) -> io::Result<()> {
+fn main(rt: HostRuntime) -> io::Result<()> {
     let mut engine = Engine {
         scratch: Scratch::new(rt.alloc()),
     };
     for table in TABLES {
-        print_table(rt, &mut engine, table)?;
+        print_table(&rt, &mut engine, table)?;
     }
     Ok(())
-}
-
-fn main(rt: HostRuntime) -> io::Result<()> {
-    print_tables(&rt)
 }

@@ -6,6 +6,7 @@ use fancy_regex_engine::error::Error;
 use fancy_regex_engine::vm::{Insn, Prog, ProgParts, RunOptions, Scratch, run, run_default};
 use fancy_tables::columns::{differ, pair, split, with_codes};
 use std::alloc::{AllocError, Global};
+use std::str::SplitWhitespace;
 
 /// What a program without explicit group 0 is besides its instructions.
 fn parts(numbers: &str, end_text: bool) -> ProgParts {
@@ -23,13 +24,18 @@ fn parts(numbers: &str, end_text: bool) -> ProgParts {
     }
 }
 
-/// The program, if its instructions fit its numbers.
-fn program(alloc: Global, key: &str) -> Result<Option<Prog>, Error> {
-    let (numbers, words) = split(key);
+/// The instructions that the words spell.
+fn body(alloc: Global, words: &str) -> Result<Vec<Insn>, Error> {
     let mut body = Vec::new(alloc);
     for word in words.split_whitespace() {
         body.push(instruction(alloc, word)?)?;
     }
+    Ok(body)
+}
+
+/// The program, if its instructions fit its numbers.
+fn program(alloc: Global, numbers: &str, words: &str) -> Result<Option<Prog>, Error> {
+    let body = body(alloc, words)?;
     let parts = parts(numbers, words.contains("Reject"));
     if !parts.fits(&body) {
         return Ok(None);
@@ -37,19 +43,22 @@ fn program(alloc: Global, key: &str) -> Result<Option<Prog>, Error> {
     Ok(Some(Prog::new(body, parts)))
 }
 
+/// The number that the next word spells.
+fn next_number(words: &mut SplitWhitespace<'_>) -> Option<u64> {
+    words.next()?.parse::<u64>().ok()
+}
+
 /// The place, the backtrack limit and the step limit; the default ones where there are none.
 fn options(words: &str) -> RunOptions {
-    let mut words = words
-        .split_whitespace()
-        .map(|word| word.parse::<u64>().ok());
-    let pos = words.next().flatten().unwrap_or(0);
+    let mut words = words.split_whitespace();
     let default = RunOptions::default();
-    let backtracks = words.next().flatten();
-    let steps = words.next().flatten();
+    let pos = next_number(&mut words).unwrap_or(0);
+    let backtracks = next_number(&mut words).unwrap_or(default.backtrack_limit as u64);
+    let steps = next_number(&mut words).unwrap_or(default.step_limit);
     RunOptions {
         pos: pos as usize,
-        backtrack_limit: backtracks.map_or(default.backtrack_limit, |limit| limit as usize),
-        step_limit: steps.unwrap_or(default.step_limit),
+        backtrack_limit: backtracks as usize,
+        step_limit: steps,
         ..default
     }
 }
@@ -64,12 +73,31 @@ fn described(alloc: Global, prog: &Prog) -> Result<String, AllocError> {
     format!(in alloc; "{length} {groups} {most} {explicit} {not_empty} {is_ended} {is_small}")
 }
 
-fn numbers(alloc: Global, found: Result<Option<Vec<usize>>, Error>) -> Result<String, AllocError> {
+fn numbers(alloc: Global, found: &Result<Option<Vec<usize>>, Error>) -> Result<String, AllocError> {
     match found {
         Ok(Some(numbers)) => format!(in alloc; "{numbers:?}"),
         Ok(None) => String::from_str(alloc, "none"),
         Err(error) => format!(in alloc; "{error:?}"),
     }
+}
+
+/// Where the words say no more than the place, the call with default options answers so too.
+fn default_agrees(
+    alloc: Global,
+    prog: &Prog,
+    text: &str,
+    words: &str,
+    pos: usize,
+    found: &Result<Option<Vec<usize>>, Error>,
+) -> bool {
+    let plain = RunOptions {
+        pos,
+        ..RunOptions::default()
+    };
+    if words.len() != 1 || !plain.fits(prog, text) {
+        return true;
+    }
+    equal(found, &run_default(alloc, prog, text, pos))
 }
 
 fn answer(
@@ -84,16 +112,26 @@ fn answer(
         return String::from_str(alloc, "does not fit");
     }
     let found = run(alloc, prog, text, &options, scratch);
-    let plain = RunOptions {
-        pos: options.pos,
-        ..RunOptions::default()
-    };
-    if words.len() == 1 && plain.fits(prog, text) {
-        if !equal(&found, &run_default(alloc, prog, text, options.pos)) {
-            return differ(alloc, "run_default");
-        }
+    if default_agrees(alloc, prog, text, words, options.pos, &found) {
+        numbers(alloc, &found)
+    } else {
+        differ(alloc, "run_default")
     }
-    numbers(alloc, found)
+}
+
+/// What is asked of the program: what it is besides its text, or its numbers.
+fn told(
+    alloc: Global,
+    prog: &Prog,
+    text: &str,
+    after: &str,
+    scratch: &mut Scratch,
+) -> Result<String, AllocError> {
+    if after == "parts" {
+        return described(alloc, prog);
+    }
+    let text = with_codes(alloc, text)?;
+    answer(alloc, prog, text.as_str(), after, scratch)
 }
 
 /// The numbers of a run: GROUPS,SLOTS, instructions, TEXT, and the place with its limits.
@@ -101,11 +139,8 @@ pub fn ran(alloc: Global, key: &str, scratch: &mut Scratch) -> Result<String, Al
     let (numbers, rest) = split(key);
     let (words, rest) = split(rest);
     let (text, after) = split(rest);
-    let text = with_codes(alloc, text)?;
-    let written = format!(in alloc; "{numbers} | {words}")?;
-    match program(alloc, written.as_str()) {
-        Ok(Some(prog)) if after == "parts" => described(alloc, &prog),
-        Ok(Some(prog)) => answer(alloc, &prog, text.as_str(), after, scratch),
+    match program(alloc, numbers, words) {
+        Ok(Some(prog)) => told(alloc, &prog, text, after, scratch),
         Ok(None) => String::from_str(alloc, "does not fit"),
         Err(error) => format!(in alloc; "{error:?}"),
     }

@@ -47,29 +47,28 @@ fn is_default(arguments: &Arguments) -> bool {
         && arguments.steps.is_none()
 }
 
-/// Of the calls that run a program, one that answers otherwise.
-fn differing_run(
+/// The call that answers with the span alone answers so too.
+fn spans_agree(
     alloc: Global,
     prog: &Prog,
     text: &str,
-    arguments: &Arguments,
+    options: &RunOptions,
     scratch: &mut Scratch,
-) -> Option<&'static str> {
-    let options = arguments.running();
-    if !options.fits(prog, text) {
-        return Some("fits");
-    }
-    let whole = run(alloc, prog, text, &options, scratch);
-    if !agree(&whole, &run_spans(alloc, prog, text, &options, scratch)) {
-        return Some("run_spans");
-    }
-    if !equal(&whole, &run(alloc, prog, text, &options, scratch)) {
-        return Some("run");
-    }
-    if !default_agrees(alloc, prog, text, arguments, &whole) {
-        return Some("run_default");
-    }
-    None
+    whole: &Result<Option<Vec<usize>>, Error>,
+) -> bool {
+    options.fits(prog, text) && agree(whole, &run_spans(alloc, prog, text, options, scratch))
+}
+
+/// The run answers so once more.
+fn again_agrees(
+    alloc: Global,
+    prog: &Prog,
+    text: &str,
+    options: &RunOptions,
+    scratch: &mut Scratch,
+    whole: &Result<Option<Vec<usize>>, Error>,
+) -> bool {
+    options.fits(prog, text) && equal(whole, &run(alloc, prog, text, options, scratch))
 }
 
 /// Where nothing is set for the run, the call with default options answers so too.
@@ -90,6 +89,44 @@ fn default_agrees(
     equal(whole, &run_default(alloc, prog, text, arguments.pos))
 }
 
+/// Of the calls that run a program, one that answers otherwise than this.
+fn differing_from(
+    alloc: Global,
+    prog: &Prog,
+    text: &str,
+    arguments: &Arguments,
+    scratch: &mut Scratch,
+    whole: &Result<Option<Vec<usize>>, Error>,
+) -> Option<&'static str> {
+    let options = arguments.running();
+    if !spans_agree(alloc, prog, text, &options, scratch, whole) {
+        return Some("run_spans");
+    }
+    if !again_agrees(alloc, prog, text, &options, scratch, whole) {
+        return Some("run");
+    }
+    if !default_agrees(alloc, prog, text, arguments, whole) {
+        return Some("run_default");
+    }
+    None
+}
+
+/// Of the calls that run a program, one that answers otherwise.
+fn differing_run(
+    alloc: Global,
+    prog: &Prog,
+    text: &str,
+    arguments: &Arguments,
+    scratch: &mut Scratch,
+) -> Option<&'static str> {
+    let options = arguments.running();
+    if !options.fits(prog, text) {
+        return Some("fits");
+    }
+    let whole = run(alloc, prog, text, &options, scratch);
+    differing_from(alloc, prog, text, arguments, scratch, &whole)
+}
+
 /// The call that makes the whole search answers as the run does.
 fn search_agrees(
     alloc: Global,
@@ -107,40 +144,53 @@ fn search_agrees(
     equal(&found, &run(alloc, prog, text, &options.run, scratch))
 }
 
-/// Of the calls that search for the tree, one that answers otherwise than the run; none where the tree is refused.
+/// Of the calls that search for the tree, one that answers otherwise than the run.
 fn differing_call(
+    alloc: Global,
+    tree: &ExprTree,
+    prog: &Prog,
+    text: &str,
+    arguments: &Arguments,
+    scratch: &mut Scratch,
+) -> Option<&'static str> {
+    if let Some(call) = differing_run(alloc, prog, text, arguments, scratch) {
+        return Some(call);
+    }
+    if !search_agrees(alloc, tree, prog, text, arguments, scratch) {
+        return Some("search");
+    }
+    if !answers_as_meant(alloc, tree, prog, text, arguments) {
+        return Some("fancy_reference");
+    }
+    None
+}
+
+/// The same with the program of the tree; none where the tree is refused.
+fn differing_for(
     alloc: Global,
     tree: &ExprTree,
     text: &str,
     arguments: &Arguments,
     scratch: &mut Scratch,
 ) -> Option<&'static str> {
-    let Ok(prog) = compiled(alloc, tree, arguments.analysis(), arguments.compilation()) else {
-        return None;
-    };
-    if let Some(call) = differing_run(alloc, &prog, text, arguments, scratch) {
-        return Some(call);
+    match compiled(alloc, tree, arguments.analysis(), arguments.compilation()) {
+        Ok(prog) => differing_call(alloc, tree, &prog, text, arguments, scratch),
+        Err(_) => None,
     }
-    if !search_agrees(alloc, tree, &prog, text, arguments, scratch) {
-        return Some("search");
-    }
-    if !answers_as_meant(alloc, tree, &prog, text, arguments) {
-        return Some("fancy_reference");
-    }
-    None
 }
 
 /// Of the calls that search as the words ask, one that answers otherwise.
 fn differing(alloc: Global, words: &[String], scratch: &mut Scratch) -> Option<&'static str> {
-    let (tree, rest) = words.split_first()?;
-    let (text, after) = rest.split_first()?;
+    let [tree, text, after @ ..] = words else {
+        return None;
+    };
     let Some(arguments) = read_arguments(after) else {
         return Some("read_arguments");
     };
-    let Ok(tree) = read_tree(alloc, tree.as_str()) else {
-        return None;
-    };
-    differing_call(alloc, &tree, text.as_str(), &arguments, scratch)
+    match read_tree(alloc, tree.as_str()) {
+        Ok(tree) => differing_for(alloc, &tree, text.as_str(), &arguments, scratch),
+        Err(_) => None,
+    }
 }
 
 /// What the program writes, and its status.
@@ -177,15 +227,19 @@ fn wanted_status(line: &str) -> u8 {
     }
 }
 
-/// The line that is printed, with the status that goes with it.
-fn line(alloc: Global, words: &[String]) -> Result<String, AllocError> {
-    let Output { status, out, err } = printed(alloc, words)?;
-    match out.as_str().strip_suffix('\n') {
-        Some(line) if err.is_empty() && status == wanted_status(line) => {
+/// The line that was printed, with the status that goes with it.
+fn line_of(alloc: Global, output: &Output) -> Result<String, AllocError> {
+    match output.out.as_str().strip_suffix('\n') {
+        Some(line) if output.err.is_empty() && output.status == wanted_status(line) => {
             String::from_str(alloc, line)
         }
         _ => differ(alloc, "command"),
     }
+}
+
+fn line(alloc: Global, words: &[String]) -> Result<String, AllocError> {
+    let output = printed(alloc, words)?;
+    line_of(alloc, &output)
 }
 
 /// The line that is printed; `<9*a>` is nine letters a.
@@ -195,19 +249,31 @@ pub fn answered(alloc: Global, key: &str) -> Result<String, AllocError> {
 }
 
 /// Whether the calls that make the search agree.
-pub fn agreed(alloc: Global, key: &str, scratch: &mut Scratch) -> Result<String, AllocError> {
-    let words = search_words(alloc, key)?;
-    match differing(alloc, &words, scratch) {
+fn agreement(alloc: Global, words: &[String], scratch: &mut Scratch) -> Result<String, AllocError> {
+    match differing(alloc, words, scratch) {
         Some(call) => differ(alloc, call),
         None => String::from_str(alloc, "agree"),
     }
 }
 
 /// The line that is printed, where the calls that make the search agree.
-pub fn compared(alloc: Global, key: &str, scratch: &mut Scratch) -> Result<String, AllocError> {
-    let words = search_words(alloc, key)?;
-    match differing(alloc, &words, scratch) {
+fn agreed_line(
+    alloc: Global,
+    words: &[String],
+    scratch: &mut Scratch,
+) -> Result<String, AllocError> {
+    match differing(alloc, words, scratch) {
         Some(call) => differ(alloc, call),
-        None => line(alloc, &words),
+        None => line(alloc, words),
     }
+}
+
+/// Whether the calls that make the search agree.
+pub fn agreed(alloc: Global, key: &str, scratch: &mut Scratch) -> Result<String, AllocError> {
+    agreement(alloc, &search_words(alloc, key)?, scratch)
+}
+
+/// The line that is printed, where the calls that make the search agree.
+pub fn compared(alloc: Global, key: &str, scratch: &mut Scratch) -> Result<String, AllocError> {
+    agreed_line(alloc, &search_words(alloc, key)?, scratch)
 }

@@ -102,16 +102,15 @@ fn push_answers(line: &mut String, state: &mut Tried, words: &str) -> Result<(),
     Ok(())
 }
 
-/// What each call answers.
-fn try_called(alloc: Global, slots: usize, words: &str) -> Result<String, Error> {
-    let is_same = agree(alloc, slots, words)?;
-    let mut line = String::from_str(alloc, "answers")?;
-    let mut state = Tried::new(alloc, slots)?;
-    push_answers(&mut line, &mut state, words)?;
-    if !is_same {
-        line.push_str(" DIFFER")?;
+/// The calls answer as with copies.
+fn agree_on(state: &mut Tried, copying: &mut Copying, words: &str) -> Result<bool, Error> {
+    for word in words.split_whitespace() {
+        let call = call_of(word);
+        if !equal(state.make(call)?, copying.make(call)?) {
+            return Ok(false);
+        }
     }
-    Ok(line)
+    Ok(true)
 }
 
 /// The calls answer as with copies, or there are too many slots to copy.
@@ -120,36 +119,38 @@ fn agree(alloc: Global, slots: usize, words: &str) -> Result<bool, Error> {
         return Ok(true);
     }
     let mut copying = Copying::new(alloc, slots)?;
-    agree_on(&mut copying, alloc, slots, words)
-}
-
-/// The calls answer as with copies.
-fn agree_on(
-    copying: &mut Copying,
-    alloc: Global,
-    slots: usize,
-    words: &str,
-) -> Result<bool, Error> {
     let mut state = Tried::new(alloc, slots)?;
-    for word in words.split_whitespace() {
-        if !equal(state.make(call_of(word))?, copying.make(call_of(word))?) {
-            return Ok(false);
-        }
-    }
-    Ok(true)
+    agree_on(&mut state, &mut copying, words)
 }
 
-fn line_of(alloc: Global, line: Result<String, Error>) -> Result<String, AllocError> {
-    match line {
-        Ok(line) => Ok(line),
-        Err(error) => format!(in alloc; "{error:?}"),
+/// What each call answers.
+fn push_called(line: &mut String, alloc: Global, slots: usize, words: &str) -> Result<(), Error> {
+    let end = if agree(alloc, slots, words)? {
+        ""
+    } else {
+        " DIFFER"
+    };
+    line.push_str("answers")?;
+    let mut state = Tried::new(alloc, slots)?;
+    push_answers(line, &mut state, words)?;
+    Ok(line.push_str(end)?)
+}
+
+/// The line, or a refusal in its place.
+fn finished(mut line: String, outcome: Result<(), Error>) -> Result<String, AllocError> {
+    if let Err(error) = outcome {
+        line.clear();
+        write!(line, "{error:?}")?;
     }
+    Ok(line)
 }
 
 /// What each call answers, which is what a state that copies answers too.
 pub fn called(alloc: Global, key: &str) -> Result<String, AllocError> {
     let (slots, words) = split(key);
-    line_of(alloc, try_called(alloc, number(slots), words))
+    let mut line = String::new(alloc);
+    let outcome = push_called(&mut line, alloc, number(slots), words);
+    finished(line, outcome)
 }
 
 /// After the call both have as many branches, and the four slots hold the same.
@@ -186,16 +187,19 @@ fn first_difference(
     Ok(None)
 }
 
-fn try_by_chance(alloc: Global, count: usize) -> Result<String, Error> {
-    let mut state = Tried::new(alloc, 4)?;
+fn push_by_chance(line: &mut String, alloc: Global, count: usize) -> Result<(), Error> {
     let mut copying = Copying::new(alloc, 4)?;
+    let mut state = Tried::new(alloc, 4)?;
     match first_difference(&mut state, &mut copying, count)? {
-        Some(number) => Ok(format!(in alloc; "DIFFER: call {number}")?),
-        None => Ok(String::from_str(alloc, "agree")?),
+        Some(number) => write!(line, "DIFFER: call {number}")?,
+        None => line.push_str("agree")?,
     }
+    Ok(())
 }
 
 /// So many calls, chosen by chance, answer as with copies.
 pub fn by_chance(alloc: Global, key: &str) -> Result<String, AllocError> {
-    line_of(alloc, try_by_chance(alloc, number(key)))
+    let mut line = String::new(alloc);
+    let outcome = push_by_chance(&mut line, alloc, number(key));
+    finished(line, outcome)
 }
