@@ -1,4 +1,4 @@
--- The absent repeater: a loop over characters at which the body has no way hands its ways, the longest twice where the
+-- The absent repeater: a loop over characters at which the body has no way enumerates its ways, the longest twice where the
 -- body stops it.
 use Rattle.std.proofs.Common.{◌≡◌, ℕ, zero, suc, ◌+◌, ◌-◌, ◌<◌, ◌≤◌, Bool, true, false, not, if◌then◌else◌, List, [], ◌∷◌, ◌++◌, length, map, reverse, cond, flat_map, Option, Some, None, option_and_then, IsUtf8, refl, sym, ap, ◌∙◌, subst, arith, ⊎_elim, append-nil}
 use Rattle.std.proofs.lemmas.Bool.{cases_lt, ne_eqb, eq-eqb}
@@ -18,14 +18,14 @@ use Rattle.fancy_meaning.specs.Instr.{Instr}
 use Rattle.fancy_meaning.specs.Code.{Code, nothing}
 use Rattle.fancy_meaning.specs.Code as code
 use Rattle.fancy_meaning.specs.Constructs.{absent_code, conditional_code, negative_look_code}
-use Rattle.fancy_composed.proofs.Courses.{Ground}
+use Rattle.fancy_composed.proofs.Continuations.{Ground}
 use Rattle.fancy_composed.proofs.Alike.{among_one, Among, at_head, further, Alike, alike_same, alike_eq, alike_append, alike_trans}
-use Rattle.fancy_composed.proofs.Hands.{from_first}
-use Rattle.fancy_composed.proofs.Parts.{at_place, moves_at, Sound, setting, sound_within, Works, Keeps}
+use Rattle.fancy_composed.proofs.Enumerates.{from_first}
+use Rattle.fancy_composed.proofs.Parts.{at_place, moves_at, Sound, setting, sound_within, Simulates, Keeps}
 use Rattle.fancy_composed.proofs.Places.{char_stands, places_on, places_at_end}
-use Rattle.fancy_composed.proofs.Works.{conditional_is, works_nothing, works_unless, works_conditional, works_alike}
-use Rattle.fancy_composed.proofs.LoopWorks.{works_epsilon}
-use Rattle.fancy_composed.proofs.Atoms.{works_any}
+use Rattle.fancy_composed.proofs.Simulates.{conditional_is, simulates_nothing, simulates_unless, simulates_conditional, simulates_alike}
+use Rattle.fancy_composed.proofs.LoopSimulates.{simulates_epsilon}
+use Rattle.fancy_composed.proofs.Atoms.{simulates_any}
 use Rattle.fancy_composed.proofs.Behind.{sound_moved}
 use Rattle.fancy_laws.proofs.Characters.{char_ends_at_place}
 
@@ -164,11 +164,11 @@ module _ (w : Ground) (utf8 : IsUtf8 (w.task).text) (x : Ways) where
       by_way false e =
           by_char (char_at text s.place) refl (subst (Among t) (more_where_none s e ∙ any_at s (char_at text s.place) refl) m)
 
-  pub works_absent : (c : Code) → length text < usize_max → Works w c x → Works w (absent_code c) (absent (setting w) x)
-  works_absent c fits p =
-      works_alike w (absent (setting w) x)
-      (works_epsilon w true (conditional_code (negative_look_code c) (code.one Instr.Any) nothing) one_more
-      (works_conditional w (negative_look_code c) (code.one Instr.Any) nothing (unless x) any stays (works_unless w c x p)
-      (keeps_unless w x) (works_any w true false) (works_nothing w))
+  pub simulates_absent : (c : Code) → length text < usize_max → Simulates w c x → Simulates w (absent_code c) (absent (setting w) x)
+  simulates_absent c fits p =
+      simulates_alike w (absent (setting w) x)
+      (simulates_epsilon w true (conditional_code (negative_look_code c) (code.one Instr.Any) nothing) one_more
+      (simulates_conditional w (negative_look_code c) (code.one Instr.Any) nothing (unless x) any stays (simulates_unless w c x p)
+      (keeps_unless w x) (simulates_any w true false) (simulates_nothing w))
       keeps_more fits 0 (omega arith))
       (λ s ok. let within = sound_within w s ok in absent_is (suc (length text) - s.place) s (omega arith) ok)

@@ -18,7 +18,7 @@ use Rattle.fancy_meaning.specs.WellFormed.{refers}
 use Rattle.fancy_meaning.specs.Premises.{Input, plan, IsAccepted, Analysed, IsText}
 use Rattle.fancy_meaning.specs.Theorems.{IsProgramFor}
 use Rattle.fancy_meaning.specs.Marks.{has_marked_continue, is_marked_group}
-use Rattle.fancy_composed.proofs.Courses.{Course, Tally, To, after, Ground, config}
+use Rattle.fancy_composed.proofs.Continuations.{Continuation, Tally, To, after, Ground, config}
 use Rattle.fancy_composed.proofs.Branches.{never}
 use Rattle.fancy_composed.proofs.Ready.{Ready, IsResolved}
 use Rattle.fancy_composed.proofs.Written.{written_is_node, has_node}
@@ -107,7 +107,7 @@ module _ (i : Input) (instructions : ℕ) (accepted : IsAccepted i instructions)
           ap (λ x. if x && list_any is_absent (nodes e) then nothing else absent_code (code false)) hard
 
   module _ (task : Task) (is_text : IsText task.text) (fits : IsProgramFor (plan i) task.program) (start : ℕ)
-      (base : List Branch) (bottom : Tally → Course)
+      (base : List Branch) (bottom : Tally → Continuation)
       (falls : (count : Tally) → To (after task (fail_to task base (config 0 0 (λ s. 0) [] [] start count))) (bottom count)) where
     abbrev pub ground : Ground
     ground = record {

@@ -16,10 +16,10 @@ use Rattle.fancy_meaning.specs.Code as code
 use Rattle.fancy_meaning.specs.Constructs.{newline_code}
 use Rattle.fancy_meaning.specs.Config.{Slots, Config, span_at}
 use Rattle.fancy_meaning.specs.Machine.{step, goes_from}
-use Rattle.fancy_meaning.specs.Hands.{start_number, end_number}
-use Rattle.fancy_composed.proofs.Courses.{Ground, here}
-use Rattle.fancy_composed.proofs.Parts.{at_place, moves_at, Sound, setting, whole, flag_is, Stands, Works}
-use Rattle.fancy_composed.proofs.Works.{works_as, works_moves, works_branch, works_atomic}
+use Rattle.fancy_meaning.specs.Enumerates.{start_number, end_number}
+use Rattle.fancy_composed.proofs.Continuations.{Ground, here}
+use Rattle.fancy_composed.proofs.Parts.{at_place, moves_at, Sound, setting, whole, flag_is, Stands, Simulates}
+use Rattle.fancy_composed.proofs.Simulates.{simulates_as, simulates_moves, simulates_branch, simulates_atomic}
 use Rattle.fancy_composed.proofs.Texts.{char_by_bytes, chars_by_bytes}
 
 module _ (w : Ground) where
@@ -27,55 +27,55 @@ module _ (w : Ground) where
   text = (w.task).text
 
   -- an instruction that goes by a move over the text
-  works_move : (i : Instr) (move other : Move) → ((c : Config) → step w.task i c ≡ goes_from w.task c (move c.ix)) →
-      ((j : ℕ) → move j ≡ other j) → Works w (code.one i) (moves (setting w) other)
-  works_move i move other does same =
-      works_as w (moves (setting w) other)
-      (works_moves w i (λ s. move s.place) (λ s slots a marks bs count ok st. does (here w a s.place slots marks bs count)))
+  simulates_move : (i : Instr) (move other : Move) → ((c : Config) → step w.task i c ≡ goes_from w.task c (move c.ix)) →
+      ((j : ℕ) → move j ≡ other j) → Simulates w (code.one i) (moves (setting w) other)
+  simulates_move i move other does same =
+      simulates_as w (moves (setting w) other)
+      (simulates_moves w i (λ s. move s.place) (λ s slots a marks bs count ok st. does (here w a s.place slots marks bs count)))
       (λ s ok. ap (at_place s) (same s.place) ∙ sym (moves_at (setting w) other s (other s.place) refl))
 
-  pub works_any : (newline crlf : Bool) →
-      Works w (code.one (any_instr newline crlf)) (moves (setting w) (past_char text (any_takes newline crlf)))
-  works_any true crlf =
-      works_move Instr.Any (past_char text (any_takes true false)) (past_char text (any_takes true crlf)) (λ c. refl)
+  pub simulates_any : (newline crlf : Bool) →
+      Simulates w (code.one (any_instr newline crlf)) (moves (setting w) (past_char text (any_takes newline crlf)))
+  simulates_any true crlf =
+      simulates_move Instr.Any (past_char text (any_takes true false)) (past_char text (any_takes true crlf)) (λ c. refl)
       (λ j. refl)
-  works_any false true =
-      works_move Instr.AnyNoCRLF (past_char text (any_takes false true)) (past_char text (any_takes false true)) (λ c. refl)
+  simulates_any false true =
+      simulates_move Instr.AnyNoCRLF (past_char text (any_takes false true)) (past_char text (any_takes false true)) (λ c. refl)
       (λ j. refl)
-  works_any false false =
-      works_move Instr.AnyNoNL (past_char text (any_takes false false)) (past_char text (any_takes false false)) (λ c. refl)
+  simulates_any false false =
+      simulates_move Instr.AnyNoNL (past_char text (any_takes false false)) (past_char text (any_takes false false)) (λ c. refl)
       (λ j. refl)
 
-  pub works_class : (unicode : Bool) (inner : List ℕ) (casei : Bool) → is_class unicode inner casei ≡ true →
-      Works w (class_code unicode inner casei) (moves (setting w) (past_char text (class_takes unicode inner casei)))
-  works_class unicode inner casei e =
+  pub simulates_class : (unicode : Bool) (inner : List ℕ) (casei : Bool) → is_class unicode inner casei ≡ true →
+      Simulates w (class_code unicode inner casei) (moves (setting w) (past_char text (class_takes unicode inner casei)))
+  simulates_class unicode inner casei e =
       subst
       (λ v.
-      Works w (if v then code.one (Instr.Class (Codepoint inner casei unicode)) else code.nothing)
+      Simulates w (if v then code.one (Instr.Class (Codepoint inner casei unicode)) else code.nothing)
       (moves (setting w) (past_char text (class_takes unicode inner casei))))
       (sym e)
-      (works_move (Instr.Class (Codepoint inner casei unicode)) (past_char text (class_takes unicode inner casei))
+      (simulates_move (Instr.Class (Codepoint inner casei unicode)) (past_char text (class_takes unicode inner casei))
       (past_char text (class_takes unicode inner casei)) (λ c. refl) (λ j. refl))
 
   some_again : (o : Option ℕ) → option_and_then (λ i. Some i) o ≡ o
   some_again None = refl
   some_again (Some i) = refl
 
-  pub works_literal : (unicode : Bool) (c : ℕ) (casei : Bool) → IsScalar c → Works w
+  pub simulates_literal : (unicode : Bool) (c : ℕ) (casei : Bool) → IsScalar c → Simulates w
       (code.one (literal_instr unicode ((c, casei) ∷ []))) (moves (setting w) (past_char text (literal_takes unicode c casei)))
-  works_literal unicode c true scalar =
-      works_move (Instr.LitCasei ((c, true) ∷ []) unicode) (past_chars text (literal_takes unicode c true ∷ []))
+  simulates_literal unicode c true scalar =
+      simulates_move (Instr.LitCasei ((c, true) ∷ []) unicode) (past_chars text (literal_takes unicode c true ∷ []))
       (past_char text (literal_takes unicode c true)) (λ d. refl)
       (λ j. some_again (past_char text (literal_takes unicode c true) j))
-  works_literal unicode c false scalar =
-      works_move (Instr.Lit (encode_utf8_all (c ∷ []))) (past_bytes text (encode_utf8_all (c ∷ [])))
+  simulates_literal unicode c false scalar =
+      simulates_move (Instr.Lit (encode_utf8_all (c ∷ []))) (past_bytes text (encode_utf8_all (c ∷ [])))
       (past_char text (literal_takes unicode c false)) (λ d. refl)
       (λ j. ap (λ bs. past_bytes text bs j) (append-nil (encode_utf8 c)) ∙ char_by_bytes text c j scalar)
 
-  pub works_bytes : (cs : List ℕ) → All (λ c. c < 2 ^ 8) cs →
-      Works w (code.one (Instr.Lit (encode_utf8_all cs))) (moves (setting w) (past_chars text (map nat_eq cs)))
-  works_bytes cs all =
-      works_move (Instr.Lit (encode_utf8_all cs)) (past_bytes text (encode_utf8_all cs)) (past_chars text (map nat_eq cs))
+  pub simulates_bytes : (cs : List ℕ) → All (λ c. c < 2 ^ 8) cs →
+      Simulates w (code.one (Instr.Lit (encode_utf8_all cs))) (moves (setting w) (past_chars text (map nat_eq cs)))
+  simulates_bytes cs all =
+      simulates_move (Instr.Lit (encode_utf8_all cs)) (past_bytes text (encode_utf8_all cs)) (past_chars text (map nat_eq cs))
       (λ d. refl) (λ j. chars_by_bytes text cs j all)
 
   -- the first of two places
@@ -85,13 +85,13 @@ module _ (w : Ground) where
   first_place s false i None = refl
   first_place s false i (Some j) = refl
 
-  pub works_newline : (unicode : Bool) → Works w (newline_code unicode) (moves (setting w) (past_newline text unicode))
-  works_newline unicode =
-      works_as w (moves (setting w) (past_newline text unicode))
-      (works_atomic w _ _ (works_branch w _ _ _ _
-      (works_move (Instr.Lit (13 ∷ 10 ∷ [])) (past_bytes text (13 ∷ 10 ∷ [])) (past_bytes text (13 ∷ 10 ∷ [])) (λ c. refl)
+  pub simulates_newline : (unicode : Bool) → Simulates w (newline_code unicode) (moves (setting w) (past_newline text unicode))
+  simulates_newline unicode =
+      simulates_as w (moves (setting w) (past_newline text unicode))
+      (simulates_atomic w _ _ (simulates_branch w _ _ _ _
+      (simulates_move (Instr.Lit (13 ∷ 10 ∷ [])) (past_bytes text (13 ∷ 10 ∷ [])) (past_bytes text (13 ∷ 10 ∷ [])) (λ c. refl)
       (λ j. refl))
-      (works_move (Instr.Class (Newline unicode)) (past_char text (is_newline unicode)) (past_char text (is_newline unicode))
+      (simulates_move (Instr.Class (Newline unicode)) (past_char text (is_newline unicode)) (past_char text (is_newline unicode))
       (λ c. refl) (λ j. refl))))
       (λ s ok.
       ap₂ (λ hs ks. take 1 (hs ++ ks)) (moves_at (setting w) (past_bytes text (13 ∷ 10 ∷ [])) s _ refl)
@@ -117,11 +117,11 @@ module _ (w : Ground) where
           let span = ok.spans g (i, j) e in
           ap₂ (λ u v. if u && v then Some (i, j) else None) (le-leb i j span.in_order) (ap₂ (λ u v. u && v) span.from span.to)
 
-  pub works_backref : (g : ℕ) (casei : Bool) → 0 < g → g ≤ group_count (whole w) → length text < usize_max →
-      Works w (code.one (Instr.Backref (2 * g) casei (w.plan).unicode)) (repeats_group (setting w) g casei)
-  works_backref g casei pos le fits =
-      works_as w (repeats_group (setting w) g casei)
-      (works_moves w (Instr.Backref (2 * g) casei (w.plan).unicode)
+  pub simulates_backref : (g : ℕ) (casei : Bool) → 0 < g → g ≤ group_count (whole w) → length text < usize_max →
+      Simulates w (code.one (Instr.Backref (2 * g) casei (w.plan).unicode)) (repeats_group (setting w) g casei)
+  simulates_backref g casei pos le fits =
+      simulates_as w (repeats_group (setting w) g casei)
+      (simulates_moves w (Instr.Backref (2 * g) casei (w.plan).unicode)
       (λ s. option_and_then (λ span. past_piece text (w.plan).unicode casei span s.place) (s.captures g))
       (λ s slots a marks bs count ok st.
       ap

@@ -11,15 +11,15 @@ use Rattle.fancy_meaning.specs.Numbers.{usize_max}
 use Rattle.fancy_meaning.specs.Instr.{Instr, Save, End, RejectEmptyMatchAtEOFFollowingNewline}
 use Rattle.fancy_meaning.specs.Config.{Slots, Branch, Config, span_length, longer, Match, Next, Ends}
 use Rattle.fancy_meaning.specs.Machine.{fail, is_rejected, is_longest, goes_if, numbers_of}
-use Rattle.fancy_meaning.specs.Hands.{start_number, end_number}
-use Rattle.fancy_composed.proofs.Courses.{Course, Tally, To, to_same, to_eq, to_trans, after, Ground, here, go, resume, failed, step_at_pc}
+use Rattle.fancy_meaning.specs.Enumerates.{start_number, end_number}
+use Rattle.fancy_composed.proofs.Continuations.{Continuation, Tally, To, to_same, to_eq, to_trans, after, Ground, here, go, resume, failed, step_at_pc}
 use Rattle.fancy_laws.proofs.Every.{Every, no_item, item, every_both, every_filter}
 use Rattle.fancy_composed.proofs.Alike.{Among, at_head, further, every_among}
-use Rattle.fancy_composed.proofs.Hands.{Hands, none, way}
+use Rattle.fancy_composed.proofs.Enumerates.{Enumerates, none, way}
 use Rattle.fancy_composed.proofs.Parts.{put_same, put_other, Stands, After, flag, flag_is, body, whole}
 
 -- these numbers, or else where another course leads
-abbrev pub or_else : Option (List ℕ) → Course → Course
+abbrev pub or_else : Option (List ℕ) → Continuation → Continuation
 or_else None other = other
 or_else (Some numbers) other = λ k. Match numbers
 
@@ -164,7 +164,7 @@ module _ (w : Ground) where
   held_with h count = record { backtracks = count.backtracks; longest = Some (longer count.longest (as_numbers groups h)) }
 
   -- an admitted state is matched, or held
-  abbrev taken : MatchState → List Branch → Tally → Course
+  abbrev taken : MatchState → List Branch → Tally → Continuation
   taken h bs count =
       if (w.task).leftmost_longest
       then (if is_top h then (λ k. Match (longer count.longest (as_numbers groups h))) else resume w bs (held_with h count))
@@ -225,13 +225,13 @@ module _ (w : Ground) where
   in_order true false false d = refl
 
   -- not the one and not the other
-  verdict : (r s : Bool) (x y : Course) → (if r then y else (if s then y else x)) ≡ (if not s && not r then x else y)
+  verdict : (r s : Bool) (x y : Continuation) → (if r then y else (if s then y else x)) ≡ (if not s && not r then x else y)
   verdict true true x y = refl
   verdict true false x y = refl
   verdict false true x y = refl
   verdict false false x y = refl
 
-  to_else : (v : Bool) (x y z : Course) → To y z → To (if v then x else y) (if v then x else z)
+  to_else : (v : Bool) (x y z : Continuation) → To y z → To (if v then x else y) (if v then x else z)
   to_else true x y z t = to_same
   to_else false x y z t = t
 
@@ -264,7 +264,7 @@ module _ (w : Ground) where
   ends_with true e m h r bs count save ends st =
       let strict = (w.task).not_empty && h.place == w.start in
       let slots : Slots = put 1 h.place r in
-      let match' : Course = taken h bs count in
+      let match' : Continuation = taken h bs count in
       to_trans (step_at_pc w (Save 1) m h.place r [] bs count save)
       (to_trans (rejected_or (m + 1) h.place slots bs count ends.0)
       (to_trans
@@ -280,7 +280,7 @@ module _ (w : Ground) where
   ends_with false e m h r bs count save ends st =
       let strict = (w.task).not_empty && h.place == w.start in
       let slots : Slots = put 1 h.place r in
-      let match' : Course = taken h bs count in
+      let match' : Continuation = taken h bs count in
       to_trans (step_at_pc w (Save 1) m h.place r [] bs count save)
       (to_trans (matched (m + 1) h r bs count ends st)
       (to_eq (λ k. ap (λ f. f k) (
@@ -292,16 +292,16 @@ module _ (w : Ground) where
 
   -- the first admitted state is matched, or else what a failure leads to
   found_first : (w.task).leftmost_longest ≡ false → (v : Bool) → (w.plan).end_text ≡ v →
-      (b n m : ℕ) (slots : Slots) (other : Course) {hs : List MatchState} {best : Option (List ℕ)} {o : Course} → best ≡ None →
+      (b n m : ℕ) (slots : Slots) (other : Continuation) {hs : List MatchState} {best : Option (List ℕ)} {o : Continuation} → best ≡ None →
       slice_get (body w) b ≡ Some (Save 1) → EndsAt (body w) v (b + 1) →
-      ((count : Tally) → To (w.bottom count) (or_else count.longest other)) → Hands w b (After w n m slots) [] [] best hs o →
+      ((count : Tally) → To (w.bottom count) (or_else count.longest other)) → Enumerates w b (After w n m slots) [] [] best hs o →
       To o (or_else (option_map (as_numbers groups) (find (is_admitted searching w.start) hs)) other)
   found_first off v e b n m slots other is save ends rest (none count t) =
       to_trans t (to_trans (rest count) (to_eq (λ k. ap (λ l. or_else l other k) is)))
   found_first off v e b n m slots other is save ends rest (way {h = h} {hs = hs} r over count p fits t next) =
       let later = found_first off v e b n m slots other is save ends rest (next count) in
-      let match' : Course = λ k. Match (as_numbers groups h) in
-      let held : Course =
+      let match' : Continuation = λ k. Match (as_numbers groups h) in
+      let held : Continuation =
       if is_top h then (λ k. Match (longer count.longest (as_numbers groups h))) else resume w (over ++ []) (held_with h count) in
       to_trans t (to_trans (ends_with v e b h r (over ++ []) count save ends p.stands)
       (to_trans
@@ -321,9 +321,9 @@ module _ (w : Ground) where
 
   -- the longest admitted state, the first among equals, is matched, or else what a failure leads to
   found_longest : (w.task).leftmost_longest ≡ true → (v : Bool) → (w.plan).end_text ≡ v →
-      (b n m : ℕ) (slots : Slots) (other : Course) {hs : List MatchState} {best : Option (List ℕ)} {o : Course} →
+      (b n m : ℕ) (slots : Slots) (other : Continuation) {hs : List MatchState} {best : Option (List ℕ)} {o : Continuation} →
       Every IsSmall hs → TopsAreLongest hs → slice_get (body w) b ≡ Some (Save 1) → EndsAt (body w) v (b + 1) →
-      ((count : Tally) → To (w.bottom count) (or_else count.longest other)) → Hands w b (After w n m slots) [] [] best hs o →
+      ((count : Tally) → To (w.bottom count) (or_else count.longest other)) → Enumerates w b (After w n m slots) [] [] best hs o →
       To o (or_else (holds groups best (filter (is_admitted searching w.start) hs)) other)
   found_longest on v e b n m slots other small tops save ends rest (none count t) = to_trans t (rest count)
   found_longest on v e b n m slots other (item tiny small) tops save ends rest (way {h = h} {hs = hs} r over count p fits t next) =
@@ -331,7 +331,7 @@ module _ (w : Ground) where
       let later : (c : Tally) → To (resume w (over ++ []) c) (or_else (holds groups c.longest admitted) other) =
       λ c. found_longest on v e b n m slots other small (λ s t i j. tops s t (further i) (further j)) save ends rest (next c) in
       let longest = longer count.longest (as_numbers groups h) in
-      let held : Course = if is_top h then (λ k. Match longest) else resume w (over ++ []) (held_with h count) in
+      let held : Continuation = if is_top h then (λ k. Match longest) else resume w (over ++ []) (held_with h count) in
       to_trans t (to_trans (ends_with v e b h r (over ++ []) count save ends p.stands)
       (to_trans
       (to_eq
@@ -367,9 +367,9 @@ module _ (w : Ground) where
           (sym (held_stays groups longest (every_filter (is_admitted searching w.start) (λ u le x. le) none_longer))))
 
   -- the chosen admitted state is matched, or else what a failure leads to
-  pub found : (b n m : ℕ) (slots : Slots) (other : Course) {hs : List MatchState} {o : Course} →
+  pub found : (b n m : ℕ) (slots : Slots) (other : Continuation) {hs : List MatchState} {o : Continuation} →
       Every IsSmall hs → TopsAreLongest hs → slice_get (body w) b ≡ Some (Save 1) → EndsAt (body w) (w.plan).end_text (b + 1) →
-      ((count : Tally) → To (w.bottom count) (or_else count.longest other)) → Hands w b (After w n m slots) [] [] None hs o →
+      ((count : Tally) → To (w.bottom count) (or_else count.longest other)) → Enumerates w b (After w n m slots) [] [] None hs o →
       To o
       (or_else
       (option_map (as_numbers groups) (chosen (w.task).leftmost_longest (filter (is_admitted searching w.start) hs))) other)

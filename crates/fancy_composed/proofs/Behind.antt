@@ -12,11 +12,11 @@ use Rattle.fancy_meaning.specs.Code.{Code, nothing, ◌>>◌}
 use Rattle.fancy_meaning.specs.Code as code
 use Rattle.fancy_meaning.specs.Constructs.{look_code, negative_look_code, behind_code}
 use Rattle.fancy_meaning.specs.Premises.{IsSized}
-use Rattle.fancy_composed.proofs.Courses.{Ground}
+use Rattle.fancy_composed.proofs.Continuations.{Ground}
 use Rattle.fancy_composed.proofs.Alike.{Among, at_head, further}
-use Rattle.fancy_composed.proofs.Parts.{at_place, Sound, setting, sound_within, Works, Keeps}
+use Rattle.fancy_composed.proofs.Parts.{at_place, Sound, setting, sound_within, Simulates, Keeps}
 use Rattle.fancy_composed.proofs.Places.{IsBack, back_by_is, same_end, few_chars}
-use Rattle.fancy_composed.proofs.Works.{works_as, works_look, works_unless, works_back}
+use Rattle.fancy_composed.proofs.Simulates.{simulates_as, simulates_look, simulates_unless, simulates_back}
 
 -- ---- lists
 
@@ -113,20 +113,20 @@ module _ (w : Ground) where
     back_sound : (s : MatchState) (j : ℕ) → Sound w s → back_by text z.least s.place ≡ Some j → Sound w (moved_to j s)
     back_sound s j ok e = sound_moved s j ok (back_by_is text s.place z.least j e).place
 
-    pub works_behind : (c : Code) → Works w c f → Works w (behind_code look_code (z, c)) (ends_here (setting w) f)
-    works_behind c p =
-        subst (λ v. Works w (if v then look_code (code.one (GoBack z.least) >> c) else nothing) (ends_here (setting w) f))
+    pub simulates_behind : (c : Code) → Simulates w c f → Simulates w (behind_code look_code (z, c)) (ends_here (setting w) f)
+    simulates_behind c p =
+        subst (λ v. Simulates w (if v then look_code (code.one (GoBack z.least) >> c) else nothing) (ends_here (setting w) f))
         (sym const)
-        (works_as w (ends_here (setting w) f) (works_look w _ _ (works_back w z.least c f back_sound p)) back_is_behind)
+        (simulates_as w (ends_here (setting w) f) (simulates_look w _ _ (simulates_back w z.least c f back_sound p)) back_is_behind)
 
-    pub works_not_behind : (c : Code) → Works w c f →
-        Works w (behind_code negative_look_code (z, c)) (unless (ends_here (setting w) f))
-    works_not_behind c p =
+    pub simulates_not_behind : (c : Code) → Simulates w c f →
+        Simulates w (behind_code negative_look_code (z, c)) (unless (ends_here (setting w) f))
+    simulates_not_behind c p =
         subst
         (λ v.
-        Works w (if v then negative_look_code (code.one (GoBack z.least) >> c) else nothing) (unless (ends_here (setting w) f)))
+        Simulates w (if v then negative_look_code (code.one (GoBack z.least) >> c) else nothing) (unless (ends_here (setting w) f)))
         (sym const)
-        (works_as w (unless (ends_here (setting w) f)) (works_unless w _ _ (works_back w z.least c f back_sound p))
+        (simulates_as w (unless (ends_here (setting w) f)) (simulates_unless w _ _ (simulates_back w z.least c f back_sound p))
         (λ s ok.
         ap (λ v. if not v then s ∷ [] else [])
         (sym (some_map (moved_to s.place) (flat_map f (at_place s (back_by text z.least s.place))))

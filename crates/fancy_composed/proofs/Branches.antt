@@ -14,11 +14,11 @@ use Rattle.fancy_meaning.specs.Code.{Code, nothing, ◌>>◌, in_turn, branches}
 use Rattle.fancy_meaning.specs.Constructs.{behind_code, look_code, negative_look_code}
 use Rattle.fancy_meaning.specs.Layout.{Part, written, each_part, concat_code, alt_code, body_code}
 use Rattle.fancy_meaning.specs.Marks.{takes_nothing}
-use Rattle.fancy_composed.proofs.Courses.{Ground}
+use Rattle.fancy_composed.proofs.Continuations.{Ground}
 use Rattle.fancy_composed.proofs.Alike.{among_front, among_back}
-use Rattle.fancy_composed.proofs.Parts.{at_place, Sound, setting, whole, Works, Keeps}
-use Rattle.fancy_composed.proofs.Works.{works_as, works_nothing, works_next, works_branch}
-use Rattle.fancy_composed.proofs.Behind.{Sized, back_is_behind, works_behind, works_not_behind}
+use Rattle.fancy_composed.proofs.Parts.{at_place, Sound, setting, whole, Simulates, Keeps}
+use Rattle.fancy_composed.proofs.Simulates.{simulates_as, simulates_nothing, simulates_next, simulates_branch}
+use Rattle.fancy_composed.proofs.Behind.{Sized, back_is_behind, simulates_behind, simulates_not_behind}
 use Rattle.fancy_composed.proofs.Absent.{keeps_unless, keeps_test}
 
 -- no node is left to a plain search
@@ -41,10 +41,10 @@ module _ (w : Ground) (call : ℕ → Bool → Code) (meant : ℕ → Ways) wher
   size_of e = size (whole w) e
 
   -- each of these works, in this context
-  abbrev pub EachWorks : (at_start in_hard : Bool) → Trees → Type 0
-  EachWorks at_start in_hard none = Unit {0}
-  EachWorks at_start in_hard (more e es) =
-      Works w (code_at e at_start in_hard) (means e) × EachWorks (at_start && takes_nothing (whole w) e) in_hard es
+  abbrev pub EachSimulates : (at_start in_hard : Bool) → Trees → Type 0
+  EachSimulates at_start in_hard none = Unit {0}
+  EachSimulates at_start in_hard (more e es) =
+      Simulates w (code_at e at_start in_hard) (means e) × EachSimulates (at_start && takes_nothing (whole w) e) in_hard es
 
   -- each of these leads on, by its size
   abbrev pub EachKnown : Trees → Type 0
@@ -75,48 +75,48 @@ module _ (w : Ground) (call : ℕ → Bool → Code) (meant : ℕ → Ways) wher
           nothing >> in_turn (map (λ u. u.code true) (take (length ws - length (reverse ends)) ws)) >> batch (w.plan).unicode
           (map (λ u. u.tree) (reverse ends))
 
-  in_turn_works : (es : Trees) (at_start : Bool) → EachWorks at_start true es → EachKnown es → Works w
+  in_turn_works : (es : Trees) (at_start : Bool) → EachSimulates at_start true es → EachKnown es → Simulates w
       (in_turn (map (λ u. u.code true) (each_part w.plan never call at_start es))) (in_order (each_ways (setting w) meant es))
-  in_turn_works none at_start u k = works_nothing w
+  in_turn_works none at_start u k = simulates_nothing w
   in_turn_works (more e es) at_start u k =
-      works_next w _ _ _ _ u.0 k.0.0 (in_turn_works es (at_start && takes_nothing (whole w) e) u.1 k.1)
+      simulates_next w _ _ _ _ u.0 k.0.0 (in_turn_works es (at_start && takes_nothing (whole w) e) u.1 k.1)
 
   keeps_stays : Keeps w stays
   keeps_stays = keeps_test w (λ s. true)
 
-  pub concat_works : (es : Trees) (at_start in_hard : Bool) → EachWorks at_start true es → EachKnown es →
-      Keeps w (in_order (each_ways (setting w) meant es)) → Works w
+  pub concat_simulates : (es : Trees) (at_start in_hard : Bool) → EachSimulates at_start true es → EachKnown es →
+      Keeps w (in_order (each_ways (setting w) meant es)) → Simulates w
       (concat_code w.plan never (each_part w.plan never call at_start es) in_hard) (in_order (each_ways (setting w) meant es))
-  concat_works es at_start in_hard u k keeps =
+  concat_simulates es at_start in_hard u k keeps =
       let all = in_order (each_ways (setting w) meant es) in
       let inner = in_turn (map (λ u. u.code true) (each_part w.plan never call at_start es)) in
-      subst (λ c. Works w c all) (sym (concat_plain (each_part w.plan never call at_start es) in_hard))
-      (works_as w all
-      (works_next w nothing (inner >> nothing) stays (and_then all stays) (works_nothing w) keeps_stays
-      (works_next w inner nothing all stays (in_turn_works es at_start u k) keeps (works_nothing w)))
+      subst (λ c. Simulates w c all) (sym (concat_plain (each_part w.plan never call at_start es) in_hard))
+      (simulates_as w all
+      (simulates_next w nothing (inner >> nothing) stays (and_then all stays) (simulates_nothing w) keeps_stays
+      (simulates_next w inner nothing all stays (in_turn_works es at_start u k) keeps (simulates_nothing w)))
       (λ s ok. append-nil (and_then all stays s) ∙ flat_map_single (λ t. t) (all s) ∙ map-id (all s)))
 
   -- ---- an alternation
 
-  pub alt_works : (e : Tree) (es : Trees) (in_hard : Bool) → EachWorks false in_hard (more e es) → Works w
+  pub alt_simulates : (e : Tree) (es : Trees) (in_hard : Bool) → EachSimulates false in_hard (more e es) → Simulates w
       (alt_code (each_part w.plan never call false (more e es)) in_hard)
       (one_of (each_ways (setting w) meant (more e es)))
-  alt_works e none in_hard u = works_as w (one_of (means e ∷ [])) u.0 (λ s ok. sym (append-nil (means e s)))
-  alt_works e (more d ds) in_hard u = works_branch w _ _ _ _ u.0 (alt_works d ds in_hard u.1)
+  alt_simulates e none in_hard u = simulates_as w (one_of (means e ∷ [])) u.0 (λ s ok. sym (append-nil (means e s)))
+  alt_simulates e (more d ds) in_hard u = simulates_branch w _ _ _ _ u.0 (alt_simulates d ds in_hard u.1)
 
   -- ---- lookbehind by branches
 
   module _ (fits : length (w.task).text < usize_max) where
-    pub behind_each : (e : Tree) (es : Trees) → EachWorks false false (more e es) → EachKnown (more e es) →
-        EachConst (more e es) → Works w
+    pub behind_each : (e : Tree) (es : Trees) → EachSimulates false false (more e es) → EachKnown (more e es) →
+        EachConst (more e es) → Simulates w
         (branches (map (behind_code look_code) (map (body_code w.plan) (each_part w.plan never call false (more e es)))))
         (one_of (map (ends_here (setting w)) (each_ways (setting w) meant (more e es))))
     behind_each e none u k c =
-        works_as w (one_of (ends_here (setting w) (means e) ∷ []))
-        (works_behind w (size_of e) (means e) c.0 k.0.1 k.0.0 fits (code_at e false false) u.0)
+        simulates_as w (one_of (ends_here (setting w) (means e) ∷ []))
+        (simulates_behind w (size_of e) (means e) c.0 k.0.1 k.0.0 fits (code_at e false false) u.0)
         (λ s ok. sym (append-nil (ends_here (setting w) (means e) s)))
     behind_each e (more d ds) u k c =
-        works_branch w _ _ _ _ (works_behind w (size_of e) (means e) c.0 k.0.1 k.0.0 fits (code_at e false false) u.0)
+        simulates_branch w _ _ _ _ (simulates_behind w (size_of e) (means e) c.0 k.0.1 k.0.0 fits (code_at e false false) u.0)
         (behind_each d ds u.1 k.1 c.1)
 
     unless_next : (f : Ways) (fs : List Ways) (s : MatchState) (hs : List MatchState) → f s ≡ hs →
@@ -129,15 +129,15 @@ module _ (w : Ground) (call : ℕ → Bool → Code) (meant : ℕ → Ways) wher
         ap (λ l. flat_map (unless (one_of fs)) (if not (is_some (slice_get l 0)) then s ∷ [] else [])) e
         ∙ sym (ap (λ l. if not (is_some (slice_get (l ++ one_of fs s) 0)) then s ∷ [] else []) e)
 
-    pub not_behind_each : (es : Trees) → EachWorks false false es → EachKnown es → EachConst es → Works w
+    pub not_behind_each : (es : Trees) → EachSimulates false false es → EachKnown es → EachConst es → Simulates w
         (in_turn (map (behind_code negative_look_code) (map (body_code w.plan) (each_part w.plan never call false es))))
         (unless (one_of (map (ends_here (setting w)) (each_ways (setting w) meant es))))
-    not_behind_each none u k c = works_as w (unless (one_of [])) (works_nothing w) (λ s ok. refl)
+    not_behind_each none u k c = simulates_as w (unless (one_of [])) (simulates_nothing w) (λ s ok. refl)
     not_behind_each (more e es) u k c =
-        works_as w
+        simulates_as w
         (unless (one_of (ends_here (setting w) (means e) ∷ map (ends_here (setting w)) (each_ways (setting w) meant es))))
-        (works_next w _ _ (unless (ends_here (setting w) (means e))) (unless (one_of (map (ends_here (setting w)) (each_ways (setting w) meant es))))
-        (works_not_behind w (size_of e) (means e) c.0 k.0.1 k.0.0 fits (code_at e false false) u.0)
+        (simulates_next w _ _ (unless (ends_here (setting w) (means e))) (unless (one_of (map (ends_here (setting w)) (each_ways (setting w) meant es))))
+        (simulates_not_behind w (size_of e) (means e) c.0 k.0.1 k.0.0 fits (code_at e false false) u.0)
         (keeps_unless w (ends_here (setting w) (means e))) (not_behind_each es u.1 k.1 c.1))
         (λ s ok.
         unless_next (ends_here (setting w) (means e)) (map (ends_here (setting w)) (each_ways (setting w) meant es)) s

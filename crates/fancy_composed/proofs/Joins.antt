@@ -2,7 +2,7 @@
 use Rattle.std.proofs.Common.{◌≡◌, ℕ, ◌+◌, ◌*◌, ◌<◌, ◌≤◌, Bool, if◌then◌else◌, List, [], ◌∷◌, ◌++◌, length, map, flat_map, take, Option, Some, None, refl, sym, ap, ap₂, ◌∙◌, arith, inl, inr, ⊎_elim}
 use Rattle.std.specs.Prelude.{slice_get}
 use Rattle.std.proofs.lemmas.Bool.Decides.{eqb_tells}
-use Rattle.fancy_meaning.specs.Hands.{start_number, end_number}
+use Rattle.fancy_meaning.specs.Enumerates.{start_number, end_number}
 use Rattle.fancy_meaning.specs.Places.{is_place, back_by}
 use Rattle.fancy_meaning.specs.Nodes.{group_count}
 use Rattle.fancy_meaning.specs.MatchState.{MatchState, Ways, put, moved_to, with_span}
@@ -11,15 +11,15 @@ use Rattle.fancy_meaning.specs.Instr.{Split, Jmp, Save, Restore, SaveCaptureGrou
 use Rattle.fancy_meaning.specs.Config.{Slots, Branch, Config, Goes, forward, at_ix}
 use Rattle.fancy_meaning.specs.Machine.{goes_from, fail}
 use Rattle.fancy_meaning.specs.Constructs.{split}
-use Rattle.fancy_composed.proofs.Courses.{Tally, To, to_same, to_eq, to_trans, after, Ground, here, go, failed, step_at_pc, pushed}
+use Rattle.fancy_composed.proofs.Continuations.{Tally, To, to_same, to_eq, to_trans, after, Ground, here, go, failed, step_at_pc, pushed}
 use Rattle.fancy_composed.proofs.Alike.{Among}
-use Rattle.fancy_composed.proofs.Hands.{Hands, none, from, weaken, known, append, mapped, lead, cut, turned, forked, fork_split, chosen, from_first, where_none}
+use Rattle.fancy_composed.proofs.Enumerates.{Enumerates, none, from, weaken, known, append, mapped, lead, cut, turned, forked, fork_split, chosen, from_first, where_none}
 use Rattle.fancy_composed.proofs.Parts.{put_same, put_other, outside_state, outside_not, at_place, Sound, flag, first, body, flag_is, Stands, After, Part, after_trans, after_move, stands_put, stands_moved, part_wider, outside_more, whole}
 
 module _ (w : Ground) where
   pub part_fails : (a b n m : ℕ) → slice_get (body w) a ≡ Some Fail → Part w a b n m (λ s. [])
   part_fails a b n m at = record {
-    hands = λ s slots marks bs count ok st.
+    enumerates = λ s slots marks bs count ok st.
         none count
         (to_trans (step_at_pc w Fail a s.place slots marks bs count at)
         (failed w bs (here w a s.place slots marks bs count) refl));
@@ -30,22 +30,22 @@ module _ (w : Ground) where
       y ≤ c → z ≤ c → n ≤ i → j ≤ m → n ≤ k → l ≤ m → Part w y c i j f → Part w z c k l g →
       Part w x c n m (λ s. prefer greedy (f s) (g s))
   part_fork greedy x y z c n m i j k l f g at ly lz li lj lk ll p q = record {
-    hands = λ s slots marks bs count ok st.
+    enumerates = λ s slots marks bs count ok st.
         from w
         (to_trans (step_at_pc w (split greedy y z) x s.place slots marks bs count at)
         (to_eq (λ e. ap (λ v. after w.task v e) (fork_split w greedy y z (here w x s.place slots marks bs count)))))
         (forked w greedy x y z s.place slots count ly lz
-        (λ cs e. (part_wider w y c n m i j f li lj p).hands s slots marks cs e ok st)
-        (λ cs e. (part_wider w z c n m k l g lk ll q).hands s slots marks cs e ok st));
+        (λ cs e. (part_wider w y c n m i j f li lj p).enumerates s slots marks cs e ok st)
+        (λ cs e. (part_wider w z c n m k l g lk ll q).enumerates s slots marks cs e ok st));
   }
 
   -- an atomic part
   pub part_atomic : (a b c n m : ℕ) (f : Ways) → slice_get (body w) a ≡ Some BeginAtomic →
       slice_get (body w) b ≡ Some EndAtomic → b + 1 ≡ c → Part w (a + 1) b n m f → Part w a c n m (λ s. take 1 (f s))
   part_atomic a b c n m f begin end e p = record {
-    hands = λ s slots marks bs count ok st.
+    enumerates = λ s slots marks bs count ok st.
         from w (step_at_pc w BeginAtomic a s.place slots marks bs count begin)
-        (cut w end e (p.hands s slots (length (bs ++ w.base) ∷ marks) bs count ok st));
+        (cut w end e (p.enumerates s slots (length (bs ++ w.base) ∷ marks) bs count ok st));
   }
 
   -- the state unchanged, where the part has no way
@@ -53,12 +53,12 @@ module _ (w : Ground) where
       slice_get (body w) b ≡ Some FailNegativeLookAround → b + 1 ≡ c → Part w (a + 1) b n m f →
       Part w a c n m (λ s. where_none (f s) s)
   part_unless a b c n m f at turn e p = record {
-    hands = λ s slots marks bs count ok st.
+    enumerates = λ s slots marks bs count ok st.
         let x : Branch = record { pc = c; ix = s.place; slots = slots; marks = marks } in
         from w
         (to_trans (step_at_pc w (Split (a + 1) c) a s.place slots marks bs count at)
         (pushed w a c (a + 1) s.place s.place slots slots marks bs count))
-        (turned w s slots turn e (after_move w n m s slots st) (p.hands s slots marks (x ∷ bs) count ok st));
+        (turned w s slots turn e (after_move w n m s slots st) (p.enumerates s slots marks (x ∷ bs) count ok st));
   }
 
   restored : (a b c n m : ℕ) (s h : MatchState) (slots r : Slots) (marks : List ℕ) (cs : List Branch) (count : Tally) → Sound w s →
@@ -84,11 +84,11 @@ module _ (w : Ground) where
       slice_get (body w) b ≡ Some (Restore n) → b + 1 ≡ c → b ≤ c → Part w (a + 1) b (n + 1) m f →
       Part w a c n m (λ s. map (moved_to s.place) (f s))
   part_look a b c n m f fresh lt save restore e le p = record {
-    hands = λ s slots marks bs count ok st.
+    enumerates = λ s slots marks bs count ok st.
         from w (step_at_pc w (Save n) a s.place slots marks bs count save)
         (mapped w (moved_to s.place) (λ h r. r) (f s) le
         (λ h r cs j af. restored a b c n m s h slots r marks cs j ok fresh lt restore e af)
-        (p.hands s (put n s.place slots) marks bs count ok (stands_put w s slots n s.place fresh st)));
+        (p.enumerates s (put n s.place slots) marks bs count ok (stands_put w s slots n s.place fresh st)));
   }
 
   -- from a place so many characters before
@@ -96,18 +96,18 @@ module _ (w : Ground) where
       ((s : MatchState) (j : ℕ) → Sound w s → back_by (w.task).text i s.place ≡ Some j → Sound w (moved_to j s)) →
       Part w (a + 1) b n m f → Part w a b n m (λ s. flat_map f (at_place s (back_by (w.task).text i s.place)))
   part_back i a b n m f at ok p = record {
-    hands = λ s slots marks bs count so st.
+    enumerates = λ s slots marks bs count so st.
         from w (step_at_pc w (GoBack i) a s.place slots marks bs count at)
         (goes s slots marks bs count so st (back_by (w.task).text i s.place) refl);
   }
     where
       goes : (s : MatchState) (slots : Slots) (marks : List ℕ) (bs : List Branch) (count : Tally) → Sound w s → Stands w s slots →
-          (o : Option ℕ) → back_by (w.task).text i s.place ≡ o → Hands w b (After w n m slots) marks bs count.longest
+          (o : Option ℕ) → back_by (w.task).text i s.place ≡ o → Enumerates w b (After w n m slots) marks bs count.longest
           (flat_map f (at_place s o)) (after w.task (goes_from w.task (here w a s.place slots marks bs count) o))
       goes s slots marks bs count so st None e = none count (failed w bs (here w a s.place slots marks bs count) refl)
       goes s slots marks bs count so st (Some j) e =
           append w [] (f (moved_to j s)) [] tt
-          (p.hands (moved_to j s) slots marks bs count (ok s j so e) (stands_moved w s j slots st)) (λ d. none d to_same)
+          (p.enumerates (moved_to j s) slots marks bs count (ok s j so e) (stands_moved w s j slots st)) (λ d. none d to_same)
 
   -- a condition
   pub part_if : (a b x v y z c n m i j k : ℕ) (f g e : Ways) → slice_get (body w) a ≡ Some BeginAtomic →
@@ -116,7 +116,7 @@ module _ (w : Ground) where
       n ≤ k → k ≤ m → ((s t : MatchState) → Sound w s → Among t (f s) → Sound w t) → Part w (a + 1 + 1) b n i f →
       Part w x v i j g → Part w z c k m e → Part w a c n m (λ s. from_first (f s) g (e s))
   part_if a b x v y z c n m i j k f g e begin at end ex jump end' ez lv li lj ljm lk lkm keeps p q r = record {
-    hands = λ s slots marks bs count ok st.
+    enumerates = λ s slots marks bs count ok st.
         let held : List ℕ = length (bs ++ w.base) ∷ marks in
         let br : Branch = record { pc = y; ix = s.place; slots = slots; marks = held } in
         from w (to_trans (step_at_pc w BeginAtomic a s.place slots marks bs count begin)
@@ -126,9 +126,9 @@ module _ (w : Ground) where
         (λ h t o af.
         weaken w (λ u t' ag. after_trans w n m n i i j h u slots t t' (omega arith) (omega arith) li ljm af.0 ag)
         (lead w lv (λ u t' ds o' ag. step_at_pc w (Jmp c) v u.place t' marks ds o' jump)
-        (q.hands h t marks bs o af.1 af.0.stands)))
-        (λ o. (part_wider w z c n m k m e (omega arith) (omega arith) r).hands s slots marks bs o ok st)
-        (known w (Sound w) (λ h m'. keeps s h ok m') (p.hands s slots held (br ∷ bs) count ok st)));
+        (q.enumerates h t marks bs o af.1 af.0.stands)))
+        (λ o. (part_wider w z c n m k m e (omega arith) (omega arith) r).enumerates s slots marks bs o ok st)
+        (known w (Sound w) (λ h m'. keeps s h ok m') (p.enumerates s slots held (br ∷ bs) count ok st)));
   }
 
   abbrev paired : ℕ → ℕ → ℕ → Slots → Slots
@@ -164,7 +164,7 @@ module _ (w : Ground) where
       slice_get (body w) a ≡ Some (SaveCaptureGroupStart g n) → slice_get (body w) b ≡ Some (SaveCaptureGroup g n) → b + 1 ≡ c →
       Part w (a + 1) b (n + 1) m f → Part w a c n m (λ s. map (λ t. with_span g (s.place, t.place) t) (f s))
   part_group g a b c n m f pos le fresh lt start end e p = record {
-    hands = λ s slots marks bs count ok st.
+    enumerates = λ s slots marks bs count ok st.
         from w (step_at_pc w (SaveCaptureGroupStart g n) a s.place slots marks bs count start)
         (mapped w (λ t. with_span g (s.place, t.place) t) (λ h r. paired g s.place h.place r) (f s) (omega arith)
         (λ h r cs count' af.
@@ -181,5 +181,5 @@ module _ (w : Ground) where
           to_trans (step_at_pc w (SaveCaptureGroup g n) b h.place r marks cs count' end)
               (to_eq (λ k. ap₂ (λ o x. go w x h.place (paired g o h.place r) marks cs count' k) v e)),
         ))
-        (p.hands s (put n s.place slots) marks bs count ok (stands_put w s slots n s.place fresh st)));
+        (p.enumerates s (put n s.place slots) marks bs count ok (stands_put w s slots n s.place fresh st)));
   }

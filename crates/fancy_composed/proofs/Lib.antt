@@ -1,13 +1,13 @@
 pub mod Alike
-pub mod Courses
+pub mod Continuations
 pub mod Runs
-pub mod Hands
+pub mod Enumerates
 pub mod Parts
 pub mod Joins
 pub mod Loops
 pub mod Repeats
-pub mod Works
-pub mod LoopWorks
+pub mod Simulates
+pub mod LoopSimulates
 pub mod Tests
 pub mod Texts
 pub mod Atoms

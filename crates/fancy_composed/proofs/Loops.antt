@@ -10,9 +10,9 @@ use Rattle.fancy_meaning.specs.Instr.{Instr, Jmp, RepeatEpsilon}
 use Rattle.fancy_meaning.specs.Instr as instr
 use Rattle.fancy_meaning.specs.Config.{Slots, Branch, Next}
 use Rattle.fancy_meaning.specs.Machine.{choose}
-use Rattle.fancy_composed.proofs.Courses.{Tally, To, to_same, to_eq, to_trans, after, Ground, here, go, step_at_pc}
+use Rattle.fancy_composed.proofs.Continuations.{Tally, To, to_same, to_eq, to_trans, after, Ground, here, go, step_at_pc}
 use Rattle.fancy_composed.proofs.Alike.{Among}
-use Rattle.fancy_composed.proofs.Hands.{Hands, from, one, weaken, known, bind, forked, fork, fork_choose}
+use Rattle.fancy_composed.proofs.Enumerates.{Enumerates, from, one, weaken, known, bind, forked, fork, fork_choose}
 use Rattle.fancy_composed.proofs.Parts.{sound_within, put_same, put_other, Sound, Keeps, first, body, Stands, After, Part, after_trans, after_move, after_put}
 
 -- a test that is decided
@@ -30,8 +30,8 @@ module _ (w : Ground) (a b c n k m : ℕ) (f : Ways) (fresh : first w ≤ n) (lk
   iterate : (g : Ways) (s : MatchState) (slots slots1 : Slots) (marks : List ℕ) (bs : List Branch) (count : Tally) → Sound w s →
       After w n m slots s slots1 →
       ((h : MatchState) (r : Slots) (cs : List Branch) (i : Tally) → Sound w h → Among h (f s) → After w k m slots1 h r →
-      Hands w c (After w n m r) marks cs i.longest (g h) (go w a h.place r marks cs i)) →
-      Hands w c (After w n m slots) marks bs count.longest (flat_map g (f s)) (go w (a + 1) s.place slots1 marks bs count)
+      Enumerates w c (After w n m r) marks cs i.longest (g h) (go w a h.place r marks cs i)) →
+      Enumerates w c (After w n m slots) marks bs count.longest (flat_map g (f s)) (go w (a + 1) s.place slots1 marks bs count)
   iterate g s slots slots1 marks bs count ok af next =
       bind w g (f s) (omega arith)
       (λ h r cs i ag.
@@ -39,7 +39,7 @@ module _ (w : Ground) (a b c n k m : ℕ) (f : Ways) (fresh : first w ≤ n) (lk
       from w (step_at_pc w (Jmp a) b h.place r marks cs i jump)
       (weaken w (λ u t ah. after_trans w n m n m n m h u slots r t (omega arith) (omega arith) (omega arith) (omega arith) back ah)
       (next h r cs i (keeps s h ok ag.1).0 ag.1 ag.0)))
-      (known w (λ h. Among h (f s)) (λ h m'. m') (p.hands s slots1 marks bs count ok af.stands))
+      (known w (λ h. Among h (f s)) (λ h m'. m') (p.enumerates s slots1 marks bs count ok af.stands))
 
   -- one more, as long as the count is below the largest number
   counted : (slots : Slots) → slots n < usize_max → min (slots n + 1) usize_max ≡ suc (slots n)
@@ -88,7 +88,7 @@ module _ (w : Ground) (a b c n k m : ℕ) (f : Ways) (fresh : first w ≤ n) (lk
     may : (greatest : ℕ) → hi ≡ Some greatest → greatest < usize_max →
         (left : ℕ) (s : MatchState) (slots : Slots) (marks : List ℕ) (bs : List Branch) (count : Tally) →
         slots n + left ≡ greatest → lo ≤ slots n → Sound w s → Stands w s slots →
-        Hands w c (After w n m slots) marks bs count.longest (at_most left greedy f s) (go w a s.place slots marks bs count)
+        Enumerates w c (After w n m slots) marks bs count.longest (at_most left greedy f s) (go w a s.place slots marks bs count)
     may greatest is below zero s slots marks bs count el le ok st =
         from w (leaves s slots marks bs count (sum is)) (one w slots count (after_move w n m s slots st) to_same)
       where
@@ -107,7 +107,7 @@ module _ (w : Ground) (a b c n k m : ℕ) (f : Ways) (fresh : first w ≤ n) (lk
 
     pub must : (greatest : ℕ) → hi ≡ Some greatest → greatest < usize_max → lo ≤ greatest →
         (need : ℕ) (s : MatchState) (slots : Slots) (marks : List ℕ) (bs : List Branch) (count : Tally) → slots n + need ≡ lo →
-        Sound w s → Stands w s slots → Hands w c (After w n m slots) marks bs count.longest
+        Sound w s → Stands w s slots → Enumerates w c (After w n m slots) marks bs count.longest
         (required need f (at_most (greatest - lo) greedy f) s) (go w a s.place slots marks bs count)
     must greatest is below le zero s slots marks bs count el ok st =
         may greatest is below (greatest - lo) s slots marks bs count (omega arith) (omega arith) ok st
@@ -126,7 +126,7 @@ module _ (w : Ground) (a b c n k m : ℕ) (f : Ways) (fresh : first w ≤ n) (lk
 
       free : (fuel : ℕ) (s : MatchState) (slots : Slots) (marks : List ℕ) (bs : List Branch) (count : Tally) →
           length (w.task).text < s.place + fuel → slots n ≤ s.place → lo ≤ slots n → Sound w s → Stands w s slots →
-          Hands w c (After w n m slots) marks bs count.longest (unbounded fuel greedy f s) (go w a s.place slots marks bs count)
+          Enumerates w c (After w n m slots) marks bs count.longest (unbounded fuel greedy f s) (go w a s.place slots marks bs count)
       free zero s slots marks bs count left le may' ok st = let q = sound_within w s ok in absurd (omega arith)
       free (suc fuel) s slots marks bs count left le may' ok st =
           let at_most_length = sound_within w s ok in
@@ -139,13 +139,13 @@ module _ (w : Ground) (a b c n k m : ℕ) (f : Ways) (fresh : first w ≤ n) (lk
           let far = moves s h ok m' in
           subst
           (λ v.
-          Hands w c (After w n m r) marks ds i.longest (if v then h ∷ [] else unbounded fuel greedy f h) (go w a h.place r marks ds i))
+          Enumerates w c (After w n m r) marks ds i.longest (if v then h ∷ [] else unbounded fuel greedy f h) (go w a h.place r marks ds i))
           (sym (ne_eqb h.place s.place (λ x. omega arith)))
           (free fuel h r marks ds i (omega arith) (omega arith) (omega arith) so ag.stands)))
           (λ cs j. one w (more slots) j af to_same))
 
       pub must_free : (need : ℕ) (s : MatchState) (slots : Slots) (marks : List ℕ) (bs : List Branch) (count : Tally) →
-          slots n + need ≡ lo → slots n ≤ s.place → Sound w s → Stands w s slots → Hands w c (After w n m slots) marks bs count.longest
+          slots n + need ≡ lo → slots n ≤ s.place → Sound w s → Stands w s slots → Enumerates w c (After w n m slots) marks bs count.longest
           (required need f (λ t. unbounded (suc (length (w.task).text) - t.place) greedy f t) s)
           (go w a s.place slots marks bs count)
       must_free zero s slots marks bs count el le ok st =
@@ -207,7 +207,7 @@ module _ (w : Ground) (a b c n k m : ℕ) (f : Ways) (fresh : first w ≤ n) (lk
     fresh_turns : (fuel : ℕ) (s : MatchState) (slots : Slots) (marks : List ℕ) (bs : List Branch) (count : Tally) →
         length (w.task).text < s.place + fuel → lo ≤ slots n → (nat_lt lo (slots n) && slots (n + 1) == s.place) ≡ false →
         Sound w s → Stands w s slots →
-        Hands w c (After w n m slots) marks bs count.longest (unbounded fuel greedy f s) (go w a s.place slots marks bs count)
+        Enumerates w c (After w n m slots) marks bs count.longest (unbounded fuel greedy f s) (go w a s.place slots marks bs count)
     fresh_turns zero s slots marks bs count left le test ok st = let q = sound_within w s ok in absurd (omega arith)
     fresh_turns (suc fuel) s slots marks bs count left le test ok st =
         let x = min (slots n + 1) usize_max in
@@ -227,8 +227,8 @@ module _ (w : Ground) (a b c n k m : ℕ) (f : Ways) (fresh : first w ≤ n) (lk
         let on = (keeps s h ok m').1 in
         let Goal : Bool → Type 0 =
         λ v.
-        Hands w c (After w n m r) marks ds i.longest (if v then h ∷ [] else unbounded fuel greedy f h) (go w a h.place r marks ds i) in
-        ⊎_elim {C = Hands w c (After w n m r) marks ds i.longest (if_moved s (unbounded fuel greedy f) h) (go w a h.place r marks ds i)}
+        Enumerates w c (After w n m r) marks ds i.longest (if v then h ∷ [] else unbounded fuel greedy f h) (go w a h.place r marks ds i) in
+        ⊎_elim {C = Enumerates w c (After w n m r) marks ds i.longest (if_moved s (unbounded fuel greedy f) h) (go w a h.place r marks ds i)}
         (λ t.
         subst Goal (sym t.0)
         (from w (stops h r marks ds i (is ∙ eq-eqb s.place h.place (sym t.1)))
@@ -241,7 +241,7 @@ module _ (w : Ground) (a b c n k m : ℕ) (f : Ways) (fresh : first w ≤ n) (lk
         (λ cs j. one w slots1 j af to_same))
 
     pub must_checked : (need : ℕ) (s : MatchState) (slots : Slots) (marks : List ℕ) (bs : List Branch) (count : Tally) →
-        slots n + need ≡ lo → Sound w s → Stands w s slots → Hands w c (After w n m slots) marks bs count.longest
+        slots n + need ≡ lo → Sound w s → Stands w s slots → Enumerates w c (After w n m slots) marks bs count.longest
         (required need f (λ t. unbounded (suc (length (w.task).text) - t.place) greedy f t) s)
         (go w a s.place slots marks bs count)
     must_checked zero s slots marks bs count el ok st =

@@ -14,13 +14,13 @@ use Rattle.fancy_meaning.specs.Layout.{each_part, body_code, alt_code}
 use Rattle.fancy_meaning.specs.WellFormed.{IsFine}
 use Rattle.fancy_meaning.specs.CompileRefusals.{IsWritten, IsAmong, here, there, part, branches_of, is_behind, RefusesNode, variable_lookbehind, control_verb}
 use Rattle.fancy_meaning.specs.AnalysisRefusals.{CompileError, FeatureNotYetSupported, VariableLookBehindRequiresFeature}
-use Rattle.fancy_composed.proofs.Courses.{Ground}
-use Rattle.fancy_composed.proofs.Parts.{Sound, setting, whole, Works, Keeps}
+use Rattle.fancy_composed.proofs.Continuations.{Ground}
+use Rattle.fancy_composed.proofs.Parts.{Sound, setting, whole, Simulates, Keeps}
 use Rattle.fancy_composed.proofs.Repeats.{Moves}
-use Rattle.fancy_composed.proofs.Works.{works_as, works_nothing, works_look, works_unless, works_fails}
-use Rattle.fancy_composed.proofs.LoopWorks.{works_repeat}
-use Rattle.fancy_composed.proofs.Behind.{Sized, works_behind, works_not_behind}
-use Rattle.fancy_composed.proofs.Branches.{never, code_at, means, size_of, EachWorks, EachKnown, EachConst, alt_works, behind_each, not_behind_each, ends_by_branch}
+use Rattle.fancy_composed.proofs.Simulates.{simulates_as, simulates_nothing, simulates_look, simulates_unless, simulates_fails}
+use Rattle.fancy_composed.proofs.LoopSimulates.{simulates_repeat}
+use Rattle.fancy_composed.proofs.Behind.{Sized, simulates_behind, simulates_not_behind}
+use Rattle.fancy_composed.proofs.Branches.{never, code_at, means, size_of, EachSimulates, EachKnown, EachConst, alt_simulates, behind_each, not_behind_each, ends_by_branch}
 
 abbrev pub HasOne : Trees → Type 0
 HasOne none = ⊥
@@ -31,10 +31,10 @@ has_one none ok = ok
 has_one (more e es) ok = tt
 
 module _ (w : Ground) (call : ℕ → Bool → Code) (meant : ℕ → Ways) where
-  pub alternation_works : (es : Trees) (in_hard : Bool) → HasOne es → EachWorks w call meant false in_hard es →
-      Works w (alt_code (each_part w.plan never call false es) in_hard) (one_of (each_ways (setting w) meant es))
-  alternation_works none in_hard ok u = absurd ok
-  alternation_works (more e es) in_hard ok u = alt_works w call meant e es in_hard u
+  pub alternation_simulates : (es : Trees) (in_hard : Bool) → HasOne es → EachSimulates w call meant false in_hard es →
+      Simulates w (alt_code (each_part w.plan never call false es) in_hard) (one_of (each_ways (setting w) meant es))
+  alternation_simulates none in_hard ok u = absurd ok
+  alternation_simulates (more e es) in_hard ok u = alt_simulates w call meant e es in_hard u
 
   -- the branches of a body that is an alternation
   abbrev pub alternatives : Tree → Trees
@@ -62,29 +62,29 @@ module _ (w : Ground) (call : ℕ → Bool → Code) (meant : ℕ → Ways) wher
   body_ways (Alt es) s = refl
   body_ways e s = sym (append-nil (means w call meant e s))
 
-  pub control_works : (verb : Verb) (at_start in_hard : Bool) →
+  pub control_simulates : (verb : Verb) (at_start in_hard : Bool) →
       ((error : CompileError) → ¬ RefusesNode w.plan (Control verb) error) →
-      Works w (code_at w call meant (Control verb) at_start in_hard) fails
-  control_works Fail at_start in_hard ok = works_fails w
-  control_works _ at_start in_hard ok = absurd (ok FeatureNotYetSupported (control_verb (λ e. cc)))
+      Simulates w (code_at w call meant (Control verb) at_start in_hard) fails
+  control_simulates Fail at_start in_hard ok = simulates_fails w
+  control_simulates _ at_start in_hard ok = absurd (ok FeatureNotYetSupported (control_verb (λ e. cc)))
 
   -- what is asked of the body of a loop that is entered
   pub record LoopBody (may_be_empty : Bool) (c : Code) (f : Ways) : Type 0 where
-    pub works : Works w c f
+    pub simulates : Simulates w c f
     pub keeps : Keeps w f
     pub moves : may_be_empty ≡ false → Moves w f
 
-  pub repeat_works : (lo : ℕ) (hi : Option ℕ) (greedy may_be_empty : Bool) (c : Code) (f : Ways) → lo < usize_max →
+  pub repeat_simulates : (lo : ℕ) (hi : Option ℕ) (greedy may_be_empty : Bool) (c : Code) (f : Ways) → lo < usize_max →
       IfSome hi (λ n. (lo ≤ n) × (n < usize_max)) → length (w.task).text < usize_max →
       (is_never hi ≡ false → LoopBody may_be_empty c f) →
-      Works w (repeat_code greedy c (loop_form lo hi may_be_empty)) (repeats (w.task).text lo hi greedy f)
-  repeat_works zero (Some zero) greedy v c f small fine fits p =
-      works_as w (repeats (w.task).text 0 (Some 0) greedy f) (works_nothing w) (λ s ok. refl)
-  repeat_works (suc lo) (Some zero) greedy v c f small fine fits p = absurd (omega (arith, fine))
-  repeat_works lo (Some (suc hi)) greedy v c f small fine fits p =
-      let b = p refl in works_repeat w greedy c f b.works b.keeps fits lo (Some (suc hi)) v small fine b.moves
-  repeat_works lo None greedy v c f small fine fits p =
-      let b = p refl in works_repeat w greedy c f b.works b.keeps fits lo None v small tt b.moves
+      Simulates w (repeat_code greedy c (loop_form lo hi may_be_empty)) (repeats (w.task).text lo hi greedy f)
+  repeat_simulates zero (Some zero) greedy v c f small fine fits p =
+      simulates_as w (repeats (w.task).text 0 (Some 0) greedy f) (simulates_nothing w) (λ s ok. refl)
+  repeat_simulates (suc lo) (Some zero) greedy v c f small fine fits p = absurd (omega (arith, fine))
+  repeat_simulates lo (Some (suc hi)) greedy v c f small fine fits p =
+      let b = p refl in simulates_repeat w greedy c f b.simulates b.keeps fits lo (Some (suc hi)) v small fine b.moves
+  repeat_simulates lo None greedy v c f small fine fits p =
+      let b = p refl in simulates_repeat w greedy c f b.simulates b.keeps fits lo None v small tt b.moves
 
   pub written_body : (lo : ℕ) (hi : Option ℕ) (greedy : Bool) (e : Tree) → is_never hi ≡ false →
       IsWritten (whole w) (Repeat lo hi greedy e) → IsWritten (whole w) e
@@ -94,7 +94,7 @@ module _ (w : Ground) (call : ℕ → Bool → Code) (meant : ℕ → Ways) wher
 
   -- of an alternation, what is known of its branches
   abbrev pub OfBranches : Tree → Type 0
-  OfBranches (Alt es) = HasOne es × EachWorks w call meant false false es × EachKnown w call meant es
+  OfBranches (Alt es) = HasOne es × EachSimulates w call meant false false es × EachKnown w call meant es
   OfBranches e = Unit {0}
 
   -- a lookbehind that is accepted has a body, or branches, of one size
@@ -129,7 +129,7 @@ module _ (w : Ground) (call : ℕ → Bool → Code) (meant : ℕ → Ways) wher
 
   -- where the body varies
   behind_varies : (e : Tree) → length (w.task).text < usize_max → (size_of w call meant e).is_const ≡ false →
-      ((error : CompileError) → ¬ RefusesNode w.plan (LookAround LookBehind e) error) → OfBranches e → Works w
+      ((error : CompileError) → ¬ RefusesNode w.plan (LookAround LookBehind e) error) → OfBranches e → Simulates w
       (branches (map (behind_code look_code) (bodies (alternatives e)))) (one_of (map (ends_here (setting w)) (branch_ways e)))
   behind_varies (Alt none) fits varies ok u = absurd u.0
   behind_varies (Alt (more d ds)) fits varies ok u =
@@ -139,7 +139,7 @@ module _ (w : Ground) (call : ℕ → Bool → Code) (meant : ℕ → Ways) wher
       absurd (true≢false (sym c ∙ varies))
 
   not_behind_varies : (e : Tree) → length (w.task).text < usize_max → (size_of w call meant e).is_const ≡ false →
-      ((error : CompileError) → ¬ RefusesNode w.plan (LookAround LookBehindNeg e) error) → OfBranches e → Works w
+      ((error : CompileError) → ¬ RefusesNode w.plan (LookAround LookBehindNeg e) error) → OfBranches e → Simulates w
       (in_turn (map (behind_code negative_look_code) (bodies (alternatives e))))
       (unless (one_of (map (ends_here (setting w)) (branch_ways e))))
   not_behind_varies (Alt none) fits varies ok u = absurd u.0
@@ -151,38 +151,38 @@ module _ (w : Ground) (call : ℕ → Bool → Code) (meant : ℕ → Ways) wher
       absurd (true≢false (sym c ∙ varies))
 
   module _ (e : Tree) (fits : length (w.task).text < usize_max)
-      (p : Works w (code_at w call meant e false false) (means w call meant e)) (keeps : Keeps w (means w call meant e))
+      (p : Simulates w (code_at w call meant e false false) (means w call meant e)) (keeps : Keeps w (means w call meant e))
       (sized : Sized w (size_of w call meant e) (means w call meant e)) (u : OfBranches e) where
     abbrev body : Size × Code
     body = (size_of w call meant e, code_at w call meant e false false)
 
-    look_around_works : (look : Look) → ((error : CompileError) → ¬ RefusesNode w.plan (LookAround look e) error) →
-        Works w (look_around_code look body (bodies (alternatives e))) (looks (setting w) look (branch_ways e))
-    look_around_works LookAhead ok =
-        works_as w (ahead (one_of (branch_ways e))) (works_look w _ _ p) (λ s so. ap (map (moved_to s.place)) (body_ways e s))
-    look_around_works LookAheadNeg ok =
-        works_as w (unless (one_of (branch_ways e))) (works_unless w _ _ p)
+    look_around_simulates : (look : Look) → ((error : CompileError) → ¬ RefusesNode w.plan (LookAround look e) error) →
+        Simulates w (look_around_code look body (bodies (alternatives e))) (looks (setting w) look (branch_ways e))
+    look_around_simulates LookAhead ok =
+        simulates_as w (ahead (one_of (branch_ways e))) (simulates_look w _ _ p) (λ s so. ap (map (moved_to s.place)) (body_ways e s))
+    look_around_simulates LookAheadNeg ok =
+        simulates_as w (unless (one_of (branch_ways e))) (simulates_unless w _ _ p)
         (λ s so. ap (λ l. if not (is_some (slice_get l 0)) then s ∷ [] else []) (body_ways e s))
-    look_around_works LookBehind ok = by_size (size_of w call meant e).is_const refl
+    look_around_simulates LookBehind ok = by_size (size_of w call meant e).is_const refl
       where
         Looks : Bool → Type 0
         Looks v =
-            Works w (if v then behind_code look_code body else branches (map (behind_code look_code) (bodies (alternatives e))))
+            Simulates w (if v then behind_code look_code body else branches (map (behind_code look_code) (bodies (alternatives e))))
             (one_of (map (ends_here (setting w)) (branch_ways e)))
 
         by_size : (v : Bool) → (size_of w call meant e).is_const ≡ v → Looks (size_of w call meant e).is_const
         by_size true is =
             subst Looks (sym is)
-            (works_as w (one_of (map (ends_here (setting w)) (branch_ways e)))
-            (works_behind w (size_of w call meant e) (means w call meant e) is sized keeps fits
+            (simulates_as w (one_of (map (ends_here (setting w)) (branch_ways e)))
+            (simulates_behind w (size_of w call meant e) (means w call meant e) is sized keeps fits
             (code_at w call meant e false false) p)
             (λ s so. ends_of e s is fits keeps sized so))
         by_size false is = subst Looks (sym is) (behind_varies e fits is ok u)
-    look_around_works LookBehindNeg ok = by_size (size_of w call meant e).is_const refl
+    look_around_simulates LookBehindNeg ok = by_size (size_of w call meant e).is_const refl
       where
         Looks : Bool → Type 0
         Looks v =
-            Works w
+            Simulates w
             (if v then behind_code negative_look_code body else in_turn
             (map (behind_code negative_look_code) (bodies (alternatives e))))
             (unless (one_of (map (ends_here (setting w)) (branch_ways e))))
@@ -190,16 +190,16 @@ module _ (w : Ground) (call : ℕ → Bool → Code) (meant : ℕ → Ways) wher
         by_size : (v : Bool) → (size_of w call meant e).is_const ≡ v → Looks (size_of w call meant e).is_const
         by_size true is =
             subst Looks (sym is)
-            (works_as w (unless (one_of (map (ends_here (setting w)) (branch_ways e))))
-            (works_not_behind w (size_of w call meant e) (means w call meant e) is sized keeps fits
+            (simulates_as w (unless (one_of (map (ends_here (setting w)) (branch_ways e))))
+            (simulates_not_behind w (size_of w call meant e) (means w call meant e) is sized keeps fits
             (code_at w call meant e false false) p)
             (λ s so. ap (λ l. if not (is_some (slice_get l 0)) then s ∷ [] else []) (ends_of e s is fits keeps sized so)))
         by_size false is = subst Looks (sym is) (not_behind_varies e fits is ok u)
 
-    pub look_works : (look : Look) (at_start in_hard : Bool) →
+    pub look_simulates : (look : Look) (at_start in_hard : Bool) →
         ((error : CompileError) → ¬ RefusesNode w.plan (LookAround look e) error) →
-        Works w (code_at w call meant (LookAround look e) at_start in_hard) (ways_with (setting w) meant (LookAround look e))
-    look_works look at_start in_hard ok =
-        subst (λ c. Works w c (ways_with (setting w) meant (LookAround look e))) (sym (look_codes look e at_start in_hard))
-        (works_as w (ways_with (setting w) meant (LookAround look e)) (look_around_works look ok)
+        Simulates w (code_at w call meant (LookAround look e) at_start in_hard) (ways_with (setting w) meant (LookAround look e))
+    look_simulates look at_start in_hard ok =
+        subst (λ c. Simulates w c (ways_with (setting w) meant (LookAround look e))) (sym (look_codes look e at_start in_hard))
+        (simulates_as w (ways_with (setting w) meant (LookAround look e)) (look_around_simulates look ok)
         (λ s so. ap (λ f. f s) (sym (look_ways look e))))

@@ -16,11 +16,11 @@ use Rattle.fancy_meaning.specs.Code.{Code}
 use Rattle.fancy_meaning.specs.Config.{Slots, Branch}
 use Rattle.fancy_meaning.specs.Machine.{flag_slot, goes_from, step}
 use Rattle.fancy_meaning.specs.Keys.{bit}
-use Rattle.fancy_meaning.specs.Hands.{HasAt, start_number, end_number, IsOutsideState}
+use Rattle.fancy_meaning.specs.Enumerates.{HasAt, start_number, end_number, IsOutsideState}
 use Rattle.fancy_meaning.specs.Premises.{IsSoundState}
-use Rattle.fancy_composed.proofs.Courses.{Tally, to_same, to_eq, to_trans, after, Ground, here, go, failed, step_at_pc}
+use Rattle.fancy_composed.proofs.Continuations.{Tally, to_same, to_eq, to_trans, after, Ground, here, go, failed, step_at_pc}
 use Rattle.fancy_composed.proofs.Alike.{Among, Alike}
-use Rattle.fancy_composed.proofs.Hands.{Hands, none, from, one, weaken, known, bind}
+use Rattle.fancy_composed.proofs.Enumerates.{Enumerates, none, from, one, weaken, known, bind}
 
 pub put_same : {A : Type 0} (f : ℕ → A) (i j : ℕ) (v : A) → j ≡ i → put i v f j ≡ v
 put_same f i j v e = ap (λ b. if b then v else f j) (eq-eqb j i e)
@@ -103,13 +103,13 @@ module _ (w : Ground) where
     pub stands : Stands h r
     pub keeps : (k : ℕ) → IsOutsideState w.task k → Outside n m k → r k ≡ slots k
 
-  -- from a to b a part hands what f gives, with fresh slots from n to m
+  -- from a to b a part enumerates what f gives, with fresh slots from n to m
   pub record Part (a b n m : ℕ) (f : Ways) : Type 0 where
-    pub hands : (s : MatchState) (slots : Slots) (marks : List ℕ) (bs : List Branch) (count : Tally) → Sound s → Stands s slots →
-        Hands w b (After n m slots) marks bs count.longest (f s) (go w a s.place slots marks bs count)
+    pub enumerates : (s : MatchState) (slots : Slots) (marks : List ℕ) (bs : List Branch) (count : Tally) → Sound s → Stands s slots →
+        Enumerates w b (After n m slots) marks bs count.longest (f s) (go w a s.place slots marks bs count)
 
-  -- code that hands ways wherever it stands, up to repeats
-  pub record Works (code : Code) (f : Ways) : Type 0 where
+  -- code that enumerates ways wherever it stands, up to repeats
+  pub record Simulates (code : Code) (f : Ways) : Type 0 where
     pub grows : (a n : ℕ) → n ≤ (code a n).fresh
     pub handed : Ways
     pub alike : (s : MatchState) → Sound s → Alike (handed s) (f s)
@@ -120,7 +120,7 @@ module _ (w : Ground) where
   abbrev pub Keeps : Ways → Type 0
   Keeps f = (s t : MatchState) → Sound s → Among t (f s) → Sound t × (s.place ≤ t.place)
 
-  pub handed_keeps : {code : Code} {f : Ways} (c : Works code f) → Keeps f → Keeps c.handed
+  pub handed_keeps : {code : Code} {f : Ways} (c : Simulates code f) → Keeps f → Keeps c.handed
   handed_keeps c k s t ok m = k s t ok ((c.alike s ok).members t m)
 
   pub after_trans : (n m i j k l : ℕ) (h u : MatchState) (r s t : Slots) → n ≤ i → j ≤ m → n ≤ k → l ≤ m → After i j r h s →
@@ -138,8 +138,8 @@ module _ (w : Ground) where
 
   pub part_wider : (a b n m i j : ℕ) (f : Ways) → n ≤ i → j ≤ m → Part a b i j f → Part a b n m f
   part_wider a b n m i j f li lj p = record {
-    hands = λ s slots marks bs count ok st.
-        weaken w (λ h r af. after_wider n m i j h slots r li lj af) (p.hands s slots marks bs count ok st);
+    enumerates = λ s slots marks bs count ok st.
+        weaken w (λ h r af. after_wider n m i j h slots r li lj af) (p.enumerates s slots marks bs count ok st);
   }
 
   -- the slots as they were
@@ -168,21 +168,21 @@ module _ (w : Ground) where
   stands_moved s i slots st = record { kept = st.kept; starts = st.starts; ends = st.ends; flagged = st.flagged }
 
   pub part_stays : (a n m : ℕ) → Part a a n m (λ s. s ∷ [])
-  part_stays a n m = record { hands = λ s slots marks bs count ok st. one w slots count (after_move n m s slots st) to_same }
+  part_stays a n m = record { enumerates = λ s slots marks bs count ok st. one w slots count (after_move n m s slots st) to_same }
 
   pub part_next : (a b c n i m : ℕ) (f g : Ways) → b ≤ c → n ≤ i → i ≤ m → Part a b n i f →
       ((s t : MatchState) → Sound s → Among t (f s) → Sound t) → Part b c i m g → Part a c n m (λ s. flat_map g (f s))
   part_next a b c n i m f g le fn fm p ok q = record {
-    hands = λ s slots marks bs count so st.
+    enumerates = λ s slots marks bs count so st.
         bind w g (f s) le
         (λ h r cs j af.
         weaken w (λ u t ag. after_trans n m n i i m h u slots r t (omega arith) fm fn (omega arith) af.0 ag)
-        (q.hands h r marks cs j af.1 af.0.stands))
-        (known w Sound (λ h m'. ok s h so m') (p.hands s slots marks bs count so st));
+        (q.enumerates h r marks cs j af.1 af.0.stands))
+        (known w Sound (λ h m'. ok s h so m') (p.enumerates s slots marks bs count so st));
   }
 
   at_option : (a n m : ℕ) (s : MatchState) (slots : Slots) (marks : List ℕ) (bs : List Branch) (count : Tally) (o : Option ℕ) →
-      Stands s slots → Hands w (a + 1) (After n m slots) marks bs count.longest (at_place s o)
+      Stands s slots → Enumerates w (a + 1) (After n m slots) marks bs count.longest (at_place s o)
       (after w.task (goes_from w.task (here w a s.place slots marks bs count) o))
   at_option a n m s slots marks bs count None st = none count (failed w bs (here w a s.place slots marks bs count) refl)
   at_option a n m s slots marks bs count (Some p) st =
@@ -194,8 +194,8 @@ module _ (w : Ground) where
       step w.task i (here w a s.place slots marks bs count) ≡ goes_from w.task (here w a s.place slots marks bs count) (f s)) →
       Part a b n m (λ s. at_place s (f s))
   part_moves a b n m i f at e does = record {
-    hands = λ s slots marks bs count ok st.
-        subst (λ c. Hands w c (After n m slots) marks bs count.longest (at_place s (f s)) (go w a s.place slots marks bs count)) e
+    enumerates = λ s slots marks bs count ok st.
+        subst (λ c. Enumerates w c (After n m slots) marks bs count.longest (at_place s (f s)) (go w a s.place slots marks bs count)) e
         (from w
         (to_trans (step_at_pc w i a s.place slots marks bs count at)
         (to_eq (λ k. ap (λ x. after w.task x k) (does s slots marks bs count ok st))))

@@ -9,8 +9,8 @@ use Rattle.fancy_meaning.specs.Options.{Plan}
 use Rattle.fancy_meaning.specs.Instr.{Instr, Save, Jmp, SplitUnanchored, End, RejectEmptyMatchAtEOFFollowingNewline}
 use Rattle.fancy_meaning.specs.Code.{Code, nothing, one, ◌>>◌}
 use Rattle.fancy_meaning.specs.Layout.{program, root_code, called_code, first_fresh}
-use Rattle.fancy_meaning.specs.Hands.{HasAt}
-use Rattle.fancy_composed.proofs.Works.{has_front, has_back}
+use Rattle.fancy_meaning.specs.Enumerates.{HasAt}
+use Rattle.fancy_composed.proofs.Simulates.{has_front, has_back}
 use Rattle.fancy_composed.proofs.Attempts.{EndsAt}
 
 has_all : (is pre : List Instr) → HasAt (pre ++ is) (length pre) is

@@ -15,7 +15,7 @@ use Rattle.fancy_meaning.specs.CompileRefusals.{IsWritten, RefusesNode}
 use Rattle.fancy_meaning.specs.WellFormed.{IsFine, refers}
 use Rattle.fancy_meaning.specs.Premises.{IsSized}
 use Rattle.fancy_meaning.specs.Marks.{has_marked_continue, is_marked_group}
-use Rattle.fancy_composed.proofs.Courses.{Ground}
+use Rattle.fancy_composed.proofs.Continuations.{Ground}
 use Rattle.fancy_composed.proofs.Parts.{Sound, setting, whole}
 use Rattle.fancy_composed.proofs.Branches.{never}
 

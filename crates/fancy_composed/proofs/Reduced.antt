@@ -5,7 +5,7 @@ use Rattle.std.proofs.lemmas.Option.{same_Some}
 use Rattle.std.proofs.lemmas.Slice.Eq.{bytes_eq-Decides}
 use Rattle.std.proofs.lemmas.Bool.{or_right}
 use Rattle.fancy_meaning.specs.MatchState.{MatchState}
-use Rattle.fancy_meaning.specs.Keys.{Key, reduced, Thins}
+use Rattle.fancy_meaning.specs.Keys.{Key, reduced, EqualUpTo}
 use Rattle.fancy_composed.proofs.Alike.{Alike}
 
 -- the keys that occurred before, as a test
@@ -172,8 +172,8 @@ module _ (by : Key) where
       (find (λ x. not (seen (by x))) hs) refl
       ∙ ap (from_new seen qs) (alike.tests (λ x. not (seen (by x)))) ∙ sym (by_new seen qs)
 
-  pub alike_thins : (hs qs : List MatchState) → Alike hs qs → Thins by hs qs
-  alike_thins hs qs alike =
+  pub alike_key_equal : (hs qs : List MatchState) → Alike hs qs → EqualUpTo by hs qs
+  alike_key_equal hs qs alike =
       reduced_by_seen hs
       ∙ alike_reduced (unseen (λ k. false) hs) (λ k. false) hs qs (omega arith) alike
       ∙ sym (reduced_by_seen qs)

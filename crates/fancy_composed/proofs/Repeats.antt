@@ -9,9 +9,9 @@ use Rattle.fancy_meaning.specs.Constructs.{split}
 use Rattle.fancy_meaning.specs.Instr.{Instr, Jmp, Save0, RepeatEpsilon}
 use Rattle.fancy_meaning.specs.Instr as instr
 use Rattle.fancy_meaning.specs.Config.{Slots, Branch}
-use Rattle.fancy_composed.proofs.Courses.{Tally, To, to_same, to_eq, to_trans, after, Ground, here, go, step_at_pc}
+use Rattle.fancy_composed.proofs.Continuations.{Tally, To, to_same, to_eq, to_trans, after, Ground, here, go, step_at_pc}
 use Rattle.fancy_composed.proofs.Alike.{Among}
-use Rattle.fancy_composed.proofs.Hands.{Hands, from, one, weaken, known, bind, forked, fork_split}
+use Rattle.fancy_composed.proofs.Enumerates.{Enumerates, from, one, weaken, known, bind, forked, fork_split}
 use Rattle.fancy_composed.proofs.Parts.{sound_within, put_same, Sound, Keeps, first, body, Stands, After, Part, after_trans, after_move, after_put, stands_put}
 use Rattle.fancy_composed.proofs.Loops.{must, must_free, must_checked}
 
@@ -26,7 +26,7 @@ module _ (w : Ground) (x y z c n m : ℕ) (f : Ways) (greedy : Bool) (at : slice
     (keeps : Keeps w f) (moves : Moves w f) (p : Part w y z n m f) where
   plain : (fuel : ℕ) (s : MatchState) (slots : Slots) (marks : List ℕ) (bs : List Branch) (count : Tally) →
       length (w.task).text < s.place + fuel → Sound w s → Stands w s slots →
-      Hands w c (After w n m slots) marks bs count.longest (unbounded fuel greedy f s) (go w x s.place slots marks bs count)
+      Enumerates w c (After w n m slots) marks bs count.longest (unbounded fuel greedy f s) (go w x s.place slots marks bs count)
   plain zero s slots marks bs count left ok st = let q = sound_within w s ok in absurd (omega arith)
   plain (suc fuel) s slots marks bs count left ok st =
       from w
@@ -38,12 +38,12 @@ module _ (w : Ground) (x y z c n m : ℕ) (f : Ways) (greedy : Bool) (at : slice
       let far = moves s h ok q.1 in
       from w (back h r marks ds k)
       (subst
-      (λ v. Hands w c (After w n m slots) marks ds k.longest (if v then h ∷ [] else unbounded fuel greedy f h) (go w x h.place r marks ds k))
+      (λ v. Enumerates w c (After w n m slots) marks ds k.longest (if v then h ∷ [] else unbounded fuel greedy f h) (go w x h.place r marks ds k))
       (sym (ne_eqb h.place s.place (λ e. omega arith)))
       (weaken w
       (λ u t ag. after_trans w n m n m n m h u slots r t (omega arith) (omega arith) (omega arith) (omega arith) q.0 ag)
       (plain fuel h r marks ds k (omega arith) (keeps s h ok q.1).0 q.0.stands))))
-      (known w (λ h. Among h (f s)) (λ h m'. m') (p.hands s slots marks cs j ok st)))
+      (known w (λ h. Among h (f s)) (λ h m'. m') (p.enumerates s slots marks cs j ok st)))
       (λ cs j. one w slots j (after_move w n m s slots st) to_same))
 
 module _ (w : Ground) (greedy : Bool) where
@@ -55,7 +55,7 @@ module _ (w : Ground) (greedy : Bool) where
       slice_get (body w) b ≡ Some (Jmp a) → b + 1 ≡ c → a + 1 ≤ b → Keeps w f → Moves w f → Part w (a + 1) b n m f →
       Part w a c n m (repeats text 0 None greedy f)
   part_star a b c n m f at jump e ord keeps moves p = record {
-    hands = λ s slots marks bs count ok st.
+    enumerates = λ s slots marks bs count ok st.
         let q = sound_within w s ok in
         plain w a (a + 1) b c n m f greedy at (omega arith) (omega arith)
         (λ h r ms cs i. step_at_pc w (Jmp a) b h.place r ms cs i jump) keeps moves p
@@ -65,7 +65,7 @@ module _ (w : Ground) (greedy : Bool) where
   pub part_plus : (a b c n m : ℕ) (f : Ways) → slice_get (body w) b ≡ Some (split greedy a c) → b + 1 ≡ c → a ≤ b → Keeps w f →
       Moves w f → Part w a b n m f → Part w a c n m (repeats text 1 None greedy f)
   part_plus a b c n m f at e ord keeps moves p = record {
-    hands = λ s slots marks bs count ok st.
+    enumerates = λ s slots marks bs count ok st.
         bind w (repeats text 0 None greedy f) (f s) (omega arith)
         (λ h r cs i af.
         let so = (keeps s h ok af.1).0 in
@@ -74,16 +74,16 @@ module _ (w : Ground) (greedy : Bool) where
         (λ u t ag. after_trans w n m n m n m h u slots r t (omega arith) (omega arith) (omega arith) (omega arith) af.0 ag)
         (plain w b a b c n m f greedy at (omega arith) (omega arith) (λ k t ms ds j. to_same) keeps moves p
         (suc (length text) - h.place) h r marks cs i (omega arith) so af.0.stands))
-        (known w (λ h. Among h (f s)) (λ h m'. m') (p.hands s slots marks bs count ok st));
+        (known w (λ h. Among h (f s)) (λ h m'. m') (p.enumerates s slots marks bs count ok st));
   }
 
   -- a loop that begins with its count at 0
   begins : (a c n m : ℕ) (g : Ways) → first w ≤ n → n < m → slice_get (body w) a ≡ Some (Save0 n) →
       ((s : MatchState) (slots : Slots) (marks : List ℕ) (bs : List Branch) (count : Tally) → slots n ≡ 0 → Sound w s →
-      Stands w s slots → Hands w c (After w n m slots) marks bs count.longest (g s) (go w (a + 1) s.place slots marks bs count)) →
+      Stands w s slots → Enumerates w c (After w n m slots) marks bs count.longest (g s) (go w (a + 1) s.place slots marks bs count)) →
       Part w a c n m g
   begins a c n m g fresh lt save next = record {
-    hands = λ s slots marks bs count ok st.
+    enumerates = λ s slots marks bs count ok st.
         let r : Slots = put n 0 slots in
         let st1 = stands_put w s slots n 0 fresh st in
         let af = after_put w n m n 0 s slots slots fresh (omega arith) lt (after_move w n m s slots st) in

@@ -3,8 +3,8 @@ use Rattle.std.proofs.Common.{◌≡◌, ◌≢◌, ◌⊎◌, inl, inr, ⊎_eli
 use Rattle.std.specs.Prelude.{slice_get}
 use Rattle.fancy_meaning.specs.Config.{Config, Outcome, Match, NoMatch, BacktrackLimitExceeded, StackOverflow, StepLimitExceeded, outcome_of, Next, Goes, Ends}
 use Rattle.fancy_meaning.specs.Machine.{Task, step_at, exec, then_on}
-use Rattle.fancy_meaning.specs.Hands.{IsLimit, IsBranchLimit}
-use Rattle.fancy_composed.proofs.Courses.{Meets, limit, same, To}
+use Rattle.fancy_meaning.specs.Enumerates.{IsLimit, IsBranchLimit}
+use Rattle.fancy_composed.proofs.Continuations.{Meets, limit, same, To}
 
 is_limit : (r : Outcome) → IsBranchLimit r → IsLimit r
 is_limit (Match numbers) l = l

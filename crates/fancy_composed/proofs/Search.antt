@@ -21,11 +21,11 @@ use Rattle.fancy_meaning.specs.Config.{Slots, Branch, Config, Outcome, NoMatch, 
 use Rattle.fancy_meaning.specs.Machine.{Task, exec, fail_to, then_on, goes_from, is_search, begin, run}
 use Rattle.fancy_meaning.specs.Premises.{Input, plan, IsAccepted, IsFit, Analysed}
 use Rattle.fancy_meaning.specs.Theorems.{IsProgramFor, Answers, HasEnough}
-use Rattle.fancy_composed.proofs.Courses.{Course, Meets, limit, same, Tally, tally_of, once_more, To, to_now, to_same, to_eq, to_trans, after, Ground, config, task_step, step_at_pc}
+use Rattle.fancy_composed.proofs.Continuations.{Continuation, Meets, limit, same, Tally, tally_of, once_more, To, to_now, to_same, to_eq, to_trans, after, Ground, config, task_step, step_at_pc}
 use Rattle.fancy_composed.proofs.Runs.{limit_or_answer, enough_steps}
 use Rattle.fancy_meaning.specs.Marks.{has_marked_continue}
 use Rattle.fancy_composed.proofs.Alike.{Among, every_among, or_first}
-use Rattle.fancy_composed.proofs.Parts.{Works, place_within, flag, flag_is, put_same, put_other, Stands}
+use Rattle.fancy_composed.proofs.Parts.{Simulates, place_within, flag, flag_is, put_same, put_other, Stands}
 use Rattle.fancy_composed.proofs.Places.{char_stands, places_on, places_at_end}
 use Rattle.fancy_composed.proofs.Tests.{MayStop}
 use Rattle.fancy_composed.proofs.Accepted.{ground}
@@ -77,7 +77,7 @@ abbrev pub none_held : ℕ → Tally
 none_held count = record { backtracks = count; longest = None }
 
 -- what is held is answered, and else nothing matched
-held_or_none : (other : Course) (longest : Option (List ℕ)) → To (λ n. NoMatch) other →
+held_or_none : (other : Continuation) (longest : Option (List ℕ)) → To (λ n. NoMatch) other →
     To (λ n. outcome_of longest) (or_else longest other)
 held_or_none other None t = t
 held_or_none other (Some numbers) t = to_same
@@ -112,30 +112,30 @@ module _ (i : Input) (text : List ℕ) (o : RunOptions) (easy : Tree → Bool) (
   analysed = record { parsed = i.parsed; options = i.analysis; well_formed = accepted.well_formed }
 
   -- what falling leads to where a marked `\G` gives up
-  abbrev Stops : List Branch → Course → Type 0
+  abbrev Stops : List Branch → Continuation → Type 0
   Stops base other =
       has_marked_continue tree tree ≡ true → is_search (slice_get (program (plan i) easy).body 0) ≡ true →
       o.anchored ≡ false → (1 ≤ length base) × (length base ≡ 1 → To (λ n. NoMatch) other)
 
   -- what falling into these branches leads to, where nothing is held
-  abbrev Falls : ℕ → List Branch → Course → Type 0
+  abbrev Falls : ℕ → List Branch → Continuation → Type 0
   Falls start base other = (count : Tally) →
       To (after task (fail_to task base (config 0 0 (λ s. 0) [] [] start count))) (or_else count.longest other)
 
-  -- The code of the root hands a list of ways from which the same is chosen as from all ways.
-  abbrev pub RootHands : Type 0
-  RootHands = (start : ℕ) (base : List Branch) (other : Course)
+  -- The code of the root enumerates a list of ways from which the same is chosen as from all ways.
+  abbrev pub RootEnumerates : Type 0
+  RootEnumerates = (start : ℕ) (base : List Branch) (other : Continuation)
       (falls : Falls start base other) → is_place text start ≡ true →
       let w = ground i (length (program (plan i) easy).body) accepted task fit.is_text fits start base
       (λ count. or_else count.longest other) falls in
       (has_marked_continue tree tree ≡ true → MayStop w) →
-      (handed : Ways) × Works w (programs.root (plan i) easy) handed
+      (handed : Ways) × Simulates w (programs.root (plan i) easy) handed
       × (chosen q.leftmost_longest (filter (is_admitted q start) (handed (first_state start))) ≡ attempt q start)
       × ((s : MatchState) → Among s (handed (first_state start)) → Contains (ways_from q start) s)
 
-  module _ (roots : RootHands) where
+  module _ (roots : RootEnumerates) where
     -- one start, and what comes where it has no admitted way
-    attempted : (a start : ℕ) → Attempt (plan i) easy a → is_place text start ≡ true → (base : List Branch) (other : Course) →
+    attempted : (a start : ℕ) → Attempt (plan i) easy a → is_place text start ≡ true → (base : List Branch) (other : Continuation) →
         Falls start base other → Stops base other →
         (count : ℕ) → To (λ n. exec task n (config a start no_slots [] base start (none_held count)))
         (or_else (option_map (as_numbers groups) (attempt q start)) other)
@@ -146,11 +146,11 @@ module _ (i : Input) (text : List ℕ) (o : RunOptions) (easy : Tree → Bool) (
         let stop : has_marked_continue tree tree ≡ true → MayStop w =
         λ b search anchored. let s = stops b search anchored in (s.0, λ one k. held_or_none other k.longest (s.1 one)) in
         let root = roots start base other falls place stop in
-        let works = root.1 in
+        let simulates = root.1 in
         let fresh = programs.fresh (plan i) easy in
         let laid = programs.root (plan i) easy (a + 1) fresh in
         let m = a + 1 + length laid.instrs in
-        let part = works.part (a + 1) m fresh refl (omega (arith, first_slot w accepted.implicit_group_0)) at.tree in
+        let part = simulates.part (a + 1) m fresh refl (omega (arith, first_slot w accepted.implicit_group_0)) at.tree in
         let slots : Slots = put 0 start no_slots in
         let s = first_state start in
         let so = first_is_sound q.setting tree start place in
@@ -160,21 +160,21 @@ module _ (i : Input) (text : List ℕ) (o : RunOptions) (easy : Tree → Bool) (
           ends = λ g lo hi. put_other no_slots 0 (2 * g + 1) start (λ x. omega arith);
           flagged = λ e. put_other no_slots 0 (flag w) start (λ x. omega (arith, flag_is w, x));
         } in
-        let alike = works.alike s so in
-        let there : (u : MatchState) → Among u (works.handed s) → Contains (ways_from q start) u =
+        let alike = simulates.alike s so in
+        let there : (u : MatchState) → Among u (simulates.handed s) → Contains (ways_from q start) u =
         λ u among. root.3 u (alike.members u among) in
-        let same : (p : MatchState → Bool) → slice_get (filter p (works.handed s)) 0 ≡ slice_get (filter p (root.0 s)) 0 =
-        λ p. find_is p (works.handed s) ∙ alike.tests p ∙ sym (find_is p (root.0 s)) in
+        let same : (p : MatchState → Bool) → slice_get (filter p (simulates.handed s)) 0 ≡ slice_get (filter p (root.0 s)) 0 =
+        λ p. find_is p (simulates.handed s) ∙ alike.tests p ∙ sym (find_is p (root.0 s)) in
         to_trans (step_at_pc w (Save 0) a start no_slots [] [] (none_held count) at.start)
         (to_trans
         (found w m fresh laid.fresh slots other
-        (every_among (works.handed s) (λ u among. way_is_small q.setting analysed fit.is_text start place u (there u among)))
+        (every_among (simulates.handed s) (λ u among. way_is_small q.setting analysed fit.is_text start place u (there u among)))
         (λ u t among among' top. tops u t (there u among) (there t among') top)
-        at.end at.ends (λ k. to_same) (part.hands s slots [] [] (none_held count) so st))
+        at.end at.ends (λ k. to_same) (part.enumerates s slots [] [] (none_held count) so st))
         (to_eq
         (λ n.
         ap (λ x. or_else (option_map (as_numbers groups) x) other n)
-        (same_chosen o.leftmost_longest (is_admitted q start) (works.handed s) (root.0 s) (same (is_admitted q start))
+        (same_chosen o.leftmost_longest (is_admitted q start) (simulates.handed s) (root.0 s) (same (is_admitted q start))
         (λ on k. same (λ u. is_admitted q start u && nat_le k (reported u))) ∙ root.2))))
       where
         tops : (u t : MatchState) → Contains (ways_from q start) u → Contains (ways_from q start) t →
@@ -221,7 +221,7 @@ module _ (i : Input) (text : List ℕ) (o : RunOptions) (easy : Tree → Bool) (
     or_result (Some s) u n = refl
 
     -- at the next start the match that is held is answered
-    next_or_held : Searching (plan i) easy accepted.implicit_group_0 → (start before : ℕ) (other : Course) (count : ℕ)
+    next_or_held : Searching (plan i) easy accepted.implicit_group_0 → (start before : ℕ) (other : Continuation) (count : ℕ)
         (longest : Option (List ℕ)) → To (λ n. exec task n (config 0 start no_slots [] [] before (none_held count))) other →
         To (λ n. exec task n (config 0 start no_slots [] [] before (record { backtracks = count; longest = longest })))
         (or_else longest other)
@@ -320,7 +320,7 @@ module _ (i : Input) (text : List ℕ) (o : RunOptions) (easy : Tree → Bool) (
         same_answer = ap result (sym (first_is (attempt q) is) ∙ ap (λ l. slice_get (filter_map (attempt q) l) 0) (sym e))
 
     -- an attempt from the first start alone
-    alone : (a : ℕ) → Attempt (plan i) easy a → ((base : List Branch) (other : Course) → Stops base other) →
+    alone : (a : ℕ) → Attempt (plan i) easy a → ((base : List Branch) (other : Continuation) → Stops base other) →
         To (λ n. exec task n (config a o.pos no_slots [] [] o.pos (none_held 0))) (λ n. result (first_of (attempt q) (o.pos ∷ [])))
     unfolding first_of
     alone a at stops =

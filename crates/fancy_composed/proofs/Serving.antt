@@ -3,10 +3,10 @@ use Rattle.std.proofs.Common.{◌≡◌, ◌⊎◌, inl, inr, ℕ, List, [], ◌
 use Rattle.fancy_meaning.specs.MatchState.{MatchState}
 use Rattle.fancy_meaning.specs.Config.{Slots, Branch, Config, Outcome, Next, Goes}
 use Rattle.fancy_meaning.specs.Machine.{fail_to}
-use Rattle.fancy_meaning.specs.Hands.{IsBranchLimit, Leads, Stretch, no_more, next_way}
-use Rattle.fancy_meaning.specs.Hands as handing
-use Rattle.fancy_composed.proofs.Courses.{Course, Meets, limit, same, Tally, tally_of, To, to_trans, after, Ground, config, here, failed}
-use Rattle.fancy_composed.proofs.Hands.{Hands, none, way}
+use Rattle.fancy_meaning.specs.Enumerates.{IsBranchLimit, Leads, PartBounds, no_more, next_way}
+use Rattle.fancy_meaning.specs.Enumerates as handing
+use Rattle.fancy_composed.proofs.Continuations.{Continuation, Meets, limit, same, Tally, tally_of, To, to_trans, after, Ground, config, here, failed}
+use Rattle.fancy_composed.proofs.Enumerates.{Enumerates, none, way}
 use Rattle.fancy_composed.proofs.Parts.{Stands, After}
 
 module _ (w : Ground)
@@ -18,9 +18,9 @@ module _ (w : Ground)
       met (limit l) = inl l
       met (same e) = inr e
 
-  -- the stretch of a part that begins with these slots and marks, above the base
-  abbrev pub stretch : ℕ → ℕ → Slots → List ℕ → Tally → ℕ → ℕ → ℕ → Stretch
-  stretch pc ix slots marks count b n m = record {
+  -- the bounds of a part that begins with these slots and marks, above the base
+  abbrev pub bounds : ℕ → ℕ → Slots → List ℕ → Tally → ℕ → ℕ → ℕ → PartBounds
+  bounds pc ix slots marks count b n m = record {
     entry = here w pc ix slots marks [] count;
     exit = b;
     taken_from = n;
@@ -41,9 +41,9 @@ module _ (w : Ground)
   stands_here s c st = record { kept = st.kept; starts = st.starts; ends = st.ends; flagged = st.flag }
 
   pub handed_by : (pc ix : ℕ) (slots : Slots) (marks : List ℕ) (count : Tally) (b n m : ℕ) {hs : List MatchState}
-      {best : Option (List ℕ)} {o : Course}
-      (next : Next) → To (after w.task next) o → Hands w b (After w n m slots) marks [] best hs o →
-      handing.Hands w.task (stretch pc ix slots marks count b n m) best next hs
+      {best : Option (List ℕ)} {o : Continuation}
+      (next : Next) → To (after w.task next) o → Enumerates w b (After w n m slots) marks [] best hs o →
+      handing.Enumerates w.task (bounds pc ix slots marks count b n m) best next hs
   handed_by pc ix slots marks count b n m next t (none k u) =
       no_more (config 0 0 (λ s. 0) [] [] w.start k) refl refl
       (leads next (fail_to w.task w.base (config 0 0 (λ s. 0) [] [] w.start k)) (to_trans t (to_trans u (reaches k))))

@@ -13,36 +13,36 @@ use Rattle.fancy_meaning.specs.Code as code
 use Rattle.fancy_meaning.specs.Keys.{bit}
 use Rattle.fancy_meaning.specs.Config.{forward, with_slot, Slots, Branch, Config, outcome_of, Goes, Ends}
 use Rattle.fancy_meaning.specs.Machine.{flagged, step, fail, fail_to, is_search, gives_up, goes_if}
-use Rattle.fancy_meaning.specs.Hands.{end_number, IsOutsideState}
-use Rattle.fancy_composed.proofs.Courses.{Tally, tally_of, To, to_same, to_eq, to_trans, after, Ground, here, go, resume, failed, step_at_pc}
+use Rattle.fancy_meaning.specs.Enumerates.{end_number, IsOutsideState}
+use Rattle.fancy_composed.proofs.Continuations.{Tally, tally_of, To, to_same, to_eq, to_trans, after, Ground, here, go, resume, failed, step_at_pc}
 use Rattle.fancy_composed.proofs.Alike.{alike_same}
-use Rattle.fancy_composed.proofs.Hands.{Hands, none, from, one}
-use Rattle.fancy_composed.proofs.Parts.{put_same, put_other, place_within, both_left, both_right, Sound, setting, flag, flag_is, first, body, whole, outside_state, Stands, After, Works, after_move}
-use Rattle.fancy_composed.proofs.Works.{works_as}
+use Rattle.fancy_composed.proofs.Enumerates.{Enumerates, none, from, one}
+use Rattle.fancy_composed.proofs.Parts.{put_same, put_other, place_within, both_left, both_right, Sound, setting, flag, flag_is, first, body, whole, outside_state, Stands, After, Simulates, after_move}
+use Rattle.fancy_composed.proofs.Simulates.{simulates_as}
 
 module _ (w : Ground) where
   -- an instruction that fails, or goes on with the state and the slots turned
-  pub works_turns : (i : Instr) (test : MatchState → Bool) (turn : MatchState → MatchState)
+  pub simulates_turns : (i : Instr) (test : MatchState → Bool) (turn : MatchState → MatchState)
       (turned : MatchState → Slots → Slots) → ((s : MatchState) → (turn s).place ≡ s.place) →
       ((s : MatchState) (slots : Slots) (n : ℕ) → first w ≤ n → Stands w s slots → After w n n slots (turn s) (turned s slots)) →
       ((s : MatchState) (slots : Slots) (a : ℕ) (marks : List ℕ) (bs : List Branch) (count : Tally) → Sound w s → Stands w s slots →
       step w.task i (here w a s.place slots marks bs count) ≡
       (if test s then Goes (here w (a + 1) s.place (turned s slots) marks bs count) else fail w.task
       (here w a s.place slots marks bs count))) →
-      Works w (code.one i) (λ s. if test s then turn s ∷ [] else [])
-  works_turns i test turn turned place stands does = record {
+      Simulates w (code.one i) (λ s. if test s then turn s ∷ [] else [])
+  simulates_turns i test turn turned place stands does = record {
     grows = λ a n. omega arith;
     handed = λ s. if test s then turn s ∷ [] else [];
     alike = λ s ok. alike_same (if test s then turn s ∷ [] else []);
     part = λ a b n e fresh h. record {
-      hands = λ s slots marks bs count ok st.
+      enumerates = λ s slots marks bs count ok st.
           subst
-          (λ c. Hands w c (After w n n slots) marks bs count.longest (if test s then turn s ∷ [] else []) (go w a s.place slots marks bs count)) e
+          (λ c. Enumerates w c (After w n n slots) marks bs count.longest (if test s then turn s ∷ [] else []) (go w a s.place slots marks bs count)) e
           (from w
           (to_trans (step_at_pc w i a s.place slots marks bs count h.0)
           (to_eq (λ k. ap (λ x. after w.task x k) (does s slots a marks bs count ok st))))
           (elim (test s) as
-          (λ v. Hands w (a + 1) (After w n n slots) marks bs count.longest (if v then turn s ∷ [] else [])
+          (λ v. Enumerates w (a + 1) (After w n n slots) marks bs count.longest (if v then turn s ∷ [] else [])
           (after w.task (if v then Goes (here w (a + 1) s.place (turned s slots) marks bs count) else fail w.task
           (here w a s.place slots marks bs count)))) [
             | true ↦ one w (turned s slots) count (stands s slots n fresh st)
@@ -53,13 +53,13 @@ module _ (w : Ground) where
   }
 
   -- one that only tests
-  pub works_tests : (i : Instr) (test : MatchState → Bool) →
+  pub simulates_tests : (i : Instr) (test : MatchState → Bool) →
       ((s : MatchState) (slots : Slots) (a : ℕ) (marks : List ℕ) (bs : List Branch) (count : Tally) → Sound w s → Stands w s slots →
       step w.task i (here w a s.place slots marks bs count) ≡ goes_if w.task (test s)
       (here w a s.place slots marks bs count)) →
-      Works w (code.one i) (stays_if test)
-  works_tests i test does =
-      works_turns i test (λ s. s) (λ s slots. slots) (λ s. refl) (λ s slots n fresh st. after_move w n n s slots st)
+      Simulates w (code.one i) (stays_if test)
+  simulates_tests i test does =
+      simulates_turns i test (λ s. s) (λ s slots. slots) (λ s. refl) (λ s slots n fresh st. after_move w n n s slots st)
       (λ s slots a marks bs count ok st. does s slots a marks bs count ok st
       ∙ goes_if_is (here w a s.place slots marks bs count) (test s))
     where
@@ -68,9 +68,9 @@ module _ (w : Ground) where
       goes_if_is c true = refl
       goes_if_is c false = refl
 
-  pub works_keeps_out : Works w (code.one (Instr.Save 0)) (λ s. record s { kept = s.place } ∷ [])
-  works_keeps_out =
-      works_turns (Instr.Save 0) (λ s. true) (λ s. record s { kept = s.place }) (λ s slots. put 0 s.place slots) (λ s. refl)
+  pub simulates_keeps_out : Simulates w (code.one (Instr.Save 0)) (λ s. record s { kept = s.place } ∷ [])
+  simulates_keeps_out =
+      simulates_turns (Instr.Save 0) (λ s. true) (λ s. record s { kept = s.place }) (λ s slots. put 0 s.place slots) (λ s. refl)
       (λ s slots n fresh st. record {
         stands = record {
           kept = put_same slots 0 0 s.place refl;
@@ -116,9 +116,9 @@ module _ (w : Ground) where
   met_config true pc ix slots marks bs count = refl
   met_config false pc ix slots marks bs count = refl
 
-  pub works_asserts : (a : Assertion) → Works w (code.one (Instr.Assert a)) (asserts (setting w) a)
-  works_asserts a =
-      works_turns (Instr.Assert a) (λ s. holds (w.task).text s.place (w.plan).unicode a) (λ s. met_state (is_of_end a) s)
+  pub simulates_asserts : (a : Assertion) → Simulates w (code.one (Instr.Assert a)) (asserts (setting w) a)
+  simulates_asserts a =
+      simulates_turns (Instr.Assert a) (λ s. holds (w.task).text s.place (w.plan).unicode a) (λ s. met_state (is_of_end a) s)
       (λ s slots. met_slots (((w.task).program).end_text && is_of_end a) slots)
       (λ s. elim (is_of_end a) as (λ u. (met_state u s).place ≡ s.place) [ true ↦ refl | false ↦ refl ])
       (λ s slots n fresh st. record {
@@ -138,10 +138,10 @@ module _ (w : Ground) where
       (met_config (((w.task).program).end_text && is_of_end a) pc s.place slots marks bs count))
 
   -- where a group was captured its end is a place
-  pub works_exists : (g : ℕ) → 0 < g → g ≤ group_count (whole w) → length (w.task).text < usize_max →
-      Works w (code.one (Instr.BackrefExistsCondition g)) (stays_if (λ s. is_some (s.captures g)))
-  works_exists g pos le fits =
-      works_tests (Instr.BackrefExistsCondition g) (λ s. is_some (s.captures g))
+  pub simulates_exists : (g : ℕ) → 0 < g → g ≤ group_count (whole w) → length (w.task).text < usize_max →
+      Simulates w (code.one (Instr.BackrefExistsCondition g)) (stays_if (λ s. is_some (s.captures g)))
+  simulates_exists g pos le fits =
+      simulates_tests (Instr.BackrefExistsCondition g) (λ s. is_some (s.captures g))
       (λ s slots a marks bs count ok st.
       ap (λ v. goes_if w.task (not (v == usize_max)) (here w a s.place slots marks bs count))
       (st.ends g pos (omega (arith, flag_is w)))
@@ -163,10 +163,10 @@ module _ (w : Ground) where
       is_search (slice_get (body w) 0) ≡ true → (w.task).anchored ≡ false →
       (1 ≤ length w.base) × (length w.base ≡ 1 → (count : Tally) → To (λ n. outcome_of count.longest) (w.bottom count))
 
-  pub works_continues : (at_start : Bool) → (at_start ≡ true → MayStop) → Works w
+  pub simulates_continues : (at_start : Bool) → (at_start ≡ true → MayStop) → Simulates w
       (code.one (Instr.ContinueFromPreviousMatchEnd at_start)) (stays_if (λ s. (w.task).continued && s.place == (w.task).pos))
-  works_continues at_start stop =
-      works_as w (stays_if (λ s. (w.task).continued && s.place == (w.task).pos)) at_last
+  simulates_continues at_start stop =
+      simulates_as w (stays_if (λ s. (w.task).continued && s.place == (w.task).pos)) at_last
       (λ s ok. ap (λ v. if v then s ∷ [] else []) (swapped (s.place == (w.task).pos) (w.task).continued))
     where
       swapped : (u v : Bool) → (u && v) ≡ (v && u)
@@ -202,21 +202,21 @@ module _ (w : Ground) where
           let l : length ((b ∷ bs) ++ w.base) ≡ 1 = ap length (sym e) ∙ m.1 in
           absurd (omega (arith, l, m.0.0, length-append bs w.base))
 
-      at_last : Works w (code.one (Instr.ContinueFromPreviousMatchEnd at_start))
+      at_last : Simulates w (code.one (Instr.ContinueFromPreviousMatchEnd at_start))
           (λ s. if s.place == (w.task).pos && (w.task).continued then s ∷ [] else [])
       at_last = record {
         grows = λ a n. omega arith;
         handed = λ s. if s.place == (w.task).pos && (w.task).continued then s ∷ [] else [];
         alike = λ s ok. alike_same (if s.place == (w.task).pos && (w.task).continued then s ∷ [] else []);
         part = λ a b n e fresh h. record {
-          hands = λ s slots marks bs count ok st.
+          enumerates = λ s slots marks bs count ok st.
               subst
               (λ c.
-              Hands w c (After w n n slots) marks bs count.longest (if s.place == (w.task).pos && (w.task).continued then s ∷ [] else [])
+              Enumerates w c (After w n n slots) marks bs count.longest (if s.place == (w.task).pos && (w.task).continued then s ∷ [] else [])
               (go w a s.place slots marks bs count)) e
               (from w (step_at_pc w (Instr.ContinueFromPreviousMatchEnd at_start) a s.place slots marks bs count h.0)
               (elim (s.place == (w.task).pos && (w.task).continued) as
-              (λ v. Hands w (a + 1) (After w n n slots) marks bs count.longest (if v then s ∷ [] else [])
+              (λ v. Enumerates w (a + 1) (After w n n slots) marks bs count.longest (if v then s ∷ [] else [])
               (after w.task (if v then Goes (here w (a + 1) s.place slots marks bs count) else
               (if gives_up w.task at_start (here w a s.place slots marks bs count) then Ends (outcome_of count.longest) else fail w.task
               (here w a s.place slots marks bs count))))) [

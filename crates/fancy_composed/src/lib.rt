@@ -1,10 +1,10 @@
-//! The composed theorem: the undelegated layout of a tree hands what the tree means, and a run of it answers that,
+//! The composed theorem: the undelegated layout of a tree enumerates what the tree means, and a run of it answers that,
 //! and ends.
 #![tactic(auto)]
 
 ghost use Rattle.fancy_meaning.specs.Theorems.{ComposedTheorem, UndelegatedHeadline, UndelegatedRunsEnd};
 
-/// With every node taken for hard, the code of the root and of each node that is written out hands its ways from each
+/// With every node taken for hard, the code of the root and of each node that is written out enumerates its ways from each
 /// sound state, wherever it stands: the same states in the same order, up to repeats.
 pub fn composed_theorem()
     ensures { ComposedTheorem }

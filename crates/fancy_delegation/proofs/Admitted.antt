@@ -12,7 +12,7 @@ use Rattle.fancy_laws.proofs.Chosen.{same_chosen}
 use Rattle.fancy_delegation.proofs.FindsAlike.{find_first}
 use Rattle.fancy_delegation.proofs.Reduced.{Same}
 use Rattle.fancy_delegation.proofs.KeyParts.{moved_from, moved_by_end, place_by_end, easy_key_tells}
-use Rattle.fancy_delegation.proofs.IsThinned.{IsThinned, thinned_every}
+use Rattle.fancy_delegation.proofs.IsRefined.{IsRefined, refined_every}
 
 first_that_passes : {A : Type 0} (test : A → Bool) (xs : List A) → slice_get (filter test xs) 0 ≡ find_first test xs
 first_that_passes test [] = refl
@@ -29,10 +29,10 @@ tests_agree p r (item {x = x} e h) = ap₂ (λ v rest. if v then Some x else res
 
 -- the same first state, by a test that agrees on the second list with one that respects the key
 pub same_first : {key : MatchState → MatchState → Type 0} {hs qs : List MatchState} (p r : MatchState → Bool) →
-    ((s t : MatchState) → key s t → r s ≡ r t) → Every (λ s. p s ≡ r s) qs → IsThinned key hs qs →
+    ((s t : MatchState) → key s t → r s ≡ r t) → Every (λ s. p s ≡ r s) qs → IsRefined key hs qs →
     slice_get (filter p hs) 0 ≡ slice_get (filter p qs) 0
 same_first {hs = hs} {qs = qs} p r ok agree h =
-    first_that_passes p hs ∙ tests_agree p r (thinned_every h agree) ∙ (h.alike).by r ok
+    first_that_passes p hs ∙ tests_agree p r (refined_every h agree) ∙ (h.alike).by r ok
     ∙ sym (tests_agree p r agree) ∙ sym (first_that_passes p qs)
 
 and_true : (v : Bool) → (v && true) ≡ v
@@ -107,7 +107,7 @@ module _ (p : Plan) (text : List ℕ) (o : RunOptions) (start : ℕ) where
         ap₂ (λ i j. i - j) (place_by_end p on start s t both.0) (both.1).kept
 
     pub same_admitted : (o.leftmost_longest ≡ true → p.analysis.leftmost_longest ≡ true) → {hs qs : List MatchState} →
-        Every IsWithin qs → IsThinned (Same (easy_key p start)) hs qs →
+        Every IsWithin qs → IsRefined (Same (easy_key p start)) hs qs →
         chosen o.leftmost_longest (filter (is_admitted q start) hs) ≡ chosen o.leftmost_longest (filter (is_admitted q start) qs)
     same_admitted longest {hs} {qs} within h =
         same_chosen o.leftmost_longest (is_admitted q start) hs qs

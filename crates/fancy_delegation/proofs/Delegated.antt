@@ -1,4 +1,4 @@
--- Code that hands a list which serves for the ways of a node in its context: what each construct makes of it.
+-- Code that enumerates a list which serves for the ways of a node in its context: what each construct makes of it.
 use Rattle.std.proofs.Common.{◌≡◌, Bool, true, false, not, ◌&&◌, ◌||◌, if◌then◌else◌, List, [], ◌∷◌, ◌++◌, length, map, drop, take_while, refl, sym, ap, ◌∙◌, subst, append-nil, map-id}
 use Rattle.std.proofs.lemmas.Bool.{and_parts, not-true}
 use Rattle.std.proofs.lemmas.List.{map-append}
@@ -17,10 +17,10 @@ use Rattle.fancy_meaning.specs.Premises.{Analysed, analysis, tree_of}
 use Rattle.fancy_laws.proofs.Every.{Every, no_item, item, every_weaker, every_map, every_append_parts}
 use Rattle.fancy_laws.proofs.Splits.{back_while, before_back, cut_in_three}
 use Rattle.fancy_delegation.proofs.Splits.{front_passes, back_passes}
-use Rattle.fancy_delegation.proofs.Thinned.{IsPart, Thins, EachThins, no_part, and_part, part_in_order, thins_as, thins_or_else, thins_in_order, handed_sound}
-use Rattle.fancy_delegation.proofs.ThinnedDelegates.{plan_for, IsDelegated, IsConst, first_of_batch, part_of_tree, thins_batch}
-use Rattle.fancy_delegation.proofs.ThinnedConcat.{thins_delegate, thins_concat}
-use Rattle.fancy_delegation.proofs.HandsWays.{Setup}
+use Rattle.fancy_delegation.proofs.Refined.{IsPart, EqualUpTo, EachEqualUpTo, no_part, and_part, part_in_order, key_equal_as, key_equal_or_else, key_equal_in_order, handed_sound}
+use Rattle.fancy_delegation.proofs.RefinedDelegates.{plan_for, IsDelegated, IsConst, first_of_batch, part_of_tree, key_equal_batch}
+use Rattle.fancy_delegation.proofs.RefinedConcat.{key_equal_delegate, key_equal_concat}
+use Rattle.fancy_delegation.proofs.EnumeratesWays.{Setup}
 
 -- which nodes are left to a plain search
 abbrev pub is_easy : Analysed → Tree → Bool
@@ -30,11 +30,11 @@ module _ (given : Setup) (depths : Depths) where
   abbrev pub means : Tree → Ways
   means e = ways given.setting (tree_of given.tree) e depths
 
-  -- the code hands a list that serves for these ways
-  pub record Thinned (in_hard : Bool) (c : Code) (f : Ways) : Type 0 where
+  -- the code enumerates a list that serves for these ways
+  pub record Refined (in_hard : Bool) (c : Code) (f : Ways) : Type 0 where
     pub handed : Ways
-    pub works : given.Works c handed
-    pub thins : Thins (plan_for given.tree given.options) given.setting in_hard handed f
+    pub simulates : given.Simulates c handed
+    pub key_equal : EqualUpTo (plan_for given.tree given.options) given.setting in_hard handed f
 
   pub part_of : (e : Tree) → IsWritten (tree_of given.tree) e → IsPart (plan_for given.tree given.options) given.setting (means e)
   part_of e wr = part_of_tree given.size_law given.tree given.options given.setting given.is_text depths e ((given.ready).there e wr)
@@ -43,38 +43,38 @@ module _ (given : Setup) (depths : Depths) where
   delegated e wr easy = record { there = (given.ready).there e wr; easy = not-true (is_hard (analysis given.tree) e) easy }
 
   -- an easy node is a delegate of itself in an easy context, where this test passes too
-  pub batch_thinned : (e : Tree) (test : Bool) → (test ≡ true → is_easy given.tree e ≡ true) →
+  pub batch_refined : (e : Tree) (test : Bool) → (test ≡ true → is_easy given.tree e ≡ true) →
       (code : Bool → Code) (in_hard : Bool) → IsWritten (tree_of given.tree) e →
-      Thinned in_hard (code in_hard) (means e) →
-      Thinned in_hard (if test && not in_hard then batch (given.options).unicode (e ∷ []) else code in_hard) (means e)
-  batch_thinned e test easy code in_hard wr h = here (test && not in_hard) refl
+      Refined in_hard (code in_hard) (means e) →
+      Refined in_hard (if test && not in_hard then batch (given.options).unicode (e ∷ []) else code in_hard) (means e)
+  batch_refined e test easy code in_hard wr h = here (test && not in_hard) refl
     where
       alone : (s : MatchState) → in_order (means e ∷ []) s ≡ means e s
       alone s = flat_map_single (λ t. t) (means e s) ∙ map-id (means e s)
 
-      at_easy : (v : Bool) → (test && not v) ≡ true → Thinned v (batch (given.options).unicode (e ∷ [])) (means e)
+      at_easy : (v : Bool) → (test && not v) ≡ true → Refined v (batch (given.options).unicode (e ∷ [])) (means e)
       at_easy true both = let off = (and_parts test false both).1 in cc
       at_easy false both =
           let d = item (delegated e wr (easy (and_parts test true both).0)) no_item in
           record {
             handed = first_of_batch given.setting given.tree depths (e ∷ []);
-            works = (given.laws).hands_batch (e ∷ []) depths d (item wr no_item);
-            thins =
-                thins_as (plan_for given.tree given.options) given.setting false
+            simulates = (given.laws).enumerates_batch (e ∷ []) depths d (item wr no_item);
+            key_equal =
+                key_equal_as (plan_for given.tree given.options) given.setting false
                 (first_of_batch given.setting given.tree depths (e ∷ [])) (in_order (means e ∷ [])) (means e)
                 (λ s ok. alone s)
-                (thins_batch given.size_law given.tree given.options given.setting given.is_text depths
+                (key_equal_batch given.size_law given.tree given.options given.setting given.is_text depths
                 given.same_end_text d);
           }
 
-      here : (v : Bool) → (test && not in_hard) ≡ v → Thinned in_hard (if v then batch (given.options).unicode (e ∷ []) else code in_hard) (means e)
+      here : (v : Bool) → (test && not in_hard) ≡ v → Refined in_hard (if v then batch (given.options).unicode (e ∷ []) else code in_hard) (means e)
       here true both = at_easy in_hard both
       here false both = h
 
-  pub context_thinned : (e : Tree) (code : Bool → Code) (in_hard : Bool) → IsWritten (tree_of given.tree) e →
-      Thinned in_hard (code in_hard) (means e) →
-      Thinned in_hard (in_context (plan_for given.tree given.options) (is_easy given.tree) e code in_hard) (means e)
-  context_thinned e code in_hard wr h = batch_thinned e (is_easy given.tree e) (λ y. y) code in_hard wr h
+  pub context_refined : (e : Tree) (code : Bool → Code) (in_hard : Bool) → IsWritten (tree_of given.tree) e →
+      Refined in_hard (code in_hard) (means e) →
+      Refined in_hard (in_context (plan_for given.tree given.options) (is_easy given.tree) e code in_hard) (means e)
+  context_refined e code in_hard wr h = batch_refined e (is_easy given.tree e) (λ y. y) code in_hard wr h
 
   -- ---- several children
 
@@ -82,55 +82,55 @@ module _ (given : Setup) (depths : Depths) where
   trees_of ws = map (λ w. w.tree) ws
 
   -- a child, written out, with its code in a context
-  abbrev pub ChildThinned : Bool → Part → Type 0
-  ChildThinned in_hard w = IsWritten (tree_of given.tree) w.tree × Thinned in_hard (w.code in_hard) (means w.tree)
+  abbrev pub ChildRefined : Bool → Part → Type 0
+  ChildRefined in_hard w = IsWritten (tree_of given.tree) w.tree × Refined in_hard (w.code in_hard) (means w.tree)
 
   -- one after the other
   record InTurn (c : Code) (fs : List Ways) : Type 0 where
     handed : List Ways
-    works : given.Works c (in_order handed)
-    thins : EachThins (plan_for given.tree given.options) given.setting true handed fs
+    simulates : given.Simulates c (in_order handed)
+    key_equal : EachEqualUpTo (plan_for given.tree given.options) given.setting true handed fs
 
-  children_in_turn : {ws : List Part} → Every (ChildThinned true) ws → InTurn (in_turn (map (λ w. w.code true) ws)) (map means (trees_of ws))
-  children_in_turn no_item = record { handed = []; works = (given.laws).hands_here; thins = no_part }
+  children_in_turn : {ws : List Part} → Every (ChildRefined true) ws → InTurn (in_turn (map (λ w. w.code true) ws)) (map means (trees_of ws))
+  children_in_turn no_item = record { handed = []; simulates = (given.laws).enumerates_here; key_equal = no_part }
   children_in_turn (item {x = w} {xs = ws} h hs) =
       let rest = children_in_turn hs in
       let first = h.1 in
       record {
         handed = first.handed ∷ rest.handed;
-        works =
-            (given.laws).hands_next (w.code true) (in_turn (map (λ u. u.code true) ws)) first.handed
+        simulates =
+            (given.laws).enumerates_next (w.code true) (in_turn (map (λ u. u.code true) ws)) first.handed
             (in_order rest.handed)
             (handed_sound (plan_for given.tree given.options) given.setting true first.handed (means w.tree)
-            (part_of w.tree h.0) first.thins) first.works rest.works;
-        thins = and_part first.thins rest.thins;
+            (part_of w.tree h.0) first.key_equal) first.simulates rest.simulates;
+        key_equal = and_part first.key_equal rest.key_equal;
       }
 
   -- each of these in turn
-  pub data EachThinned (in_hard : Bool) : List Code → List Ways → Type 0 where
-    no_choice : EachThinned in_hard [] []
-    and_choice : {c : Code} {f : Ways} {cs : List Code} {fs : List Ways} → Thinned in_hard c f →
-        EachThinned in_hard cs fs → EachThinned in_hard (c ∷ cs) (f ∷ fs)
+  pub data EachRefined (in_hard : Bool) : List Code → List Ways → Type 0 where
+    no_choice : EachRefined in_hard [] []
+    and_choice : {c : Code} {f : Ways} {cs : List Code} {fs : List Ways} → Refined in_hard c f →
+        EachRefined in_hard cs fs → EachRefined in_hard (c ∷ cs) (f ∷ fs)
 
-  pub choice_thinned : (in_hard : Bool) {c : Code} {f : Ways} {cs : List Code} {fs : List Ways} →
-      Thinned in_hard c f → EachThinned in_hard cs fs → Thinned in_hard (branches (c ∷ cs)) (one_of (f ∷ fs))
-  choice_thinned in_hard {c} {f} h no_choice = record {
+  pub choice_refined : (in_hard : Bool) {c : Code} {f : Ways} {cs : List Code} {fs : List Ways} →
+      Refined in_hard c f → EachRefined in_hard cs fs → Refined in_hard (branches (c ∷ cs)) (one_of (f ∷ fs))
+  choice_refined in_hard {c} {f} h no_choice = record {
     handed = h.handed;
-    works = h.works;
-    thins = thins_as (plan_for given.tree given.options) given.setting in_hard h.handed f (one_of (f ∷ [])) (λ s ok. sym (append-nil (f s))) h.thins;
+    simulates = h.simulates;
+    key_equal = key_equal_as (plan_for given.tree given.options) given.setting in_hard h.handed f (one_of (f ∷ [])) (λ s ok. sym (append-nil (f s))) h.key_equal;
   }
-  choice_thinned in_hard {c} {f} h (and_choice {c = d} {f = g} {cs = cs} {fs = fs} k ks) =
-      let rest = choice_thinned in_hard k ks in
+  choice_refined in_hard {c} {f} h (and_choice {c = d} {f = g} {cs = cs} {fs = fs} k ks) =
+      let rest = choice_refined in_hard k ks in
       record {
         handed = λ s. h.handed s ++ rest.handed s;
-        works = (given.laws).hands_branch c (branches (d ∷ cs)) h.handed rest.handed h.works rest.works;
-        thins = thins_or_else (plan_for given.tree given.options) given.setting in_hard h.handed f rest.handed (one_of (g ∷ fs)) h.thins rest.thins;
+        simulates = (given.laws).enumerates_branch c (branches (d ∷ cs)) h.handed rest.handed h.simulates rest.simulates;
+        key_equal = key_equal_or_else (plan_for given.tree given.options) given.setting in_hard h.handed f rest.handed (one_of (g ∷ fs)) h.key_equal rest.key_equal;
       }
 
-  pub children_thinned : (in_hard : Bool) {ws : List Part} → Every (ChildThinned in_hard) ws →
-      EachThinned in_hard (map (λ w. w.code in_hard) ws) (map means (trees_of ws))
-  children_thinned in_hard no_item = no_choice
-  children_thinned in_hard (item h hs) = and_choice h.1 (children_thinned in_hard hs)
+  pub children_refined : (in_hard : Bool) {ws : List Part} → Every (ChildRefined in_hard) ws →
+      EachRefined in_hard (map (λ w. w.code in_hard) ws) (map means (trees_of ws))
+  children_refined in_hard no_item = no_choice
+  children_refined in_hard (item h hs) = and_choice h.1 (children_refined in_hard hs)
 
   -- ---- a sequence
 
@@ -149,11 +149,11 @@ module _ (given : Setup) (depths : Depths) where
       let parts = and_parts (is_easy given.tree w.tree) (not in_hard || (size (tree_of given.tree) w.tree).is_const) e in
       (parts.0, const_where_hard in_hard (size (tree_of given.tree) w.tree).is_const parts.1)
 
-  written_trees : {ws : List Part} → Every (ChildThinned true) ws → Every (IsWritten (tree_of given.tree)) (trees_of ws)
+  written_trees : {ws : List Part} → Every (ChildRefined true) ws → Every (IsWritten (tree_of given.tree)) (trees_of ws)
   written_trees no_item = no_item
   written_trees (item h hs) = item h.0 (written_trees hs)
 
-  delegated_trees : {ws : List Part} → Every (ChildThinned true) ws →
+  delegated_trees : {ws : List Part} → Every (ChildRefined true) ws →
       Every (λ w. is_easy given.tree w.tree ≡ true) ws → Every (IsDelegated given.tree) (trees_of ws)
   delegated_trees no_item no_item = no_item
   delegated_trees (item {x = w} h hs) (item e es) = item (delegated w.tree h.0 e) (delegated_trees hs es)
@@ -163,50 +163,50 @@ module _ (given : Setup) (depths : Depths) where
   const_trees (item c cs) = item c (const_trees cs)
 
   -- the cut into a front and a back that are delegates, and what stands between
-  cut_thinned : (in_hard : Bool) (front middle back : List Part) →
+  cut_refined : (in_hard : Bool) (front middle back : List Part) →
       Every (IsWritten (tree_of given.tree)) (trees_of front) → Every (IsDelegated given.tree) (trees_of front) →
-      Every (IsConst given.tree) (trees_of front) → Every (ChildThinned true) middle →
+      Every (IsConst given.tree) (trees_of front) → Every (ChildRefined true) middle →
       Every (IsWritten (tree_of given.tree)) (trees_of back) → Every (IsDelegated given.tree) (trees_of back) →
       (in_hard ≡ true → Every (IsConst given.tree) (trees_of back)) →
-      Thinned in_hard
+      Refined in_hard
       (batch (given.options).unicode (trees_of front)
       >> (in_turn (map (λ w. w.code true) middle) >> batch (given.options).unicode (trees_of back)))
       (in_order (map means (trees_of front ++ (trees_of middle ++ trees_of back))))
-  cut_thinned in_hard front middle back fw fd fc mh bw bd bc =
+  cut_refined in_hard front middle back fw fd fc mh bw bd bc =
       let first = first_of_batch given.setting given.tree depths (trees_of front) in
       let last = first_of_batch given.setting given.tree depths (trees_of back) in
       let mw = written_trees mh in
       let mid = children_in_turn mh in
       let parts : Every (IsPart (plan_for given.tree given.options) given.setting) (map means (trees_of middle)) = every_map means part_of mw in
-      let mid_thins = thins_in_order (plan_for given.tree given.options) given.setting parts mid.thins in
-      let front_thins =
-      thins_delegate given.size_law given.tree given.options given.setting given.is_text depths given.same_end_text
+      let mid_key_equal = key_equal_in_order (plan_for given.tree given.options) given.setting parts mid.key_equal in
+      let front_key_equal =
+      key_equal_delegate given.size_law given.tree given.options given.setting given.is_text depths given.same_end_text
       true (trees_of front) fd (λ e. fc) in
       let front_part : IsPart (plan_for given.tree given.options) given.setting (in_order (map means (trees_of front))) =
       part_in_order (plan_for given.tree given.options) given.setting (every_map means part_of fw) in
       let between = in_turn (map (λ w. w.code true) middle) in
       record {
         handed = and_then first (and_then (in_order mid.handed) last);
-        works =
-            (given.laws).hands_next (batch (given.options).unicode (trees_of front))
+        simulates =
+            (given.laws).enumerates_next (batch (given.options).unicode (trees_of front))
             (between >> batch (given.options).unicode (trees_of back)) first (and_then (in_order mid.handed) last)
-            (handed_sound (plan_for given.tree given.options) given.setting true first (in_order (map means (trees_of front))) front_part front_thins)
-            ((given.laws).hands_batch (trees_of front) depths fd fw)
-            ((given.laws).hands_next between (batch (given.options).unicode (trees_of back)) (in_order mid.handed) last
+            (handed_sound (plan_for given.tree given.options) given.setting true first (in_order (map means (trees_of front))) front_part front_key_equal)
+            ((given.laws).enumerates_batch (trees_of front) depths fd fw)
+            ((given.laws).enumerates_next between (batch (given.options).unicode (trees_of back)) (in_order mid.handed) last
             (handed_sound (plan_for given.tree given.options) given.setting true (in_order mid.handed)
             (in_order (map means (trees_of middle)))
-            (part_in_order (plan_for given.tree given.options) given.setting parts) mid_thins)
-            mid.works ((given.laws).hands_batch (trees_of back) depths bd bw));
-        thins =
-            thins_concat given.size_law given.tree given.options given.setting given.is_text depths
+            (part_in_order (plan_for given.tree given.options) given.setting parts) mid_key_equal)
+            mid.simulates ((given.laws).enumerates_batch (trees_of back) depths bd bw));
+        key_equal =
+            key_equal_concat given.size_law given.tree given.options given.setting given.is_text depths
             given.same_end_text in_hard (trees_of front) (trees_of middle) (trees_of back) mid.handed fd fc
-            (every_weaker (given.ready).there mw) mid.thins bd bc;
+            (every_weaker (given.ready).there mw) mid.key_equal bd bc;
       }
 
-  pub concat_thinned : (in_hard : Bool) (ws : List Part) → Every (ChildThinned true) ws →
-      Thinned in_hard (concat_code (plan_for given.tree given.options) (is_easy given.tree) ws in_hard)
+  pub concat_refined : (in_hard : Bool) (ws : List Part) → Every (ChildRefined true) ws →
+      Refined in_hard (concat_code (plan_for given.tree given.options) (is_easy given.tree) ws in_hard)
       (in_order (map means (trees_of ws)))
-  concat_thinned in_hard ws h =
+  concat_refined in_hard ws h =
       let in_front = is_prefix (plan_for given.tree given.options) (is_easy given.tree) in
       let in_back = is_suffix (plan_for given.tree given.options) (is_easy given.tree) in_hard in
       let front = take_while in_front ws in
@@ -214,11 +214,11 @@ module _ (given : Setup) (depths : Depths) where
       let middle = before_back in_back rest in
       let back = back_while in_back rest in
       let cut = cut_in_three in_front in_back ws in
-      let parts = every_append_parts front (middle ++ back) (subst (Every (ChildThinned true)) (sym cut) h) in
+      let parts = every_append_parts front (middle ++ back) (subst (Every (ChildRefined true)) (sym cut) h) in
       let others = every_append_parts middle back parts.1 in
-      subst (λ es. Thinned in_hard (concat_code (plan_for given.tree given.options) (is_easy given.tree) ws in_hard) (in_order (map means es)))
+      subst (λ es. Refined in_hard (concat_code (plan_for given.tree given.options) (is_easy given.tree) ws in_hard) (in_order (map means es)))
       (sym (map-append (λ w. w.tree) front (middle ++ back) ∙ ap (λ l. trees_of front ++ l) (map-append (λ w. w.tree) middle back)) ∙ ap trees_of cut)
-      (cut_thinned in_hard front middle back
+      (cut_refined in_hard front middle back
       (written_trees parts.0)
       (delegated_trees parts.0 (every_weaker (λ w e. (prefix_tells w e).0) (front_passes in_front ws)))
       (const_trees (every_weaker (λ w e. (prefix_tells w e).1) (front_passes in_front ws)))

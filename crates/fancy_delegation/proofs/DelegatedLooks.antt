@@ -13,11 +13,11 @@ use Rattle.fancy_meaning.specs.Premises.{IsSoundState}
 use Rattle.fancy_laws.proofs.Every.{Every, no_item, item, every_weaker, every_if}
 use Rattle.fancy_delegation.proofs.Related.{branch_ways}
 use Rattle.fancy_delegation.proofs.Evenly.{KeepsSound, sound_stays, const_takes, sizes}
-use Rattle.fancy_delegation.proofs.IsThinned.{thinned_every}
-use Rattle.fancy_delegation.proofs.Thinned.{Thins, same_way, handed_sound}
-use Rattle.fancy_delegation.proofs.ThinnedLooks.{thins_behind}
-use Rattle.fancy_delegation.proofs.HandsWays.{SizedBy, Setup}
-use Rattle.fancy_delegation.proofs.Delegated.{means, Thinned, part_of, trees_of, ChildThinned, EachThinned, no_choice, and_choice}
+use Rattle.fancy_delegation.proofs.IsRefined.{refined_every}
+use Rattle.fancy_delegation.proofs.Refined.{EqualUpTo, same_way, handed_sound}
+use Rattle.fancy_delegation.proofs.RefinedLooks.{key_equal_behind}
+use Rattle.fancy_delegation.proofs.EnumeratesWays.{SizedBy, Setup}
+use Rattle.fancy_delegation.proofs.Delegated.{means, Refined, part_of, trees_of, ChildRefined, EachRefined, no_choice, and_choice}
 use Rattle.fancy_delegation.proofs.DelegatedNodes.{plan, whole}
 
 -- none of these has a way, one asked after the other
@@ -67,62 +67,62 @@ module _ (given : Setup) (depths : Depths) where
 
   -- ---- lookbehinds of a constant size
 
-  module _ (e : Tree) (wr : IsWritten (whole given depths) e) (const : IsConstant e) (c : Code) (h : Thinned given depths false c (means_of e)) where
+  module _ (e : Tree) (wr : IsWritten (whole given depths) e) (const : IsConstant e) (c : Code) (h : Refined given depths false c (means_of e)) where
     handed_sized : SizedBy given.tree given.options given.setting (size (whole given depths) e) h.handed
-    handed_sized s ok = thinned_every ((h.thins).by s 0 ok (omega arith)) (sized e wr s ok)
+    handed_sized s ok = refined_every ((h.key_equal).by s 0 ok (omega arith)) (sized e wr s ok)
 
     handed_keeps : KeepsSound given.setting (whole given depths) h.handed
-    handed_keeps = handed_sound (plan given depths) given.setting false h.handed (means_of e) (part_of given depths e wr) h.thins
+    handed_keeps = handed_sound (plan given depths) given.setting false h.handed (means_of e) (part_of given depths e wr) h.key_equal
 
-    serves_behind : (in_hard : Bool) →
-        Thins (plan given depths) given.setting in_hard (ends_here given.setting h.handed)
+    refines_behind : (in_hard : Bool) →
+        EqualUpTo (plan given depths) given.setting in_hard (ends_here given.setting h.handed)
         (ends_here given.setting (means_of e))
-    serves_behind =
-        thins_behind (plan given depths) given.setting (size (whole given depths) e).least h.handed (means_of e)
+    refines_behind =
+        key_equal_behind (plan given depths) given.setting (size (whole given depths) e).least h.handed (means_of e)
         (part_of given depths e wr)
         (const_takes given.size_law given.setting given.tree given.is_text e depths ((given.ready).there e wr) const)
-        h.thins
+        h.key_equal
 
-    pub behind_thinned : (in_hard : Bool) →
-        Thinned given depths in_hard (behind_code look_code (size (whole given depths) e, c))
+    pub behind_refined : (in_hard : Bool) →
+        Refined given depths in_hard (behind_code look_code (size (whole given depths) e, c))
         (ends_here given.setting (means_of e))
-    behind_thinned in_hard = record {
+    behind_refined in_hard = record {
       handed = ends_here given.setting h.handed;
-      works = (given.laws).hands_behind (size (whole given depths) e) c h.handed const handed_sized handed_keeps h.works;
-      thins = serves_behind in_hard;
+      simulates = (given.laws).enumerates_behind (size (whole given depths) e) c h.handed const handed_sized handed_keeps h.simulates;
+      key_equal = refines_behind in_hard;
     }
 
-    pub not_behind_works : given.Works (behind_code negative_look_code (size (whole given depths) e, c))
+    pub not_behind_simulates : given.Simulates (behind_code negative_look_code (size (whole given depths) e, c))
         (unless (ends_here given.setting (means_of e)))
-    not_behind_works =
+    not_behind_simulates =
         (given.laws).as_ways (behind_code negative_look_code (size (whole given depths) e, c))
         (unless (ends_here given.setting h.handed)) (unless (ends_here given.setting (means_of e)))
         (λ s ok. ap (λ v. if not v then s ∷ [] else [])
         (same_way (plan given depths) given.setting true (ends_here given.setting h.handed)
-        (ends_here given.setting (means_of e)) (serves_behind true) s ok))
-        ((given.laws).hands_not_behind (size (whole given depths) e) c h.handed const handed_sized handed_keeps h.works)
+        (ends_here given.setting (means_of e)) (refines_behind true) s ok))
+        ((given.laws).enumerates_not_behind (size (whole given depths) e) c h.handed const handed_sized handed_keeps h.simulates)
 
-  pub behind_each : (in_hard : Bool) {ws : List Part} → Every (ChildThinned given depths false) ws →
+  pub behind_each : (in_hard : Bool) {ws : List Part} → Every (ChildRefined given depths false) ws →
       Every (λ w. IsConstant w.tree) ws →
-      EachThinned given depths in_hard (map (behind_code look_code) (bodies ws))
+      EachRefined given depths in_hard (map (behind_code look_code) (bodies ws))
       (map (ends_here given.setting) (map means_of (trees_of given depths ws)))
   behind_each in_hard no_item no_item = no_choice
   behind_each in_hard (item {x = w} h hs) (item const cs) =
-      and_choice (behind_thinned w.tree h.0 const (w.code false) h.1 in_hard) (behind_each in_hard hs cs)
+      and_choice (behind_refined w.tree h.0 const (w.code false) h.1 in_hard) (behind_each in_hard hs cs)
 
-  pub not_behind_each : {ws : List Part} → Every (ChildThinned given depths false) ws →
+  pub not_behind_each : {ws : List Part} → Every (ChildRefined given depths false) ws →
       Every (λ w. IsConstant w.tree) ws →
-      given.Works (in_turn (map (behind_code negative_look_code) (bodies ws)))
+      given.Simulates (in_turn (map (behind_code negative_look_code) (bodies ws)))
       (in_order (map unless (map (ends_here given.setting) (map means_of (trees_of given depths ws)))))
-  not_behind_each no_item no_item = (given.laws).hands_here
+  not_behind_each no_item no_item = (given.laws).enumerates_here
   not_behind_each (item {x = w} {xs = ws} h hs) (item const cs) =
-      (given.laws).hands_next (behind_code negative_look_code (size (whole given depths) w.tree, w.code false))
+      (given.laws).enumerates_next (behind_code negative_look_code (size (whole given depths) w.tree, w.code false))
       (in_turn (map (behind_code negative_look_code) (bodies ws)))
       (unless (ends_here given.setting (means_of w.tree)))
       (in_order (map unless (map (ends_here given.setting) (map means_of (trees_of given depths ws)))))
       (λ s ok. every_if (not (has_way (ends_here given.setting (means_of w.tree)) s))
       (λ e. sound_stays given.setting (whole given depths) s ok) (λ e. no_item))
-      (not_behind_works w.tree h.0 const (w.code false) h.1) (not_behind_each hs cs)
+      (not_behind_simulates w.tree h.0 const (w.code false) h.1) (not_behind_each hs cs)
 
   -- the lookbehind of a body of one size is that of its branches
   pub ends_of : (e : Tree) → IsWritten (whole given depths) e → IsConstant e → (s : MatchState) →

@@ -7,7 +7,7 @@ use Rattle.fancy_meaning.specs.Ways.{Setting, called}
 use Rattle.fancy_meaning.specs.Premises.{Analysed, analysis, tree_of}
 use Rattle.fancy_laws.proofs.Every.{Every, every_weaker}
 use Rattle.fancy_delegation.proofs.Fragments.{IsOver, over_first_state, fragment_ways, fragment_over, FirstOfBoth, no_first, both_first, first_of_both}
-use Rattle.fancy_delegation.proofs.ThinnedDelegates.{IsDelegated, batch_ways}
+use Rattle.fancy_delegation.proofs.RefinedDelegates.{IsDelegated, batch_ways}
 
 module _ (q : Setting) (a : Analysed) (depths : Depths) {es : List Tree} (h : Every (IsDelegated a) es) (s : MatchState) where
   pub first_over : FirstOfBoth (IsOver s.captures) (slice_get (batch_ways q a depths es s) 0)

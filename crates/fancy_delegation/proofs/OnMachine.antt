@@ -17,25 +17,25 @@ use Rattle.fancy_meaning.specs.Theorems.{IsProgramFor}
 use Rattle.fancy_meaning.specs.CompileRefusals.{IsWritten}
 use Rattle.fancy_meaning.specs.Premises.{Analysed, Input, plan, tree_of, IsAccepted, IsText}
 use Rattle.fancy_meaning.specs.Marks.{has_marked_continue}
-use Rattle.fancy_composed.proofs.Courses.{Tally, Course, To, after, Ground, config}
+use Rattle.fancy_composed.proofs.Continuations.{Tally, Continuation, To, after, Ground, config}
 use Rattle.fancy_composed.proofs.Alike.{Among, at_head, further}
-use Rattle.fancy_composed.proofs.Parts.{setting, Works, Keeps}
-use Rattle.fancy_composed.proofs.Works.{works_as, works_nothing, works_fails, works_next, works_branch, works_group, works_atomic, works_unless, works_look, works_conditional}
+use Rattle.fancy_composed.proofs.Parts.{setting, Simulates, Keeps}
+use Rattle.fancy_composed.proofs.Simulates.{simulates_as, simulates_nothing, simulates_fails, simulates_next, simulates_branch, simulates_group, simulates_atomic, simulates_unless, simulates_look, simulates_conditional}
 use Rattle.fancy_composed.proofs.Tests.{MayStop}
-use Rattle.fancy_composed.proofs.Behind.{Sized, works_behind, works_not_behind}
-use Rattle.fancy_composed.proofs.Absent.{works_absent}
+use Rattle.fancy_composed.proofs.Behind.{Sized, simulates_behind, simulates_not_behind}
+use Rattle.fancy_composed.proofs.Absent.{simulates_absent}
 use Rattle.fancy_composed.proofs.Branches.{ends_by_branch}
-use Rattle.fancy_composed.proofs.Nodes.{repeat_works}
+use Rattle.fancy_composed.proofs.Nodes.{repeat_simulates}
 use Rattle.fancy_composed.proofs.Ready.{Ready}
-use Rattle.fancy_composed.proofs.Trees.{CallsWork, tree_works}
-use Rattle.fancy_composed.proofs.Calls.{calls_work}
+use Rattle.fancy_composed.proofs.Trees.{CallsSimulate, tree_simulates}
+use Rattle.fancy_composed.proofs.Calls.{calls_simulate}
 use Rattle.fancy_composed.proofs.Accepted.{ground, ready}
 use Rattle.fancy_laws.proofs.SizesHold.{sizes_hold}
 use Rattle.fancy_laws.proofs.Every.{Every, no_item, item}
 use Rattle.fancy_delegation.proofs.Items.{contained_is_in, is_in_contained}
 use Rattle.fancy_delegation.proofs.Evenly.{KeepsSound}
-use Rattle.fancy_delegation.proofs.ThinnedDelegates.{plan_for, IsDelegated, first_of_batch}
-use Rattle.fancy_delegation.proofs.HandsWays.{IsLeaf, IsReady, SizedBy, HandsWays, Setup}
+use Rattle.fancy_delegation.proofs.RefinedDelegates.{plan_for, IsDelegated, first_of_batch}
+use Rattle.fancy_delegation.proofs.EnumeratesWays.{IsLeaf, IsReady, SizedBy, EnumeratesWays, Setup}
 
 every_among : {P : MatchState → Type 0} {xs : List MatchState} {x : MatchState} → Every P xs → Among x xs → P x
 every_among no_item m = elim m [ ]
@@ -48,7 +48,7 @@ analysed_of i instructions accepted = record { parsed = i.parsed; options = i.an
 
 module _ (i : Input) (instructions : ℕ) (accepted : IsAccepted i instructions) (task : Task)
     (is_text : IsText task.text) (fits : IsProgramFor (plan i) task.program) (start : ℕ) (base : List Branch)
-    (bottom : Tally → Course)
+    (bottom : Tally → Continuation)
     (falls : (count : Tally) → To (after task (fail_to task base (config 0 0 (λ s. 0) [] [] start count))) (bottom count)) where
   abbrev pub w : Ground
   w = ground i instructions accepted task is_text fits start base bottom falls
@@ -83,74 +83,74 @@ module _ (i : Input) (instructions : ℕ) (accepted : IsAccepted i instructions)
       has_choice (more e es) fine q' = cc
 
   module _ (stop : has_marked_continue (tree_of a) (tree_of a) ≡ true → MayStop w) where
-    calls : CallsWork w r no_calls
-    calls = calls_work w r stop (free_calls (tree_of a) no_calls) no_calls refl
+    calls : CallsSimulate w r no_calls
+    calls = calls_simulate w r stop (free_calls (tree_of a) no_calls) no_calls refl
 
-    leaf_works : (e : Tree) (call : ℕ → Bool → Code) (meant : ℕ → Ways) (at_start in_hard : Bool) → IsLeaf e →
+    leaf_simulates : (e : Tree) (call : ℕ → Bool → Code) (meant : ℕ → Ways) (at_start in_hard : Bool) → IsLeaf e →
         IsWritten (tree_of a) e → (at_start ≡ true → has_marked_continue (tree_of a) e ≡ true → MayStop w) →
-        Works w (written (plan_for a i.options) (λ d. false) call e at_start in_hard) (ways_with q meant e)
-    leaf_works Empty call meant at h leaf wr k = tree_works w r no_calls calls Empty wr at h k
-    leaf_works KeepOut call meant at h leaf wr k = tree_works w r no_calls calls KeepOut wr at h k
-    leaf_works ContinueFromPreviousMatchEnd call meant at h leaf wr k = tree_works w r no_calls calls ContinueFromPreviousMatchEnd wr at h k
-    leaf_works AbsentClear call meant at h leaf wr k = tree_works w r no_calls calls AbsentClear wr at h k
-    leaf_works (Any newline crlf) call meant at h leaf wr k = tree_works w r no_calls calls (Any newline crlf) wr at h k
-    leaf_works (Assert within x) call meant at h leaf wr k = tree_works w r no_calls calls (Assert within x) wr at h k
-    leaf_works (GeneralNewline unicode) call meant at h leaf wr k = tree_works w r no_calls calls (GeneralNewline unicode) wr at h k
-    leaf_works (Literal c casei) call meant at h leaf wr k = tree_works w r no_calls calls (Literal c casei) wr at h k
-    leaf_works (LiteralBytes cs) call meant at h leaf wr k = tree_works w r no_calls calls (LiteralBytes cs) wr at h k
-    leaf_works (Delegate inner casei) call meant at h leaf wr k = tree_works w r no_calls calls (Delegate inner casei) wr at h k
-    leaf_works (Backref g casei) call meant at h leaf wr k = tree_works w r no_calls calls (Backref g casei) wr at h k
-    leaf_works (BackrefWithLevel g level casei) call meant at h leaf wr k = tree_works w r no_calls calls (BackrefWithLevel g level casei) wr at h k
-    leaf_works (BackrefExists g None) call meant at h leaf wr k = tree_works w r no_calls calls (BackrefExists g None) wr at h k
-    leaf_works (BackrefExists g (Some level)) call meant at h leaf wr k = tree_works w r no_calls calls (BackrefExists g (Some level)) wr at h k
-    leaf_works (DefineGroup e) call meant at h leaf wr k = tree_works w r no_calls calls (DefineGroup e) wr at h k
-    leaf_works (Control Fail) call meant at h leaf wr k = tree_works w r no_calls calls (Control Fail) wr at h k
-    leaf_works (Control Accept) call meant at h leaf wr k = tree_works w r no_calls calls (Control Accept) wr at h k
-    leaf_works (Control Commit) call meant at h leaf wr k = tree_works w r no_calls calls (Control Commit) wr at h k
-    leaf_works (Control Skip) call meant at h leaf wr k = tree_works w r no_calls calls (Control Skip) wr at h k
-    leaf_works (Control Prune) call meant at h leaf wr k = tree_works w r no_calls calls (Control Prune) wr at h k
-    leaf_works (AbsentStopper e) call meant at h leaf wr k = tree_works w r no_calls calls (AbsentStopper e) wr at h k
-    leaf_works (AbsentExpression x e) call meant at h leaf wr k = tree_works w r no_calls calls (AbsentExpression x e) wr at h k
-    leaf_works (AstNode node) call meant at h leaf wr k = tree_works w r no_calls calls (AstNode node) wr at h k
-    leaf_works (Concat es) call meant at h leaf wr k = absurd leaf
-    leaf_works (Alt es) call meant at h leaf wr k = absurd leaf
-    leaf_works (Group g e) call meant at h leaf wr k = absurd leaf
-    leaf_works (LookAround look e) call meant at h leaf wr k = absurd leaf
-    leaf_works (Repeat lo hi greedy e) call meant at h leaf wr k = absurd leaf
-    leaf_works (AtomicGroup e) call meant at h leaf wr k = absurd leaf
-    leaf_works (Conditional c t f) call meant at h leaf wr k = absurd leaf
-    leaf_works (AbsentRepeater e) call meant at h leaf wr k = absurd leaf
-    leaf_works (SubroutineCall g) call meant at h leaf wr k = absurd leaf
+        Simulates w (written (plan_for a i.options) (λ d. false) call e at_start in_hard) (ways_with q meant e)
+    leaf_simulates Empty call meant at h leaf wr k = tree_simulates w r no_calls calls Empty wr at h k
+    leaf_simulates KeepOut call meant at h leaf wr k = tree_simulates w r no_calls calls KeepOut wr at h k
+    leaf_simulates ContinueFromPreviousMatchEnd call meant at h leaf wr k = tree_simulates w r no_calls calls ContinueFromPreviousMatchEnd wr at h k
+    leaf_simulates AbsentClear call meant at h leaf wr k = tree_simulates w r no_calls calls AbsentClear wr at h k
+    leaf_simulates (Any newline crlf) call meant at h leaf wr k = tree_simulates w r no_calls calls (Any newline crlf) wr at h k
+    leaf_simulates (Assert within x) call meant at h leaf wr k = tree_simulates w r no_calls calls (Assert within x) wr at h k
+    leaf_simulates (GeneralNewline unicode) call meant at h leaf wr k = tree_simulates w r no_calls calls (GeneralNewline unicode) wr at h k
+    leaf_simulates (Literal c casei) call meant at h leaf wr k = tree_simulates w r no_calls calls (Literal c casei) wr at h k
+    leaf_simulates (LiteralBytes cs) call meant at h leaf wr k = tree_simulates w r no_calls calls (LiteralBytes cs) wr at h k
+    leaf_simulates (Delegate inner casei) call meant at h leaf wr k = tree_simulates w r no_calls calls (Delegate inner casei) wr at h k
+    leaf_simulates (Backref g casei) call meant at h leaf wr k = tree_simulates w r no_calls calls (Backref g casei) wr at h k
+    leaf_simulates (BackrefWithLevel g level casei) call meant at h leaf wr k = tree_simulates w r no_calls calls (BackrefWithLevel g level casei) wr at h k
+    leaf_simulates (BackrefExists g None) call meant at h leaf wr k = tree_simulates w r no_calls calls (BackrefExists g None) wr at h k
+    leaf_simulates (BackrefExists g (Some level)) call meant at h leaf wr k = tree_simulates w r no_calls calls (BackrefExists g (Some level)) wr at h k
+    leaf_simulates (DefineGroup e) call meant at h leaf wr k = tree_simulates w r no_calls calls (DefineGroup e) wr at h k
+    leaf_simulates (Control Fail) call meant at h leaf wr k = tree_simulates w r no_calls calls (Control Fail) wr at h k
+    leaf_simulates (Control Accept) call meant at h leaf wr k = tree_simulates w r no_calls calls (Control Accept) wr at h k
+    leaf_simulates (Control Commit) call meant at h leaf wr k = tree_simulates w r no_calls calls (Control Commit) wr at h k
+    leaf_simulates (Control Skip) call meant at h leaf wr k = tree_simulates w r no_calls calls (Control Skip) wr at h k
+    leaf_simulates (Control Prune) call meant at h leaf wr k = tree_simulates w r no_calls calls (Control Prune) wr at h k
+    leaf_simulates (AbsentStopper e) call meant at h leaf wr k = tree_simulates w r no_calls calls (AbsentStopper e) wr at h k
+    leaf_simulates (AbsentExpression x e) call meant at h leaf wr k = tree_simulates w r no_calls calls (AbsentExpression x e) wr at h k
+    leaf_simulates (AstNode node) call meant at h leaf wr k = tree_simulates w r no_calls calls (AstNode node) wr at h k
+    leaf_simulates (Concat es) call meant at h leaf wr k = absurd leaf
+    leaf_simulates (Alt es) call meant at h leaf wr k = absurd leaf
+    leaf_simulates (Group g e) call meant at h leaf wr k = absurd leaf
+    leaf_simulates (LookAround look e) call meant at h leaf wr k = absurd leaf
+    leaf_simulates (Repeat lo hi greedy e) call meant at h leaf wr k = absurd leaf
+    leaf_simulates (AtomicGroup e) call meant at h leaf wr k = absurd leaf
+    leaf_simulates (Conditional c t f) call meant at h leaf wr k = absurd leaf
+    leaf_simulates (AbsentRepeater e) call meant at h leaf wr k = absurd leaf
+    leaf_simulates (SubroutineCall g) call meant at h leaf wr k = absurd leaf
 
     -- where delegates hand the first way of their nodes
     module _ (batches : (es : List Tree) (depths : Depths) → Every (IsDelegated a) es →
-        Every (IsWritten (tree_of a)) es → Works w (batch (i.options).unicode es) (first_of_batch q a depths es))
+        Every (IsWritten (tree_of a)) es → Simulates w (batch (i.options).unicode es) (first_of_batch q a depths es))
         (absents : (e : Tree) (depths : Depths) → IsDelegated a e → IsWritten (tree_of a) (AbsentRepeater e) →
-        Works w
+        Simulates w
         (one
         (Instr.AbsentRepeater (pattern_of (i.options).unicode (e ∷ [])) (fragment (i.options).unicode (e ∷ []))
         (group_range (e ∷ [])))) (absent q (ways q (tree_of a) e depths))) where
-      pub machine_hands : HandsWays a i.options q (Works w) (MayStop w)
-      machine_hands = record {
-        as_ways = λ c f g e h. works_as w g h e;
-        hands_here = works_nothing w;
-        hands_none = works_fails w;
-        hands_next = λ c d f g k h h'. works_next w c d f g h (keeps_of k) h';
-        hands_branch = λ c d f g h h'. works_branch w c d f g h h';
-        hands_group = λ g e c f there h. (let n = r.group g e (contained_is_in there) in works_group w g c f n.0 n.1 h);
-        hands_first = λ c f h. works_atomic w c f h;
-        hands_unless = λ c f h. works_unless w c f h;
-        hands_ahead = λ c f h. works_look w c f h;
-        hands_behind = λ z c f const sized k h. works_behind w z f const (sized_of z sized) (keeps_of k) is_text.fits c h;
-        hands_not_behind = λ z c f const sized k h. works_not_behind w z f const (sized_of z sized) (keeps_of k) is_text.fits c h;
-        hands_choice = λ c d x f g e k h h' h''. works_conditional w c d x f g e h (keeps_of k) h' h'';
-        hands_loop = λ lo hi greedy v c f small fine k some h.
-            repeat_works w (λ g in_hard. nothing) (λ g. fails) lo hi greedy v c f small fine is_text.fits
-            (λ entered. record { works = h entered; keeps = keeps_of k; moves = λ e s t ok m. every_among (some e s ok) m });
-        hands_absent = λ c f h. works_absent w is_text.utf8 f c is_text.fits h;
-        hands_batch = batches;
-        hands_easy_absent = absents;
-        hands_leaf = leaf_works;
+      pub machine_enumerates : EnumeratesWays a i.options q (Simulates w) (MayStop w)
+      machine_enumerates = record {
+        as_ways = λ c f g e h. simulates_as w g h e;
+        enumerates_here = simulates_nothing w;
+        enumerates_none = simulates_fails w;
+        enumerates_next = λ c d f g k h h'. simulates_next w c d f g h (keeps_of k) h';
+        enumerates_branch = λ c d f g h h'. simulates_branch w c d f g h h';
+        enumerates_group = λ g e c f there h. (let n = r.group g e (contained_is_in there) in simulates_group w g c f n.0 n.1 h);
+        enumerates_first = λ c f h. simulates_atomic w c f h;
+        enumerates_unless = λ c f h. simulates_unless w c f h;
+        enumerates_ahead = λ c f h. simulates_look w c f h;
+        enumerates_behind = λ z c f const sized k h. simulates_behind w z f const (sized_of z sized) (keeps_of k) is_text.fits c h;
+        enumerates_not_behind = λ z c f const sized k h. simulates_not_behind w z f const (sized_of z sized) (keeps_of k) is_text.fits c h;
+        enumerates_choice = λ c d x f g e k h h' h''. simulates_conditional w c d x f g e h (keeps_of k) h' h'';
+        enumerates_loop = λ lo hi greedy v c f small fine k some h.
+            repeat_simulates w (λ g in_hard. nothing) (λ g. fails) lo hi greedy v c f small fine is_text.fits
+            (λ entered. record { simulates = h entered; keeps = keeps_of k; moves = λ e s t ok m. every_among (some e s ok) m });
+        enumerates_absent = λ c f h. simulates_absent w is_text.utf8 f c is_text.fits h;
+        enumerates_batch = batches;
+        enumerates_easy_absent = absents;
+        enumerates_leaf = leaf_simulates;
         by_branches =
             λ z fs s const sized k ok. ends_by_branch w (λ g in_hard. nothing)
             (λ g. fails) z const is_text.fits s fs ok (sized_of z sized) (keeps_of k);
@@ -162,12 +162,12 @@ module _ (i : Input) (instructions : ℕ) (accepted : IsAccepted i instructions)
         tree = a;
         options = i.options;
         setting = q;
-        Works = Works w;
+        Simulates = Simulates w;
         MayStop = MayStop w;
         size_law = sizes_hold;
         is_text = is_text;
         same_end_text = accepted.same_end_text;
         ready = is_ready;
         may_stop = stop;
-        laws = machine_hands;
+        laws = machine_enumerates;
       }

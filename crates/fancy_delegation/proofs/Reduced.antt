@@ -1,10 +1,10 @@
--- One list thins another exactly where every test that respects the key finds the same first state in both.
+-- One list key_equal another exactly where every test that respects the key finds the same first state in both.
 use Rattle.std.proofs.Common.{◌≡◌, ◌↔◌, Bool, true, false, not, if◌then◌else◌, List, [], ◌∷◌, Option, Some, None, refl, sym, ap, ◌∙◌, ⊎_elim}
 use Rattle.std.specs.Prelude.{bytes_eq}
 use Rattle.std.proofs.lemmas.Slice.Eq.{bytes_eq-Decides}
 use Rattle.std.proofs.lemmas.Bool.{or_cases, or_left, or_right}
 use Rattle.fancy_meaning.specs.MatchState.{MatchState}
-use Rattle.fancy_meaning.specs.Keys.{Key, Thins}
+use Rattle.fancy_meaning.specs.Keys.{Key, EqualUpTo}
 use Rattle.fancy_composed.proofs.Reduced.{Seen, with_key, reduced_from, reduced_by_seen}
 use Rattle.fancy_delegation.proofs.FindsAlike.{find_first, FindsAlike}
 
@@ -109,8 +109,8 @@ module _ (by : Key) where
       here true s ih ih' = ih (λ p ok u. sym (find-skip p h hs (u h s)) ∙ alike p ok u)
       here false s ih ih' = meet seen h hs qs s ih' alike
 
-  pub thins-alike : (hs qs : List MatchState) → Thins by hs qs ↔ FindsAlike (Same by) hs qs
-  thins-alike hs qs = (
+  pub key_equal-alike : (hs qs : List MatchState) → EqualUpTo by hs qs ↔ FindsAlike (Same by) hs qs
+  key_equal-alike hs qs = (
     λ e. let same = sym (reduced_by_seen by hs) ∙ e ∙ reduced_by_seen by qs in
         record {
           by = λ p ok.

@@ -1,19 +1,19 @@
 -- The laws of thinning, in the words of the definitions.
 use Rattle.std.proofs.Common.{flat_map}
-use Rattle.fancy_meaning.specs.Theorems.{BindingKeepsThinning, CoarserKeyThins}
+use Rattle.fancy_meaning.specs.Theorems.{BindingKeepsEquality, CoarserKeyKeepsEquality}
 use Rattle.fancy_laws.proofs.Every.{every_anything}
 use Rattle.fancy_delegation.proofs.Pairwise.{equal_pairs, pairs_weaken}
 use Rattle.fancy_delegation.proofs.FindsAlike.{alike_coarser, alike_flat_map}
-use Rattle.fancy_delegation.proofs.Reduced.{thins-alike}
+use Rattle.fancy_delegation.proofs.Reduced.{key_equal-alike}
 
-pub coarser_key_thins : CoarserKeyThins
-coarser_key_thins fine coarse hs qs c t = (thins-alike coarse hs qs).1 (alike_coarser c ((thins-alike fine hs qs).0 t))
+pub coarser_key_keeps_equality : CoarserKeyKeepsEquality
+coarser_key_keeps_equality fine coarse hs qs c t = (key_equal-alike coarse hs qs).1 (alike_coarser c ((key_equal-alike fine hs qs).0 t))
 
-pub binding_keeps_thinning : BindingKeepsThinning
-binding_keeps_thinning fine coarse hs qs f k c t respects each =
-    (thins-alike coarse (flat_map k hs) (flat_map f qs)).1
+pub binding_keeps_equality : BindingKeepsEquality
+binding_keeps_equality fine coarse hs qs f k c t respects each =
+    (key_equal-alike coarse (flat_map k hs) (flat_map f qs)).1
     (alike_flat_map {P = λ s. Unit {0}} k f hs qs
     (λ x y e. pairs_weaken (λ a b r. c a b r) (equal_pairs fine fine (f x) (f y) (respects x y e)))
-    (λ x u. (thins-alike coarse (k x) (f x)).0 (each x))
+    (λ x u. (key_equal-alike coarse (k x) (f x)).0 (each x))
     (every_anything hs (λ s. tt))
-    ((thins-alike fine hs qs).0 t))
+    ((key_equal-alike fine hs qs).0 t))

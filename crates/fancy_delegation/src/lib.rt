@@ -2,17 +2,17 @@
 //! contract of a function that does nothing.
 #![tactic(auto)]
 
-ghost use Rattle.fancy_meaning.specs.Theorems.{BindingKeepsThinning, CoarserKeyThins, EasyHasNoReadGroup, EasyWaysAgree, WaysRespectTheKey};
+ghost use Rattle.fancy_meaning.specs.Theorems.{BindingKeepsEquality, CoarserKeyKeepsEquality, EasyHasNoReadGroup, EasyWaysAgree, WaysRespectTheKey};
 
 /// Two lists that serve for one another by a key, each bound to parts that serve for one another by a coarser key, give
 /// lists that serve for one another by the coarser one, where the part bound to the second list respects the finer key.
-pub fn binding_keeps_thinning()
-    ensures { BindingKeepsThinning }
+pub fn binding_keeps_equality()
+    ensures { BindingKeepsEquality }
 {}
 
 /// A list that serves for another by a key does so by a coarser one.
-pub fn coarser_key_thins()
-    ensures { CoarserKeyThins }
+pub fn coarser_key_keeps_equality()
+    ensures { CoarserKeyKeepsEquality }
 {}
 
 /// From two states of one key, every node of the tree has as many ways, and each has the key of its counterpart.

@@ -1,12 +1,12 @@
--- What easy nodes take does not hang on the tree that they are part of, and so neither does how many points are visited.
+-- What easy nodes take does not hang on the tree that they are part of, and so neither does how many states are visited.
 use Rattle.std.proofs.Common.{◌≡◌, ℕ, ◌+◌, ◌*◌, List, [], ◌∷◌, refl, sym, ap, ap₂, ◌∙◌}
 use Rattle.std.specs.Prelude.{sum_by}
 use Rattle.std.proofs.lemmas.List.Sums.{sum_by-cons}
 use Rattle.fancy_meaning.specs.Tree.{Tree, Trees, none, more, Concat, Alt, Group, Repeat, Backref, BackrefWithLevel, AtomicGroup, AbsentExpression, Conditional, SubroutineCall}
 use Rattle.fancy_meaning.specs.Options.{Analysis}
 use Rattle.fancy_meaning.specs.Sizes.{Known, known_of, sum_of, any_of, times, size_by, each_size}
-use Rattle.fancy_meaning.specs.FragmentPoints.{loop_counts, points, points_of_each, fragment_points, visit_bound}
-use Rattle.fancy_points.specs.FirstWays.{AreEasy}
+use Rattle.fancy_meaning.specs.FragmentStates.{loop_counts, states, states_of_each, fragment_states, visit_bound}
+use Rattle.fancy_nfa.specs.FirstWays.{AreEasy}
 use Rattle.fancy_delegation.proofs.EasyNodes.{IsEasy, AllEasy, easy_group, easy_repeat, easy_concat, easy_alt, easy_each}
 
 module _ (a : Analysis) where
@@ -31,27 +31,27 @@ module _ (a : Analysis) where
 
   module _ (whole other : Tree) where
     mutual
-      points_alike : (e : Tree) → IsEasy a e → points whole e ≡ points other e
-      points_alike (Concat es) h = ap (λ n. 1 + n) (each_points_alike es (easy_concat a es h))
-      points_alike (Alt es) h = ap (λ n. 1 + n) (each_points_alike es (easy_alt a es h))
-      points_alike (Group g e) h = ap (λ n. 1 + n) (points_alike e (easy_group a g e h).1)
-      points_alike (Repeat lo hi greedy e) h =
+      states_alike : (e : Tree) → IsEasy a e → states whole e ≡ states other e
+      states_alike (Concat es) h = ap (λ n. 1 + n) (each_states_alike es (easy_concat a es h))
+      states_alike (Alt es) h = ap (λ n. 1 + n) (each_states_alike es (easy_alt a es h))
+      states_alike (Group g e) h = ap (λ n. 1 + n) (states_alike e (easy_group a g e h).1)
+      states_alike (Repeat lo hi greedy e) h =
           let q = easy_repeat a lo hi greedy e h in
-          ap₂ (λ s n. 1 + loop_counts lo hi s.least * (1 + n)) (size_alike (known_of whole) (known_of other) e q) (points_alike e q)
-      points_alike e h = refl
+          ap₂ (λ s n. 1 + loop_counts lo hi s.least * (1 + n)) (size_alike (known_of whole) (known_of other) e q) (states_alike e q)
+      states_alike e h = refl
 
-      each_points_alike : (es : Trees) → AllEasy a es → points_of_each whole es ≡ points_of_each other es
-      each_points_alike none h = refl
-      each_points_alike (more e es) h = let q = easy_each a e es h in ap₂ ◌+◌ (points_alike e q.0) (each_points_alike es q.1)
+      each_states_alike : (es : Trees) → AllEasy a es → states_of_each whole es ≡ states_of_each other es
+      each_states_alike none h = refl
+      each_states_alike (more e es) h = let q = easy_each a e es h in ap₂ ◌+◌ (states_alike e q.0) (each_states_alike es q.1)
 
-    sums_alike : (es : List Tree) → AreEasy a es → sum_by (points whole) es ≡ sum_by (points other) es
+    sums_alike : (es : List Tree) → AreEasy a es → sum_by (states whole) es ≡ sum_by (states other) es
     sums_alike [] h = refl
     sums_alike (e ∷ es) (easy, fine, rest) =
-        sum_by-cons (points whole) e es
-        ∙ ap₂ ◌+◌ (points_alike e easy) (sums_alike es rest)
-        ∙ sym (sum_by-cons (points other) e es)
+        sum_by-cons (states whole) e es
+        ∙ ap₂ ◌+◌ (states_alike e easy) (sums_alike es rest)
+        ∙ sym (sum_by-cons (states other) e es)
 
     -- the bound is the same in any tree
     pub bound_alike : (es : List Tree) → AreEasy a es → (left : ℕ) → visit_bound whole es left ≡ visit_bound other es left
-    unfolding fragment_points
+    unfolding fragment_states
     bound_alike es h left = ap (λ n. (1 + n) * (left + 1)) (sums_alike es h)

@@ -5,17 +5,17 @@ use Rattle.std.specs.Coded.{×_prop, Π_prop, Unit-prop, le_prop, Coded-set, cod
 use Rattle.std.proofs.Props.{props}
 use Rattle.std.specs.declared.alloc.AllocError.{AllocError}
 use Rattle.fancy_expr.specs.declared.error.Error.{Error}
-use Rattle.fancy_points.specs.FirstWays.{Seen, first_seen}
+use Rattle.fancy_nfa.specs.FirstWays.{Seen, first_seen}
 use Rattle.fancy_plain.specs.declared.first_way.FirstWay.{FirstWay}
 use Rattle.fancy_plain.specs.declared.first_way.Way.{Way}
-use Rattle.fancy_plain.specs.declared.straight.Straight.{Straight}
-use Rattle.fancy_plain.specs.declared.straight.Straight.TheVariants as straight
-use Rattle.fancy_plain.specs.Straight.{IsStraight}
+use Rattle.fancy_plain.specs.declared.one_pass.OnePass.{OnePass}
+use Rattle.fancy_plain.specs.declared.one_pass.OnePass.TheVariants as one_pass
+use Rattle.fancy_plain.specs.OnePass.{IsOnePass}
 use Rattle.fancy_plain.specs.Tables.{IsTableOf}
 use Rattle.fancy_plain.specs.Ways.{HasNoWayAt, IsFirstWay, IsOfNodes, IsSeenAs}
 use Rattle.fancy_fragments.specs.declared.fragment.Fragment.{Fragment}
 use Rattle.fancy_fragments.specs.Nodes.{IsLaidOut}
-use Rattle.fancy_fragments.specs.Fragments.{nodes_of, HasNoWayFrom, IsFirstWayOf, IsStraightOf}
+use Rattle.fancy_fragments.specs.Fragments.{nodes_of, HasNoWayFrom, IsFirstWayOf, IsOnePassOf}
 use Rattle.fancy_fragments.proofs.EasySizes.{bound_alike}
 
 -- it can be seen in one way only
@@ -58,20 +58,20 @@ module _ (f : Fragment) where
       laid.1.unicode
       (subst (IsSeenAs None) (sym (h laid.0 (nodes_of f) (by_option laid) pos continued)) tt))
 
-  straight_from : (text : List ℕ) (place : ℕ) (s : Straight) → IsStraight text f.table place s → IsStraightOf text f place s
-  straight_from text place (straight.Ends end) h = λ pos continued.
+  one_pass_from : (text : List ℕ) (place : ℕ) (s : OnePass) → IsOnePass text f.table place s → IsOnePassOf text f place s
+  one_pass_from text place (one_pass.Ends end) h = λ pos continued.
       ∥∥₁_elim f.laid_out (Prim.hlevel props) (λ laid.
       subst
       (λ u. first_seen (record { text = text; pos = pos; continued = continued; unicode = u }) (nodes_of f) place ≡ Some (end, λ g. None))
       laid.1.unicode
       (h laid.0 (nodes_of f) (by_option laid) pos continued))
-  straight_from text place straight.Fails h = no_way_from text place h
-  straight_from text place straight.Unknown h = h
+  one_pass_from text place one_pass.Fails h = no_way_from text place h
+  one_pass_from text place one_pass.Unknown h = h
 
-pub found_straight : (text : List ℕ) (f : Fragment) (place : ℕ) (result : Result Straight AllocError) →
-    IfOk result (IsStraight text f.table place) → IfOk result (IsStraightOf text f place)
-found_straight text f place (Ok s) h = straight_from f text place s h
-found_straight text f place (Err e) h = h
+pub found_one_pass : (text : List ℕ) (f : Fragment) (place : ℕ) (result : Result OnePass AllocError) →
+    IfOk result (IsOnePass text f.table place) → IfOk result (IsOnePassOf text f place)
+found_one_pass text f place (Ok s) h = one_pass_from f text place s h
+found_one_pass text f place (Err e) h = h
 
 pub found_first : (text : List ℕ) (f : Fragment) (place : ℕ) (result : Result FirstWay Error) → IfOk result (IsFirstWay text f.table place) →
     IfOk result (IsFirstWayOf text f place)

@@ -10,7 +10,7 @@ use Rattle.fancy_expr.specs.Views.{tree_of}
 use Rattle.fancy_expr.proofs.Walks.{taken}
 use Rattle.fancy_info.specs.declared.info.Info.{Info}
 use Rattle.fancy_info.specs.Infos.{info_tree, AreInTurn, IsAnalysed}
-use Rattle.fancy_plain.specs.declared.table.PointTable.{PointTable}
+use Rattle.fancy_plain.specs.declared.table.Nfa.{Nfa}
 use Rattle.fancy_plain.specs.Neighbours.{IsEasy}
 use Rattle.fancy_plain.specs.Tables.{AreFine, IsTableOf}
 use Rattle.fancy_fragments.specs.Nodes.{AreEasyNeighbours, BeginAt, IsLaidOut, fits_over, nodes_over, plain_tree}
@@ -49,7 +49,7 @@ module _ (is : List Info) (h : AreEasyNeighbours is) (exprs : List Expr) (copied
       ∙ ap children (sym (are_numbered h.analysis h.within h.first is (each_analysed h.analysis is h.each) h.in_turn))
       ∙ children_listed (map info_tree is)
 
-  pub laid_over : (unicode : Bool) (table : PointTable) →
+  pub laid_over : (unicode : Bool) (table : Nfa) →
       ((a : Analysis) → Each (IsEasy a) is → AreFine (map info_tree is) → IsTableOf a (map info_tree is) unicode table) →
       ∥ IsLaidOut (nodes_over exprs first w) unicode table ∥₁
   laid_over unicode table made =

@@ -3,13 +3,13 @@ use Rattle.std.specs.Prelude.{◌≡◌, ◌≤◌, ◌-◌, ℕ, Bool, List, le
 use Rattle.fancy_meaning.specs.Tree.{Tree}
 use Rattle.fancy_meaning.specs.Instr as plain
 use Rattle.fancy_meaning.specs.Options.{Analysis}
-use Rattle.fancy_meaning.specs.FragmentPoints.{visit_bound}
-use Rattle.fancy_points.specs.FirstWays.{AreEasy, first_seen}
+use Rattle.fancy_meaning.specs.FragmentStates.{visit_bound}
+use Rattle.fancy_nfa.specs.FirstWays.{AreEasy, first_seen}
 use Rattle.fancy_expr.specs.Walk.{within_of}
 use Rattle.fancy_plain.specs.declared.first_way.FirstWay.{FirstWay}
 use Rattle.fancy_plain.specs.declared.search.Memo.{Memo}
-use Rattle.fancy_plain.specs.declared.straight.Straight.{Straight}
-use Rattle.fancy_plain.specs.declared.straight.Straight.TheVariants as straight
+use Rattle.fancy_plain.specs.declared.one_pass.OnePass.{OnePass}
+use Rattle.fancy_plain.specs.declared.one_pass.OnePass.TheVariants as one_pass
 use Rattle.fancy_plain.specs.Ways.{IsMemoOf, IsSeenAs}
 use Rattle.fancy_fragments.specs.declared.fragment.Fragment.{Fragment}
 use Rattle.fancy_fragments.specs.Nodes.{nodes_over}
@@ -21,7 +21,7 @@ nodes_of f = nodes_over f.exprs.items f.first_group (within_of f.within)
 abbrev pub fragment_of : Fragment → plain.Fragment
 fragment_of f = record { nodes = nodes_of f; unicode = f.unicode }
 
--- The answer is the first way of the nodes, wherever the search of the whole pattern began, and no more points are told
+-- The answer is the first way of the nodes, wherever the search of the whole pattern began, and no more states are told
 -- as taken up than one of each at each place.
 pub record IsFirstWayOf (text : List ℕ) (f : Fragment) (place : ℕ) (answer : FirstWay) : Type 0 where
   pub way : (pos : ℕ) (continued : Bool) →
@@ -37,12 +37,12 @@ HasNoWayFrom text f place = (pos : ℕ) (continued : Bool) →
     (first_seen (record { text = text; pos = pos; continued = continued; unicode = f.unicode }) (nodes_of f) place)
 
 -- the first way of the nodes, wherever the search of the whole pattern began, as far as it is known
-abbrev pub IsStraightOf : (text : List ℕ) → Fragment → (place : ℕ) → Straight → Type 0
-IsStraightOf text f place (straight.Ends end) = (pos : ℕ) (continued : Bool) →
+abbrev pub IsOnePassOf : (text : List ℕ) → Fragment → (place : ℕ) → OnePass → Type 0
+IsOnePassOf text f place (one_pass.Ends end) = (pos : ℕ) (continued : Bool) →
     first_seen (record { text = text; pos = pos; continued = continued; unicode = f.unicode }) (nodes_of f) place
     ≡ Some (end, λ g. None)
-IsStraightOf text f place straight.Fails = HasNoWayFrom text f place
-IsStraightOf text f place straight.Unknown = Unit {0}
+IsOnePassOf text f place one_pass.Fails = HasNoWayFrom text f place
+IsOnePassOf text f place one_pass.Unknown = Unit {0}
 
 -- it knows what searches of this fragment in this text have noted, and no more
 abbrev pub IsMemoFor : (text : List ℕ) → Fragment → Memo → Type 0

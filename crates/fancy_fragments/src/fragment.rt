@@ -7,8 +7,8 @@ ghost use Rattle.fancy_meaning.specs.Premises.{IsText};
 ghost use Rattle.fancy_expr.specs.Views.{tree_of};
 ghost use Rattle.fancy_expr.specs.Walk.{within_of};
 ghost use Rattle.fancy_info.specs.Infos.{info_tree};
-ghost use Rattle.fancy_plain.specs.Beginnings.{may_begin};
-ghost use Rattle.fancy_plain.specs.Needed.{lacks_any};
+ghost use Rattle.fancy_plain.specs.FirstSets.{may_begin};
+ghost use Rattle.fancy_plain.specs.RequiredBytes.{lacks_any};
 ghost use Rattle.fancy_plain.specs.Tables.{HaveClasses, IsRefusedFor};
 ghost use Rattle.fancy_fragments.specs.Nodes.{AreEasyNeighbours, BeginAt, IsLaidOut, fits_over, nodes_over, plain_tree};
 
@@ -18,10 +18,10 @@ use fancy_expr::error::Error;
 use fancy_expr::expr::Expr;
 use fancy_expr::walk::Within;
 use fancy_info::info::Info;
-use fancy_plain::needed::lacks_needed;
+use fancy_plain::one_pass::{OnePass, one_pass_end};
+use fancy_plain::required_bytes::lacks_required;
 use fancy_plain::search::Memo;
-use fancy_plain::straight::{Straight, straight_end};
-use fancy_plain::table::PointTable;
+use fancy_plain::table::Nfa;
 use std::alloc::{AllocError, Global};
 use std::fmt;
 
@@ -34,7 +34,7 @@ pub struct Fragment {
     /// The look-around that they stand in.
     pub(crate) within: Within,
     pub(crate) unicode: bool,
-    pub(crate) table: PointTable,
+    pub(crate) table: Nfa,
     /// Each group that a way can set has a number below this.
     pub(crate) settable: usize,
     ghost laid_out: { ∥ IsLaidOut (nodes_over exprs.items first_group (within_of within)) unicode table ∥₁ },
@@ -43,11 +43,11 @@ pub struct Fragment {
 }
 
 impl Fragment {
-    ghost use Rattle.fancy_fragments.specs.Fragments.{HasNoWayFrom, IsMemoFor, IsStraightOf, fragment_of};
+    ghost use Rattle.fancy_fragments.specs.Fragments.{HasNoWayFrom, IsMemoFor, IsOnePassOf, fragment_of};
 
     /// The fragment of neighbouring nodes of one analysed tree, none of them hard.
     ///
-    /// A class text that `regex` refuses is refused as `InnerError` or `ClassTooBig`, but not in a loop that is never
+    /// A class text that `regex` excludes is refused as `InnerError` or `ClassTooBig`, but not in a loop that is never
     /// entered or in a DEFINE, which are not written out. Want of memory is `Error::Memory`.
     pub fn build(alloc: Global, infos: &[Info], unicode: bool) -> Result<Fragment, Error>
         requires { AreEasyNeighbours infos.now }
@@ -56,7 +56,7 @@ impl Fragment {
         ensures classes { IfOk result (λ f. HaveClasses unicode infos.now) }
         ensures refused { IfErr result (IsRefusedFor unicode infos.now) }
     {
-        let table = PointTable::build(alloc, infos, unicode)?;
+        let table = Nfa::build(alloc, infos, unicode)?;
         let exprs = copies_of_nodes(alloc, infos)?;
         let (first_group, within) = beginning(infos);
         Ok(Fragment {
@@ -80,7 +80,7 @@ impl Fragment {
     /// be none though it can, but where it cannot there is none.
     pub fn can_begin(&self, text: &str, ix: usize) -> bool
         requires place { IsTrue (is_place text.now ix) }
-        ensures told { result ≡ may_begin self.now.table.beginnings.items text.now ix }
+        ensures told { result ≡ may_begin self.now.table.first_sets.items text.now ix }
         ensures none { result ≡ false → HasNoWayFrom text.now self.now ix }
     {
         self.table.can_begin(text, ix)
@@ -88,45 +88,45 @@ impl Fragment {
 
     /// Whether the text from `from` on, in bytes, has none of the bytes of which every way takes one: then no way begins
     /// there or behind it. Where no such bytes are known it is false.
-    pub fn lacks_needed(&self, text: &str, from: usize) -> bool
-        ensures told { result ≡ lacks_any self.now.table.needed text.now from }
+    pub fn lacks_required(&self, text: &str, from: usize) -> bool
+        ensures told { result ≡ lacks_any self.now.table.required_bytes text.now from }
         ensures none { IsTrue result → (place : ℕ) → from ≤ place
             → IsTrue (is_place text.now place) → HasNoWayFrom text.now self.now place }
     {
-        lacks_needed(&self.table, text, from)
+        lacks_required(&self.table, text, from)
     }
 
     /// Whether no way can begin where this byte stands.
-    pub fn refuses(&self, byte: u8) -> bool
+    pub fn excludes(&self, byte: u8) -> bool
         ensures { IsTrue result → (text : List ℕ) (ix : ℕ) → IsText text → IsTrue (is_place text ix)
             → slice_get text ix ≡ Some byte → HasNoWayFrom text self.now ix }
     {
-        self.table.refuses(byte)
+        self.table.excludes(byte)
     }
 
     /// Whether no way can begin where this byte stands behind an ASCII character.
-    pub fn refuses_next(&self, byte: u8) -> bool
+    pub fn excludes_second(&self, byte: u8) -> bool
         ensures { IsTrue result → (text : List ℕ) (ix first : ℕ) → IsText text
             → IsTrue (is_place text ix) → slice_get text ix ≡ Some first → first < 128
             → slice_get text (ix + 1) ≡ Some byte → HasNoWayFrom text self.now ix }
     {
-        self.table.refuses_next(byte)
+        self.table.excludes_second(byte)
     }
 
     /// Ways seem to need no choice.
-    pub fn is_straight(&self) -> bool
-        ensures { result ≡ self.now.table.is_straight }
+    pub fn is_one_pass(&self) -> bool
+        ensures { result ≡ self.now.table.is_one_pass }
     {
-        self.table.is_straight()
+        self.table.is_one_pass()
     }
 
     /// The first way from `ix`, a character boundary of the text, as far as no choice is needed for it. An error is a
     /// request for memory that was refused.
-    pub fn straight_end(&self, alloc: Global, text: &str, ix: usize) -> Result<Straight, AllocError>
+    pub fn one_pass_end(&self, alloc: Global, text: &str, ix: usize) -> Result<OnePass, AllocError>
         requires place { IsTrue (is_place text.now ix) }
-        ensures { IfOk result (IsStraightOf text.now self.now ix) }
+        ensures { IfOk result (IsOnePassOf text.now self.now ix) }
     {
-        straight_end(alloc, &self.table, text, ix)
+        one_pass_end(alloc, &self.table, text, ix)
     }
 
     /// What searches of the fragment in one text, from `pos` on, have noted: nothing yet.

@@ -1,4 +1,4 @@
--- A batch hands the first way of its nodes: literals, one class, one `Any`, nodes without a name, or a delegate.
+-- A batch enumerates the first way of its nodes: literals, one class, one `Any`, nodes without a name, or a delegate.
 use Rattle.std.proofs.Common.{◌≡◌, ℕ, Bool, true, false, if◌then◌else◌, List, [], ◌∷◌, map, take, Option, Some, None, encode_utf8_all, refl, sym, ap, ◌∙◌, subst, map-id}
 use Rattle.std.specs.List.{list_any}
 use Rattle.std.specs.Char.{IsScalar}
@@ -15,14 +15,14 @@ use Rattle.fancy_meaning.specs.Code.{Code}
 use Rattle.fancy_meaning.specs.CompileRefusals.{IsWritten, IsAmong, here, there, part}
 use Rattle.fancy_laws.proofs.Every.{Every, no_item, item, every_append}
 use Rattle.fancy_delegation.proofs.EasyNodes.{IsEasy}
-use Rattle.fancy_composed.proofs.Courses.{Ground}
-use Rattle.fancy_composed.proofs.Parts.{at_place, moves_at, setting, whole, Works}
-use Rattle.fancy_composed.proofs.Works.{works_as, works_nothing, works_moves}
-use Rattle.fancy_composed.proofs.Atoms.{works_any, works_class}
+use Rattle.fancy_composed.proofs.Continuations.{Ground}
+use Rattle.fancy_composed.proofs.Parts.{at_place, moves_at, setting, whole, Simulates}
+use Rattle.fancy_composed.proofs.Simulates.{simulates_as, simulates_nothing, simulates_moves}
+use Rattle.fancy_composed.proofs.Atoms.{simulates_any, simulates_class}
 use Rattle.fancy_composed.proofs.Ready.{Ready}
 use Rattle.fancy_headline.proofs.Literals.{Chars, past_all, bytes_of_all, joined_parts, list_takes_chars}
 use Rattle.fancy_headline.proofs.Nameless.{list_stays}
-use Rattle.fancy_headline.proofs.Delegates.{IsSteady, IsNumbered, works_delegate}
+use Rattle.fancy_headline.proofs.Delegates.{IsSteady, IsNumbered, simulates_delegate}
 
 -- neighbours without a name, and with one
 pub no_name : (unicode : Bool) (es : List Tree) → pattern_of unicode es ≡ [] → delegate_code unicode es ≡ code.nothing
@@ -62,10 +62,10 @@ module _ (w : Ground) (r : Ready w) where
 
   -- ---- literals
 
-  works_chars : (cs : Chars) → Scalars cs →
-      Works w (code.one (literal_instr (w.plan).unicode cs))
+  simulates_chars : (cs : Chars) → Scalars cs →
+      Simulates w (code.one (literal_instr (w.plan).unicode cs))
       (λ s. at_place s (past_all (w.plan).unicode (w.task).text cs s.place))
-  works_chars cs ok = by_fold (list_any (λ c. c.1) cs) refl
+  simulates_chars cs ok = by_fold (list_any (λ c. c.1) cs) refl
     where
       text : List ℕ
       text = (w.task).text
@@ -74,14 +74,14 @@ module _ (w : Ground) (r : Ready w) where
       unicode = (w.plan).unicode
 
       by_fold : (v : Bool) → list_any (λ c. c.1) cs ≡ v →
-          Works w (code.one (if v then Instr.LitCasei cs unicode else Instr.Lit (encode_utf8_all (map (λ c. c.0) cs))))
+          Simulates w (code.one (if v then Instr.LitCasei cs unicode else Instr.Lit (encode_utf8_all (map (λ c. c.0) cs))))
           (λ s. at_place s (past_all unicode text cs s.place))
       by_fold true e =
-          works_moves w (Instr.LitCasei cs unicode) (λ s. past_all unicode text cs s.place)
+          simulates_moves w (Instr.LitCasei cs unicode) (λ s. past_all unicode text cs s.place)
           (λ s slots a marks bs count so st. refl)
       by_fold false e =
-          works_as w (λ s. at_place s (past_all unicode text cs s.place))
-          (works_moves w (Instr.Lit (encode_utf8_all (map (λ c. c.0) cs)))
+          simulates_as w (λ s. at_place s (past_all unicode text cs s.place))
+          (simulates_moves w (Instr.Lit (encode_utf8_all (map (λ c. c.0) cs)))
           (λ s. past_bytes text (encode_utf8_all (map (λ c. c.0) cs)) s.place) (λ s slots a marks bs count so st. refl))
           (λ s so. ap (at_place s) (bytes_of_all unicode text cs s.place e ok))
 
@@ -99,11 +99,11 @@ module _ (w : Ground) (r : Ready w) where
     abbrev Steady : List Tree → Type 0
     Steady es = (s : MatchState) → Every (IsSteady (w.plan).end_text s) (in_order (map (ways_with (setting w) meant) es) s)
 
-    works_literals : {es : List Tree} (cs : Chars) → Every (IsWritten (whole w)) es →
+    simulates_literals : {es : List Tree} (cs : Chars) → Every (IsWritten (whole w)) es →
         all_joined (map literal_chars es) ≡ Some cs →
-        Works w (code.one (literal_instr (w.plan).unicode cs)) (first_of es)
-    works_literals {es} cs wr e =
-        works_as w (first_of es) (works_chars cs (scalars_of_list cs wr e))
+        Simulates w (code.one (literal_instr (w.plan).unicode cs)) (first_of es)
+    simulates_literals {es} cs wr e =
+        simulates_as w (first_of es) (simulates_chars cs (scalars_of_list cs wr e))
         (λ s so.
         sym
         (ap (take 1) (list_takes_chars (setting w) meant es cs e s)
@@ -112,9 +112,9 @@ module _ (w : Ground) (r : Ready w) where
     -- a node alone, that takes one character
     alone : (e : Tree) (f : ℕ → Option ℕ) (c : Code) →
         ((s : MatchState) → ways_with (setting w) meant e s ≡ at_place s (f s.place)) →
-        Works w c (ways_with (setting w) meant e) → Works w c (first_of (e ∷ []))
+        Simulates w c (ways_with (setting w) meant e) → Simulates w c (first_of (e ∷ []))
     alone e f c is p =
-        works_as w (first_of (e ∷ [])) p
+        simulates_as w (first_of (e ∷ [])) p
         (λ s so. is s
         ∙ sym
         (ap (take 1)
@@ -123,39 +123,39 @@ module _ (w : Ground) (r : Ready w) where
 
     module _ {es : List Tree} (wr : Every (IsWritten (whole w)) es) (easy : Every (IsEasy (w.plan).analysis) es)
         (numbered : Every (IsNumbered w) es) (steady : Steady es) where
-      works_named : Works w (delegate_code (w.plan).unicode es) (first_of es)
-      works_named = by_name (pattern_of (w.plan).unicode es) refl
+      simulates_named : Simulates w (delegate_code (w.plan).unicode es) (first_of es)
+      simulates_named = by_name (pattern_of (w.plan).unicode es) refl
         where
           by_name : (t : List ℕ) → pattern_of (w.plan).unicode es ≡ t →
-              Works w (delegate_code (w.plan).unicode es) (first_of es)
+              Simulates w (delegate_code (w.plan).unicode es) (first_of es)
           by_name [] e =
-              subst (λ c. Works w c (first_of es)) (sym (no_name (w.plan).unicode es e))
-              (works_as w (first_of es) (works_nothing w)
+              subst (λ c. Simulates w c (first_of es)) (sym (no_name (w.plan).unicode es e))
+              (simulates_as w (first_of es) (simulates_nothing w)
               (λ s so.
               sym
               (ap (take 1)
               (list_stays (setting w) meant (w.plan).analysis (whole w) (λ d wd. r.fine d (r.there d wd)) wr easy e s))))
           by_name (c ∷ cs) e =
-              subst (λ x. Works w x (first_of es)) (sym (some_name (w.plan).unicode es c cs e))
-              (works_delegate w (c ∷ cs) (group_range es) es meant easy numbered steady)
+              subst (λ x. Simulates w x (first_of es)) (sym (some_name (w.plan).unicode es c cs e))
+              (simulates_delegate w (c ∷ cs) (group_range es) es meant easy numbered steady)
 
     one_class : (inner : List ℕ) (casei : Bool) → is_class (w.plan).unicode inner casei ≡ true →
-        Works w (class_code (w.plan).unicode inner casei) (first_of (Delegate inner casei ∷ []))
+        Simulates w (class_code (w.plan).unicode inner casei) (first_of (Delegate inner casei ∷ []))
     one_class inner casei there' =
         alone (Delegate inner casei) (past_char (w.task).text (class_takes (w.plan).unicode inner casei))
         (class_code (w.plan).unicode inner casei)
         (λ s.
         moves_at (setting w) (past_char (w.task).text (class_takes (w.plan).unicode inner casei)) s
         (past_char (w.task).text (class_takes (w.plan).unicode inner casei) s.place) refl)
-        (works_class w (w.plan).unicode inner casei there')
+        (simulates_class w (w.plan).unicode inner casei there')
 
-    one_any : (newline crlf : Bool) → Works w (code.one (any_instr newline crlf)) (first_of (Any newline crlf ∷ []))
+    one_any : (newline crlf : Bool) → Simulates w (code.one (any_instr newline crlf)) (first_of (Any newline crlf ∷ []))
     one_any newline crlf =
         alone (Any newline crlf) (past_char (w.task).text (any_takes newline crlf)) (code.one (any_instr newline crlf))
         (λ s.
         moves_at (setting w) (past_char (w.task).text (any_takes newline crlf)) s
         (past_char (w.task).text (any_takes newline crlf) s.place) refl)
-        (works_any w newline crlf)
+        (simulates_any w newline crlf)
 
     -- where a class is written, it is one
     abbrev Classes : Type 0
@@ -165,16 +165,16 @@ module _ (w : Ground) (r : Ready w) where
 
     by_shape : Classes → (o : Option Chars) (es : List Tree) → all_joined (map literal_chars es) ≡ o →
         Every (IsWritten (whole w)) es → Every (IsEasy (w.plan).analysis) es →
-        Every (IsNumbered w) es → Steady es → Works w (batch_code (w.plan).unicode o es) (first_of es)
-    by_shape known (Some cs) es e wr easy numbered steady = works_literals cs wr e
+        Every (IsNumbered w) es → Steady es → Simulates w (batch_code (w.plan).unicode o es) (first_of es)
+    by_shape known (Some cs) es e wr easy numbered steady = simulates_literals cs wr e
     by_shape known None (Delegate inner casei ∷ []) e (item wd no_item) easy numbered steady =
         one_class inner casei (known inner casei wd)
     by_shape known None (Any newline crlf ∷ []) e wr easy numbered steady = one_any newline crlf
-    by_shape known None es e wr easy numbered steady = works_named wr easy numbered steady
+    by_shape known None es e wr easy numbered steady = simulates_named wr easy numbered steady
 
-    pub works_batch : Classes → (es : List Tree) → Every (IsWritten (whole w)) es → Every (IsEasy (w.plan).analysis) es →
+    pub simulates_batch : Classes → (es : List Tree) → Every (IsWritten (whole w)) es → Every (IsEasy (w.plan).analysis) es →
         Every (IsNumbered w) es → Steady es →
-        Works w (batch (w.plan).unicode es) (first_of es)
-    works_batch known [] wr easy numbered steady = works_as w (first_of []) (works_nothing w) (λ s so. refl)
-    works_batch known (e ∷ es) wr easy numbered steady =
+        Simulates w (batch (w.plan).unicode es) (first_of es)
+    simulates_batch known [] wr easy numbered steady = simulates_as w (first_of []) (simulates_nothing w) (λ s so. refl)
+    simulates_batch known (e ∷ es) wr easy numbered steady =
         by_shape known (all_joined (map literal_chars (e ∷ es))) (e ∷ es) refl wr easy numbered steady

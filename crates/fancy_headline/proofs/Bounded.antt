@@ -4,7 +4,7 @@ use Rattle.std.specs.Prelude.{slice_get}
 use Rattle.fancy_meaning.specs.Instr.{Instr, Save, End, RejectEmptyMatchAtEOFFollowingNewline}
 use Rattle.fancy_meaning.specs.Config.{Branch, Config, Outcome, outcome_of, longer, Match, NoMatch, BacktrackLimitExceeded, StackOverflow, StepLimitExceeded, Next, Goes, Ends}
 use Rattle.fancy_meaning.specs.Machine.{Task, fail, fail_to, goes_if, is_rejected, is_longest, numbers_of, step, step_at, exec, then_on, after_steps}
-use Rattle.fancy_meaning.specs.Hands.{HasAt, outcome_after}
+use Rattle.fancy_meaning.specs.Enumerates.{HasAt, outcome_after}
 use Rattle.fancy_composed.proofs.Attempts.{EndsAt}
 use Rattle.fancy_headline.proofs.Plain.{GoesOrFails, goes, fails, AtMostOne, no_instr, one_instr}
 

@@ -21,7 +21,7 @@ use Rattle.fancy_meaning.specs.Premises.{Input, plan, IsAccepted, IsFit}
 use Rattle.fancy_meaning.specs.Theorems.{BranchBound, BacktrackBound, InstructionBound}
 use Rattle.fancy_meaning.specs.Answer.{search_of, starts}
 use Rattle.fancy_meaning.specs.Numbers.{usize_max}
-use Rattle.fancy_composed.proofs.Courses.{Tally, config}
+use Rattle.fancy_composed.proofs.Continuations.{Tally, config}
 use Rattle.fancy_composed.proofs.Parts.{place_within}
 use Rattle.fancy_composed.proofs.Places.{char_stands, places_on, places_at_end}
 use Rattle.fancy_composed.proofs.Programs.{Attempt, anchored_attempt, Searching, search_stands}

@@ -1,4 +1,4 @@
--- A delegate hands the first way of its nodes: it is run from empty captures, and its pairs are laid over the slots.
+-- A delegate enumerates the first way of its nodes: it is run from empty captures, and its pairs are laid over the slots.
 use Rattle.std.proofs.Common.{◌≡◌, ℕ, ◌+◌, ◌*◌, ◌/◌, ◌%◌, ◌<◌, ◌≤◌, ◌⊎◌, inl, inr, ⊎_elim, Bool, true, ◌&&◌, if◌then◌else◌, List, take, Option, Some, None, refl, sym, ap, ap₂, ◌∙◌, arith}
 use Rattle.std.specs.Prelude.{slice_get}
 use Rattle.fancy_meaning.specs.Tree.{Tree, Group}
@@ -10,7 +10,7 @@ use Rattle.fancy_meaning.specs.Batches.{fragment}
 use Rattle.fancy_meaning.specs.Code as code
 use Rattle.fancy_meaning.specs.Config.{Slots, Branch, with_pairs, number_in}
 use Rattle.fancy_meaning.specs.Machine.{takes_way}
-use Rattle.fancy_meaning.specs.Hands.{start_number, end_number}
+use Rattle.fancy_meaning.specs.Enumerates.{start_number, end_number}
 use Rattle.fancy_laws.proofs.Every.{Every, no_item, item, every_flat_map, every_weaker}
 use Rattle.fancy_delegation.proofs.Items.{IsIn}
 use Rattle.fancy_delegation.proofs.Everywhere.{everywhere_from}
@@ -19,9 +19,9 @@ use Rattle.fancy_delegation.proofs.Kept.{IsKept, EachKept, relates_kept}
 use Rattle.fancy_delegation.proofs.Pairwise.{Pairwise, neither, both}
 use Rattle.fancy_delegation.proofs.EasyKeeps.{other_span}
 use Rattle.fancy_delegation.proofs.Fragments.{laid_over, IsOver, over_first_state, fragment_ways, fragment_over}
-use Rattle.fancy_composed.proofs.Courses.{Tally, Ground, to_eq, here, go, after, failed, step_at_pc}
-use Rattle.fancy_composed.proofs.Hands.{Hands, none, one, from}
-use Rattle.fancy_composed.proofs.Parts.{setting, flag, flag_is, whole, Stands, After, Works}
+use Rattle.fancy_composed.proofs.Continuations.{Tally, Ground, to_eq, here, go, after, failed, step_at_pc}
+use Rattle.fancy_composed.proofs.Enumerates.{Enumerates, none, one, from}
+use Rattle.fancy_composed.proofs.Parts.{setting, flag, flag_is, whole, Stands, After, Simulates}
 use Rattle.fancy_composed.proofs.Alike.{alike_same}
 use Rattle.fancy_delegation.proofs.EasyNodes.{IsEasy}
 use Rattle.fancy_meaning.specs.Numbers.{usize_max}
@@ -151,7 +151,7 @@ module _ (w : Ground) where
       Stands w s slots →
       {hs ks : List MatchState} → Pairwise (IsOver s.captures) hs ks → Every (IsSteady (w.plan).end_text s) hs →
       Every (SameUnused (group_count (whole w)) (first_state s.place)) ks →
-      Hands w b (After w n n slots) marks bs count.longest (take 1 hs)
+      Enumerates w b (After w n n slots) marks bs count.longest (take 1 hs)
       (after w.task (takes_way w.task (here w a s.place slots marks bs count) (slice_get ks 0)))
   first_handed a b n s slots marks bs count e st neither no_item no_item =
       none count (failed w bs (here w a s.place slots marks bs count) refl)
@@ -160,17 +160,17 @@ module _ (w : Ground) where
       (to_eq (λ m. ap₂ (λ x y. go w x y (with_pairs k.captures slots) marks bs count m) e (sym over.place)))
 
   -- the instruction of a delegate
-  pub works_delegate : (pattern : List ℕ) (groups : Option (ℕ × ℕ)) (es : List Tree) (call : ℕ → Ways) →
+  pub simulates_delegate : (pattern : List ℕ) (groups : Option (ℕ × ℕ)) (es : List Tree) (call : ℕ → Ways) →
       Every (IsEasy (w.plan).analysis) es → Every IsNumbered es →
       ((s : MatchState) → Every (IsSteady (w.plan).end_text s) (fragment_ways (setting w) call es s)) →
-      Works w (code.one (Instr.Delegate pattern (fragment (w.plan).unicode es) groups))
+      Simulates w (code.one (Instr.Delegate pattern (fragment (w.plan).unicode es) groups))
       (λ s. take 1 (fragment_ways (setting w) call es s))
-  works_delegate pattern groups es call easy numbered steady = record {
+  simulates_delegate pattern groups es call easy numbered steady = record {
     grows = λ a n. omega arith;
     handed = λ s. take 1 (fragment_ways (setting w) call es s);
     alike = λ s ok. alike_same (take 1 (fragment_ways (setting w) call es s));
     part = λ a b n e fresh h. record {
-      hands = λ s slots marks bs count ok st.
+      enumerates = λ s slots marks bs count ok st.
           from w
           (step_at_pc w (Instr.Delegate pattern (fragment (w.plan).unicode es) groups) a s.place slots marks bs count h.0)
           (first_handed a b n s slots marks bs count e st

@@ -6,7 +6,7 @@ use Rattle.fancy_meaning.specs.Answer.{search_of, answer}
 use Rattle.fancy_meaning.specs.Instr.{Prog}
 use Rattle.fancy_meaning.specs.Config.{Config, outcome_of, Next, Goes, Ends, forward}
 use Rattle.fancy_meaning.specs.Machine.{Task, gives_up, fail, step_at, step_on, then_on, exec, begin, after_steps, run}
-use Rattle.fancy_meaning.specs.Hands.{IsLimit, outcome_after}
+use Rattle.fancy_meaning.specs.Enumerates.{IsLimit, outcome_after}
 use Rattle.fancy_meaning.specs.Premises.{plan}
 use Rattle.fancy_meaning.specs.Theorems.{Answers, GivesUp, GivesUpRightly, EarlyNone}
 use Rattle.fancy_composed.proofs.Undelegated.{undelegated}

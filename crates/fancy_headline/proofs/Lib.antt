@@ -3,7 +3,7 @@ pub mod Literals
 pub mod Nameless
 pub mod Batches
 pub mod Repeaters
-pub mod Works
+pub mod Simulates
 pub mod Answered
 pub mod Early
 pub mod Plain

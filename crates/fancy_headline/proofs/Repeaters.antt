@@ -19,9 +19,9 @@ use Rattle.fancy_laws.proofs.Every.{no_item, item}
 use Rattle.fancy_delegation.proofs.EasyNodes.{IsEasy}
 use Rattle.fancy_delegation.proofs.Alike.{pairs_head}
 use Rattle.fancy_delegation.proofs.Fragments.{over_first_state, fragment_over}
-use Rattle.fancy_composed.proofs.Courses.{Tally, once_more, Ground, to_eq, to_trans, here, go, after, resumed, pushed, step_at_pc}
-use Rattle.fancy_composed.proofs.Hands.{Hands, one, from, append}
-use Rattle.fancy_composed.proofs.Parts.{Sound, setting, body, sound_within, Stands, After, after_move, stands_moved, Works}
+use Rattle.fancy_composed.proofs.Continuations.{Tally, once_more, Ground, to_eq, to_trans, here, go, after, resumed, pushed, step_at_pc}
+use Rattle.fancy_composed.proofs.Enumerates.{Enumerates, one, from, append}
+use Rattle.fancy_composed.proofs.Parts.{Sound, setting, body, sound_within, Stands, After, after_move, stands_moved, Simulates}
 use Rattle.fancy_composed.proofs.Alike.{alike_same}
 use Rattle.fancy_composed.proofs.Places.{char_stands, places_on, places_at_end}
 use Rattle.fancy_composed.proofs.Absent.{absent_from}
@@ -58,7 +58,7 @@ module _ (w : Ground) (e : Tree) (easy : IsEasy (w.plan).analysis e) (meant : �
 
   module _ (a b n : ℕ) (at : slice_get (body w) a ≡ Some instr) (end : a + 1 ≡ b) (marks : List ℕ) where
     abbrev Handed : MatchState → Slots → List Branch → Tally → List MatchState → Type 0
-    Handed s slots bs count hs = Hands w b (After w n n slots) marks bs count.longest hs (go w a s.place slots marks bs count)
+    Handed s slots bs count hs = Enumerates w b (After w n n slots) marks bs count.longest hs (go w a s.place slots marks bs count)
 
     -- it stops here
     stops : (s : MatchState) (slots : Slots) (bs : List Branch) (count : Tally) → Stands w s slots →
@@ -85,7 +85,7 @@ module _ (w : Ground) (e : Tree) (easy : IsEasy (w.plan).analysis e) (meant : �
         one w slots (once_more c) (after_move w n n s slots st)
         (to_trans (resumed w k bs c) (to_eq (λ m. ap (λ y. go w y s.place slots marks bs (once_more c) m) end)))))
 
-    -- with fewer bytes left, it hands all of its ways
+    -- with fewer bytes left, it enumerates all of its ways
     abbrev Onward : ℕ → Slots → Tally → Type 0
     Onward fuel slots count =
         (t : MatchState)
@@ -143,13 +143,13 @@ module _ (w : Ground) (e : Tree) (easy : IsEasy (w.plan).analysis e) (meant : �
             Handed s slots bs count (absent (setting w) x s)
         by_way ih v q c = ⊎_elim (λ lt. before_end ih lt v q) (λ ge. at_end ge v q) c
 
-  pub works_easy_absent : Works w (code.one instr) (absent (setting w) x)
-  works_easy_absent = record {
+  pub simulates_easy_absent : Simulates w (code.one instr) (absent (setting w) x)
+  simulates_easy_absent = record {
     grows = λ a n. omega arith;
     handed = absent (setting w) x;
     alike = λ s ok. alike_same (absent (setting w) x s);
     part = λ a b n end fresh h. record {
-      hands = λ s slots marks bs count ok st.
+      enumerates = λ s slots marks bs count ok st.
           handed a b n h.0 end marks (suc (length text)) s slots bs count (omega arith) ok st;
     };
   }

@@ -52,8 +52,8 @@ reduced by [] = []
 reduced by (s ∷ ss) = s ∷ filter (λ t. not (bytes_eq (by s) (by t))) (reduced by ss)
 
 -- hs has the states of qs in their order, up to those whose key occurred before
-abbrev pub Thins : Key → List MatchState → List MatchState → Type 0
-Thins by hs qs = reduced by hs ≡ reduced by qs
+abbrev pub EqualUpTo : Key → List MatchState → List MatchState → Type 0
+EqualUpTo by hs qs = reduced by hs ≡ reduced by qs
 
 -- what the fine key does not tell apart, the coarse one does not
 abbrev pub Coarser : Key → Key → Type 0

@@ -33,9 +33,9 @@ pub mod Layout
 pub mod Config
 pub mod Machine
 pub mod Fits
-pub mod FragmentPoints
+pub mod FragmentStates
 -- The argument: when one list of states serves for another, how a part of a program works, and the statements.
 pub mod Keys
-pub mod Hands
+pub mod Enumerates
 pub mod Laws
 pub mod Theorems

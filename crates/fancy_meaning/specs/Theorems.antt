@@ -17,8 +17,8 @@ use Rattle.fancy_meaning.specs.Config.{Config, Outcome, Match, NoMatch, Backtrac
 use Rattle.fancy_meaning.specs.Machine.{Task, gives_up, Reaches, run}
 use Rattle.fancy_meaning.specs.Fits.{program_fits}
 use Rattle.fancy_meaning.specs.Marks.{has_marked_continue}
-use Rattle.fancy_meaning.specs.Keys.{Key, whole_key, key, easy_key, Coarser, Thins, Respects}
-use Rattle.fancy_meaning.specs.Hands.{IsLimit, Stretch, HasAt, Stands, GoesOn, Hands}
+use Rattle.fancy_meaning.specs.Keys.{Key, whole_key, key, easy_key, Coarser, EqualUpTo, Respects}
+use Rattle.fancy_meaning.specs.Enumerates.{IsLimit, PartBounds, HasAt, Stands, GoesOn, Enumerates}
 use Rattle.fancy_meaning.specs.Premises.{Analysed, analysis, tree_of, Input, plan, IsAccepted, IsText, IsFit, IsSoundState}
 
 -- ---- a program that the machine takes
@@ -92,11 +92,11 @@ EarlyNone = (i : Input) (text : List ℕ) (o : RunOptions) → IsFit i text o �
     (HasProgram i → GivesUpRightly (plan i) (layout (plan i)) text o)
     × (HasUndelegatedProgram i → GivesUpRightly (plan i) (undelegated_layout (plan i)) text o)
 
--- ---- a node hands its ways
+-- ---- a node enumerates its ways
 
 -- code stands in a program where a configuration is, and its slots are those from `fresh` on
-abbrev pub stretch_of : Code → Config → ℕ → Stretch
-stretch_of code c fresh =
+abbrev pub part_bounds : Code → Config → ℕ → PartBounds
+part_bounds code c fresh =
     let laid = code c.pc fresh in
     record { entry = c; exit = c.pc + length laid.instrs; taken_from = fresh; taken_to = laid.fresh }
 
@@ -127,12 +127,12 @@ pub record Enters (p : Plan) (code : Code) (may_stop : Bool) (t : Task) (c : Con
   pub stands : Stands t c s
   pub sound : IsSoundState (setting_of p t) p.analysis.tree s
 
--- Wherever the code stands, it hands from each sound state a list that serves by the key for what these ways give.
+-- Wherever the code stands, it enumerates from each sound state a list that serves by the key for what these ways give.
 -- The key may depend on a place at or before the state's.
-abbrev pub Serves : Plan → Code → (Setting → Ways) → (ℕ → Key) → Bool → Type 0
-Serves p code w by may_stop = (t : Task) (c : Config) (fresh : ℕ) (s : MatchState) (from : ℕ) →
+abbrev pub RefinesUpTo : Plan → Code → (Setting → Ways) → (ℕ → Key) → Bool → Type 0
+RefinesUpTo p code w by may_stop = (t : Task) (c : Config) (fresh : ℕ) (s : MatchState) (from : ℕ) →
     Enters p code may_stop t c fresh s → from ≤ s.place →
-    (hs : List MatchState) × Hands t (stretch_of code c fresh) c.longest (Goes c) hs × Thins (by from) hs (w (setting_of p t) s)
+    (hs : List MatchState) × Enumerates t (part_bounds code c fresh) c.longest (Goes c) hs × EqualUpTo (by from) hs (w (setting_of p t) s)
 
 -- the code of a call, where these calls are open
 abbrev pub code_of_call : Plan → (Tree → Bool) → Depths → ℕ → Bool → Code
@@ -149,32 +149,32 @@ code_of_node p easy depths e at_start in_hard =
 
 -- The code of the root serves for the ways of the whole tree, and that of each node that is written out for the node's,
 -- by the key of their context.
-pub record AllServe (p : Plan) (easy : Tree → Bool) (by : (in_hard : Bool) → ℕ → Key) : Type 0 where
+pub record AllRefine (p : Plan) (easy : Tree → Bool) (by : (in_hard : Bool) → ℕ → Key) : Type 0 where
   pub root : (depths : Depths) (in_hard : Bool) →
       let whole = p.analysis.tree in
-      Serves p (code_of_root p easy depths in_hard) (λ q. ways q whole whole depths) (by in_hard)
+      RefinesUpTo p (code_of_root p easy depths in_hard) (λ q. ways q whole whole depths) (by in_hard)
       (has_marked_continue whole whole)
   pub node : (e : Tree) (depths : Depths) (at_start in_hard : Bool) →
       let whole = p.analysis.tree in
       IsWritten whole e →
-      Serves p (code_of_node p easy depths e at_start in_hard) (λ q. ways q whole e depths) (by in_hard)
+      RefinesUpTo p (code_of_node p easy depths e at_start in_hard) (λ q. ways q whole e depths) (by in_hard)
       (may_give_up whole e at_start)
 
--- The composed theorem: with every node taken for hard, the code of the root and of each node that is written out hands
+-- The composed theorem: with every node taken for hard, the code of the root and of each node that is written out enumerates
 -- its ways, the same states in the same order, up to repeats.
 abbrev pub ComposedTheorem : Type 0
 ComposedTheorem = (i : Input) →
     let p = plan i in
     HasUndelegatedProgram i →
-    AllServe p (λ e. false) (λ in_hard from. whole_key p.analysis.tree)
+    AllRefine p (λ e. false) (λ in_hard from. whole_key p.analysis.tree)
 
--- Delegation is harmless: in a hard context the code of the root and of each node that is written out hands a list that
+-- Delegation is harmless: in a hard context the code of the root and of each node that is written out enumerates a list that
 -- serves for its ways by the key, and in an easy one by the easy key.
 abbrev pub DelegationIsHarmless : Type 0
 DelegationIsHarmless = (i : Input) →
     let p = plan i in
     HasProgram i →
-    AllServe p (λ e. not (is_hard p.analysis e)) (λ in_hard from. if in_hard then key p else easy_key p from)
+    AllRefine p (λ e. not (is_hard p.analysis e)) (λ in_hard from. if in_hard then key p else easy_key p from)
 
 -- ---- what carries it
 
@@ -184,15 +184,15 @@ WaysRespectTheKey = (p : Plan) (q : Setting) (e : Tree) (depths : Depths) → Co
     Respects (key p) (ways q p.analysis.tree e depths)
 
 -- binding keeps thinning
-abbrev pub BindingKeepsThinning : Type 0
-BindingKeepsThinning = (fine coarse : Key) (hs qs : List MatchState) (f k : Ways) → Coarser fine coarse →
-    Thins fine hs qs → Respects fine f → ((s : MatchState) → Thins coarse (k s) (f s)) →
-    Thins coarse (flat_map k hs) (flat_map f qs)
+abbrev pub BindingKeepsEquality : Type 0
+BindingKeepsEquality = (fine coarse : Key) (hs qs : List MatchState) (f k : Ways) → Coarser fine coarse →
+    EqualUpTo fine hs qs → Respects fine f → ((s : MatchState) → EqualUpTo coarse (k s) (f s)) →
+    EqualUpTo coarse (flat_map k hs) (flat_map f qs)
 
--- what thins by a key thins by a coarser one
-abbrev pub CoarserKeyThins : Type 0
-CoarserKeyThins = (fine coarse : Key) (hs qs : List MatchState) → Coarser fine coarse →
-    Thins fine hs qs → Thins coarse hs qs
+-- what key_equal by a key key_equal by a coarser one
+abbrev pub CoarserKeyKeepsEquality : Type 0
+CoarserKeyKeepsEquality = (fine coarse : Key) (hs qs : List MatchState) → Coarser fine coarse →
+    EqualUpTo fine hs qs → EqualUpTo coarse hs qs
 
 -- a part of e outside of definitions
 pub data IsPartOf (e : Tree) : Tree → Type 0 where

@@ -1,5 +1,5 @@
 -- What a tree means: the ways of each node. Beside a construct stands an example: a tree as docs/MEANING.md writes it,
--- a text, and the places of the tree's ways from 0, in order. `WaysOfNodes` of `fancy_rows` computes them.
+-- a text, and the places of the tree's ways from 0, in order. `WaysOfNodes` of `fancy_examples` computes them.
 use Rattle.std.specs.Prelude.{ℕ, zero, suc, Bool, true, ◌&&◌, not, List, [], ◌∷◌, map, take, reverse, filter, flat_map, Option, Some, None, is_some, if◌then◌else◌, ◌==◌, nat_eq, nat_lt, option_and_then}
 use Rattle.fancy_meaning.specs.Tree.{Tree, Trees, none, more, Empty, KeepOut, ContinueFromPreviousMatchEnd, AbsentClear, Any, Assert, GeneralNewline, Literal, LiteralBytes, Delegate, Concat, Alt, Group, LookAround, Repeat, Backref, BackrefWithLevel, BackrefExists, AtomicGroup, DefineGroup, AbsentRepeater, AbsentStopper, AbsentExpression, Control, Conditional, SubroutineCall, AstNode, Look, LookAhead, LookAheadNeg, LookBehind, LookBehindNeg, Assertion}
 use Rattle.fancy_meaning.specs.Nodes.{target}

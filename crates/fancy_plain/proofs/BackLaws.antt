@@ -1,21 +1,21 @@
 -- The way back to what is tried later.
 use Rattle.std.proofs.Common.{◌≡◌, ◌≤◌, ◌+◌, ◌∷◌, [], ℕ, zero, suc, List, Some, None, Result, Ok, Err, length, take, refl, sym, ap, ◌∙◌, subst, arith}
 use Rattle.std.proofs.lemmas.List.{length-take}
-use Rattle.fancy_points.specs.PointSearch as plain
-use Rattle.fancy_points.specs.FirstWays.{search_in}
+use Rattle.fancy_nfa.specs.NfaSearch as plain
+use Rattle.fancy_nfa.specs.FirstWays.{search_in}
 use Rattle.std.specs.declared.alloc.AllocError.{AllocError}
-use Rattle.fancy_plain.specs.declared.log.Entry.{Entry}
-use Rattle.fancy_plain.specs.declared.log.Stand.{Stand}
-use Rattle.fancy_plain.specs.declared.choices.Choice.{Choice}
-use Rattle.fancy_plain.specs.declared.search.Lead.{Lead}
-use Rattle.fancy_plain.specs.declared.search.Lead.TheVariants as lead
+use Rattle.fancy_plain.specs.declared.trail.Entry.{Entry}
+use Rattle.fancy_plain.specs.declared.trail.NfaConfig.{NfaConfig}
+use Rattle.fancy_plain.specs.declared.backtrack_stack.StackFrame.{StackFrame}
+use Rattle.fancy_plain.specs.declared.search.StepResult.{StepResult}
+use Rattle.fancy_plain.specs.declared.search.StepResult.TheVariants as step_result
 use Rattle.fancy_plain.specs.declared.search.Memo.{Memo}
 use Rattle.fancy_plain.specs.declared.search.Task.{Task}
-use Rattle.fancy_plain.specs.Paths.{IsStand}
+use Rattle.fancy_plain.specs.Paths.{IsConfig}
 use Rattle.fancy_plain.specs.Searches.{after_steps_of, leading_of, next_of, Advances, AreKept, ComesTo, EndsAs, GoesBack, HaveFailed, IsHere, IsSearch, Keeps, Leading, Leads}
-use Rattle.fancy_plain.specs.Choices.{choices_of}
+use Rattle.fancy_plain.specs.BacktrackStack.{choices_of}
 use Rattle.fancy_plain.specs.Runs.{GoesOn}
-use Rattle.fancy_plain.proofs.PathLaws.{agree_cut, kept_agree, stand_agrees}
+use Rattle.fancy_plain.proofs.PathLaws.{agree_cut, kept_agree, config_agrees}
 
 -- some steps on it still goes back, and the memo stands for it
 abbrev pub IsBack : Task → Memo → plain.Next → Type 0
@@ -30,41 +30,41 @@ one_more task zero n k e = ap (next_of task) e
 one_more task (suc steps) n k e = one_more task steps (next_of task n) k e
 
 -- the last choice that is kept
-pub record IsLast (leading : Leading) (m : Memo) (c : Choice) (cs : List Choice) (f : plain.Search) : Type 0 where
-  pub stand : plain.Stand
-  pub rest : List plain.Later
-  pub within : c.path ≤ length m.log.entries.items
-  pub stands : IsStand m.log.entries.items c.path c.stand stand
-  pub keeps : Keeps c.is_untried (leading stand) stand rest f.later
-  pub kept : AreKept leading m.log.entries.items c.path cs rest
+pub record IsLast (leading : Leading) (m : Memo) (c : StackFrame) (cs : List StackFrame) (f : plain.Search) : Type 0 where
+  pub config : plain.NfaConfig
+  pub rest : List plain.Frame
+  pub within : c.path ≤ length m.trail.entries.items
+  pub stands : IsConfig m.trail.entries.items c.path c.config config
+  pub keeps : Keeps c.is_untried (leading config) config rest f.frames
+  pub kept : AreKept leading m.trail.entries.items c.path cs rest
 
-last_kept : (leading : Leading) (m : Memo) (c : Choice) (cs : List Choice) (f : plain.Search) → choices_of m.later ≡ c ∷ cs →
+last_kept : (leading : Leading) (m : Memo) (c : StackFrame) (cs : List StackFrame) (f : plain.Search) → choices_of m.frames ≡ c ∷ cs →
     IsSearch leading m f → IsLast leading m c cs f
 last_kept leading m c cs f e h =
-    let k = subst (λ l. AreKept leading m.log.entries.items (length m.log.entries.items) l f.later) e h.later in
-    record { within = k.0; stand = k.1.0; rest = k.1.1.0; stands = k.1.1.1.0; keeps = k.1.1.1.1; kept = k.1.1.1.2 }
+    let k = subst (λ l. AreKept leading m.trail.entries.items (length m.trail.entries.items) l f.frames) e h.frames in
+    record { within = k.0; config = k.1.0; rest = k.1.1.0; stands = k.1.1.1.0; keeps = k.1.1.1.1; kept = k.1.1.1.2 }
 
-module _ (leading : Leading) (m cut : Memo) (c : Choice) (cs : List Choice) (f : plain.Search) (last : IsLast leading m c cs f)
-    (later : choices_of cut.later ≡ cs) (path : cut.log.entries.items ≡ take c.path m.log.entries.items)
+module _ (leading : Leading) (m cut : Memo) (c : StackFrame) (cs : List StackFrame) (f : plain.Search) (last : IsLast leading m c cs f)
+    (frames : choices_of cut.frames ≡ cs) (path : cut.trail.entries.items ≡ take c.path m.trail.entries.items)
     (failed : cut.failed ≡ m.failed) (visits : cut.visits ≡ m.visits) (h : IsSearch leading m f) where
   abbrev es : List Entry
-  es = m.log.entries.items
+  es = m.trail.entries.items
 
-  long : length cut.log.entries.items ≡ c.path
+  long : length cut.trail.entries.items ≡ c.path
   long = ap length path ∙ length-take c.path es ∙ (let w = last.within in omega (arith, w))
 
   -- the path is cut to where the choice stands
-  here_cut : IsHere cut c.stand last.stand
+  here_cut : IsHere cut c.config last.config
   here_cut =
-      subst (λ n. IsStand cut.log.entries.items n c.stand last.stand) (sym long)
-      (subst (λ l. IsStand l c.path c.stand last.stand) (sym path)
-      (stand_agrees es (take c.path es) c.path c.stand last.stand (agree_cut c.path c.path es (omega arith)) last.stands))
+      subst (λ n. IsConfig cut.trail.entries.items n c.config last.config) (sym long)
+      (subst (λ l. IsConfig l c.path c.config last.config) (sym path)
+      (config_agrees es (take c.path es) c.path c.config last.config (agree_cut c.path c.path es (omega arith)) last.stands))
 
-  search_cut : IsSearch leading cut (record f { later = last.rest })
+  search_cut : IsSearch leading cut (record f { frames = last.rest })
   search_cut = record {
-    later =
-        subst (λ l. AreKept leading cut.log.entries.items (length cut.log.entries.items) l last.rest) (sym later)
-        (subst (λ n. AreKept leading cut.log.entries.items n cs last.rest) (sym long)
+    frames =
+        subst (λ l. AreKept leading cut.trail.entries.items (length cut.trail.entries.items) l last.rest) (sym frames)
+        (subst (λ n. AreKept leading cut.trail.entries.items n cs last.rest) (sym long)
         (subst (λ l. AreKept leading l c.path cs last.rest) (sym path)
         (kept_agree es (take c.path es) leading c.path cs last.rest (agree_cut c.path c.path es (omega arith)) last.kept)));
     failed = λ p. ap (λ x. Rattle.fancy_plain.specs.FailedPairs.has_pair x (Rattle.fancy_plain.specs.FailedPairs.key_of p)) failed ∙ h.failed p;
@@ -72,21 +72,21 @@ module _ (leading : Leading) (m cut : Memo) (c : Choice) (cs : List Choice) (f :
   }
 
 -- the last choice is taken off what is kept, and the path is cut to where it stands
-pub record Popped (leading : Leading) (cut : Memo) (c : Choice) (f : plain.Search) : Type 0 where
-  pub stand : plain.Stand
-  pub rest : List plain.Later
-  pub keeps : Keeps c.is_untried (leading stand) stand rest f.later
-  pub search : IsSearch leading cut (record f { later = rest })
-  pub here : IsHere cut c.stand stand
+pub record Popped (leading : Leading) (cut : Memo) (c : StackFrame) (f : plain.Search) : Type 0 where
+  pub config : plain.NfaConfig
+  pub rest : List plain.Frame
+  pub keeps : Keeps c.is_untried (leading config) config rest f.frames
+  pub search : IsSearch leading cut (record f { frames = rest })
+  pub here : IsHere cut c.config config
 
-pub popped : (leading : Leading) (m cut : Memo) (c : Choice) (f : plain.Search) → choices_of m.later ≡ c ∷ choices_of cut.later →
-    cut.log.entries.items ≡ take c.path m.log.entries.items → cut.failed ≡ m.failed → cut.visits ≡ m.visits →
+pub popped : (leading : Leading) (m cut : Memo) (c : StackFrame) (f : plain.Search) → choices_of m.frames ≡ c ∷ choices_of cut.frames →
+    cut.trail.entries.items ≡ take c.path m.trail.entries.items → cut.failed ≡ m.failed → cut.visits ≡ m.visits →
     IsSearch leading m f → Popped leading cut c f
 popped leading m cut c f items path failed visits h =
-    let cs = choices_of cut.later in
+    let cs = choices_of cut.frames in
     let last = last_kept leading m c cs f items h in
     record {
-      stand = last.stand;
+      config = last.config;
       rest = last.rest;
       keeps = last.keeps;
       search = search_cut leading m cut c cs f last refl path failed visits h;
@@ -94,19 +94,19 @@ popped leading m cut c f items path failed visits h =
     }
 
 -- what the other way on answers is what going back answers
-pub goes_back : (task : Task) (next : plain.Next) (steps : ℕ) (s other : plain.Stand) (f g : plain.Search)
-    (result : Result Lead AllocError) (m : Memo) → after_steps_of task steps next ≡ plain.TakesBack f →
+pub goes_back : (task : Task) (next : plain.Next) (steps : ℕ) (s other : plain.NfaConfig) (f g : plain.Search)
+    (result : Result StepResult AllocError) (m : Memo) → after_steps_of task steps next ≡ plain.TakesBack f →
     next_of task (plain.TakesBack f) ≡ plain.TakesUp other g → g.failed ≡ f.failed →
     Leads (leading_of task) s f.failed (plain.TakesUp other g) result m → GoesBack task next result m
-goes_back task next steps s other f g (Ok (lead.Found there)) m e up same (x, (is, h, stands)) = absurd (no_end is)
+goes_back task next steps s other f g (Ok (step_result.Found there)) m e up same (x, (is, h, stands)) = absurd (no_end is)
   where
     no_end : plain.TakesUp other g ≡ plain.Ends (Some s) x → ⊥
     no_end is = cc
-goes_back task next steps s other f g (Ok lead.Lost) m e up same (x, (is, rest)) = absurd (no_back is)
+goes_back task next steps s other f g (Ok step_result.Lost) m e up same (x, (is, rest)) = absurd (no_back is)
   where
     no_back : plain.TakesUp other g ≡ plain.TakesBack x → ⊥
     no_back is = cc
-goes_back task next steps s other f g (Ok (lead.Goes there)) m e up same (x, (t, (is, h, stands))) =
+goes_back task next steps s other f g (Ok (step_result.Goes there)) m e up same (x, (t, (is, h, stands))) =
     (suc steps, (x, (t, (one_more task steps next (plain.TakesBack f) e ∙ up ∙ is, h, stands))))
 goes_back task next steps s other f g (Err error) m e up same failed = (
   suc steps,
@@ -114,27 +114,27 @@ goes_back task next steps s other f g (Err error) m e up same failed = (
       failed p ∙ sym (ap (λ v. v p) (ap (λ n. (search_in n).failed) (one_more task steps next (plain.TakesBack f) e ∙ up) ∙ same)),
 )
 
--- a pair is noted, and nothing else changes
-pub search_noted : (leading : Leading) (m new : Memo) (f : plain.Search) (p : plain.Pair) →
+-- a pair is memoized, and nothing else changes
+pub search_memoized : (leading : Leading) (m new : Memo) (f : plain.Search) (p : plain.Pair) →
     new ≡ record m { numbers = new.numbers; failed = new.failed } → HaveFailed new (plain.with_failed p f).failed →
     IsSearch leading m f → IsSearch leading new (plain.with_failed p f)
-search_noted leading m new f p same failed h = record {
-  later =
-      subst (λ (n : Memo). AreKept leading n.log.entries.items (length n.log.entries.items) (choices_of n.later) f.later) (sym same) h.later;
+search_memoized leading m new f p same failed h = record {
+  frames =
+      subst (λ (n : Memo). AreKept leading n.trail.entries.items (length n.trail.entries.items) (choices_of n.frames) f.frames) (sym same) h.frames;
   failed = failed;
   visits = subst (λ (n : Memo). n.visits ≤ f.visits) (sym same) h.visits;
 }
 
--- the last choice was tried: its pair is noted
-pub back_noted : (task : Task) (next : plain.Next) (steps : ℕ) (f : plain.Search) (s : plain.Stand) (rest : List plain.Later) →
-    after_steps_of task steps next ≡ plain.TakesBack f → f.later ≡ plain.Fails (plain.pair_of s) ∷ rest →
-    after_steps_of task (suc steps) next ≡ plain.TakesBack (plain.with_failed (plain.pair_of s) (record f { later = rest }))
-back_noted task next steps f s rest e keeps =
+-- the last choice was tried: its pair is memoized
+pub back_memoized : (task : Task) (next : plain.Next) (steps : ℕ) (f : plain.Search) (s : plain.NfaConfig) (rest : List plain.Frame) →
+    after_steps_of task steps next ≡ plain.TakesBack f → f.frames ≡ plain.Fails (plain.pair_of s) ∷ rest →
+    after_steps_of task (suc steps) next ≡ plain.TakesBack (plain.with_failed (plain.pair_of s) (record f { frames = rest }))
+back_memoized task next steps f s rest e keeps =
     one_more task steps next (plain.TakesBack f) e ∙ ap (λ l. plain.back_to l f) keeps
 
-pub none_kept : (leading : Leading) (entries : List Entry) (path : ℕ) (cs : List Choice) (later : List plain.Later) → cs ≡ [] →
-    AreKept leading entries path cs later → later ≡ []
-none_kept leading entries path cs later e h = subst (λ l. AreKept leading entries path l later) e h
+pub none_kept : (leading : Leading) (entries : List Entry) (path : ℕ) (cs : List StackFrame) (frames : List plain.Frame) → cs ≡ [] →
+    AreKept leading entries path cs frames → frames ≡ []
+none_kept leading entries path cs frames e h = subst (λ l. AreKept leading entries path l frames) e h
 
 -- ---- from a step to the next
 
@@ -148,53 +148,53 @@ steps_then task (suc k) j n w e =
     ap (λ i. after_steps_of task i n) same ∙ steps_then task k j (next_of task n) w e
 
 -- one step alone
-pub comes_by : (task : Task) (s : plain.Stand) (f : plain.Search) (result : Result Lead AllocError) (m : Memo) →
+pub comes_by : (task : Task) (s : plain.NfaConfig) (f : plain.Search) (result : Result StepResult AllocError) (m : Memo) →
     Leads (leading_of task) s f.failed (next_of task (plain.TakesUp s f)) result m → ComesTo task (plain.TakesUp s f) result m
-comes_by task s f (Ok (lead.Found there)) m (g, (is, h, stands)) = (1, (g, (s, (is, h, stands))))
-comes_by task s f (Ok lead.Lost) m (g, (is, h)) = (1, (g, (is, h)))
-comes_by task s f (Ok (lead.Goes there)) m (g, (t, (is, h, stands))) = (1, (g, (t, (is, h, stands))))
+comes_by task s f (Ok (step_result.Found there)) m (g, (is, h, stands)) = (1, (g, (s, (is, h, stands))))
+comes_by task s f (Ok step_result.Lost) m (g, (is, h)) = (1, (g, (is, h)))
+comes_by task s f (Ok (step_result.Goes there)) m (g, (t, (is, h, stands))) = (1, (g, (t, (is, h, stands))))
 comes_by task s f (Err error) m h = (0, h)
 
 -- some steps, and more from there
-pub comes_further : (task : Task) (k : ℕ) (n w : plain.Next) (result : Result Lead AllocError) (m : Memo) → after_steps_of task k n ≡ w →
+pub comes_further : (task : Task) (k : ℕ) (n w : plain.Next) (result : Result StepResult AllocError) (m : Memo) → after_steps_of task k n ≡ w →
     ComesTo task w result m → ComesTo task n result m
-comes_further task k n w (Ok (lead.Found there)) m e (j, (f, (t, (is, h, stands)))) =
+comes_further task k n w (Ok (step_result.Found there)) m e (j, (f, (t, (is, h, stands)))) =
     (k + j, (f, (t, (steps_then task k j n w e ∙ is, h, stands))))
-comes_further task k n w (Ok lead.Lost) m e (j, (f, (is, h))) = (k + j, (f, (steps_then task k j n w e ∙ is, h)))
-comes_further task k n w (Ok (lead.Goes there)) m e (j, (f, (t, (is, h, stands)))) =
+comes_further task k n w (Ok step_result.Lost) m e (j, (f, (is, h))) = (k + j, (f, (steps_then task k j n w e ∙ is, h)))
+comes_further task k n w (Ok (step_result.Goes there)) m e (j, (f, (t, (is, h, stands)))) =
     (k + j, (f, (t, (steps_then task k j n w e ∙ is, h, stands))))
 comes_further task k n w (Err error) m e (j, h) =
     (k + j, λ p. h p ∙ sym (ap (λ x. (search_in x).failed p) (steps_then task k j n w e)))
 
 -- some steps, and a way back from there
-pub comes_back : (task : Task) (k : ℕ) (n w : plain.Next) (result : Result Lead AllocError) (m : Memo) → after_steps_of task k n ≡ w →
+pub comes_back : (task : Task) (k : ℕ) (n w : plain.Next) (result : Result StepResult AllocError) (m : Memo) → after_steps_of task k n ≡ w →
     GoesBack task w result m → Advances task n result m
-comes_back task k n w (Ok (lead.Found there)) m e h = absurd h
-comes_back task k n w (Ok lead.Lost) m e (j, (f, (is, h))) = (k + j, (f, (steps_then task k j n w e ∙ is, h)))
-comes_back task k n w (Ok (lead.Goes there)) m e (j, (f, (t, (is, h, stands)))) =
+comes_back task k n w (Ok (step_result.Found there)) m e h = absurd h
+comes_back task k n w (Ok step_result.Lost) m e (j, (f, (is, h))) = (k + j, (f, (steps_then task k j n w e ∙ is, h)))
+comes_back task k n w (Ok (step_result.Goes there)) m e (j, (f, (t, (is, h, stands)))) =
     (k + j, (f, (t, (steps_then task k j n w e ∙ is, h, stands))))
 comes_back task k n w (Err error) m e (j, h) =
     (k + j, λ p. h p ∙ sym (ap (λ x. (search_in x).failed p) (steps_then task k j n w e)))
 
 -- no way back is needed
-pub comes_on : (task : Task) (n : plain.Next) (result : Result Lead AllocError) (m : Memo) → (result ≡ Ok lead.Lost → ⊥) →
+pub comes_on : (task : Task) (n : plain.Next) (result : Result StepResult AllocError) (m : Memo) → (result ≡ Ok step_result.Lost → ⊥) →
     ComesTo task n result m → Advances task n result m
-comes_on task n (Ok (lead.Found there)) m w h = h
-comes_on task n (Ok lead.Lost) m w h = absurd (w refl)
-comes_on task n (Ok (lead.Goes there)) m w h = h
+comes_on task n (Ok (step_result.Found there)) m w h = h
+comes_on task n (Ok step_result.Lost) m w h = absurd (w refl)
+comes_on task n (Ok (step_result.Goes there)) m w h = h
 comes_on task n (Err error) m w h = h
 
-pub ok_same : {l k : Lead} → (let r : Result Lead AllocError = Ok l in r) ≡ Ok k → l ≡ k
+pub ok_same : {l k : StepResult} → (let r : Result StepResult AllocError = Ok l in r) ≡ Ok k → l ≡ k
 ok_same e = cc
 
 -- from a step of the search to its end
-pub ends_found : (task : Task) (k : ℕ) (n w : plain.Next) (here : Stand) (m : Memo) → after_steps_of task k n ≡ w →
-    Advances task w (Ok (lead.Found here)) m → EndsAs task n (Ok (Some here)) m
+pub ends_found : (task : Task) (k : ℕ) (n w : plain.Next) (here : NfaConfig) (m : Memo) → after_steps_of task k n ≡ w →
+    Advances task w (Ok (step_result.Found here)) m → EndsAs task n (Ok (Some here)) m
 ends_found task k n w here m e (j, (f, (t, (is, h, stands)))) =
     (k + j, (f, (t, (steps_then task k j n w e ∙ is, h, stands))))
 
 pub ends_lost : (task : Task) (k : ℕ) (n w : plain.Next) (m : Memo) → after_steps_of task k n ≡ w →
-    Advances task w (Ok lead.Lost) m → EndsAs task n (Ok None) m
+    Advances task w (Ok step_result.Lost) m → EndsAs task n (Ok None) m
 ends_lost task k n w m e (j, (f, (is, h))) = (k + j, (f, (steps_then task k j n w e ∙ is, h)))
 
 pub ends_err : (task : Task) (k : ℕ) (n w : plain.Next) (error : AllocError) (m : Memo) → after_steps_of task k n ≡ w →
@@ -202,7 +202,7 @@ pub ends_err : (task : Task) (k : ℕ) (n w : plain.Next) (error : AllocError) (
 ends_err task k n w error m e (j, h) =
     (k + j, λ p. h p ∙ sym (ap (λ x. (search_in x).failed p) (steps_then task k j n w e)))
 
-pub goes_further : (task : Task) (k : ℕ) (n w : plain.Next) (there : Stand) (m : Memo) → after_steps_of task k n ≡ w →
-    Advances task w (Ok (lead.Goes there)) m → GoesOn task n m there
+pub goes_further : (task : Task) (k : ℕ) (n w : plain.Next) (there : NfaConfig) (m : Memo) → after_steps_of task k n ≡ w →
+    Advances task w (Ok (step_result.Goes there)) m → GoesOn task n m there
 goes_further task k n w there m e (j, (f, (t, (is, h, stands)))) =
     (k + j, (f, (t, (steps_then task k j n w e ∙ is, h, stands))))

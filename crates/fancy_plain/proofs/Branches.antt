@@ -7,15 +7,15 @@ use Rattle.fancy_meaning.specs.Tree.{Tree}
 use Rattle.fancy_meaning.specs.Options.{Analysis}
 use Rattle.fancy_info.specs.declared.info.Info.{Info}
 use Rattle.fancy_info.specs.Infos.{info_tree}
-use Rattle.fancy_points.specs.Points as plain
-use Rattle.fancy_points.specs.PointCode.{PointCode, branch, branches, in_sequence, laid, each_laid}
+use Rattle.fancy_nfa.specs.NfaStates as plain
+use Rattle.fancy_nfa.specs.NfaCode.{NfaCode, branch, branches, in_sequence, laid, each_laid}
 use Rattle.fancy_plain.specs.declared.layout.Layout.{Layout}
 use Rattle.fancy_plain.specs.ClassTexts.{texts_of, texts_in, AreClasses}
 use Rattle.fancy_plain.specs.Shapes.{branch_choice, ended_by_jump, with_jumps}
-use Rattle.fancy_plain.specs.Layouts.{points_in, Replaces, Adds}
+use Rattle.fancy_plain.specs.Layouts.{states_in, Replaces, Adds}
 use Rattle.fancy_plain.specs.Neighbours.{trees_of}
 use Rattle.fancy_info.proofs.Children.{rest_at}
-use Rattle.fancy_plain.proofs.Laid.{adds_then, same_points, with_jumps_last}
+use Rattle.fancy_plain.proofs.Laid.{adds_then, same_states, with_jumps_last}
 use Rattle.fancy_plain.proofs.Texts.{texts_more, classes_more}
 
 pub each_length : (w : Tree) (is : List Info) → length (each_laid w (trees_of is)) ≡ length is
@@ -39,7 +39,7 @@ module _ (a : Analysis) where
 
   none_left : (s : Layout) → AddsEach [] s s
   none_left s = record {
-    added = subst (λ l. Replaces l s s) (sym (append-nil (points_in s))) (same_points s);
+    added = subst (λ l. Replaces l s s) (sym (append-nil (states_in s))) (same_states s);
     classes = λ inner casei h. elim h.1.0 [ ];
   }
 
@@ -48,26 +48,26 @@ module _ (a : Analysis) where
 
 -- ---- branches
 
-branches_more : (choice : ℕ → ℕ → plain.Point) (c : PointCode) (cs : List PointCode) → 0 < length cs →
-    branches choice (c ∷ cs) ≡ branch choice c (branches plain.Or cs)
+branches_more : (choice : ℕ → ℕ → plain.NfaState) (c : NfaCode) (cs : List NfaCode) → 0 < length cs →
+    branches choice (c ∷ cs) ≡ branch choice c (branches plain.BranchSplit cs)
 branches_more choice c [] h = absurd (omega arith)
 branches_more choice c (d ∷ cs) h = refl
 
-module _ (is_first : Bool) (p q : List plain.Point) (c b : PointCode) (jump : ℕ) (is : q ≡ p ++ ended_by_jump is_first c (length p))
+module _ (is_first : Bool) (p q : List plain.NfaState) (c b : NfaCode) (jump : ℕ) (is : q ≡ p ++ ended_by_jump is_first c (length p))
     (end : jump + 1 ≡ length q) where
   abbrev base : ℕ
   base = length p + 1
 
-  abbrev first : List plain.Point
+  abbrev first : List plain.NfaState
   first = c base
 
   abbrev other : ℕ
   other = base + length first + 1
 
-  abbrev choice : plain.Point
+  abbrev choice : plain.NfaState
   choice = branch_choice is_first base other
 
-  abbrev before : List plain.Point
+  abbrev before : List plain.NfaState
   before = p ++ choice ∷ first
 
   below_length : length (first ++ plain.Jump 0 ∷ []) ≡ length first + 1
@@ -84,7 +84,7 @@ module _ (is_first : Bool) (p q : List plain.Point) (c b : PointCode) (jump : �
   q_length = omega (arith, ap length jump_last, length-append before (plain.Jump 0 ∷ []), length-append p (choice ∷ first))
 
   -- the branch, and then the others
-  abbrev all : List plain.Point
+  abbrev all : List plain.NfaState
   all = q ++ b (length q)
 
   branch_patched : slice_set all jump (plain.Jump (length all)) ≡ p ++ branch (branch_choice is_first) c b (length p)
@@ -110,31 +110,31 @@ module _ (is_first : Bool) (p q : List plain.Point) (c b : PointCode) (jump : �
       ∙ ap (λ n. with_jumps js n (p ++ branch (branch_choice is_first) c b (length p))) long
 
 module _ (a : Analysis) where
-  -- the points once these branches are added, whose jumps to the end have no target yet
-  abbrev pub with_branches : Layout → Bool → List Info → List plain.Point
+  -- the states once these branches are added, whose jumps to the end have no target yet
+  abbrev pub with_branches : Layout → Bool → List Info → List plain.NfaState
   with_branches s is_first is =
-      points_in s ++ branches (branch_choice is_first) (each_laid a.tree (trees_of is)) (length (points_in s))
+      states_in s ++ branches (branch_choice is_first) (each_laid a.tree (trees_of is)) (length (states_in s))
 
   module _ (l : List Info) (i : ℕ) (x : Info) (lt : i < length l) (at : x ≡ get_or l i x) (is_first : Bool) (s t : Layout) where
     abbrev rest : List Info
     rest = drop (i + 1) l
 
     pub branch_step : i + 1 < length l → Adds (ended_by_jump is_first (laid a.tree (info_tree x))) (texts_of (info_tree x)) s t → (jump : ℕ) →
-        jump + 1 ≡ length (points_in t) → (js : List ℕ) →
+        jump + 1 ≡ length (states_in t) → (js : List ℕ) →
         with_jumps (js ++ jump ∷ []) (length (with_branches t false rest)) (with_branches t false rest)
         ≡ with_jumps js (length (with_branches s is_first (drop i l))) (with_branches s is_first (drop i l))
     branch_step left h jump end js =
         let cs = each_laid a.tree (trees_of rest) in
         let more : 0 < length cs = omega (arith, each_length a.tree rest, length-drop (i + 1) l) in
-        branch_jumps is_first (points_in s) (points_in t) (laid a.tree (info_tree x)) (branches plain.Or cs) jump h.added.points end js
-        ∙ ap (λ (c : PointCode). with_jumps js (length (points_in s ++ c (length (points_in s)))) (points_in s ++ c (length (points_in s))))
+        branch_jumps is_first (states_in s) (states_in t) (laid a.tree (info_tree x)) (branches plain.BranchSplit cs) jump h.added.states end js
+        ∙ ap (λ (c : NfaCode). with_jumps js (length (states_in s ++ c (length (states_in s)))) (states_in s ++ c (length (states_in s))))
         (sym (branches_more (branch_choice is_first) (laid a.tree (info_tree x)) cs more))
         ∙ ap (λ m. with_jumps js (length (with_branches s is_first m)) (with_branches s is_first m)) (sym (rest_at l i x lt at))
 
     -- the last branch is added as it is
-    pub branch_end : length l ≤ i + 1 → Adds (laid a.tree (info_tree x)) (texts_of (info_tree x)) s t → with_branches s is_first (drop i l) ≡ points_in t
+    pub branch_end : length l ≤ i + 1 → Adds (laid a.tree (info_tree x)) (texts_of (info_tree x)) s t → with_branches s is_first (drop i l) ≡ states_in t
     branch_end end h =
-        ap (with_branches s is_first) (rest_at l i x lt at ∙ ap (λ m. x ∷ m) (drop_all (i + 1) l end)) ∙ sym h.added.points
+        ap (with_branches s is_first) (rest_at l i x lt at ∙ ap (λ m. x ∷ m) (drop_all (i + 1) l end)) ∙ sym h.added.states
 
 -- ---- the class texts that are left
 

@@ -5,22 +5,22 @@ use Rattle.std.specs.Prelude.{nat_lt}
 use Rattle.fancy_meaning.specs.Moves.{past_char}
 use Rattle.fancy_meaning.specs.Numbers.{usize_max}
 use Rattle.fancy_laws.proofs.Moves.{past_char_fits}
-use Rattle.fancy_points.specs.Points as points
-use Rattle.fancy_points.specs.PointSearch as plain
-use Rattle.fancy_points.specs.PointSearch.{is_last, next_count}
-use Rattle.fancy_plain.specs.declared.point.CharTest.{CharTest}
-use Rattle.fancy_plain.specs.declared.point.Loop as code
-use Rattle.fancy_plain.specs.declared.point.Point.TheVariants as point
+use Rattle.fancy_nfa.specs.NfaStates as states
+use Rattle.fancy_nfa.specs.NfaSearch as plain
+use Rattle.fancy_nfa.specs.NfaSearch.{is_last, next_count}
+use Rattle.fancy_plain.specs.declared.nfa_state.CharTest.{CharTest}
+use Rattle.fancy_plain.specs.declared.nfa_state.Loop as code
+use Rattle.fancy_plain.specs.declared.nfa_state.NfaState.TheVariants as nfa_state
 use Rattle.fancy_plain.specs.declared.search.Task.{Task}
 use Rattle.fancy_plain.specs.declared.search.Turning.TheVariants as turning
 use Rattle.fancy_expr.specs.Views.{bound_of}
 use Rattle.fancy_plain.specs.CountedWays.{PassesMost, PassesSome}
 use Rattle.fancy_plain.specs.Runs.{IsBody, Refuses}
-use Rattle.fancy_plain.specs.Straight.{Loses, Walks, stand_at}
+use Rattle.fancy_plain.specs.OnePass.{Loses, Walks, stand_at}
 use Rattle.fancy_plain.specs.Views.{loop_of}
 use Rattle.fancy_plain.proofs.RunLaws.{test_fails}
-use Rattle.fancy_plain.proofs.SearchLaws.{head_by}
-use Rattle.fancy_plain.proofs.StraightLaws.{Test, goes, joined, loses, loses_behind, onward, past_char_further, remains, tries_first, tries_noted, tries_only, unsure}
+use Rattle.fancy_plain.proofs.SearchLaws.{counter_loop_by}
+use Rattle.fancy_plain.proofs.OnePassLaws.{Test, goes, joined, loses, loses_behind, onward, past_char_further, remains, tries_first, tries_memoized, tries_only, unsure}
 
 -- ---- how far the iterations are counted
 
@@ -83,26 +83,26 @@ module _ (task : Task) (test : CharTest) where
 
 -- ---- from iteration to iteration
 
-module _ (task : Task) (turns : code.Loop) (head after : ℕ) (test : CharTest)
-    (there : slice_get (task.points).now head ≡ Some (point.Head turns after)) (body : IsBody (task.points).now head (head + 1) test)
-    (greedy : turns.greedy ≡ true) (asks : turns.asks_moved ≡ false) where
-  abbrev loop : points.Loop
-  loop = loop_of turns
+module _ (task : Task) (counters : code.Loop) (head after : ℕ) (test : CharTest)
+    (there : slice_get (task.states).now head ≡ Some (nfa_state.CounterLoop counters after)) (body : IsBody (task.states).now head (head + 1) test)
+    (greedy : counters.greedy ≡ true) (asks : counters.asks_moved ≡ false) where
+  abbrev loop : states.Loop
+  loop = loop_of counters
 
-  abbrev turn : ℕ → plain.Turn
-  turn c = record { count = c; since = None }
+  abbrev counter : ℕ → plain.LoopCounter
+  counter c = record { count = c; since = None }
 
   -- at the head, behind so many iterations
-  abbrev at_head : (c place : ℕ) → plain.Stand
-  at_head c place = record { at = head; place = place; turns = turn c ∷ []; opened = []; spans = [] }
+  abbrev at_head : (c place : ℕ) → plain.NfaConfig
+  at_head c place = record { at = head; place = place; counters = counter c ∷ []; opened = []; spans = [] }
 
-  abbrev at_body : (c place : ℕ) → plain.Stand
-  at_body c place = record { at = head + 1; place = place; turns = turn c ∷ []; opened = []; spans = [] }
+  abbrev at_body : (c place : ℕ) → plain.NfaConfig
+  at_body c place = record { at = head + 1; place = place; counters = counter c ∷ []; opened = []; spans = [] }
 
   abbrev counts : ℕ → ℕ
   counts n = counted loop.lo loop.hi n
 
-  next_is : (c place : ℕ) → plain.next_turn loop place (turn c) ≡ turn (next_count loop.lo loop.hi c)
+  next_is : (c place : ℕ) → plain.next_counter loop place (counter c) ≡ counter (next_count loop.lo loop.hi c)
   next_is c place =
       ap (λ b. record { count = next_count loop.lo loop.hi c; since = if b && not (nat_lt c loop.lo) then Some place else None }) asks
 
@@ -110,29 +110,29 @@ module _ (task : Task) (turns : code.Loop) (head after : ℕ) (test : CharTest)
   goes_in : (c place : ℕ) → is_last loop.hi c ≡ false → nat_lt c loop.lo ≡ true →
       Walks task true (at_head c place) (at_body (next_count loop.lo loop.hi c) place)
   goes_in c place goes few =
-      tries_only task (point.Head turns after) (at_head c place) there (at_body (next_count loop.lo loop.hi c) place)
-      (head_by loop after (at_head c place) (turn c) [] place (turn c ∷ []) turning.In refl refl (goes, few)
-      ∙ ap (λ t. plain.Tries true (record (at_body c place) { turns = t ∷ [] }) []) (next_is c place))
+      tries_only task (nfa_state.CounterLoop counters after) (at_head c place) there (at_body (next_count loop.lo loop.hi c) place)
+      (counter_loop_by loop after (at_head c place) (counter c) [] place (counter c ∷ []) turning.In refl refl (goes, few)
+      ∙ ap (λ t. plain.Tries true (record (at_body c place) { counters = t ∷ [] }) []) (next_is c place))
 
   -- one past those
   goes_on : (c place : ℕ) → is_last loop.hi c ≡ false → nat_lt c loop.lo ≡ false →
       Walks task false (at_head c place) (at_body (next_count loop.lo loop.hi c) place)
   goes_on c place goes enough =
-      tries_first task (point.Head turns after) (at_head c place) there true (at_body (next_count loop.lo loop.hi c) place)
+      tries_first task (nfa_state.CounterLoop counters after) (at_head c place) there true (at_body (next_count loop.lo loop.hi c) place)
       (stand_at after place ∷ [])
-      (head_by loop after (at_head c place) (turn c) [] place (turn c ∷ []) turning.InOrOut refl refl (goes, enough, greedy)
-      ∙ ap (λ t. plain.Tries true (record (at_body c place) { turns = t ∷ [] }) (stand_at after place ∷ [])) (next_is c place))
+      (counter_loop_by loop after (at_head c place) (counter c) [] place (counter c ∷ []) turning.InOrOut refl refl (goes, enough, greedy)
+      ∙ ap (λ t. plain.Tries true (record (at_body c place) { counters = t ∷ [] }) (stand_at after place ∷ [])) (next_is c place))
 
   -- the character, and back to the head
   goes_round : (c i j : ℕ) → past_char (task.text).now (Test task test) i ≡ Some j → Walks task true (at_body c i) (at_head c j)
   goes_round c i j past =
-      let taken : plain.Stand = record (at_body c j) { at = head + 1 + 1 } in
+      let taken : plain.NfaConfig = record (at_body c j) { at = head + 1 + 1 } in
       onward task true (at_body c i) taken (at_head c j)
-      (goes task (point.Take test) (at_body c i) body.0 taken (ap (plain.goes_past (at_body c i)) past))
-      (goes task (point.Jump head) taken body.1 (at_head c j) refl)
+      (goes task (nfa_state.Character test) (at_body c i) body.0 taken (ap (plain.goes_past (at_body c i)) past))
+      (goes task (nfa_state.Jump head) taken body.1 (at_head c j) refl)
 
   -- an iteration, behind so many
-  iterates : (n i j : ℕ) (sure : Bool) → (sure ≡ true → n < loop.lo) → n < turns.hi →
+  iterates : (n i j : ℕ) (sure : Bool) → (sure ≡ true → n < loop.lo) → n < counters.hi →
       past_char (task.text).now (Test task test) i ≡ Some j → Walks task sure (at_head (counts n) i) (at_head (counts (suc n)) j)
   iterates n i j sure few below past =
       subst (λ c. Walks task sure (at_head (counts n) i) (at_head c j)) (counted_more loop.lo loop.hi n)
@@ -140,7 +140,7 @@ module _ (task : Task) (turns : code.Loop) (head after : ℕ) (test : CharTest)
       (enters sure few) (goes_round (next_count loop.lo loop.hi (counts n)) i j past))
     where
       goes_by : is_last loop.hi (counts n) ≡ false
-      goes_by = may_go_on loop.lo turns.hi n below
+      goes_by = may_go_on loop.lo counters.hi n below
 
       enters : (sure : Bool) → (sure ≡ true → n < loop.lo) →
           Walks task sure (at_head (counts n) i) (at_body (next_count loop.lo loop.hi (counts n)) i)
@@ -152,7 +152,7 @@ module _ (task : Task) (turns : code.Loop) (head after : ℕ) (test : CharTest)
           (λ ge. goes_on (counts n) i goes_by (counted_enough loop.lo loop.hi n ge)) (cases_lt n loop.lo)
 
   -- all of them
-  iterates_all : (n from to : ℕ) (sure : Bool) → (sure ≡ true → n ≤ loop.lo) → n ≤ turns.hi → PassesSome task test n from to →
+  iterates_all : (n from to : ℕ) (sure : Bool) → (sure ≡ true → n ≤ loop.lo) → n ≤ counters.hi → PassesSome task test n from to →
       Walks task sure (at_head 0 from) (at_head (counts n) to)
   iterates_all zero from to sure few below e =
       subst (λ c. Walks task sure (at_head 0 from) (at_head c to)) (counted_none loop.lo loop.hi)
@@ -167,16 +167,16 @@ module _ (task : Task) (turns : code.Loop) (head after : ℕ) (test : CharTest)
   -- where as many were made as may be
   leaves_last : (c place : ℕ) → is_last loop.hi c ≡ true → Walks task true (at_head c place) (stand_at after place)
   leaves_last c place last =
-      tries_only task (point.Head turns after) (at_head c place) there (stand_at after place)
-      (head_by loop after (at_head c place) (turn c) [] place (turn c ∷ []) turning.Out refl refl last)
+      tries_only task (nfa_state.CounterLoop counters after) (at_head c place) there (stand_at after place)
+      (counter_loop_by loop after (at_head c place) (counter c) [] place (counter c ∷ []) turning.Out refl refl last)
 
   -- where no character passes
   leaves : (c place : ℕ) → is_last loop.hi c ≡ false → nat_lt c loop.lo ≡ false → Refuses task test place →
       Walks task true (at_head c place) (stand_at after place)
   leaves c place goes enough refused =
-      tries_noted task (point.Head turns after) (at_head c place) there (at_body (next_count loop.lo loop.hi c) place) (stand_at after place)
-      (head_by loop after (at_head c place) (turn c) [] place (turn c ∷ []) turning.InOrOut refl refl (goes, enough, greedy)
-      ∙ ap (λ t. plain.Tries true (record (at_body c place) { turns = t ∷ [] }) (stand_at after place ∷ [])) (next_is c place))
+      tries_memoized task (nfa_state.CounterLoop counters after) (at_head c place) there (at_body (next_count loop.lo loop.hi c) place) (stand_at after place)
+      (counter_loop_by loop after (at_head c place) (counter c) [] place (counter c ∷ []) turning.InOrOut refl refl (goes, enough, greedy)
+      ∙ ap (λ t. plain.Tries true (record (at_body c place) { counters = t ∷ [] }) (stand_at after place ∷ [])) (next_is c place))
       (test_fails task test (head + 1) place body.0 refused)
 
   -- where one had to
@@ -185,42 +185,42 @@ module _ (task : Task) (turns : code.Loop) (head after : ℕ) (test : CharTest)
   fails_short c place goes few refused =
       let into = at_body (next_count loop.lo loop.hi c) place in
       loses_behind task (at_head c place) into (goes_in c place goes few)
-      (loses task (point.Take test) into body.0 (ap (plain.goes_past into) refused))
+      (loses task (nfa_state.Character test) into body.0 (ap (plain.goes_past into) refused))
 
   -- ---- the whole loop
 
-  module _ (enter : ℕ) (begins : slice_get (task.points).now enter ≡ Some point.Enter) (behind : enter + 1 ≡ head)
-      (from to left : ℕ) (most : PassesMost task test turns.hi from to left) where
+  module _ (enter : ℕ) (begins : slice_get (task.states).now enter ≡ Some nfa_state.CounterBegin) (behind : enter + 1 ≡ head)
+      (from to left : ℕ) (most : PassesMost task test counters.hi from to left) where
     abbrev made : ℕ
-    made = turns.hi - left
+    made = counters.hi - left
 
     begins_at : Walks task true (stand_at enter from) (at_head 0 from)
     begins_at =
         subst (λ i. Walks task true (stand_at enter from) (record (at_head 0 from) { at = i })) behind
-        (goes task point.Enter (stand_at enter from) begins (record (at_head 0 from) { at = enter + 1 }) refl)
+        (goes task nfa_state.CounterBegin (stand_at enter from) begins (record (at_head 0 from) { at = enter + 1 }) refl)
 
     comes : (sure : Bool) → (sure ≡ true → made ≤ loop.lo) → Walks task sure (stand_at enter from) (at_head (counts made) to)
     comes sure few =
         joined task true sure sure (stand_at enter from) (at_head 0 from) (at_head (counts made) to) (λ e. (refl, e)) begins_at
         (iterates_all made from to sure few (omega arith) most.1)
 
-    pub falls_short : 0 < left → made < turns.lo → Loses task (stand_at enter from)
+    pub falls_short : 0 < left → made < counters.lo → Loses task (stand_at enter from)
     falls_short some few =
         loses_behind task (stand_at enter from) (at_head (counts made) to) (comes true (λ e. omega (arith, few)))
-        (fails_short (counts made) to (may_go_on loop.lo turns.hi made (let le = most.0 in omega (arith, some, le)))
+        (fails_short (counts made) to (may_go_on loop.lo counters.hi made (let le = most.0 in omega (arith, some, le)))
         (counted_few loop.lo loop.hi made few) (most.2 some))
 
-    pub comes_past : (sure : Bool) → (sure ≡ true → made ≤ loop.lo) → (0 < left → turns.lo ≤ made) → length (task.text).now < usize_max →
-        turns.hi ≤ usize_max → Walks task sure (stand_at enter from) (stand_at after to)
+    pub comes_past : (sure : Bool) → (sure ≡ true → made ≤ loop.lo) → (0 < left → counters.lo ≤ made) → length (task.text).now < usize_max →
+        counters.hi ≤ usize_max → Walks task sure (stand_at enter from) (stand_at after to)
     comes_past sure few enough fits small =
         onward task sure (stand_at enter from) (at_head (counts made) to) (stand_at after to) (comes sure few)
         (⊎_elim (λ none. leaves_last (counts made) to (all_made none)) (λ some.
-        leaves (counts made) to (may_go_on loop.lo turns.hi made (let le = most.0 in omega (arith, some, le)))
+        leaves (counts made) to (may_go_on loop.lo counters.hi made (let le = most.0 in omega (arith, some, le)))
         (counted_enough loop.lo loop.hi made (enough some)) (most.2 some)) (cases_lt left 1))
       where
         all_made : left < 1 → is_last loop.hi (counts made) ≡ true
         all_made none =
-            let same : turns.hi ≡ made = omega (arith, none) in
-            subst (λ n. is_last loop.hi (counts n) ≡ true) same (may_not turns.lo turns.hi (⊎_elim (λ lt. lt)
+            let same : counters.hi ≡ made = omega (arith, none) in
+            subst (λ n. is_last loop.hi (counts n) ≡ true) same (may_not counters.lo counters.hi (⊎_elim (λ lt. lt)
             (λ ge. let within = passes_within task test made from to most.1 (omega (arith, ge, same)) in
-            let room = passes_room task test made from to most.1 in omega (arith, ge, same, within, room, fits)) (cases_lt turns.hi usize_max)))
+            let room = passes_room task test made from to most.1 in omega (arith, ge, same, within, room, fits)) (cases_lt counters.hi usize_max)))

@@ -1,4 +1,4 @@
--- The pairs that were noted, where nothing is and after one more.
+-- The pairs that were memoized, where nothing is and after one more.
 use Rattle.std.proofs.Common.{◌≡◌, ◌≢◌, ℕ, ◌-◌, ◌*◌, ◌/◌, ◌%◌, ◌^◌, ◌<◌, Bool, true, false, ◌||◌, not, List, [], ◌∷◌, ◌++◌, length, replicate, Vec, Option, Some, None, Result, Ok, Err, OnErr, get_or, set, ◌==◌, refl, sym, ap, subst, ◌∙◌, inl, inr, arith, bit_or, w64, get_or-set_same, get_or-set_other}
 use Rattle.std.proofs.lemmas.Bool.{cases_eq, cases_lt, not-false, eq-eqb, ne_eqb, false_from_ne_true}
 use Rattle.std.proofs.lemmas.List.{get_or-replicate, get_or_past, get_or_read, get_or_append_left, get_or-append_right, length-replicate}
@@ -12,7 +12,7 @@ use Rattle.std.specs.declared.hash.BuildHasherDefault.{BuildHasherDefault}
 use Rattle.std.proofs.lemmas.List.Sorted.{list_any-IsPermutation}
 use lib.Pointwise.{bytes_decides}
 use Rattle.fancy_plain.specs.declared.failed.Failed.{Failed}
-use Rattle.fancy_plain.specs.FailedPairs.{same_numbers, bit_is_set, is_noted, has_pair}
+use Rattle.fancy_plain.specs.FailedPairs.{same_numbers, bit_is_set, is_memoized, has_pair}
 use Rattle.fancy_plain.specs.declared.pair_bits.PairBits.{PairBits}
 use Rattle.fancy_plain.specs.PairBits.{pair_bit}
 use Rattle.fancy_plain.proofs.PairBitLaws.{one_pair}
@@ -85,24 +85,24 @@ not_same b base k m apart =
 
 -- ---- notes
 
-pub noted_at : (f : Failed) (k : List ℕ) (o : Option ℕ) → o ≡ pair_bit f.pair_bits f.base k → is_noted o f k ≡ has_pair f k
+pub memoized_at : (f : Failed) (k : List ℕ) (o : Option ℕ) → o ≡ pair_bit f.pair_bits f.base k → is_memoized o f k ≡ has_pair f k
 unfolding has_pair
-noted_at f k o e = ap (λ o. is_noted o f k) e
+memoized_at f k o e = ap (λ o. is_memoized o f k) e
 
-pub none_noted : (f : Failed) → f.bits.items ≡ [] → f.lists.keys ≡ [] → (k : List ℕ) → has_pair f k ≡ false
+pub none_memoized : (f : Failed) → f.bits.items ≡ [] → f.lists.keys ≡ [] → (k : List ℕ) → has_pair f k ≡ false
 unfolding has_pair
-none_noted f no_bits no_lists k = go (pair_bit f.pair_bits f.base k)
+none_memoized f no_bits no_lists k = go (pair_bit f.pair_bits f.base k)
   where
-    go : (o : Option ℕ) → is_noted o f k ≡ false
+    go : (o : Option ℕ) → is_memoized o f k ≡ false
     go None = ap (list_any (λ v. same_numbers k v.items)) no_lists
     go (Some bit) = ap (λ words. bit_is_set words bit) no_bits ∙ no_bit bit
 
 -- one more that has a bit
-pub bit_noted : (f : Failed) (bits : Vec ℕ Global) (m : List ℕ) (bit : ℕ) → pair_bit f.pair_bits f.base m ≡ Some bit →
+pub bit_set_holds : (f : Failed) (bits : Vec ℕ Global) (m : List ℕ) (bit : ℕ) → pair_bit f.pair_bits f.base m ≡ Some bit →
     ((n : ℕ) → bit_is_set bits.items n ≡ (n == bit || bit_is_set f.bits.items n)) →
     (k : List ℕ) → has_pair (record f { bits = bits }) k ≡ (same_numbers k m || has_pair f k)
 unfolding has_pair
-bit_noted f bits m bit of_m more k = go (pair_bit f.pair_bits f.base k) refl
+bit_set_holds f bits m bit of_m more k = go (pair_bit f.pair_bits f.base k) refl
   where
     same_bit : (n : ℕ) → pair_bit f.pair_bits f.base k ≡ Some n → (n == bit) ≡ same_numbers k m
     same_bit n of_k = elim (cases_eq n bit) [
@@ -111,8 +111,8 @@ bit_noted f bits m bit of_m more k = go (pair_bit f.pair_bits f.base k) refl
     ]
 
     go : (o : Option ℕ) → pair_bit f.pair_bits f.base k ≡ o →
-        is_noted o (record f { bits = bits }) k ≡ (same_numbers k m || is_noted o f k)
-    go None of_k = sym (ap (λ b. b || is_noted None f k) (not_same f.pair_bits f.base k m (λ e. cc)))
+        is_memoized o (record f { bits = bits }) k ≡ (same_numbers k m || is_memoized o f k)
+    go None of_k = sym (ap (λ b. b || is_memoized None f k) (not_same f.pair_bits f.base k m (λ e. cc)))
     go (Some n) of_k = more n ∙ ap (λ b. b || bit_is_set f.bits.items n) (same_bit n of_k)
 
 abbrev pub Lists : Type 0
@@ -123,14 +123,14 @@ abbrev pub has_list : Lists → List ℕ → Bool
 has_list lists k = contains_by (λ v. same_numbers k v.items) lists
 
 -- one more that has none
-list_noted : (f : Failed) (lists : Lists) (m : List ℕ) → pair_bit f.pair_bits f.base m ≡ None →
+list_memoized : (f : Failed) (lists : Lists) (m : List ℕ) → pair_bit f.pair_bits f.base m ≡ None →
     ((k : List ℕ) → has_list lists k ≡ (same_numbers k m || has_list f.lists k)) →
     (k : List ℕ) → has_pair (record f { lists = lists }) k ≡ (same_numbers k m || has_pair f k)
 unfolding has_pair
-list_noted f lists m of_m more k = go (pair_bit f.pair_bits f.base k) refl
+list_memoized f lists m of_m more k = go (pair_bit f.pair_bits f.base k) refl
   where
     go : (o : Option ℕ) → pair_bit f.pair_bits f.base k ≡ o →
-        is_noted o (record f { lists = lists }) k ≡ (same_numbers k m || is_noted o f k)
+        is_memoized o (record f { lists = lists }) k ≡ (same_numbers k m || is_memoized o f k)
     go None of_k = more k
     go (Some n) of_k = sym (ap (λ b. b || bit_is_set f.bits.items n) (not_same f.pair_bits f.base k m (λ e. cc)))
 
@@ -150,7 +150,7 @@ pub list_added : (f : Failed) (lists : Lists) (m : List ℕ) (v : Vec ℕ Global
     v.items ≡ m → added ≡ not (has_list f.lists v.items) → PutsKey f.lists lists v added →
     (k : List ℕ) → has_pair (record f { lists = lists }) k ≡ (same_numbers k m || has_pair f k)
 list_added f lists m v added of_m same was puts =
-    list_noted f lists m of_m (subst (λ l. (k : List ℕ) → has_list lists k ≡ (same_numbers k l || has_list f.lists k)) same
+    list_memoized f lists m of_m (subst (λ l. (k : List ℕ) → has_list lists k ≡ (same_numbers k l || has_list f.lists k)) same
     (list_put f.lists lists v added was puts))
 
 pub on_err : {T E P : Type 0} (r : Result T E) → P → OnErr r P
@@ -161,7 +161,7 @@ pub same_bits : (f : Failed) (bits : Vec ℕ Global) → bits.items ≡ f.bits.i
 unfolding has_pair
 same_bits f bits same k = go (pair_bit f.pair_bits f.base k)
   where
-    go : (o : Option ℕ) → is_noted o (record f { bits = bits }) k ≡ is_noted o f k
+    go : (o : Option ℕ) → is_memoized o (record f { bits = bits }) k ≡ is_memoized o f k
     go None = refl
     go (Some bit) = ap (λ words. bit_is_set words bit) same
 
@@ -169,6 +169,6 @@ pub same_lists : (f : Failed) (lists : Lists) → lists.keys ≡ f.lists.keys �
 unfolding has_pair
 same_lists f lists same k = go (pair_bit f.pair_bits f.base k)
   where
-    go : (o : Option ℕ) → is_noted o (record f { lists = lists }) k ≡ is_noted o f k
+    go : (o : Option ℕ) → is_memoized o (record f { lists = lists }) k ≡ is_memoized o f k
     go None = ap (list_any (λ v. same_numbers k v.items)) same
     go (Some bit) = refl

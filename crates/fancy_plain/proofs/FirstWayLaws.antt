@@ -9,92 +9,92 @@ use Rattle.fancy_meaning.specs.Places.{is_place}
 use Rattle.fancy_meaning.specs.Options.{Analysis}
 use Rattle.fancy_meaning.specs.Premises.{IsText}
 use Rattle.fancy_meaning.specs.Ways.{Setting}
-use Rattle.fancy_points.specs.Points.{Point}
-use Rattle.fancy_points.specs.PointCode.{points_of}
-use Rattle.fancy_points.specs.PointSearch as plain
-use Rattle.fancy_points.specs.PointSearch.{Pair, Search, Next, TakesUp, TakesBack, Ends, after_steps, next}
-use Rattle.fancy_points.specs.FirstWays.{AreNoted, FindsFirst, no_pairs, of_search, search_in, searched, seen_of, spans_of}
-use Rattle.fancy_points.proofs.PlainSearch.{plain_search_finds}
+use Rattle.fancy_nfa.specs.NfaStates.{NfaState}
+use Rattle.fancy_nfa.specs.NfaCode.{states_of}
+use Rattle.fancy_nfa.specs.NfaSearch as plain
+use Rattle.fancy_nfa.specs.NfaSearch.{Pair, Search, Next, TakesUp, TakesBack, Ends, after_steps, next}
+use Rattle.fancy_nfa.specs.FirstWays.{AreMemoized, FindsFirst, no_pairs, of_search, search_in, searched, seen_of, spans_of}
+use Rattle.fancy_nfa.proofs.PlainSearch.{plain_search_finds}
 use Rattle.fancy_plain.specs.declared.first_way.FirstWay.{FirstWay}
 use Rattle.fancy_plain.specs.declared.first_way.Way.{Way}
-use Rattle.fancy_plain.specs.declared.table.PointTable.{PointTable}
-use Rattle.fancy_plain.specs.declared.point.Point as code
+use Rattle.fancy_plain.specs.declared.table.Nfa.{Nfa}
+use Rattle.fancy_plain.specs.declared.nfa_state.NfaState as code
 use Rattle.fancy_plain.specs.FailedPairs.{has_pair, key_of}
-use Rattle.fancy_plain.specs.declared.log.Entry.{Entry}
-use Rattle.fancy_plain.specs.declared.log.Stand.{Stand}
+use Rattle.fancy_plain.specs.declared.trail.Entry.{Entry}
+use Rattle.fancy_plain.specs.declared.trail.NfaConfig.{NfaConfig}
 use Rattle.fancy_plain.specs.declared.search.Memo.{Memo}
 use Rattle.fancy_plain.specs.declared.search.Task.{Task}
 use Rattle.fancy_plain.specs.Tables.{IsTableOf}
 use Rattle.fancy_plain.specs.Paths.{closed_after}
-use Rattle.fancy_plain.specs.Choices.{choices_of}
+use Rattle.fancy_plain.specs.BacktrackStack.{choices_of}
 use Rattle.fancy_plain.specs.Searches.{AreKept, EndsAs, HaveFailed, IsHere, IsSearch, Leading, leading_of}
-use Rattle.fancy_plain.specs.Beginnings.{is_begun_by, may_begin}
-use Rattle.fancy_plain.specs.Needed.{AreNeeded, lacks}
-use Rattle.fancy_plain.specs.Views.{point_of}
+use Rattle.fancy_plain.specs.FirstSets.{is_begun_by, may_begin}
+use Rattle.fancy_plain.specs.RequiredBytes.{AreRequired, lacks}
+use Rattle.fancy_plain.specs.Views.{state_of}
 use Rattle.fancy_plain.specs.Ways.{HasNoWayAt, IsFirstWay, IsMemoOf, IsSeenAs, listed}
-use Rattle.fancy_plain.proofs.NeededLaws.{lacks_left}
+use Rattle.fancy_plain.proofs.RequiredBytesLaws.{lacks_left}
 
 -- ---- a search has one end
 
-abbrev pub way_at : Next → Option plain.Stand
+abbrev pub way_at : Next → Option plain.NfaConfig
 way_at (TakesUp s found) = None
 way_at (TakesBack found) = None
 way_at (Ends way found) = way
 
-module _ (text : List ℕ) (unicode : Bool) (points : List Point) where
-  pub end_stays : (k : ℕ) (way : Option plain.Stand) (found : Search) →
-      after_steps text unicode points k (Ends way found) ≡ Ends way found
+module _ (text : List ℕ) (unicode : Bool) (states : List NfaState) where
+  pub end_stays : (k : ℕ) (way : Option plain.NfaConfig) (found : Search) →
+      after_steps text unicode states k (Ends way found) ≡ Ends way found
   end_stays zero way found = refl
   end_stays (suc k) way found = end_stays k way found
 
-  pub one_end : (k l : ℕ) (n : Next) (way other : Option plain.Stand) (found with_other : Search) →
-      after_steps text unicode points k n ≡ Ends way found →
-      after_steps text unicode points l n ≡ Ends other with_other → Ends way found ≡ Ends other with_other
+  pub one_end : (k l : ℕ) (n : Next) (way other : Option plain.NfaConfig) (found with_other : Search) →
+      after_steps text unicode states k n ≡ Ends way found →
+      after_steps text unicode states l n ≡ Ends other with_other → Ends way found ≡ Ends other with_other
   one_end zero l n way other found with_other e h =
-      sym (end_stays l way found) ∙ ap (after_steps text unicode points l) (sym e) ∙ h
+      sym (end_stays l way found) ∙ ap (after_steps text unicode states l) (sym e) ∙ h
   one_end (suc k) zero n way other found with_other e h =
-      sym e ∙ ap (after_steps text unicode points (suc k)) h ∙ end_stays (suc k) other with_other
+      sym e ∙ ap (after_steps text unicode states (suc k)) h ∙ end_stays (suc k) other with_other
   one_end (suc k) (suc l) n way other found with_other e h =
-      one_end k l (next text unicode points n) way other found with_other e h
+      one_end k l (next text unicode states n) way other found with_other e h
 
--- ---- before the first point
+-- ---- before the first state
 
-module _ (leading : Leading) (m : Memo) (failed : Pair → Bool) (place : ℕ) (path : m.log.entries.items ≡ [])
-    (later : choices_of m.later ≡ []) (visits : m.visits ≡ 0) (have : HaveFailed m failed) where
+module _ (leading : Leading) (m : Memo) (failed : Pair → Bool) (place : ℕ) (path : m.trail.entries.items ≡ [])
+    (frames : choices_of m.frames ≡ []) (visits : m.visits ≡ 0) (have : HaveFailed m failed) where
   pub search_at_start : IsSearch leading m (plain.first_search failed)
   search_at_start = record {
-    later = subst (λ choices. AreKept leading m.log.entries.items (length m.log.entries.items) choices [])
-        (sym later) refl;
+    frames = subst (λ backtrack_stack. AreKept leading m.trail.entries.items (length m.trail.entries.items) backtrack_stack [])
+        (sym frames) refl;
     failed = have;
     visits = omega (arith, visits);
   }
 
-  pub here_at_start : IsHere m (record { at = 0; place = place; turns = 0; opened = 0 }) (plain.first_stand place)
+  pub here_at_start : IsHere m (record { at = 0; place = place; counters = 0; opened = 0 }) (plain.first_config place)
   here_at_start = record {
     at = refl;
     place = refl;
-    turns_link = omega arith;
+    counters_link = omega arith;
     opened_link = omega arith;
-    turns = refl;
+    counters = refl;
     opened = refl;
     spans = ap (λ entries. closed_after [] (take (length entries) entries)) path;
   }
 
 -- ---- what is seen
 
-pub seen_at_end : (w : Way) (entries : List Entry) (t : plain.Stand) → w.end ≡ t.place →
+pub seen_at_end : (w : Way) (entries : List Entry) (t : plain.NfaConfig) → w.end ≡ t.place →
     closed_after [] entries ≡ t.spans → ((g : ℕ) → listed w.spans.items g ≡ spans_of (closed_after [] entries) g) →
     IsSeenAs (Some w) (Some (seen_of t))
 seen_at_end w entries t place spans same = (place, (λ g. same g ∙ ap (λ closed. spans_of closed g) spans))
 
-module _ (text : List ℕ) (f : PointTable) (place : ℕ) (failed : Pair → Bool) (is_text : IsText text)
+module _ (text : List ℕ) (f : Nfa) (place : ℕ) (failed : Pair → Bool) (is_text : IsText text)
     (at : IsTrue (is_place text place))
-    (noted : AreNoted text f.unicode (map point_of f.points.items) failed) where
+    (memoized : AreMemoized text f.unicode (map state_of f.states.items) failed) where
   abbrev run : ℕ → Next
-  run steps = searched text f.unicode (map point_of f.points.items) failed place steps
+  run steps = searched text f.unicode (map state_of f.states.items) failed place steps
 
   pub memo_after : (m : Memo) (steps : ℕ) → HaveFailed m (search_in (run steps)).failed → IsMemoOf text f m
-  memo_after m steps h = ((search_in (run steps)).failed, (h, of_search place steps at noted))
+  memo_after m steps h = ((search_in (run steps)).failed, (h, of_search place steps at memoized))
 
   module _ (a : Analysis) (es : List Tree) (h : IsTableOf a es f.unicode f) (pos : ℕ) (continued : Bool) where
     abbrev q : Setting
@@ -102,17 +102,17 @@ module _ (text : List ℕ) (f : PointTable) (place : ℕ) (failed : Pair → Boo
 
     pub finds : FindsFirst q a es failed place
     finds = plain_search_finds q a es failed place is_text at h.easy
-        (subst (λ points. AreNoted text f.unicode points failed) h.points noted)
+        (subst (λ states. AreMemoized text f.unicode states failed) h.states memoized)
 
-    pub same_end : (steps : ℕ) (way : Option plain.Stand) (found : Search) → run steps ≡ Ends way found →
+    pub same_end : (steps : ℕ) (way : Option plain.NfaConfig) (found : Search) → run steps ≡ Ends way found →
         Ends way found ≡ Ends finds.way finds.found
     same_end steps way found e =
-        one_end text f.unicode (points_of a.tree es) steps finds.steps
-        (TakesUp (plain.first_stand place) (plain.first_search failed)) way finds.way found finds.found
-        (subst (λ points. searched text f.unicode points failed place steps ≡ Ends way found) h.points e) finds.ends
+        one_end text f.unicode (states_of a.tree es) steps finds.steps
+        (TakesUp (plain.first_config place) (plain.first_search failed)) way finds.way found finds.found
+        (subst (λ states. searched text f.unicode states failed place steps ≡ Ends way found) h.states e) finds.ends
 
   -- the end of the search is the first way
-  pub first_at_end : (answer : FirstWay) (steps : ℕ) (way : Option plain.Stand) (found : Search) →
+  pub first_at_end : (answer : FirstWay) (steps : ℕ) (way : Option plain.NfaConfig) (found : Search) →
       run steps ≡ Ends way found → IsSeenAs answer.way (option_map seen_of way) → answer.visits ≤ found.visits →
       IsFirstWay text f place answer
   first_at_end answer steps way found e same fewer = λ a es h. (
@@ -126,25 +126,25 @@ module _ (text : List ℕ) (f : PointTable) (place : ℕ) (failed : Pair → Boo
 -- ---- how a search ended
 
 -- the stand of the code is at the end of the way, or both are none
-abbrev pub AtEnd : Memo → Option Stand → Option plain.Stand → Type 0
+abbrev pub AtEnd : Memo → Option NfaConfig → Option plain.NfaConfig → Type 0
 AtEnd m None None = Unit {0}
 AtEnd m None (Some t) = ⊥
 AtEnd m (Some s) None = ⊥
 AtEnd m (Some s) (Some t) = IsHere m s t
 
-pub record Ended (text : List ℕ) (unicode : Bool) (points : List Point) (failed : Pair → Bool) (place : ℕ)
-    (there : Option Stand) (m : Memo) : Type 0 where
+pub record Ended (text : List ℕ) (unicode : Bool) (states : List NfaState) (failed : Pair → Bool) (place : ℕ)
+    (there : Option NfaConfig) (m : Memo) : Type 0 where
   pub steps : ℕ
-  pub way : Option plain.Stand
+  pub way : Option plain.NfaConfig
   pub found : Search
-  pub ends : searched text unicode points failed place steps ≡ Ends way found
+  pub ends : searched text unicode states failed place steps ≡ Ends way found
   pub have : HaveFailed m found.failed
   pub visits : m.visits ≤ found.visits
   pub at_end : AtEnd m there way
 
-pub ended : (task : Task) (failed : Pair → Bool) (place : ℕ) (there : Option Stand) (m : Memo) →
-    EndsAs task (TakesUp (plain.first_stand place) (plain.first_search failed)) (Ok there) m →
-    Ended (task.text).now task.unicode (map point_of (task.points).now) failed place there m
+pub ended : (task : Task) (failed : Pair → Bool) (place : ℕ) (there : Option NfaConfig) (m : Memo) →
+    EndsAs task (TakesUp (plain.first_config place) (plain.first_search failed)) (Ok there) m →
+    Ended (task.text).now task.unicode (map state_of (task.states).now) failed place there m
 ended task failed place None m (steps, (f, (is, h))) =
     record { steps = steps; way = None; found = f; ends = is; have = h.failed; visits = h.visits; at_end = tt }
 ended task failed place (Some s) m (steps, (f, (t, (is, h, here)))) =
@@ -152,70 +152,70 @@ ended task failed place (Some s) m (steps, (f, (t, (is, h, here)))) =
 
 -- ---- what is answered at the end
 
-module _ (text : List ℕ) (f : PointTable) (place : ℕ) (failed : Pair → Bool) (is_text : IsText text)
+module _ (text : List ℕ) (f : Nfa) (place : ℕ) (failed : Pair → Bool) (is_text : IsText text)
     (at : IsTrue (is_place text place))
-    (known : AreNoted text f.unicode (map point_of f.points.items) failed) (answer : FirstWay) (m : Memo) (visits : answer.visits ≡ m.visits) where
-  pub first_found : (there : Stand) (e : Ended text f.unicode (map point_of f.points.items) failed place (Some there) m) (w : Way) →
+    (known : AreMemoized text f.unicode (map state_of f.states.items) failed) (answer : FirstWay) (m : Memo) (visits : answer.visits ≡ m.visits) where
+  pub first_found : (there : NfaConfig) (e : Ended text f.unicode (map state_of f.states.items) failed place (Some there) m) (w : Way) →
       answer.way ≡ Some w → w.end ≡ there.place →
-      ((g : ℕ) → listed w.spans.items g ≡ spans_of (closed_after [] m.log.entries.items) g) →
+      ((g : ℕ) → listed w.spans.items g ≡ spans_of (closed_after [] m.trail.entries.items) g) →
       IsFirstWay text f place answer
   first_found there e w is end spans =
       first_at_end text f place failed is_text at known answer e.steps e.way e.found e.ends
       (subst (λ o. IsSeenAs o (option_map seen_of e.way)) (sym is) (go e.way e.at_end))
       (let v = e.visits in omega (arith, v, visits))
     where
-      go : (way : Option plain.Stand) → AtEnd m (Some there) way → IsSeenAs (Some w) (option_map seen_of way)
+      go : (way : Option plain.NfaConfig) → AtEnd m (Some there) way → IsSeenAs (Some w) (option_map seen_of way)
       go None h = absurd h
       go (Some t) h =
-          seen_at_end w m.log.entries.items t (end ∙ h.place)
-          (ap (closed_after []) (sym (take_all (length m.log.entries.items) m.log.entries.items (omega arith))) ∙ h.spans) spans
+          seen_at_end w m.trail.entries.items t (end ∙ h.place)
+          (ap (closed_after []) (sym (take_all (length m.trail.entries.items) m.trail.entries.items (omega arith))) ∙ h.spans) spans
 
-  pub first_none : (e : Ended text f.unicode (map point_of f.points.items) failed place None m) →
+  pub first_none : (e : Ended text f.unicode (map state_of f.states.items) failed place None m) →
       answer.way ≡ None → IsFirstWay text f place answer
   first_none e is =
       first_at_end text f place failed is_text at known answer e.steps e.way e.found e.ends
       (subst (λ o. IsSeenAs o (option_map seen_of e.way)) (sym is) (go e.way e.at_end))
       (let v = e.visits in omega (arith, v, visits))
     where
-      go : (way : Option plain.Stand) → AtEnd m None way → IsSeenAs None (option_map seen_of way)
+      go : (way : Option plain.NfaConfig) → AtEnd m None way → IsSeenAs None (option_map seen_of way)
       go None h = tt
       go (Some t) h = absurd h
 
--- ---- a search by a table, from what a memo has noted
+-- ---- a search by a table, from what a memo has memoized
 
-module _ (points : Bor (List code.Point)) (text : Bor (List ℕ)) (table : PointTable) (place : ℕ) (old m : Memo)
-    (same : points.now ≡ table.points.items) (is_text : IsText text.now) (at : IsTrue (is_place text.now place))
-    (memo : IsMemoOf text.now table old) (failed : m.failed ≡ old.failed) (path : m.log.entries.items ≡ [])
-    (later : choices_of m.later ≡ []) (visits : m.visits ≡ 0) where
+module _ (states : Bor (List code.NfaState)) (text : Bor (List ℕ)) (table : Nfa) (place : ℕ) (old m : Memo)
+    (same : states.now ≡ table.states.items) (is_text : IsText text.now) (at : IsTrue (is_place text.now place))
+    (memo : IsMemoOf text.now table old) (failed : m.failed ≡ old.failed) (path : m.trail.entries.items ≡ [])
+    (frames : choices_of m.frames ≡ []) (visits : m.visits ≡ 0) where
   abbrev task : Task
-  task = record { points = points; unicode = table.unicode; text = text }
+  task = record { states = states; unicode = table.unicode; text = text }
 
   -- the search answered this, from whatever the code stands for at its start
-  abbrev Finds : Result (Option Stand) AllocError → Memo → Type 0
+  abbrev Finds : Result (Option NfaConfig) AllocError → Memo → Type 0
   Finds r n =
-      (s : plain.Stand) (f : Search) → IsSearch (leading_of task) m f →
-      IsHere m (record { at = 0; place = place; turns = 0; opened = 0 }) s → EndsAs task (TakesUp s f) r n
+      (s : plain.NfaConfig) (f : Search) → IsSearch (leading_of task) m f →
+      IsHere m (record { at = 0; place = place; counters = 0; opened = 0 }) s → EndsAs task (TakesUp s f) r n
 
-  ends : (r : Result (Option Stand) AllocError) (n : Memo) → Finds r n →
-      EndsAs task (TakesUp (plain.first_stand place) (plain.first_search memo.0)) r n
+  ends : (r : Result (Option NfaConfig) AllocError) (n : Memo) → Finds r n →
+      EndsAs task (TakesUp (plain.first_config place) (plain.first_search memo.0)) r n
   ends r n h =
       let have : HaveFailed m memo.0 = λ p. ap (λ x. has_pair x (key_of p)) failed ∙ memo.1.0 p in
-      h (plain.first_stand place) (plain.first_search memo.0) (search_at_start (leading_of task) m memo.0 place path later visits have)
-      (here_at_start (leading_of task) m memo.0 place path later visits have)
+      h (plain.first_config place) (plain.first_search memo.0) (search_at_start (leading_of task) m memo.0 place path frames visits have)
+      (here_at_start (leading_of task) m memo.0 place path frames visits have)
 
   pub end_refused : (e : AllocError) (n : Memo) → Finds (Err e) n → IsMemoOf text.now table n
   end_refused e n h =
       let x = ends (Err e) n h in
       memo_after text.now table place memo.0 is_text at memo.1.1 n x.0
-      (subst (λ ps. HaveFailed n (search_in (searched text.now table.unicode ps memo.0 place x.0)).failed) (ap (map point_of) same) x.1)
+      (subst (λ ps. HaveFailed n (search_in (searched text.now table.unicode ps memo.0 place x.0)).failed) (ap (map state_of) same) x.1)
 
-  pub end_found : (there : Option Stand) (n : Memo) → Finds (Ok there) n →
-      Ended text.now table.unicode (map point_of table.points.items) memo.0 place there n
+  pub end_found : (there : Option NfaConfig) (n : Memo) → Finds (Ok there) n →
+      Ended text.now table.unicode (map state_of table.states.items) memo.0 place there n
   end_found there n h =
-      subst (λ ps. Ended text.now table.unicode ps memo.0 place there n) (ap (map point_of) same)
+      subst (λ ps. Ended text.now table.unicode ps memo.0 place there n) (ap (map state_of) same)
       (ended task memo.0 place there n (ends (Ok there) n h))
 
-  pub memo_found : (there : Option Stand) (n : Memo) → Finds (Ok there) n → IsMemoOf text.now table n
+  pub memo_found : (there : Option NfaConfig) (n : Memo) → Finds (Ok there) n → IsMemoOf text.now table n
   memo_found there n h =
       let e = end_found there n h in
       memo_after text.now table place memo.0 is_text at memo.1.1 n e.steps
@@ -224,52 +224,52 @@ module _ (points : Bor (List code.Point)) (text : Bor (List ℕ)) (table : Point
 -- ---- where no way can begin
 
 -- where no search finds a way, the nodes have none
-no_way_found : (text : List ℕ) (f : PointTable) (place : ℕ) → IsText text → IsTrue (is_place text place) →
-    ((failed : Pair → Bool) (steps : ℕ) (way : Option plain.Stand) (found : Search) →
-    searched text f.unicode (map point_of f.points.items) failed place steps ≡ Ends way found → way ≡ None) →
+no_way_found : (text : List ℕ) (f : Nfa) (place : ℕ) → IsText text → IsTrue (is_place text place) →
+    ((failed : Pair → Bool) (steps : ℕ) (way : Option plain.NfaConfig) (found : Search) →
+    searched text f.unicode (map state_of f.states.items) failed place steps ≡ Ends way found → way ≡ None) →
     HasNoWayAt text f place
 no_way_found text f place is_text at finds_none = λ a es h pos continued.
     let q : Setting = record { text = text; pos = pos; continued = continued; unicode = f.unicode } in
     let finds : FindsFirst q a es (λ p. false) place = plain_search_finds q a es (λ p. false) place is_text at h.easy no_pairs in
-    let ends = subst (λ points. searched text f.unicode points (λ p. false) place finds.steps ≡ Ends finds.way finds.found)
-    (sym h.points) finds.ends in
+    let ends = subst (λ states. searched text f.unicode states (λ p. false) place finds.steps ≡ Ends finds.way finds.found)
+    (sym h.states) finds.ends in
     sym finds.first ∙ ap (option_map seen_of) (finds_none (λ p. false) finds.steps finds.way finds.found ends)
 
 -- where the first character is none that a way can begin with
-pub no_way_at : (text : List ℕ) (f : PointTable) (place : ℕ) → IsText text → IsTrue (is_place text place) →
-    may_begin f.beginnings.items text place ≡ false → HasNoWayAt text f place
+pub no_way_at : (text : List ℕ) (f : Nfa) (place : ℕ) → IsText text → IsTrue (is_place text place) →
+    may_begin f.first_sets.items text place ≡ false → HasNoWayAt text f place
 no_way_at text f place is_text at out = no_way_found text f place is_text at (f.begin text place out)
 
 -- where none of the bytes stands of which every way takes one, neither from the place on nor behind it
-pub no_way_behind : (text : List ℕ) (f : PointTable) (bytes : List Bool) (from : ℕ) → IsText text → f.needed ≡ Some bytes →
+pub no_way_behind : (text : List ℕ) (f : Nfa) (bytes : List Bool) (from : ℕ) → IsText text → f.required_bytes ≡ Some bytes →
     lacks bytes text from ≡ true → (place : ℕ) → from ≤ place → IsTrue (is_place text place) → HasNoWayAt text f place
 no_way_behind text f bytes from is_text is out place behind at =
     no_way_found text f place is_text at
-    (subst (λ o. IfSome o (AreNeeded f.unicode (map point_of f.points.items))) is f.need text place (lacks_left bytes text from place behind out))
+    (subst (λ o. IfSome o (AreRequired f.unicode (map state_of f.states.items))) is f.need text place (lacks_left bytes text from place behind out))
 
-pub none_first : (text : List ℕ) (f : PointTable) (place : ℕ) → HasNoWayAt text f place →
+pub none_first : (text : List ℕ) (f : Nfa) (place : ℕ) → HasNoWayAt text f place →
     IsFirstWay text f place (record { way = None; visits = 0 })
 none_first text f place h = λ a es table.
     ((λ pos continued. subst (IsSeenAs None) (sym (h a es table pos continued)) tt), omega arith)
 
-pub refused_byte : (levels : List (List Bool)) (ascii : List Bool) (byte : ℕ) → slice_get levels 0 ≡ Some ascii → byte < 128 →
+pub excluded_byte : (levels : List (List Bool)) (ascii : List Bool) (byte : ℕ) → slice_get levels 0 ≡ Some ascii → byte < 128 →
     slice_index_or ascii byte false ≡ false → (text : List ℕ) (place : ℕ) → slice_get text place ≡ Some byte →
     may_begin levels text place ≡ false
-refused_byte [] ascii byte is small out text place here = cc
-refused_byte (level ∷ levels) ascii byte is small out text place here =
+excluded_byte [] ascii byte is small out text place here = cc
+excluded_byte (level ∷ levels) ascii byte is small out text place here =
     let is_ascii : nat_lt byte 128 ≡ true = grind (arith, nat_tests) in
     let rest : Bool = may_begin levels text (place + 1) in
     let same : level ≡ ascii = cc in
     ap (is_begun_by level rest) here ∙ ap (λ v. if v then slice_index_or level byte false && rest else true) is_ascii
     ∙ ap (λ l. slice_index_or l byte false && rest) same ∙ ap (λ b. b && rest) out
 
-pub refused_next_byte : (levels : List (List Bool)) (ascii : List Bool) (byte : ℕ) → slice_get levels 1 ≡ Some ascii → byte < 128 →
+pub excluded_second_byte : (levels : List (List Bool)) (ascii : List Bool) (byte : ℕ) → slice_get levels 1 ≡ Some ascii → byte < 128 →
     slice_index_or ascii byte false ≡ false → (text : List ℕ) (place first : ℕ) → slice_get text place ≡ Some first → first < 128 →
     slice_get text (place + 1) ≡ Some byte → may_begin levels text place ≡ false
-refused_next_byte [] ascii byte is small out text place first here ascii_first behind = cc
-refused_next_byte (level ∷ levels) ascii byte is small out text place first here ascii_first behind =
+excluded_second_byte [] ascii byte is small out text place first here ascii_first behind = cc
+excluded_second_byte (level ∷ levels) ascii byte is small out text place first here ascii_first behind =
     let is_ascii : nat_lt first 128 ≡ true = grind (arith, nat_tests) in
-    let rest = refused_byte levels ascii byte is small out text (place + 1) behind in
+    let rest = excluded_byte levels ascii byte is small out text (place + 1) behind in
     ap (is_begun_by level (may_begin levels text (place + 1))) here
     ∙ ap (λ v. if v then slice_index_or level first false && may_begin levels text (place + 1) else true) is_ascii
     ∙ ap (λ v. slice_index_or level first false && v) rest ∙ and_none (slice_index_or level first false)

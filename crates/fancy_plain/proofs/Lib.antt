@@ -10,12 +10,12 @@ pub mod Branches
 pub mod Built
 pub mod BackLaws
 pub mod RunLaws
-pub mod ChoiceLaws
+pub mod BacktrackStackLaws
 pub mod WayLaws
 pub mod FirstWayLaws
-pub mod ReadPoints
+pub mod ReadStates
 pub mod KeptLaws
-pub mod BeginningLaws
-pub mod NeededLaws
-pub mod StraightLaws
+pub mod FirstSetLaws
+pub mod RequiredBytesLaws
+pub mod OnePassLaws
 pub mod CountedLaws

@@ -4,7 +4,7 @@ use Rattle.std.proofs.lemmas.Bool.{and_parts, ltb-true, leb-true}
 use Rattle.std.proofs.lemmas.Nat.{mul-add-lt, mul-le, same_from_place}
 use Rattle.regex_hir.proofs.AttemptLemmas.{option_and_then_some}
 use Rattle.fancy_plain.specs.declared.pair_bits.PairBits.{PairBits}
-use Rattle.fancy_plain.specs.PairBits.{turn_number, turns_base, turns_number, pair_number, place_bit, pair_bit}
+use Rattle.fancy_plain.specs.PairBits.{counter_number, counters_base, counters_number, pair_number, place_bit, pair_bit}
 
 if_some : {A : Type 0} (b : Bool) (x y : A) → (if b then Some x else None) ≡ Some y → (b ≡ true) × (x ≡ y)
 if_some true x y h = (refl, cc)
@@ -13,29 +13,29 @@ if_some false x y h = cc
 module _ (b : PairBits) where
   -- ---- one iteration
 
-  pub record IsTurn (c s n : ℕ) : Type 0 where
+  pub record IsCounter (c s n : ℕ) : Type 0 where
     pub count : c < b.counts
     pub stays : s < b.stays
     pub is : s * b.counts + c + 1 ≡ n
 
-  pub turn_is : (c s n : ℕ) → turn_number b c s ≡ Some n → IsTurn c s n
-  turn_is c s n h =
+  pub counter_is : (c s n : ℕ) → counter_number b c s ≡ Some n → IsCounter c s n
+  counter_is c s n h =
       let made = if_some (nat_lt c b.counts && nat_lt s b.stays) (s * b.counts + c + 1) n h in
       let both = and_parts (nat_lt c b.counts) (nat_lt s b.stays) made.0 in
       record { count = ltb-true c b.counts both.0; stays = ltb-true s b.stays both.1; is = made.1 }
 
-  pub turn_small : (c s n : ℕ) → turn_number b c s ≡ Some n → n < turns_base b
-  turn_small c s n h =
-      let x = turn_is c s n h in
+  pub counter_small : (c s n : ℕ) → counter_number b c s ≡ Some n → n < counters_base b
+  counter_small c s n h =
+      let x = counter_is c s n h in
       omega (arith, x.is, mul-add-lt s b.counts c b.stays x.stays x.count)
 
-  turn_some : (c s n : ℕ) → turn_number b c s ≡ Some n → 0 < n
-  turn_some c s n h = let x = turn_is c s n h in omega (arith, x.is)
+  counter_some : (c s n : ℕ) → counter_number b c s ≡ Some n → 0 < n
+  counter_some c s n h = let x = counter_is c s n h in omega (arith, x.is)
 
-  one_turn : (c s d t n : ℕ) → turn_number b c s ≡ Some n → turn_number b d t ≡ Some n → (s ≡ t) × (c ≡ d)
-  one_turn c s d t n h i =
-      let x = turn_is c s n h in
-      let y = turn_is d t n i in
+  one_counter : (c s d t n : ℕ) → counter_number b c s ≡ Some n → counter_number b d t ≡ Some n → (s ≡ t) × (c ≡ d)
+  one_counter c s d t n h i =
+      let x = counter_is c s n h in
+      let y = counter_is d t n i in
       same_from_place s c t d b.counts x.count y.count (omega (arith, x.is, y.is))
 
   -- ---- the iterations around
@@ -43,78 +43,78 @@ module _ (b : PairBits) where
   record IsTwo (c s d t n : ℕ) : Type 0 where
     pub inner : ℕ
     pub outer : ℕ
-    pub first : turn_number b c s ≡ Some inner
-    pub second : turn_number b d t ≡ Some outer
-    pub is : outer * turns_base b + inner ≡ n
+    pub first : counter_number b c s ≡ Some inner
+    pub second : counter_number b d t ≡ Some outer
+    pub is : outer * counters_base b + inner ≡ n
 
-  two_is : (c s d t n : ℕ) → turns_number b (c ∷ s ∷ d ∷ t ∷ []) ≡ Some n → IsTwo c s d t n
+  two_is : (c s d t n : ℕ) → counters_number b (c ∷ s ∷ d ∷ t ∷ []) ≡ Some n → IsTwo c s d t n
   two_is c s d t n h =
-      let (inner, first, rest) = option_and_then_some _ (turn_number b c s) n h in
-      let (outer, second, e) = option_and_then_some _ (turn_number b d t) n rest in
+      let (inner, first, rest) = option_and_then_some _ (counter_number b c s) n h in
+      let (outer, second, e) = option_and_then_some _ (counter_number b d t) n rest in
       record { inner = inner; outer = outer; first = first; second = second; is = cc }
 
-  two_large : (c s d t n : ℕ) → IsTwo c s d t n → turns_base b ≤ n
+  two_large : (c s d t n : ℕ) → IsTwo c s d t n → counters_base b ≤ n
   two_large c s d t n x =
-      let some = turn_some d t x.outer x.second in
-      let row = mul-le 1 (turns_base b) x.outer (turns_base b) (omega (arith, some)) (omega arith) in
+      let some = counter_some d t x.outer x.second in
+      let row = mul-le 1 (counters_base b) x.outer (counters_base b) (omega (arith, some)) (omega arith) in
       omega (arith, x.is, row)
 
-  pub one_turns : (ts us : List ℕ) (n : ℕ) → turns_number b ts ≡ Some n → turns_number b us ≡ Some n → ts ≡ us
-  one_turns [] [] n h i = refl
-  one_turns [] (d ∷ []) n h i = cc
-  one_turns [] (d ∷ t ∷ []) n h i = let zero : 0 ≡ n = cc in absurd (omega (arith, zero, turn_some d t n i))
-  one_turns [] (d ∷ t ∷ e ∷ []) n h i = cc
-  one_turns [] (d ∷ t ∷ e ∷ u ∷ []) n h i =
+  pub one_counters : (ts us : List ℕ) (n : ℕ) → counters_number b ts ≡ Some n → counters_number b us ≡ Some n → ts ≡ us
+  one_counters [] [] n h i = refl
+  one_counters [] (d ∷ []) n h i = cc
+  one_counters [] (d ∷ t ∷ []) n h i = let zero : 0 ≡ n = cc in absurd (omega (arith, zero, counter_some d t n i))
+  one_counters [] (d ∷ t ∷ e ∷ []) n h i = cc
+  one_counters [] (d ∷ t ∷ e ∷ u ∷ []) n h i =
       let zero : 0 ≡ n = cc in absurd (omega (arith, zero, two_large d t e u n (two_is d t e u n i)))
-  one_turns [] (d ∷ t ∷ e ∷ u ∷ m ∷ ms) n h i = cc
-  one_turns (c ∷ []) us n h i = cc
-  one_turns (c ∷ s ∷ []) [] n h i = let zero : 0 ≡ n = cc in absurd (omega (arith, zero, turn_some c s n h))
-  one_turns (c ∷ s ∷ []) (d ∷ []) n h i = cc
-  one_turns (c ∷ s ∷ []) (d ∷ t ∷ []) n h i = let same = one_turn c s d t n h i in let e = same.0 in let f = same.1 in cc
-  one_turns (c ∷ s ∷ []) (d ∷ t ∷ e ∷ []) n h i = cc
-  one_turns (c ∷ s ∷ []) (d ∷ t ∷ e ∷ u ∷ []) n h i =
-      absurd (omega (arith, turn_small c s n h, two_large d t e u n (two_is d t e u n i)))
-  one_turns (c ∷ s ∷ []) (d ∷ t ∷ e ∷ u ∷ m ∷ ms) n h i = cc
-  one_turns (c ∷ s ∷ d ∷ []) us n h i = cc
-  one_turns (c ∷ s ∷ d ∷ t ∷ []) [] n h i =
+  one_counters [] (d ∷ t ∷ e ∷ u ∷ m ∷ ms) n h i = cc
+  one_counters (c ∷ []) us n h i = cc
+  one_counters (c ∷ s ∷ []) [] n h i = let zero : 0 ≡ n = cc in absurd (omega (arith, zero, counter_some c s n h))
+  one_counters (c ∷ s ∷ []) (d ∷ []) n h i = cc
+  one_counters (c ∷ s ∷ []) (d ∷ t ∷ []) n h i = let same = one_counter c s d t n h i in let e = same.0 in let f = same.1 in cc
+  one_counters (c ∷ s ∷ []) (d ∷ t ∷ e ∷ []) n h i = cc
+  one_counters (c ∷ s ∷ []) (d ∷ t ∷ e ∷ u ∷ []) n h i =
+      absurd (omega (arith, counter_small c s n h, two_large d t e u n (two_is d t e u n i)))
+  one_counters (c ∷ s ∷ []) (d ∷ t ∷ e ∷ u ∷ m ∷ ms) n h i = cc
+  one_counters (c ∷ s ∷ d ∷ []) us n h i = cc
+  one_counters (c ∷ s ∷ d ∷ t ∷ []) [] n h i =
       let zero : 0 ≡ n = cc in absurd (omega (arith, zero, two_large c s d t n (two_is c s d t n h)))
-  one_turns (c ∷ s ∷ d ∷ t ∷ []) (e ∷ []) n h i = cc
-  one_turns (c ∷ s ∷ d ∷ t ∷ []) (e ∷ u ∷ []) n h i =
-      absurd (omega (arith, turn_small e u n i, two_large c s d t n (two_is c s d t n h)))
-  one_turns (c ∷ s ∷ d ∷ t ∷ []) (e ∷ u ∷ g ∷ []) n h i = cc
-  one_turns (c ∷ s ∷ d ∷ t ∷ []) (e ∷ u ∷ g ∷ v ∷ []) n h i =
+  one_counters (c ∷ s ∷ d ∷ t ∷ []) (e ∷ []) n h i = cc
+  one_counters (c ∷ s ∷ d ∷ t ∷ []) (e ∷ u ∷ []) n h i =
+      absurd (omega (arith, counter_small e u n i, two_large c s d t n (two_is c s d t n h)))
+  one_counters (c ∷ s ∷ d ∷ t ∷ []) (e ∷ u ∷ g ∷ []) n h i = cc
+  one_counters (c ∷ s ∷ d ∷ t ∷ []) (e ∷ u ∷ g ∷ v ∷ []) n h i =
       let x = two_is c s d t n h in
       let y = two_is e u g v n i in
-      let same = same_from_place x.outer x.inner y.outer y.inner (turns_base b) (turn_small c s x.inner x.first) (turn_small e u y.inner y.first)
+      let same = same_from_place x.outer x.inner y.outer y.inner (counters_base b) (counter_small c s x.inner x.first) (counter_small e u y.inner y.first)
       (x.is ∙ sym y.is) in
-      let inner = one_turn c s e u x.inner x.first (y.first ∙ ap Some (sym same.1)) in
-      let outer = one_turn d t g v x.outer x.second (y.second ∙ ap Some (sym same.0)) in
+      let inner = one_counter c s e u x.inner x.first (y.first ∙ ap Some (sym same.1)) in
+      let outer = one_counter d t g v x.outer x.second (y.second ∙ ap Some (sym same.0)) in
       let a = inner.0 in
       let a' = inner.1 in
       let o = outer.0 in
       let o' = outer.1 in cc
-  one_turns (c ∷ s ∷ d ∷ t ∷ []) (e ∷ u ∷ g ∷ v ∷ m ∷ ms) n h i = cc
-  one_turns (c ∷ s ∷ d ∷ t ∷ n' ∷ ns) us n h i = cc
+  one_counters (c ∷ s ∷ d ∷ t ∷ []) (e ∷ u ∷ g ∷ v ∷ m ∷ ms) n h i = cc
+  one_counters (c ∷ s ∷ d ∷ t ∷ n' ∷ ns) us n h i = cc
 
   -- ---- a pair
 
-  pub record IsNumber (at : ℕ) (turns : List ℕ) (n : ℕ) : Type 0 where
+  pub record IsNumber (at : ℕ) (counters : List ℕ) (n : ℕ) : Type 0 where
     pub around : ℕ
-    pub turns_are : turns_number b turns ≡ Some around
-    pub low : at < b.points
+    pub counters_are : counters_number b counters ≡ Some around
+    pub low : at < b.states
     pub small : n < b.width
-    pub is : around * b.points + at ≡ n
+    pub is : around * b.states + at ≡ n
 
-  pub number_is : (at : ℕ) (turns : List ℕ) (n : ℕ) → pair_number b at turns ≡ Some n → IsNumber at turns n
-  number_is at turns n h =
-      let (around, are, e) = option_and_then_some _ (turns_number b turns) n h in
-      let made = if_some (nat_lt at b.points && nat_lt (around * b.points + at) b.width) (around * b.points + at) n e in
-      let both = and_parts (nat_lt at b.points) (nat_lt (around * b.points + at) b.width) made.0 in
-      let below = ltb-true (around * b.points + at) b.width both.1 in
+  pub number_is : (at : ℕ) (counters : List ℕ) (n : ℕ) → pair_number b at counters ≡ Some n → IsNumber at counters n
+  number_is at counters n h =
+      let (around, are, e) = option_and_then_some _ (counters_number b counters) n h in
+      let made = if_some (nat_lt at b.states && nat_lt (around * b.states + at) b.width) (around * b.states + at) n e in
+      let both = and_parts (nat_lt at b.states) (nat_lt (around * b.states + at) b.width) made.0 in
+      let below = ltb-true (around * b.states + at) b.width both.1 in
       record {
         around = around;
-        turns_are = are;
-        low = ltb-true at b.points both.0;
+        counters_are = are;
+        low = ltb-true at b.states both.0;
         small = omega (arith, below, made.1);
         is = made.1;
       }
@@ -144,8 +144,8 @@ module _ (b : PairBits) where
       let v = number_is a ts j first in
       let w = number_is c us l second in
       let same = same_from_place (p - base) j (q - base) l b.width v.small w.small (x.is ∙ sym y.is) in
-      let rows = same_from_place v.around a w.around c b.points v.low w.low (v.is ∙ same.1 ∙ sym w.is) in
+      let rows = same_from_place v.around a w.around c b.states v.low w.low (v.is ∙ same.1 ∙ sym w.is) in
       let places : p ≡ q = omega (arith, same.0, x.past, y.past) in
-      let points : a ≡ c = rows.1 in
-      let turns : ts ≡ us = one_turns ts us v.around v.turns_are (w.turns_are ∙ ap Some (sym rows.0)) in
+      let states : a ≡ c = rows.1 in
+      let counters : ts ≡ us = one_counters ts us v.around v.counters_are (w.counters_are ∙ ap Some (sym rows.0)) in
       cc

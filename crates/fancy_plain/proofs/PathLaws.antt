@@ -3,34 +3,34 @@ use Rattle.std.proofs.Common.{◌≡◌, ◌≤◌, ◌<◌, ◌∷◌, ◌++◌
 use Rattle.std.proofs.lemmas.List.{take-append-le, take-take}
 use Rattle.std.specs.Prelude.{nat_eq}
 use Rattle.std.specs.Option.{option_eq}
-use Rattle.fancy_points.specs.PointSearch as plain
-use Rattle.fancy_plain.specs.FailedPairs.{turn_numbers, stayed_number}
-use Rattle.fancy_plain.specs.Paths.{HasTurns, HasOpened, IsTurn, IsOpened, EndsTurns, IsStand, closed_after}
+use Rattle.fancy_nfa.specs.NfaSearch as plain
+use Rattle.fancy_plain.specs.FailedPairs.{counter_numbers, stayed_number}
+use Rattle.fancy_plain.specs.Paths.{HasCounters, HasOpened, IsCounter, IsOpened, EndsCounters, IsConfig, closed_after}
 use Rattle.fancy_plain.specs.Searches.{AreKept, Leading}
-use Rattle.fancy_plain.specs.declared.log.Entry.{Entry}
-use Rattle.fancy_plain.specs.declared.log.Entry.TheVariants as entry
-use Rattle.fancy_plain.specs.declared.log.Turn.{Turn}
-use Rattle.fancy_plain.specs.declared.log.Stand.{Stand}
-use Rattle.fancy_plain.specs.declared.choices.Choice.{Choice}
+use Rattle.fancy_plain.specs.declared.trail.Entry.{Entry}
+use Rattle.fancy_plain.specs.declared.trail.Entry.TheVariants as entry
+use Rattle.fancy_plain.specs.declared.trail.LoopCounter.{LoopCounter}
+use Rattle.fancy_plain.specs.declared.trail.NfaConfig.{NfaConfig}
+use Rattle.fancy_plain.specs.declared.backtrack_stack.StackFrame.{StackFrame}
 
 -- ---- the numbers of the iterations that a link leads to
 
 module _ (entries : List Entry) (place : ℕ) where
-  abbrev pub numbers_of : List plain.Turn → List ℕ
-  numbers_of turns = turn_numbers (map (plain.turn_key place) turns)
+  abbrev pub numbers_of : List plain.LoopCounter → List ℕ
+  numbers_of counters = counter_numbers (map (plain.counter_key place) counters)
 
   -- what is still to be written behind these numbers
-  abbrev pub AreWritten : (before numbers : List ℕ) → (link : ℕ) → List plain.Turn → Type 0
-  AreWritten before numbers link turns =
-      (rest : List plain.Turn) × (HasTurns entries link rest × (numbers ++ numbers_of rest ≡ before ++ numbers_of turns))
+  abbrev pub AreWritten : (before numbers : List ℕ) → (link : ℕ) → List plain.LoopCounter → Type 0
+  AreWritten before numbers link counters =
+      (rest : List plain.LoopCounter) × (HasCounters entries link rest × (numbers ++ numbers_of rest ≡ before ++ numbers_of counters))
 
-  pub written_more : (before numbers : List ℕ) (link : ℕ) (turns : List plain.Turn) (found : Turn × ℕ) (stayed : ℕ) →
+  pub written_more : (before numbers : List ℕ) (link : ℕ) (counters : List plain.LoopCounter) (found : LoopCounter × ℕ) (stayed : ℕ) →
       stayed ≡ stayed_number (plain.has_stayed place (found.0).since) →
-      ((ts : List plain.Turn) → HasTurns entries link ts → EndsTurns entries link ts (Some found)) →
-      AreWritten before numbers link turns →
-      AreWritten before ((numbers ++ ((found.0).count ∷ [])) ++ (stayed ∷ [])) found.1 turns
-  written_more before numbers link turns found stayed e ends ([], (h, w)) = absurd (ends [] h)
-  written_more before numbers link turns found stayed e ends ((t ∷ ts), (h, w)) =
+      ((ts : List plain.LoopCounter) → HasCounters entries link ts → EndsCounters entries link ts (Some found)) →
+      AreWritten before numbers link counters →
+      AreWritten before ((numbers ++ ((found.0).count ∷ [])) ++ (stayed ∷ [])) found.1 counters
+  written_more before numbers link counters found stayed e ends ([], (h, w)) = absurd (ends [] h)
+  written_more before numbers link counters found stayed e ends ((t ∷ ts), (h, w)) =
       let end = ends (t ∷ ts) h in
       let rest = numbers_of ts in (
         ts,
@@ -44,11 +44,11 @@ module _ (entries : List Entry) (place : ℕ) where
         ),
       )
 
-  pub written_all : (before numbers : List ℕ) (link : ℕ) (turns : List plain.Turn) →
-      ((ts : List plain.Turn) → HasTurns entries link ts → EndsTurns entries link ts None) →
-      AreWritten before numbers link turns → numbers ≡ before ++ numbers_of turns
-  written_all before numbers link turns ends ([], (h, w)) = sym (append-nil numbers) ∙ w
-  written_all before numbers link turns ends ((t ∷ ts), (h, w)) = absurd (ends (t ∷ ts) h)
+  pub written_all : (before numbers : List ℕ) (link : ℕ) (counters : List plain.LoopCounter) →
+      ((ts : List plain.LoopCounter) → HasCounters entries link ts → EndsCounters entries link ts None) →
+      AreWritten before numbers link counters → numbers ≡ before ++ numbers_of counters
+  written_all before numbers link counters ends ([], (h, w)) = sym (append-nil numbers) ∙ w
+  written_all before numbers link counters ends ((t ∷ ts), (h, w)) = absurd (ends (t ∷ ts) h)
 
 pub option_stays : (since : Option ℕ) (place : ℕ) → option_eq nat_eq since (Some place) ≡ plain.has_stayed place since
 option_stays None place = refl
@@ -79,24 +79,24 @@ pub agree_cut : (m n : ℕ) (es : List Entry) → m ≤ n → Agree m es (take n
 agree_cut m n es le = sym (take-take m n es le)
 
 module _ (es fs : List Entry) where
-  is_turn_below : (o : Option Entry) (k outer : ℕ) (t : plain.Turn) → IsTurn o k outer t → outer ≤ k
-  is_turn_below None k outer t h = absurd h
-  is_turn_below (Some (entry.Turn link turn)) k outer t h = h.1
-  is_turn_below (Some (entry.Opened link from)) k outer t h = absurd h
-  is_turn_below (Some (entry.Closed group from to)) k outer t h = absurd h
+  is_counter_below : (o : Option Entry) (k outer : ℕ) (t : plain.LoopCounter) → IsCounter o k outer t → outer ≤ k
+  is_counter_below None k outer t h = absurd h
+  is_counter_below (Some (entry.LoopCounter link counter)) k outer t h = h.1
+  is_counter_below (Some (entry.Opened link from)) k outer t h = absurd h
+  is_counter_below (Some (entry.Closed group from to)) k outer t h = absurd h
 
-  pub turns_agree : (n link : ℕ) (ts : List plain.Turn) → Agree n es fs → link ≤ n → HasTurns es link ts → HasTurns fs link ts
-  turns_agree n link [] a le h = h
-  turns_agree n link (t ∷ ts) a le (k, (outer, (e, is, rest))) =
+  pub counters_agree : (n link : ℕ) (ts : List plain.LoopCounter) → Agree n es fs → link ≤ n → HasCounters es link ts → HasCounters fs link ts
+  counters_agree n link [] a le h = h
+  counters_agree n link (t ∷ ts) a le (k, (outer, (e, is, rest))) =
       let lt : k < n = omega (arith, le, e) in
-      let below = is_turn_below (slice_get es k) k outer t is in (
+      let below = is_counter_below (slice_get es k) k outer t is in (
         k,
         (
           outer,
           (
             e,
-            subst (λ o. IsTurn o k outer t) (agree_at k n es fs lt a) is,
-            turns_agree n outer ts a (omega (arith, lt, below)) rest,
+            subst (λ o. IsCounter o k outer t) (agree_at k n es fs lt a) is,
+            counters_agree n outer ts a (omega (arith, lt, below)) rest,
           ),
         ),
       )
@@ -104,7 +104,7 @@ module _ (es fs : List Entry) where
   is_opened_below : (o : Option Entry) (k outer i : ℕ) → IsOpened o k outer i → outer ≤ k
   is_opened_below None k outer i h = absurd h
   is_opened_below (Some (entry.Opened link from)) k outer i h = h.1
-  is_opened_below (Some (entry.Turn link turn)) k outer i h = absurd h
+  is_opened_below (Some (entry.LoopCounter link counter)) k outer i h = absurd h
   is_opened_below (Some (entry.Closed group from to)) k outer i h = absurd h
 
   pub opened_agree : (n link : ℕ) (is : List ℕ) → Agree n es fs → link ≤ n → HasOpened es link is → HasOpened fs link is
@@ -123,25 +123,25 @@ module _ (es fs : List Entry) where
         ),
       )
 
-  pub stand_agrees : (path : ℕ) (s : Stand) (t : plain.Stand) → Agree path es fs → IsStand es path s t → IsStand fs path s t
-  stand_agrees path s t a h = record {
+  pub config_agrees : (path : ℕ) (s : NfaConfig) (t : plain.NfaConfig) → Agree path es fs → IsConfig es path s t → IsConfig fs path s t
+  config_agrees path s t a h = record {
     at = h.at;
     place = h.place;
-    turns_link = h.turns_link;
+    counters_link = h.counters_link;
     opened_link = h.opened_link;
-    turns = turns_agree path s.turns t.turns a h.turns_link h.turns;
+    counters = counters_agree path s.counters t.counters a h.counters_link h.counters;
     opened = opened_agree path s.opened t.opened a h.opened_link h.opened;
     spans = ap (closed_after []) (sym a) ∙ h.spans;
   }
 
-  pub kept_agree : (leading : Leading) (path : ℕ) (cs : List Choice) (later : List plain.Later) → Agree path es fs →
-      AreKept leading es path cs later → AreKept leading fs path cs later
-  kept_agree leading path [] later a h = h
-  kept_agree leading path (c ∷ cs) later a (le, (s, (rest, (is, keeps, more)))) =
+  pub kept_agree : (leading : Leading) (path : ℕ) (cs : List StackFrame) (frames : List plain.Frame) → Agree path es fs →
+      AreKept leading es path cs frames → AreKept leading fs path cs frames
+  kept_agree leading path [] frames a h = h
+  kept_agree leading path (c ∷ cs) frames a (le, (s, (rest, (is, keeps, more)))) =
       let shorter = agree_less c.path path es fs le a in
-      (le, (s, (rest, (stand_agrees c.path c.stand s shorter is, keeps, kept_agree leading c.path cs rest shorter more))))
+      (le, (s, (rest, (config_agrees c.path c.config s shorter is, keeps, kept_agree leading c.path cs rest shorter more))))
 
-pub kept_longer : (leading : Leading) (es : List Entry) (path longer : ℕ) (cs : List Choice) (later : List plain.Later) →
-    path ≤ longer → AreKept leading es path cs later → AreKept leading es longer cs later
-kept_longer leading es path longer [] later le h = h
-kept_longer leading es path longer (c ∷ cs) later le h = (omega (arith, le, h.0), h.1)
+pub kept_longer : (leading : Leading) (es : List Entry) (path longer : ℕ) (cs : List StackFrame) (frames : List plain.Frame) →
+    path ≤ longer → AreKept leading es path cs frames → AreKept leading es longer cs frames
+kept_longer leading es path longer [] frames le h = h
+kept_longer leading es path longer (c ∷ cs) frames le h = (omega (arith, le, h.0), h.1)

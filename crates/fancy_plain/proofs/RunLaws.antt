@@ -5,140 +5,140 @@ use Rattle.std.proofs.lemmas.Bool.Decides.{nat_tests}
 use Rattle.std.proofs.lemmas.Option.{none-some, slice_get-map}
 use Rattle.std.specs.declared.alloc.AllocError.{AllocError}
 use Rattle.fancy_meaning.specs.Moves.{past_char}
-use Rattle.fancy_points.specs.Points as points
-use Rattle.fancy_points.specs.PointSearch as plain
-use Rattle.fancy_points.specs.PointSearch.{Later, Search, TakesUp, goes_to, pair_of, passes}
-use Rattle.fancy_plain.specs.declared.choices.Choice.{Choice}
-use Rattle.fancy_plain.specs.declared.log.Entry.{Entry}
-use Rattle.fancy_plain.specs.declared.log.Log.{Log}
-use Rattle.fancy_plain.specs.declared.log.Stand.{Stand}
-use Rattle.fancy_plain.specs.declared.log.Turn.{Turn}
-use Rattle.fancy_plain.specs.declared.point.CharTest.{CharTest}
-use Rattle.fancy_plain.specs.declared.point.Loop as code
-use Rattle.fancy_plain.specs.declared.point.Point.{Point}
-use Rattle.fancy_plain.specs.declared.point.Point.TheVariants as point
-use Rattle.fancy_plain.specs.declared.search.Lead.{Lead}
-use Rattle.fancy_plain.specs.declared.search.Lead.TheVariants as lead
+use Rattle.fancy_nfa.specs.NfaStates as states
+use Rattle.fancy_nfa.specs.NfaSearch as plain
+use Rattle.fancy_nfa.specs.NfaSearch.{Frame, Search, TakesUp, goes_to, pair_of, passes}
+use Rattle.fancy_plain.specs.declared.backtrack_stack.StackFrame.{StackFrame}
+use Rattle.fancy_plain.specs.declared.trail.Entry.{Entry}
+use Rattle.fancy_plain.specs.declared.trail.Trail.{Trail}
+use Rattle.fancy_plain.specs.declared.trail.NfaConfig.{NfaConfig}
+use Rattle.fancy_plain.specs.declared.trail.LoopCounter.{LoopCounter}
+use Rattle.fancy_plain.specs.declared.nfa_state.CharTest.{CharTest}
+use Rattle.fancy_plain.specs.declared.nfa_state.Loop as code
+use Rattle.fancy_plain.specs.declared.nfa_state.NfaState.{NfaState}
+use Rattle.fancy_plain.specs.declared.nfa_state.NfaState.TheVariants as nfa_state
+use Rattle.fancy_plain.specs.declared.search.StepResult.{StepResult}
+use Rattle.fancy_plain.specs.declared.search.StepResult.TheVariants as step_result
 use Rattle.fancy_plain.specs.declared.search.Memo.{Memo}
 use Rattle.fancy_plain.specs.declared.search.Task.{Task}
 use Rattle.fancy_plain.specs.AsciiRuns.{AllPass}
-use Rattle.fancy_plain.specs.Choices.{choices_of, run_choices}
-use Rattle.fancy_plain.specs.Paths.{EndsTurns, HasTurns, IsStand, turn_of}
-use Rattle.fancy_plain.specs.Runs.{CanPass, FailsFrom, GoesOn, IsBody, IsForkOf, IsLostAt, IsRun, Passes, Refuses, Repeats, RunsOver, onward, run_later, run_search}
+use Rattle.fancy_plain.specs.BacktrackStack.{choices_of, run_choices}
+use Rattle.fancy_plain.specs.Paths.{EndsCounters, HasCounters, IsConfig, counter_of}
+use Rattle.fancy_plain.specs.Runs.{CanPass, FailsFrom, GoesOn, IsBody, IsLoopSplitOf, IsLostAt, IsRun, Passes, Refuses, Repeats, RunsOver, onward, run_frames, run_search}
 use Rattle.fancy_plain.specs.Searches.{AreKept, HaveFailed, IsHere, IsSearch, IsTask, Keeps, Leading, Leads, fails_of, after_steps_of, leading_of, next_of}
-use Rattle.fancy_plain.specs.Views.{IsReadBy, loop_of, point_of, test_of}
+use Rattle.fancy_plain.specs.Views.{IsReadBy, loop_of, state_of, test_of}
 use Rattle.fancy_plain.specs.FailedPairs.{has_pair, key_of}
-use Rattle.fancy_plain.proofs.BackLaws.{back_noted, one_more, steps_then}
-use Rattle.fancy_plain.proofs.BeginningLaws.{at_index, passes_alike, past_ascii, past_end}
-use Rattle.fancy_plain.proofs.SearchLaws.{here_by, here_past, inside, key_outside, leads_by, more_points, next_there, one_visit, same_tries}
+use Rattle.fancy_plain.proofs.BackLaws.{back_memoized, one_more, steps_then}
+use Rattle.fancy_plain.proofs.FirstSetLaws.{at_index, passes_alike, past_ascii, past_end}
+use Rattle.fancy_plain.proofs.SearchLaws.{here_by, here_past, inside, key_outside, steps_by, more_states, next_there, one_visit, same_tries}
 
 -- ---- the heads of loops
 
 -- a loop that does not count
-pub fork_of : (task : Task) (here : Stand) (first second : ℕ) → slice_get (task.points).now here.at ≡ Some (point.Fork first second) →
-    (s : plain.Stand) → here.at ≡ s.at → IsForkOf (leading_of task) first (goes_to second) s
-fork_of task here first second head s at n = leads_by task (point.Fork first second) here (onward n s) at head
+pub loop_split_of : (task : Task) (here : NfaConfig) (first second : ℕ) → slice_get (task.states).now here.at ≡ Some (nfa_state.LoopSplit first second) →
+    (s : plain.NfaConfig) → here.at ≡ s.at → IsLoopSplitOf (leading_of task) first (goes_to second) s
+loop_split_of task here first second head s at n = steps_by task (nfa_state.LoopSplit first second) here (onward n s) at head
 
-leads_on : (loop : points.Loop) (after : ℕ) (s : plain.Stand) (t : plain.Turn) (around : List plain.Turn) →
+steps_on : (loop : states.Loop) (after : ℕ) (s : plain.NfaConfig) (t : plain.LoopCounter) (around : List plain.LoopCounter) →
     loop.greedy ≡ true → loop.hi ≡ None → loop.asks_moved ≡ false → t ≡ record { count = loop.lo; since = None } →
-    plain.head_lead loop after s (t ∷ around)
-    ≡ plain.Tries true (record (plain.forward s) { turns = t ∷ around }) (record (goes_to after s) { turns = around } ∷ [])
-leads_on loop after s t around greedy bound asks is =
-    ap (λ u. plain.head_lead loop after s (u ∷ around)) is ∙ by_parts loop.greedy loop.hi loop.asks_moved greedy bound asks
-    ∙ ap (λ u. plain.Tries true (record (plain.forward s) { turns = u ∷ around }) (record (goes_to after s) { turns = around } ∷ [])) (sym is)
+    plain.counter_loop_step loop after s (t ∷ around)
+    ≡ plain.Tries true (record (plain.forward s) { counters = t ∷ around }) (record (goes_to after s) { counters = around } ∷ [])
+steps_on loop after s t around greedy bound asks is =
+    ap (λ u. plain.counter_loop_step loop after s (u ∷ around)) is ∙ by_parts loop.greedy loop.hi loop.asks_moved greedy bound asks
+    ∙ ap (λ u. plain.Tries true (record (plain.forward s) { counters = u ∷ around }) (record (goes_to after s) { counters = around } ∷ [])) (sym is)
   where
-    lasting : plain.Turn
+    lasting : plain.LoopCounter
     lasting = record { count = loop.lo; since = None }
 
     by_parts : (g : Bool) (hi : Option ℕ) (a : Bool) → g ≡ true → hi ≡ None → a ≡ false →
-        plain.head_lead (record { lo = loop.lo; hi = hi; greedy = g; asks_moved = a }) after s (lasting ∷ around)
-        ≡ plain.Tries true (record (plain.forward s) { turns = lasting ∷ around }) (record (goes_to after s) { turns = around } ∷ [])
+        plain.counter_loop_step (record { lo = loop.lo; hi = hi; greedy = g; asks_moved = a }) after s (lasting ∷ around)
+        ≡ plain.Tries true (record (plain.forward s) { counters = lasting ∷ around }) (record (goes_to after s) { counters = around } ∷ [])
     by_parts true None false e f h =
         cond-false (nat_lt loop.lo loop.lo) _ _ (let no : nat_lt loop.lo loop.lo ≡ false = grind (arith, nat_tests) in no)
-        ∙ ap (λ n. plain.Tries true (record (plain.forward s) { turns = record { count = n; since = None } ∷ around })
-        (record (goes_to after s) { turns = around } ∷ []))
+        ∙ ap (λ n. plain.Tries true (record (plain.forward s) { counters = record { count = n; since = None } ∷ around })
+        (record (goes_to after s) { counters = around } ∷ []))
         (let same : min (loop.lo + 1) loop.lo ≡ loop.lo = omega arith in same)
     by_parts false hi a e f h = absurd (true≢false (sym e))
     by_parts true (Some n) a e f h = absurd (none-some n (sym f))
     by_parts true None true e f h = absurd (true≢false h)
 
 -- a loop that counts, where it counts no more
-pub head_of : (task : Task) (here : Stand) (loop : code.Loop) (after : ℕ) →
-    slice_get (task.points).now here.at ≡ Some (point.Head loop after) →
-    (s : plain.Stand) → here.at ≡ s.at → Repeats (loop_of loop) s.turns →
-    (out : plain.Stand → plain.Stand) × IsForkOf (leading_of task) (here.at + 1) out s
-head_of task here loop after head s at repeats = by_turns s.turns refl repeats
+pub head_of : (task : Task) (here : NfaConfig) (loop : code.Loop) (after : ℕ) →
+    slice_get (task.states).now here.at ≡ Some (nfa_state.CounterLoop loop after) →
+    (s : plain.NfaConfig) → here.at ≡ s.at → Repeats (loop_of loop) s.counters →
+    (out : plain.NfaConfig → plain.NfaConfig) × IsLoopSplitOf (leading_of task) (here.at + 1) out s
+head_of task here loop after head s at repeats = by_counters s.counters refl repeats
   where
-    by_turns : (turns : List plain.Turn) → s.turns ≡ turns → Repeats (loop_of loop) turns →
-        (out : plain.Stand → plain.Stand) × IsForkOf (leading_of task) (here.at + 1) out s
-    by_turns [] e h = absurd h
-    by_turns (t ∷ around) e (greedy, bound, asks, is) = (
-      λ x. record (goes_to after x) { turns = around },
+    by_counters : (counters : List plain.LoopCounter) → s.counters ≡ counters → Repeats (loop_of loop) counters →
+        (out : plain.NfaConfig → plain.NfaConfig) × IsLoopSplitOf (leading_of task) (here.at + 1) out s
+    by_counters [] e h = absurd h
+    by_counters (t ∷ around) e (greedy, bound, asks, is) = (
+      λ x. record (goes_to after x) { counters = around },
       λ n.
-          leads_by task (point.Head loop after) here (onward n s) at head
-          ∙ ap (plain.head_lead (loop_of loop) after (onward n s)) e
-          ∙ leads_on (loop_of loop) after (onward n s) t around greedy bound asks is
-          ∙ ap₂ (λ p u. plain.Tries true (record (onward n s) { at = p + 1; turns = u }) (record (goes_to after (onward n s)) { turns = around } ∷ []))
+          steps_by task (nfa_state.CounterLoop loop after) here (onward n s) at head
+          ∙ ap (plain.counter_loop_step (loop_of loop) after (onward n s)) e
+          ∙ steps_on (loop_of loop) after (onward n s) t around greedy bound asks is
+          ∙ ap₂ (λ p u. plain.Tries true (record (onward n s) { at = p + 1; counters = u }) (record (goes_to after (onward n s)) { counters = around } ∷ []))
           (sym at) (sym e),
     )
 
 -- ---- the steps of an iteration
 
-module _ (task : Task) (here : Stand) (first : ℕ) (out : plain.Stand → plain.Stand) (test : CharTest)
-    (body : slice_get (task.points).now first ≡ Some (point.Take test))
-    (back : slice_get (task.points).now (first + 1) ≡ Some (point.Jump here.at))
-    (s : plain.Stand) (at : here.at ≡ s.at) (forks : IsForkOf (leading_of task) first out s)
-    (counted : plain.is_counted (slice_get (map point_of (task.points).now) here.at) ≡ true) where
-  abbrev taken : Search → plain.Stand → Search
+module _ (task : Task) (here : NfaConfig) (first : ℕ) (out : plain.NfaConfig → plain.NfaConfig) (test : CharTest)
+    (body : slice_get (task.states).now first ≡ Some (nfa_state.Character test))
+    (back : slice_get (task.states).now (first + 1) ≡ Some (nfa_state.Jump here.at))
+    (s : plain.NfaConfig) (at : here.at ≡ s.at) (loop_splits : IsLoopSplitOf (leading_of task) first out s)
+    (counted : plain.is_counted (slice_get (map state_of (task.states).now) here.at) ≡ true) where
+  abbrev taken : Search → plain.NfaConfig → Search
   taken g t = record g {
-    later = plain.Other (out t) ∷ plain.Fails (pair_of t) ∷ g.later;
+    frames = plain.Other (out t) ∷ plain.Fails (pair_of t) ∷ g.frames;
     visits = g.visits + 1;
   }
 
-  head_step : (n : ℕ) (g : Search) → g.failed (pair_of (onward n s)) ≡ false →
+  counter_loop_moves : (n : ℕ) (g : Search) → g.failed (pair_of (onward n s)) ≡ false →
       next_of task (TakesUp (onward n s) g) ≡ TakesUp (goes_to first (onward n s)) (taken g (onward n s))
-  head_step n g free =
+  counter_loop_moves n g free =
       let t = onward n s in
-      let all = map point_of (task.points).now in
-      ap (λ l. plain.next_by l (slice_get all s.at) t g) (forks n) ∙ cond-false (g.failed (pair_of t)) _ _ free
-      ∙ ap (λ c. TakesUp (goes_to first t) (plain.with_later (plain.Other (out t) ∷ plain.Fails (pair_of t) ∷ [])
+      let all = map state_of (task.states).now in
+      ap (λ l. plain.next_by l (slice_get all s.at) t g) (loop_splits n) ∙ cond-false (g.failed (pair_of t)) _ _ free
+      ∙ ap (λ c. TakesUp (goes_to first t) (plain.with_frames (plain.Other (out t) ∷ plain.Fails (pair_of t) ∷ [])
       (if c then record g { visits = g.visits + 1 } else g))) (ap (λ k. plain.is_counted (slice_get all k)) (sym at) ∙ counted)
 
-  body_step : (t : plain.Stand) (g : Search) →
+  body_step : (t : plain.NfaConfig) (g : Search) →
       past_char (task.text).now (passes (task.text).now task.unicode (test_of test)) t.place ≡ Some (t.place + 1) →
       next_of task (TakesUp (goes_to first t) g)
       ≡ TakesUp (record t { at = first + 1; place = t.place + 1 }) (record g { visits = g.visits + 1 })
   body_step t g past =
-      next_there task (point.Take test) (record here { at = first }) (goes_to first t) refl body g
-      ∙ ap (λ o. plain.next_by (plain.goes_past (goes_to first t) o) (Some (points.Take (test_of test))) (goes_to first t) g) past
+      next_there task (nfa_state.Character test) (record here { at = first }) (goes_to first t) refl body g
+      ∙ ap (λ o. plain.next_by (plain.goes_past (goes_to first t) o) (Some (states.Character (test_of test))) (goes_to first t) g) past
 
-  back_step : (t : plain.Stand) (g : Search) → t.at ≡ first + 1 →
+  back_step : (t : plain.NfaConfig) (g : Search) → t.at ≡ first + 1 →
       next_of task (TakesUp t g) ≡ TakesUp (goes_to here.at t) g
-  back_step t g e = next_there task (point.Jump here.at) (record here { at = first + 1 }) t (sym e) back g
+  back_step t g e = next_there task (nfa_state.Jump here.at) (record here { at = first + 1 }) t (sym e) back g
 
   -- where no character passes, it goes on by the way out
   pub body_fails : (f : Search) → f.failed (pair_of s) ≡ false → Refuses task test s.place →
       (leading_of task s ≡ plain.Tries true (goes_to first s) (out s ∷ []))
       × (after_steps_of task 3 (TakesUp s f)
-      ≡ TakesUp (out s) (record f { later = plain.Fails (pair_of s) ∷ f.later; visits = f.visits + 2 }))
+      ≡ TakesUp (out s) (record f { frames = plain.Fails (pair_of s) ∷ f.frames; visits = f.visits + 2 }))
   body_fails f free none =
       let same : s.place + 0 ≡ s.place = omega arith in
-      let lead : leading_of task s ≡ plain.Tries true (goes_to first s) (out s ∷ []) =
+      let step_result : leading_of task s ≡ plain.Tries true (goes_to first s) (out s ∷ []) =
       subst (λ i. leading_of task (record s { place = i }) ≡ plain.Tries true (goes_to first (record s { place = i })) (out (record s { place = i }) ∷ []))
-      same (forks 0) in
-      let all = map point_of (task.points).now in
+      same (loop_splits 0) in
+      let all = map state_of (task.states).now in
       let g = taken f s in
       let up : next_of task (TakesUp s f) ≡ TakesUp (goes_to first s) g =
-      ap (λ l. plain.next_by l (slice_get all s.at) s f) lead ∙ cond-false (f.failed (pair_of s)) _ _ free
-      ∙ ap (λ c. TakesUp (goes_to first s) (plain.with_later (plain.Other (out s) ∷ plain.Fails (pair_of s) ∷ [])
+      ap (λ l. plain.next_by l (slice_get all s.at) s f) step_result ∙ cond-false (f.failed (pair_of s)) _ _ free
+      ∙ ap (λ c. TakesUp (goes_to first s) (plain.with_frames (plain.Other (out s) ∷ plain.Fails (pair_of s) ∷ [])
       (if c then record f { visits = f.visits + 1 } else f))) (ap (λ k. plain.is_counted (slice_get all k)) (sym at) ∙ counted) in
       let gone : next_of task (TakesUp (goes_to first s) g) ≡ plain.TakesBack (record g { visits = g.visits + 1 }) =
-      next_there task (point.Take test) (record here { at = first }) (goes_to first s) refl body g
-      ∙ ap (λ o. plain.next_by (plain.goes_past (goes_to first s) o) (Some (points.Take (test_of test))) (goes_to first s) g) none in
+      next_there task (nfa_state.Character test) (record here { at = first }) (goes_to first s) refl body g
+      ∙ ap (λ o. plain.next_by (plain.goes_past (goes_to first s) o) (Some (states.Character (test_of test))) (goes_to first s) g) none in
       let two : f.visits + 1 + 1 ≡ f.visits + 2 = omega arith in (
-        lead,
+        step_result,
         ap (after_steps_of task 2) up ∙ ap (next_of task) gone
-            ∙ ap (λ v. TakesUp (out s) (record f { later = plain.Fails (pair_of s) ∷ f.later; visits = v })) two,
+            ∙ ap (λ v. TakesUp (out s) (record f { frames = plain.Fails (pair_of s) ∷ f.frames; visits = v })) two,
       )
 
   -- where an iteration after n of them comes to
@@ -164,42 +164,42 @@ module _ (task : Task) (here : Stand) (first : ℕ) (out : plain.Stand → plain
   run_on (suc n) f past free =
       let on = run_on n f (λ k below. past k (omega (arith, below))) (λ k below. free k (omega (arith, below))) in
       let g = run_search out n s f in
-      let one = one_more task on.0 (TakesUp s f) (TakesUp (onward n s) g) on.1 ∙ head_step n g (free n (omega arith)) in
+      let one = one_more task on.0 (TakesUp s f) (TakesUp (onward n s) g) on.1 ∙ counter_loop_moves n g (free n (omega arith)) in
       let two = one_more task (suc on.0) (TakesUp s f) _ one ∙ body_step (onward n s) (taken g (onward n s)) (past n (omega arith)) in
       let three = one_more task (suc (suc on.0)) (TakesUp s f) _ two ∙ back_step _ _ refl in
       (suc (suc (suc on.0)), three ∙ behind n f)
 
 -- ---- what is kept
 
-onward_stands : (entries : List Entry) (path : ℕ) (here : Stand) (s : plain.Stand) (place n : ℕ) → place ≡ s.place + n →
-    IsStand entries path here s → IsStand entries path (record here { place = place }) (onward n s)
-onward_stands entries path here s place n e h = record {
+onward_configs : (entries : List Entry) (path : ℕ) (here : NfaConfig) (s : plain.NfaConfig) (place n : ℕ) → place ≡ s.place + n →
+    IsConfig entries path here s → IsConfig entries path (record here { place = place }) (onward n s)
+onward_configs entries path here s place n e h = record {
   at = h.at;
   place = e;
-  turns_link = h.turns_link;
+  counters_link = h.counters_link;
   opened_link = h.opened_link;
-  turns = h.turns;
+  counters = h.counters;
   opened = h.opened;
   spans = h.spans;
 }
 
-module _ (leading : Leading) (entries : List Entry) (here : Stand) (s : plain.Stand) (first : ℕ) (out : plain.Stand → plain.Stand)
-    (forks : IsForkOf leading first out s) (stands : IsStand entries (length entries) here s) (cs : List Choice) (later : List Later)
-    (kept : AreKept leading entries (length entries) cs later) where
-  abbrev choice_at : ℕ → Choice
-  choice_at place = record { stand = record here { place = place }; path = length entries; is_untried = true }
+module _ (leading : Leading) (entries : List Entry) (here : NfaConfig) (s : plain.NfaConfig) (first : ℕ) (out : plain.NfaConfig → plain.NfaConfig)
+    (loop_splits : IsLoopSplitOf leading first out s) (stands : IsConfig entries (length entries) here s) (cs : List StackFrame) (frames : List Frame)
+    (kept : AreKept leading entries (length entries) cs frames) where
+  abbrev choice_at : ℕ → StackFrame
+  choice_at place = record { config = record here { place = place }; path = length entries; is_untried = true }
 
   pub run_kept : (n place : ℕ) → place ≡ s.place + n →
-      AreKept leading entries (length entries) (run_choices n (choice_at place) ++ cs) (run_later out (suc n) s later)
+      AreKept leading entries (length entries) (run_choices n (choice_at place) ++ cs) (run_frames out (suc n) s frames)
   run_kept zero place e = (
     omega arith,
     (
       onward 0 s,
       (
-        later,
+        frames,
         (
-          onward_stands entries (length entries) here s place 0 e stands,
-          (true, (goes_to first (onward 0 s), (out (onward 0 s), (forks 0, refl)))),
+          onward_configs entries (length entries) here s place 0 e stands,
+          (true, (goes_to first (onward 0 s), (out (onward 0 s), (loop_splits 0, refl)))),
           kept,
         ),
       ),
@@ -210,10 +210,10 @@ module _ (leading : Leading) (entries : List Entry) (here : Stand) (s : plain.St
     (
       onward (suc n) s,
       (
-        run_later out (suc n) s later,
+        run_frames out (suc n) s frames,
         (
-          onward_stands entries (length entries) here s place (suc n) e stands,
-          (true, (goes_to first (onward (suc n) s), (out (onward (suc n) s), (forks (suc n), refl)))),
+          onward_configs entries (length entries) here s place (suc n) e stands,
+          (true, (goes_to first (onward (suc n) s), (out (onward (suc n) s), (loop_splits (suc n), refl)))),
           run_kept n (place - 1) (omega (arith, e)),
         ),
       ),
@@ -221,130 +221,130 @@ module _ (leading : Leading) (entries : List Entry) (here : Stand) (s : plain.St
   )
 
 -- the memo behind a run
-pub run_stands : (leading : Leading) (m new : Memo) (here on : Stand) (s : plain.Stand) (f : Search) (first : ℕ) (out : plain.Stand → plain.Stand) (count place : ℕ) →
+pub run_stands : (leading : Leading) (m new : Memo) (here on : NfaConfig) (s : plain.NfaConfig) (f : Search) (first : ℕ) (out : plain.NfaConfig → plain.NfaConfig) (count place : ℕ) →
     0 < count → place ≡ here.place + count - 1 → on ≡ record here { place = here.place + count } →
-    choices_of new.later
-    ≡ run_choices (count - 1) (record { stand = record here { place = place }; path = length m.log.entries.items; is_untried = true })
-    ++ choices_of m.later →
-    new ≡ record m { later = new.later; visits = new.visits } → new.visits ≤ m.visits + 2 * count →
-    IsSearch leading m f → IsHere m here s → IsForkOf leading first out s →
+    choices_of new.frames
+    ≡ run_choices (count - 1) (record { config = record here { place = place }; path = length m.trail.entries.items; is_untried = true })
+    ++ choices_of m.frames →
+    new ≡ record m { frames = new.frames; visits = new.visits } → new.visits ≤ m.visits + 2 * count →
+    IsSearch leading m f → IsHere m here s → IsLoopSplitOf leading first out s →
     IsSearch leading new (run_search out count s f) × IsHere new on (onward count s)
-run_stands leading m new here on s f first out zero place some at to items rest visits h stands forks = absurd (omega (arith, some))
-run_stands leading m new here on s f first out (suc n) place some at to items rest visits h stands forks =
-    let es = m.log.entries.items in
-    let log : new.log ≡ m.log = ap (λ (x : Memo). x.log) rest in
+run_stands leading m new here on s f first out zero place some at to items rest visits h stands loop_splits = absurd (omega (arith, some))
+run_stands leading m new here on s f first out (suc n) place some at to items rest visits h stands loop_splits =
+    let es = m.trail.entries.items in
+    let trail : new.trail ≡ m.trail = ap (λ (x : Memo). x.trail) rest in
     let same : new.failed ≡ m.failed = ap (λ (x : Memo). x.failed) rest in
-    let kept = run_kept leading es here s first out forks stands (choices_of m.later) f.later h.later n place (let p = stands.place in omega (arith, at, p)) in
+    let kept = run_kept leading es here s first out loop_splits stands (choices_of m.frames) f.frames h.frames n place (let p = stands.place in omega (arith, at, p)) in
     let count : suc n - 1 ≡ n = omega arith in (
       record {
-        later =
-            subst (λ cs. AreKept leading new.log.entries.items (length new.log.entries.items) cs (run_later out (suc n) s f.later)) (sym items)
-            (subst (λ k. AreKept leading new.log.entries.items (length new.log.entries.items)
-            (run_choices k (record { stand = record here { place = place }; path = length es; is_untried = true }) ++ choices_of m.later)
-            (run_later out (suc n) s f.later)) (sym count)
-            (subst (λ (l : Log). AreKept leading l.entries.items (length l.entries.items)
-            (run_choices n (record { stand = record here { place = place }; path = length es; is_untried = true }) ++ choices_of m.later)
-            (run_later out (suc n) s f.later)) (sym log) kept));
+        frames =
+            subst (λ cs. AreKept leading new.trail.entries.items (length new.trail.entries.items) cs (run_frames out (suc n) s f.frames)) (sym items)
+            (subst (λ k. AreKept leading new.trail.entries.items (length new.trail.entries.items)
+            (run_choices k (record { config = record here { place = place }; path = length es; is_untried = true }) ++ choices_of m.frames)
+            (run_frames out (suc n) s f.frames)) (sym count)
+            (subst (λ (l : Trail). AreKept leading l.entries.items (length l.entries.items)
+            (run_choices n (record { config = record here { place = place }; path = length es; is_untried = true }) ++ choices_of m.frames)
+            (run_frames out (suc n) s f.frames)) (sym trail) kept));
         failed = λ p. ap (λ x. has_pair x (key_of p)) same ∙ h.failed p;
         visits = let v = h.visits in omega (arith, v, visits);
       },
       subst (λ x. IsHere new x (onward (suc n) s)) (sym to)
-          (subst (λ (l : Log). IsStand l.entries.items (length l.entries.items)
-          (record here { place = here.place + suc n }) (onward (suc n) s)) (sym log)
-          (onward_stands es (length es) here s (here.place + suc n) (suc n) (ap (λ i. i + suc n) stands.place) stands)),
+          (subst (λ (l : Trail). IsConfig l.entries.items (length l.entries.items)
+          (record here { place = here.place + suc n }) (onward (suc n) s)) (sym trail)
+          (onward_configs es (length es) here s (here.place + suc n) (suc n) (ap (λ i. i + suc n) stands.place) stands)),
     )
 
 -- ---- from a step to the next
 
-pub goes_on_then : (task : Task) (next : plain.Next) (k : ℕ) (f : Search) (s : plain.Stand) (m : Memo) (there : Stand) →
+pub goes_on_then : (task : Task) (next : plain.Next) (k : ℕ) (f : Search) (s : plain.NfaConfig) (m : Memo) (there : NfaConfig) →
     after_steps_of task k next ≡ TakesUp s f → GoesOn task (TakesUp s f) m there → GoesOn task next m there
 goes_on_then task next k f s m there e (j, (g, (t, (is, h, stands)))) =
     (k + j, (g, (t, (steps_then task k j next (TakesUp s f) e ∙ is, h, stands))))
 
 -- a run that was found is passed
-pub past_run : (task : Task) (m new : Memo) (test : CharTest) (here : Stand) (count : ℕ) (r : Result Stand AllocError) →
+pub past_run : (task : Task) (m new : Memo) (test : CharTest) (here : NfaConfig) (count : ℕ) (r : Result NfaConfig AllocError) →
     RunsOver task m here test → IsRun task m test here count →
-    IfOk r (λ on. (leading : Leading) (f : Search) (s : plain.Stand) (first : ℕ) (out : plain.Stand → plain.Stand) → IsSearch leading m f →
-    IsHere m here s → IsForkOf leading first out s → IsSearch leading new (run_search out count s f) × IsHere new on (onward count s)) →
-    IfOk r (λ on. (s : plain.Stand) (f : Search) → IsSearch (leading_of task) m f → IsHere m here s → GoesOn task (TakesUp s f) new on)
+    IfOk r (λ on. (leading : Leading) (f : Search) (s : plain.NfaConfig) (first : ℕ) (out : plain.NfaConfig → plain.NfaConfig) → IsSearch leading m f →
+    IsHere m here s → IsLoopSplitOf leading first out s → IsSearch leading new (run_search out count s f) × IsHere new on (onward count s)) →
+    IfOk r (λ on. (s : plain.NfaConfig) (f : Search) → IsSearch (leading_of task) m f → IsHere m here s → GoesOn task (TakesUp s f) new on)
 past_run task m new test here count (Err e) over run keeps = tt
 past_run task m new test here count (Ok on) over run keeps = λ s f h stands.
     let loop = over s stands in
     let first = loop.0 in
     let out = loop.1.0 in
-    let forks = loop.1.1.0 in
+    let loop_splits = loop.1.1.0 in
     let body = loop.1.1.2 in
-    let kept = keeps (leading_of task) f s first out h stands forks in
+    let kept = keeps (leading_of task) f s first out h stands loop_splits in
     let place = stands.place in
-    let steps = run_on task here first out test body.0 body.1 s stands.at forks loop.1.1.1 count f
+    let steps = run_on task here first out test body.0 body.1 s stands.at loop_splits loop.1.1.1 count f
     (λ k below.
     subst (λ i. past_char (task.text).now (passes (task.text).now task.unicode (test_of test)) i ≡ Some (i + 1)) {x = here.place + k}
     (ap (λ i. i + k) place) (run (here.place + k) (omega arith) (omega (arith, below))).passes)
     (λ k below.
     (run (here.place + k) (omega arith) (omega (arith, below))).free (onward k s) f.failed
-    (onward_stands m.log.entries.items (length m.log.entries.items) here s (here.place + k) k (ap (λ i. i + k) place) stands) h.failed)
+    (onward_configs m.trail.entries.items (length m.trail.entries.items) here s (here.place + k) k (ap (λ i. i + k) place) stands) h.failed)
     in
     (steps.0, (run_search out count s f, (onward count s, (steps.1, kept.0, kept.1))))
 
 -- a loop is gone over where a run of it ends as where it began
-pub runs_onward : (task : Task) (m new : Memo) (here : Stand) (test : CharTest) (count : ℕ) → new.log ≡ m.log →
+pub runs_onward : (task : Task) (m new : Memo) (here : NfaConfig) (test : CharTest) (count : ℕ) → new.trail ≡ m.trail →
     RunsOver task m here test → RunsOver task new (record here { place = here.place + count }) test
-runs_onward task m new here test count log over = λ s stands.
-    let began : plain.Stand = record s { place = here.place } in
+runs_onward task m new here test count trail over = λ s stands.
+    let began : plain.NfaConfig = record s { place = here.place } in
     let first_here : IsHere m here began =
-    at_beginning m.log.entries.items (length m.log.entries.items)
-    (subst (λ (l : Log). IsStand l.entries.items (length l.entries.items) (record here { place = here.place + count }) s) log stands) in
+    at_beginning m.trail.entries.items (length m.trail.entries.items)
+    (subst (λ (l : Trail). IsConfig l.entries.items (length l.entries.items) (record here { place = here.place + count }) s) trail stands) in
     let loop = over began first_here in
     let first = loop.0 in
     let out = loop.1.0 in
-    let forks : IsForkOf (leading_of task) first out s =
+    let loop_splits : IsLoopSplitOf (leading_of task) first out s =
     λ n.
     let same : here.place + (count + n) ≡ s.place + n = let p = stands.place in omega (arith, p) in
     subst (λ i. leading_of task (record s { place = i }) ≡ plain.Tries true (goes_to first (record s { place = i })) (out (record s { place = i }) ∷ []))
     same (loop.1.1.0 (count + n)) in
-    (first, (out, (forks, loop.1.1.1, loop.1.1.2)))
+    (first, (out, (loop_splits, loop.1.1.1, loop.1.1.2)))
   where
-    at_beginning : (entries : List Entry) (path : ℕ) → {s : plain.Stand} → IsStand entries path (record here { place = here.place + count }) s →
-        IsStand entries path here (record s { place = here.place })
+    at_beginning : (entries : List Entry) (path : ℕ) → {s : plain.NfaConfig} → IsConfig entries path (record here { place = here.place + count }) s →
+        IsConfig entries path here (record s { place = here.place })
     at_beginning entries path h = record {
       at = h.at;
       place = refl;
-      turns_link = h.turns_link;
+      counters_link = h.counters_link;
       opened_link = h.opened_link;
-      turns = h.turns;
+      counters = h.counters;
       opened = h.opened;
       spans = h.spans;
     }
 
 -- the same for where it went
-pub run_over : (task : Task) (m new : Memo) (here : Stand) (test : CharTest) (count : ℕ) (r : Result Stand AllocError) →
-    new.log ≡ m.log → RunsOver task m here test → IfOk r (λ on. on ≡ record here { place = here.place + count }) →
+pub run_over : (task : Task) (m new : Memo) (here : NfaConfig) (test : CharTest) (count : ℕ) (r : Result NfaConfig AllocError) →
+    new.trail ≡ m.trail → RunsOver task m here test → IfOk r (λ on. on ≡ record here { place = here.place + count }) →
     IfOk r (λ on. RunsOver task new on test)
-run_over task m new here test count (Err e) log over is = tt
-run_over task m new here test count (Ok on) log over is =
-    subst (λ x. RunsOver task new x test) (sym is) (runs_onward task m new here test count log over)
+run_over task m new here test count (Err e) trail over is = tt
+run_over task m new here test count (Ok on) trail over is =
+    subst (λ x. RunsOver task new x test) (sym is) (runs_onward task m new here test count trail over)
 
-counted_at : (task : Task) (at : ℕ) (p : Point) → slice_get (task.points).now at ≡ Some p → plain.is_counted (Some (point_of p)) ≡ true →
-    plain.is_counted (slice_get (map point_of (task.points).now) at) ≡ true
+counted_at : (task : Task) (at : ℕ) (p : NfaState) → slice_get (task.states).now at ≡ Some p → plain.is_counted (Some (state_of p)) ≡ true →
+    plain.is_counted (slice_get (map state_of (task.states).now) at) ≡ true
 counted_at task at p there counts =
-    ap plain.is_counted (slice_get-map point_of (task.points).now at ∙ ap (option_map point_of) there) ∙ counts
+    ap plain.is_counted (slice_get-map state_of (task.states).now at ∙ ap (option_map state_of) there) ∙ counts
 
-pub fork_runs : (task : Task) (m : Memo) (here : Stand) (test : CharTest) (first second : ℕ) →
-    slice_get (task.points).now here.at ≡ Some (point.Fork first second) → IsBody (task.points).now here.at first test → RunsOver task m here test
-fork_runs task m here test first second head body = λ s stands.
-    (first, (goes_to second, (fork_of task here first second head s stands.at, counted_at task here.at _ head refl, body)))
+pub loop_split_runs : (task : Task) (m : Memo) (here : NfaConfig) (test : CharTest) (first second : ℕ) →
+    slice_get (task.states).now here.at ≡ Some (nfa_state.LoopSplit first second) → IsBody (task.states).now here.at first test → RunsOver task m here test
+loop_split_runs task m here test first second head body = λ s stands.
+    (first, (goes_to second, (loop_split_of task here first second head s stands.at, counted_at task here.at _ head refl, body)))
 
-pub head_runs : (task : Task) (m : Memo) (here : Stand) (test : CharTest) (loop : code.Loop) (after : ℕ) →
-    slice_get (task.points).now here.at ≡ Some (point.Head loop after) →
-    ((s : plain.Stand) → IsHere m here s → Repeats (loop_of loop) s.turns) → IsBody (task.points).now here.at (here.at + 1) test →
+pub counter_loop_runs : (task : Task) (m : Memo) (here : NfaConfig) (test : CharTest) (loop : code.Loop) (after : ℕ) →
+    slice_get (task.states).now here.at ≡ Some (nfa_state.CounterLoop loop after) →
+    ((s : plain.NfaConfig) → IsHere m here s → Repeats (loop_of loop) s.counters) → IsBody (task.states).now here.at (here.at + 1) test →
     RunsOver task m here test
-head_runs task m here test loop after head repeats body = λ s stands.
+counter_loop_runs task m here test loop after head repeats body = λ s stands.
     let on = head_of task here loop after head s stands.at (repeats s stands) in
     (here.at + 1, (on.0, (on.1, counted_at task here.at _ head refl, body)))
 
-pub body_read : (task : Task) (head first : ℕ) (test : CharTest) → IsTask task → IsBody (task.points).now head first test →
+pub body_read : (task : Task) (head first : ℕ) (test : CharTest) → IsTask task → IsBody (task.states).now head first test →
     IsReadBy task.unicode test
-body_read task head first test read body = read first (point.Take test) body.0
+body_read task head first test read body = read first (nfa_state.Character test) body.0
 
 pub some_then : {A : Type 0} {P Q : A → Type 0} (o : Option A) → ((x : A) → P x → Q x) → IfSome o P → IfSome o Q
 some_then None f h = tt
@@ -353,7 +353,7 @@ some_then (Some x) f h = f x h
 -- ---- where a run goes on
 
 -- one more character may be passed
-pub one_further : (task : Task) (m : Memo) (test : CharTest) (here : Stand) (at : ℕ) → here.place ≤ at →
+pub one_further : (task : Task) (m : Memo) (test : CharTest) (here : NfaConfig) (at : ℕ) → here.place ≤ at →
     ((i : ℕ) → here.place ≤ i → i < at → CanPass task m test here i) → CanPass task m test here at →
     (i : ℕ) → here.place ≤ i → i < at + 1 → CanPass task m test here i
 one_further task m test here at on before this i from below =
@@ -374,24 +374,24 @@ passes_by bytes task test at e within ascii takes =
     (subst (λ t. passes [] task.unicode (test_of test) (slice_index_or t at 0) ≡ true) e takes)
 
 -- a character of ASCII that passes, where the head may have a way
-may_pass : (task : Task) (m : Memo) (test : CharTest) (here : Stand) (at : ℕ) → at < length (task.text).now →
+may_pass : (task : Task) (m : Memo) (test : CharTest) (here : NfaConfig) (at : ℕ) → at < length (task.text).now →
     slice_index_or (task.text).now at 0 < 128 →
     passes [] task.unicode (test_of test) (slice_index_or (task.text).now at 0) ≡ true →
-    ((s : plain.Stand) (failed : plain.Pair → Bool) → IsHere m (record here { place = at }) s → HaveFailed m failed → failed (pair_of s) ≡ false) →
+    ((s : plain.NfaConfig) (failed : plain.Pair → Bool) → IsHere m (record here { place = at }) s → HaveFailed m failed → failed (pair_of s) ≡ false) →
     CanPass task m test here at
 may_pass task m test here at within ascii takes free = record { passes = passes_at task test at within ascii takes; free = free }
 
 -- the same by the bytes of the text
-pub may_pass_by : (bytes : List ℕ) (task : Task) (m : Memo) (test : CharTest) (here : Stand) (at : ℕ) → bytes ≡ (task.text).now →
+pub may_pass_by : (bytes : List ℕ) (task : Task) (m : Memo) (test : CharTest) (here : NfaConfig) (at : ℕ) → bytes ≡ (task.text).now →
     at < length bytes → slice_index_or bytes at 0 < 128 → passes [] task.unicode (test_of test) (slice_index_or bytes at 0) ≡ true →
-    ((s : plain.Stand) (failed : plain.Pair → Bool) → IsHere m (record here { place = at }) s → HaveFailed m failed → failed (pair_of s) ≡ false) →
+    ((s : plain.NfaConfig) (failed : plain.Pair → Bool) → IsHere m (record here { place = at }) s → HaveFailed m failed → failed (pair_of s) ≡ false) →
     CanPass task m test here at
 may_pass_by bytes task m test here at e within ascii takes =
     may_pass task m test here at (subst (λ t. at < length t) e within) (subst (λ t. slice_index_or t at 0 < 128) e ascii)
     (subst (λ t. passes [] task.unicode (test_of test) (slice_index_or t at 0) ≡ true) e takes)
 
 -- characters of ASCII that pass, where no pair is known
-pub blank_run : (bytes : List ℕ) (task : Task) (m : Memo) (test : CharTest) (here : Stand) (to : ℕ) → bytes ≡ (task.text).now →
+pub blank_run : (bytes : List ℕ) (task : Task) (m : Memo) (test : CharTest) (here : NfaConfig) (to : ℕ) → bytes ≡ (task.text).now →
     AllPass (passes [] task.unicode (test_of test)) bytes here.place to → here.place ≤ to →
     ((failed : plain.Pair → Bool) → HaveFailed m failed → (p : plain.Pair) → failed p ≡ false) →
     IsRun task m test here (to - here.place)
@@ -401,51 +401,51 @@ blank_run bytes task m test here to e all ordered blank i from below =
 
 -- ---- a pair that may have a way
 
-pub free_outside : (m : Memo) (here : Stand) → here.turns ≡ 0 → has_pair m.failed (here.at ∷ here.place ∷ []) ≡ false →
-    (s : plain.Stand) (failed : plain.Pair → Bool) → IsHere m here s → HaveFailed m failed → failed (pair_of s) ≡ false
+pub free_outside : (m : Memo) (here : NfaConfig) → here.counters ≡ 0 → has_pair m.failed (here.at ∷ here.place ∷ []) ≡ false →
+    (s : plain.NfaConfig) (failed : plain.Pair → Bool) → IsHere m here s → HaveFailed m failed → failed (pair_of s) ≡ false
 free_outside m here none free s failed stands have =
     sym (have (pair_of s)) ∙ ap (has_pair m.failed) (sym (key_outside m here s stands none)) ∙ free
 
 -- the same inside one iteration
-pub free_inside : (m : Memo) (here : Stand) (turn : Turn) (outer : ℕ) (numbers : List ℕ) → outer ≡ 0 →
-    ((s : plain.Stand) → here.at ≡ s.at → here.place ≡ s.place → turn_of turn ∷ [] ≡ s.turns → numbers ≡ key_of (pair_of s)) →
-    ((turns : List plain.Turn) → HasTurns m.log.entries.items here.turns turns →
-    EndsTurns m.log.entries.items here.turns turns (Some (turn, outer))) →
+pub free_inside : (m : Memo) (here : NfaConfig) (counter : LoopCounter) (outer : ℕ) (numbers : List ℕ) → outer ≡ 0 →
+    ((s : plain.NfaConfig) → here.at ≡ s.at → here.place ≡ s.place → counter_of counter ∷ [] ≡ s.counters → numbers ≡ key_of (pair_of s)) →
+    ((counters : List plain.LoopCounter) → HasCounters m.trail.entries.items here.counters counters →
+    EndsCounters m.trail.entries.items here.counters counters (Some (counter, outer))) →
     has_pair m.failed numbers ≡ false →
-    (s : plain.Stand) (failed : plain.Pair → Bool) → IsHere m here s → HaveFailed m failed → failed (pair_of s) ≡ false
-free_inside m here turn outer numbers none are ends free s failed stands have =
+    (s : plain.NfaConfig) (failed : plain.Pair → Bool) → IsHere m here s → HaveFailed m failed → failed (pair_of s) ≡ false
+free_inside m here counter outer numbers none are ends free s failed stands have =
     sym (have (pair_of s))
-    ∙ ap (has_pair m.failed) (sym (are s stands.at stands.place (inside m here turn outer s none stands (ends s.turns stands.turns)))) ∙ free
+    ∙ ap (has_pair m.failed) (sym (are s stands.at stands.place (inside m here counter outer s none stands (ends s.counters stands.counters)))) ∙ free
 
 -- ---- ways out of a loop that fail at once
 
 -- a test that no character passes
-pub test_fails : (task : Task) (test : CharTest) (at place : ℕ) → slice_get (task.points).now at ≡ Some (point.Take test) →
+pub test_fails : (task : Task) (test : CharTest) (at place : ℕ) → slice_get (task.states).now at ≡ Some (nfa_state.Character test) →
     Refuses task test place → FailsFrom task at place
 test_fails task test at place there none s f e p =
-    let here : Stand = record { at = at; place = place; turns = 0; opened = 0 } in (
+    let here : NfaConfig = record { at = at; place = place; counters = 0; opened = 0 } in (
       1,
       (
         1,
-        next_there task (point.Take test) here s (sym e) there f
-            ∙ ap (λ o. plain.next_by (plain.goes_past s o) (Some (points.Take (test_of test))) s f)
+        next_there task (nfa_state.Character test) here s (sym e) there f
+            ∙ ap (λ o. plain.next_by (plain.goes_past s o) (Some (states.Character (test_of test))) s f)
             (ap (past_char (task.text).now (passes (task.text).now task.unicode (test_of test))) p ∙ none),
       ),
     )
 
--- the end of a group goes on to the next point, or is in no group
-pub group_ends : (task : Task) (g at place : ℕ) → slice_get (task.points).now at ≡ Some (point.Close g) →
+-- the end of a group goes on to the next state, or is in no group
+pub group_ends : (task : Task) (g at place : ℕ) → slice_get (task.states).now at ≡ Some (nfa_state.Close g) →
     FailsFrom task (at + 1) place → FailsFrom task at place
 group_ends task g at place there fails s f e p = go s.opened refl
   where
-    here : Stand
-    here = record { at = at; place = place; turns = 0; opened = 0 }
+    here : NfaConfig
+    here = record { at = at; place = place; counters = 0; opened = 0 }
 
     step : (opened : List ℕ) → s.opened ≡ opened →
-        next_of task (TakesUp s f) ≡ plain.next_by (plain.close_lead g s opened) (Some (points.Close g)) s f
+        next_of task (TakesUp s f) ≡ plain.next_by (plain.close_step g s opened) (Some (states.Close g)) s f
     step opened is =
-        next_there task (point.Close g) here s (sym e) there f
-        ∙ ap (λ o. plain.next_by (plain.close_lead g s o) (Some (points.Close g)) s f) is
+        next_there task (nfa_state.Close g) here s (sym e) there f
+        ∙ ap (λ o. plain.next_by (plain.close_step g s o) (Some (states.Close g)) s f) is
 
     go : (opened : List ℕ) → s.opened ≡ opened →
         (steps : ℕ) × ((n : ℕ) × (after_steps_of task steps (TakesUp s f) ≡ plain.TakesBack (record f { visits = f.visits + n })))
@@ -456,100 +456,100 @@ group_ends task g at place there fails s f e p = go s.opened refl
         let on = fails (record (plain.forward s) { opened = opened; spans = (g, (from, s.place)) ∷ s.spans }) f (ap (λ k. k + 1) e) p in
         (suc on.0, (on.1.0, ap (after_steps_of task on.0) (step (from ∷ opened) is) ∙ on.1.1))
 
-pub lost_fork : (task : Task) (at place first second : ℕ) → slice_get (task.points).now at ≡ Some (point.Fork first second) →
+pub lost_loop_split : (task : Task) (at place first second : ℕ) → slice_get (task.states).now at ≡ Some (nfa_state.LoopSplit first second) →
     FailsFrom task second place → IsLostAt task at place
-lost_fork task at place first second there fails = λ s one other is_noted e p lead.
-    let here : Stand = record { at = at; place = place; turns = 0; opened = 0 } in
-    let same = same_tries is_noted true one other (goes_to first s) (goes_to second s)
-    (sym lead ∙ leads_by task (point.Fork first second) here s (sym e) there) in
+lost_loop_split task at place first second there fails = λ s one other is_memoized e p step_result.
+    let here : NfaConfig = record { at = at; place = place; counters = 0; opened = 0 } in
+    let same = same_tries is_memoized true one other (goes_to first s) (goes_to second s)
+    (sym step_result ∙ steps_by task (nfa_state.LoopSplit first second) here s (sym e) there) in
     (same.0, ap (λ x. x.place) same.1 ∙ p, subst (λ k. FailsFrom task k place) (sym (ap (λ x. x.at) same.1)) fails)
 
 -- where a loop's head has another way on, it is the way out or into the loop
-head_tries : (loop : points.Loop) (after : ℕ) (s one other : plain.Stand) (is_noted : Bool) (turns : List plain.Turn) →
-    plain.head_lead loop after s turns ≡ plain.Tries is_noted one (other ∷ []) →
-    (is_noted ≡ true) × (other.place ≡ s.place) × (other.at ≡ (if loop.greedy then after else s.at + 1))
-head_tries loop after s one other is_noted [] e = absurd (let no : ⊥ = cc in no)
-head_tries loop after s one other is_noted (t ∷ around) e = go (plain.is_over loop s.place t) (nat_lt t.count loop.lo) loop.greedy e
+counter_loop_tries : (loop : states.Loop) (after : ℕ) (s one other : plain.NfaConfig) (is_memoized : Bool) (counters : List plain.LoopCounter) →
+    plain.counter_loop_step loop after s counters ≡ plain.Tries is_memoized one (other ∷ []) →
+    (is_memoized ≡ true) × (other.place ≡ s.place) × (other.at ≡ (if loop.greedy then after else s.at + 1))
+counter_loop_tries loop after s one other is_memoized [] e = absurd (let no : ⊥ = cc in no)
+counter_loop_tries loop after s one other is_memoized (t ∷ around) e = go (plain.is_over loop s.place t) (nat_lt t.count loop.lo) loop.greedy e
   where
-    on : plain.Stand
-    on = record (plain.forward s) { turns = plain.next_turn loop s.place t ∷ around }
+    on : plain.NfaConfig
+    on = record (plain.forward s) { counters = plain.next_counter loop s.place t ∷ around }
 
-    off : plain.Stand
-    off = record (goes_to after s) { turns = around }
+    off : plain.NfaConfig
+    off = record (goes_to after s) { counters = around }
 
     go : (over few greedy : Bool) →
-        (if over then plain.Tries true off [] else if few then plain.Tries true on [] else plain.choice_lead greedy on off)
-        ≡ plain.Tries is_noted one (other ∷ []) →
-        (is_noted ≡ true) × (other.place ≡ s.place) × (other.at ≡ (if greedy then after else s.at + 1))
+        (if over then plain.Tries true off [] else if few then plain.Tries true on [] else plain.choice_step greedy on off)
+        ≡ plain.Tries is_memoized one (other ∷ []) →
+        (is_memoized ≡ true) × (other.place ≡ s.place) × (other.at ≡ (if greedy then after else s.at + 1))
     go true few greedy e = absurd (let no : ⊥ = cc in no)
     go false true greedy e = absurd (let no : ⊥ = cc in no)
     go false false true e =
-        let same = same_tries is_noted true one other on off (sym e) in
+        let same = same_tries is_memoized true one other on off (sym e) in
         (same.0, ap (λ x. x.place) same.1, ap (λ x. x.at) same.1)
     go false false false e =
-        let same = same_tries is_noted true one other off on (sym e) in
+        let same = same_tries is_memoized true one other off on (sym e) in
         (same.0, ap (λ x. x.place) same.1, ap (λ x. x.at) same.1)
 
-pub lost_head : (task : Task) (at place : ℕ) (loop : code.Loop) (after : ℕ) → slice_get (task.points).now at ≡ Some (point.Head loop after) →
+pub lost_counter_loop : (task : Task) (at place : ℕ) (loop : code.Loop) (after : ℕ) → slice_get (task.states).now at ≡ Some (nfa_state.CounterLoop loop after) →
     FailsFrom task (if loop.greedy then after else at + 1) place → IsLostAt task at place
-lost_head task at place loop after there fails = λ s one other is_noted e p lead.
-    let here : Stand = record { at = at; place = place; turns = 0; opened = 0 } in
-    let tries = head_tries (loop_of loop) after s one other is_noted s.turns (sym (leads_by task (point.Head loop after) here s (sym e) there) ∙ lead) in (
+lost_counter_loop task at place loop after there fails = λ s one other is_memoized e p step_result.
+    let here : NfaConfig = record { at = at; place = place; counters = 0; opened = 0 } in
+    let tries = counter_loop_tries (loop_of loop) after s one other is_memoized s.counters (sym (steps_by task (nfa_state.CounterLoop loop after) here s (sym e) there) ∙ step_result) in (
       tries.0,
       tries.1 ∙ p,
       subst (λ k. FailsFrom task k place) (sym (tries.2 ∙ ap (λ k. if loop.greedy then after else k + 1) e)) fails,
     )
 
--- the last choice is at the head of a loop whose other way on fails: its pair is noted
-pub back_lost : (task : Task) (next : plain.Next) (steps : ℕ) (f : Search) (here : Stand) (s : plain.Stand) (rest : List Later) →
+-- the last choice is at the head of a loop whose other way on fails: its pair is memoized
+pub back_lost : (task : Task) (next : plain.Next) (steps : ℕ) (f : Search) (here : NfaConfig) (s : plain.NfaConfig) (rest : List Frame) →
     after_steps_of task steps next ≡ plain.TakesBack f → here.at ≡ s.at → here.place ≡ s.place → IsLostAt task here.at here.place →
-    Keeps true (leading_of task s) s rest f.later →
+    Keeps true (leading_of task s) s rest f.frames →
     (k : ℕ) × ((n : ℕ) × (after_steps_of task k next
-    ≡ plain.TakesBack (plain.with_failed (pair_of s) (record f { later = rest; visits = f.visits + n }))))
-back_lost task next steps f here s rest back at place lost (is_noted, (one, (other, (lead, later)))) =
-    let is = lost s one other is_noted (sym at) (sym place) lead in
-    let kept : f.later ≡ plain.Other other ∷ plain.Fails (pair_of s) ∷ rest = later ∙ ap (λ b. plain.Other other ∷ (fails_of b s ++ rest)) is.0 in
-    let g : Search = record f { later = plain.Fails (pair_of s) ∷ rest } in
+    ≡ plain.TakesBack (plain.with_failed (pair_of s) (record f { frames = rest; visits = f.visits + n }))))
+back_lost task next steps f here s rest back at place lost (is_memoized, (one, (other, (step_result, frames)))) =
+    let is = lost s one other is_memoized (sym at) (sym place) step_result in
+    let kept : f.frames ≡ plain.Other other ∷ plain.Fails (pair_of s) ∷ rest = frames ∙ ap (λ b. plain.Other other ∷ (fails_of b s ++ rest)) is.0 in
+    let g : Search = record f { frames = plain.Fails (pair_of s) ∷ rest } in
     let up = one_more task steps next (plain.TakesBack f) back ∙ ap (λ l. plain.back_to l f) kept in
     let fails = is.2 other g refl is.1 in
     let gone = steps_then task (suc steps) fails.0 next (TakesUp other g) up ∙ fails.1.1 in
     (suc (suc steps + fails.0), (fails.1.0, one_more task (suc steps + fails.0) next _ gone))
 
--- the last choice has no way left: its pair is noted
-pub back_gone : (task : Task) (next : plain.Next) (steps : ℕ) (f : Search) (here : Stand) (s : plain.Stand) (rest : List Later) →
+-- the last choice has no way left: its pair is memoized
+pub back_gone : (task : Task) (next : plain.Next) (steps : ℕ) (f : Search) (here : NfaConfig) (s : plain.NfaConfig) (rest : List Frame) →
     after_steps_of task steps next ≡ plain.TakesBack f → here.at ≡ s.at → here.place ≡ s.place →
-    (untried : Bool) → (untried ≡ true → IsLostAt task here.at here.place) → Keeps untried (leading_of task s) s rest f.later →
+    (untried : Bool) → (untried ≡ true → IsLostAt task here.at here.place) → Keeps untried (leading_of task s) s rest f.frames →
     (k : ℕ) × ((n : ℕ) × (after_steps_of task k next
-    ≡ plain.TakesBack (plain.with_failed (pair_of s) (record f { later = rest; visits = f.visits + n }))))
+    ≡ plain.TakesBack (plain.with_failed (pair_of s) (record f { frames = rest; visits = f.visits + n }))))
 back_gone task next steps f here s rest back at place true lost keeps = back_lost task next steps f here s rest back at place (lost refl) keeps
 back_gone task next steps f here s rest back at place false lost keeps =
     let same : f.visits ≡ f.visits + 0 = omega arith in (
       suc steps,
       (
         0,
-        back_noted task next steps f s rest back keeps
-            ∙ ap (λ v. plain.TakesBack (plain.with_failed (pair_of s) (record f { later = rest; visits = v }))) same,
+        back_memoized task next steps f s rest back keeps
+            ∙ ap (λ v. plain.TakesBack (plain.with_failed (pair_of s) (record f { frames = rest; visits = v }))) same,
       ),
     )
 
 pub more_visits : (leading : Leading) (m : Memo) (f : Search) (n : ℕ) → IsSearch leading m f → IsSearch leading m (record f { visits = f.visits + n })
-more_visits leading m f n h = record { later = h.later; failed = h.failed; visits = let v = h.visits in omega (arith, v) }
+more_visits leading m f n h = record { frames = h.frames; failed = h.failed; visits = let v = h.visits in omega (arith, v) }
 
 pub refused_at_end : (task : Task) (test : CharTest) (place : ℕ) → slice_get (task.text).now place ≡ None → Refuses task test place
 refused_at_end task test place none = past_end (task.text).now (passes (task.text).now task.unicode (test_of test)) place none
 
 pub refused_by_test : (task : Task) (test : CharTest) (place b : ℕ) → slice_get (task.text).now place ≡ Some b → b < 128 → (takes : Bool) →
     IsTrue (not takes) → takes ≡ passes [] task.unicode (test_of test) b → Refuses task test place
-refused_by_test task test place b here small true refuses e = absurd (true≢false (sym refuses))
-refused_by_test task test place b here small false refuses e =
+refused_by_test task test place b here small true excludes e = absurd (true≢false (sym excludes))
+refused_by_test task test place b here small false excludes e =
     past_ascii (task.text).now (passes (task.text).now task.unicode (test_of test)) place b here small false
     (sym (passes_alike (task.text).now task.unicode (test_of test) b) ∙ sym e)
 
 -- ---- tests one by one
 
 -- past a test that passes
-pub test_passed : (task : Task) (m counted : Memo) (on : Stand) (test : CharTest) (t : plain.Stand) (g : Search) (most : ℕ) →
-    slice_get (task.points).now on.at ≡ Some (point.Take test) → Passes task test on.place →
+pub test_passed : (task : Task) (m counted : Memo) (on : NfaConfig) (test : CharTest) (t : plain.NfaConfig) (g : Search) (most : ℕ) →
+    slice_get (task.states).now on.at ≡ Some (nfa_state.Character test) → Passes task test on.place →
     counted ≡ record m { visits = min most (m.visits + 1) } → IsSearch (leading_of task) m g → IsHere m on t →
     GoesOn task (TakesUp t g) counted (record on { at = on.at + 1; place = on.place + 1 })
 test_passed task m counted on test t g most there pass more h here =
@@ -560,10 +560,10 @@ test_passed task m counted on test t g most there pass more h here =
         (
           record (plain.forward t) { place = on.place + 1 },
           (
-            next_there task (point.Take test) on t here.at there g
-                ∙ ap (λ o. plain.next_by (plain.goes_past t o) (Some (points.Take (test_of test))) t g) (ap past (sym here.place) ∙ pass),
+            next_there task (nfa_state.Character test) on t here.at there g
+                ∙ ap (λ o. plain.next_by (plain.goes_past t o) (Some (states.Character (test_of test))) t g) (ap past (sym here.place) ∙ pass),
             one_visit (leading_of task) m g h counted most more,
-            here_past counted on t (on.place + 1) (here_by m counted on t (ap (λ (x : Memo). x.log) more) here),
+            here_past counted on t (on.place + 1) (here_by m counted on t (ap (λ (x : Memo). x.trail) more) here),
           ),
         ),
       ),
@@ -571,23 +571,23 @@ test_passed task m counted on test t g most there pass more h here =
 
 -- ---- out of a loop over one character
 
--- the other way on is taken up, where the pair is kept to be noted and two points were taken up
-abbrev pub out_of : plain.Stand → plain.Stand → Search → plain.Next
-out_of s other f = TakesUp other (record f { later = plain.Fails (pair_of s) ∷ f.later; visits = f.visits + 2 })
+-- the other way on is taken up, where the pair is kept to be memoized and two states were taken up
+abbrev pub out_of : plain.NfaConfig → plain.NfaConfig → Search → plain.Next
+out_of s other f = TakesUp other (record f { frames = plain.Fails (pair_of s) ∷ f.frames; visits = f.visits + 2 })
 
 -- where the search is when the loop is left: what take_other is asked, and how it came there
-pub record Left (task : Task) (counted : Memo) (here : Stand) (s : plain.Stand) (f : Search) : Type 0 where
-  pub one : plain.Stand
-  pub other : plain.Stand
+pub record Left (task : Task) (counted : Memo) (here : NfaConfig) (s : plain.NfaConfig) (f : Search) : Type 0 where
+  pub one : plain.NfaConfig
+  pub other : plain.NfaConfig
   pub steps : ℕ
-  pub lead : leading_of task s ≡ plain.Tries true one (other ∷ [])
+  pub step_result : leading_of task s ≡ plain.Tries true one (other ∷ [])
   pub comes : after_steps_of task steps (TakesUp s f) ≡ out_of s other f
   pub search : IsSearch (leading_of task) counted (record f { visits = f.visits + 2 })
   pub stands : IsHere counted here s
 
-pub body_left : (task : Task) (m counted : Memo) (here : Stand) (test : CharTest) (s : plain.Stand) (f : Search) (most : ℕ) →
+pub body_left : (task : Task) (m counted : Memo) (here : NfaConfig) (test : CharTest) (s : plain.NfaConfig) (f : Search) (most : ℕ) →
     RunsOver task m here test → Refuses task test here.place →
-    ((s : plain.Stand) (failed : plain.Pair → Bool) → IsHere m here s → HaveFailed m failed → failed (pair_of s) ≡ false) →
+    ((s : plain.NfaConfig) (failed : plain.Pair → Bool) → IsHere m here s → HaveFailed m failed → failed (pair_of s) ≡ false) →
     counted ≡ record m { visits = min most (m.visits + 2) } → IsSearch (leading_of task) m f → IsHere m here s →
     Left task counted here s f
 body_left task m counted here test s f most over none free more h stands =
@@ -601,42 +601,42 @@ body_left task m counted here test s f most over none free more h stands =
       one = goes_to first s;
       other = out s;
       steps = 3;
-      lead = fails.0;
+      step_result = fails.0;
       comes = fails.1;
-      search = more_points (leading_of task) m f h counted most 2 more;
-      stands = here_by m counted here s (ap (λ (x : Memo). x.log) more) stands;
+      search = more_states (leading_of task) m f h counted most 2 more;
+      stands = here_by m counted here s (ap (λ (x : Memo). x.trail) more) stands;
     }
 
--- where a point is taken up, a step leads there
-pub never_lost : (task : Task) (s other : plain.Stand) (failed : plain.Pair → Bool) (g : Search) (l : Lead) (m : Memo) →
-    ((x : Stand) → l ≡ lead.Goes x → ⊥) → Leads (leading_of task) s failed (TakesUp other g) (Ok l) m → ⊥
-never_lost task s other failed g (lead.Found there) m not (x, (is, h, stands)) = no_end is
+-- where a state is taken up, a step leads there
+pub never_lost : (task : Task) (s other : plain.NfaConfig) (failed : plain.Pair → Bool) (g : Search) (l : StepResult) (m : Memo) →
+    ((x : NfaConfig) → l ≡ step_result.Goes x → ⊥) → Leads (leading_of task) s failed (TakesUp other g) (Ok l) m → ⊥
+never_lost task s other failed g (step_result.Found there) m not (x, (is, h, stands)) = no_end is
   where
     no_end : TakesUp other g ≡ plain.Ends (Some s) x → ⊥
     no_end is = cc
-never_lost task s other failed g lead.Lost m not (x, (is, rest)) = no_back is
+never_lost task s other failed g step_result.Lost m not (x, (is, rest)) = no_back is
   where
     no_back : TakesUp other g ≡ plain.TakesBack x → ⊥
     no_back is = cc
-never_lost task s other failed g (lead.Goes there) m not h = not there refl
+never_lost task s other failed g (step_result.Goes there) m not h = not there refl
 
 -- past a run, and then out of the loop
-pub past_loop : (task : Task) (m between new : Memo) (here on : Stand) (r : Result Stand AllocError) →
-    ((s : plain.Stand) (f : Search) → IsSearch (leading_of task) m f → IsHere m here s → GoesOn task (TakesUp s f) between on) →
-    IfOk r (λ out. (s : plain.Stand) (f : Search) → IsSearch (leading_of task) between f → IsHere between on s →
+pub past_loop : (task : Task) (m between new : Memo) (here on : NfaConfig) (r : Result NfaConfig AllocError) →
+    ((s : plain.NfaConfig) (f : Search) → IsSearch (leading_of task) m f → IsHere m here s → GoesOn task (TakesUp s f) between on) →
+    IfOk r (λ out. (s : plain.NfaConfig) (f : Search) → IsSearch (leading_of task) between f → IsHere between on s →
     GoesOn task (TakesUp s f) new out) →
-    IfOk r (λ out. (s : plain.Stand) (f : Search) → IsSearch (leading_of task) m f → IsHere m here s → GoesOn task (TakesUp s f) new out)
+    IfOk r (λ out. (s : plain.NfaConfig) (f : Search) → IsSearch (leading_of task) m f → IsHere m here s → GoesOn task (TakesUp s f) new out)
 past_loop task m between new here on (Err e) first further = tt
 past_loop task m between new here on (Ok out) first further = λ s f h stands.
     let one = first s f h stands in
     goes_on_then task (TakesUp s f) one.0 one.1.0 one.1.1.0 new out one.1.1.1.0 (further one.1.1.0 one.1.0 one.1.1.1.1 one.1.1.1.2)
 
 -- where memory is refused then
-pub past_loop_refused : (task : Task) (m between new : Memo) (here on : Stand) (r : Result Stand AllocError) →
+pub past_loop_refused : (task : Task) (m between new : Memo) (here on : NfaConfig) (r : Result NfaConfig AllocError) →
     between.failed ≡ m.failed →
-    ((s : plain.Stand) (f : Search) → IsSearch (leading_of task) m f → IsHere m here s → GoesOn task (TakesUp s f) between on) →
-    IfErr r (λ _. (s : plain.Stand) (f : Search) → IsSearch (leading_of task) between f → IsHere between on s → HaveFailed new f.failed) →
-    IfErr r (λ _. (s : plain.Stand) (f : Search) → IsSearch (leading_of task) m f → IsHere m here s → HaveFailed new f.failed)
+    ((s : plain.NfaConfig) (f : Search) → IsSearch (leading_of task) m f → IsHere m here s → GoesOn task (TakesUp s f) between on) →
+    IfErr r (λ _. (s : plain.NfaConfig) (f : Search) → IsSearch (leading_of task) between f → IsHere between on s → HaveFailed new f.failed) →
+    IfErr r (λ _. (s : plain.NfaConfig) (f : Search) → IsSearch (leading_of task) m f → IsHere m here s → HaveFailed new f.failed)
 past_loop_refused task m between new here on (Ok out) same first further = tt
 past_loop_refused task m between new here on (Err e) same first further = λ s f h stands p.
     let one = first s f h stands in

@@ -4,10 +4,10 @@ use Rattle.std.specs.Prelude.{◌⊎◌, Result, Ok, Err, IsErr, IsErrAnd, IsTru
 use Rattle.fancy_meaning.specs.Tree.{Tree, Trees, none, more, Delegate, Repeat}
 use Rattle.fancy_meaning.specs.Chars.{is_class}
 use Rattle.fancy_meaning.specs.CompileRefusals.{IsAmong, here, there, written_parts}
-use Rattle.fancy_points.specs.Points as plain
+use Rattle.fancy_nfa.specs.NfaStates as plain
 use Rattle.fancy_meaning.specs.Constructs as plain_form
 use Rattle.fancy_meaning.specs.Spots.{is_never}
-use Rattle.fancy_points.specs.PointCode.{PointCode, one}
+use Rattle.fancy_nfa.specs.NfaCode.{NfaCode, one}
 use Rattle.fancy_expr.specs.declared.error.Error.{Error}
 use Rattle.fancy_info.specs.declared.info.Info.{Info}
 use Rattle.fancy_info.specs.Infos.{info_tree}
@@ -16,7 +16,7 @@ use Rattle.fancy_plain.specs.declared.layout.LoopForm.{LoopForm}
 use Rattle.fancy_plain.specs.declared.layout.LoopForm.TheVariants as form
 use Rattle.fancy_plain.specs.ClassTexts.{HasClass, itself, below, no_text, texts_of, texts_in, AreClasses, IsRefusal}
 use Rattle.fancy_plain.specs.Shapes.{form_of}
-use Rattle.fancy_plain.specs.Layouts.{points_in, Replaces, Lays}
+use Rattle.fancy_plain.specs.Layouts.{states_in, Replaces, Lays}
 use Rattle.fancy_plain.specs.Neighbours.{trees_of}
 use Rattle.fancy_plain.proofs.Laid.{lays_by, lays_fault, refusal_by}
 
@@ -59,7 +59,7 @@ classes_more unicode e es h g inner casei t = is_one (texts_more inner casei e e
     is_one (inl x) = h inner casei x
     is_one (inr x) = g inner casei x
 
-module _ {X : Type 0} (code : PointCode) (e : Tree) (other : IsNoClass e) (s t : Layout) (r : Result X Error) where
+module _ {X : Type 0} (code : NfaCode) (e : Tree) (other : IsNoClass e) (s t : Layout) (r : Result X Error) where
   -- a node that is laid out by its parts
   pub lays_parts : Lays code (texts_in (written_parts e)) s t r → Lays code (texts_of e) s t r
   lays_parts =
@@ -93,19 +93,19 @@ form_enters f lo (Some (suc n)) empty h = refl
 
 -- ---- a class
 
-module _ (inner : List ℕ) (casei : Bool) (p : plain.Point) (s t : Layout) (is : p ≡ plain.Take (plain.InClass inner casei))
+module _ (inner : List ℕ) (casei : Bool) (p : plain.NfaState) (s t : Layout) (is : p ≡ plain.Character (plain.InClass inner casei))
     (yes : IsTrue (is_class s.unicode inner casei)) where
   only_itself : (i : List ℕ) (f : Bool) → HasClass i f (Delegate inner casei) → IsTrue (is_class s.unicode i f)
   only_itself i f itself = yes
   only_itself i f (below a h) = elim a [ ]
 
   pub lays_class : {X : Type 0} (r : Result X Error) → Lays (one p) no_text s t r →
-      Lays (one (plain.Take (plain.InClass inner casei))) (texts_of (Delegate inner casei)) s t r
-  lays_class (Ok x) h = record { added = subst (λ k. Replaces (points_in s ++ k ∷ []) s t) is h.added; classes = only_itself }
+      Lays (one (plain.Character (plain.InClass inner casei))) (texts_of (Delegate inner casei)) s t r
+  lays_class (Ok x) h = record { added = subst (λ k. Replaces (states_in s ++ k ∷ []) s t) is h.added; classes = only_itself }
   lays_class (Err e) h = refusal_by s.unicode no_text (texts_of (Delegate inner casei)) e (λ i f x. absurd x) h
 
 -- one of these nodes was refused
-pub lays_fault_at : {X : Type 0} (code : PointCode) (l : List Info) (s t : Layout) (r : Result X Error) (d : Error) (i : ℕ) (x : Info)
+pub lays_fault_at : {X : Type 0} (code : NfaCode) (l : List Info) (s t : Layout) (r : Result X Error) (d : Error) (i : ℕ) (x : Info)
     (unicode : Bool) → i < length l → x ≡ get_or l i x → IsErr r × IsErrAnd r (λ e. e ≡ d) → unicode ≡ s.unicode →
     IsRefusal unicode (texts_of (info_tree x)) d → Lays code (texts_in (trees_of l)) s t r
 lays_fault_at code l s t r d i x unicode lt at from same refused =

@@ -12,10 +12,10 @@ use Rattle.std.specs.Map.{keys_of, lookup}
 use Rattle.std.specs.Ordering.{nat_cmp}
 use Rattle.fancy_plain.specs.Ways.{Ascends, listed, span_entry}
 use Rattle.fancy_meaning.specs.MatchState.{Span}
-use Rattle.fancy_points.specs.FirstWays.{spans_of}
+use Rattle.fancy_nfa.specs.FirstWays.{spans_of}
 use Rattle.fancy_plain.specs.Paths.{closed_after}
-use Rattle.fancy_plain.specs.declared.log.Entry.{Entry}
-use Rattle.fancy_plain.specs.declared.log.Entry.TheVariants as entry
+use Rattle.fancy_plain.specs.declared.trail.Entry.{Entry}
+use Rattle.fancy_plain.specs.declared.trail.Entry.TheVariants as entry
 use Rattle.fancy_plain.proofs.SearchLaws.{closed_append}
 
 -- by the test of a map of numbers and by equality
@@ -34,7 +34,7 @@ closed_more es i d below =
 closed_none : (e : Entry) (before : List (ℕ × Span)) →
     ((group from to : ℕ) → e ≡ entry.Closed group from to → ⊥) → closed_after before (e ∷ []) ≡ before
 closed_none (entry.Closed group from to) before apart = absurd (apart group from to refl)
-closed_none (entry.Turn link turn) before apart = refl
+closed_none (entry.LoopCounter link counter) before apart = refl
 closed_none (entry.Opened link from) before apart = refl
 
 module _ (es : List Entry) (i g : ℕ) (had has : Option Span) (below : i < length es)

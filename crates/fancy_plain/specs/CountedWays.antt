@@ -1,13 +1,13 @@
 -- Loops that count over one character, where no choice in them is taken back.
 use Rattle.std.specs.Prelude.{◌≡◌, ◌≤◌, ◌<◌, ◌-◌, ℕ, zero, suc, Some}
 use Rattle.fancy_meaning.specs.Moves.{past_char}
-use Rattle.fancy_points.specs.PointSearch.{Stand, passes}
+use Rattle.fancy_nfa.specs.NfaSearch.{NfaConfig, passes}
 use Rattle.fancy_plain.specs.declared.counted_ways.Passed.{Passed}
 use Rattle.fancy_plain.specs.declared.counted_ways.Passed.TheVariants as passed
-use Rattle.fancy_plain.specs.declared.point.CharTest.{CharTest}
+use Rattle.fancy_plain.specs.declared.nfa_state.CharTest.{CharTest}
 use Rattle.fancy_plain.specs.declared.search.Task.{Task}
 use Rattle.fancy_plain.specs.Runs.{Refuses}
-use Rattle.fancy_plain.specs.Straight.{Loses, Walks, stand_at}
+use Rattle.fancy_plain.specs.OnePass.{Loses, Walks, stand_at}
 use Rattle.fancy_plain.specs.Views.{test_of}
 
 -- so many characters that pass stand between these places
@@ -23,7 +23,7 @@ PassesMost t test most from to left =
     (left ≤ most) × PassesSome t test (most - left) from to × (0 < left → Refuses t test to)
 
 -- what a search that knows of no pair comes to from the stand
-abbrev pub ComesPast : Task → (from : Stand) → Passed → Type 0
+abbrev pub ComesPast : Task → (from : NfaConfig) → Passed → Type 0
 ComesPast t from (passed.On at place is_sure) = Walks t is_sure from (stand_at at place)
 ComesPast t from passed.Fails = Loses t from
 ComesPast t from passed.Unknown = Unit {0}

@@ -2,7 +2,7 @@ pub mod Views
 pub mod Paths
 pub mod PairBits
 pub mod FailedPairs
-pub mod Choices
+pub mod BacktrackStack
 pub mod Searches
 pub mod Runs
 pub mod Ways
@@ -11,8 +11,8 @@ pub mod ClassTexts
 pub mod Shapes
 pub mod Layouts
 pub mod Tables
-pub mod Beginnings
-pub mod Straight
+pub mod FirstSets
+pub mod OnePass
 pub mod AsciiRuns
 pub mod CountedWays
-pub mod Needed
+pub mod RequiredBytes

@@ -4,13 +4,13 @@ use Rattle.fancy_meaning.specs.Tree.{Tree}
 use Rattle.fancy_meaning.specs.Nodes.{nodes}
 use Rattle.fancy_meaning.specs.Options.{Analysis}
 use Rattle.fancy_meaning.specs.WellFormed.{IsFine}
-use Rattle.fancy_points.specs.FirstWays.{AreEasy}
-use Rattle.fancy_points.specs.PointCode.{points_of}
+use Rattle.fancy_nfa.specs.FirstWays.{AreEasy}
+use Rattle.fancy_nfa.specs.NfaCode.{states_of}
 use Rattle.fancy_expr.specs.declared.error.Error.{Error}
 use Rattle.fancy_expr.specs.Each.{Each}
 use Rattle.fancy_info.specs.declared.info.Info.{Info}
-use Rattle.fancy_plain.specs.declared.table.PointTable.{PointTable}
-use Rattle.fancy_plain.specs.Views.{point_of, IsPointReadBy}
+use Rattle.fancy_plain.specs.declared.table.Nfa.{Nfa}
+use Rattle.fancy_plain.specs.Views.{state_of, IsStateReadBy}
 use Rattle.fancy_plain.specs.Neighbours.{trees_of}
 use Rattle.fancy_plain.specs.ClassTexts.{texts_in, AreClasses, IsRefusal}
 
@@ -20,10 +20,10 @@ AreFine [] = Unit {0}
 AreFine (e ∷ es) = ((d : Tree) → Contains (nodes e) d → IsFine d) × AreFine es
 
 -- a fragment of these neighbouring nodes
-pub record IsTableOf (a : Analysis) (es : List Tree) (is_unicode : Bool) (f : PointTable) : Type 0 where
-  pub points : map point_of f.points.items ≡ points_of a.tree es
+pub record IsTableOf (a : Analysis) (es : List Tree) (is_unicode : Bool) (f : Nfa) : Type 0 where
+  pub states : map state_of f.states.items ≡ states_of a.tree es
   pub unicode : f.unicode ≡ is_unicode
-  pub reads : Each (IsPointReadBy is_unicode) f.points.items
+  pub reads : Each (IsStateReadBy is_unicode) f.states.items
   pub easy : AreEasy a es
 
 -- each class text that is written out in these nodes is a class

@@ -5,15 +5,15 @@ use Rattle.std.specs.Map.{keys_of, lookup}
 use Rattle.std.specs.Ordering.{nat_cmp}
 use Rattle.fancy_meaning.specs.Tree.{Tree}
 use Rattle.fancy_meaning.specs.Options.{Analysis}
-use Rattle.fancy_meaning.specs.FragmentPoints.{visit_bound}
+use Rattle.fancy_meaning.specs.FragmentStates.{visit_bound}
 use Rattle.fancy_meaning.specs.MatchState.{Span}
-use Rattle.fancy_points.specs.PointSearch.{Pair}
-use Rattle.fancy_points.specs.FirstWays.{AreNoted, Seen, first_seen}
+use Rattle.fancy_nfa.specs.NfaSearch.{Pair}
+use Rattle.fancy_nfa.specs.FirstWays.{AreMemoized, Seen, first_seen}
 use Rattle.fancy_plain.specs.declared.first_way.FirstWay.{FirstWay}
 use Rattle.fancy_plain.specs.declared.first_way.Way.{Way}
-use Rattle.fancy_plain.specs.declared.table.PointTable.{PointTable}
+use Rattle.fancy_plain.specs.declared.table.Nfa.{Nfa}
 use Rattle.fancy_plain.specs.declared.search.Memo.{Memo}
-use Rattle.fancy_plain.specs.Views.{point_of}
+use Rattle.fancy_plain.specs.Views.{state_of}
 use Rattle.fancy_plain.specs.Tables.{IsTableOf}
 use Rattle.fancy_plain.specs.Searches.{HaveFailed}
 
@@ -40,9 +40,9 @@ IsSeenAs None (Some way) = ⊥
 IsSeenAs (Some w) None = ⊥
 IsSeenAs (Some w) (Some way) = (w.end ≡ way.0) × ((g : ℕ) → listed w.spans.items g ≡ way.1 g)
 
--- The answer is the first way of the nodes, wherever the search of the whole pattern began, and no more points are told
+-- The answer is the first way of the nodes, wherever the search of the whole pattern began, and no more states are told
 -- as taken up than one of each at each place.
-abbrev pub IsFirstWay : (text : List ℕ) → PointTable → (place : ℕ) → FirstWay → Type 0
+abbrev pub IsFirstWay : (text : List ℕ) → Nfa → (place : ℕ) → FirstWay → Type 0
 IsFirstWay text f place answer = (a : Analysis) (es : List Tree) → IsTableOf a es f.unicode f →
     ((pos : ℕ) (continued : Bool) →
     IsSeenAs answer.way
@@ -50,16 +50,16 @@ IsFirstWay text f place answer = (a : Analysis) (es : List Tree) → IsTableOf a
     × (answer.visits ≤ visit_bound a.tree es (length text - place))
 
 -- the nodes have no way from the place, wherever the search of the whole pattern began
-abbrev pub HasNoWayAt : (text : List ℕ) → PointTable → (place : ℕ) → Type 0
+abbrev pub HasNoWayAt : (text : List ℕ) → Nfa → (place : ℕ) → Type 0
 HasNoWayAt text f place = (a : Analysis) (es : List Tree) → IsTableOf a es f.unicode f →
     (pos : ℕ) (continued : Bool) →
     first_seen (record { text = text; pos = pos; continued = continued; unicode = f.unicode }) es place ≡ None
 
 -- it is the fragment of some nodes
-abbrev pub IsOfNodes : PointTable → Type 0
+abbrev pub IsOfNodes : Nfa → Type 0
 IsOfNodes f = (a : Analysis) × ((es : List Tree) × IsTableOf a es f.unicode f)
 
--- it knows what searches of this fragment in this text have noted, and no more
-abbrev pub IsMemoOf : (text : List ℕ) → PointTable → Memo → Type 0
+-- it knows what searches of this fragment in this text have memoized, and no more
+abbrev pub IsMemoOf : (text : List ℕ) → Nfa → Memo → Type 0
 IsMemoOf text f m = (failed : Pair → Bool) ×
-    (HaveFailed m failed × AreNoted text f.unicode (map point_of f.points.items) failed)
+    (HaveFailed m failed × AreMemoized text f.unicode (map state_of f.states.items) failed)

@@ -1,13 +1,13 @@
 //! Many characters of ASCII at once that pass one test: which kind of test it is, is asked once.
 
 ghost use Rattle.std.specs.Prelude.{◌≡◌, ◌≤◌, ◌+◌, ◌&&◌, ◌==◌, IsTrue, [], length, nat_lt};
-ghost use Rattle.fancy_points.specs.PointSearch as plain;
+ghost use Rattle.fancy_nfa.specs.NfaSearch as plain;
 ghost use Rattle.fancy_meaning.specs.Machine.{class_test};
 ghost use Rattle.fancy_characters.specs.Classes.{class_of};
 ghost use Rattle.fancy_plain.specs.AsciiRuns.{AllPass, is_other};
 ghost use Rattle.fancy_plain.specs.Views.{IsReadBy, test_of};
 
-use crate::point::CharTest;
+use crate::nfa_state::CharTest;
 use fancy_characters::classes::CharClassMatcher;
 
 /// How many characters are looked at in one go.

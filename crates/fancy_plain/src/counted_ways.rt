@@ -1,21 +1,21 @@
 //! Loops that count over one character, where no choice in them is taken back.
 
 ghost use Rattle.std.specs.Prelude.{◌≡◌, ◌≤◌, ◌+◌, ◌-◌, false, true, IfOk, IfSome, Some, slice_get};
-ghost use Rattle.fancy_plain.specs.declared.point.Point.TheVariants as point;
+ghost use Rattle.fancy_plain.specs.declared.nfa_state.NfaState.TheVariants as nfa_state;
 ghost use Rattle.fancy_plain.specs.CountedWays.{ComesPast, PassesMost, PassesSome};
 ghost use Rattle.fancy_plain.specs.Runs.{IsBody};
 ghost use Rattle.fancy_plain.specs.Searches.{IsTask};
-ghost use Rattle.fancy_plain.specs.Straight.{stand_at};
+ghost use Rattle.fancy_plain.specs.OnePass.{stand_at};
 ghost use Rattle.fancy_plain.specs.Views.{IsReadBy};
 
-use crate::point::{CharTest, Loop, Point};
+use crate::nfa_state::{CharTest, Loop, NfaState};
 use crate::search::Task;
 use std::alloc::{AllocError, Global};
 
 /// What a loop comes to.
 #[derive(Clone, Copy)]
 pub(crate) enum Passed {
-    /// On at this point and place. That is sure where it took no more characters than it has to.
+    /// On at this state and place. That is sure where it took no more characters than it has to.
     On {
         at: usize,
         place: usize,
@@ -30,12 +30,12 @@ pub(crate) enum Passed {
 impl Task<'_> {
     /// The test of the loop that counts with this head, where it is over one character, goes on first, and asks no
     /// iteration whether it moves.
-    pub(crate) fn counted_test(&self, head: usize, turns: Loop) -> Option<&CharTest>
-        ensures body { IfSome result (λ test. IsBody self.now.points.now head (head + 1) test.now) }
-        ensures greedy { IfSome result (λ _. turns.greedy ≡ true) }
-        ensures asks { IfSome result (λ _. turns.asks_moved ≡ false) }
+    pub(crate) fn counted_test(&self, head: usize, counters: Loop) -> Option<&CharTest>
+        ensures body { IfSome result (λ test. IsBody self.now.states.now head (head + 1) test.now) }
+        ensures greedy { IfSome result (λ _. counters.greedy ≡ true) }
+        ensures asks { IfSome result (λ _. counters.asks_moved ≡ false) }
     {
-        if !turns.greedy || turns.asks_moved {
+        if !counters.greedy || counters.asks_moved {
             return None;
         }
         self.body_at(head.checked_add(1)?, head)
@@ -50,36 +50,41 @@ impl Task<'_> {
         place: usize,
     ) -> Result<Passed, AllocError>
         requires task { IsTask self.now }
-        requires at { slice_get self.now.points.now enter ≡ Some point.Enter }
+        requires at { slice_get self.now.states.now enter ≡ Some nfa_state.CounterBegin }
         ensures { IfOk result (ComesPast self.now (stand_at enter place)) }
     {
         let task = Task { ..*self };
-        task.past_enter(alloc, enter, place)
+        task.past_counter_begin(alloc, enter, place)
     }
 
     /// The same out of line.
     #[inline(never)]
-    fn past_enter(&self, alloc: Global, enter: usize, place: usize) -> Result<Passed, AllocError>
+    fn past_counter_begin(
+        &self,
+        alloc: Global,
+        enter: usize,
+        place: usize,
+    ) -> Result<Passed, AllocError>
         requires task { IsTask self.now }
-        requires at { slice_get self.now.points.now enter ≡ Some point.Enter }
+        requires at { slice_get self.now.states.now enter ≡ Some nfa_state.CounterBegin }
         ensures { IfOk result (ComesPast self.now (stand_at enter place)) }
     {
         let head = enter + 1;
-        let Some(Point::Head { turns, after }) = self.points.get(head) else {
+        let Some(NfaState::CounterLoop { counters, after }) = self.states.get(head) else {
             return Ok(Passed::Unknown);
         };
-        let Some(test) = self.counted_test(head, *turns) else {
+        let Some(test) = self.counted_test(head, *counters) else {
             return Ok(Passed::Unknown);
         };
-        let (end, left) = self.past_at_most(alloc, test, place, turns.hi)?;
-        let count = turns.hi - left;
-        if left > 0 && count < turns.lo {
+        let (end, left) = self.past_at_most(alloc, test, place, counters.hi)?;
+        let count = counters.hi - left;
+        if left > 0 && count < counters.lo {
             return Ok(Passed::Fails);
         }
         Ok(Passed::On {
             at: *after,
             place: end,
-            is_sure: count <= turns.lo,
+            is_sure: count <= counters.lo,
         })
     }
 

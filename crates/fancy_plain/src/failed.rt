@@ -1,4 +1,4 @@
-//! The pairs of a point and a place that have no way.
+//! The pairs of a state and a place that have no way.
 
 ghost use Rattle.std.specs.Prelude.{◌≡◌, ◌≤◌, ◌<◌, ◌+◌, ◌-◌, ◌++◌, ℕ, ◌∷◌, [], ◌||◌, ◌==◌, false, length, replicate, List, IsTrue, OnOk, OnErr};
 ghost use Rattle.fancy_plain.specs.FailedPairs.{same_numbers, bit_is_set, has_pair};
@@ -7,10 +7,10 @@ use crate::pair_bits::PairBits;
 use std::alloc::{AllocError, Global};
 use std::collections::HashSet;
 
-/// How many times the lists that a search noted their room may be, once it is over.
+/// How many times the lists that a search memoized their room may be, once it is over.
 const SPARE: usize = 16;
 
-/// Pairs that have no way. Where points and counts are few a pair is a bit; any other is a list of its numbers.
+/// Pairs that have no way. Where states and counts are few a pair is a bit; any other is a list of its numbers.
 #[derive(Drop)]
 pub(crate) struct Failed {
     /// Which bit a pair has.
@@ -18,7 +18,7 @@ pub(crate) struct Failed {
     /// The place of the first bits.
     base: usize,
     bits: Vec<u64>,
-    /// The point, the place, and of each loop around the count and whether it is to move and has not.
+    /// The state, the place, and of each loop around the count and whether it is to move and has not.
     lists: HashSet<Vec<usize>>,
 }
 
@@ -49,7 +49,7 @@ impl Failed {
         }
     }
 
-    /// Nothing was noted.
+    /// Nothing was memoized.
     #[inline(always)]
     pub(crate) fn is_empty(&self) -> bool
         ensures { IsTrue result → (k : List ℕ) → has_pair self.now k ≡ false }

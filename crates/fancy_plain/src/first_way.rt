@@ -2,14 +2,14 @@
 
 ghost use Rattle.std.specs.Prelude.{◌≡◌, [], ℕ, IfOk, IfErr, IsTrue};
 ghost use Rattle.fancy_meaning.specs.Places.{is_place};
-ghost use Rattle.fancy_points.specs.FirstWays.{spans_of};
+ghost use Rattle.fancy_nfa.specs.FirstWays.{spans_of};
 ghost use Rattle.fancy_plain.specs.Paths.{closed_after};
 ghost use Rattle.fancy_plain.specs.Searches.{IsMemory};
 ghost use Rattle.fancy_plain.specs.Ways.{listed, Ascends, HasAscending, IsFirstWay, IsMemoOf, IsOfNodes};
 
-use crate::log::{Entry, Stand};
 use crate::search::{Memo, Task};
-use crate::table::PointTable;
+use crate::table::Nfa;
+use crate::trail::{Entry, NfaConfig};
 use fancy_expr::error::Error;
 use std::alloc::{AllocError, Global};
 use std::collections::BTreeMap;
@@ -27,18 +27,13 @@ pub struct Way {
 #[derive(Debug, Drop)]
 pub struct FirstWay {
     pub way: Option<Way>,
-    /// How many points were taken up.
+    /// How many states were taken up.
     pub visits: u64,
 }
 
 /// The first way of the table's nodes from `ix`, a character boundary of the text. `Memory` where a request for memory was
 /// refused, and after 2^64 - 1 steps, more than any machine takes.
-pub fn first_way(
-    alloc: Global,
-    table: &PointTable,
-    text: &str,
-    ix: usize,
-) -> Result<FirstWay, Error>
+pub fn first_way(alloc: Global, table: &Nfa, text: &str, ix: usize) -> Result<FirstWay, Error>
     requires place { IsTrue (is_place text.now ix) }
     requires table { ∥ IsOfNodes table.now ∥₁ }
     ensures first { IfOk result (IsFirstWay text.now table.now ix) }
@@ -49,10 +44,10 @@ pub fn first_way(
     first_way_with(alloc, table, text, ix, &mut memo)
 }
 
-/// The same, with what earlier searches by this table in this text have noted.
+/// The same, with what earlier searches by this table in this text have memoized.
 pub fn first_way_with(
     alloc: Global,
-    table: &PointTable,
+    table: &Nfa,
     text: &str,
     ix: usize,
     memo: &mut Memo,
@@ -77,7 +72,7 @@ pub fn first_way_with(
 /// The same where it was asked whether a way can begin there.
 pub fn first_way_from(
     alloc: Global,
-    table: &PointTable,
+    table: &Nfa,
     text: &str,
     ix: usize,
     memo: &mut Memo,
@@ -91,22 +86,22 @@ pub fn first_way_from(
     ensures refused { IfErr result IsMemory }
 {
     let task = Task {
-        points: &table.points,
+        states: &table.states,
         unicode: table.unicode,
         text,
     };
-    let start = Stand {
+    let start = NfaConfig {
         at: 0,
         place: ix,
-        turns: 0,
+        counters: 0,
         opened: 0,
     };
     memo.start();
     let found = task.find(memo, start)?;
     let visits = memo.visits();
     let way = match found {
-        Some(stand) => Some(Way {
-            end: stand.place,
+        Some(config) => Some(Way {
+            end: config.place,
             spans: spans(alloc, memo.path())?,
         }),
         None => None,

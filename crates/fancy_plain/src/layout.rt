@@ -1,17 +1,17 @@
-//! How easy nodes are laid out as points.
+//! How easy nodes are laid out as states.
 
 ghost use Rattle.fancy_info.specs.Infos.{info_children, is_look};
 ghost use Rattle.fancy_expr.specs.Views.{assertion_of, bound_of};
 ghost use Rattle.fancy_meaning.specs.Assertions.{assertion_within};
 ghost use Rattle.fancy_meaning.specs.Constructs as plain_form;
 ghost use Rattle.fancy_meaning.specs.Tree.{Delegate, Within};
-ghost use Rattle.fancy_points.specs.PointCode.{branches, counted, in_sequence, one, one_of, optional, plus, preferring, repeated, star};
-ghost use Rattle.fancy_points.specs.Points as plain;
+ghost use Rattle.fancy_nfa.specs.NfaCode.{branches, counted, in_sequence, one, one_of, optional, plus, preferring, repeated, star};
+ghost use Rattle.fancy_nfa.specs.NfaStates as plain;
 ghost use Rattle.fancy_plain.specs.Shapes.{branch_choice, form_of};
-ghost use Rattle.fancy_plain.specs.Views.{IsPointReadBy, loop_of, point_of};
+ghost use Rattle.fancy_plain.specs.Views.{IsStateReadBy, loop_of, state_of};
 ghost use Rattle.std.specs.Prelude.{Bool, IfOk, Some, length, chars, slice_index, slice_index_or, slice_set, ℕ, ◌+◌, ◌<◌, ◌≡◌};
 
-use crate::point::{CharTest, Loop, Point};
+use crate::nfa_state::{CharTest, Loop, NfaState};
 use fancy_characters::classes::CharClassMatcher;
 use fancy_expr::error::Error;
 use fancy_expr::expr::{Assertion, Expr};
@@ -19,12 +19,12 @@ use fancy_expr::text::first_char;
 use fancy_info::info::Info;
 use std::alloc::Global;
 
-/// Points in the making.
+/// NfaStates in the making.
 #[derive(Drop)]
 pub(crate) struct Layout {
     pub(crate) alloc: Global,
     pub(crate) unicode: bool,
-    pub(crate) points: Vec<Point>,
+    pub(crate) states: Vec<NfaState>,
 }
 
 /// How a loop is laid out.
@@ -64,21 +64,21 @@ fn loop_form(lo: usize, hi: usize, may_be_empty: bool) -> Option<LoopForm>
 
 /// What is taken first: greedy goes on first, lazy goes off first.
 fn preferred(greedy: bool, on: usize, off: usize) -> (usize, usize)
-    ensures { (choice : ℕ → ℕ → plain.Point)
+    ensures { (choice : ℕ → ℕ → plain.NfaState)
         → choice result.0 result.1 ≡ preferring choice greedy on off }
 {
     if greedy { (on, off) } else { (off, on) }
 }
 
-/// The point before a branch.
-fn branch_choice(is_first: bool, on: usize, off: usize) -> Point
-    ensures value { point_of result ≡ branch_choice is_first on off }
-    ensures read { (unicode : Bool) → IsPointReadBy unicode result }
+/// The state before a branch.
+fn branch_choice(is_first: bool, on: usize, off: usize) -> NfaState
+    ensures value { state_of result ≡ branch_choice is_first on off }
+    ensures read { (unicode : Bool) → IsStateReadBy unicode result }
 {
     if is_first {
-        Point::Split(on, off)
+        NfaState::Split(on, off)
     } else {
-        Point::Or(on, off)
+        NfaState::BranchSplit(on, off)
     }
 }
 
@@ -107,37 +107,37 @@ fn only_child<'i, 'a>(info: &'i Info<'a>) -> &'i Info<'a>
 
 impl Layout {
     ghost use Rattle.fancy_plain.specs.ClassTexts.{no_text, texts_of};
-    ghost use Rattle.fancy_plain.specs.Layouts.{Lays, LaysEach, LaysNode, LaysOver, LaysRepeat, Replaces, points_in};
+    ghost use Rattle.fancy_plain.specs.Layouts.{Lays, LaysEach, LaysNode, LaysOver, LaysRepeat, Replaces, states_in};
     ghost use Rattle.fancy_plain.specs.Neighbours.{AreNeighbours, IsEasyNode};
     ghost use Rattle.fancy_plain.specs.Shapes.{ended_by_jump, group_code, with_jumps};
 
-    /// One more point.
-    fn push(&mut self, point: Point) -> Result<(), Error>
-        requires { IsPointReadBy self.now.unicode point }
-        ensures { Lays (one (point_of point)) no_text self.old self.new result }
+    /// One more state.
+    fn push(&mut self, nfa_state: NfaState) -> Result<(), Error>
+        requires { IsStateReadBy self.now.unicode nfa_state }
+        ensures { Lays (one (state_of nfa_state)) no_text self.old self.new result }
     {
-        self.points.push(point)?;
+        self.states.push(nfa_state)?;
         Ok(())
     }
 
-    /// Writes over a point.
-    fn patch(&mut self, at: usize, point: Point)
-        requires { IsPointReadBy self.now.unicode point }
-        ensures { Replaces (slice_set (points_in self.old) at (point_of point)) self.old self.new }
+    /// Writes over a state.
+    fn patch(&mut self, at: usize, nfa_state: NfaState)
+        requires { IsStateReadBy self.now.unicode nfa_state }
+        ensures { Replaces (slice_set (states_in self.old) at (state_of nfa_state)) self.old self.new }
     {
-        if at < self.points.len() {
-            self.points[at] = point;
+        if at < self.states.len() {
+            self.states[at] = nfa_state;
         }
     }
 
-    /// Lays out a node behind the points so far.
+    /// Lays out a node behind the states so far.
     #[cycle(lay)]
     pub(crate) fn lay(&mut self, info: &Info) -> Result<(), Error>
         requires { IsEasyNode info.now }
         ensures { LaysNode info.now self.old self.new result }
     {
         match info.expr() {
-            Expr::Any { newline, crlf } => self.push(Point::Take(CharTest::Any {
+            Expr::Any { newline, crlf } => self.push(NfaState::Character(CharTest::Any {
                 newline: *newline,
                 crlf: *crlf,
             })),
@@ -167,22 +167,22 @@ impl Layout {
     }
 
     fn lay_literal(&mut self, val: &str, casei: bool) -> Result<(), Error>
-        ensures { Lays (one (plain.Take (plain.OneChar (slice_index (chars val.now) 0) casei)))
+        ensures { Lays (one (plain.Character (plain.OneChar (slice_index (chars val.now) 0) casei)))
             no_text self.old self.new result }
     {
-        self.push(Point::Take(CharTest::One {
+        self.push(NfaState::Character(CharTest::One {
             c: first_char(val),
             casei,
         }))
     }
 
     fn lay_class(&mut self, inner: &str, casei: bool) -> Result<(), Error>
-        ensures { Lays (one (plain.Take (plain.InClass inner.now casei)))
+        ensures { Lays (one (plain.Character (plain.InClass inner.now casei)))
             (texts_of (Delegate inner.now casei)) self.old self.new result }
     {
         let class = CharClassMatcher::codepoint(self.alloc, inner, casei, self.unicode)?;
         let class = Box::new(self.alloc, class)?;
-        self.push(Point::Take(CharTest::Class(class)))
+        self.push(NfaState::Character(CharTest::Class(class)))
     }
 
     fn lay_assertion(&mut self, assertion: Assertion, in_look: bool) -> Result<(), Error>
@@ -191,7 +191,7 @@ impl Layout {
             → Lays (one (plain.Holds (assertion_within w (assertion_of assertion)))) no_text
             self.old self.new result }
     {
-        self.push(Point::Holds(assertion_inside(assertion, in_look)))
+        self.push(NfaState::Holds(assertion_inside(assertion, in_look)))
     }
 
     #[cycle(lay)]
@@ -200,9 +200,9 @@ impl Layout {
         ensures { LaysOver (group_code group) body.now
             self.old self.new result }
     {
-        self.push(Point::Open)?;
+        self.push(NfaState::Open)?;
         self.lay(body)?;
-        self.push(Point::Close(group))
+        self.push(NfaState::Close(group))
     }
 
     #[cycle(lay)]
@@ -211,7 +211,7 @@ impl Layout {
         ensures { LaysEach one_of infos.now self.old self.new result }
     {
         self.lay_branches(infos)?;
-        self.push(Point::Join)
+        self.push(NfaState::Join)
     }
 
     /// Lays out branches: each but the last goes on behind the last.
@@ -239,27 +239,27 @@ impl Layout {
     fn lay_branch(&mut self, is_first: bool, info: &Info) -> Result<usize, Error>
         requires { IsEasyNode info.now }
         ensures lays { LaysOver (ended_by_jump is_first) info.now self.old self.new result }
-        ensures jump { IfOk result (λ jump. jump + 1 ≡ length (points_in self.new)) }
+        ensures jump { IfOk result (λ jump. jump + 1 ≡ length (states_in self.new)) }
     {
-        let here = self.points.len();
-        self.push(Point::Jump(0))?;
+        let here = self.states.len();
+        self.push(NfaState::Jump(0))?;
         self.lay(info)?;
-        let jump = self.points.len();
-        self.push(Point::Jump(0))?;
+        let jump = self.states.len();
+        self.push(NfaState::Jump(0))?;
         self.patch(here, branch_choice(is_first, here + 1, jump + 1));
         Ok(jump)
     }
 
-    /// Writes the end of the points into jumps.
+    /// Writes the end of the states into jumps.
     fn patch_jumps(&mut self, jumps: Vec<usize>)
         ensures { Replaces
-            (with_jumps jumps.items (length (points_in self.old)) (points_in self.old))
+            (with_jumps jumps.items (length (states_in self.old)) (states_in self.old))
             self.old self.new }
     {
         let mut left = jumps;
-        let end = self.points.len();
+        let end = self.states.len();
         while let Some(jump) = left.pop() {
-            self.patch(jump, Point::Jump(end));
+            self.patch(jump, NfaState::Jump(end));
         }
     }
 
@@ -310,12 +310,12 @@ impl Layout {
         requires { IsEasyNode body.now }
         ensures { LaysOver (optional greedy) body.now self.old self.new result }
     {
-        let here = self.points.len();
-        self.push(Point::Jump(0))?;
+        let here = self.states.len();
+        self.push(NfaState::Jump(0))?;
         self.lay(body)?;
-        let (first, second) = preferred(greedy, here + 1, self.points.len());
-        self.patch(here, Point::Split(first, second));
-        self.push(Point::Join)
+        let (first, second) = preferred(greedy, here + 1, self.states.len());
+        self.patch(here, NfaState::Split(first, second));
+        self.push(NfaState::Join)
     }
 
     #[cycle(lay)]
@@ -323,12 +323,12 @@ impl Layout {
         requires { IsEasyNode body.now }
         ensures { LaysOver (star greedy) body.now self.old self.new result }
     {
-        let here = self.points.len();
-        self.push(Point::Jump(0))?;
+        let here = self.states.len();
+        self.push(NfaState::Jump(0))?;
         self.lay(body)?;
-        self.push(Point::Jump(here))?;
-        let (first, second) = preferred(greedy, here + 1, self.points.len());
-        self.patch(here, Point::Fork(first, second));
+        self.push(NfaState::Jump(here))?;
+        let (first, second) = preferred(greedy, here + 1, self.states.len());
+        self.patch(here, NfaState::LoopSplit(first, second));
         Ok(())
     }
 
@@ -338,23 +338,23 @@ impl Layout {
         requires { IsEasyNode body.now }
         ensures { LaysOver (plus greedy) body.now self.old self.new result }
     {
-        let base = self.points.len();
-        self.push(Point::Jump(base + 2))?;
+        let base = self.states.len();
+        self.push(NfaState::Jump(base + 2))?;
         self.lay_star(greedy, body)
     }
 
     #[cycle(lay)]
-    fn lay_counted(&mut self, turns: Loop, body: &Info) -> Result<(), Error>
+    fn lay_counted(&mut self, counters: Loop, body: &Info) -> Result<(), Error>
         requires { IsEasyNode body.now }
-        ensures { LaysOver (counted (loop_of turns)) body.now self.old self.new result }
+        ensures { LaysOver (counted (loop_of counters)) body.now self.old self.new result }
     {
-        self.push(Point::Enter)?;
-        let here = self.points.len();
-        self.push(Point::Jump(0))?;
+        self.push(NfaState::CounterBegin)?;
+        let here = self.states.len();
+        self.push(NfaState::Jump(0))?;
         self.lay(body)?;
-        self.push(Point::Jump(here))?;
-        let after = self.points.len();
-        self.patch(here, Point::Head { turns, after });
-        self.push(Point::Join)
+        self.push(NfaState::Jump(here))?;
+        let after = self.states.len();
+        self.patch(here, NfaState::CounterLoop { counters, after });
+        self.push(NfaState::Join)
     }
 }

@@ -1,19 +1,19 @@
-//! Easy fragments: neighbouring nodes that are searched plainly, by points, and their first way.
+//! Easy fragments: neighbouring nodes that are searched plainly, by states, and their first way.
 #![tactic(auto)]
 
 mod ascii_runs;
-mod beginnings;
-mod choices;
+mod backtrack_stack;
 mod counted_ways;
 mod failed;
+mod first_sets;
 pub mod first_way;
 mod layout;
-mod log;
-pub mod needed;
+mod nfa_state;
+pub mod one_pass;
 mod pair_bits;
-mod point;
+pub mod required_bytes;
 mod runs;
 pub mod search;
-pub mod straight;
 pub mod table;
-mod tests;
+mod test_runs;
+mod trail;

@@ -1,20 +1,20 @@
 //! Which bit a pair has among those of its place.
 
 ghost use Rattle.std.specs.Prelude.{◌≡◌, ◌<◌, ◌^◌, ◌∷◌, [], ℕ, List, IfSome};
-ghost use Rattle.fancy_plain.specs.PairBits.{turn_number, turns_number, pair_number, pair_bit, place_bit};
+ghost use Rattle.fancy_plain.specs.PairBits.{counter_number, counters_number, pair_number, pair_bit, place_bit};
 
-use crate::point::{Loop, Point};
+use crate::nfa_state::{Loop, NfaState};
 
 /// The most bits of a place.
 const MOST: usize = 256;
 
-/// Which pairs have a bit. A pair inside no more than two loops that count has one, where the points and the counts are few.
+/// Which pairs have a bit. A pair inside no more than two loops that count has one, where the states and the counts are few.
 #[derive(Clone, Copy)]
 pub(crate) struct PairBits {
-    /// How many bits a place has; none where the points are many.
+    /// How many bits a place has; none where the states are many.
     width: u16,
-    /// Points below this one have bits,
-    points: u16,
+    /// NfaStates below this one have bits,
+    states: u16,
     /// inside iterations before which fewer were begun than this,
     counts: u8,
     /// where the number of whether they have stayed is below this one.
@@ -28,7 +28,7 @@ struct Loops {
     counts: usize,
     /// How many numbers of whether an iteration has stayed.
     stays: usize,
-    /// How many loops are around the point that has most of them.
+    /// How many loops are around the state that has most of them.
     depth: usize,
 }
 
@@ -45,27 +45,27 @@ impl Loop {
 }
 
 impl Loops {
-    fn of(points: &[Point]) -> Loops {
+    fn of(states: &[NfaState]) -> Loops {
         let mut loops = Loops {
             counts: 0,
             stays: 1,
             depth: 0,
         };
         let mut depth: usize = 0;
-        for point in points {
-            match point {
-                Point::Enter => {
+        for nfa_state in states {
+            match nfa_state {
+                NfaState::CounterBegin => {
                     depth = depth.saturating_add(1);
                     loops.depth = loops.depth.max(depth);
                 }
-                Point::Head { turns, .. } => {
-                    loops.counts = loops.counts.max(turns.counts());
-                    if turns.asks_moved {
+                NfaState::CounterLoop { counters, .. } => {
+                    loops.counts = loops.counts.max(counters.counts());
+                    if counters.asks_moved {
                         loops.stays = 2;
                     }
                 }
-                Point::Jump(to) => {
-                    if let Some(Point::Head { .. }) = points.get(*to) {
+                NfaState::Jump(to) => {
+                    if let Some(NfaState::CounterLoop { .. }) = states.get(*to) {
                         depth = depth.saturating_sub(1);
                     }
                 }
@@ -82,37 +82,37 @@ fn small(n: usize) -> u8 {
 }
 
 impl PairBits {
-    /// Those of a fragment of these points. Whatever is chosen here, no two pairs have one bit.
-    pub(crate) fn of(points: &[Point]) -> PairBits {
-        let count = points.len();
+    /// Those of a fragment of these states. Whatever is chosen here, no two pairs have one bit.
+    pub(crate) fn of(states: &[NfaState]) -> PairBits {
+        let count = states.len();
         if count > MOST {
             return PairBits {
                 width: 0,
-                points: 0,
+                states: 0,
                 counts: 0,
                 stays: 0,
             };
         }
-        let loops = Loops::of(points);
-        let turns = loops.counts.saturating_mul(loops.stays).saturating_add(1);
+        let loops = Loops::of(states);
+        let counters = loops.counts.saturating_mul(loops.stays).saturating_add(1);
         let mut width = count;
         for _ in 0..loops.depth.min(2) {
-            let wider = width.saturating_mul(turns);
+            let wider = width.saturating_mul(counters);
             if wider <= MOST {
                 width = wider;
             }
         }
         PairBits {
             width: width.min(MOST) as u16,
-            points: count as u16,
+            states: count as u16,
             counts: small(loops.counts),
             stays: small(loops.stays),
         }
     }
 
     /// The number of an iteration, from 1 on.
-    fn turn_number(self, count: usize, stayed: usize) -> Option<usize>
-        ensures number { result ≡ turn_number self count stayed }
+    fn counter_number(self, count: usize, stayed: usize) -> Option<usize>
+        ensures number { result ≡ counter_number self count stayed }
         ensures small { IfSome result (λ n. n < 2 ^ 16) }
     {
         let counts = self.counts as usize;
@@ -124,16 +124,16 @@ impl PairBits {
     }
 
     /// The number of the iterations around, of which each has two numbers.
-    fn turns_number(self, turns: &[usize]) -> Option<usize>
-        ensures number { result ≡ turns_number self turns.now }
+    fn counters_number(self, counters: &[usize]) -> Option<usize>
+        ensures number { result ≡ counters_number self counters.now }
         ensures small { IfSome result (λ n. n < 2 ^ 33) }
     {
-        match turns {
+        match counters {
             [] => Some(0),
-            [count, stayed] => self.turn_number(*count, *stayed),
+            [count, stayed] => self.counter_number(*count, *stayed),
             [count, stayed, outer_count, outer_stayed] => {
-                let inner = self.turn_number(*count, *stayed)?;
-                let outer = self.turn_number(*outer_count, *outer_stayed)?;
+                let inner = self.counter_number(*count, *stayed)?;
+                let outer = self.counter_number(*outer_count, *outer_stayed)?;
                 Some(outer * (self.counts as usize * self.stays as usize + 1) + inner)
             }
             _ => None,
@@ -141,15 +141,15 @@ impl PairBits {
     }
 
     /// The number of a pair among those of its place.
-    fn pair_number(self, at: usize, turns: &[usize]) -> Option<usize>
-        ensures { result ≡ pair_number self at turns.now }
+    fn pair_number(self, at: usize, counters: &[usize]) -> Option<usize>
+        ensures { result ≡ pair_number self at counters.now }
     {
-        let around = self.turns_number(turns)?;
-        let points = self.points as usize;
-        if at >= points {
+        let around = self.counters_number(counters)?;
+        let states = self.states as usize;
+        if at >= states {
             return None;
         }
-        let number = around * points + at;
+        let number = around * states + at;
         if number < self.width as usize {
             Some(number)
         } else {
@@ -161,10 +161,10 @@ impl PairBits {
     pub(crate) fn bit(self, base: usize, pair: &[usize]) -> Option<usize>
         ensures { result ≡ pair_bit self base pair.now }
     {
-        let [at, place, turns @ ..] = pair else {
+        let [at, place, counters @ ..] = pair else {
             return None;
         };
-        let number = self.pair_number(*at, turns)?;
+        let number = self.pair_number(*at, counters)?;
         self.place_bit(base, *place, number)
     }
 
@@ -173,7 +173,7 @@ impl PairBits {
     pub(crate) fn bit_outside(self, base: usize, at: usize, place: usize) -> Option<usize>
         ensures { result ≡ pair_bit self base (at ∷ place ∷ []) }
     {
-        if at < self.points as usize && at < self.width as usize {
+        if at < self.states as usize && at < self.width as usize {
             self.place_bit(base, place, at)
         } else {
             None

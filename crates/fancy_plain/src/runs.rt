@@ -1,33 +1,33 @@
 //! Loops over one character: many iterations at once, and ways out of them that fail at their first test.
 
 ghost use Rattle.std.specs.Prelude.{◌≡◌, ◌≤◌, ◌+◌, IsTrue, IfErr, IfOk, IfSome};
-ghost use Rattle.fancy_points.specs.PointSearch as plain;
-ghost use Rattle.fancy_points.specs.PointSearch.{Search, TakesUp};
+ghost use Rattle.fancy_nfa.specs.NfaSearch as plain;
+ghost use Rattle.fancy_nfa.specs.NfaSearch.{Search, TakesUp};
 ghost use Rattle.fancy_plain.specs.Views.{IsReadBy};
 ghost use Rattle.fancy_plain.specs.Runs.{FailsFrom, GoesOn, IsBody, IsLostAt, IsRun, Refuses, RunsOver};
 ghost use Rattle.fancy_plain.specs.Searches.{HaveFailed, IsHere, IsSearch, IsTask, leading_of};
 
-use crate::log::Stand;
-use crate::point::{CharTest, Point, byte_at};
-use crate::search::{Lead, Memo, Task};
+use crate::nfa_state::{CharTest, NfaState, byte_at};
+use crate::search::{Memo, StepResult, Task};
+use crate::trail::NfaConfig;
 use std::alloc::AllocError;
 
 impl Task<'_> {
     /// At the head of a loop over one character, past the characters that pass, and out of the loop where one fails.
     #[inline(always)]
-    pub(crate) fn past_loop(&self, m: &mut Memo, stand: Stand) -> Result<Stand, AllocError>
+    pub(crate) fn past_loop(&self, m: &mut Memo, config: NfaConfig) -> Result<NfaConfig, AllocError>
         requires { IsTask self.now }
-        ensures ok { IfOk result (λ on. (s : plain.Stand) (f : Search)
-            → IsSearch (leading_of self.now) m.old f → IsHere m.old stand s
+        ensures ok { IfOk result (λ on. (s : plain.NfaConfig) (f : Search)
+            → IsSearch (leading_of self.now) m.old f → IsHere m.old config s
             → GoesOn self.now (TakesUp s f) m.new on) }
-        ensures failed { IfErr result (λ _. (s : plain.Stand) (f : Search)
-            → IsSearch (leading_of self.now) m.old f → IsHere m.old stand s
+        ensures failed { IfErr result (λ _. (s : plain.NfaConfig) (f : Search)
+            → IsSearch (leading_of self.now) m.old f → IsHere m.old config s
             → HaveFailed m.new f.failed) }
     {
-        let Some(test) = self.body_test(m, stand) else {
-            return Ok(stand);
+        let Some(test) = self.body_test(m, config) else {
+            return Ok(config);
         };
-        let on = self.past_run(m, test, stand)?;
+        let on = self.past_run(m, test, config)?;
         if !self.is_refused(test, on.place) {
             return Ok(on);
         }
@@ -37,58 +37,68 @@ impl Task<'_> {
     /// At the head of a loop over this test, past the characters from here on that pass: those of ASCII, up to a place
     /// where the head may have no way. A choice is kept at each.
     #[inline(always)]
-    fn past_run(&self, m: &mut Memo, test: &CharTest, stand: Stand) -> Result<Stand, AllocError>
-        requires runs { RunsOver self.now m.old stand test.now }
+    fn past_run(
+        &self,
+        m: &mut Memo,
+        test: &CharTest,
+        config: NfaConfig,
+    ) -> Result<NfaConfig, AllocError>
+        requires runs { RunsOver self.now m.old config test.now }
         requires read { IsReadBy self.now.unicode test.now }
-        ensures ok { IfOk result (λ on. (s : plain.Stand) (f : Search)
-            → IsSearch (leading_of self.now) m.old f → IsHere m.old stand s
+        ensures ok { IfOk result (λ on. (s : plain.NfaConfig) (f : Search)
+            → IsSearch (leading_of self.now) m.old f → IsHere m.old config s
             → GoesOn self.now (TakesUp s f) m.new on) }
         ensures runs { IfOk result (λ on. RunsOver self.now m.new on test.now) }
         ensures failed { m.new.failed ≡ m.old.failed }
     {
-        let count = self.run_length(m, test, stand);
+        let count = self.run_length(m, test, config);
         if count == 0 {
-            return Ok(stand);
+            return Ok(config);
         }
-        m.keep_run(stand, count)
+        m.keep_run(config, count)
     }
 
     /// At the head of a loop over one character where none is that passes, out of the loop if that does not fail at once,
     /// and past the tests behind it.
     #[inline(always)]
-    fn past_body(&self, m: &mut Memo, test: &CharTest, stand: Stand) -> Result<Stand, AllocError>
+    fn past_body(
+        &self,
+        m: &mut Memo,
+        test: &CharTest,
+        config: NfaConfig,
+    ) -> Result<NfaConfig, AllocError>
         requires task { IsTask self.now }
-        requires runs { RunsOver self.now m.old stand test.now }
-        requires refused { Refuses self.now test.now stand.place }
-        ensures ok { IfOk result (λ on. (s : plain.Stand) (f : Search)
-            → IsSearch (leading_of self.now) m.old f → IsHere m.old stand s
+        requires runs { RunsOver self.now m.old config test.now }
+        requires refused { Refuses self.now test.now config.place }
+        ensures ok { IfOk result (λ on. (s : plain.NfaConfig) (f : Search)
+            → IsSearch (leading_of self.now) m.old f → IsHere m.old config s
             → GoesOn self.now (TakesUp s f) m.new on) }
-        ensures failed { IfErr result (λ _. (s : plain.Stand) (f : Search)
-            → IsSearch (leading_of self.now) m.old f → IsHere m.old stand s
+        ensures failed { IfErr result (λ _. (s : plain.NfaConfig) (f : Search)
+            → IsSearch (leading_of self.now) m.old f → IsHere m.old config s
             → HaveFailed m.new f.failed) }
     {
-        if m.may_have_failed(stand) || self.is_lost(stand) {
-            return Ok(stand);
+        if m.may_have_failed(config) || self.is_lost(config) {
+            return Ok(config);
         }
         m.count_more(2);
-        match self.take_other(m, stand)? {
-            Lead::Goes(out) => Ok(self.past_tests(m, out)),
-            _ => Ok(stand),
+        match self.take_other(m, config)? {
+            StepResult::Goes(out) => Ok(self.past_tests(m, out)),
+            _ => Ok(config),
         }
     }
 
     /// The test on a character that is the body of the loop whose head is here, where the way on into it comes first and
     /// each iteration is like the others.
     #[inline(always)]
-    fn body_test(&self, m: &Memo, stand: Stand) -> Option<&CharTest>
+    fn body_test(&self, m: &Memo, config: NfaConfig) -> Option<&CharTest>
         requires { IsTask self.now }
-        ensures runs { IfSome result (λ test. RunsOver self.now m.now stand test.now) }
+        ensures runs { IfSome result (λ test. RunsOver self.now m.now config test.now) }
         ensures read { IfSome result (λ test. IsReadBy self.now.unicode test.now) }
     {
-        match self.points.get(stand.at) {
-            Some(Point::Fork(first, _)) => self.body_at(*first, stand.at),
-            Some(Point::Head { turns, .. }) if m.repeats(*turns, stand) => {
-                self.body_at(stand.at + 1, stand.at)
+        match self.states.get(config.at) {
+            Some(NfaState::LoopSplit(first, _)) => self.body_at(*first, config.at),
+            Some(NfaState::CounterLoop { counters, .. }) if m.repeats(*counters, config) => {
+                self.body_at(config.at + 1, config.at)
             }
             _ => None,
         }
@@ -97,12 +107,12 @@ impl Task<'_> {
     /// The test on a character that stands there, where it is the body of the loop with this head.
     #[inline(always)]
     pub(crate) fn body_at(&self, first: usize, head: usize) -> Option<&CharTest>
-        ensures { IfSome result (λ test. IsBody self.now.points.now head first test.now) }
+        ensures { IfSome result (λ test. IsBody self.now.states.now head first test.now) }
     {
-        let Some(Point::Take(test)) = self.points.get(first) else {
+        let Some(NfaState::Character(test)) = self.states.get(first) else {
             return None;
         };
-        let Some(Point::Jump(to)) = self.points.get(first.checked_add(1)?) else {
+        let Some(NfaState::Jump(to)) = self.states.get(first.checked_add(1)?) else {
             return None;
         };
         if *to == head { Some(test) } else { None }
@@ -110,43 +120,46 @@ impl Task<'_> {
 
     /// How many characters of ASCII from here on pass the test, up to a place where the head may have no way.
     #[inline(always)]
-    fn run_length(&self, m: &Memo, test: &CharTest, stand: Stand) -> usize
+    fn run_length(&self, m: &Memo, test: &CharTest, config: NfaConfig) -> usize
         requires { IsReadBy self.now.unicode test.now }
-        ensures run { IsRun self.now m.now test.now stand result }
-        ensures fits { stand.place + result ≤ usize.MAX }
+        ensures run { IsRun self.now m.now test.now config result }
+        ensures fits { config.place + result ≤ usize.MAX }
     {
         let text = self.text.as_bytes();
         if m.is_blank() {
-            return test.past_ascii(self.unicode, text, stand.place) - stand.place;
+            return test.past_ascii(self.unicode, text, config.place) - config.place;
         }
-        let mut at = stand.place;
+        let mut at = config.place;
         'run: while at < text.len()
             && text[at] < 128
             && test.takes_ascii(self.unicode, text[at])
-            && !m.may_have_failed(Stand { place: at, ..stand })
+            && !m.may_have_failed(NfaConfig {
+                place: at,
+                ..config
+            })
         {
             at += 1;
         }
-        at - stand.place
+        at - config.place
     }
 
     /// The other way on from the head of a loop fails at its first test.
     #[inline(always)]
-    pub(crate) fn is_lost(&self, stand: Stand) -> bool
+    pub(crate) fn is_lost(&self, config: NfaConfig) -> bool
         requires { IsTask self.now }
-        ensures { IsTrue result → IsLostAt self.now stand.at stand.place }
+        ensures { IsTrue result → IsLostAt self.now config.at config.place }
     {
-        match self.points.get(stand.at) {
-            Some(Point::Fork(_, second)) => self.fails_at(*second, stand.place),
-            Some(Point::Head { turns, after }) => {
-                let second = turns.second_way(stand.at, *after);
-                self.fails_at(second, stand.place)
+        match self.states.get(config.at) {
+            Some(NfaState::LoopSplit(_, second)) => self.fails_at(*second, config.place),
+            Some(NfaState::CounterLoop { counters, after }) => {
+                let second = counters.second_way(config.at, *after);
+                self.fails_at(second, config.place)
             }
             _ => false,
         }
     }
 
-    /// From this point on a test comes first, behind groups that end, and the character here is none that passes: there is
+    /// From this state on a test comes first, behind groups that end, and the character here is none that passes: there is
     /// no more, or it is of ASCII and fails.
     #[inline(always)]
     pub(crate) fn fails_at(&self, at: usize, place: usize) -> bool
@@ -154,11 +167,11 @@ impl Task<'_> {
         ensures { IsTrue result → FailsFrom self.now at place }
     {
         let mut next = at;
-        'groups: while let Some(Point::Close(_)) = self.points.get(next) {
+        'groups: while let Some(NfaState::Close(_)) = self.states.get(next) {
             next += 1;
         }
-        match self.points.get(next) {
-            Some(Point::Take(test)) => self.is_refused(test, place),
+        match self.states.get(next) {
+            Some(NfaState::Character(test)) => self.is_refused(test, place),
             _ => false,
         }
     }

@@ -1,23 +1,23 @@
-//! The plain search: from point to point, with what is tried later on a stack.
+//! The plain search: from state to state, with what is tried later on a stack.
 
 ghost use Rattle.std.specs.Prelude.{◌≡◌, ◌≤◌, ◌<◌, ◌+◌, ◌∷◌, ◌++◌, [], ℕ, List, Bool, Option, Some, None, min, true, false, length, map, slice_get, if◌then◌else◌, IfOk, IfErr, IsTrue};
-ghost use Rattle.fancy_points.specs.PointSearch as plain;
-ghost use Rattle.fancy_points.specs.PointSearch.{Next, Search, TakesBack, TakesUp, pair_of};
-ghost use Rattle.fancy_points.specs.Points as points;
-ghost use Rattle.fancy_plain.specs.FailedPairs.{key_of, turn_numbers};
-ghost use Rattle.fancy_plain.specs.Paths.{HasTurns, turn_of};
-ghost use Rattle.fancy_plain.specs.Views.{loop_of, point_of, IsPointReadBy, IsReadBy, test_of};
-ghost use Rattle.fancy_plain.specs.declared.point.Point.TheVariants as point;
-ghost use Rattle.fancy_plain.specs.Choices.{choices_of};
-ghost use Rattle.fancy_plain.specs.Runs.{IsForkOf, Repeats, onward, run_search};
+ghost use Rattle.fancy_nfa.specs.NfaSearch as plain;
+ghost use Rattle.fancy_nfa.specs.NfaSearch.{Next, Search, TakesBack, TakesUp, pair_of};
+ghost use Rattle.fancy_nfa.specs.NfaStates as states;
+ghost use Rattle.fancy_plain.specs.FailedPairs.{key_of, counter_numbers};
+ghost use Rattle.fancy_plain.specs.Paths.{HasCounters, counter_of};
+ghost use Rattle.fancy_plain.specs.Views.{loop_of, state_of, IsStateReadBy, IsReadBy, test_of};
+ghost use Rattle.fancy_plain.specs.declared.nfa_state.NfaState.TheVariants as nfa_state;
+ghost use Rattle.fancy_plain.specs.BacktrackStack.{choices_of};
+ghost use Rattle.fancy_plain.specs.Runs.{IsLoopSplitOf, Repeats, onward, run_search};
 ghost use Rattle.fancy_plain.specs.Ways.{IsMemoOf};
-ghost use Rattle.fancy_plain.specs.Searches.{Advances, ComesTo, EndsAs, GoesBack, HaveFailed, IsHere, IsTask, TurnsBy, fails_before, leading_of, IsSearch, Keeps, Leading, Leads};
+ghost use Rattle.fancy_plain.specs.Searches.{Advances, ComesTo, EndsAs, GoesBack, HaveFailed, IsHere, IsTask, CountersBy, fails_before, leading_of, IsSearch, Keeps, Leading, Leads};
 
-use crate::choices::{Choice, Choices};
+use crate::backtrack_stack::{BacktrackStack, StackFrame};
 use crate::failed::Failed;
-use crate::log::{Entry, Log, Stand, Turn};
-use crate::point::{CharTest, Loop, Point};
-use crate::table::PointTable;
+use crate::nfa_state::{CharTest, Loop, NfaState};
+use crate::table::Nfa;
+use crate::trail::{Entry, LoopCounter, NfaConfig, Trail};
 use fancy_characters::look::holds;
 use std::alloc::{AllocError, Global};
 
@@ -26,26 +26,26 @@ use std::alloc::{AllocError, Global};
 pub struct Memo {
     alloc: Global,
     failed: Failed,
-    later: Choices,
-    log: Log,
+    frames: BacktrackStack,
+    trail: Trail,
     /// Room for the numbers of a pair.
     numbers: Vec<usize>,
-    /// How many points this search has taken up.
+    /// How many states this search has taken up.
     visits: u64,
 }
 
-/// What a point leads to.
+/// What a state leads to.
 #[derive(Clone, Copy)]
-pub(crate) enum Lead {
-    Found(Stand),
+pub(crate) enum StepResult {
+    Found(NfaConfig),
     Lost,
-    Goes(Stand),
+    Goes(NfaConfig),
 }
 
-/// The points of a table, and the text that they are searched in.
+/// The states of a table, and the text that they are searched in.
 #[derive(Clone, Copy)]
 pub(crate) struct Task<'a> {
-    pub(crate) points: &'a [Point],
+    pub(crate) states: &'a [NfaState],
     pub(crate) unicode: bool,
     pub(crate) text: &'a str,
 }
@@ -61,12 +61,12 @@ pub(crate) enum Turning {
 
 impl Loop {
     /// Which ways on there are.
-    fn turning(self, turn: Turn, place: usize) -> Turning
-        ensures { TurnsBy result (loop_of self) place (turn_of turn) }
+    fn turning(self, counter: LoopCounter, place: usize) -> Turning
+        ensures { CountersBy result (loop_of self) place (counter_of counter) }
     {
-        if self.is_over(turn, place) {
+        if self.is_over(counter, place) {
             Turning::Out
-        } else if turn.count < self.lo {
+        } else if counter.count < self.lo {
             Turning::In
         } else if self.greedy {
             Turning::InOrOut
@@ -76,10 +76,10 @@ impl Loop {
     }
 
     /// No iteration may be begun.
-    fn is_over(self, turn: Turn, place: usize) -> bool
-        ensures { result ≡ plain.is_over (loop_of self) place (turn_of turn) }
+    fn is_over(self, counter: LoopCounter, place: usize) -> bool
+        ensures { result ≡ plain.is_over (loop_of self) place (counter_of counter) }
     {
-        turn.since == Some(place) || (self.hi != usize::MAX && turn.count >= self.hi)
+        counter.since == Some(place) || (self.hi != usize::MAX && counter.count >= self.hi)
     }
 
     /// Which way is the second one from a head here, where there are two: out of the loop or into it.
@@ -91,16 +91,16 @@ impl Loop {
     }
 
     /// The iteration that begins here. Past `lo` a loop without a bound counts no more.
-    fn next_turn(self, turn: Turn, place: usize) -> Turn
-        requires { plain.is_over (loop_of self) place (turn_of turn) ≡ false }
-        ensures { turn_of result ≡ plain.next_turn (loop_of self) place (turn_of turn) }
+    fn next_counter(self, counter: LoopCounter, place: usize) -> LoopCounter
+        requires { plain.is_over (loop_of self) place (counter_of counter) ≡ false }
+        ensures { counter_of result ≡ plain.next_counter (loop_of self) place (counter_of counter) }
     {
-        let is_free = turn.count >= self.lo;
-        Turn {
+        let is_free = counter.count >= self.lo;
+        LoopCounter {
             count: if is_free && self.hi == usize::MAX {
                 self.lo
             } else {
-                turn.count + 1
+                counter.count + 1
             },
             since: if self.asks_moved && is_free {
                 Some(place)
@@ -112,37 +112,45 @@ impl Loop {
 }
 
 /// Writes the numbers of the pair of this stand.
-fn write_numbers(log: &Log, stand: Stand, numbers: &mut Vec<usize>) -> Result<(), AllocError>
-    ensures ok { IfOk result (λ _. (s : plain.Stand) → stand.at ≡ s.at → stand.place ≡ s.place
-        → HasTurns log.now.entries.items stand.turns s.turns
+fn write_numbers(
+    trail: &Trail,
+    config: NfaConfig,
+    numbers: &mut Vec<usize>,
+) -> Result<(), AllocError>
+    ensures ok { IfOk result (λ _. (s : plain.NfaConfig) → config.at ≡ s.at → config.place ≡ s.place
+        → HasCounters trail.now.entries.items config.counters s.counters
         → numbers.new.items ≡ key_of (pair_of s)) }
 {
     numbers.clear();
-    numbers.push(stand.at)?;
-    numbers.push(stand.place)?;
-    push_turns(log, stand, numbers)
+    numbers.push(config.at)?;
+    numbers.push(config.place)?;
+    push_counters(trail, config, numbers)
 }
 
 /// The numbers of the pair of this stand, inside this iteration and no other.
-fn numbers_inside(stand: Stand, turn: Turn) -> [usize; 4]
-    ensures { (s : plain.Stand) → stand.at ≡ s.at → stand.place ≡ s.place
-        → turn_of turn ∷ [] ≡ s.turns → result ≡ key_of (pair_of s) }
+fn numbers_inside(config: NfaConfig, counter: LoopCounter) -> [usize; 4]
+    ensures { (s : plain.NfaConfig) → config.at ≡ s.at → config.place ≡ s.place
+        → counter_of counter ∷ [] ≡ s.counters → result ≡ key_of (pair_of s) }
 {
-    let has_stayed = turn.since == Some(stand.place);
-    [stand.at, stand.place, turn.count, has_stayed as usize]
+    let has_stayed = counter.since == Some(config.place);
+    [config.at, config.place, counter.count, has_stayed as usize]
 }
 
 /// Adds the numbers of the iterations around this stand.
-fn push_turns(log: &Log, stand: Stand, numbers: &mut Vec<usize>) -> Result<(), AllocError>
-    ensures ok { IfOk result (λ _. (turns : List plain.Turn)
-        → HasTurns log.now.entries.items stand.turns turns
+fn push_counters(
+    trail: &Trail,
+    config: NfaConfig,
+    numbers: &mut Vec<usize>,
+) -> Result<(), AllocError>
+    ensures ok { IfOk result (λ _. (counters : List plain.LoopCounter)
+        → HasCounters trail.now.entries.items config.counters counters
         → numbers.new.items ≡ numbers.old.items
-        ++ turn_numbers (map (plain.turn_key stand.place) turns)) }
+        ++ counter_numbers (map (plain.counter_key config.place) counters)) }
 {
-    let mut link = stand.turns;
-    'turns: while let Some((turn, outer)) = log.turn(link) {
-        numbers.push(turn.count)?;
-        let has_stayed = turn.since == Some(stand.place);
+    let mut link = config.counters;
+    'counters: while let Some((counter, outer)) = trail.counter(link) {
+        numbers.push(counter.count)?;
+        let has_stayed = counter.since == Some(config.place);
         numbers.push(has_stayed as usize)?;
         link = outer;
     }
@@ -151,21 +159,21 @@ fn push_turns(log: &Log, stand: Stand, numbers: &mut Vec<usize>) -> Result<(), A
 
 impl Memo {
     /// For searches by the table in one text, from `pos` on.
-    pub fn new(alloc: Global, table: &PointTable, pos: usize) -> Memo
+    pub fn new(alloc: Global, table: &Nfa, pos: usize) -> Memo
         ensures { (text : List ℕ) → IsMemoOf text table.now result }
     {
         Memo {
             alloc,
             failed: Failed::new(alloc, table.pair_bits, pos),
-            later: Choices::new(alloc),
-            log: Log::new(alloc),
+            frames: BacktrackStack::new(alloc),
+            trail: Trail::new(alloc),
             numbers: Vec::new(alloc),
             visits: 0,
         }
     }
 
-    /// As `new` for another table or text, with the room of this one, in time that follows what was noted.
-    pub fn clear(&mut self, table: &PointTable, pos: usize)
+    /// As `new` for another table or text, with the room of this one, in time that follows what was memoized.
+    pub fn clear(&mut self, table: &Nfa, pos: usize)
         ensures { (text : List ℕ) → IsMemoOf text table.now self.new }
     {
         self.failed.clear(table.pair_bits, pos);
@@ -173,17 +181,17 @@ impl Memo {
 
     /// Before another search.
     pub(crate) fn start(&mut self)
-        ensures later { choices_of self.new.later ≡ [] }
-        ensures path { self.new.log.entries.items ≡ [] }
+        ensures frames { choices_of self.new.frames ≡ [] }
+        ensures path { self.new.trail.entries.items ≡ [] }
         ensures visits { self.new.visits ≡ 0 }
         ensures failed { self.new.failed ≡ self.old.failed }
     {
-        self.later.clear();
-        self.log.truncate(0);
+        self.frames.clear();
+        self.trail.truncate(0);
         self.visits = 0;
     }
 
-    /// How many points the search has taken up.
+    /// How many states the search has taken up.
     pub(crate) fn visits(&self) -> u64
         ensures { result ≡ self.now.visits }
     {
@@ -192,52 +200,52 @@ impl Memo {
 
     /// The path of the search.
     pub(crate) fn path(&self) -> &[Entry]
-        ensures { result.now ≡ self.now.log.entries.items }
+        ensures { result.now ≡ self.now.trail.entries.items }
     {
-        self.log.entries()
+        self.trail.entries()
     }
 
-    /// One more point is taken up.
+    /// One more state is taken up.
     pub(crate) fn count(&mut self)
         ensures { self.new ≡ record self.old { visits = min u64.MAX (self.old.visits + 1) } }
     {
         self.visits = self.visits.saturating_add(1);
     }
 
-    /// So many more points are taken up.
-    pub(crate) fn count_more(&mut self, points: u64)
-        ensures { self.new ≡ record self.old { visits = min u64.MAX (self.old.visits + points) } }
+    /// So many more states are taken up.
+    pub(crate) fn count_more(&mut self, states: u64)
+        ensures { self.new ≡ record self.old { visits = min u64.MAX (self.old.visits + states) } }
     {
-        self.visits = self.visits.saturating_add(points);
+        self.visits = self.visits.saturating_add(states);
     }
 
     /// Whether the pair of this stand is known to have no way.
     #[inline(always)]
-    fn has_failed(&mut self, stand: Stand) -> Result<bool, AllocError>
-        ensures ok { IfOk result (λ yes. (s : plain.Stand) (failed : plain.Pair → Bool)
-            → IsHere self.old stand s → HaveFailed self.old failed → yes ≡ failed (pair_of s)) }
+    fn has_failed(&mut self, config: NfaConfig) -> Result<bool, AllocError>
+        ensures ok { IfOk result (λ yes. (s : plain.NfaConfig) (failed : plain.Pair → Bool)
+            → IsHere self.old config s → HaveFailed self.old failed → yes ≡ failed (pair_of s)) }
         ensures rest { self.new ≡ record self.old { numbers = self.new.numbers } }
     {
         if self.failed.is_empty() {
             return Ok(false);
         }
-        if stand.turns == 0 {
-            return Ok(self.failed.has_outside(stand.at, stand.place));
+        if config.counters == 0 {
+            return Ok(self.failed.has_outside(config.at, config.place));
         }
-        self.has_failed_inside(Stand { ..stand })
+        self.has_failed_inside(NfaConfig { ..config })
     }
 
     /// The same, inside a loop that counts.
     #[inline(never)]
-    fn has_failed_inside(&mut self, stand: Stand) -> Result<bool, AllocError>
-        ensures ok { IfOk result (λ yes. (s : plain.Stand) (failed : plain.Pair → Bool)
-            → IsHere self.old stand s → HaveFailed self.old failed → yes ≡ failed (pair_of s)) }
+    fn has_failed_inside(&mut self, config: NfaConfig) -> Result<bool, AllocError>
+        ensures ok { IfOk result (λ yes. (s : plain.NfaConfig) (failed : plain.Pair → Bool)
+            → IsHere self.old config s → HaveFailed self.old failed → yes ≡ failed (pair_of s)) }
         ensures rest { self.new ≡ record self.old { numbers = self.new.numbers } }
     {
-        if let Some((turn, 0)) = self.log.turn(stand.turns) {
-            return Ok(self.failed.has(&numbers_inside(stand, turn)));
+        if let Some((counter, 0)) = self.trail.counter(config.counters) {
+            return Ok(self.failed.has(&numbers_inside(config, counter)));
         }
-        write_numbers(&self.log, stand, &mut self.numbers)?;
+        write_numbers(&self.trail, config, &mut self.numbers)?;
         Ok(self.failed.has(&self.numbers))
     }
 
@@ -252,526 +260,577 @@ impl Memo {
 
     /// Whether the pair of this stand may be known to have no way. Inside two loops that count it may, once any pair is.
     #[inline(always)]
-    pub(crate) fn may_have_failed(&self, stand: Stand) -> bool
-        ensures { result ≡ false → (s : plain.Stand) (failed : plain.Pair → Bool)
-            → IsHere self.now stand s → HaveFailed self.now failed → failed (pair_of s) ≡ false }
+    pub(crate) fn may_have_failed(&self, config: NfaConfig) -> bool
+        ensures { result ≡ false → (s : plain.NfaConfig) (failed : plain.Pair → Bool)
+            → IsHere self.now config s → HaveFailed self.now failed → failed (pair_of s) ≡ false }
     {
         if self.failed.is_empty() {
             return false;
         }
-        if stand.turns == 0 {
-            return self.failed.has_outside(stand.at, stand.place);
+        if config.counters == 0 {
+            return self.failed.has_outside(config.at, config.place);
         }
-        match self.log.turn(stand.turns) {
-            Some((turn, 0)) => self.failed.has(&numbers_inside(stand, turn)),
+        match self.trail.counter(config.counters) {
+            Some((counter, 0)) => self.failed.has(&numbers_inside(config, counter)),
             _ => true,
         }
     }
 
     /// At the head of this loop each iteration from here on is like the one here, and the way on into it comes first.
     #[inline(always)]
-    pub(crate) fn repeats(&self, turns: Loop, stand: Stand) -> bool
-        ensures { IsTrue result → (s : plain.Stand) → IsHere self.now stand s
-            → Repeats (loop_of turns) s.turns }
+    pub(crate) fn repeats(&self, counters: Loop, config: NfaConfig) -> bool
+        ensures { IsTrue result → (s : plain.NfaConfig) → IsHere self.now config s
+            → Repeats (loop_of counters) s.counters }
     {
-        if !turns.greedy || turns.asks_moved || turns.hi != usize::MAX {
+        if !counters.greedy || counters.asks_moved || counters.hi != usize::MAX {
             return false;
         }
-        match self.log.turn(stand.turns) {
-            Some((turn, _)) => turn.count == turns.lo && turn.since.is_none(),
+        match self.trail.counter(config.counters) {
+            Some((counter, _)) => counter.count == counters.lo && counter.since.is_none(),
             None => false,
         }
     }
 
     /// The pair of this stand has no way.
     #[inline(always)]
-    fn note_failed(&mut self, stand: Stand) -> Result<(), AllocError>
-        ensures ok { IfOk result (λ _. (s : plain.Stand) (f : Search)
-            → IsHere self.old stand s → HaveFailed self.old f.failed
+    fn add_failed(&mut self, config: NfaConfig) -> Result<(), AllocError>
+        ensures ok { IfOk result (λ _. (s : plain.NfaConfig) (f : Search)
+            → IsHere self.old config s → HaveFailed self.old f.failed
             → HaveFailed self.new (plain.with_failed (pair_of s) f).failed) }
         ensures err { IfErr result (λ _. (failed : plain.Pair → Bool)
             → HaveFailed self.old failed → HaveFailed self.new failed) }
         ensures rest { self.new
             ≡ record self.old { numbers = self.new.numbers; failed = self.new.failed } }
     {
-        if stand.turns == 0 {
-            return self.failed.add_outside(self.alloc, stand.at, stand.place);
+        if config.counters == 0 {
+            return self.failed.add_outside(self.alloc, config.at, config.place);
         }
-        self.note_failed_inside(Stand { ..stand })
+        self.add_failed_inside(NfaConfig { ..config })
     }
 
     /// The same, inside a loop that counts.
     #[inline(never)]
-    fn note_failed_inside(&mut self, stand: Stand) -> Result<(), AllocError>
-        ensures ok { IfOk result (λ _. (s : plain.Stand) (f : Search)
-            → IsHere self.old stand s → HaveFailed self.old f.failed
+    fn add_failed_inside(&mut self, config: NfaConfig) -> Result<(), AllocError>
+        ensures ok { IfOk result (λ _. (s : plain.NfaConfig) (f : Search)
+            → IsHere self.old config s → HaveFailed self.old f.failed
             → HaveFailed self.new (plain.with_failed (pair_of s) f).failed) }
         ensures err { IfErr result (λ _. (failed : plain.Pair → Bool)
             → HaveFailed self.old failed → HaveFailed self.new failed) }
         ensures rest { self.new
             ≡ record self.old { numbers = self.new.numbers; failed = self.new.failed } }
     {
-        if let Some((turn, 0)) = self.log.turn(stand.turns) {
-            return self.failed.add(self.alloc, &numbers_inside(stand, turn));
+        if let Some((counter, 0)) = self.trail.counter(config.counters) {
+            return self
+                .failed
+                .add(self.alloc, &numbers_inside(config, counter));
         }
-        write_numbers(&self.log, stand, &mut self.numbers)?;
+        write_numbers(&self.trail, config, &mut self.numbers)?;
         self.failed.add(self.alloc, &self.numbers)
     }
 
     /// Keeps a choice for later.
     #[inline(always)]
-    fn keep(&mut self, stand: Stand, is_untried: bool) -> Result<(), AllocError>
-        ensures ok { IfOk result (λ _. (leading : Leading) (f : Search) (s : plain.Stand)
-            (later : List plain.Later) → IsSearch leading self.old f → IsHere self.old stand s
-            → Keeps is_untried (leading s) s f.later later
-            → IsSearch leading self.new (record f { later = later })) }
-        ensures rest { self.new ≡ record self.old { later = self.new.later } }
+    fn keep(&mut self, config: NfaConfig, is_untried: bool) -> Result<(), AllocError>
+        ensures ok { IfOk result (λ _. (leading : Leading) (f : Search) (s : plain.NfaConfig)
+            (frames : List plain.Frame) → IsSearch leading self.old f → IsHere self.old config s
+            → Keeps is_untried (leading s) s f.frames frames
+            → IsSearch leading self.new (record f { frames = frames })) }
+        ensures rest { self.new ≡ record self.old { frames = self.new.frames } }
     {
-        let path = self.log.len();
-        let choice = Choice {
-            stand,
+        let path = self.trail.len();
+        let choice = StackFrame {
+            config,
             path,
             is_untried,
         };
-        self.later.push(choice, 0)?;
+        self.frames.push(choice, 0)?;
         Ok(())
     }
 
     /// Takes up a loop's head and the character there, at this stand and at each of the next bytes, so many in all. A choice
     /// is kept at each. Goes on behind them.
-    pub(crate) fn keep_run(&mut self, stand: Stand, count: usize) -> Result<Stand, AllocError>
+    pub(crate) fn keep_run(
+        &mut self,
+        config: NfaConfig,
+        count: usize,
+    ) -> Result<NfaConfig, AllocError>
         requires some { 0 < count }
-        requires fits { stand.place + count ≤ usize.MAX }
-        ensures ok { IfOk result (λ on. (leading : Leading) (f : Search) (s : plain.Stand)
-            (first : ℕ) (out : plain.Stand → plain.Stand) → IsSearch leading self.old f
-            → IsHere self.old stand s → IsForkOf leading first out s
+        requires fits { config.place + count ≤ usize.MAX }
+        ensures ok { IfOk result (λ on. (leading : Leading) (f : Search) (s : plain.NfaConfig)
+            (first : ℕ) (out : plain.NfaConfig → plain.NfaConfig) → IsSearch leading self.old f
+            → IsHere self.old config s → IsLoopSplitOf leading first out s
             → IsSearch leading self.new (run_search out count s f)
             × IsHere self.new on (onward count s)) }
         ensures on { IfOk result
-            (λ on. on ≡ record stand { place = stand.place + count }) }
+            (λ on. on ≡ record config { place = config.place + count }) }
         ensures rest { self.new
-            ≡ record self.old { later = self.new.later; visits = self.new.visits } }
+            ≡ record self.old { frames = self.new.frames; visits = self.new.visits } }
     {
-        let end = stand.place + count;
-        let last = Choice {
-            stand: Stand {
+        let end = config.place + count;
+        let last = StackFrame {
+            config: NfaConfig {
                 place: end - 1,
-                ..stand
+                ..config
             },
-            path: self.log.len(),
+            path: self.trail.len(),
             is_untried: true,
         };
-        self.later.push(last, count - 1)?;
+        self.frames.push(last, count - 1)?;
         self.visits = self.visits.saturating_add((count as u64).saturating_mul(2));
-        Ok(Stand {
+        Ok(NfaConfig {
             place: end,
-            ..stand
+            ..config
         })
     }
 
     /// Into the loop whose head this stand is at.
-    fn begin_turn(&mut self, stand: Stand, outer: usize, turn: Turn) -> Result<Stand, AllocError>
-        requires { stand.at < usize.MAX }
-        ensures here { IfOk result (λ on. (s : plain.Stand) (turns : List plain.Turn)
-            → IsHere self.old stand s → outer ≤ length self.old.log.entries.items
-            → HasTurns self.old.log.entries.items outer turns
-            → IsHere self.new on (record (plain.forward s) { turns = turn_of turn ∷ turns })) }
+    fn begin_turn(
+        &mut self,
+        config: NfaConfig,
+        outer: usize,
+        counter: LoopCounter,
+    ) -> Result<NfaConfig, AllocError>
+        requires { config.at < usize.MAX }
+        ensures here { IfOk result (λ on. (s : plain.NfaConfig) (counters : List plain.LoopCounter)
+            → IsHere self.old config s → outer ≤ length self.old.trail.entries.items
+            → HasCounters self.old.trail.entries.items outer counters
+            → IsHere self.new on (record (plain.forward s) { counters = counter_of counter ∷ counters })) }
         ensures search { IfOk result (λ _. (leading : Leading) (f : Search)
             → IsSearch leading self.old f → IsSearch leading self.new f) }
-        ensures rest { self.new ≡ record self.old { log = self.new.log } }
+        ensures rest { self.new ≡ record self.old { trail = self.new.trail } }
     {
-        let turns = self.log.push(Entry::Turn { outer, turn })?;
-        Ok(Stand {
-            at: stand.at + 1,
-            turns,
-            ..stand
+        let counters = self.trail.push(Entry::LoopCounter { outer, counter })?;
+        Ok(NfaConfig {
+            at: config.at + 1,
+            counters,
+            ..config
         })
     }
 
     /// A group begins.
-    fn open(&mut self, stand: Stand) -> Result<Lead, AllocError>
-        requires { stand.at < usize.MAX }
-        ensures { (leading : Leading) (s : plain.Stand) (f : Search)
-            → IsSearch leading self.old f → IsHere self.old stand s
+    fn open(&mut self, config: NfaConfig) -> Result<StepResult, AllocError>
+        requires { config.at < usize.MAX }
+        ensures { (leading : Leading) (s : plain.NfaConfig) (f : Search)
+            → IsSearch leading self.old f → IsHere self.old config s
             → Leads leading s f.failed
             (TakesUp (record (plain.forward s) { opened = s.place ∷ s.opened }) f) result self.new }
     {
-        let opened = self.log.push(Entry::Opened {
-            outer: stand.opened,
-            from: stand.place,
+        let opened = self.trail.push(Entry::Opened {
+            outer: config.opened,
+            from: config.place,
         })?;
-        Ok(Lead::Goes(Stand {
-            at: stand.at + 1,
+        Ok(StepResult::Goes(NfaConfig {
+            at: config.at + 1,
             opened,
-            ..stand
+            ..config
         }))
     }
 
     /// A group ends.
-    fn close(&mut self, stand: Stand, group: usize) -> Result<Lead, AllocError>
-        requires { stand.at < usize.MAX }
-        ensures { (leading : Leading) (s : plain.Stand) (f : Search)
-            → IsSearch leading self.old f → IsHere self.old stand s
-            → Leads leading s f.failed (plain.next_by (plain.close_lead group s s.opened)
-            (Some (points.Close group)) s f) result self.new }
+    fn close(&mut self, config: NfaConfig, group: usize) -> Result<StepResult, AllocError>
+        requires { config.at < usize.MAX }
+        ensures { (leading : Leading) (s : plain.NfaConfig) (f : Search)
+            → IsSearch leading self.old f → IsHere self.old config s
+            → Leads leading s f.failed (plain.next_by (plain.close_step group s s.opened)
+            (Some (states.Close group)) s f) result self.new }
     {
-        let Some((from, outer)) = self.log.opened(stand.opened) else {
-            return Ok(Lead::Lost);
+        let Some((from, outer)) = self.trail.opened(config.opened) else {
+            return Ok(StepResult::Lost);
         };
-        self.log.push(Entry::Closed {
+        self.trail.push(Entry::Closed {
             group,
             from,
-            to: stand.place,
+            to: config.place,
         })?;
-        Ok(Lead::Goes(Stand {
-            at: stand.at + 1,
+        Ok(StepResult::Goes(NfaConfig {
+            at: config.at + 1,
             opened: outer,
-            ..stand
+            ..config
         }))
     }
 
     /// On at the first, and later at the second.
-    fn choose(&mut self, stand: Stand, first: usize) -> Result<Lead, AllocError>
-        ensures { (leading : Leading) (s : plain.Stand) (f : Search) (later : List plain.Later)
-            → IsSearch leading self.old f → IsHere self.old stand s
-            → Keeps true (leading s) s f.later later
+    fn choose(&mut self, config: NfaConfig, first: usize) -> Result<StepResult, AllocError>
+        ensures { (leading : Leading) (s : plain.NfaConfig) (f : Search) (frames : List plain.Frame)
+            → IsSearch leading self.old f → IsHere self.old config s
+            → Keeps true (leading s) s f.frames frames
             → Leads leading s f.failed
-            (TakesUp (plain.goes_to first s) (record f { later = later })) result self.new }
+            (TakesUp (plain.goes_to first s) (record f { frames = frames })) result self.new }
     {
-        self.keep(stand, true)?;
-        Ok(Lead::Goes(stand.goes_to(first)))
+        self.keep(config, true)?;
+        Ok(StepResult::Goes(config.goes_to(first)))
     }
 
     /// The same, unless there is no way from here.
-    fn fork(&mut self, stand: Stand, first: usize) -> Result<Lead, AllocError>
-        ensures { (leading : Leading) (s : plain.Stand) (second : ℕ) (f : Search)
-            → IsSearch leading self.old f → IsHere self.old stand s
+    fn loop_split(&mut self, config: NfaConfig, first: usize) -> Result<StepResult, AllocError>
+        ensures { (leading : Leading) (s : plain.NfaConfig) (second : ℕ) (f : Search)
+            → IsSearch leading self.old f → IsHere self.old config s
             → leading s ≡ plain.Tries true (plain.goes_to first s) (plain.goes_to second s ∷ [])
             → Leads leading s f.failed
-            (plain.next_by (leading s) (Some (points.Fork first second)) s f) result self.new }
+            (plain.next_by (leading s) (Some (states.LoopSplit first second)) s f) result self.new }
     {
-        if self.has_failed(stand)? {
-            return Ok(Lead::Lost);
+        if self.has_failed(config)? {
+            return Ok(StepResult::Lost);
         }
         self.count();
-        self.choose(stand, first)
+        self.choose(config, first)
     }
 
     /// On, unless there is no way from here.
-    fn join(&mut self, stand: Stand) -> Result<Lead, AllocError>
-        requires { stand.at < usize.MAX }
-        ensures { (leading : Leading) (s : plain.Stand) (f : Search)
-            → IsSearch leading self.old f → IsHere self.old stand s
+    fn join(&mut self, config: NfaConfig) -> Result<StepResult, AllocError>
+        requires { config.at < usize.MAX }
+        ensures { (leading : Leading) (s : plain.NfaConfig) (f : Search)
+            → IsSearch leading self.old f → IsHere self.old config s
             → leading s ≡ plain.Tries true (plain.forward s) []
             → Leads leading s f.failed
-            (plain.next_by (leading s) (Some points.Join) s f) result self.new }
+            (plain.next_by (leading s) (Some states.Join) s f) result self.new }
     {
-        if self.has_failed(stand)? {
-            return Ok(Lead::Lost);
+        if self.has_failed(config)? {
+            return Ok(StepResult::Lost);
         }
-        self.keep(stand, false)?;
-        Ok(Lead::Goes(stand.forward()))
+        self.keep(config, false)?;
+        Ok(StepResult::Goes(config.forward()))
     }
 
     /// At the head of a loop that counts.
-    fn turn(&mut self, stand: Stand, turns: Loop, after: usize) -> Result<Lead, AllocError>
-        requires { stand.at < usize.MAX }
-        ensures { (leading : Leading) (s : plain.Stand) (f : Search)
-            → IsSearch leading self.old f → IsHere self.old stand s
-            → leading s ≡ plain.head_lead (loop_of turns) after s s.turns
+    fn counter(
+        &mut self,
+        config: NfaConfig,
+        counters: Loop,
+        after: usize,
+    ) -> Result<StepResult, AllocError>
+        requires { config.at < usize.MAX }
+        ensures { (leading : Leading) (s : plain.NfaConfig) (f : Search)
+            → IsSearch leading self.old f → IsHere self.old config s
+            → leading s ≡ plain.counter_loop_step (loop_of counters) after s s.counters
             → Leads leading s f.failed
-            (plain.next_by (leading s) (Some (points.Head (loop_of turns) after)) s f)
+            (plain.next_by (leading s) (Some (states.CounterLoop (loop_of counters) after)) s f)
             result self.new }
     {
-        let Some((turn, outer)) = self.log.turn(stand.turns) else {
+        let Some((counter, outer)) = self.trail.counter(config.counters) else {
             self.count();
-            return Ok(Lead::Lost);
+            return Ok(StepResult::Lost);
         };
-        if self.has_failed(stand)? {
-            return Ok(Lead::Lost);
+        if self.has_failed(config)? {
+            return Ok(StepResult::Lost);
         }
         self.count();
-        match turns.turning(turn, stand.place) {
+        match counters.turning(counter, config.place) {
             Turning::Out => {
-                self.keep(stand, false)?;
-                Ok(Lead::Goes(stand.goes_out(after, outer)))
+                self.keep(config, false)?;
+                Ok(StepResult::Goes(config.goes_out(after, outer)))
             }
             Turning::In => {
-                self.keep(stand, false)?;
-                self.turn_in(stand, turns, turn, outer)
+                self.keep(config, false)?;
+                self.counter_in(config, counters, counter, outer)
             }
             Turning::InOrOut => {
-                self.keep(stand, true)?;
-                self.turn_in(stand, turns, turn, outer)
+                self.keep(config, true)?;
+                self.counter_in(config, counters, counter, outer)
             }
             Turning::OutOrIn => {
-                self.keep(stand, true)?;
-                Ok(Lead::Goes(stand.goes_out(after, outer)))
+                self.keep(config, true)?;
+                Ok(StepResult::Goes(config.goes_out(after, outer)))
             }
         }
     }
 
     /// The other way on from a loop's head.
-    fn other_turn(&mut self, stand: Stand, turns: Loop, after: usize) -> Result<Lead, AllocError>
-        requires { stand.at < usize.MAX }
-        ensures { (leading : Leading) (s first other : plain.Stand) (f : Search)
-            → IsSearch leading self.old f → IsHere self.old stand s
-            → plain.head_lead (loop_of turns) after s s.turns ≡ plain.Tries true first (other ∷ [])
+    fn other_counter(
+        &mut self,
+        config: NfaConfig,
+        counters: Loop,
+        after: usize,
+    ) -> Result<StepResult, AllocError>
+        requires { config.at < usize.MAX }
+        ensures { (leading : Leading) (s first other : plain.NfaConfig) (f : Search)
+            → IsSearch leading self.old f → IsHere self.old config s
+            → plain.counter_loop_step (loop_of counters) after s s.counters ≡ plain.Tries true first (other ∷ [])
             → Leads leading s f.failed (TakesUp other f) result self.new }
     {
-        let Some((turn, outer)) = self.log.turn(stand.turns) else {
-            return Ok(Lead::Lost);
+        let Some((counter, outer)) = self.trail.counter(config.counters) else {
+            return Ok(StepResult::Lost);
         };
-        match turns.turning(turn, stand.place) {
-            Turning::InOrOut => Ok(Lead::Goes(stand.goes_out(after, outer))),
-            Turning::OutOrIn => self.turn_in(stand, turns, turn, outer),
-            _ => Ok(Lead::Lost),
+        match counters.turning(counter, config.place) {
+            Turning::InOrOut => Ok(StepResult::Goes(config.goes_out(after, outer))),
+            Turning::OutOrIn => self.counter_in(config, counters, counter, outer),
+            _ => Ok(StepResult::Lost),
         }
     }
 
     /// Into the next iteration.
-    fn turn_in(
+    fn counter_in(
         &mut self,
-        stand: Stand,
-        turns: Loop,
-        turn: Turn,
+        config: NfaConfig,
+        counters: Loop,
+        counter: LoopCounter,
         outer: usize,
-    ) -> Result<Lead, AllocError>
-        requires at { stand.at < usize.MAX }
-        requires goes_on { plain.is_over (loop_of turns) stand.place (turn_of turn) ≡ false }
-        ensures { (leading : Leading) (s : plain.Stand) (f : Search) (around : List plain.Turn)
-            → IsSearch leading self.old f → IsHere self.old stand s
-            → outer ≤ length self.old.log.entries.items
-            → HasTurns self.old.log.entries.items outer around
+    ) -> Result<StepResult, AllocError>
+        requires at { config.at < usize.MAX }
+        requires goes_on { plain.is_over (loop_of counters) config.place (counter_of counter) ≡ false }
+        ensures { (leading : Leading) (s : plain.NfaConfig) (f : Search) (around : List plain.LoopCounter)
+            → IsSearch leading self.old f → IsHere self.old config s
+            → outer ≤ length self.old.trail.entries.items
+            → HasCounters self.old.trail.entries.items outer around
             → Leads leading s f.failed (TakesUp (record (plain.forward s)
-            { turns = plain.next_turn (loop_of turns) s.place (turn_of turn) ∷ around }) f)
+            { counters = plain.next_counter (loop_of counters) s.place (counter_of counter) ∷ around }) f)
             result self.new }
     {
-        let next = turns.next_turn(turn, stand.place);
-        let on = self.begin_turn(stand, outer, next)?;
-        Ok(Lead::Goes(on))
+        let next = counters.next_counter(counter, config.place);
+        let on = self.begin_turn(config, outer, next)?;
+        Ok(StepResult::Goes(on))
     }
 }
 
 impl Task<'_> {
     /// Searches from this stand on. After 2^64 - 1 steps, more than any machine takes, it gives up with `Memory`.
-    pub(crate) fn find(&self, m: &mut Memo, start: Stand) -> Result<Option<Stand>, AllocError>
+    pub(crate) fn find(
+        &self,
+        m: &mut Memo,
+        start: NfaConfig,
+    ) -> Result<Option<NfaConfig>, AllocError>
         requires { IsTask self.now }
-        ensures { (s : plain.Stand) (f : Search)
+        ensures { (s : plain.NfaConfig) (f : Search)
             → IsSearch (leading_of self.now) m.old f → IsHere m.old start s
             → EndsAs self.now (TakesUp s f) result m.new }
     {
-        let mut stand = self.past_tests(m, start);
+        let mut config = self.past_tests(m, start);
         'steps: for _ in 0..u64::MAX {
-            match self.advance(m, stand)? {
-                Lead::Found(there) => return Ok(Some(there)),
-                Lead::Goes(next) => stand = next,
-                Lead::Lost => return Ok(None),
+            match self.advance(m, config)? {
+                StepResult::Found(there) => return Ok(Some(there)),
+                StepResult::Goes(next) => config = next,
+                StepResult::Lost => return Ok(None),
             }
         }
         Err(AllocError)
     }
 
-    /// Takes up the point, and where it leads nowhere goes back to what is tried later.
+    /// Takes up the state, and where it leads nowhere goes back to what is tried later.
     #[inline(always)]
-    fn advance(&self, m: &mut Memo, stand: Stand) -> Result<Lead, AllocError>
+    fn advance(&self, m: &mut Memo, config: NfaConfig) -> Result<StepResult, AllocError>
         requires { IsTask self.now }
-        ensures { (s : plain.Stand) (f : Search)
-            → IsSearch (leading_of self.now) m.old f → IsHere m.old stand s
+        ensures { (s : plain.NfaConfig) (f : Search)
+            → IsSearch (leading_of self.now) m.old f → IsHere m.old config s
             → Advances self.now (TakesUp s f) result m.new }
     {
-        match self.take_up(m, stand)? {
-            Lead::Lost => self.take_back(m),
-            lead => Ok(lead),
+        match self.take_up(m, config)? {
+            StepResult::Lost => self.take_back(m),
+            step_result => Ok(step_result),
         }
     }
 
-    /// Takes up the point.
+    /// Takes up the state.
     #[inline(always)]
-    fn take_up(&self, m: &mut Memo, stand: Stand) -> Result<Lead, AllocError>
+    fn take_up(&self, m: &mut Memo, config: NfaConfig) -> Result<StepResult, AllocError>
         requires { IsTask self.now }
-        ensures { (s : plain.Stand) (f : Search)
-            → IsSearch (leading_of self.now) m.old f → IsHere m.old stand s
+        ensures { (s : plain.NfaConfig) (f : Search)
+            → IsSearch (leading_of self.now) m.old f → IsHere m.old config s
             → ComesTo self.now (TakesUp s f) result m.new }
     {
-        match self.points.get(stand.at) {
+        match self.states.get(config.at) {
             None => {
                 m.count();
-                Ok(Lead::Lost)
+                Ok(StepResult::Lost)
             }
-            Some(point) => self.take_up_point(point, m, stand),
+            Some(nfa_state) => self.take_up_state(nfa_state, m, config),
         }
     }
 
     #[inline(always)]
-    fn take_up_point(&self, point: &Point, m: &mut Memo, stand: Stand) -> Result<Lead, AllocError>
+    fn take_up_state(
+        &self,
+        nfa_state: &NfaState,
+        m: &mut Memo,
+        config: NfaConfig,
+    ) -> Result<StepResult, AllocError>
         requires task { IsTask self.now }
-        requires at { slice_get self.now.points.now stand.at ≡ Some point.now }
-        requires read { IsPointReadBy self.now.unicode point.now }
-        ensures { (s : plain.Stand) (f : Search)
-            → IsSearch (leading_of self.now) m.old f → IsHere m.old stand s
+        requires at { slice_get self.now.states.now config.at ≡ Some nfa_state.now }
+        requires read { IsStateReadBy self.now.unicode nfa_state.now }
+        ensures { (s : plain.NfaConfig) (f : Search)
+            → IsSearch (leading_of self.now) m.old f → IsHere m.old config s
             → ComesTo self.now (TakesUp s f) result m.new }
     {
-        match point {
-            Point::Take(test) => self.take(test, m, stand),
-            Point::Fork(first, _) => self.take_up_fork(m, stand, *first),
-            Point::Jump(to) => Ok(Lead::Goes(stand.goes_to(*to))),
-            Point::Or(first, _) => m.choose(stand, *first),
-            Point::Close(group) => m.close(stand, *group),
-            Point::Join => m.join(stand),
-            Point::Head { turns, after } => self.take_up_head(m, stand, *turns, *after),
-            Point::Split(first, _) => {
+        match nfa_state {
+            NfaState::Character(test) => self.take(test, m, config),
+            NfaState::LoopSplit(first, _) => self.take_up_loop_split(m, config, *first),
+            NfaState::Jump(to) => Ok(StepResult::Goes(config.goes_to(*to))),
+            NfaState::BranchSplit(first, _) => m.choose(config, *first),
+            NfaState::Close(group) => m.close(config, *group),
+            NfaState::Join => m.join(config),
+            NfaState::CounterLoop { counters, after } => self.take_up_counter_loop(
+                m, config, *counters, *after,
+            ),
+            NfaState::Split(first, _) => {
                 m.count();
-                m.choose(stand, *first)
+                m.choose(config, *first)
             }
-            Point::Open => {
+            NfaState::Open => {
                 m.count();
-                m.open(stand)
+                m.open(config)
             }
-            Point::Enter => {
+            NfaState::CounterBegin => {
                 m.count();
-                let turn = Turn {
+                let counter = LoopCounter {
                     count: 0,
                     since: None,
                 };
-                let next = m.begin_turn(stand, stand.turns, turn)?;
-                Ok(Lead::Goes(next))
+                let next = m.begin_turn(config, config.counters, counter)?;
+                Ok(StepResult::Goes(next))
             }
-            Point::Holds(assertion) => {
+            NfaState::Holds(assertion) => {
                 m.count();
-                if holds(*assertion, self.unicode, self.text, stand.place) {
-                    Ok(Lead::Goes(stand.forward()))
+                if holds(*assertion, self.unicode, self.text, config.place) {
+                    Ok(StepResult::Goes(config.forward()))
                 } else {
-                    Ok(Lead::Lost)
+                    Ok(StepResult::Lost)
                 }
             }
-            Point::Stop => {
+            NfaState::Match => {
                 m.count();
-                Ok(Lead::Found(stand))
+                Ok(StepResult::Found(config))
             }
         }
     }
 
     /// At the head of a loop that does not count, past it or past what it goes over in one go.
     #[inline(always)]
-    fn take_up_fork(&self, m: &mut Memo, stand: Stand, first: usize) -> Result<Lead, AllocError>
+    fn take_up_loop_split(
+        &self,
+        m: &mut Memo,
+        config: NfaConfig,
+        first: usize,
+    ) -> Result<StepResult, AllocError>
         requires task { IsTask self.now }
         requires at { (second : ℕ)
-            × (slice_get self.now.points.now stand.at ≡ Some (point.Fork first second)) }
-        ensures { (s : plain.Stand) (f : Search)
-            → IsSearch (leading_of self.now) m.old f → IsHere m.old stand s
+            × (slice_get self.now.states.now config.at ≡ Some (nfa_state.LoopSplit first second)) }
+        ensures { (s : plain.NfaConfig) (f : Search)
+            → IsSearch (leading_of self.now) m.old f → IsHere m.old config s
             → ComesTo self.now (TakesUp s f) result m.new }
     {
-        let on = self.past_loop(m, stand)?;
-        if on.at != stand.at {
-            return Ok(Lead::Goes(on));
+        let on = self.past_loop(m, config)?;
+        if on.at != config.at {
+            return Ok(StepResult::Goes(on));
         }
-        m.fork(on, first)
+        m.loop_split(on, first)
     }
 
     /// The same at the head of a loop that counts.
     #[inline(always)]
-    fn take_up_head(
+    fn take_up_counter_loop(
         &self,
         m: &mut Memo,
-        stand: Stand,
-        turns: Loop,
+        config: NfaConfig,
+        counters: Loop,
         after: usize,
-    ) -> Result<Lead, AllocError>
+    ) -> Result<StepResult, AllocError>
         requires task { IsTask self.now }
-        requires at { slice_get self.now.points.now stand.at ≡ Some (point.Head turns after) }
-        ensures { (s : plain.Stand) (f : Search)
-            → IsSearch (leading_of self.now) m.old f → IsHere m.old stand s
+        requires at { slice_get self.now.states.now config.at ≡ Some (nfa_state.CounterLoop counters after) }
+        ensures { (s : plain.NfaConfig) (f : Search)
+            → IsSearch (leading_of self.now) m.old f → IsHere m.old config s
             → ComesTo self.now (TakesUp s f) result m.new }
     {
-        let on = self.past_loop(m, stand)?;
-        if on.at != stand.at {
-            return Ok(Lead::Goes(on));
+        let on = self.past_loop(m, config)?;
+        if on.at != config.at {
+            return Ok(StepResult::Goes(on));
         }
-        m.turn(on, turns, after)
+        m.counter(on, counters, after)
     }
 
     /// Past one character that passes the test.
     #[inline(always)]
-    fn take(&self, test: &CharTest, m: &mut Memo, stand: Stand) -> Result<Lead, AllocError>
-        requires at { stand.at < usize.MAX }
+    fn take(
+        &self,
+        test: &CharTest,
+        m: &mut Memo,
+        config: NfaConfig,
+    ) -> Result<StepResult, AllocError>
+        requires at { config.at < usize.MAX }
         requires read { IsReadBy self.now.unicode test.now }
-        ensures { (s : plain.Stand) (f : Search)
-            → IsSearch (leading_of self.now) m.old f → IsHere m.old stand s
+        ensures { (s : plain.NfaConfig) (f : Search)
+            → IsSearch (leading_of self.now) m.old f → IsHere m.old config s
             → Leads (leading_of self.now) s f.failed
-            (plain.next_by (plain.lead_by self.now.text.now self.now.unicode
-            (points.Take (test_of test.now)) s) (Some (points.Take (test_of test.now))) s f)
+            (plain.next_by (plain.step_by self.now.text.now self.now.unicode
+            (states.Character (test_of test.now)) s) (Some (states.Character (test_of test.now))) s f)
             result m.new }
     {
         m.count();
-        match test.past(m.alloc, self.unicode, self.text, stand.place)? {
-            Some(place) => Ok(Lead::Goes(Stand {
-                at: stand.at + 1,
+        match test.past(m.alloc, self.unicode, self.text, config.place)? {
+            Some(place) => Ok(StepResult::Goes(NfaConfig {
+                at: config.at + 1,
                 place,
-                ..stand
+                ..config
             })),
-            None => Ok(Lead::Lost),
+            None => Ok(StepResult::Lost),
         }
     }
 
     /// Back to the last choice that has an untried way on. Each that was tried on the way back has none.
     #[inline(always)]
-    fn take_back(&self, m: &mut Memo) -> Result<Lead, AllocError>
+    fn take_back(&self, m: &mut Memo) -> Result<StepResult, AllocError>
         requires { IsTask self.now }
         ensures { (f : Search) → IsSearch (leading_of self.now) m.old f
             → GoesBack self.now (TakesBack f) result m.new }
     {
-        'later: while let Some(choice) = m.later.pop() {
-            m.log.truncate(choice.path);
-            if choice.is_untried && !self.is_lost(choice.stand) {
-                return self.take_other(m, choice.stand);
+        'frames: while let Some(choice) = m.frames.pop() {
+            m.trail.truncate(choice.path);
+            if choice.is_untried && !self.is_lost(choice.config) {
+                return self.take_other(m, choice.config);
             }
-            m.note_failed(choice.stand)?;
+            m.add_failed(choice.config)?;
         }
-        Ok(Lead::Lost)
+        Ok(StepResult::Lost)
     }
 
     /// On at the other way from this stand.
     #[inline(always)]
-    pub(crate) fn take_other(&self, m: &mut Memo, stand: Stand) -> Result<Lead, AllocError>
-        ensures { (s first other : plain.Stand) (is_noted : Bool) (f : Search)
-            (rest : List plain.Later)
-            → IsSearch (leading_of self.now) m.old (record f { later = rest })
-            → IsHere m.old stand s
-            → leading_of self.now s ≡ plain.Tries is_noted first (other ∷ [])
+    pub(crate) fn take_other(
+        &self,
+        m: &mut Memo,
+        config: NfaConfig,
+    ) -> Result<StepResult, AllocError>
+        ensures { (s first other : plain.NfaConfig) (is_memoized : Bool) (f : Search)
+            (rest : List plain.Frame)
+            → IsSearch (leading_of self.now) m.old (record f { frames = rest })
+            → IsHere m.old config s
+            → leading_of self.now s ≡ plain.Tries is_memoized first (other ∷ [])
             → Leads (leading_of self.now) s f.failed
-            (TakesUp other (record f { later = fails_before is_noted s rest })) result m.new }
+            (TakesUp other (record f { frames = fails_before is_memoized s rest })) result m.new }
     {
-        match self.points.get(stand.at) {
-            None => Ok(Lead::Lost),
-            Some(point) => self.other_from(point, m, stand),
+        match self.states.get(config.at) {
+            None => Ok(StepResult::Lost),
+            Some(nfa_state) => self.other_from(nfa_state, m, config),
         }
     }
 
-    /// On at the other way from this point.
+    /// On at the other way from this state.
     #[inline(always)]
-    fn other_from(&self, point: &Point, m: &mut Memo, stand: Stand) -> Result<Lead, AllocError>
-        requires { slice_get self.now.points.now stand.at ≡ Some point.now }
-        ensures { (s first other : plain.Stand) (is_noted : Bool) (f : Search)
-            (rest : List plain.Later)
-            → IsSearch (leading_of self.now) m.old (record f { later = rest })
-            → IsHere m.old stand s
-            → leading_of self.now s ≡ plain.Tries is_noted first (other ∷ [])
+    fn other_from(
+        &self,
+        nfa_state: &NfaState,
+        m: &mut Memo,
+        config: NfaConfig,
+    ) -> Result<StepResult, AllocError>
+        requires { slice_get self.now.states.now config.at ≡ Some nfa_state.now }
+        ensures { (s first other : plain.NfaConfig) (is_memoized : Bool) (f : Search)
+            (rest : List plain.Frame)
+            → IsSearch (leading_of self.now) m.old (record f { frames = rest })
+            → IsHere m.old config s
+            → leading_of self.now s ≡ plain.Tries is_memoized first (other ∷ [])
             → Leads (leading_of self.now) s f.failed
-            (TakesUp other (record f { later = fails_before is_noted s rest })) result m.new }
+            (TakesUp other (record f { frames = fails_before is_memoized s rest })) result m.new }
     {
-        match point {
-            Point::Split(_, second) => Ok(Lead::Goes(stand.goes_to(*second))),
-            Point::Or(_, second) => Ok(Lead::Goes(stand.goes_to(*second))),
-            Point::Fork(_, second) => {
-                m.keep(stand, false)?;
-                Ok(Lead::Goes(stand.goes_to(*second)))
+        match nfa_state {
+            NfaState::Split(_, second) => Ok(StepResult::Goes(config.goes_to(*second))),
+            NfaState::BranchSplit(_, second) => Ok(StepResult::Goes(config.goes_to(*second))),
+            NfaState::LoopSplit(_, second) => {
+                m.keep(config, false)?;
+                Ok(StepResult::Goes(config.goes_to(*second)))
             }
-            Point::Head { turns, after } => {
-                m.keep(stand, false)?;
-                m.other_turn(stand, *turns, *after)
+            NfaState::CounterLoop { counters, after } => {
+                m.keep(config, false)?;
+                m.other_counter(config, *counters, *after)
             }
-            _ => Ok(Lead::Lost),
+            _ => Ok(StepResult::Lost),
         }
     }
 }

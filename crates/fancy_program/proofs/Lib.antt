@@ -1,5 +1,5 @@
 pub mod FitsLaws
-pub mod BeginningLaws
+pub mod StartPrefilterLaws
 pub mod StartRunLaws
 pub mod BlockLaws
 pub mod StartsLaws

@@ -20,8 +20,8 @@ use Rattle.fancy_characters.specs.contracts.classes.CharClassMatcher as CharClas
 use Rattle.fancy_characters.specs.contracts.compiled.CompiledClass as CompiledClass
 use Rattle.fancy_characters.specs.contracts.compiled.Others as Others
 use Rattle.fancy_plain.specs.contracts.point.CharTest as CharTest
-use Rattle.fancy_plain.specs.contracts.point.Point as Point
-use Rattle.fancy_plain.specs.contracts.table.PointTable as PointTable
+use Rattle.fancy_plain.specs.contracts.point.NfaState as NfaState
+use Rattle.fancy_plain.specs.contracts.table.Nfa as Nfa
 use Rattle.fancy_fragments.specs.contracts.fragment.Fragment as Fragment
 use Rattle.fancy_fragments.specs.contracts.delegate.Delegate as Delegate
 use Rattle.fancy_program.specs.contracts.insn.Insn as Insn
@@ -57,10 +57,10 @@ class_sends = search (compiled_sends, std.crosses, sendable) depth 60 fits 20000
 test_sends : IsSend CharTest.the_field.row
 test_sends = search (class_sends, std.crosses, sendable) depth 60 fits 20000
 
-point_sends : IsSend Point.the_field.row
+point_sends : IsSend NfaState.the_field.row
 point_sends = search (test_sends, std.crosses, sendable) depth 60 fits 20000
 
-table_sends : IsSend PointTable.the_field.row
+table_sends : IsSend Nfa.the_field.row
 table_sends = search (point_sends, std.crosses, sendable) depth 60 fits 20000
 
 fragment_sends : IsSend Fragment.the_field.row
@@ -98,10 +98,10 @@ class_syncs = search (compiled_syncs, std.crosses, sendable) depth 60 fits 20000
 test_syncs : IsSync CharTest.the_field.row
 test_syncs = search (class_syncs, std.crosses, sendable) depth 60 fits 20000
 
-point_syncs : IsSync Point.the_field.row
+point_syncs : IsSync NfaState.the_field.row
 point_syncs = search (test_syncs, std.crosses, sendable) depth 60 fits 20000
 
-table_syncs : IsSync PointTable.the_field.row
+table_syncs : IsSync Nfa.the_field.row
 table_syncs = search (point_syncs, std.crosses, sendable) depth 60 fits 20000
 
 fragment_syncs : IsSync Fragment.the_field.row

@@ -1,6 +1,6 @@
 pub mod Insns
 pub mod Programs
-pub mod Beginnings
+pub mod StartPrefilters
 pub mod StartRuns
 pub mod Attempts
 pub mod LazyLoops

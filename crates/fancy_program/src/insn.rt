@@ -5,10 +5,10 @@ ghost use Rattle.std.specs.Prelude.{◌≡◌, List, ◌+◌, ◌-◌, ◌*◌, 
 ghost use Rattle.std.specs.List.{list_all};
 ghost use Rattle.fancy_meaning.specs.Fits.{answer_fits, flag_fits, instr_fits, is_end_instr, program_fits, slots_fit, targets_fit};
 ghost use Rattle.fancy_program.specs.declared.insn.Insn.{Insn};
-ghost use Rattle.fancy_program.specs.Attempts.{IsBeginningOf};
+ghost use Rattle.fancy_program.specs.Attempts.{IsPrefilterOf};
 ghost use Rattle.fancy_program.specs.Insns.{insn_of, prog_with};
 
-use crate::beginning::Beginning;
+use crate::prefilter::StartPrefilter;
 use fancy_characters::classes::{CaseiLiteral, CharClassMatcher};
 use fancy_characters::look::is_of_end;
 use fancy_expr::expr::Assertion;
@@ -147,13 +147,13 @@ pub struct Prog {
     pub body: Vec<Insn>,
     pub parts: ProgParts,
     /// What lets a run pass over starts, if the program has it.
-    pub beginning: Option<Beginning>,
+    pub prefilter: Option<StartPrefilter>,
     /// Whether its runs are likely to need no machine.
     pub is_whole: bool,
     /// Its attempts seem to hold one branch at most, and to set no group.
     pub is_direct: bool,
     ghost fits: { IsTrue (program_fits (prog_with body.items parts)) },
-    ghost begins: { ForSome beginning (IsBeginningOf (map insn_of body.items)) },
+    ghost begins: { ForSome prefilter (IsPrefilterOf (map insn_of body.items)) },
 }
 
 impl ProgParts {

@@ -6,9 +6,9 @@ ghost use Rattle.fancy_meaning.specs.Fits.{program_fits};
 ghost use Rattle.fancy_program.specs.Insns.{insn_of, prog_with};
 ghost use Rattle.fancy_program.specs.Programs.{prog_of};
 
-use crate::beginning::Beginning;
 use crate::hints::{is_direct, is_whole};
 use crate::insn::{Insn, Prog, ProgParts};
+use crate::prefilter::StartPrefilter;
 use crate::threads::{crosses_threads, is_shared_by_threads};
 
 impl Prog {
@@ -22,13 +22,13 @@ impl Prog {
     {
         crosses_threads::<Prog>();
         is_shared_by_threads::<Prog>();
-        let beginning = Beginning::of(&body);
+        let prefilter = StartPrefilter::of(&body);
         let is_whole = is_whole(&body);
         let is_direct = !is_whole && is_direct(&body);
         Prog {
             body,
             parts,
-            beginning,
+            prefilter,
             is_whole,
             is_direct,
         }

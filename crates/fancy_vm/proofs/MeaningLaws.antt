@@ -12,7 +12,7 @@ use Rattle.fancy_meaning.specs.Layout.{layout}
 use Rattle.fancy_meaning.specs.Premises.{Input, plan, IsAccepted, IsFit}
 use Rattle.fancy_meaning.specs.Config.{Outcome, outcome_of}
 use Rattle.fancy_meaning.specs.Machine.{Task, run}
-use Rattle.fancy_meaning.specs.Hands.{IsLimit}
+use Rattle.fancy_meaning.specs.Enumerates.{IsLimit}
 use Rattle.fancy_meaning.specs.Theorems as theorem
 use Rattle.fancy_headline.proofs.Answered.{headline}
 use Rattle.fancy_meaning.specs.Fits.{run_fits}

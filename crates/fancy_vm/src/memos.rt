@@ -78,7 +78,7 @@ impl Memos {
 
     /// A search of the fragment that stands there was made in this run.
     #[inline(always)]
-    pub(crate) fn have_noted(&self, pc: usize) -> bool {
+    pub(crate) fn have_memoized(&self, pc: usize) -> bool {
         match self.by_place.get(pc) {
             Some(Some(memo)) => memo.run == self.run,
             _ => false,

@@ -1,6 +1,6 @@
 use Rattle.std.proofs.Common.{sym}
 use Rattle.std.proofs.lemmas.Result.{on_ok_weaker, on_err_weaker}
-use Rattle.fancy_plain.proofs.FailedLaws.{bit_noted, list_added, same_bits, same_lists, on_err}
+use Rattle.fancy_plain.proofs.FailedLaws.{bit_set_holds, list_added, same_bits, same_lists, on_err}
 use Rattle.fancy_plain.proofs.failed.Failed.add.Goals as goal
 
 pub returns-in_err-insert-in-None-clause-err : goal.returns-in_err-insert-in-None-clause-err
@@ -10,7 +10,7 @@ returns-in_err-insert-in-None-clause-err c =
 
 pub returns-in-Some-clause-ok : goal.returns-in-Some-clause-ok
 returns-in-Some-clause-ok c =
-    on_ok_weaker c.set_bit.result (bit_noted c.args.self.now c.set_bit.new.bits c.args.pair.now c.in-Some.bit (sym c.in-Some.ensures))
+    on_ok_weaker c.set_bit.result (bit_set_holds c.args.self.now c.set_bit.new.bits c.args.pair.now c.in-Some.bit (sym c.in-Some.ensures))
     c.set_bit.ensures.ok
 
 pub returns-in-Some-clause-err : goal.returns-in-Some-clause-err

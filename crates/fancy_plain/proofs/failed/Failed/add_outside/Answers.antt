@@ -1,12 +1,12 @@
 use Rattle.std.proofs.Common.{sym, ◌∷◌, []}
 use Rattle.std.proofs.lemmas.Result.{on_ok_weaker, on_err_weaker}
-use Rattle.fancy_plain.proofs.FailedLaws.{bit_noted, same_bits}
+use Rattle.fancy_plain.proofs.FailedLaws.{bit_set_holds, same_bits}
 use Rattle.fancy_plain.proofs.failed.Failed.add_outside.Goals as goal
 
 pub returns-in-Some-clause-ok : goal.returns-in-Some-clause-ok
 returns-in-Some-clause-ok c =
     on_ok_weaker c.set_bit.result
-    (bit_noted c.args.self.now c.set_bit.new.bits (c.args.at ∷ c.args.place ∷ []) c.in-Some.bit (sym c.in-Some.ensures))
+    (bit_set_holds c.args.self.now c.set_bit.new.bits (c.args.at ∷ c.args.place ∷ []) c.in-Some.bit (sym c.in-Some.ensures))
     c.set_bit.ensures.ok
 
 pub returns-in-Some-clause-err : goal.returns-in-Some-clause-err

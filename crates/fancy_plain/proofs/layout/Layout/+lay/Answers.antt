@@ -8,17 +8,17 @@ use Rattle.fancy_delegation.proofs.EasyNodes.{easy_group, easy_repeat, easy_conc
 use Rattle.fancy_info.specs.declared.info.Info.TheViews.{out-Info}
 use Rattle.fancy_info.specs.Infos.{info_tree, info_children}
 use Rattle.fancy_expr.specs.Views.{bound_of}
-use Rattle.fancy_points.specs.Points as plain
-use Rattle.fancy_points.specs.PointCode.{PointCode, ◌>>◌, one, around, headed, preferring, laid, each_laid, in_sequence, branches, one_of, repeated, star, plus}
+use Rattle.fancy_nfa.specs.NfaStates as plain
+use Rattle.fancy_nfa.specs.NfaCode.{NfaCode, ◌>>◌, one, around, headed, preferring, laid, each_laid, in_sequence, branches, one_of, repeated, star, plus}
 use Rattle.fancy_plain.specs.ClassTexts.{texts_of, texts_in, AreClasses}
-use Rattle.fancy_plain.specs.Views.{point_of, loop_of}
+use Rattle.fancy_plain.specs.Views.{state_of, loop_of}
 use Rattle.fancy_plain.specs.Shapes.{form_of, branch_choice, group_code, with_jumps}
-use Rattle.fancy_plain.specs.Layouts.{Replaces, Lays, points_in}
+use Rattle.fancy_plain.specs.Layouts.{Replaces, Lays, states_in}
 use Rattle.fancy_plain.specs.Neighbours.{IsEasy, trees_of}
 use Rattle.fancy_info.specs.NodeCounts.{node_counts}
 use Rattle.fancy_info.proofs.Children.{node_count-below, child_count, each_at, tree_by}
 use Rattle.fancy_plain.proofs.Nodes.{easy_kids, easy_size, has_one, smaller_child, tree_over, easy_child}
-use Rattle.fancy_plain.proofs.Laid.{place, same_points, replaced_then, replaced_same, lays_behind, lays_before, adds_behind, adds_before, adds_headed, adds_around, lays_at, lays_fault}
+use Rattle.fancy_plain.proofs.Laid.{place, same_states, replaced_then, replaced_same, lays_behind, lays_before, adds_behind, adds_before, adds_headed, adds_around, lays_at, lays_fault}
 use Rattle.fancy_plain.proofs.Texts.{lays_fault_at, lays_parts, lays_part, repeat_parts, form_enters}
 use Rattle.fancy_plain.proofs.Branches.{sequence_step, sequence_end, with_branches, branch_step, branch_end, classes_step, classes_end}
 use Rattle.fancy_plain.proofs.layout.Layout.+lay.Goals as goal
@@ -202,9 +202,9 @@ lay_branch-returns-clause-lays t c = λ a easy.
     let t3 = c.push-2.new.self in
     let here = c.len-here.result in
     let jump = c.len-jump.result in
-    let end : jump + 1 ≡ length (points_in t3) = omega
-    (arith, c.len-jump.ensures, place t2, ap length c.in_ok-push-2.ensures.added.points, length-append (points_in t2) (plain.Jump 0 ∷ [])) in
-    adds_headed (plain.Jump 0) (point_of c.branch_choice.result) (λ here after. branch_choice c.args.is_first (here + 1) after) (body >> one (plain.Jump 0))
+    let end : jump + 1 ≡ length (states_in t3) = omega
+    (arith, c.len-jump.ensures, place t2, ap length c.in_ok-push-2.ensures.added.states, length-append (states_in t2) (plain.Jump 0 ∷ [])) in
+    adds_headed (plain.Jump 0) (state_of c.branch_choice.result) (λ here after. branch_choice c.args.is_first (here + 1) after) (body >> one (plain.Jump 0))
     texts s t3 c.patch.new.self here (c.len-here.ensures ∙ place s)
     (c.branch_choice.ensures.value ∙ ap (branch_choice c.args.is_first (here + 1)) end)
     (adds_behind (one (plain.Jump 0)) (body >> one (plain.Jump 0)) s t1 t3 texts c.in_ok-push.ensures
@@ -230,7 +230,7 @@ lay_branches-lay-requires t c =
 
 pub lay_branches-loop-i-init : goal.lay_branches-loop-i-init
 lay_branches-loop-i-init t c = record {
-  same = same_points c.args.self.now;
+  same = same_states c.args.self.now;
   goes = λ a each.
       let all = with_branches a c.args.self.now true c.args.infos.now in ap (λ js. with_jumps js (length all) all) c.in_ok-jumps.ensures.items;
   classes = λ a each h. h;
@@ -316,7 +316,7 @@ pub lay_group-returns : goal.lay_group-returns
 lay_group-returns t c = λ a easy.
     let body = laid a.tree (info_tree c.args.body.now) in
     let texts = texts_of (info_tree c.args.body.now) in
-    let close : PointCode = one (plain.Close c.args.group) in
+    let close : NfaCode = one (plain.Close c.args.group) in
     lays_behind (one plain.Open) (body >> close) c.args.self.now c.push.new.self c.push-2.new.self texts c.push-2.result c.in_ok-push.ensures
     (lays_before body close c.push.new.self c.lay.new.self c.push-2.new.self texts c.push-2.result (c.in_ok-lay.ensures a easy) c.push-2.ensures)
 
@@ -326,7 +326,7 @@ lay_at_most_once-returns t c = λ a easy.
     let texts = texts_of (info_tree c.args.body.now) in
     let s = c.args.self.now in
     let t2 = c.lay.new.self in
-    let head : ℕ → ℕ → plain.Point = λ here after. preferring plain.Split c.args.greedy (here + 1) after in
+    let head : ℕ → ℕ → plain.NfaState = λ here after. preferring plain.Split c.args.greedy (here + 1) after in
     let here = c.len-here.result in
     let q = plain.Split c.preferred-first.result.0 c.preferred-first.result.1 in
     lays_before (headed head body) (one plain.Join) s c.patch.new.self c.push-2.new.self texts c.push-2.result
@@ -341,11 +341,11 @@ lay_star-returns t c = λ a easy.
     let texts = texts_of (info_tree c.args.body.now) in
     let s = c.args.self.now in
     let t3 = c.push-2.new.self in
-    let head : ℕ → ℕ → plain.Point = λ here after. preferring plain.Fork c.args.greedy (here + 1) after in
+    let head : ℕ → ℕ → plain.NfaState = λ here after. preferring plain.LoopSplit c.args.greedy (here + 1) after in
     let here = c.len-here.result in
-    let q = plain.Fork c.preferred-first.result.0 c.preferred-first.result.1 in
+    let q = plain.LoopSplit c.preferred-first.result.0 c.preferred-first.result.1 in
     adds_around body texts s c.push.new.self c.lay.new.self t3 c.patch.new.self head q here (c.len-here.ensures ∙ place s)
-    (c.preferred-first.ensures plain.Fork ∙ ap (head here) (c.len.ensures ∙ place t3))
+    (c.preferred-first.ensures plain.LoopSplit ∙ ap (head here) (c.len.ensures ∙ place t3))
     c.in_ok-push.ensures (c.in_ok-lay.ensures a easy) c.in_ok-push-2.ensures c.patch.ensures
 
 pub lay_plus-returns : goal.lay_plus-returns
@@ -355,7 +355,7 @@ lay_plus-returns t c = λ a easy.
     let s = c.args.self.now in
     let u = c.lay_star.new.self in
     let base = c.len-base.result in
-    let n = length (points_in s) in
+    let n = length (states_in s) in
     lays_at (one (plain.Jump (base + 2)) >> star c.args.greedy body) (plus c.args.greedy body) texts s u
     (ap (λ m. plain.Jump (m + 2) ∷ star c.args.greedy body (n + 1)) (c.len-base.ensures ∙ place s)) c.lay_star.result
     (lays_behind (one (plain.Jump (base + 2))) (star c.args.greedy body) s c.push.new.self u texts c.lay_star.result c.in_ok-push.ensures
@@ -370,11 +370,11 @@ lay_counted-returns t c = λ a easy.
     let t4 = c.push-3.new.self in
     let t5 = c.patch.new.self in
     let t6 = c.push-4.new.self in
-    let head : ℕ → ℕ → plain.Point = λ here after. plain.Head (loop_of c.args.turns) after in
+    let head : ℕ → ℕ → plain.NfaState = λ here after. plain.CounterLoop (loop_of c.args.counters) after in
     let here = c.len-here.result in
-    lays_behind (one plain.Enter) (around head body >> one plain.Join) s t1 t6 texts c.push-4.result c.in_ok-push.ensures
+    lays_behind (one plain.CounterBegin) (around head body >> one plain.Join) s t1 t6 texts c.push-4.result c.in_ok-push.ensures
     (lays_before (around head body) (one plain.Join) t1 t5 t6 texts c.push-4.result
-    (adds_around body texts t1 c.push-2.new.self c.lay.new.self t4 t5 head (plain.Head (loop_of c.args.turns) c.len-after.result) here
+    (adds_around body texts t1 c.push-2.new.self c.lay.new.self t4 t5 head (plain.CounterLoop (loop_of c.args.counters) c.len-after.result) here
     (c.len-here.ensures ∙ place t1) (ap (head here) (c.len-after.ensures ∙ place t4)) c.in_ok-push-2.ensures (c.in_ok-lay.ensures a easy)
     c.in_ok-push-3.ensures c.patch.ensures)
     c.push-4.ensures)

@@ -4,7 +4,7 @@ use Rattle.fancy_expr.specs.Each.{Each}
 use Rattle.fancy_plain.specs.declared.layout.Layout.{Layout}
 use Rattle.fancy_plain.specs.ClassTexts.{AreClasses, texts_in}
 use Rattle.fancy_plain.specs.Shapes.{with_jumps}
-use Rattle.fancy_plain.specs.Layouts.{Replaces, points_in}
+use Rattle.fancy_plain.specs.Layouts.{Replaces, states_in}
 use Rattle.fancy_plain.specs.Neighbours.{IsEasy, trees_of}
 use Rattle.fancy_plain.proofs.Branches.{AddsEach, with_branches}
 use Rattle.fancy_info.specs.NodeCounts.{node_count, node_counts}
@@ -55,7 +55,7 @@ invariant-lay_each-loop-info l = record {
 
 abbrev pub invariant-lay_branches-loop-i : goal.invariant-lay_branches-loop-i
 invariant-lay_branches-loop-i l = record {
-  same : Replaces (points_in l.self) l.fn.self l.self;
+  same : Replaces (states_in l.self) l.fn.self l.self;
   goes : (a : Analysis) → Each (IsEasy a) l.infos →
       with_jumps l.jumps.items (length (with_branches a l.self (l.i == 0) (drop l.i l.infos))) (with_branches a l.self (l.i == 0) (drop l.i l.infos))
       ≡ with_branches a l.fn.self true l.infos;

@@ -1,30 +1,30 @@
 use Rattle.std.proofs.Common.{◌≡◌, [], sym, ap, ◌∙◌, refl, arith}
-use Rattle.fancy_plain.specs.Layouts.{points_in}
+use Rattle.fancy_plain.specs.Layouts.{states_in}
 use Rattle.fancy_plain.specs.Shapes.{with_jumps}
-use Rattle.fancy_plain.proofs.Laid.{no_items, place, replaced_then, same_points, with_jumps_last}
+use Rattle.fancy_plain.proofs.Laid.{no_items, place, replaced_then, same_states, with_jumps_last}
 use Rattle.fancy_plain.proofs.layout.Layout.patch_jumps.Goals as goal
 
 pub loop-jump-init : goal.loop-jump-init
-loop-jump-init c = record { same = same_points c.args.self.now; points = refl }
+loop-jump-init c = record { same = same_states c.args.self.now; states = refl }
 
 pub loop-jump-preserved : goal.loop-jump-preserved
 loop-jump-preserved c =
     let end = c.len-end.result in
     let left = c.pop.new.self.items in record {
       same = replaced_then _ _ _ c.loop-jump.self _ c.loop-jump.invariant.same
-          (record { points = refl; unicode = c.patch.ensures.unicode; reads = c.patch.ensures.reads });
-      points = ap (with_jumps left end) c.patch.ensures.points
-          ∙ sym (with_jumps_last left c.in-Some.jump end (points_in c.loop-jump.self))
-          ∙ ap (λ l. with_jumps l end (points_in c.loop-jump.self)) (sym c.in-Some.ensures.items)
-          ∙ c.loop-jump.invariant.points;
+          (record { states = refl; unicode = c.patch.ensures.unicode; reads = c.patch.ensures.reads });
+      states = ap (with_jumps left end) c.patch.ensures.states
+          ∙ sym (with_jumps_last left c.in-Some.jump end (states_in c.loop-jump.self))
+          ∙ ap (λ l. with_jumps l end (states_in c.loop-jump.self)) (sym c.in-Some.ensures.items)
+          ∙ c.loop-jump.invariant.states;
     }
 
 pub returns : goal.returns
 returns c = record {
-  points =
+  states =
       let none : c.loop-jump.left.items ≡ [] = no_items c.loop-jump.left.items (omega (arith, c.in_default.ensures.cases.0, c.loop-jump.left.ok.0)) in
-      ap (λ l. with_jumps l c.len-end.result (points_in c.loop-jump.self)) (sym none) ∙ c.loop-jump.invariant.points
-      ∙ ap (λ n. with_jumps c.args.jumps.items n (points_in c.args.self.now)) (c.len-end.ensures ∙ place c.args.self.now);
+      ap (λ l. with_jumps l c.len-end.result (states_in c.loop-jump.self)) (sym none) ∙ c.loop-jump.invariant.states
+      ∙ ap (λ n. with_jumps c.args.jumps.items n (states_in c.args.self.now)) (c.len-end.ensures ∙ place c.args.self.now);
   unicode = c.loop-jump.invariant.same.unicode;
   reads = c.loop-jump.invariant.same.reads;
 }

@@ -1,12 +1,12 @@
 use Rattle.std.proofs.Common.{◌≡◌, vec_len}
-use Rattle.fancy_plain.specs.Layouts.{points_in, Replaces}
+use Rattle.fancy_plain.specs.Layouts.{states_in, Replaces}
 use Rattle.fancy_plain.specs.Shapes.{with_jumps}
 use Rattle.fancy_plain.proofs.layout.Layout.patch_jumps.Given as goal
 
 abbrev pub invariant-loop-jump : goal.invariant-loop-jump
 invariant-loop-jump l = record {
-  same : Replaces (points_in l.self) l.fn.self l.self;
-  points : with_jumps l.left.items l.end (points_in l.self) ≡ with_jumps l.fn.jumps.items l.end (points_in l.fn.self);
+  same : Replaces (states_in l.self) l.fn.self l.self;
+  states : with_jumps l.left.items l.end (states_in l.self) ≡ with_jumps l.fn.jumps.items l.end (states_in l.fn.self);
 }
 
 abbrev pub decreases-loop-jump : goal.decreases-loop-jump

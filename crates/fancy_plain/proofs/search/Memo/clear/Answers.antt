@@ -1,6 +1,6 @@
 use Rattle.std.proofs.Common.{false}
 use Rattle.fancy_plain.specs.FailedPairs.{key_of}
-use Rattle.fancy_points.specs.FirstWays.{no_pairs}
+use Rattle.fancy_nfa.specs.FirstWays.{no_pairs}
 use Rattle.fancy_plain.proofs.search.Memo.clear.Goals as goal
 
 pub returns : goal.returns

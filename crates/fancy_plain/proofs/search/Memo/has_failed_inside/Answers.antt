@@ -1,5 +1,5 @@
 use Rattle.std.proofs.Common.{ap, ◌∙◌}
-use Rattle.fancy_points.specs.PointSearch.{pair_of}
+use Rattle.fancy_nfa.specs.NfaSearch.{pair_of}
 use Rattle.fancy_plain.specs.FailedPairs.{has_pair}
 use Rattle.fancy_plain.proofs.SearchLaws.{inside}
 use Rattle.fancy_plain.proofs.search.Memo.has_failed_inside.Goals as goal
@@ -7,8 +7,8 @@ use Rattle.fancy_plain.proofs.search.Memo.has_failed_inside.Goals as goal
 pub returns-in-Some-default-eq0-clause-ok : goal.returns-in-Some-default-eq0-clause-ok
 returns-in-Some-default-eq0-clause-ok c = λ s failed h have.
     let m = c.args.self.now in
-    let turn = c.in-Some-default-eq0.turn in
-    let ends = c.in-Some-default-eq0.ensures.turns s.turns h.turns in
+    let counter = c.in-Some-default-eq0.counter in
+    let ends = c.in-Some-default-eq0.ensures.counters s.counters h.counters in
     c.has.ensures
-    ∙ ap (has_pair m.failed) (c.numbers_inside.ensures s h.at h.place (inside m c.args.stand turn c.in-Some-default-eq0.field-0-1 s c.in-Some-default-eq0.field-0-1-test h ends))
+    ∙ ap (has_pair m.failed) (c.numbers_inside.ensures s h.at h.place (inside m c.args.config counter c.in-Some-default-eq0.field-0-1 s c.in-Some-default-eq0.field-0-1-test h ends))
     ∙ have (pair_of s)

@@ -1,7 +1,7 @@
 use Rattle.std.proofs.Common.{refl, ◌∷◌}
-use Rattle.fancy_points.specs.PointSearch as plain
-use Rattle.fancy_points.specs.PointSearch.{Next, Search, TakesBack, TakesUp, pair_of}
-use Rattle.fancy_plain.specs.declared.log.Entry.TheVariants as entry
+use Rattle.fancy_nfa.specs.NfaSearch as plain
+use Rattle.fancy_nfa.specs.NfaSearch.{Next, Search, TakesBack, TakesUp, pair_of}
+use Rattle.fancy_plain.specs.declared.trail.Entry.TheVariants as entry
 use Rattle.fancy_plain.proofs.SearchLaws.{here_in_group, search_pushed}
 use Rattle.fancy_plain.proofs.search.Memo.open.Goals as goal
 
@@ -14,8 +14,8 @@ returns c = λ leading s f h here.
         record (plain.forward s) { opened = s.place ∷ s.opened },
         (
           refl,
-          search_pushed c.args.self.now c.push.new.self (entry.Opened c.args.stand.opened c.args.stand.place) e leading f h,
-          here_in_group c.args.self.now c.push.new.self c.args.stand s here c.in_ok-opened.opened e c.in_ok-opened.ensures.link,
+          search_pushed c.args.self.now c.push.new.self (entry.Opened c.args.config.opened c.args.config.place) e leading f h,
+          here_in_group c.args.self.now c.push.new.self c.args.config s here c.in_ok-opened.opened e c.in_ok-opened.ensures.link,
         ),
       ),
     )

@@ -1,28 +1,28 @@
 use Rattle.std.proofs.Common.{Some, length, refl, sym, ap, ◌∙◌}
 use Rattle.std.proofs.lemmas.Bool.{ltb-true}
 use Rattle.std.proofs.lemmas.Option.{slice_get_read}
-use Rattle.fancy_plain.specs.declared.point.Point.TheVariants as point
-use Rattle.fancy_plain.specs.Straight.{stand_at}
-use Rattle.fancy_plain.proofs.StraightLaws.{goes, jump_fails, stays}
+use Rattle.fancy_plain.specs.declared.nfa_state.NfaState.TheVariants as nfa_state
+use Rattle.fancy_plain.specs.OnePass.{stand_at}
+use Rattle.fancy_plain.proofs.OnePassLaws.{goes, jump_fails, stays}
 use Rattle.fancy_plain.proofs.search.Task.behind_jump.Goals as goal
 
 pub returns-in-Some-Jump-clause-walks : goal.returns-in-Some-Jump-clause-walks
 returns-in-Some-Jump-clause-walks c = λ place.
-    let points = c.args.self.now.points.now in
+    let states = c.args.self.now.states.now in
     let at = c.args.at in
     let to = c.in-Some-Jump.to in
     let found = c.in-Some-Jump.ensures.lookup in
-    let there = slice_get_read points (length points) at c.in-Some-Jump.field-0.now refl (ltb-true at (length points) (sym found.0)) found.1
+    let there = slice_get_read states (length states) at c.in-Some-Jump.field-0.now refl (ltb-true at (length states) (sym found.0)) found.1
     ∙ ap Some c.in-Some-Jump.field-0-is in
-    goes c.args.self.now (point.Jump to) (stand_at at place) there (stand_at to place) refl
+    goes c.args.self.now (nfa_state.Jump to) (stand_at at place) there (stand_at to place) refl
 
 pub returns-in-Some-Jump-clause-fails : goal.returns-in-Some-Jump-clause-fails
 returns-in-Some-Jump-clause-fails c = λ place.
-    let points = c.args.self.now.points.now in
+    let states = c.args.self.now.states.now in
     let at = c.args.at in
     let to = c.in-Some-Jump.to in
     let found = c.in-Some-Jump.ensures.lookup in
-    let there = slice_get_read points (length points) at c.in-Some-Jump.field-0.now refl (ltb-true at (length points) (sym found.0)) found.1
+    let there = slice_get_read states (length states) at c.in-Some-Jump.field-0.now refl (ltb-true at (length states) (sym found.0)) found.1
     ∙ ap Some c.in-Some-Jump.field-0-is in
     jump_fails c.args.self.now at to place there
 

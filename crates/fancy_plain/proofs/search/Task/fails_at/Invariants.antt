@@ -6,4 +6,4 @@ abbrev pub invariant-groups : goal.invariant-groups
 invariant-groups l = FailsFrom l.self l.next l.place → FailsFrom l.self l.at l.place
 
 abbrev pub decreases-groups : goal.decreases-groups
-decreases-groups l = length (l.self.points).now - l.next
+decreases-groups l = length (l.self.states).now - l.next

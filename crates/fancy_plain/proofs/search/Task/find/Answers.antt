@@ -1,13 +1,13 @@
 use Rattle.std.proofs.Common.{Ok, sym, ap, ◌∙◌, subst}
 use Rattle.std.proofs.lemmas.Result.{err_from_is_err_and}
-use Rattle.fancy_points.specs.FirstWays.{search_in}
-use Rattle.fancy_points.specs.PointSearch.{TakesUp}
+use Rattle.fancy_nfa.specs.FirstWays.{search_in}
+use Rattle.fancy_nfa.specs.NfaSearch.{TakesUp}
 use Rattle.fancy_plain.specs.Searches.{Advances}
 use Rattle.fancy_plain.proofs.BackLaws.{ends_err, ends_found, ends_lost, goes_further}
 use Rattle.fancy_plain.proofs.search.Task.find.Goals as goal
 
 pub steps-init : goal.steps-init
-steps-init c = c.past_tests-stand.ensures.on
+steps-init c = c.past_tests-config.ensures.on
 
 pub returns-in_err-there : goal.returns-in_err-there
 returns-in_err-there c = λ s f h here.

@@ -1,5 +1,5 @@
 use Rattle.std.proofs.Common.{sym, ◌∙◌}
-use Rattle.fancy_plain.proofs.StraightLaws.{runs_both, runs_further, runs_out}
+use Rattle.fancy_plain.proofs.OnePassLaws.{runs_both, runs_further, runs_out}
 use Rattle.fancy_plain.proofs.search.Task.past_all.Goals as goal
 
 pub run-preserved : goal.run-preserved

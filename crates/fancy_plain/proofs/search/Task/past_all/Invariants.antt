@@ -1,5 +1,5 @@
 use Rattle.std.proofs.Common.{length, ◌-◌}
-use Rattle.fancy_plain.specs.Straight.{RunsOn}
+use Rattle.fancy_plain.specs.OnePass.{RunsOn}
 use Rattle.fancy_plain.proofs.search.Task.past_all.Given as goal
 
 abbrev pub invariant-run : goal.invariant-run

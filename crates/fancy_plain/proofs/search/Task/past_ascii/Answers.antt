@@ -1,4 +1,4 @@
-use Rattle.fancy_plain.proofs.StraightLaws.{runs_ascii}
+use Rattle.fancy_plain.proofs.OnePassLaws.{runs_ascii}
 use Rattle.fancy_plain.proofs.search.Task.past_ascii.Goals as goal
 
 pub returns-clause-on : goal.returns-clause-on

@@ -11,10 +11,10 @@ returns-in_err-on-clause-failed c =
 
 pub returns-clause-ok : goal.returns-clause-ok
 returns-clause-ok c =
-    past_loop c.args.self.now c.args.m.now c.past_run.new.m c.past_body.new.m c.args.stand c.in_ok-on.on c.past_body.result
+    past_loop c.args.self.now c.args.m.now c.past_run.new.m c.past_body.new.m c.args.config c.in_ok-on.on c.past_body.result
     c.in_ok-on.ensures.ok c.past_body.ensures.ok
 
 pub returns-clause-failed : goal.returns-clause-failed
 returns-clause-failed c =
-    past_loop_refused c.args.self.now c.args.m.now c.past_run.new.m c.past_body.new.m c.args.stand c.in_ok-on.on c.past_body.result
+    past_loop_refused c.args.self.now c.args.m.now c.past_run.new.m c.past_body.new.m c.args.config c.in_ok-on.on c.past_body.result
     c.in_ok-on.ensures.failed c.in_ok-on.ensures.ok c.past_body.ensures.failed

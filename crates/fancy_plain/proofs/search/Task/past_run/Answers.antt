@@ -5,10 +5,10 @@ use Rattle.fancy_plain.proofs.search.Task.past_run.Goals as goal
 
 pub returns-clause-ok : goal.returns-clause-ok
 returns-clause-ok c =
-    past_run c.args.self.now c.args.m.now c.keep_run.new.self c.args.test.now c.args.stand c.run_length-count.result c.keep_run.result
+    past_run c.args.self.now c.args.m.now c.keep_run.new.self c.args.test.now c.args.config c.run_length-count.result c.keep_run.result
     c.requires.runs c.run_length-count.ensures.run c.keep_run.ensures.ok
 
 pub returns-clause-runs : goal.returns-clause-runs
 returns-clause-runs c =
-    run_over c.args.self.now c.args.m.now c.keep_run.new.self c.args.stand c.args.test.now c.run_length-count.result c.keep_run.result
-    (ap (λ (x : Memo). x.log) c.keep_run.ensures.rest) c.requires.runs c.keep_run.ensures.on
+    run_over c.args.self.now c.args.m.now c.keep_run.new.self c.args.config c.args.test.now c.run_length-count.result c.keep_run.result
+    (ap (λ (x : Memo). x.trail) c.keep_run.ensures.rest) c.requires.runs c.keep_run.ensures.on

@@ -7,7 +7,7 @@ run-preserved c =
     let task = c.args.self.now in
     let m = c.args.m.now in
     let test = c.args.test.now in
-    let here = c.args.stand in
+    let here = c.args.config in
     let on = c.run.invariant.0 in (
       omega (arith, on),
       one_further task m test here c.run.at on c.run.invariant.1
@@ -20,5 +20,5 @@ returns-clause-run c i from below = c.run.invariant.1 i from (let on = c.run.inv
 
 pub returns-then-is_blank-clause-run : goal.returns-then-is_blank-clause-run
 returns-then-is_blank-clause-run c =
-    blank_run c.as_bytes-text.result.now c.args.self.now c.args.m.now c.args.test.now c.args.stand c.past_ascii.result
+    blank_run c.as_bytes-text.result.now c.args.self.now c.args.m.now c.args.test.now c.args.config c.past_ascii.result
     c.as_bytes-text.ensures.value c.past_ascii.ensures.pass c.past_ascii.ensures.further (c.is_blank.ensures c.if-is_blank.true)

@@ -4,7 +4,7 @@ use Rattle.fancy_plain.proofs.search.Task.run_length.Given as goal
 
 abbrev pub invariant-run : goal.invariant-run
 invariant-run l =
-    (l.stand.place ≤ l.at) × ((i : ℕ) → l.stand.place ≤ i → i < l.at → CanPass l.self l.m l.test l.stand i)
+    (l.config.place ≤ l.at) × ((i : ℕ) → l.config.place ≤ i → i < l.at → CanPass l.self l.m l.test l.config i)
 
 abbrev pub decreases-run : goal.decreases-run
 decreases-run l = length l.text - l.at

@@ -1,7 +1,7 @@
 use Rattle.std.proofs.Common.{sym, ap, ◌∙◌, subst, ◌+◌, Some}
-use Rattle.fancy_points.specs.PointSearch as plain
-use Rattle.fancy_points.specs.Points as points
-use Rattle.fancy_points.specs.PointSearch.{Next, Search, TakesBack, TakesUp, pair_of}
+use Rattle.fancy_nfa.specs.NfaSearch as plain
+use Rattle.fancy_nfa.specs.NfaStates as states
+use Rattle.fancy_nfa.specs.NfaSearch.{Next, Search, TakesBack, TakesUp, pair_of}
 use Rattle.fancy_plain.specs.Views.{test_of}
 use Rattle.fancy_plain.specs.Searches.{HaveFailed, leading_of}
 use Rattle.std.proofs.lemmas.Result.{err_from_is_err_and}
@@ -28,11 +28,11 @@ returns-in-Some c = λ s f h here.
       (
         record (plain.forward s) { place = c.in-Some.place },
         (
-          ap (λ o. plain.next_by (plain.goes_past s o) (Some (points.Take test)) s f)
+          ap (λ o. plain.next_by (plain.goes_past s o) (Some (states.Character test)) s f)
               (ap past (sym here.place) ∙ sym c.in_ok-place.ensures.ok ∙ c.in-Some.is),
           one_visit (leading_of task) c.args.m.now f h c.count.new.self _ c.count.ensures,
-          here_past c.count.new.self c.args.stand s c.in-Some.place
-              (here_by c.args.m.now c.count.new.self c.args.stand s (ap (λ (m : Memo). m.log) c.count.ensures) here),
+          here_past c.count.new.self c.args.config s c.in-Some.place
+              (here_by c.args.m.now c.count.new.self c.args.config s (ap (λ (m : Memo). m.trail) c.count.ensures) here),
         ),
       ),
     )
@@ -46,7 +46,7 @@ returns-in-None c = λ s f h here.
     let counted = record f { visits = f.visits + 1 } in (
       counted,
       (
-        ap (λ o. plain.next_by (plain.goes_past s o) (Some (points.Take test)) s f)
+        ap (λ o. plain.next_by (plain.goes_past s o) (Some (states.Character test)) s f)
             (ap past (sym here.place) ∙ sym c.in_ok-place.ensures.ok ∙ c.in-None.is),
         one_visit (leading_of task) c.args.m.now f h c.count.new.self _ c.count.ensures,
       ),

@@ -7,18 +7,18 @@ use Rattle.std.proofs.lemmas.Option.{slice_get_read}
 use Rattle.fancy_plain.proofs.search.Task.take_other.Goals as goal
 
 pub returns-in-None : goal.returns-in-None
-returns-in-None c = λ s first other is_noted f rest h here e.
+returns-in-None c = λ s first other is_memoized f rest h here e.
     let task = c.args.self.now in
-    let past : length task.points.now ≤ c.args.stand.at =
-    ltb-false c.args.stand.at (length task.points.now) (sym c.in-None.ensures.lookup.0) in
-    absurd (no_tries (leading_of task s) is_noted first other (lost_past task c.args.stand s here.at past) e)
+    let past : length task.states.now ≤ c.args.config.at =
+    ltb-false c.args.config.at (length task.states.now) (sym c.in-None.ensures.lookup.0) in
+    absurd (no_tries (leading_of task s) is_memoized first other (lost_past task c.args.config s here.at past) e)
 
 pub returns-in-Some : goal.returns-in-Some
 returns-in-Some c = c.other_from.ensures
 
 pub other_from-requires : goal.other_from-requires
 other_from-requires c =
-    let points = c.args.self.now.points.now in
-    let at = c.args.stand.at in
+    let states = c.args.self.now.states.now in
+    let at = c.args.config.at in
     let found = c.in-Some.ensures.lookup in
-    slice_get_read points (length points) at c.in-Some.point.now refl (ltb-true at (length points) (sym found.0)) found.1
+    slice_get_read states (length states) at c.in-Some.nfa_state.now refl (ltb-true at (length states) (sym found.0)) found.1

@@ -10,23 +10,23 @@ use Rattle.fancy_plain.proofs.search.Task.take_up.Goals as goal
 pub returns-in-None : goal.returns-in-None
 returns-in-None c = λ s f h here.
     let task = c.args.self.now in
-    let past : length task.points.now ≤ c.args.stand.at = ltb-false c.args.stand.at (length task.points.now) (sym c.in-None.ensures.lookup.0) in (
+    let past : length task.states.now ≤ c.args.config.at = ltb-false c.args.config.at (length task.states.now) (sym c.in-None.ensures.lookup.0) in (
       1,
       (
         record f { visits = f.visits + 1 },
         (
-          nothing_there task c.args.stand s f here.at past,
+          nothing_there task c.args.config s f here.at past,
           one_visit (leading_of task) c.args.m.now f h c.count.new.self _ c.count.ensures,
         ),
       ),
     )
 
 pub returns-in-Some : goal.returns-in-Some
-returns-in-Some c = c.take_up_point.ensures
+returns-in-Some c = c.take_up_state.ensures
 
-pub take_up_point-requires-clause-at : goal.take_up_point-requires-clause-at
-take_up_point-requires-clause-at c =
-    let points = c.args.self.now.points.now in
-    let at = c.args.stand.at in
+pub take_up_state-requires-clause-at : goal.take_up_state-requires-clause-at
+take_up_state-requires-clause-at c =
+    let states = c.args.self.now.states.now in
+    let at = c.args.config.at in
     let found = c.in-Some.ensures.lookup in
-    slice_get_read points (length points) at c.in-Some.point.now refl (ltb-true at (length points) (sym found.0)) found.1
+    slice_get_read states (length states) at c.in-Some.nfa_state.now refl (ltb-true at (length states) (sym found.0)) found.1

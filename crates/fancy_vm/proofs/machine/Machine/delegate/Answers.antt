@@ -2,9 +2,9 @@ use Rattle.std.proofs.Common.{◌≡◌, All, ◌+◌, ◌*◌, ◌<◌, ap, opt
 use Rattle.fancy_meaning.specs.Config.{Goes, at_ix, forward, with_pairs, with_slots}
 use Rattle.fancy_meaning.specs.Machine.{first_way}
 use Rattle.fancy_laws.proofs.Every.{All-every}
-use Rattle.fancy_points.specs.FirstWays.{seen}
+use Rattle.fancy_nfa.specs.FirstWays.{seen}
 use Rattle.fancy_plain.specs.Ways.{IsSeenAs, listed}
-use Rattle.fancy_fragments.specs.Fragments.{IsStraightOf, fragment_of}
+use Rattle.fancy_fragments.specs.Fragments.{IsOnePassOf, fragment_of}
 use Rattle.fancy_vm.specs.Outcomes.{StepAnswers, config_of, plain_task}
 use Rattle.fancy_vm.proofs.PairsLaws.{takes_none, takes_some, way_fits}
 use Rattle.fancy_vm.proofs.machine.Machine.delegate.Goals as goal
@@ -14,7 +14,7 @@ returns-in-Fails-clause-leads c =
     let t = plain_task c.args.self.now.task in
     let f = c.args.delegate.now.fragment in
     let ix = c.args.self.now.ix in
-    let none = subst (IsStraightOf t.text f ix) c.in-Fails.is c.in_ok-end.ensures in
+    let none = subst (IsOnePassOf t.text f ix) c.in-Fails.is c.in_ok-end.ensures in
     subst (λ to. StepAnswers to c.fail.result c.fail.new.self)
     (sym (takes_none t (config_of c.args.self.now) (first_way t (fragment_of f) ix) (none t.pos t.continued))) c.fail.ensures.leads
 

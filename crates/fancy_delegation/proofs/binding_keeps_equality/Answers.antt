@@ -1,0 +1,5 @@
+use Rattle.fancy_delegation.proofs.Thinning.{binding_keeps_equality}
+use Rattle.fancy_delegation.proofs.binding_keeps_equality.Goals as goal
+
+pub returns : goal.returns
+returns c = binding_keeps_equality

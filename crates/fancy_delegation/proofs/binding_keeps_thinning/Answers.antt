@@ -1,5 +1,0 @@
-use Rattle.fancy_delegation.proofs.Thinning.{binding_keeps_thinning}
-use Rattle.fancy_delegation.proofs.binding_keeps_thinning.Goals as goal
-
-pub returns : goal.returns
-returns c = binding_keeps_thinning

@@ -1,6 +1,0 @@
-use Rattle.std.proofs.Common.{◌≡◌}
-use Rattle.fancy_plain.specs.Needed.{lacks}
-use Rattle.fancy_plain.proofs.needed.lacks.Given as goal
-
-abbrev pub invariant-bytes : goal.invariant-bytes
-invariant-bytes l = lacks l.fn.bytes l.fn.text l.at ≡ lacks l.fn.bytes l.fn.text l.fn.from

@@ -1,0 +1,292 @@
+//! With which characters a way can begin: found by the states that a search comes to before each of its first ones.
+
+ghost use Rattle.std.specs.Prelude.{◌≡◌, ◌&&◌, ℕ, ◌+◌, ◌<◌, [], true, false, map, slice_get, slice_index_or, Some, IfOk, IfSome};
+ghost use Rattle.fancy_nfa.specs.NfaSearch.{passes};
+ghost use Rattle.fancy_plain.specs.FirstSets.{may_begin, covers, is_over, is_short, steps_within, IsLevel, AreFirstSets};
+ghost use Rattle.fancy_plain.specs.Views.{loop_of, state_of, test_of, IsStateReadBy, IsReadBy};
+
+use crate::nfa_state::{CharTest, Loop, NfaState};
+use std::alloc::{AllocError, Global};
+
+/// At how many of a way's first places it is told which ASCII characters can stand there.
+const LEVELS: usize = 5;
+
+/// How often the states are gone through to find what they lead to.
+const PASSES: usize = 4;
+
+/// It is not known how many iterations were begun.
+const ANY_COUNTER: u8 = 255;
+
+/// The ASCII characters that can stand at a way's first places, level by level, beside any others. There are no more
+/// levels where a way may have ended, and so none if one may take nothing.
+pub(crate) fn first_sets(
+    alloc: Global,
+    states: &[NfaState],
+    unicode: bool,
+) -> Result<Vec<[bool; 128]>, AllocError>
+    requires { (i : ℕ) (p : NfaState) → slice_get states.now i ≡ Some p → IsStateReadBy unicode p }
+    ensures { IfOk result (λ levels. AreFirstSets unicode (map state_of states.now) levels.items) }
+{
+    let mut levels = Vec::new(alloc);
+    let mut reached = first_states(alloc, states)?;
+    if !covers(&reached, 0, ANY_COUNTER) {
+        return Ok(levels);
+    }
+    'levels: for _ in 0..LEVELS {
+        let after = next_states(alloc, states, &reached)?;
+        let Some(ascii) = level_between(states, unicode, &reached, &after) else {
+            return Ok(levels);
+        };
+        levels.push(ascii)?;
+        reached = after;
+    }
+    Ok(levels)
+}
+
+/// Whether such characters stand at the place and behind it, as far as those there are of ASCII.
+pub(crate) fn may_begin(levels: &[[bool; 128]], text: &[u8], ix: usize) -> bool
+    ensures { result ≡ may_begin levels.now text.now ix }
+{
+    let mut at = ix;
+    'levels: for level in levels {
+        if at >= text.len() {
+            return false;
+        }
+        let byte = text[at];
+        if byte >= 128 {
+            return true;
+        }
+        if !level[byte as usize] {
+            return false;
+        }
+        at += 1;
+    }
+    true
+}
+
+// ---- what a search may come to before it takes a character, or the next one: for each state its counter, which is one
+// more than how many iterations were begun of the loop around that counts. It is 0 at a state that the search does not
+// come to.
+
+impl Loop {
+    /// No further iteration may be begun in this counter.
+    fn is_over_in(self, counter: u8) -> bool
+        ensures { result ≡ is_over (loop_of self) counter }
+    {
+        counter < ANY_COUNTER && counter as usize > self.hi
+    }
+
+    /// A further one has to be begun in this counter, unless none may.
+    fn is_short_in(self, counter: u8) -> bool
+        ensures { result ≡ is_short (loop_of self) counter }
+    {
+        counter < ANY_COUNTER && counter as usize <= self.lo
+    }
+}
+
+fn counter_at(reached: &[u8], at: usize) -> u8
+    ensures { result ≡ slice_index_or reached.now at 0 }
+{
+    match reached.get(at) {
+        Some(counter) => *counter,
+        None => 0,
+    }
+}
+
+/// Whether the search may come to the state in this counter.
+fn covers(reached: &[u8], at: usize, counter: u8) -> bool
+    ensures { result ≡ covers reached.now at counter }
+{
+    let there = counter_at(reached, at);
+    there == counter || there == ANY_COUNTER
+}
+
+/// The states that a search comes to before it takes a character.
+fn first_states(alloc: Global, states: &[NfaState]) -> Result<Vec<u8>, AllocError> {
+    let mut reached = Vec::new(alloc);
+    reached.resize(states.len(), 0)?;
+    add(&mut reached, 0, ANY_COUNTER);
+    follow(states, &mut reached);
+    Ok(reached)
+}
+
+/// The states that it comes to after that, before it takes one more.
+fn next_states(alloc: Global, states: &[NfaState], reached: &[u8]) -> Result<Vec<u8>, AllocError> {
+    let mut after = Vec::new(alloc);
+    after.resize(states.len(), 0)?;
+    for at in 0..states.len() {
+        if let NfaState::Character(_) = &states[at] {
+            add(&mut after, at + 1, counter_at(reached, at));
+        }
+    }
+    follow(states, &mut after);
+    Ok(after)
+}
+
+/// Adds what the states lead to, again as long as that may lead further.
+fn follow(states: &[NfaState], reached: &mut [u8]) {
+    for _ in 0..PASSES {
+        let mut has_led_back = false;
+        for at in 0..states.len() {
+            let counter = counter_at(reached, at);
+            if counter > 0 && step_result(&states[at], at, counter, reached) {
+                has_led_back = true;
+            }
+        }
+        if !has_led_back {
+            return;
+        }
+    }
+}
+
+/// Adds what the state at `at` leads to, and answers whether that was news of a state that was gone through.
+fn step_result(nfa_state: &NfaState, at: usize, counter: u8, reached: &mut [u8]) -> bool
+    requires { at < usize.MAX }
+{
+    match nfa_state {
+        NfaState::Match | NfaState::Character(_) => false,
+        NfaState::Jump(to) => step_to(reached, at, *to, counter),
+        NfaState::Split(first, second) => step_to_both(reached, at, (*first, *second), counter),
+        NfaState::BranchSplit(first, second) => step_to_both(
+            reached,
+            at,
+            (*first, *second),
+            counter,
+        ),
+        NfaState::LoopSplit(first, second) => step_to_both(reached, at, (*first, *second), counter),
+        NfaState::CounterBegin => step_to(reached, at, at + 1, 1),
+        NfaState::CounterLoop { counters, after } => {
+            if counters.is_over_in(counter) {
+                step_to(reached, at, *after, ANY_COUNTER)
+            } else if counters.is_short_in(counter) {
+                step_to(reached, at, at + 1, counter.saturating_add(1))
+            } else {
+                step_to_both(reached, at, (at + 1, *after), ANY_COUNTER)
+            }
+        }
+        _ => step_to(reached, at, at + 1, counter),
+    }
+}
+
+fn step_to(reached: &mut [u8], at: usize, to: usize, counter: u8) -> bool {
+    add(reached, to, counter) && to <= at
+}
+
+fn step_to_both(reached: &mut [u8], at: usize, to: (usize, usize), counter: u8) -> bool {
+    let first = step_to(reached, at, to.0, counter);
+    let second = step_to(reached, at, to.1, counter);
+    first || second
+}
+
+/// Adds the state in this counter, and answers whether that was news. In two counters it is in any.
+fn add(reached: &mut [u8], at: usize, counter: u8) -> bool {
+    if at >= reached.len() || counter == 0 || covers(reached, at, counter) {
+        return false;
+    }
+    reached[at] = if reached[at] == 0 {
+        counter
+    } else {
+        ANY_COUNTER
+    };
+    true
+}
+
+/// Whether the state at `at` leads to states that were reached alone, or by a character to those after that.
+fn steps_on(nfa_state: &NfaState, at: usize, reached: &[u8], after: &[u8]) -> bool
+    requires { at < usize.MAX }
+    ensures { result
+        ≡ steps_within reached.now after.now at (slice_index_or reached.now at 0)
+        (state_of nfa_state.now) }
+{
+    let counter = counter_at(reached, at);
+    match nfa_state {
+        NfaState::Match => false,
+        NfaState::Character(_) => covers(after, at + 1, counter),
+        NfaState::Jump(to) => covers(reached, *to, counter),
+        NfaState::Split(first, second) => covers_both(reached, *first, *second, counter),
+        NfaState::BranchSplit(first, second) => covers_both(reached, *first, *second, counter),
+        NfaState::LoopSplit(first, second) => covers_both(reached, *first, *second, counter),
+        NfaState::CounterBegin => covers(reached, at + 1, 1),
+        NfaState::CounterLoop { counters, after } => {
+            if counters.is_over_in(counter) {
+                covers(reached, *after, ANY_COUNTER)
+            } else if counters.is_short_in(counter) {
+                covers(reached, at + 1, counter + 1)
+            } else {
+                covers_both(reached, at + 1, *after, ANY_COUNTER)
+            }
+        }
+        _ => covers(reached, at + 1, counter),
+    }
+}
+
+fn covers_both(reached: &[u8], first: usize, second: usize, counter: u8) -> bool
+    ensures { result ≡ (covers reached.now first counter && covers reached.now second counter) }
+{
+    covers(reached, first, counter) && covers(reached, second, counter)
+}
+
+/// The ASCII characters that the states reached take, if they lead to each other alone, or by a character to those
+/// after that.
+fn level_between(
+    states: &[NfaState],
+    unicode: bool,
+    reached: &[u8],
+    after: &[u8],
+) -> Option<[bool; 128]>
+    requires { (i : ℕ) (p : NfaState) → slice_get states.now i ≡ Some p → IsStateReadBy unicode p }
+    ensures { IfSome result
+        (λ ascii. IsLevel unicode (map state_of states.now) reached.now ascii after.now) }
+{
+    let mut ascii = [false; 128];
+    'states: for at in 0..states.len() {
+        if counter_at(reached, at) > 0 {
+            let nfa_state = &states[at];
+            if !steps_on(nfa_state, at, reached, after) {
+                return None;
+            }
+            if let NfaState::Character(test) = nfa_state {
+                add_taken(test, unicode, &mut ascii);
+            }
+        }
+    }
+    Some(ascii)
+}
+
+/// Adds the ASCII characters that pass the test.
+fn add_taken(test: &CharTest, unicode: bool, ascii: &mut [bool; 128])
+    requires { IsReadBy unicode test.now }
+    ensures taken { (c : ℕ) → c < 128 → passes [] unicode (test_of test.now) c ≡ true
+        → slice_index_or ascii.new c false ≡ true }
+    ensures kept { (c : ℕ) → slice_index_or ascii.old c false ≡ true
+        → slice_index_or ascii.new c false ≡ true }
+{
+    match test {
+        CharTest::One { c, casei: false } => add_one(*c as usize, ascii),
+        _ => add_each(test, unicode, ascii),
+    }
+}
+
+fn add_one(c: usize, ascii: &mut [bool; 128])
+    ensures taken { c < 128 → slice_index_or ascii.new c false ≡ true }
+    ensures kept { (d : ℕ) → slice_index_or ascii.old d false ≡ true
+        → slice_index_or ascii.new d false ≡ true }
+{
+    if c < 128 {
+        ascii[c] = true;
+    }
+}
+
+fn add_each(test: &CharTest, unicode: bool, ascii: &mut [bool; 128])
+    requires { IsReadBy unicode test.now }
+    ensures taken { (c : ℕ) → c < 128 → passes [] unicode (test_of test.now) c ≡ true
+        → slice_index_or ascii.new c false ≡ true }
+    ensures kept { (c : ℕ) → slice_index_or ascii.old c false ≡ true
+        → slice_index_or ascii.new c false ≡ true }
+{
+    'ask: for c in 0..128u8 {
+        if test.takes_ascii(unicode, c) {
+            ascii[c as usize] = true;
+        }
+    }
+}

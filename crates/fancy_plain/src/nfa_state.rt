@@ -1,0 +1,173 @@
+//! The states of a plain search, and the test on one character.
+
+ghost use Rattle.std.specs.Prelude.{◌≡◌, ◌≤◌, ◌<◌, [], length, slice_get, IfOk, IfSome};
+ghost use Rattle.fancy_meaning.specs.Chars as chars;
+ghost use Rattle.fancy_meaning.specs.Machine.{class_test};
+ghost use Rattle.fancy_meaning.specs.Moves.{past_char};
+ghost use Rattle.fancy_characters.specs.Classes.{class_of};
+ghost use Rattle.fancy_nfa.specs.NfaSearch as plain;
+ghost use Rattle.fancy_plain.specs.Views.{IsReadBy, test_of};
+
+use fancy_characters::classes::{CharClassMatcher, literal_takes};
+use fancy_characters::places::{len_utf8, past_any};
+use fancy_expr::expr::Assertion;
+use regex_nfa::char_at;
+use std::alloc::{AllocError, Global};
+
+/// A test on one character.
+#[derive(Drop)]
+pub(crate) enum CharTest {
+    /// Any character, LF and CR as in `Expr::Any`.
+    Any { newline: bool, crlf: bool },
+    /// This character, folded or not.
+    One { c: char, casei: bool },
+    /// One of a class.
+    Class(Box<CharClassMatcher>),
+}
+
+/// A loop that counts its iterations, or asks whether one has moved.
+#[derive(Clone, Copy)]
+pub(crate) struct Loop {
+    pub(crate) lo: usize,
+    /// `usize::MAX` is no bound.
+    pub(crate) hi: usize,
+    pub(crate) greedy: bool,
+    /// An iteration begun at or past `lo` that moves nothing leaves the loop.
+    pub(crate) asks_moved: bool,
+}
+
+/// One state. Where nothing is said, the search goes on at the next one.
+#[derive(Drop)]
+pub(crate) enum NfaState {
+    /// The fragment's end.
+    Match,
+    Character(CharTest),
+    Holds(Assertion),
+    /// A group begins.
+    Open,
+    /// The group with this number ends.
+    Close(usize),
+    /// Before an alternation, or a body that may be left out: on at the first, and else at the second.
+    Split(usize, usize),
+    /// The same before a further branch.
+    BranchSplit(usize, usize),
+    /// The same at the head of a loop that does not count.
+    LoopSplit(usize, usize),
+    Jump(usize),
+    /// Where several ways on meet.
+    Join,
+    /// A loop that counts begins.
+    CounterBegin,
+    /// Before each of its iterations, which begin at the next state; `after` is behind the loop.
+    CounterLoop { counters: Loop, after: usize },
+}
+
+impl CharTest {
+    /// Whether this ASCII character passes.
+    #[inline(always)]
+    pub(crate) fn takes_ascii(&self, unicode: bool, c: u8) -> bool
+        requires small { c < 128 }
+        requires read { IsReadBy unicode self.now }
+        ensures { result ≡ plain.passes [] unicode (test_of self.now) c }
+    {
+        match self {
+            CharTest::Any { newline, crlf } => *newline || !(c == 10 || (*crlf && c == 13)),
+            CharTest::One { c: one, casei } => {
+                if *casei {
+                    literal_takes(unicode, *one as u32, true, c as u32)
+                } else {
+                    *one as u32 == c as u32
+                }
+            }
+            CharTest::Class(class) => class.takes_ascii(c),
+        }
+    }
+
+    /// Past the character at `ix`, if it passes. `Memory` where a request for memory was refused.
+    #[inline(always)]
+    pub(crate) fn past(
+        &self,
+        alloc: Global,
+        unicode: bool,
+        text: &str,
+        ix: usize,
+    ) -> Result<Option<usize>, AllocError>
+        requires { IsReadBy unicode self.now }
+        ensures ok { IfOk result (λ to. to
+            ≡ past_char text.now (plain.passes text.now unicode (test_of self.now)) ix) }
+        ensures small { IfOk result (λ to. IfSome to (λ i. i ≤ length text.now)) }
+    {
+        let Some(byte) = byte_at(text.as_bytes(), ix) else {
+            return Ok(None);
+        };
+        if byte >= 128 {
+            return self.past_other(alloc, unicode, text, ix);
+        }
+        if self.takes_ascii(unicode, byte) {
+            Ok(Some(ix + 1))
+        } else {
+            Ok(None)
+        }
+    }
+
+    /// The same, whatever character stands there.
+    #[inline(never)]
+    fn past_other(
+        &self,
+        alloc: Global,
+        unicode: bool,
+        text: &str,
+        ix: usize,
+    ) -> Result<Option<usize>, AllocError>
+        requires { IsReadBy unicode self.now }
+        ensures ok { IfOk result (λ to. to
+            ≡ past_char text.now (plain.passes text.now unicode (test_of self.now)) ix) }
+        ensures small { IfOk result (λ to. IfSome to (λ i. i ≤ length text.now)) }
+    {
+        match self {
+            CharTest::Any { newline, crlf } => Ok(past_any(text.as_bytes(), *newline, *crlf, ix)),
+            CharTest::One { c, casei } => Ok(past_one(text.as_bytes(), unicode, *c, *casei, ix)),
+            CharTest::Class(class) => past_class(alloc, class, text, ix),
+        }
+    }
+}
+
+/// The byte at the place.
+pub(crate) fn byte_at(text: &[u8], ix: usize) -> Option<u8>
+    ensures { result ≡ slice_get text.now ix }
+{
+    if ix < text.len() {
+        Some(text[ix])
+    } else {
+        None
+    }
+}
+
+/// Past this character.
+fn past_one(text: &[u8], unicode: bool, c: char, casei: bool, ix: usize) -> Option<usize>
+    ensures { result ≡ past_char text.now (chars.literal_takes unicode c casei) ix }
+{
+    let d = char_at(text, ix)?;
+    if literal_takes(unicode, c as u32, casei, d) {
+        Some(ix + len_utf8(d))
+    } else {
+        None
+    }
+}
+
+/// Past one character of the class. `Memory` where a request for memory was refused.
+fn past_class(
+    alloc: Global,
+    class: &CharClassMatcher,
+    text: &str,
+    ix: usize,
+) -> Result<Option<usize>, AllocError>
+    ensures ok { IfOk result
+        (λ to. to ≡ past_char text.now (class_test (class_of class.now)) ix) }
+{
+    match class.match_len(alloc, text, ix) {
+        Ok(Some(len)) => Ok(Some(ix + len)),
+        Ok(None) => Ok(None),
+        Err(_) => Err(AllocError),
+    }
+}

@@ -1,0 +1,326 @@
+//! Ways that need no choice: each test passes where it stands, and each loop takes what it can.
+
+ghost use Rattle.std.specs.Prelude.{◌≡◌, ◌≤◌, ◌&&◌, if◌then◌else◌, ℕ, IfOk, IfSome, IsTrue, None, true};
+ghost use Rattle.fancy_meaning.specs.Places.{is_place};
+ghost use Rattle.fancy_plain.specs.declared.search.Task as tasks;
+ghost use Rattle.fancy_plain.specs.Runs.{FailsFrom};
+ghost use Rattle.fancy_plain.specs.Searches.{IsTask};
+ghost use Rattle.fancy_plain.specs.OnePass.{EndsOnePass, Finds, IsOnePass, RunsOn, RunsPast, Walks, stand_at};
+ghost use Rattle.fancy_plain.specs.Views.{IsReadBy};
+ghost use Rattle.fancy_plain.specs.Ways.{IsOfNodes};
+
+use crate::counted_ways::Passed;
+use crate::nfa_state::{CharTest, Loop, NfaState};
+use crate::search::Task;
+use crate::table::Nfa;
+use fancy_characters::look::holds;
+use std::alloc::{AllocError, Global};
+
+/// What is known of a first way without a choice.
+#[derive(Clone, Copy, Debug)]
+pub enum OnePass {
+    /// It ends here, in bytes, and sets no group.
+    Ends(usize),
+    /// There is none.
+    Fails,
+    /// Nothing.
+    Unknown,
+}
+
+/// The first way of the table's nodes from `ix`, a character boundary of the text, as far as no choice is needed for it.
+/// An error is a request for memory that was refused.
+pub fn one_pass_end(
+    alloc: Global,
+    table: &Nfa,
+    text: &str,
+    ix: usize,
+) -> Result<OnePass, AllocError>
+    requires place { IsTrue (is_place text.now ix) }
+    requires table { ∥ IsOfNodes table.now ∥₁ }
+    ensures { IfOk result (IsOnePass text.now table.now ix) }
+{
+    if !table.is_one_pass {
+        return Ok(OnePass::Unknown);
+    }
+    let task = Task {
+        states: &table.states,
+        unicode: table.unicode,
+        text,
+    };
+    task.walk(alloc, ix)
+}
+
+impl Task<'_> {
+    /// Ways seem to need no choice that is taken back: there are no groups, loops that count are over one character,
+    /// and what may be tried at one place begins with other characters each.
+    pub(crate) fn is_one_pass(&self) -> bool
+        requires { IsTask self.now }
+    {
+        'states: for at in 0..self.states.len() {
+            let is_one_pass = match self.states.get(at) {
+                Some(NfaState::LoopSplit(first, second)) => self.are_apart(*first, *second),
+                Some(NfaState::Split(first, second)) => self.are_apart(*first, *second),
+                Some(NfaState::CounterLoop { counters, after }) => self.is_alone(
+                    at, *counters, *after,
+                ),
+                Some(NfaState::Open | NfaState::Close(_)) => false,
+                _ => true,
+            };
+            if !is_one_pass {
+                return false;
+            }
+        }
+        true
+    }
+
+    /// The loop that counts with this head is over one character, and it takes so many and no more, or what comes
+    /// behind it begins with others.
+    fn is_alone(&self, head: usize, counters: Loop, after: usize) -> bool
+        requires { IsTask self.now }
+    {
+        self.counted_test(head, counters).is_some()
+            && (counters.lo == counters.hi || self.are_apart(head + 1, self.behind_joins(after)))
+    }
+
+    /// Behind the ends and the heads of loops that stand there, on into the last of these.
+    fn behind_joins(&self, at: usize) -> usize {
+        let mut next = at;
+        'joins: while let Some(
+            NfaState::Join | NfaState::CounterBegin | NfaState::CounterLoop { .. },
+        ) = self.states.get(next)
+        {
+            next += 1;
+        }
+        next
+    }
+
+    /// No character of ASCII passes the tests at two of these states and of the branches behind the second one.
+    fn are_apart(&self, first: usize, second: usize) -> bool
+        requires { IsTask self.now }
+    {
+        if matches!(self.states.get(second), Some(NfaState::Match)) {
+            return true;
+        }
+        let mut taken = [false; 128];
+        if !self.are_others(first, &mut taken) {
+            return false;
+        }
+        let mut at = second;
+        'branches: for _ in 0..self.states.len() {
+            let Some(NfaState::BranchSplit(branch, next)) = self.states.get(at) else {
+                return self.are_others(at, &mut taken);
+            };
+            if !self.are_others(*branch, &mut taken) {
+                return false;
+            }
+            at = *next;
+        }
+        false
+    }
+
+    /// None of these characters passes the test that stands there, if one does, and those that pass are added.
+    fn are_others(&self, at: usize, taken: &mut [bool; 128]) -> bool
+        requires { IsTask self.now }
+    {
+        let Some(test) = self.test_at(at) else {
+            return true;
+        };
+        'ask: for c in 0..128u8 {
+            if test.takes_ascii(self.unicode, c) {
+                if taken[c as usize] {
+                    return false;
+                }
+                taken[c as usize] = true;
+            }
+        }
+        true
+    }
+
+    /// The test that stands there, perhaps behind a jump.
+    fn test_at(&self, at: usize) -> Option<&CharTest>
+        requires { IsTask self.now }
+        ensures { IfSome result (λ test. IsReadBy self.now.unicode test.now) }
+    {
+        match self.states.get(self.behind_jump(at)) {
+            Some(NfaState::Character(test)) => Some(test),
+            _ => None,
+        }
+    }
+
+    /// From state to state. What is tried first is left only where it fails at its first test.
+    fn walk(&self, alloc: Global, ix: usize) -> Result<OnePass, AllocError>
+        requires { IsTask self.now }
+        ensures { IfOk result (EndsOnePass self.now ix) }
+    {
+        let mut at = 0;
+        let mut place = ix;
+        let mut is_sure = true;
+        'states: for _ in 0..usize::MAX {
+            let head = self.behind_jump(at);
+            match self.states.get(head) {
+                Some(NfaState::Match) => return Ok(OnePass::Ends(place)),
+                Some(NfaState::Character(test)) => {
+                    let Some(next) = test.past(alloc, self.unicode, self.text, place)? else {
+                        return Ok(without_a_way(is_sure));
+                    };
+                    place = next;
+                    at = head + 1;
+                    continue 'states;
+                }
+                Some(NfaState::Holds(assertion)) => {
+                    if !holds(*assertion, self.unicode, self.text, place) {
+                        return Ok(without_a_way(is_sure));
+                    }
+                    at = head + 1;
+                    continue 'states;
+                }
+                Some(NfaState::LoopSplit(first, second)) => {
+                    is_sure = false;
+                    if let Some(test) = self.body_at(*first, head) {
+                        place = self.past_all(alloc, test, place)?;
+                        at = *second;
+                        continue 'states;
+                    }
+                    at = chosen(self.fails_from(*first, place), *first, *second);
+                    continue 'states;
+                }
+                Some(NfaState::Split(first, second)) => {
+                    let is_lost = self.fails_from(*first, place);
+                    at = chosen(is_lost, *first, *second);
+                    is_sure = are_both(is_sure, is_lost);
+                    continue 'states;
+                }
+                Some(NfaState::BranchSplit(first, second)) => {
+                    let is_lost = self.fails_from(*first, place);
+                    at = chosen(is_lost, *first, *second);
+                    is_sure = are_both(is_sure, is_lost);
+                    continue 'states;
+                }
+                Some(NfaState::Join) => {
+                    at = head + 1;
+                    continue 'states;
+                }
+                Some(NfaState::CounterBegin) => {
+                    match self.past_counted(alloc, head, place)? {
+                        Passed::Unknown => return Ok(OnePass::Unknown),
+                        Passed::Fails => return Ok(without_a_way(is_sure)),
+                        Passed::On {
+                            at: after,
+                            place: end,
+                            is_sure: is_exact,
+                        } => {
+                            at = after;
+                            place = end;
+                            is_sure = are_both(is_sure, is_exact);
+                            continue 'states;
+                        }
+                    }
+                }
+                _ => return Ok(OnePass::Unknown),
+            }
+        }
+        Ok(OnePass::Unknown)
+    }
+
+    /// From this state on a test comes first, or one for each of several branches, and the character there passes none.
+    #[inline(always)]
+    fn fails_from(&self, from: usize, place: usize) -> bool
+        requires { IsTask self.now }
+        ensures { IsTrue result → FailsFrom self.now from place }
+    {
+        let mut at = from;
+        'branches: for _ in 0..self.states.len() {
+            match self.states.get(at) {
+                Some(NfaState::Split(first, second)) => {
+                    if !self.fails_behind_jump(*first, place) {
+                        return false;
+                    }
+                    at = *second;
+                    continue 'branches;
+                }
+                Some(NfaState::BranchSplit(first, second)) => {
+                    if !self.fails_behind_jump(*first, place) {
+                        return false;
+                    }
+                    at = *second;
+                    continue 'branches;
+                }
+                _ => return self.fails_behind_jump(at, place),
+            }
+        }
+        false
+    }
+
+    /// A test stands there, perhaps behind a jump, that no character there passes.
+    #[inline(always)]
+    fn fails_behind_jump(&self, at: usize, place: usize) -> bool
+        requires { IsTask self.now }
+        ensures { IsTrue result → FailsFrom self.now at place }
+    {
+        self.fails_at(self.behind_jump(at), place)
+    }
+
+    /// Where the jump that stands there leads, or else there.
+    #[inline(always)]
+    fn behind_jump(&self, at: usize) -> usize
+        ensures walks { (place : ℕ)
+            → Walks self.now true (stand_at at place) (stand_at result place) }
+        ensures fails { (place : ℕ)
+            → FailsFrom self.now result place → FailsFrom self.now at place }
+    {
+        match self.states.get(at) {
+            Some(NfaState::Jump(to)) => *to,
+            _ => at,
+        }
+    }
+
+    /// Past the characters from this place on that pass the test.
+    #[inline(always)]
+    fn past_all(&self, alloc: Global, test: &CharTest, from: usize) -> Result<usize, AllocError>
+        requires { IsReadBy self.now.unicode test.now }
+        ensures { IfOk result (RunsPast self.now test.now from) }
+    {
+        let mut place = self.past_ascii(test, from);
+        'run: while let Some(next) = test.past(alloc, self.unicode, self.text, place)? {
+            place = self.past_ascii(test, next);
+        }
+        Ok(place)
+    }
+
+    /// Past the characters of ASCII from this place on that pass the test.
+    #[inline(always)]
+    fn past_ascii(&self, test: &CharTest, from: usize) -> usize
+        requires { IsReadBy self.now.unicode test.now }
+        ensures on { RunsOn self.now test.now from result }
+        ensures further { from ≤ result }
+    {
+        test.past_ascii(self.unicode, self.text.as_bytes(), from)
+    }
+}
+
+/// What a test that fails says, where no loop was passed before, or else where one was.
+fn without_a_way(is_sure: bool) -> OnePass
+    ensures { (task : tasks.Task) (place : ℕ) → (IsTrue is_sure → Finds task place None)
+        → EndsOnePass task place result }
+{
+    if is_sure {
+        OnePass::Fails
+    } else {
+        OnePass::Unknown
+    }
+}
+
+/// The way on, where the first one is lost or not.
+#[inline(always)]
+fn chosen(is_lost: bool, first: usize, second: usize) -> usize
+    ensures { result ≡ if is_lost then second else first }
+{
+    if is_lost { second } else { first }
+}
+
+#[inline(always)]
+fn are_both(one: bool, other: bool) -> bool
+    ensures { result ≡ (one && other) }
+{
+    one && other
+}

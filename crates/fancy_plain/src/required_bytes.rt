@@ -1,0 +1,184 @@
+//! A character that every way takes: where none such stands from a place on, no way begins there or behind it.
+
+ghost use Rattle.std.specs.Prelude.{◌≡◌, ◌≤◌, ◌<◌, ℕ, [], true, false, length, map, slice_get, slice_index_or, Some, IfSome, IsTrue};
+ghost use Rattle.fancy_meaning.specs.Places.{is_place};
+ghost use Rattle.fancy_nfa.specs.NfaSearch.{passes};
+ghost use Rattle.fancy_plain.specs.RequiredBytes.{lacks, lacks_any, AreRequired, BeginAmong, IsPassed, StepsFrom, LeadsTo};
+ghost use Rattle.fancy_plain.specs.declared.nfa_state.NfaState.TheVariants as nfa_state;
+ghost use Rattle.fancy_plain.specs.Views.{state_of, test_of, IsStateReadBy, IsReadBy};
+ghost use Rattle.fancy_plain.specs.Ways.{HasNoWayAt};
+
+use crate::nfa_state::{CharTest, NfaState};
+use crate::table::Nfa;
+
+/// Whether the text from `from` on, in bytes, has none of the bytes of which every way takes one: then no way begins
+/// there or behind it. Where no such bytes are known it is false.
+pub fn lacks_required(table: &Nfa, text: &str, from: usize) -> bool
+    ensures told { result ≡ lacks_any table.now.required_bytes text.now from }
+    ensures none { IsTrue result → (place : ℕ) → from ≤ place → IsTrue (is_place text.now place)
+        → HasNoWayAt text.now table.now place }
+{
+    match &table.required_bytes {
+        None => false,
+        Some(bytes) => lacks(bytes, text.as_bytes(), from),
+    }
+}
+
+/// Whether none of these bytes stands in the text from the place on.
+fn lacks(bytes: &[bool; 256], text: &[u8], from: usize) -> bool
+    ensures { result ≡ lacks bytes.now text.now from }
+{
+    'bytes: for at in from..text.len() {
+        if bytes[text[at] as usize] {
+            return false;
+        }
+    }
+    true
+}
+
+/// Bytes of which every way takes one, if some are found.
+pub(crate) fn required_bytes(states: &[NfaState], unicode: bool) -> Option<[bool; 256]>
+    requires { (i : ℕ) (p : NfaState) → slice_get states.now i ≡ Some p → IsStateReadBy unicode p }
+    ensures { IfSome result (AreRequired unicode (map state_of states.now)) }
+{
+    let passed = last_passed(states)?;
+    match states.get(passed) {
+        Some(NfaState::Character(test)) => Some(first_bytes(test, unicode)),
+        _ => None,
+    }
+}
+
+// ---- which state every way passes
+
+/// The last state found that every way passes, behind a loop without a bound: else a search that fails is short.
+fn last_passed(states: &[NfaState]) -> Option<usize>
+    ensures { IfSome result (IsPassed (map state_of states.now)) }
+{
+    let mut last = None;
+    let mut furthest = 0;
+    let mut is_behind = false;
+    'states: for at in 0..states.len() {
+        if is_behind && furthest <= at {
+            last = passed_from(states, at, furthest, last);
+        }
+        let Some(to) = furthest_with(&states[at], at, furthest) else {
+            return last;
+        };
+        furthest = to;
+        is_behind = is_behind || repeats(&states[at]);
+    }
+    last
+}
+
+/// The state to which the one at `at` jumps or which it is, if it tells ways apart, and else the last one.
+fn passed_from(
+    states: &[NfaState],
+    at: usize,
+    furthest: usize,
+    last: Option<usize>,
+) -> Option<usize>
+    requires inside { at < length states.now }
+    requires before { (i : ℕ) → i < at
+        → StepsFrom (λ to. to ≤ furthest) i (slice_get (map state_of states.now) i) }
+    requires here { furthest ≤ at }
+    requires last { IfSome last (IsPassed (map state_of states.now)) }
+    ensures { IfSome result (IsPassed (map state_of states.now)) }
+{
+    let passed = jumps_to(states, at);
+    if tells(states, passed) {
+        Some(passed)
+    } else {
+        last
+    }
+}
+
+/// The state to which the one at `at` jumps, or itself.
+fn jumps_to(states: &[NfaState], at: usize) -> usize
+    requires { at < length states.now }
+    ensures { (result ≡ at → ⊥) → slice_get states.now at ≡ Some (nfa_state.Jump result) }
+{
+    match &states[at] {
+        NfaState::Jump(to) => *to,
+        _ => at,
+    }
+}
+
+/// The furthest of the states that the one at `at` leads to and this one; none at the end.
+fn furthest_with(nfa_state: &NfaState, at: usize, furthest: usize) -> Option<usize>
+    requires { at < usize.MAX }
+    ensures { IfSome result (λ to. (furthest ≤ to)
+        × LeadsTo (λ i. i ≤ to) at (state_of nfa_state.now)) }
+{
+    match nfa_state {
+        NfaState::Match => None,
+        NfaState::Jump(to) => Some(further(furthest, *to)),
+        NfaState::Split(first, second) => Some(further(further(furthest, *first), *second)),
+        NfaState::BranchSplit(first, second) => Some(further(further(furthest, *first), *second)),
+        NfaState::LoopSplit(first, second) => Some(further(further(furthest, *first), *second)),
+        NfaState::CounterLoop { after, .. } => Some(further(further(furthest, at + 1), *after)),
+        _ => Some(further(furthest, at + 1)),
+    }
+}
+
+fn further(a: usize, b: usize) -> usize
+    ensures a { a ≤ result }
+    ensures b { b ≤ result }
+{
+    if a < b { b } else { a }
+}
+
+/// It is the head of a loop without a bound.
+fn repeats(nfa_state: &NfaState) -> bool {
+    match nfa_state {
+        NfaState::LoopSplit(_, _) => true,
+        NfaState::CounterLoop { counters, .. } => counters.hi == usize::MAX,
+        _ => false,
+    }
+}
+
+/// The state takes one character, or one of a class that not every text is full of.
+fn tells(states: &[NfaState], at: usize) -> bool {
+    match states.get(at) {
+        Some(NfaState::Character(CharTest::One { .. })) => true,
+        Some(NfaState::Character(CharTest::Class(class))) => {
+            !class.takes_ascii(b'e') && !class.takes_ascii(b' ')
+        }
+        _ => false,
+    }
+}
+
+// ---- which bytes it takes
+
+/// The bytes with which the characters begin that pass the test, beside others.
+fn first_bytes(test: &CharTest, unicode: bool) -> [bool; 256]
+    requires { IsReadBy unicode test.now }
+    ensures { BeginAmong unicode result (test_of test.now) }
+{
+    match test {
+        CharTest::One { c, casei } if !*casei && (*c as u32) < 128 => only(*c as usize),
+        _ => passing_bytes(test, unicode),
+    }
+}
+
+fn only(byte: usize) -> [bool; 256]
+    requires { byte < 256 }
+    ensures { slice_index_or result byte false ≡ true }
+{
+    let mut bytes = [false; 256];
+    bytes[byte] = true;
+    bytes
+}
+
+/// The ASCII characters that pass, and all bytes with which others may begin.
+fn passing_bytes(test: &CharTest, unicode: bool) -> [bool; 256]
+    requires { IsReadBy unicode test.now }
+    ensures { (byte : ℕ) → byte < 256
+        → (byte < 128 → passes [] unicode (test_of test.now) byte ≡ true)
+        → slice_index_or result byte false ≡ true }
+{
+    let mut bytes = [true; 256];
+    'ask: for c in 0..128u8 {
+        bytes[c as usize] = test.takes_ascii(unicode, c);
+    }
+    bytes
+}

@@ -1,4 +1,0 @@
-pub mod Points
-pub mod PointCode
-pub mod PointSearch
-pub mod FirstWays
