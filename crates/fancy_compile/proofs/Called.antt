@@ -18,13 +18,13 @@ use Rattle.fancy_info.specs.Infos.{info_tree, IsRoot}
 use Rattle.fancy_expr.specs.Each.{Each}
 use Rattle.fancy_info.proofs.GroupNumbers.{numbers}
 use Rattle.fancy_compile.specs.declared.scope.Scope.{Scope}
-use Rattle.fancy_nodes.specs.declared.group_table.GroupTable.{GroupTable}
+use Rattle.fancy_compile.specs.declared.group_table.GroupTable.{GroupTable}
 use Rattle.fancy_info.specs.NodeCounts.{node_count}
-use Rattle.fancy_nodes.specs.GroupTables.{AreNumbered, IsEntry, group_node, has_target}
+use Rattle.fancy_compile.specs.GroupTables.{AreNumbered, IsEntry, group_node, has_target}
 use Rattle.fancy_compile.specs.Nodes.{IsScopeOf}
-use Rattle.fancy_nodes.specs.GroupTables.{IsTable, group_trees}
+use Rattle.fancy_compile.specs.GroupTables.{IsTable, group_trees}
 use Rattle.fancy_info.proofs.Children.{each_at}
-use Rattle.fancy_nodes.proofs.GroupTable.{number_at, target_below, target_past, target_at}
+use Rattle.fancy_compile.proofs.GroupTable.{number_at, target_below, target_past, target_at}
 use Rattle.fancy_compile.proofs.Roots.{root_fine, root_known}
 
 zero_calls : (whole : Tree) (g : ℕ) → g ≡ 0 → target whole g ≡ Some whole

@@ -18,11 +18,11 @@ use Rattle.fancy_info.specs.declared.info.Info.{Info}
 use Rattle.fancy_info.specs.Infos.{info_tree, info_size, IsAnalysed}
 use Rattle.fancy_expr.specs.Each.{Each}
 use Rattle.fancy_code.specs.Drafts.{is_easy, written_code, node_code}
-use Rattle.fancy_nodes.specs.Nodes.{back_start, front_count, is_back, is_front}
+use Rattle.fancy_compile.specs.AnalysedNodes.{back_start, front_count, is_back, is_front}
 use Rattle.fancy_compile.specs.Nodes.{codes_in_turn, codes_of_branches, codes_of_none}
-use Rattle.fancy_nodes.proofs.Known.{hard_child, known_child, size_known}
+use Rattle.fancy_compile.proofs.Known.{hard_child, known_child, size_known}
 use Rattle.fancy_compile.proofs.Slices.{back_turned}
-use Rattle.fancy_nodes.proofs.EachLaws.{each_by, each_drop, each_reverse, each_take, map-reverse}
+use Rattle.fancy_compile.proofs.EachLaws.{each_by, each_drop, each_reverse, each_take, map-reverse}
 
 -- ---- how many are the first batch, and where the last one begins
 

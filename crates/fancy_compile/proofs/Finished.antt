@@ -11,7 +11,7 @@ use Rattle.fancy_info.specs.declared.info.Info.{Info}
 use Rattle.fancy_info.specs.Infos.{IsRoot, info_tree, info_size, info_facts}
 use Rattle.fancy_compile.specs.declared.options.CompileOptions.{CompileOptions}
 use Rattle.fancy_compile.specs.declared.scope.Scope.{Scope}
-use Rattle.fancy_nodes.specs.GroupTables.{IsTable}
+use Rattle.fancy_compile.specs.GroupTables.{IsTable}
 use Rattle.fancy_compile.specs.Nodes.{IsScopeOf}
 use Rattle.fancy_code.specs.Sites.{top}
 use Rattle.fancy_code.specs.Drafts.{Draft, Extends, Writes, is_easy}
@@ -20,7 +20,7 @@ use Rattle.fancy_meaning.specs.Fits.{program_fits}
 use Rattle.fancy_fits.proofs.Programs.{layouts_fit}
 use Rattle.fancy_compile.specs.Compiled.{IsWritingOf, MayCompile, compile_options_of, plan_with}
 use Rattle.fancy_compile.proofs.Called.{table_nodes, table_numbers, table_known, table_starts}
-use Rattle.fancy_nodes.proofs.Known.{size_known}
+use Rattle.fancy_compile.proofs.Known.{size_known}
 use Rattle.fancy_compile.proofs.Roots.{root_fine, root_known}
 use Rattle.fancy_compile.proofs.Compiled.{start, whole_code, made, same_program}
 

@@ -20,8 +20,8 @@ use Rattle.fancy_fragments.specs.Nodes.{AreEasyNeighbours}
 use Rattle.fancy_compile.specs.declared.scope.Scope.{Scope}
 use Rattle.fancy_info.specs.NodeCounts.{node_count, node_counts}
 use Rattle.fancy_compile.specs.Nodes.{IsWhole, AreWhole}
-use Rattle.fancy_nodes.specs.Nodes.{IsFineTree, IsKnown}
-use Rattle.fancy_nodes.proofs.Known.{known_child, nodes_of_info}
+use Rattle.fancy_compile.specs.AnalysedNodes.{IsFineTree, IsKnown}
+use Rattle.fancy_compile.proofs.Known.{known_child, nodes_of_info}
 
 -- ---- lists
 

@@ -1,3 +1,9 @@
+pub mod EachLaws
+pub mod Known
+pub mod AnyBelow
+pub mod AbsentNodes
+pub mod KeepOuts
+pub mod GroupTable
 pub mod Infos
 pub mod Slices
 pub mod Concat

@@ -21,10 +21,10 @@ use Rattle.fancy_code.specs.declared.around.Around.TheVariants as around
 use Rattle.fancy_code.specs.Arounds.{around_code, behind, behind_kind, not_behind}
 use Rattle.fancy_code.specs.Faults.{Rejects, refused, out_of_range, HasRejected}
 use Rattle.fancy_code.specs.Drafts.{Draft, Writes, written_code, node_code}
-use Rattle.fancy_nodes.specs.Nodes.{is_alt, has_const_branches, IsKnown}
+use Rattle.fancy_compile.specs.AnalysedNodes.{is_alt, has_const_branches, IsKnown}
 use Rattle.fancy_compile.specs.Nodes.{look_behind, codes_of_branches, codes_of_none}
 use Rattle.fancy_compile.proofs.Concat.{AllConst, behind_by, not_behind_by, behind_alt_by, not_behind_alt_by}
-use Rattle.fancy_nodes.proofs.Known.{known_child, size_known, children_trees}
+use Rattle.fancy_compile.proofs.Known.{known_child, size_known, children_trees}
 use Rattle.fancy_code.proofs.Written.{IsFine, wrote_node, safe_fine, rejected_here}
 
 -- ---- branches

@@ -13,13 +13,13 @@ use Rattle.fancy_info.specs.declared.info.Info.{Info}
 use Rattle.fancy_info.specs.Infos.{info_tree, info_hard, info_size, IsAnalysed}
 use Rattle.fancy_code.specs.Arounds.{around_code, not_behind}
 use Rattle.fancy_code.specs.Drafts.{Draft, Writes, code_in, written_code, node_code, with_patch, with_jumps}
-use Rattle.fancy_nodes.specs.Nodes.{IsKnown, back_of, front_of, middle_of}
+use Rattle.fancy_compile.specs.AnalysedNodes.{IsKnown, back_of, front_of, middle_of}
 use Rattle.fancy_compile.specs.Nodes.{codes_in_turn, codes_of_branches, codes_of_none, branch_over}
 use Rattle.fancy_code.proofs.Writing.{wrote_nothing, wrote_then, without_nothing}
 use Rattle.fancy_code.proofs.Patches.{wrote_both, patched_length, with_jumps_last}
 use Rattle.fancy_code.proofs.Written.{wrote_node, safe_fine}
 use Rattle.fancy_info.proofs.Children.{rest_at}
-use Rattle.fancy_nodes.proofs.Known.{hard_child, children_trees, size_known}
+use Rattle.fancy_compile.proofs.Known.{hard_child, children_trees, size_known}
 use Rattle.fancy_compile.proofs.Concat.{alt_by, concat_by, concat_parts, is_first}
 
 branches_more : (c : Code) (cs : List Code) → 0 < length cs → branches (c ∷ cs) ≡ branch c (branches cs)

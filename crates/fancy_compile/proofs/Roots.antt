@@ -12,7 +12,7 @@ use Rattle.fancy_info.specs.declared.info.Info.TheViews.{out-Info}
 use Rattle.fancy_info.specs.Infos.{IsRoot, info_tree}
 use Rattle.fancy_info.proofs.Unfolded.{tree_out}
 use Rattle.fancy_expr.proofs.Numbered.{count-numbered}
-use Rattle.fancy_nodes.specs.Nodes.{IsFineTree, IsKnown}
+use Rattle.fancy_compile.specs.AnalysedNodes.{IsFineTree, IsKnown}
 
 module _ (a : Analysed) (i : Info) (r : IsRoot (analysis a) i) where
   pub root_known : IsKnown (analysis a) i

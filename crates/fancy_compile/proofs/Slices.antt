@@ -16,9 +16,9 @@ use Rattle.fancy_fragments.specs.Nodes.{AreEasyNeighbours}
 use Rattle.fancy_compile.specs.declared.scope.Scope.{Scope}
 use Rattle.fancy_info.specs.NodeCounts.{node_counts}
 use Rattle.fancy_compile.specs.Nodes.{AreWhole}
-use Rattle.fancy_nodes.specs.Nodes.{back_start, front_count, is_back, is_front}
-use Rattle.fancy_nodes.proofs.Known.{hard_child}
-use Rattle.fancy_nodes.proofs.EachLaws.{each_take, each_drop, each_reverse}
+use Rattle.fancy_compile.specs.AnalysedNodes.{back_start, front_count, is_back, is_front}
+use Rattle.fancy_compile.proofs.Known.{hard_child}
+use Rattle.fancy_compile.proofs.EachLaws.{each_take, each_drop, each_reverse}
 
 -- ---- runs that pass a test
 

@@ -25,8 +25,8 @@ use Rattle.fancy_compile.specs.declared.scope.Scope.{Scope}
 use Rattle.fancy_compile.specs.OpenDepths.{depths_of}
 use Rattle.fancy_code.specs.Arounds.{around_code, behind, not_behind}
 use Rattle.fancy_code.specs.Drafts.{Draft, Writes, code_in, written_code, is_easy, node_code}
-use Rattle.fancy_nodes.specs.Nodes.{IsKnown, IsFineTree}
-use Rattle.fancy_nodes.specs.GroupTables.{AreNumbered, IsEntry, group_node}
+use Rattle.fancy_compile.specs.AnalysedNodes.{IsKnown, IsFineTree}
+use Rattle.fancy_compile.specs.GroupTables.{AreNumbered, IsEntry, group_node}
 
 -- What a scope says of the whole tree: it has the root, and the groups in order of their numbers.
 pub record IsScopeOf (a : Analysis) (scope : Scope) : Type 0 where

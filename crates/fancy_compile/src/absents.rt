@@ -12,7 +12,7 @@ use fancy_code::writer::CodeWriter;
 use fancy_expr::error::CompileError;
 use fancy_expr::expr::Absent;
 use fancy_info::info::Info;
-use fancy_nodes::absents::is_refused_body;
+use crate::absent_nodes::is_refused_body;
 use fancy_program::insn::Insn;
 
 pub fn is_repeater(absent: &Absent) -> bool

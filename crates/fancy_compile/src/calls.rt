@@ -8,7 +8,7 @@ ghost use Rattle.std.specs.Prelude.{◌≡◌};
 use crate::scope::Scope;
 use fancy_code::writer::CodeWriter;
 use fancy_expr::error::CompileError;
-use fancy_nodes::group_table::is_marked;
+use crate::group_table::is_marked;
 use fancy_program::insn::Insn;
 
 /// So deep are calls of one group written out.

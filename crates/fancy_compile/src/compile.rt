@@ -17,8 +17,8 @@ use crate::scope::Scope;
 use fancy_code::writer::CodeWriter;
 use fancy_expr::error::{CompileError, Error};
 use fancy_info::info::Info;
-use fancy_nodes::group_table::GroupTable;
-use fancy_nodes::keeps::has_keep_out;
+use crate::group_table::GroupTable;
+use crate::keep_out::has_keep_out;
 use fancy_program::insn::{Insn, Prog, ProgParts};
 use std::alloc::Global;
 

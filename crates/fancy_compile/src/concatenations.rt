@@ -8,7 +8,7 @@ ghost use Rattle.std.specs.Prelude.{◌&&◌, ◌==◌, ◌≡◌};
 use crate::scope::Scope;
 use fancy_code::writer::CodeWriter;
 use fancy_info::info::Info;
-use fancy_nodes::cuts::{in_three, is_first_behind};
+use crate::cuts::{in_three, is_first_behind};
 
 /// A match may still begin behind the node.
 fn is_still_first(is_first: bool, info: &Info) -> bool

@@ -13,7 +13,7 @@ use fancy_code::writer::CodeWriter;
 use fancy_expr::error::CompileError;
 use fancy_expr::expr::LookAround;
 use fancy_info::info::Info;
-use fancy_nodes::look_behinds::has_const_branches;
+use crate::look_behinds::has_const_branches;
 
 /// So many characters back, there is the body, or with `negative` there is not.
 fn behind_kind(negative: bool, count: usize) -> LookKind

@@ -10,7 +10,7 @@ use fancy_code::writer::CodeWriter;
 use fancy_expr::error::CompileError;
 use fancy_expr::expr::Expr;
 use fancy_info::info::Info;
-use fancy_nodes::nodes::{child, is_batch, is_body_hard};
+use crate::analysed_nodes::{child, is_batch, is_body_hard};
 use std::slice;
 
 impl<'t, 'i, 'a, 'o> Scope<'t, 'i, 'a, 'o> {

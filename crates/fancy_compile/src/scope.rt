@@ -2,7 +2,7 @@
 
 use crate::calls::OpenCall;
 use fancy_info::info::Info;
-use fancy_nodes::group_table::GroupTable;
+use crate::group_table::GroupTable;
 use std::alloc::Global;
 
 #[derive(Clone, Copy)]

@@ -19,14 +19,14 @@ use Rattle.fancy_meaning.specs.Sizes.{Size}
 use Rattle.fancy_code.specs.Faults.{HasRejected}
 use Rattle.fancy_info.specs.NodeCounts.{node_counts}
 use Rattle.fancy_compile.specs.Nodes.{AreWhole, branch_over, look_behind, step_past}
-use Rattle.fancy_nodes.specs.Nodes.{back_start, front_count, rest_of}
+use Rattle.fancy_compile.specs.AnalysedNodes.{back_start, front_count, rest_of}
 use Rattle.std.specs.List.{list_all, list_any}
 use Rattle.std.proofs.lemmas.Bool.{and_parts, cond-true, cond-false}
 use Rattle.fancy_meaning.specs.Batches.{batch}
 use Rattle.fancy_plain.specs.Neighbours.{IsEasy}
 use Rattle.fancy_fragments.specs.Nodes.{AreEasyNeighbours}
 use Rattle.fancy_compile.proofs.Slices.{back_each, back_neighbours, front_each, front_neighbours, not_true, total_middle, whole_drop, whole_take}
-use Rattle.fancy_nodes.proofs.EachLaws.{each_drop, each_take}
+use Rattle.fancy_compile.proofs.EachLaws.{each_drop, each_take}
 use Rattle.fancy_code.proofs.Writing.{wrote_then, wrote_nothing}
 use Rattle.fancy_code.proofs.Patches.{wrote_both}
 use Rattle.fancy_compile.proofs.Concat.{ahead_by, negative_by}
@@ -45,7 +45,7 @@ use Rattle.fancy_code.proofs.Written.{wrote_node, written_as, safe_fine}
 use Rattle.fancy_compile.proofs.AbsentLaws.{repeater_over, repeater_below, not_repeater, repeater_refused, wrote_absent, wrote_repeater}
 use Rattle.fancy_info.proofs.Children.{tree_by, each_at, node_count-below, child_count}
 use Rattle.fancy_compile.proofs.Infos.{whole_at, whole_below, easy_known, easy_alone, has_one, only_child, smaller_child, whole_child, analysed_only, three_children, smaller_three, whole_three, analysed_three}
-use Rattle.fancy_nodes.proofs.Known.{known_child, size_known, hard_child, read_known}
+use Rattle.fancy_compile.proofs.Known.{known_child, size_known, hard_child, read_known}
 use Rattle.fancy_compile.proofs.Neighbours.{wrote_child, LeftBranches, LeftNone, in_turn_step, none_step, no_more_none, at_branch, last_step, branch_step, jumps_more, no_more_in_turn, no_more_branches, wrote_three, wrote_concat, wrote_alt}
 use Rattle.fancy_compile.proofs.scope.Scope.+emit.Goals as goal
 

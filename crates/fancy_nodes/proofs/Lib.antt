@@ -1,6 +1,0 @@
-pub mod EachLaws
-pub mod Known
-pub mod AnyBelow
-pub mod AbsentNodes
-pub mod KeepOuts
-pub mod GroupTable
