@@ -7,7 +7,7 @@ use Rattle.fancy_laws.proofs.Every.{Every, no_item, item}
 use Rattle.fancy_laws.proofs.Orderly.{analysed_is_fine}
 use Rattle.fancy_delegation.proofs.Items.{is_in_contained, contained_is_in}
 use Rattle.fancy_delegation.proofs.Nodes.{node_below}
-use Rattle.fancy_delegation.proofs.ThinnedDelegates.{IsDelegated}
+use Rattle.fancy_delegation.proofs.RefinedDelegates.{IsDelegated}
 use Rattle.fancy_nfa.specs.FirstWays.{AreEasy}
 
 pub delegated_are_easy : (a : Analysed) {es : List Tree} → Every (IsDelegated a) es → AreEasy (analysis a) es

@@ -11,7 +11,7 @@ use Rattle.fancy_nfa.proofs.Tasks.{tasks_of}
 use Rattle.fancy_nfa.proofs.Weights.{weight}
 use Rattle.fancy_nfa.proofs.Fees.{Key, Fee, ways_around, total, nodes_fees, fees_bound}
 use Rattle.fancy_nfa.proofs.Segments.{LiesAt, lies_itself}
-use Rattle.fancy_delegation.proofs.Items.{IsIn, first, frames, is_in_append_left, is_in_append_right, is_in_map}
+use Rattle.fancy_delegation.proofs.Items.{IsIn, first, later, is_in_append_left, is_in_append_right, is_in_map}
 use Rattle.fancy_nfa.proofs.Totals.{Distinct, total_by, total_by-append, total_by-same, total_by-among}
 
 -- each key is one of those that its loop tells apart
@@ -64,7 +64,7 @@ length-choices (c ∷ cs) = length-each_with c (choices cs) ∙ ap (λ n. length
 in_each_with : {k : Key} {ks : List Key} (r : List Key) (rest : List (List Key)) → IsIn k ks → IsIn r rest →
     IsIn (k ∷ r) (each_with ks rest)
 in_each_with {k = k} r rest (first {xs = ks}) i = is_in_append_left (each_with ks rest) (is_in_map (λ v. k ∷ v) i)
-in_each_with r rest (frames {y = j} h) i = is_in_append_right (map (λ v. j ∷ v) rest) (in_each_with r rest h i)
+in_each_with r rest (later {y = j} h) i = is_in_append_right (map (λ v. j ∷ v) rest) (in_each_with r rest h i)
 
 in_choices : (ks : List Key) (cs : List (List Key)) → AreKeys ks cs → IsIn ks (choices cs)
 in_choices [] [] h = first

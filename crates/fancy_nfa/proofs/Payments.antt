@@ -8,7 +8,7 @@ use Rattle.fancy_meaning.specs.Options.{Analysis}
 use Rattle.fancy_meaning.specs.Places.{range_from}
 use Rattle.fancy_meaning.specs.MatchState.{MatchState}
 use Rattle.fancy_meaning.specs.Ways.{Setting}
-use Rattle.fancy_delegation.proofs.Items.{IsIn, first, frames, is_in_append_left, is_in_append_right, is_in_map}
+use Rattle.fancy_delegation.proofs.Items.{IsIn, first, later, is_in_append_left, is_in_append_right, is_in_map}
 use Rattle.fancy_nfa.specs.NfaStates.{Loop, NfaState}
 use Rattle.fancy_nfa.specs.NfaSearch.{LoopCounter, NfaConfig, is_counted, pair_of, counter_key, has_stayed, passes, is_over, next_counter}
 use Rattle.fancy_nfa.proofs.Tasks.{Task, TaskStep, Found, Lost, Goes, Tries, task_step, goes_past, tries_in_order, with_node, Takes, Asserts, Opens, Closes, Chooses, May, Stars, StartsPlus, Counts, Counters, Jumps, Joins, CountFits, SinceFits, TasksFit}
@@ -27,7 +27,7 @@ in_range i zero k le lt = absurd (omega (arith, le, lt))
 in_range i (suc n) k le lt =
     elim (cases_order i k) [
       | inl same ↦ subst (λ j. IsIn k (j ∷ range_from (suc i) n)) (sym same) first
-      | inr apart ↦ frames (in_range (suc i) n k (elim apart [ inl less ↦ omega (arith, less) | inr under ↦ absurd (omega (arith, under, le)) ])
+      | inr apart ↦ later (in_range (suc i) n k (elim apart [ inl less ↦ omega (arith, less) | inr under ↦ absurd (omega (arith, under, le)) ])
           (omega (arith, lt)))
     ]
 

@@ -1,7 +1,7 @@
 -- What the items of a list weigh together: different items of another list at most what that one weighs.
 use Rattle.std.proofs.Common.{◌≡◌, ◌≤◌, ◌⊎◌, inl, inr, ℕ, ◌+◌, ◌*◌, List, [], ◌∷◌, ◌++◌, length, map, refl, sym, subst, arith}
 use Rattle.fancy_laws.proofs.Every.{Every, no_item, item, every_both}
-use Rattle.fancy_delegation.proofs.Items.{IsIn, first, frames}
+use Rattle.fancy_delegation.proofs.Items.{IsIn, first, later}
 
 -- no item comes twice
 abbrev pub Distinct : {A : Type 0} → List A → Type 0
@@ -33,11 +33,11 @@ record Without {A : Type 0} (w : A → ℕ) (x : A) (ys : List A) : Type 0 where
 
 first_or_later : {A : Type 0} {z x : A} {ys : List A} → IsIn z (x ∷ ys) → (z ≡ x) ⊎ IsIn z ys
 first_or_later first = inl refl
-first_or_later (frames i) = inr i
+first_or_later (later i) = inr i
 
 without : {A : Type 0} (w : A → ℕ) {x : A} {ys : List A} → IsIn x ys → Without w x ys
 without w (first {xs = ys}) = record { rest = ys; sum = refl; others = λ z i. first_or_later i }
-without w {x = x} (frames {y = y} {xs = ys} h) =
+without w {x = x} (later {y = y} {xs = ys} h) =
     let less = without w h in
     let sum : total_by w ys ≡ w x + total_by w less.rest = less.sum in
     record {
@@ -45,7 +45,7 @@ without w {x = x} (frames {y = y} {xs = ys} h) =
       sum = omega (arith, sum);
       others = λ z i. elim (first_or_later i) [
         | inl e ↦ inr (subst (λ v. IsIn z (v ∷ less.rest)) e first)
-        | inr j ↦ elim (less.others z j) [ inl e ↦ inl e | inr k ↦ inr (frames k) ]
+        | inr j ↦ elim (less.others z j) [ inl e ↦ inl e | inr k ↦ inr (later k) ]
       ];
     }
 

@@ -18,7 +18,7 @@ use Rattle.fancy_expr.specs.Views.{tree_of}
 use Rattle.fancy_expr.specs.Each.{Each}
 use Rattle.fancy_expr.specs.Sound.{AllSound, IsWellFormedTree}
 use Rattle.fancy_expr.proofs.SoundNodes.{nodes_fine, all_one_char}
-use Rattle.fancy_notation.specs.Surveys.{Surveyed, none_noted, noted, noted_all}
+use Rattle.fancy_notation.specs.References.{Referenced, no_references, with_node, with_nodes}
 use Rattle.fancy_notation.specs.Described.{referred_to, references, names_number, first_past, up_to, IsDescribed}
 
 -- ---- what is gathered
@@ -35,41 +35,41 @@ or_called : (b x : Bool) → ((b || true) || x) ≡ (b || (true || x))
 or_called true x = refl
 or_called false x = refl
 
-pub noted-references : (s : Surveyed) (es : List Tree) → (noted_all s es).references ≡ s.references ++ filter_map referred_to es
-noted-references s [] = sym (append-nil s.references)
-noted-references s (Backref g casei ∷ es) = noted-references (noted s (Backref g casei)) es ∙ append_assoc s.references (g ∷ []) (filter_map referred_to es)
-noted-references s (BackrefWithLevel g level casei ∷ es) =
-    noted-references (noted s (BackrefWithLevel g level casei)) es ∙ append_assoc s.references (g ∷ []) (filter_map referred_to es)
-noted-references s (e ∷ es) = noted-references (noted s e) es
+pub with_node-references : (s : Referenced) (es : List Tree) → (with_nodes s es).references ≡ s.references ++ filter_map referred_to es
+with_node-references s [] = sym (append-nil s.references)
+with_node-references s (Backref g casei ∷ es) = with_node-references (with_node s (Backref g casei)) es ∙ append_assoc s.references (g ∷ []) (filter_map referred_to es)
+with_node-references s (BackrefWithLevel g level casei ∷ es) =
+    with_node-references (with_node s (BackrefWithLevel g level casei)) es ∙ append_assoc s.references (g ∷ []) (filter_map referred_to es)
+with_node-references s (e ∷ es) = with_node-references (with_node s e) es
 
 numeric_from : (b x : Bool) → true ≡ (b || (true || x))
 numeric_from true x = refl
 numeric_from false x = refl
 
-pub noted-numeric : (s : Surveyed) (es : List Tree) → (noted_all s es).numeric ≡ (s.numeric || list_any names_number es)
-noted-numeric s [] = sym (no_more s.numeric)
+pub with_node-numeric : (s : Referenced) (es : List Tree) → (with_nodes s es).numeric ≡ (s.numeric || list_any names_number es)
+with_node-numeric s [] = sym (no_more s.numeric)
   where
     no_more : (b : Bool) → (b || false) ≡ b
     no_more true = refl
     no_more false = refl
-noted-numeric s (Backref g casei ∷ es) = noted-numeric (noted s (Backref g casei)) es ∙ numeric_from s.numeric (list_any names_number es)
-noted-numeric s (BackrefWithLevel g level casei ∷ es) =
-    noted-numeric (noted s (BackrefWithLevel g level casei)) es ∙ numeric_from s.numeric (list_any names_number es)
-noted-numeric s (BackrefExists g level ∷ es) = noted-numeric (noted s (BackrefExists g level)) es ∙ numeric_from s.numeric (list_any names_number es)
-noted-numeric s (SubroutineCall g ∷ es) = noted-numeric (noted s (SubroutineCall g)) es ∙ numeric_from s.numeric (list_any names_number es)
-noted-numeric s (e ∷ es) = noted-numeric (noted s e) es
+with_node-numeric s (Backref g casei ∷ es) = with_node-numeric (with_node s (Backref g casei)) es ∙ numeric_from s.numeric (list_any names_number es)
+with_node-numeric s (BackrefWithLevel g level casei ∷ es) =
+    with_node-numeric (with_node s (BackrefWithLevel g level casei)) es ∙ numeric_from s.numeric (list_any names_number es)
+with_node-numeric s (BackrefExists g level ∷ es) = with_node-numeric (with_node s (BackrefExists g level)) es ∙ numeric_from s.numeric (list_any names_number es)
+with_node-numeric s (SubroutineCall g ∷ es) = with_node-numeric (with_node s (SubroutineCall g)) es ∙ numeric_from s.numeric (list_any names_number es)
+with_node-numeric s (e ∷ es) = with_node-numeric (with_node s e) es
 
-pub noted-calls : (s : Surveyed) (es : List Tree) → (noted_all s es).calls ≡ (s.calls || list_any is_call es)
-noted-calls s [] = sym (no_more s.calls)
+pub with_node-calls : (s : Referenced) (es : List Tree) → (with_nodes s es).calls ≡ (s.calls || list_any is_call es)
+with_node-calls s [] = sym (no_more s.calls)
   where
     no_more : (b : Bool) → (b || false) ≡ b
     no_more true = refl
     no_more false = refl
-noted-calls s (Backref g casei ∷ es) = noted-calls (noted s (Backref g casei)) es ∙ or_false s.calls (list_any is_call es)
-noted-calls s (BackrefWithLevel g level casei ∷ es) = noted-calls (noted s (BackrefWithLevel g level casei)) es ∙ or_false s.calls (list_any is_call es)
-noted-calls s (BackrefExists g level ∷ es) = noted-calls (noted s (BackrefExists g level)) es ∙ or_false s.calls (list_any is_call es)
-noted-calls s (SubroutineCall g ∷ es) = noted-calls (noted s (SubroutineCall g)) es ∙ or_called s.calls (list_any is_call es)
-noted-calls s (e ∷ es) = noted-calls (noted s e) es
+with_node-calls s (Backref g casei ∷ es) = with_node-calls (with_node s (Backref g casei)) es ∙ or_false s.calls (list_any is_call es)
+with_node-calls s (BackrefWithLevel g level casei ∷ es) = with_node-calls (with_node s (BackrefWithLevel g level casei)) es ∙ or_false s.calls (list_any is_call es)
+with_node-calls s (BackrefExists g level ∷ es) = with_node-calls (with_node s (BackrefExists g level)) es ∙ or_false s.calls (list_any is_call es)
+with_node-calls s (SubroutineCall g ∷ es) = with_node-calls (with_node s (SubroutineCall g)) es ∙ or_called s.calls (list_any is_call es)
+with_node-calls s (e ∷ es) = with_node-calls (with_node s e) es
 
 -- ---- calls
 
@@ -209,18 +209,18 @@ well_formed t sound count few d =
     )
 
 -- what was gathered describes the tree
-pub described_by : (t : ExprTree) (s : Surveyed) → s ≡ noted_all none_noted (nodes (tree_of t.expr)) →
+pub described_by : (t : ExprTree) (s : Referenced) → s ≡ with_nodes no_references (nodes (tree_of t.expr)) →
     t.backrefs.keys ≡ up_to t.total_groups [] s.references → t.out_of_range_backref ≡ first_past t.total_groups s.references →
     t.numeric_capture_group_references ≡ s.numeric → t.contains_subroutines ≡ s.calls → t.numbered_groups_ignored ≡ false → t.named_groups.entries ≡ [] →
     IsDescribed t
 described_by t s is backrefs past numeric calls ignored named =
     let whole = nodes (tree_of t.expr) in
-    let refs : s.references ≡ references (tree_of t.expr) = ap (λ r. r.references) is ∙ noted-references none_noted whole in
+    let refs : s.references ≡ references (tree_of t.expr) = ap (λ r. r.references) is ∙ with_node-references no_references whole in
     record {
       backrefs = backrefs ∙ ap (up_to t.total_groups []) refs;
       out_of_range = past ∙ ap (first_past t.total_groups) refs;
-      numeric = numeric ∙ ap (λ r. r.numeric) is ∙ noted-numeric none_noted whole;
-      calls = calls ∙ ap (λ r. r.calls) is ∙ noted-calls none_noted whole;
+      numeric = numeric ∙ ap (λ r. r.numeric) is ∙ with_node-numeric no_references whole;
+      calls = calls ∙ ap (λ r. r.calls) is ∙ with_node-calls no_references whole;
       not_ignored = ignored;
       not_named = named;
     }

@@ -8,7 +8,7 @@ pub mod Ends
 pub mod Lexed
 pub mod Nesting
 pub mod Levels
-pub mod Noted
+pub mod ReferencesLaws
 pub mod Whole
 pub mod Counting
 pub mod Continued

@@ -6,6 +6,6 @@ pub mod Faults
 pub mod Misfit
 pub mod NotationViews
 pub mod Reading
-pub mod Surveys
+pub mod References
 pub mod Described
 pub mod Depth

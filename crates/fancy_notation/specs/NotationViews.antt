@@ -1,4 +1,4 @@
--- The views of the reader's values: tokens, lexer, points, survey.
+-- The views of the reader's values: tokens, lexer, points, found.
 use Rattle.std.specs.Prelude.{List, map, string_bytes}
 use Rattle.fancy_notation.specs.declared.tokens.Token.{Token}
 use Rattle.fancy_notation.specs.declared.tokens.Token.TheVariants as code
@@ -7,9 +7,9 @@ use Rattle.fancy_notation.specs.declared.lexer.Lexer.{Lexer}
 use Rattle.fancy_notation.specs.declared.reader.Reader.{Reader}
 use Rattle.fancy_notation.specs.Tokens as plain
 use Rattle.fancy_notation.specs.Lexing.{Lexing}
-use Rattle.fancy_notation.specs.declared.survey.Survey.{Survey}
+use Rattle.fancy_notation.specs.declared.references.References.{References}
 use Rattle.fancy_notation.specs.Grammar.{Point}
-use Rattle.fancy_notation.specs.Surveys.{Surveyed}
+use Rattle.fancy_notation.specs.References.{Referenced}
 
 abbrev pub token_of : Token → plain.Token
 token_of code.Opened = plain.Opened
@@ -30,5 +30,5 @@ lexing_of l = record { mode = l.mode; folded = l.folded; start = l.start; text =
 abbrev pub point_of : Reader → Point
 point_of r = record { groups = r.groups; tokens = all_placed r.rest.now }
 
-abbrev pub surveyed_of : Survey → Surveyed
-surveyed_of s = record { references = s.references.items; numeric = s.numeric; calls = s.calls }
+abbrev pub referenced_of : References → Referenced
+referenced_of s = record { references = s.references.items; numeric = s.numeric; calls = s.calls }

@@ -7,6 +7,6 @@ mod lexer;
 pub mod notation;
 pub mod numbers;
 mod reader;
-mod survey;
+mod references;
 pub mod tokens;
 pub mod words;

@@ -1,4 +1,4 @@
-//! `read_tree`: lexer, reader and survey, one after the other.
+//! `read_tree`: lexer, reader and found, one after the other.
 
 ghost use Rattle.std.specs.Prelude.{◌≡◌, [], length, MatchResult};
 ghost use Rattle.fancy_meaning.specs.Tree.{Tree};
@@ -12,7 +12,7 @@ ghost use Rattle.fancy_notation.specs.Reading.{IsFault};
 
 use crate::lexer::tokens;
 use crate::reader::Reader;
-use crate::survey::Survey;
+use crate::references::References;
 use fancy_expr::error::Error;
 use fancy_expr::expr::{Expr, ExprTree};
 use std::alloc::Global;
@@ -51,21 +51,21 @@ fn described(alloc: Global, expr: Expr, total_groups: usize) -> Result<ExprTree,
         (λ tree. (tree.expr ≡ expr) × (tree.total_groups ≡ total_groups) × IsDescribed tree)
         (λ e. e ≡ Memory) }
 {
-    let mut survey = Survey {
+    let mut found = References {
         references: Vec::new(alloc),
         numeric: false,
         calls: false,
     };
-    survey.note_all(&expr)?;
-    let backrefs = within(alloc, &survey.references, total_groups)?;
+    found.add_all(&expr)?;
+    let backrefs = within(alloc, &found.references, total_groups)?;
     Ok(ExprTree {
         expr,
         backrefs,
-        out_of_range_backref: first_past(&survey.references, total_groups),
+        out_of_range_backref: first_past(&found.references, total_groups),
         named_groups: BTreeMap::new(alloc),
-        numeric_capture_group_references: survey.numeric,
+        numeric_capture_group_references: found.numeric,
         numbered_groups_ignored: false,
-        contains_subroutines: survey.calls,
+        contains_subroutines: found.calls,
         total_groups,
     })
 }

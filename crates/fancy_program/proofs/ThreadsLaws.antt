@@ -19,8 +19,8 @@ use Rattle.fancy_expr.proofs.expr.Absent.TheLaws.TheKnot as expr
 use Rattle.fancy_characters.specs.contracts.classes.CharClassMatcher as CharClassMatcher
 use Rattle.fancy_characters.specs.contracts.compiled.CompiledClass as CompiledClass
 use Rattle.fancy_characters.specs.contracts.compiled.Others as Others
-use Rattle.fancy_plain.specs.contracts.point.CharTest as CharTest
-use Rattle.fancy_plain.specs.contracts.point.NfaState as NfaState
+use Rattle.fancy_plain.specs.contracts.nfa_state.CharTest as CharTest
+use Rattle.fancy_plain.specs.contracts.nfa_state.NfaState as NfaState
 use Rattle.fancy_plain.specs.contracts.table.Nfa as Nfa
 use Rattle.fancy_fragments.specs.contracts.fragment.Fragment as Fragment
 use Rattle.fancy_fragments.specs.contracts.delegate.Delegate as Delegate

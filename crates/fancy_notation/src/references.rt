@@ -2,8 +2,8 @@
 
 ghost use Rattle.std.specs.Prelude.{◌≡◌, MatchResult};
 ghost use Rattle.fancy_expr.specs.declared.error.Error.TheVariants.{Memory};
-ghost use Rattle.fancy_notation.specs.Surveys.{noted, noted_all, with_reference, with_number};
-ghost use Rattle.fancy_notation.specs.NotationViews.{surveyed_of};
+ghost use Rattle.fancy_notation.specs.References.{with_node, with_nodes, with_reference, with_number};
+ghost use Rattle.fancy_notation.specs.NotationViews.{referenced_of};
 ghost use Rattle.fancy_expr.specs.Views.{tree_of};
 ghost use Rattle.fancy_meaning.specs.Nodes.{nodes};
 
@@ -13,7 +13,7 @@ use fancy_expr::parts::{part, part_count};
 
 /// What the nodes that were seen name.
 #[derive(Drop)]
-pub struct Survey {
+pub struct References {
     /// The numbers of the back references, in their order.
     pub references: Vec<usize>,
     /// A group is named by its number.
@@ -22,34 +22,34 @@ pub struct Survey {
     pub calls: bool,
 }
 
-impl Survey {
-    fn note(&mut self, expr: &Expr) -> Result<(), Error>
+impl References {
+    fn add(&mut self, expr: &Expr) -> Result<(), Error>
         ensures { MatchResult result
-            (λ u. surveyed_of self.new ≡ noted (surveyed_of self.old) (tree_of expr.now))
+            (λ u. referenced_of self.new ≡ with_node (referenced_of self.old) (tree_of expr.now))
             (λ e. e ≡ Memory) }
     {
         match expr {
-            Expr::Backref { group, .. } => self.note_reference(*group),
-            Expr::BackrefWithRelativeRecursionLevel { group, .. } => self.note_reference(*group),
-            Expr::BackrefExistsCondition { .. } => self.note_number(false),
-            Expr::SubroutineCall(_) => self.note_number(true),
+            Expr::Backref { group, .. } => self.add_group(*group),
+            Expr::BackrefWithRelativeRecursionLevel { group, .. } => self.add_group(*group),
+            Expr::BackrefExistsCondition { .. } => self.add_number(false),
+            Expr::SubroutineCall(_) => self.add_number(true),
             Expr::Absent(_) => Ok(()),
             _ => Ok(()),
         }
     }
 
-    fn note_reference(&mut self, group: usize) -> Result<(), Error>
+    fn add_group(&mut self, group: usize) -> Result<(), Error>
         ensures { MatchResult result
-            (λ u. surveyed_of self.new ≡ with_reference (surveyed_of self.old) group)
+            (λ u. referenced_of self.new ≡ with_reference (referenced_of self.old) group)
             (λ e. e ≡ Memory) }
     {
         self.references.push(group)?;
-        self.note_number(false)
+        self.add_number(false)
     }
 
-    fn note_number(&mut self, called: bool) -> Result<(), Error>
+    fn add_number(&mut self, called: bool) -> Result<(), Error>
         ensures { MatchResult result
-            (λ u. surveyed_of self.new ≡ with_number (surveyed_of self.old) called)
+            (λ u. referenced_of self.new ≡ with_number (referenced_of self.old) called)
             (λ e. e ≡ Memory) }
     {
         self.numeric = true;
@@ -58,14 +58,14 @@ impl Survey {
     }
 
     /// Sees a node and those below it.
-    pub fn note_all(&mut self, expr: &Expr) -> Result<(), Error>
+    pub fn add_all(&mut self, expr: &Expr) -> Result<(), Error>
         ensures { MatchResult result
-            (λ u. surveyed_of self.new
-            ≡ noted_all (surveyed_of self.old) (nodes (tree_of expr.now))) (λ e. e ≡ Memory) }
+            (λ u. referenced_of self.new
+            ≡ with_nodes (referenced_of self.old) (nodes (tree_of expr.now))) (λ e. e ≡ Memory) }
     {
-        self.note(expr)?;
+        self.add(expr)?;
         for i in 0..part_count(expr) {
-            self.note_all(part(expr, i))?;
+            self.add_all(part(expr, i))?;
         }
         Ok(())
     }
