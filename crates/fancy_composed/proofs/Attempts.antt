@@ -1,4 +1,4 @@
--- An attempt ends with the chosen admitted state of those that are handed.
+-- An attempt ends with the chosen admitted state of those that are enumerated.
 use Rattle.std.proofs.Common.{◌≡◌, ℕ, zero, suc, ◌+◌, ◌*◌, ◌<◌, ◌≤◌, min, Bool, true, false, ◌&&◌, ◌||◌, not, ◌==◌, if◌then◌else◌, cond, List, [], ◌∷◌, ◌++◌, length, map, flat_map, filter, find, Option, Some, None, option_map, refl, sym, ap, ap₂, ◌∙◌, arith, ne_eqb, lt-ltb, ⊎_elim, ◌-◌, nat_lt}
 use Rattle.std.specs.Prelude.{slice_get}
 use Rattle.std.proofs.lemmas.Bool.{cases_lt, le-ltb}
@@ -18,7 +18,7 @@ use Rattle.fancy_composed.proofs.Alike.{Among, at_head, further, every_among}
 use Rattle.fancy_composed.proofs.Enumerates.{Enumerates, none, way}
 use Rattle.fancy_composed.proofs.Parts.{put_same, put_other, Stands, After, flag, flag_is, body, whole}
 
--- these numbers, or else where another course leads
+-- these numbers, or else where another continuation leads
 abbrev pub or_else : Option (List ℕ) → Continuation → Continuation
 or_else None other = other
 or_else (Some numbers) other = λ k. Match numbers
@@ -288,7 +288,7 @@ module _ (w : Ground) where
       ∙ ap (λ v. if not strict && not (v && empty_at_end h && not h.text_end) then match' else resume w bs count) (sym e)
       ))))
 
-  -- ---- of all that are handed
+  -- ---- of all that are enumerated
 
   -- the first admitted state is matched, or else what a failure leads to
   found_first : (w.task).leftmost_longest ≡ false → (v : Bool) → (w.plan).end_text ≡ v →
@@ -315,7 +315,7 @@ module _ (w : Ground) where
         | false ↦ later
       ])))
 
-  -- where none can be longer than a state, none that is handed is
+  -- where none can be longer than a state, none that is enumerated is
   abbrev pub TopsAreLongest : List MatchState → Type 0
   TopsAreLongest hs = (s t : MatchState) → Among s hs → Among t hs → is_top s ≡ true → reported t ≤ reported s
 

@@ -1,4 +1,4 @@
--- Sequences, alternations and look-arounds over branches, from the works of each child.
+-- Sequences, alternations and look-arounds over branches, from the simulation of each child.
 use Rattle.std.proofs.Common.{◌≡◌, ℕ, ◌<◌, ◌-◌, Bool, true, false, ◌&&◌, not, is_some, if◌then◌else◌, List, [], ◌∷◌, ◌++◌, length, map, take, drop, reverse, take_while, take_all, flat_map, Option, Some, None, refl, sym, ap, ap₂, ◌∙◌, subst, arith, append-nil, map-id}
 use Rattle.std.specs.Prelude.{slice_get}
 use Rattle.std.proofs.lemmas.List.{map-append}
@@ -40,7 +40,7 @@ module _ (w : Ground) (call : ℕ → Bool → Code) (meant : ℕ → Ways) wher
   abbrev pub size_of : Tree → Size
   size_of e = size (whole w) e
 
-  -- each of these works, in this context
+  -- each of these simulates its ways in this context
   abbrev pub EachSimulates : (at_start in_hard : Bool) → Trees → Type 0
   EachSimulates at_start in_hard none = Unit {0}
   EachSimulates at_start in_hard (more e es) =

@@ -1,4 +1,4 @@
--- The code of each call works, by how many more calls may be opened.
+-- The code of each call simulates its ways, by how many more calls may be opened.
 use Rattle.std.proofs.Common.{◌≡◌, ℕ, zero, suc, Bool, true, false, ◌||◌, nat_lt, if◌then◌else◌, Option, Some, None, refl, sym, subst, arith, ltb-true}
 use Rattle.std.proofs.lemmas.Option.{same_Some}
 use Rattle.fancy_meaning.specs.Tree.{Tree, SubroutineCall}

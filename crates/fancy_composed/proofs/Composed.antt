@@ -23,7 +23,7 @@ use Rattle.std.proofs.lemmas.Bool.{or_left, or_right}
 use Rattle.fancy_composed.proofs.Trees.{both, tree_simulates}
 use Rattle.fancy_composed.proofs.Calls.{calls_simulate}
 use Rattle.fancy_composed.proofs.Reduced.{alike_key_equal}
-use Rattle.fancy_composed.proofs.Serving.{stands_here, handed_by}
+use Rattle.fancy_composed.proofs.Refining.{stands_here, handed_by}
 
 -- where no `\G` gives up, none may
 none_gives_up : (w : Ground) (c : Config) → GoesOn w.task c → length c.branches ≡ length w.base → MayStop w

@@ -19,7 +19,7 @@ pub data Meets (r p : Outcome) : Type 0 where
   limit : IsBranchLimit r → Meets r p
   same : r ≡ p → Meets r p
 
--- one course leads to another after so many instructions
+-- one continuation leads to another after so many instructions
 pub record To (o p : Continuation) : Type 0 where
   pub steps : ℕ
   pub by : (n : ℕ) → Meets (o (steps + n)) (p n)

@@ -36,7 +36,7 @@ where_none [] s = s ∷ []
 where_none (h ∷ hs) s = []
 
 module _ (w : Ground) where
-  -- From a course the machine comes to b with the first of these states, and with the next whenever it is failed back
+  -- From a continuation the machine comes to b with the first of these states, and with the next whenever it is failed back
   -- above these branches; after the last it fails into them. P says what holds of a state and the slots there.
   pub data Enumerates (b : ℕ) (P : MatchState → Slots → Type 0) (marks : List ℕ) (bs : List Branch)
       : Option (List ℕ) → List MatchState → Continuation → Type 0 where

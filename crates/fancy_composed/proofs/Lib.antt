@@ -24,7 +24,7 @@ pub mod Numbers
 pub mod Starts
 pub mod Accepted
 pub mod Reduced
-pub mod Serving
+pub mod Refining
 pub mod Composed
 pub mod Attempts
 pub mod Programs

@@ -1,4 +1,4 @@
--- The first state of each key, found by the keys that occurred before; so lists that are alike thin one another by every
+-- The first state of each key, found by the keys that occurred before; so lists that are alike are equal up to every
 -- key.
 use Rattle.std.proofs.Common.{◌≡◌, ℕ, zero, suc, ◌+◌, ◌<◌, ◌≤◌, Bool, true, false, ◌||◌, not, if◌then◌else◌, cond, List, [], ◌∷◌, find, filter, Option, Some, None, bytes_eq, ◌&&◌, eq-eqb, refl, sym, ap, ◌∙◌, subst, arith}
 use Rattle.std.proofs.lemmas.Option.{same_Some}

@@ -306,11 +306,11 @@ module _ (i : Input) (text : List ℕ) (o : RunOptions) (easy : Tree → Bool) (
             (λ n. or_result (attempt q start) None n
             ∙ ap (λ l. result (first_of (attempt q) l)) (sym (places_at_end text start (omega arith) place))))
 
-    -- the course of the run leads to the answer
+    -- the continuation of the run leads to the answer
     abbrev LeadsToAnswer : Type 0
     LeadsToAnswer = To (λ n. exec task n (begin task)) (λ n. outcome_of (answer q))
 
-    -- what the course from the beginning comes to is the answer
+    -- what the continuation from the beginning comes to is the answer
     finished : (is : List ℕ) → starts q ≡ is →
         To (λ n. exec task n (config 0 o.pos no_slots [] [] o.pos (none_held 0))) (λ n. result (first_of (attempt q) is)) → LeadsToAnswer
     unfolding answer

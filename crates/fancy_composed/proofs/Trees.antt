@@ -1,4 +1,4 @@
--- The code of each node that is written out works.
+-- The code of each node that is written out simulates its ways.
 use Rattle.std.proofs.Common.{◌≡◌, ⊎_elim, ℕ, ◌<◌, Bool, true, false, ◌&&◌, ◌||◌, ◌==◌, not, List, Option, Some, None, refl, sym, ap, ◌∙◌, subst, arith, eq-eqb, true≢false}
 use Rattle.std.proofs.lemmas.Bool.{cases_lt, eqb-false}
 use Rattle.fancy_meaning.specs.Tree.{Tree, Trees, none, more, Empty, KeepOut, ContinueFromPreviousMatchEnd, AbsentClear, Any, Assert, GeneralNewline, Literal, LiteralBytes, Delegate, Concat, Alt, Group, LookAround, Repeat, Backref, BackrefWithLevel, BackrefExists, AtomicGroup, DefineGroup, AbsentRepeater, AbsentStopper, AbsentExpression, Control, Conditional, SubroutineCall, AstNode}
@@ -41,7 +41,7 @@ module _ (w : Ground) (r : Ready w) (depths : Depths) where
   abbrev pub meant : ℕ → Ways
   meant = called (setting w) (whole w) (free_calls (whole w) depths) depths
 
-  -- the calls work
+  -- the calls simulate their ways
   abbrev pub CallsSimulate : Type 0
   CallsSimulate =
       (g : ℕ) (in_hard : Bool) → IsWritten (whole w) (SubroutineCall g) → Simulates w (call g in_hard) (meant g)

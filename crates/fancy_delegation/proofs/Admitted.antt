@@ -1,4 +1,4 @@
--- The last test of an attempt, whether a way is admitted, leaves the same chosen way of a list that serves by the easy key
+-- The last test of an attempt, whether a way is admitted, leaves the same chosen way of a list equal up to the easy key
 -- from the attempt's start.
 use Rattle.std.proofs.Common.{◌≡◌, ◌≢◌, ◌⊎◌, inl, inr, ℕ, ◌<◌, ◌≤◌, ◌-◌, nat_le, Bool, true, false, not, ◌&&◌, if◌then◌else◌, ◌==◌, List, [], ◌∷◌, length, filter, Some, slice_get, refl, sym, ap, ap₂, ◌∙◌, arith, eq-eqb, ne_eqb}
 use Rattle.std.proofs.lemmas.Bool.{and_right, cases_order}

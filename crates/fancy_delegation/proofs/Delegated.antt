@@ -1,4 +1,4 @@
--- Code that enumerates a list which serves for the ways of a node in its context: what each construct makes of it.
+-- Code that enumerates a list which refines the ways of a node in its context: what each construct makes of it.
 use Rattle.std.proofs.Common.{◌≡◌, Bool, true, false, not, ◌&&◌, ◌||◌, if◌then◌else◌, List, [], ◌∷◌, ◌++◌, length, map, drop, take_while, refl, sym, ap, ◌∙◌, subst, append-nil, map-id}
 use Rattle.std.proofs.lemmas.Bool.{and_parts, not-true}
 use Rattle.std.proofs.lemmas.List.{map-append}
@@ -30,7 +30,7 @@ module _ (given : Setup) (depths : Depths) where
   abbrev pub means : Tree → Ways
   means e = ways given.setting (tree_of given.tree) e depths
 
-  -- the code enumerates a list that serves for these ways
+  -- the code enumerates a list that refines these ways
   pub record Refined (in_hard : Bool) (c : Code) (f : Ways) : Type 0 where
     pub handed : Ways
     pub simulates : given.Simulates c handed

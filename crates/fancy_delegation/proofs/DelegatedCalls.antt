@@ -25,7 +25,7 @@ module _ (given : Setup) where
   abbrev easy : Tree → Bool
   easy = is_easy given.tree
 
-  -- what serves does not go by which calls are open
+  -- what refines does not go by which calls are open
   again : (depths other : Depths) (in_hard : Bool) (c : Code) (f : Ways) → Refined given depths in_hard c f → Refined given other in_hard c f
   again depths other in_hard c f h = record { handed = h.handed; simulates = h.simulates; key_equal = h.key_equal }
 

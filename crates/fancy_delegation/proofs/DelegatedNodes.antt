@@ -98,7 +98,7 @@ module _ (given : Setup) (depths : Depths) where
         positive zero k = absurd (k refl)
         positive (suc n) k = omega arith
 
-    -- a body in some context, from which the loop serves
+    -- a body in some context, from which the loop refines
     loop_simulates : (in_hard context : Bool) (hi : Option ℕ) → IsWritten whole e → lo < usize_max →
         IfSome hi (λ n. (lo ≤ n) × (n < usize_max)) → (h : Refined given depths context c (means given depths e)) →
         EqualUpTo plan given.setting in_hard (repeats (given.setting).text lo hi greedy h.handed)

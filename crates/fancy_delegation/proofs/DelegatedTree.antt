@@ -1,4 +1,4 @@
--- The code of each node that is written out enumerates a list that serves for its ways in its context: by induction over the tree.
+-- The code of each node that is written out enumerates a list that refines its ways in its context: by induction over the tree.
 use Rattle.std.proofs.Common.{◌≡◌, ◌≢◌, ℕ, Bool, true, false, ◌&&◌, ◌||◌, List, ◌∷◌, map, Some, None, refl, sym, ap, ◌∙◌, subst, subst₂, true≢false}
 use Rattle.std.proofs.lemmas.Bool.{and_parts}
 use Rattle.fancy_meaning.specs.Tree.{Tree, Trees, none, more, children, Empty, KeepOut, ContinueFromPreviousMatchEnd, AbsentClear, Any, Assert, GeneralNewline, Literal, LiteralBytes, Delegate, Concat, Alt, Group, LookAround, Repeat, Backref, BackrefWithLevel, BackrefExists, AtomicGroup, DefineGroup, AbsentRepeater, AbsentStopper, AbsentExpression, Control, Conditional, SubroutineCall, AstNode, Look, Fail, Accept, Commit, Skip, Prune}
@@ -52,7 +52,7 @@ module _ (given : Setup) (depths : Depths) where
   not_marked : (begins : Bool) → Marked false begins
   not_marked begins e = absurd (true≢false (sym e))
 
-  -- the calls hand lists that serve
+  -- the calls enumerate lists that refine theirs
   abbrev pub CallsRefined : Type 0
   CallsRefined =
       (g : ℕ) (in_hard : Bool) → IsWritten (whole given depths) (SubroutineCall g) →

@@ -1,4 +1,4 @@
--- What is asked of code, by construct: which ways it enumerates from those that its parts hand.
+-- What is asked of code, by construct: which ways it enumerates from those that its parts enumerate.
 use Rattle.std.proofs.Common.{◌≡◌, ◌≢◌, ℕ, suc, ◌<◌, ◌≤◌, Bool, true, false, List, [], ◌∷◌, ◌++◌, map, Option, Some, IfSome}
 use Rattle.fancy_meaning.specs.Tree.{Tree, Trees, none, Concat, Alt, Group, LookAround, Repeat, AtomicGroup, AbsentRepeater, Conditional, SubroutineCall}
 use Rattle.fancy_meaning.specs.Nodes.{nodes, target}

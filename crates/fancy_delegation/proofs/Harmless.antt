@@ -1,4 +1,4 @@
--- Delegation is harmless where delegates hand the first way of their nodes, and absent repeaters of easy bodies all of theirs.
+-- Delegation is harmless where delegates take the first way of their nodes, and absent repeaters of easy bodies all of theirs.
 use Rattle.std.proofs.Common.{◌≡◌, ℕ, ◌+◌, ◌≤◌, Bool, true, ◌&&◌, if◌then◌else◌, List, [], ◌∷◌, length, find, Some, refl, sym, ap, ◌∙◌, subst, arith, true≢false}
 use Rattle.fancy_meaning.specs.Tree.{Tree, AbsentRepeater}
 use Rattle.fancy_meaning.specs.OpenCalls.{Depths}
@@ -22,7 +22,7 @@ use Rattle.fancy_composed.proofs.Parts.{setting, Simulates}
 use Rattle.fancy_composed.proofs.Tests.{MayStop}
 use Rattle.std.proofs.lemmas.Bool.{or_left, or_right}
 use Rattle.fancy_composed.proofs.Trees.{both}
-use Rattle.fancy_composed.proofs.Serving.{stands_here, handed_by}
+use Rattle.fancy_composed.proofs.Refining.{stands_here, handed_by}
 use Rattle.fancy_composed.proofs.Composed.{first_slot}
 use Rattle.fancy_laws.proofs.Every.{Every}
 use Rattle.fancy_delegation.proofs.FindsAlike.{find_first}
@@ -31,7 +31,7 @@ use Rattle.fancy_delegation.proofs.RefinedDelegates.{IsDelegated, first_of_batch
 use Rattle.fancy_delegation.proofs.EnumeratesWays.{Setup}
 use Rattle.fancy_delegation.proofs.Delegated.{is_easy, Refined}
 use Rattle.fancy_delegation.proofs.DelegatedCalls.{delegation_key_equal, whole_key_equal}
-use Rattle.fancy_delegation.proofs.Serving.{refines_by}
+use Rattle.fancy_delegation.proofs.Refining.{refines_by}
 use Rattle.fancy_delegation.proofs.OnMachine.{analysed_of, w, setup}
 
 -- what holds on every ground of an accepted tree's program
@@ -92,7 +92,7 @@ module _ (batches : BatchesSimulate) (repeaters : EasyRepeatersSimulate) (i : In
       (batches i accepted t is_text fits c.start c.branches (bottom t c) (λ count. to_same))
       (repeaters i accepted t is_text fits c.start c.branches (bottom t c) (λ count. to_same))
 
-  -- code that enumerates a list that serves, above all branches, where a `\G` in it may give up only by this test
+  -- code that enumerates a list that refines, above all branches, where a `\G` in it may give up only by this test
   refines : (depths : Depths) (in_hard may_stop : Bool) (code : Code) (f : Setting → Ways) → (begins tree ≡ true → may_stop ≡ true) →
       ((t : Task) (is_text : IsText t.text) (fits : IsProgramFor (plan i) t.program) (c : Config)
       (stop : begins tree ≡ true → MayStop (above t is_text fits c)) → (may_stop ≡ true → MayStop (above t is_text fits c)) →

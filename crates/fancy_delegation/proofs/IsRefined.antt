@@ -1,4 +1,4 @@
--- A list that serves for another and has only states of it.
+-- A list equal up to the key to another, with only states of it.
 use Rattle.std.proofs.Common.{◌≡◌, Bool, true, false, List, [], ◌∷◌, ◌++◌, map, flat_map, take, slice_get, refl, ap, subst}
 use Rattle.fancy_meaning.specs.MatchState.{MatchState, Ways}
 use Rattle.fancy_meaning.specs.Loops.{prefer}
@@ -47,7 +47,7 @@ module _ {key : MatchState → MatchState → Type 0} where
     among = every_map f (λ h i. is_in_map f i) t.among;
   }
 
-  -- binding: what is bound to the second list respects the key, and serves where P holds
+  -- binding: what is bound to the second list respects the key, and refines where P holds
   pub refined_flat_map : {P : MatchState → Type 0} {key' : MatchState → MatchState → Type 0} (k f : Ways) (hs qs : List MatchState) →
       ((s t : MatchState) → key s t → Pairwise key' (f s) (f t)) →
       ((s : MatchState) → P s → IsRefined key' (k s) (f s)) → Every P qs → IsRefined key hs qs →
@@ -70,7 +70,7 @@ module _ {key : MatchState → MatchState → Type 0} where
       same_first [] (q ∷ qs) e = cc
       same_first (h ∷ hs) [] e = cc
 
-  -- the first alone serves where no two states are told apart
+  -- the first alone is enough where no two states are told apart
   pub first_is_refined : (qs : List MatchState) → ((s t : MatchState) → IsIn s qs → IsIn t qs → key s t) → IsRefined key (take 1 qs) qs
   first_is_refined [] k = refined_same
   first_is_refined (s ∷ qs) k = record {

@@ -2,7 +2,7 @@ pub mod Items
 pub mod Pairwise
 pub mod FindsAlike
 pub mod Reduced
-pub mod Thinning
+pub mod KeyEquality
 pub mod Nodes
 pub mod Everywhere
 pub mod Related
@@ -38,7 +38,7 @@ pub mod DelegatedLookArounds
 pub mod DelegatedTree
 pub mod DelegatedCalls
 pub mod Literals
-pub mod Serving
+pub mod Refining
 pub mod OnMachine
 pub mod Harmless
 pub mod FirstWays

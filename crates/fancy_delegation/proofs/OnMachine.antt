@@ -122,7 +122,7 @@ module _ (i : Input) (instructions : ℕ) (accepted : IsAccepted i instructions)
     leaf_simulates (AbsentRepeater e) call meant at h leaf wr k = absurd leaf
     leaf_simulates (SubroutineCall g) call meant at h leaf wr k = absurd leaf
 
-    -- where delegates hand the first way of their nodes
+    -- where delegates take the first way of their nodes
     module _ (batches : (es : List Tree) (depths : Depths) → Every (IsDelegated a) es →
         Every (IsWritten (tree_of a)) es → Simulates w (batch (i.options).unicode es) (first_of_batch q a depths es))
         (absents : (e : Tree) (depths : Depths) → IsDelegated a e → IsWritten (tree_of a) (AbsentRepeater e) →

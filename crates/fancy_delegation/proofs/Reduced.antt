@@ -1,4 +1,4 @@
--- One list key_equal another exactly where every test that respects the key finds the same first state in both.
+-- Two lists are equal up to a key exactly where every test that respects the key finds the same first state in both.
 use Rattle.std.proofs.Common.{◌≡◌, ◌↔◌, Bool, true, false, not, if◌then◌else◌, List, [], ◌∷◌, Option, Some, None, refl, sym, ap, ◌∙◌, ⊎_elim}
 use Rattle.std.specs.Prelude.{bytes_eq}
 use Rattle.std.proofs.lemmas.Slice.Eq.{bytes_eq-Decides}

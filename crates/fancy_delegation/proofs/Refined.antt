@@ -1,4 +1,4 @@
--- Ways that are handed for others in a context: by the key in a hard context, and by the easy key, from each place at or
+-- Ways that are enumerated for others in a context: by the key in a hard context, and by the easy key, from each place at or
 -- before the state's, in an easy one. What each construct makes of them.
 use Rattle.std.proofs.Common.{◌≡◌, ℕ, ◌≤◌, Bool, true, false, not, ◌||◌, if◌then◌else◌, List, [], ◌∷◌, ◌++◌, is_some, refl, sym, ap, ◌∙◌, subst, arith}
 use Rattle.fancy_meaning.specs.Nodes.{is_read}
@@ -66,7 +66,7 @@ module _ (p : Plan) (q : Setting) where
     pub sound : KeepsSound q p.analysis.tree f
     pub respects : WaysAlike (Same (key p)) f f
 
-  -- from each sound state k enumerates a list that serves for that of f in the context, and has only states of it
+  -- from each sound state k enumerates a list that refines that of f in the context, and has only states of it
   pub record EqualUpTo (in_hard : Bool) (k f : Ways) : Type 0 where
     pub by : (s : MatchState) (from : ℕ) → IsSoundState q p.analysis.tree s → from ≤ s.place → IsRefined (Same (context_key p in_hard from)) (k s) (f s)
 
@@ -111,7 +111,7 @@ module _ (p : Plan) (q : Setting) where
   pub key_equal_where_equal : (in_hard : Bool) (k f : Ways) → ((s : MatchState) → IsSoundState q p.analysis.tree s → k s ≡ f s) → EqualUpTo in_hard k f
   key_equal_where_equal in_hard k f e = record { by = λ s from sound le. refined_equal (e s sound) }
 
-  -- what serves in a hard context serves in any
+  -- what refines in a hard context refines in any
   pub hard_key_equal : (in_hard : Bool) (k f : Ways) → EqualUpTo true k f → EqualUpTo in_hard k f
   hard_key_equal in_hard k f h = record { by = λ s from sound le. refined_coarser (hard_refines p in_hard from) (h.by s from sound le) }
 
@@ -182,7 +182,7 @@ module _ (p : Plan) (q : Setting) where
     by = λ s from sound le. refined_map (moved_to s.place) (k s) (f s) (back_together p in_hard from 0 s.place) (h.by s 0 sound (omega arith));
   }
 
-  -- ---- what is handed
+  -- ---- what is enumerated
 
   -- it is sound and goes forward, and takes something where the ways do
   pub handed_sound : (in_hard : Bool) (k f : Ways) → IsPart f → EqualUpTo in_hard k f → KeepsSound q p.analysis.tree k

@@ -1,4 +1,4 @@
--- Delegates: of neighbouring easy nodes the first way alone, which serves for all of them by the easy key, and where each
+-- Delegates: of neighbouring easy nodes the first way alone, which equals all of them up to the easy key, and where each
 -- node takes a constant number of characters also by the key.
 use Rattle.std.proofs.Common.{◌≡◌, ℕ, ◌≤◌, Bool, true, false, not, ◌&&◌, ◌==◌, List, map, take, refl, sym, ap, ◌∙◌, ◌+◌, arith}
 use Rattle.fancy_meaning.specs.Tree.{Tree}

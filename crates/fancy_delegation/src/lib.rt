@@ -1,16 +1,16 @@
-//! Delegation is harmless: when one list of states serves for another, and what easy nodes cannot do. Each law is the
+//! Delegation is harmless: when two lists of states are equal up to a key, and what easy nodes cannot do. Each law is the
 //! contract of a function that does nothing.
 #![tactic(auto)]
 
 ghost use Rattle.fancy_meaning.specs.Theorems.{BindingKeepsEquality, CoarserKeyKeepsEquality, EasyHasNoReadGroup, EasyWaysAgree, WaysRespectTheKey};
 
-/// Two lists that serve for one another by a key, each bound to parts that serve for one another by a coarser key, give
-/// lists that serve for one another by the coarser one, where the part bound to the second list respects the finer key.
+/// Two lists equal up to a key, each bound to parts whose lists are equal up to a coarser key, give
+/// lists equal up to the coarser one, where the part bound to the second list respects the finer key.
 pub fn binding_keeps_equality()
     ensures { BindingKeepsEquality }
 {}
 
-/// A list that serves for another by a key does so by a coarser one.
+/// Lists equal up to a key are equal up to a coarser one.
 pub fn coarser_key_keeps_equality()
     ensures { CoarserKeyKeepsEquality }
 {}

@@ -69,7 +69,7 @@ gives_up_undelegated : GivesUpAt (undelegated_layout continued_letter) 2 at_cont
 unfolding row
 gives_up_undelegated = (refl, record { at_start = true; stands = refl; fails = refl; is_last = refl })
 
--- ---- A `\G` that is marked where no match begins. Its code does not serve where it may give up, though the tree begins with none.
+-- ---- A `\G` that is marked where no match begins. Its code does not refine its ways where it may give up, though the tree begins with none.
 
 abbrev later_continue : Plan
 later_continue = plain (cat (lit "a" ∷ ContinueFromPreviousMatchEnd ∷ []))

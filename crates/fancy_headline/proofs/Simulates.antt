@@ -1,4 +1,4 @@
--- Batches and absent repeaters of easy bodies work on every ground of an accepted tree's program.
+-- Batches and absent repeaters of easy bodies simulate their ways on every ground of an accepted tree's program.
 use Rattle.std.proofs.Common.{length, [], ◌∷◌, Contains, refl}
 use Rattle.fancy_meaning.specs.Tree.{Tree, Group}
 use Rattle.fancy_meaning.specs.Nodes.{nodes, group_count}

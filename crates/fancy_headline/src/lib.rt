@@ -5,7 +5,7 @@
 ghost use Rattle.fancy_meaning.specs.Theorems.{DelegationIsHarmless, Headline, RunsEnd, EarlyNone, BranchBound, BacktrackBound, InstructionBound};
 
 /// With every easy node left to a plain search, the code of the root and of each node that is written out enumerates, from
-/// each sound state and wherever it stands, a list that serves for its ways: by the key in a hard context, and in an
+/// each sound state and wherever it stands, a list that refines its ways: up to the key in a hard context, and in an
 /// easy one by the easy key from each place at or before the state's.
 pub fn delegation_is_harmless()
     ensures { DelegationIsHarmless }

@@ -1,4 +1,4 @@
--- How a part of a program works: from a state it enumerates a list of states, one each time it is failed back.
+-- How a part of a program runs: from a state it enumerates a list of states, one each time it is failed back.
 -- Limits on backtracks and on branches are set aside, and so is the answer that nothing matches which a `\G` gives
 -- before the branches are used up.
 use Rattle.std.specs.Prelude.{◌≡◌, ℕ, ◌+◌, ◌*◌, ◌<◌, ◌≤◌, ◌⊎◌, Bool, List, [], ◌∷◌, ◌++◌, length, Option, Some, None, if◌then◌else◌, slice_get}

@@ -1,4 +1,4 @@
--- When one list of states serves for another.
+-- When two lists of states are equal up to a key.
 use Rattle.std.specs.Prelude.{◌≡◌, ℕ, Bool, true, false, ◌&&◌, not, if◌then◌else◌, List, [], ◌∷◌, map, filter, flat_map, Option, Some, None, ◌==◌, bytes_eq}
 use Rattle.fancy_meaning.specs.Tree.{Tree}
 use Rattle.fancy_meaning.specs.Nodes.{read_groups}

@@ -34,7 +34,7 @@ pub mod Config
 pub mod Machine
 pub mod Fits
 pub mod FragmentStates
--- The argument: when one list of states serves for another, how a part of a program works, and the statements.
+-- The argument: when two lists of states are equal up to a key, how a part of a program runs, and the statements.
 pub mod Keys
 pub mod Enumerates
 pub mod Laws

@@ -127,7 +127,7 @@ pub record Enters (p : Plan) (code : Code) (may_stop : Bool) (t : Task) (c : Con
   pub stands : Stands t c s
   pub sound : IsSoundState (setting_of p t) p.analysis.tree s
 
--- Wherever the code stands, it enumerates from each sound state a list that serves by the key for what these ways give.
+-- Wherever the code stands, it enumerates from each sound state a list equal up to the key to what these ways give.
 -- The key may depend on a place at or before the state's.
 abbrev pub RefinesUpTo : Plan → Code → (Setting → Ways) → (ℕ → Key) → Bool → Type 0
 RefinesUpTo p code w by may_stop = (t : Task) (c : Config) (fresh : ℕ) (s : MatchState) (from : ℕ) →
@@ -147,7 +147,7 @@ abbrev pub code_of_node : Plan → (Tree → Bool) → Depths → Tree → (at_s
 code_of_node p easy depths e at_start in_hard =
     in_context p easy e (written p easy (code_of_call p easy depths) e at_start) in_hard
 
--- The code of the root serves for the ways of the whole tree, and that of each node that is written out for the node's,
+-- The code of the root refines the ways of the whole tree, and that of each node that is written out the node's,
 -- by the key of their context.
 pub record AllRefine (p : Plan) (easy : Tree → Bool) (by : (in_hard : Bool) → ℕ → Key) : Type 0 where
   pub root : (depths : Depths) (in_hard : Bool) →
@@ -169,7 +169,7 @@ ComposedTheorem = (i : Input) →
     AllRefine p (λ e. false) (λ in_hard from. whole_key p.analysis.tree)
 
 -- Delegation is harmless: in a hard context the code of the root and of each node that is written out enumerates a list that
--- serves for its ways by the key, and in an easy one by the easy key.
+-- equals its ways up to the key, and in an easy one up to the easy key.
 abbrev pub DelegationIsHarmless : Type 0
 DelegationIsHarmless = (i : Input) →
     let p = plan i in
@@ -183,13 +183,13 @@ abbrev pub WaysRespectTheKey : Type 0
 WaysRespectTheKey = (p : Plan) (q : Setting) (e : Tree) (depths : Depths) → Contains (nodes p.analysis.tree) e →
     Respects (key p) (ways q p.analysis.tree e depths)
 
--- binding keeps thinning
+-- binding keeps lists equal up to the key
 abbrev pub BindingKeepsEquality : Type 0
 BindingKeepsEquality = (fine coarse : Key) (hs qs : List MatchState) (f k : Ways) → Coarser fine coarse →
     EqualUpTo fine hs qs → Respects fine f → ((s : MatchState) → EqualUpTo coarse (k s) (f s)) →
     EqualUpTo coarse (flat_map k hs) (flat_map f qs)
 
--- what key_equal by a key key_equal by a coarser one
+-- what is equal up to a key is equal up to a coarser one
 abbrev pub CoarserKeyKeepsEquality : Type 0
 CoarserKeyKeepsEquality = (fine coarse : Key) (hs qs : List MatchState) → Coarser fine coarse →
     EqualUpTo fine hs qs → EqualUpTo coarse hs qs

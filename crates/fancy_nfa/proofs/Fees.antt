@@ -1,4 +1,4 @@
--- What is memoized of each state: what taking it up costs, and in which counters of the loops around it can be.
+-- The fee of each state: what taking it up costs, and in which counters of the loops around it can be.
 use Rattle.std.proofs.Common.{◌≡◌, ◌≤◌, ℕ, zero, suc, ◌+◌, ◌*◌, Bool, true, false, List, [], ◌∷◌, ◌++◌, length, map, Option, Some, None, if◌then◌else◌, sum_by, refl, ap, subst, ◌∙◌, arith, length-append}
 use Rattle.std.proofs.lemmas.List.{length-map}
 use Rattle.std.proofs.lemmas.List.Sums.{sum_by-cons}
@@ -52,7 +52,7 @@ abbrev pub total : List (Option Fee) → ℕ
 total [] = 0
 total (n ∷ ns) = share n + total ns
 
--- what is memoized, by the loops around and by the weight of what follows
+-- the fees, by the loops around and by the weight of what follows
 abbrev pub FeesCode : Type 0
 FeesCode = List (List Key) → ℕ → List (Option Fee)
 

@@ -1,4 +1,4 @@
-use Rattle.fancy_delegation.proofs.Thinning.{binding_keeps_equality}
+use Rattle.fancy_delegation.proofs.KeyEquality.{binding_keeps_equality}
 use Rattle.fancy_delegation.proofs.binding_keeps_equality.Goals as goal
 
 pub returns : goal.returns

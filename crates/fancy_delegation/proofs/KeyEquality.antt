@@ -1,4 +1,4 @@
--- The laws of thinning, in the words of the definitions.
+-- The laws of lists equal up to a key, in the words of the definitions.
 use Rattle.std.proofs.Common.{flat_map}
 use Rattle.fancy_meaning.specs.Theorems.{BindingKeepsEquality, CoarserKeyKeepsEquality}
 use Rattle.fancy_laws.proofs.Every.{every_anything}

@@ -1,4 +1,4 @@
--- From a list that every test searches as it does another, and which serves for a third, to the words of the statement.
+-- From a list that every test searches as it does another, and which is equal up to the key to a third, to the words of the statement.
 use Rattle.std.proofs.Common.{◌≡◌, Bool, List}
 use Rattle.fancy_meaning.specs.MatchState.{MatchState}
 use Rattle.fancy_meaning.specs.Keys.{Key, EqualUpTo}
