@@ -1,8 +1,7 @@
 pub mod EachLaws
 pub mod Known
 pub mod AnyBelow
-pub mod AbsentNodes
-pub mod KeepOuts
+pub mod SoughtNodesLaws
 pub mod GroupTable
 pub mod Infos
 pub mod Slices

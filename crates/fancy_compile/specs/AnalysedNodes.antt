@@ -59,14 +59,3 @@ is_alt e = false
 -- an alternation, each branch of which takes as many characters each time
 abbrev pub has_const_branches : Info → Bool
 has_const_branches i = is_alt (info_facts i).expr && list_all (λ b. (info_size b).is_const) (info_children i)
-
--- ---- kinds of expressions
-
--- the expression is a `\K`
-abbrev pub is_keep_out_expr : Expr → Bool
-is_keep_out_expr code.KeepOut = true
-is_keep_out_expr e = false
-
-abbrev pub is_absent_expr : Expr → Bool
-is_absent_expr (code.Absent a) = true
-is_absent_expr e = false

@@ -1,4 +1,5 @@
 pub mod AnalysedNodes
+pub mod SoughtNodes
 pub mod GroupTables
 pub mod OpenDepths
 pub mod Nodes

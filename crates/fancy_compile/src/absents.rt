@@ -4,6 +4,7 @@ ghost use Rattle.fancy_code.specs.Drafts.{draft_of};
 ghost use Rattle.fancy_compile.specs.Nodes.{IsWhole, WritesAbsent, WritesOver, is_repeater, step_past};
 ghost use Rattle.std.specs.Prelude.{false, ◌≡◌};
 
+use crate::below::is_refused_body;
 use crate::scope::Scope;
 use fancy_code::around::Around;
 use fancy_code::looks::LookKind;
@@ -12,7 +13,6 @@ use fancy_code::writer::CodeWriter;
 use fancy_expr::error::CompileError;
 use fancy_expr::expr::Absent;
 use fancy_info::info::Info;
-use crate::absent_nodes::is_refused_body;
 use fancy_program::insn::Insn;
 
 pub fn is_repeater(absent: &Absent) -> bool

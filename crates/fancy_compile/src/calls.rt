@@ -5,10 +5,10 @@ ghost use Rattle.fancy_compile.specs.Nodes.{IsScope, WritesCall};
 ghost use Rattle.fancy_compile.specs.OpenDepths.{depths_in, depths_of};
 ghost use Rattle.std.specs.Prelude.{◌≡◌};
 
+use crate::group_table::is_marked;
 use crate::scope::Scope;
 use fancy_code::writer::CodeWriter;
 use fancy_expr::error::CompileError;
-use crate::group_table::is_marked;
 use fancy_program::insn::Insn;
 
 /// So deep are calls of one group written out.

@@ -5,10 +5,10 @@ ghost use Rattle.fancy_compile.specs.Nodes.{AreWhole, WritesConcat, WritesInTurn
 ghost use Rattle.fancy_info.specs.Infos.{info_size};
 ghost use Rattle.std.specs.Prelude.{◌&&◌, ◌==◌, ◌≡◌};
 
+use crate::cuts::{in_three, is_first_behind};
 use crate::scope::Scope;
 use fancy_code::writer::CodeWriter;
 use fancy_info::info::Info;
-use crate::cuts::{in_three, is_first_behind};
 
 /// A match may still begin behind the node.
 fn is_still_first(is_first: bool, info: &Info) -> bool

@@ -1,18 +1,17 @@
 //! The compiler, from an analysed tree to a program of the machine.
 #![tactic(auto)]
 
-mod absent_nodes;
 mod absents;
 mod alternations;
 mod analysed_nodes;
 mod around;
+mod below;
 mod calls;
 pub mod compile;
 mod concatenations;
 mod conditionals;
 mod cuts;
 mod group_table;
-mod keep_out;
 mod look_behinds;
 mod looks;
 mod loops;

@@ -6,6 +6,7 @@ ghost use Rattle.fancy_compile.specs.Nodes.{AreWhole, IsWhole, WritesLook, Write
 ghost use Rattle.fancy_expr.specs.Views.{look_of};
 ghost use Rattle.std.specs.Prelude.{◌≡◌};
 
+use crate::look_behinds::has_const_branches;
 use crate::scope::Scope;
 use fancy_code::around::Around;
 use fancy_code::looks::LookKind;
@@ -13,7 +14,6 @@ use fancy_code::writer::CodeWriter;
 use fancy_expr::error::CompileError;
 use fancy_expr::expr::LookAround;
 use fancy_info::info::Info;
-use crate::look_behinds::has_const_branches;
 
 /// So many characters back, there is the body, or with `negative` there is not.
 fn behind_kind(negative: bool, count: usize) -> LookKind

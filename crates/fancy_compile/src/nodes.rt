@@ -4,13 +4,13 @@ ghost use Rattle.fancy_code.specs.Drafts.{draft_of};
 ghost use Rattle.fancy_compile.specs.Nodes.{IsWhole, WritesNode, WritesOut};
 
 use crate::absents::is_repeater;
+use crate::analysed_nodes::{child, is_batch, is_body_hard};
 use crate::scope::Scope;
 use fancy_code::around::Around;
 use fancy_code::writer::CodeWriter;
 use fancy_expr::error::CompileError;
 use fancy_expr::expr::Expr;
 use fancy_info::info::Info;
-use crate::analysed_nodes::{child, is_batch, is_body_hard};
 use std::slice;
 
 impl<'t, 'i, 'a, 'o> Scope<'t, 'i, 'a, 'o> {

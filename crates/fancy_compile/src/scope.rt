@@ -1,8 +1,8 @@
 //! Where a node is written: in which tree, and within which calls.
 
 use crate::calls::OpenCall;
-use fancy_info::info::Info;
 use crate::group_table::GroupTable;
+use fancy_info::info::Info;
 use std::alloc::Global;
 
 #[derive(Clone, Copy)]
