@@ -1,4 +1,4 @@
-/* Answers rows as rows.py writes them, and prints a line for each, as fancyrun does.
+/* Answers rows as scripts/write_host_rows writes them, and prints a line for each, as fancyrun does.
  *
  * rows [--stack BYTES]   on a thread with a stack of so many bytes
  * rows --refuse          refuses each request for memory of each row in turn: the row has to end by Memory, or by its

@@ -1,4 +1,4 @@
-//! Answers rows as `rows.py` writes them, and prints a line for each, as `fancyrun` does; with a number, on a thread with
+//! Answers rows as `scripts/write_host_rows` writes them, and prints a line for each, as `fancyrun` does; with a number, on a thread with
 //! a stack of so many bytes.
 
 use fancy::{Options, Regex};

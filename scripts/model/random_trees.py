@@ -1,4 +1,4 @@
-"""Trees of chance, in their notation."""
+"""Random trees, in their notation."""
 
 WORDS = ["a", "b", "c", "ab", "bc", "a.b", "é", "x"]
 SETS = ["[ab]", "[^a]", "[b-dé]", "\\w", "\\d"]
@@ -9,7 +9,7 @@ REFUSED = ["(verb commit)", "absclear", '(absstop "a")', '(absexp "ab" (rep 0 1 
 BOUNDS = ["0 1", "0 1", "0 *", "0 *", "1 *", "1 *", "2 *", "0 0", "1 1", "2 2", "0 2", "1 3", "2 4"]
 
 
-class Chance:
+class RandomTree:
     """Writes a tree; numbers of groups are put in at its end, when it is known how many there are."""
 
     def __init__(self, source, first_group):
