@@ -11,6 +11,9 @@
 #ifndef FANCY_H
 #define FANCY_H
 
+/* The version of this header and of its library, as in CHANGELOG.md. */
+#define FANCY_VERSION "0.3.0"
+
 #include <stdbool.h>
 #include <stddef.h>
 #include <stdint.h>
