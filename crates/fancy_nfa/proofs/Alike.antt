@@ -1,4 +1,4 @@
--- Stands with the same pair lead to stands with the same pairs.
+-- Configurations with the same pair lead to configurations with the same pairs.
 use Rattle.std.proofs.Common.{◌≡◌, ◌≤◌, ◌<◌, ℕ, ◌+◌, Bool, true, false, ◌||◌, List, [], ◌∷◌, map, Option, Some, None, if◌then◌else◌, nat_lt, refl, ap, ap₂, sym, ◌∙◌, subst, arith, inl, inr}
 use Rattle.std.proofs.lemmas.Bool.{cases_lt, ne_eqb}
 use Rattle.fancy_meaning.specs.Assertions.{holds}
@@ -13,7 +13,7 @@ AllAlike [] [] = Unit {0}
 AllAlike (s ∷ ss) (t ∷ ts) = (pair_of s ≡ pair_of t) × AllAlike ss ts
 AllAlike ss ts = ⊥
 
--- they lead to stands with the same pairs
+-- they lead to configurations with the same pairs
 abbrev pub AreAlike : StepResult → StepResult → Type 0
 AreAlike Found Found = Unit {0}
 AreAlike Lost Lost = Unit {0}

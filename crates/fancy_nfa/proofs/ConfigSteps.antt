@@ -1,4 +1,4 @@
--- Each step of the search goes as the tasks do that its stand is at.
+-- Each step of the search goes as the tasks do that its configuration is at.
 use Rattle.std.proofs.Common.{◌≡◌, ℕ, ◌+◌, Bool, true, false, List, [], ◌∷◌, ◌++◌, length, map, Option, Some, None, if◌then◌else◌, nat_lt, refl, ap₂, sym, subst, arith, length-append}
 use Rattle.std.specs.Prelude.{slice_get}
 use Rattle.fancy_meaning.specs.Tree.{Tree, Trees, none, more, Any, Assert, Literal, Delegate, Concat, Alt, Group, Repeat}
@@ -14,7 +14,7 @@ use Rattle.fancy_nfa.specs.NfaSearch as search
 use Rattle.fancy_nfa.specs.NfaSearch.{LoopCounter, NfaConfig, StepResult, step_by, step_at, counter_loop_step, is_over, next_counter, first_config, passes}
 use Rattle.fancy_nfa.specs.FirstWays.{spans_of}
 use Rattle.fancy_nfa.proofs.Tasks
-use Rattle.fancy_nfa.proofs.Tasks.{Task, TaskStep, Takes, Asserts, Opens, Closes, Chooses, May, Stars, StartsPlus, Counts, Counters, Jumps, Joins, may_be_empty, with_node, with_nodes, with_branches, with_loop, tasks_of, task_step, counter_step, goes_past, tries_in_order}
+use Rattle.fancy_nfa.proofs.Tasks.{Task, TaskStep, Takes, Asserts, Opens, Closes, Chooses, May, Stars, StartsPlus, Counts, Iterates, Jumps, Joins, may_be_empty, with_node, with_nodes, with_branches, with_loop, tasks_of, task_step, counter_step, goes_past, tries_in_order}
 use Rattle.fancy_nfa.proofs.Standing.{IsLaidAt, IsAt, behind, Stands, IsConfigOf, choosing}
 use Rattle.fancy_nfa.proofs.StepLaws.{IsStepOf}
 use Rattle.fancy_nfa.proofs.Segments.{LiesAt, lies_front, lies_back, lies_itself}
@@ -144,7 +144,7 @@ module _ (q : Setting) (a : Analysis) (states : List NfaState) where
   abbrev step_result_of : Option NfaState → NfaConfig → StepResult
   step_result_of = step_at q.text q.unicode
 
-  -- the stand that is there, in this state
+  -- the configuration that is there, in this match state
   abbrev config_in : ℕ → MatchState → List LoopCounter → List ℕ → List (ℕ × Span) → NfaConfig
   config_in p m counters opened spans =
       record { at = p; place = m.place; counters = counters; opened = opened; spans = spans }
@@ -180,13 +180,13 @@ module _ (q : Setting) (a : Analysis) (states : List NfaState) where
 
     counter_steps : (loop : Loop) (after p : ℕ) (e : Tree) (t : LoopCounter) (counters : List LoopCounter) (opened : List ℕ) (ts : List Task) →
         Stands a states (p + 1) (next_counter loop m.place t ∷ counters) opened
-        (with_node a e (Jumps ∷ Counters loop e (next_counter loop m.place t) ∷ ts)) →
+        (with_node a e (Jumps ∷ Iterates loop e (next_counter loop m.place t) ∷ ts)) →
         Stands a states after counters opened ts →
         IsStepOf q a states (counter_loop_step loop after (config_in p m (t ∷ counters) opened spans) (t ∷ counters)) (counter_step a q loop e t ts m)
     counter_steps loop after p e t counters opened ts on off = go (is_over loop m.place t) (nat_lt t.count loop.lo)
       where
         us : List Task
-        us = with_node a e (Jumps ∷ Counters loop e (next_counter loop m.place t) ∷ ts)
+        us = with_node a e (Jumps ∷ Iterates loop e (next_counter loop m.place t) ∷ ts)
 
         goes_on : NfaConfig
         goes_on = config_in (p + 1) m (next_counter loop m.place t ∷ counters) opened spans
@@ -333,20 +333,20 @@ module _ (q : Setting) (a : Analysis) (states : List NfaState) where
         let code : List NfaState = around (λ here after. CounterLoop loop after) (laid a.tree e) (p + 1) in
         let past : p + length (CounterBegin ∷ code) ≡ p + 1 + length code = omega arith in
         by_state CounterBegin (config_in p m counters opened spans) (task_step a q (Counts loop e ∷ ts) m) h.0.0
-        (is_config (p + 1) (t ∷ counters) opened (Counters loop e t ∷ ts)
+        (is_config (p + 1) (t ∷ counters) opened (Iterates loop e t ∷ ts)
         (refl, h.0.1, stands_eq a states counters opened ts past h.1))
 
     counters_on : (loop : Loop) (e : Tree) (t : LoopCounter) (p : ℕ) (counters : List LoopCounter) (opened : List ℕ) (ts : List Task) →
-        Stands a states p (t ∷ counters) opened (Counters loop e t ∷ ts) →
-        LeadsAs (slice_get states p) (config_in p m (t ∷ counters) opened spans) (task_step a q (Counters loop e t ∷ ts) m)
+        Stands a states p (t ∷ counters) opened (Iterates loop e t ∷ ts) →
+        LeadsAs (slice_get states p) (config_in p m (t ∷ counters) opened spans) (task_step a q (Iterates loop e t ∷ ts) m)
     counters_on loop e t p counters opened ts h =
         let head : ℕ → ℕ → NfaState = λ here after. CounterLoop loop after in
         let end : ℕ = round_end a states head e p in
         let next : LoopCounter = next_counter loop m.place t in
-        by_state (CounterLoop loop end) (config_in p m (t ∷ counters) opened spans) (task_step a q (Counters loop e t ∷ ts) m)
+        by_state (CounterLoop loop end) (config_in p m (t ∷ counters) opened spans) (task_step a q (Iterates loop e t ∷ ts) m)
         (round_head a states head e p h.1)
         (counter_steps loop end p e t counters opened ts
-        (round_again a states head e p (next ∷ counters) opened (Counters loop e next ∷ ts) h.1 (refl, h.1, h.2))
+        (round_again a states head e p (next ∷ counters) opened (Iterates loop e next ∷ ts) h.1 (refl, h.1, h.2))
         (round_behind a states head e p counters opened ts h.2))
 
     leads : (ts : List Task) (p : ℕ) (counters : List LoopCounter) (opened : List ℕ) → Stands a states p counters opened ts →
@@ -368,9 +368,9 @@ module _ (q : Setting) (a : Analysis) (states : List NfaState) where
     leads (Stars greedy e ∷ ts) p counters opened h = stars greedy e p counters opened ts h
     leads (StartsPlus greedy e ∷ ts) p counters opened h = starts_plus greedy e p counters opened ts h
     leads (Counts loop e ∷ ts) p counters opened h = counts loop e p counters opened ts h
-    leads (Counters loop e u ∷ ts) p [] opened h = absurd h
-    leads (Counters loop e u ∷ ts) p (t ∷ counters) opened h =
-        subst (λ v. LeadsAs (slice_get states p) (config_in p m (t ∷ counters) opened spans) (task_step a q (Counters loop e v ∷ ts) m)) h.0
+    leads (Iterates loop e u ∷ ts) p [] opened h = absurd h
+    leads (Iterates loop e u ∷ ts) p (t ∷ counters) opened h =
+        subst (λ v. LeadsAs (slice_get states p) (config_in p m (t ∷ counters) opened spans) (task_step a q (Iterates loop e v ∷ ts) m)) h.0
         (counters_on loop e t p counters opened ts (refl, h.1, h.2))
     leads (Jumps ∷ ts) p counters opened h =
         by_state (Jump h.0) (config_in p m counters opened spans) (Tasks.Goes ts m) h.1 (is_config h.0 counters opened ts h.2)

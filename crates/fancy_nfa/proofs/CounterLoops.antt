@@ -4,13 +4,13 @@ use Rattle.fancy_meaning.specs.Options.{Analysis}
 use Rattle.fancy_nfa.specs.NfaStates.{NfaState, Match, Character, Holds, Open, Close, Split, BranchSplit, Jump, Join, CounterBegin, CounterLoop}
 use Rattle.fancy_nfa.specs.NfaCode.{◌>>◌, one, laid, each_laid, branch, branches, headed, preferring, star, plus, around}
 use Rattle.fancy_nfa.specs.NfaSearch.{LoopCounter}
-use Rattle.fancy_nfa.proofs.Tasks.{Task, Takes, Asserts, Opens, Closes, Chooses, May, Stars, StartsPlus, Counts, Counters, Jumps, Joins}
+use Rattle.fancy_nfa.proofs.Tasks.{Task, Takes, Asserts, Opens, Closes, Chooses, May, Stars, StartsPlus, Counts, Iterates, Jumps, Joins}
 use Rattle.fancy_nfa.proofs.Standing.{IsLaidAt, IsAt, behind, Stands, choosing}
 
 -- the counters of the loops around, the innermost first
 abbrev pub counters_of : List Task → List LoopCounter
 counters_of [] = []
-counters_of (Counters loop e t ∷ ts) = t ∷ counters_of ts
+counters_of (Iterates loop e t ∷ ts) = t ∷ counters_of ts
 counters_of (t ∷ ts) = counters_of ts
 
 module _ (a : Analysis) (states : List NfaState) where
@@ -26,7 +26,7 @@ module _ (a : Analysis) (states : List NfaState) where
   CounterLoopLaid p (Stars greedy e ∷ ts) = IsLaidAt a states p (star greedy (laid a.tree e))
   CounterLoopLaid p (StartsPlus greedy e ∷ ts) = IsLaidAt a states p (plus greedy (laid a.tree e))
   CounterLoopLaid p (Counts loop e ∷ ts) = IsLaidAt a states p (one CounterBegin >> around (λ here after. CounterLoop loop after) (laid a.tree e))
-  CounterLoopLaid p (Counters loop e t ∷ ts) = IsLaidAt a states p (around (λ here after. CounterLoop loop after) (laid a.tree e))
+  CounterLoopLaid p (Iterates loop e t ∷ ts) = IsLaidAt a states p (around (λ here after. CounterLoop loop after) (laid a.tree e))
   CounterLoopLaid p (Jumps ∷ ts) = (to : ℕ) × IsAt a states p (Jump to)
   CounterLoopLaid p (Joins ∷ ts) = IsAt a states p Join
 
@@ -45,8 +45,8 @@ module _ (a : Analysis) (states : List NfaState) where
   stands_head p counters opened (Stars greedy e ∷ ts) h = h.0
   stands_head p counters opened (StartsPlus greedy e ∷ ts) h = h.0
   stands_head p counters opened (Counts loop e ∷ ts) h = h.0
-  stands_head p [] opened (Counters loop e u ∷ ts) h = absurd h
-  stands_head p (t ∷ counters) opened (Counters loop e u ∷ ts) h = h.1
+  stands_head p [] opened (Iterates loop e u ∷ ts) h = absurd h
+  stands_head p (t ∷ counters) opened (Iterates loop e u ∷ ts) h = h.1
   stands_head p counters opened (Jumps ∷ ts) h = (h.0, h.1)
   stands_head p counters opened (Joins ∷ ts) h = h.0
 
@@ -69,8 +69,8 @@ module _ (a : Analysis) (states : List NfaState) where
   stands_counters p counters opened (StartsPlus greedy e ∷ ts) h = stands_counters (behind a states p (plus greedy (laid a.tree e))) counters opened ts h.1
   stands_counters p counters opened (Counts loop e ∷ ts) h =
       stands_counters (behind a states p (one CounterBegin >> around (λ here after. CounterLoop loop after) (laid a.tree e))) counters opened ts h.1
-  stands_counters p [] opened (Counters loop e u ∷ ts) h = absurd h
-  stands_counters p (t ∷ counters) opened (Counters loop e u ∷ ts) h =
+  stands_counters p [] opened (Iterates loop e u ∷ ts) h = absurd h
+  stands_counters p (t ∷ counters) opened (Iterates loop e u ∷ ts) h =
       ap₂ (λ v vs. v ∷ vs) h.0 (stands_counters (behind a states p (around (λ here after. CounterLoop loop after) (laid a.tree e))) counters opened ts h.2)
   stands_counters p counters opened (Jumps ∷ ts) h = stands_counters h.0 counters opened ts h.2
   stands_counters p counters opened (Joins ∷ ts) h = stands_counters (p + 1) counters opened ts h.1

@@ -1,4 +1,4 @@
--- A search comes to its end: each stand leads to lower ones alone.
+-- A search comes to its end: each configuration leads to lower ones alone.
 use Rattle.std.proofs.Common.{◌≡◌, ℕ, zero, suc, ◌+◌, Bool, true, false, if◌then◌else◌, List, [], ◌∷◌, ◌++◌, Option, Some, None, slice_get, refl, sym, subst, ap}
 use Rattle.fancy_nfa.specs.NfaSearch.{NfaConfig, Pair, StepResult, Found, Lost, Goes, Tries, Frame, Fails, Search, Next, TakesUp, TakesBack, Ends, pair_of, visited, others, with_frames, next_by, back_to}
 use Rattle.fancy_nfa.proofs.Positions.{Ground, Position, Positions, AllLower, IsLower, count_at, step_result_of, next_of, after, StepFacts, Step, step, visited_is, tried_is}

@@ -1,4 +1,4 @@
--- The fee of each state: what taking it up costs, and in which counters of the loops around it can be.
+-- The fee of each memoized state: what taking it up costs, and in which counters of the loops around it can be.
 use Rattle.std.proofs.Common.{◌≡◌, ◌≤◌, ℕ, zero, suc, ◌+◌, ◌*◌, Bool, true, false, List, [], ◌∷◌, ◌++◌, length, map, Option, Some, None, if◌then◌else◌, sum_by, refl, ap, subst, ◌∙◌, arith, length-append}
 use Rattle.std.proofs.lemmas.List.{length-map}
 use Rattle.std.proofs.lemmas.List.Sums.{sum_by-cons}
@@ -52,7 +52,7 @@ abbrev pub total : List (Option Fee) → ℕ
 total [] = 0
 total (n ∷ ns) = share n + total ns
 
--- the fees, by the loops around and by the weight of what follows
+-- fees, by the loops around and by the weight of what follows
 abbrev pub FeesCode : Type 0
 FeesCode = List (List Key) → ℕ → List (Option Fee)
 
@@ -117,7 +117,7 @@ module _ (a : Analysis) where
   nodes_fees [] = None ∷ []
   nodes_fees (e ∷ es) = node_fees e [] (weight a (tasks_of a es)) ++ nodes_fees es
 
--- ---- the sum over all notes
+-- ---- the sum over all fees
 
 total-append : (ns ks : List (Option Fee)) → total (ns ++ ks) ≡ total ns + total ks
 total-append [] ks = omega arith
@@ -148,7 +148,7 @@ counts_plain lo hi greedy =
     let one = length-keys_with loop false in
     omega (arith, both, one)
 
--- a body whose notes, and what it weighs in so many counters, are within its states and what follows
+-- a body whose fees, and what it weighs in so many counters, are within its states and what follows
 abbrev pub Bounds : (ℕ → ℕ) → FeesCode → ℕ → Type 0
 Bounds w body n =
     (cs : List (List Key)) (x : ℕ) → total (body cs x) + ways_around cs * w x ≤ ways_around cs * (n + x)
@@ -249,7 +249,7 @@ module _ (a : Analysis) where
         let rest = branch_bounds false (more f es) cs in
         omega (arith, sum, le, rest)
 
-  -- all notes of a fragment and what is taken up before the first
+  -- all fees of a fragment and what is taken up before the first
   nodes_bound : (es : List Tree) → total (nodes_fees a es) + weight a (tasks_of a es) ≤ 1 + sum_by (states a.tree) es
   nodes_bound [] = omega arith
   nodes_bound (e ∷ es) =

@@ -1,4 +1,4 @@
--- Each step of the search keeps to the notes.
+-- Each step of the search keeps to the fees.
 use Rattle.std.proofs.Common.{◌≡◌, ℕ, suc, ◌+◌, Bool, true, false, List, [], ◌∷◌, ◌++◌, length, Option, Some, None, if◌then◌else◌, nat_lt, slice_get, sym, subst, arith, length-append}
 use Rattle.fancy_meaning.specs.Tree.{Tree, Trees, none, more}
 use Rattle.fancy_meaning.specs.Options.{Analysis}
@@ -10,20 +10,20 @@ use Rattle.fancy_nfa.specs.NfaStates.{Loop, NfaState, Match, Character, Holds, O
 use Rattle.fancy_nfa.specs.NfaCode.{preferring, laid, each_laid, branches}
 use Rattle.fancy_nfa.specs.NfaSearch as search
 use Rattle.fancy_nfa.specs.NfaSearch.{LoopCounter, NfaConfig, StepResult, step_by, step_at, step_result, is_counted, passes, is_over, next_counter, counter_loop_step, choice_step, close_step, forward, goes_to}
-use Rattle.fancy_nfa.proofs.Tasks.{Task, TaskStep, Found, Lost, Goes, Tries, task_step, goes_past, counter_step, tries_in_order, Takes, Asserts, Opens, Closes, Chooses, May, Stars, StartsPlus, Counts, Counters, Jumps, Joins, with_node, with_branches}
+use Rattle.fancy_nfa.proofs.Tasks.{Task, TaskStep, Found, Lost, Goes, Tries, task_step, goes_past, counter_step, tries_in_order, Takes, Asserts, Opens, Closes, Chooses, May, Stars, StartsPlus, Counts, Iterates, Jumps, Joins, with_node, with_branches}
 use Rattle.fancy_nfa.proofs.Standing.{IsConfigOf}
 use Rattle.fancy_nfa.proofs.StepLaws.{StepIsHere}
 use Rattle.fancy_nfa.proofs.Weights.{weigh, weight}
 use Rattle.fancy_nfa.proofs.Fees.{Fee, keys_of, fee_with, node_fees, branch_fees}
 use Rattle.fancy_nfa.proofs.Segments.{LiesAt, lies_front, lies_behind}
 use Rattle.fancy_nfa.proofs.CounterLoops.{CounterLoopLaid, stands_head, stands_counters, counters_of}
-use Rattle.fancy_nfa.proofs.MemoizedConfigs.{FeesStand, LieBefore, around_of, config_here, node_stands, branches_stand, node_as_long, branch_as_long}
+use Rattle.fancy_nfa.proofs.FeePlaces.{FeesStand, LieBefore, around_of, config_here, node_stands, branches_stand, node_as_long, branch_as_long}
 
 module _ (q : Setting) (a : Analysis) (states : List NfaState) (fees : List (Option Fee)) where
   abbrev FeeStands : ℕ → List Task → Type 0
   FeeStands p ts = FeesStand a states fees p ts
 
-  -- where the search is led, the tasks stand among the notes
+  -- where the search is led, the tasks stand among the fees
   abbrev pub KeepsFees : StepResult → TaskStep → Type 0
   KeepsFees = StepIsHere (λ s ts. FeeStands s.at ts)
 
@@ -51,7 +51,7 @@ module _ (q : Setting) (a : Analysis) (states : List NfaState) (fees : List (Opt
   close_kept g s [] ts m h = tt
   close_kept g s (from ∷ opened) ts m h = h
 
-  -- what is between one note and another
+  -- what is between one fee and another
   inside : (p : ℕ) (n k : Option Fee) (ns : List (Option Fee)) (ts : List Task) → LieBefore a states fees p (n ∷ (ns ++ (k ∷ []))) ts →
       LiesAt fees (p + 1) ns × FeeStands (p + 1 + length ns + 1) ts
   inside p n k ns ts h =
@@ -207,13 +207,13 @@ module _ (q : Setting) (a : Analysis) (states : List NfaState) (fees : List (Opt
   counter_loop_kept loop on off us ts m false false h k = choice_kept loop.greedy on off us ts m h k
 
   counters_kept : (s : NfaConfig) (loop : Loop) (e : Tree) (t : LoopCounter) (ts : List Task) (m : MatchState) → s.place ≡ m.place →
-      s.counters ≡ t ∷ counters_of ts → CounterLoopLaid a states s.at (Counters loop e t ∷ ts) → FeeStands s.at (Counters loop e t ∷ ts) →
-      KeepsFees (step_result q.text q.unicode states s) (task_step a q (Counters loop e t ∷ ts) m)
+      s.counters ≡ t ∷ counters_of ts → CounterLoopLaid a states s.at (Iterates loop e t ∷ ts) → FeeStands s.at (Iterates loop e t ∷ ts) →
+      KeepsFees (step_result q.text q.unicode states s) (task_step a q (Iterates loop e t ∷ ts) m)
   counters_kept s loop e t ts m placed counters is h =
       let p = s.at in
       let after = p + 1 + length (laid a.tree e (p + 1) ++ (Jump p ∷ [])) in
       let head = CounterLoop loop after in
-      let us = Counters loop e (next_counter loop m.place t) ∷ ts in
+      let us = Iterates loop e (next_counter loop m.place t) ∷ ts in
       let config = body_stands p (fee_with (keys_of loop ∷ around_of ts) (1 + weigh a e 0 + weight a ts)) head e us ts is h h in
       let into = with_node a e (Jumps ∷ us) in
       let on = record (forward s) { counters = next_counter loop s.place t ∷ counters_of ts } in
@@ -251,7 +251,7 @@ module _ (q : Setting) (a : Analysis) (states : List NfaState) (fees : List (Opt
       kept s (Stars greedy e ∷ ts) m is h at = stars_kept s greedy e ts m at h
       kept s (StartsPlus greedy e ∷ ts) m is h at = plus_kept s greedy e ts m at h
       kept s (Counts loop e ∷ ts) m is h at = counts_kept s loop e ts m at h
-      kept s (Counters loop e t ∷ ts) m is h at =
-          counters_kept s loop e t ts m is.place (stands_counters a states s.at s.counters s.opened (Counters loop e t ∷ ts) is.stands) at h
+      kept s (Iterates loop e t ∷ ts) m is h at =
+          counters_kept s loop e t ts m is.place (stands_counters a states s.at s.counters s.opened (Iterates loop e t ∷ ts) is.stands) at h
       kept s (Jumps ∷ ts) m is h at = kept_at (Jump h.0) s (Goes ts m) h.1 h.2
       kept s (Joins ∷ ts) m is h at = kept_at Join s (task_step a q (Joins ∷ ts) m) at (h.1, tt)

@@ -19,10 +19,10 @@ pub mod Ranks
 pub mod TaskSteps
 pub mod Weights
 pub mod Fees
-pub mod MemoizedConfigs
+pub mod FeePlaces
 pub mod CounterLoops
 pub mod FeesKept
-pub mod MemoizedSums
+pub mod FeeSums
 pub mod EasyBatches
 pub mod Payments
 pub mod PlainSearch

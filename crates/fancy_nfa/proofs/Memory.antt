@@ -96,7 +96,7 @@ module _ (w : Ground) where
     keeps all zero n h = h
     keeps all (suc k) n h = keeps all k (next_of w n) (keeps_next all n h)
 
-    -- a search that is broken off leaves sound notes too
+    -- a search that is broken off leaves a sound failed set too
     pub still_memoized : (all : List MatchState) (n : Next) → Keeps all n → IsSound (search_in n).failed
     still_memoized all (TakesUp s found) h = h.1
     still_memoized all (TakesBack found) h = h.0

@@ -8,7 +8,7 @@ use Rattle.fancy_meaning.specs.Options.{Analysis}
 use Rattle.fancy_meaning.specs.MatchState.{MatchState}
 use Rattle.fancy_nfa.specs.NfaStates.{Loop, NfaState, Match, Character, Holds, Open, Join, CounterBegin}
 use Rattle.fancy_nfa.specs.NfaSearch.{LoopCounter, NfaConfig, Pair, StepResult, Found, Lost, Goes, Tries, step_at, pair_of, same_pair, same_counter}
-use Rattle.fancy_nfa.proofs.Tasks.{Task, Takes, Asserts, Opens, Closes, Chooses, May, Stars, StartsPlus, Counts, Counters, Jumps, Joins, TasksFit, SinceFits}
+use Rattle.fancy_nfa.proofs.Tasks.{Task, Takes, Asserts, Opens, Closes, Chooses, May, Stars, StartsPlus, Counts, Iterates, Jumps, Joins, TasksFit, SinceFits}
 use Rattle.fancy_nfa.proofs.Standing.{Stands, IsConfigOf}
 use Rattle.fancy_nfa.proofs.CounterLoops.{counters_of, stands_counters}
 use Rattle.fancy_nfa.proofs.Positions.{Ground, Position, Positions, ways_at, ways_from, AllLower, IsLower, step_result_of, IsOneOf, LeadsTo, Reaches, in_one, in_more, StepFacts, PairFacts, Step, step}
@@ -51,7 +51,7 @@ pub same_pair_self : (x : Pair) → same_pair x x ≡ true
 same_pair_self x =
     both_true (both_true (eq-eqb x.at x.at refl) (eq-eqb x.place x.place refl)) ((pointwise_decides counters_decide x.counters x.counters).1 refl)
 
--- ---- what a stand keeps to
+-- ---- what a configuration keeps to
 
 module _ (a : Analysis) (states : List NfaState) where
   since_fits : (loop : Loop) (since : Option ℕ) (place : ℕ) → SinceFits a loop since place → IsSince since place
@@ -60,7 +60,7 @@ module _ (a : Analysis) (states : List NfaState) where
 
   all_since : (ts : List Task) (place : ℕ) → TasksFit a place ts → AllSince (counters_of ts) place
   all_since [] place h = tt
-  all_since (Counters loop e t ∷ ts) place h = (since_fits loop t.since place h.0.3, all_since ts place h.1)
+  all_since (Iterates loop e t ∷ ts) place h = (since_fits loop t.since place h.0.3, all_since ts place h.1)
   all_since (t ∷ ts) place h = all_since ts place h.1
 
   -- iterations began at or before the place
@@ -90,12 +90,12 @@ module _ (a : Analysis) (states : List NfaState) where
   is_open (Stars false e ∷ ts) p counters [] h = no_close _ h.0.0 tt
   is_open (StartsPlus greedy e ∷ ts) p counters [] h = no_close _ h.0.0 tt
   is_open (Counts loop e ∷ ts) p counters [] h = no_close CounterBegin h.0.0 tt
-  is_open (Counters loop e u ∷ ts) p [] [] h = absurd h
-  is_open (Counters loop e u ∷ ts) p (t ∷ counters) [] h = no_close _ h.1.0 tt
+  is_open (Iterates loop e u ∷ ts) p [] [] h = absurd h
+  is_open (Iterates loop e u ∷ ts) p (t ∷ counters) [] h = no_close _ h.1.0 tt
   is_open (Jumps ∷ ts) p counters [] h = no_close _ h.1 tt
   is_open (Joins ∷ ts) p counters [] h = no_close Join h.0 tt
 
--- ---- pairs of stands
+-- ---- pairs of configurations
 
 append_none : (xs ys : List MatchState) → xs ++ ys ≡ [] → (xs ≡ []) × (ys ≡ [])
 append_none [] ys e = (refl, e)
@@ -108,7 +108,7 @@ module _ (w : Ground) where
   abbrev text : List ℕ
   text = (w.setting).text
 
-  -- stands with the same pair are alike, and so is what they lead to
+  -- configurations with the same pair are alike, and so is what they lead to
   alike : (s t : NfaConfig) → Position w s → Position w t → pair_of s ≡ pair_of t → AreAlike (step_result_of w s) (step_result_of w t)
   alike s t p r e =
       let at : s.at ≡ t.at = ap (λ x. x.at) e in
@@ -171,7 +171,7 @@ module _ (w : Ground) where
 
     -- ---- no way back
 
-    -- from a stand with the same pair as s: one with the same pair as t, lower
+    -- from a configuration with the same pair as s: one with the same pair as t, lower
     record Follows (t : NfaConfig) {s : NfaConfig} (p : Position w s) : Type 0 where
       position : Position w t
       config : NfaConfig

@@ -11,14 +11,14 @@ use Rattle.fancy_meaning.specs.Ways.{Setting}
 use Rattle.fancy_delegation.proofs.Items.{IsIn, first, later, is_in_append_left, is_in_append_right, is_in_map}
 use Rattle.fancy_nfa.specs.NfaStates.{Loop, NfaState}
 use Rattle.fancy_nfa.specs.NfaSearch.{LoopCounter, NfaConfig, is_counted, pair_of, counter_key, has_stayed, passes, is_over, next_counter}
-use Rattle.fancy_nfa.proofs.Tasks.{Task, TaskStep, Found, Lost, Goes, Tries, task_step, goes_past, tries_in_order, with_node, Takes, Asserts, Opens, Closes, Chooses, May, Stars, StartsPlus, Counts, Counters, Jumps, Joins, CountFits, SinceFits, TasksFit}
+use Rattle.fancy_nfa.proofs.Tasks.{Task, TaskStep, Found, Lost, Goes, Tries, task_step, goes_past, tries_in_order, with_node, Takes, Asserts, Opens, Closes, Chooses, May, Stars, StartsPlus, Counts, Iterates, Jumps, Joins, CountFits, SinceFits, TasksFit}
 use Rattle.fancy_nfa.proofs.Standing.{IsConfigOf}
 use Rattle.fancy_nfa.proofs.Weights.{cost, is_counted_task, weight, charge, IsWeighed, step_weighed}
 use Rattle.fancy_nfa.proofs.Fees.{as_key, keys_of, keys_with, most_count, Fee, fee_with}
 use Rattle.fancy_nfa.proofs.CounterLoops.{CounterLoopLaid, stands_head, stands_counters, counters_of}
-use Rattle.fancy_nfa.proofs.MemoizedConfigs.{FeesStand, around_of}
+use Rattle.fancy_nfa.proofs.FeePlaces.{FeesStand, around_of}
 use Rattle.fancy_nfa.proofs.Totals.{total_by}
-use Rattle.fancy_nfa.proofs.MemoizedSums.{AreKeys, charge_of, charge_at, IsNotable}
+use Rattle.fancy_nfa.proofs.FeeSums.{AreKeys, charge_of, charge_at, IsNotable}
 
 -- ---- the keys of the counters
 
@@ -60,7 +60,7 @@ counter_has_key a loop t place c s =
 
 are_keys : (a : Analysis) (ts : List Task) (place : ℕ) → TasksFit a place ts → AreKeys (map (counter_key place) (counters_of ts)) (around_of ts)
 are_keys a [] place h = tt
-are_keys a (Counters loop e t ∷ ts) place h = (counter_has_key a loop t place h.0.2 h.0.3, are_keys a ts place h.1)
+are_keys a (Iterates loop e t ∷ ts) place h = (counter_has_key a loop t place h.0.2 h.0.3, are_keys a ts place h.1)
 are_keys a (t ∷ ts) place h = are_keys a ts place h.1
 
 module _ (a : Analysis) (states : List NfaState) (fees : List (Option Fee)) where
@@ -81,11 +81,11 @@ module _ (a : Analysis) (states : List NfaState) (fees : List (Option Fee)) wher
   counter_loop_counted p (Stars false e ∷ ts) h k = ap is_counted h.0
   counter_loop_counted p (StartsPlus greedy e ∷ ts) h k = ap is_counted h.0
   counter_loop_counted p (Counts loop e ∷ ts) h k = ap is_counted h.0
-  counter_loop_counted p (Counters loop e t ∷ ts) h k = ap is_counted h.0
+  counter_loop_counted p (Iterates loop e t ∷ ts) h k = ap is_counted h.0
   counter_loop_counted p (Jumps ∷ ts) h k = ap is_counted h.1
   counter_loop_counted p (Joins ∷ ts) h k = ap is_counted h
 
-  -- the note here
+  -- the fee here
   abbrev HasFee : ℕ → List Task → TaskStep → Type 0
   HasFee p ts (Tries true tss m) = slice_get fees p ≡ Some (fee_with (around_of ts) (charge a ts))
   HasFee p ts k = Unit {0}
@@ -121,8 +121,8 @@ module _ (a : Analysis) (states : List NfaState) (fees : List (Option Fee)) wher
     has_fee p (May false e ∷ ts) m h = tt
     has_fee p (Stars greedy e ∷ ts) m h =
         fee_in_order p (Stars greedy e ∷ ts) (with_node a e (Jumps ∷ Stars greedy e ∷ ts)) ts m greedy h.0.0
-    has_fee p (Counters loop e t ∷ ts) m h =
-        fee_of_counter p (Counters loop e t ∷ ts) (with_node a e (Jumps ∷ Counters loop e (next_counter loop m.place t) ∷ ts)) ts m
+    has_fee p (Iterates loop e t ∷ ts) m h =
+        fee_of_counter p (Iterates loop e t ∷ ts) (with_node a e (Jumps ∷ Iterates loop e (next_counter loop m.place t) ∷ ts)) ts m
         loop.greedy (is_over loop m.place t) (nat_lt t.count loop.lo) h.0.0
     has_fee p (Joins ∷ ts) m h = h.0
     has_fee p ts m h = tt
@@ -150,7 +150,7 @@ module _ (a : Analysis) (states : List NfaState) (fees : List (Option Fee)) wher
           (subst (λ b. cost b + total_by (weight a) tss ≤ charge a ts) (sym e) w.1),
     )
 
-    -- a step is paid for, where the tasks stand among the notes
+    -- a step is paid for, where the tasks stand among the fees
     pub step_paid : (from : ℕ) (s : NfaConfig) (ts : List Task) (m : MatchState) → IsConfigOf a states s ts m →
         FeesStand a states fees s.at ts → TasksFit a m.place ts → from ≤ s.place → s.place ≤ length q.text →
         IsPaid from s ts (task_step a q ts m)

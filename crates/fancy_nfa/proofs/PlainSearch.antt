@@ -22,10 +22,10 @@ use Rattle.fancy_nfa.proofs.Pairs.{pair_facts}
 use Rattle.fancy_nfa.proofs.Weights.{weight}
 use Rattle.fancy_nfa.proofs.Fees.{Fee, nodes_fees}
 use Rattle.fancy_nfa.proofs.FeesKept.{KeepsFees, fees_kept}
-use Rattle.fancy_nfa.proofs.MemoizedConfigs.{FeesStand, fragment_stands}
+use Rattle.fancy_nfa.proofs.FeePlaces.{FeesStand, fragment_stands}
 use Rattle.fancy_nfa.proofs.Segments.{lies_itself}
 use Rattle.fancy_nfa.proofs.Totals.{Distinct}
-use Rattle.fancy_nfa.proofs.MemoizedSums.{charge_of, IsNotable, charges_fit}
+use Rattle.fancy_nfa.proofs.FeeSums.{charge_of, IsNotable, charges_fit}
 use Rattle.fancy_nfa.proofs.Payments.{IsPaid, step_paid}
 use Rattle.fancy_nfa.proofs.Positions.{Ground, step_result_of, StepWeighs, StepFacts}
 use Rattle.fancy_nfa.proofs.Visits.{IsTriedPair, charges}

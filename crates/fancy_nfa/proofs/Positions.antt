@@ -1,4 +1,4 @@
--- Positions of a search, stands that are at tasks: what is asked of the tasks, and a step from there.
+-- Positions of a search, which are configurations at tasks: what is asked of the tasks, and a step from there.
 use Rattle.std.proofs.Common.{◌≡◌, ◌≤◌, ◌⊎◌, ℕ, ◌+◌, Bool, true, false, List, [], ◌∷◌, ◌++◌, flat_map, length, slice_get, if◌then◌else◌, refl, sym, subst, ap, ◌∙◌, append_assoc, arith}
 use Rattle.fancy_meaning.specs.Options.{Analysis}
 use Rattle.fancy_meaning.specs.MatchState.{MatchState}
@@ -57,7 +57,7 @@ module _ (w : Ground) where
   abbrev pub IsLower : {s t : NfaConfig} → Position t → Position s → Type 0
   IsLower r p = Lower w.setting w.analysis w.rank r.tasks r.state p.tasks p.state
 
-  -- ---- several stands
+  -- ---- several configurations
 
   abbrev pub Positions : List NfaConfig → Type 0
   Positions [] = Unit {0}
@@ -102,7 +102,7 @@ module _ (w : Ground) where
 
   -- ---- a step
 
-  -- one of the stands that a lead goes on to
+  -- one of the configurations that a step result goes on to
   abbrev pub IsOneOf : List NfaConfig → NfaConfig → Type 0
   IsOneOf [] t = ⊥
   IsOneOf (s ∷ ss) t = (s ≡ t) ⊎ IsOneOf ss t
@@ -125,7 +125,7 @@ module _ (w : Ground) where
     pub same_ways : (s t : NfaConfig) (p : Position s) (r : Position t) → pair_of s ≡ pair_of t → ways_at p ≡ [] → ways_at r ≡ []
     pub no_return : (s t : NfaConfig) → Position s → Reaches s t → pair_of s ≡ pair_of t → ⊥
 
-  -- where a lead goes on to, with the ways and the weights of a position that leads there
+  -- where a step result goes on to, with the ways and the weights of a position that leads there
   abbrev pub Step : {s : NfaConfig} → Position s → StepResult → Type 0
   Step {s} p Found = (ways_at p ≡ p.state ∷ []) × (count_at s ≤ weight_at p)
   Step {s} p Lost = (ways_at p ≡ []) × (count_at s ≤ weight_at p)
@@ -134,7 +134,7 @@ module _ (w : Ground) where
       (rs : Positions (t ∷ ts)) × AllLower (t ∷ ts) rs p × (ways_from (t ∷ ts) rs ≡ ways_at p)
       × (count_at s + weight_from (t ∷ ts) rs ≤ (if is_memoized then w.charge s.at else weight_at p))
 
-  -- positions of all these stands, with the ways and the weights of the tasks
+  -- positions of all these configurations, with the ways and the weights of the tasks
   record AllAt {s : NfaConfig} (p : Position s) (ss : List NfaConfig) (uss : List (List Task)) : Type 0 where
     positions : Positions ss
     lower : AllLower ss positions p

@@ -10,7 +10,7 @@ use Rattle.fancy_delegation.proofs.EasyNodes.{easy_concat, easy_alt}
 use Rattle.fancy_nfa.specs.NfaStates.{Loop}
 use Rattle.fancy_nfa.specs.NfaCode.{a_loop}
 use Rattle.fancy_nfa.specs.NfaSearch.{LoopCounter, has_stayed, is_last, is_over, next_counter}
-use Rattle.fancy_nfa.proofs.Tasks.{Task, Takes, Asserts, Opens, Closes, Chooses, May, Stars, StartsPlus, Counts, Counters, Jumps, Joins, may_be_empty, with_loop, with_node, with_nodes, with_branches, TakesSomething, IsEasy, AreAllEasy, LoopFits, CountFits, SinceFits}
+use Rattle.fancy_nfa.proofs.Tasks.{Task, Takes, Asserts, Opens, Closes, Chooses, May, Stars, StartsPlus, Counts, Iterates, Jumps, Joins, may_be_empty, with_loop, with_node, with_nodes, with_branches, TakesSomething, IsEasy, AreAllEasy, LoopFits, CountFits, SinceFits}
 use Rattle.fancy_nfa.proofs.TaskWays.{each_easy}
 use Rattle.fancy_nfa.proofs.CounterWays.{before_last, past_last}
 use Rattle.fancy_nfa.proofs.NodesMove.{none_of_sum, none_of_either, none_of_times}
@@ -57,7 +57,7 @@ module _ (a : Analysis) where
   own_rank (Stars greedy e) place = 1 + height e
   own_rank (StartsPlus greedy e) place = 1 + height e
   own_rank (Counts loop e) place = 2 + most_counters loop.lo loop.hi * (2 + height e)
-  own_rank (Counters loop e t) place = 1 + counters_left loop.lo loop.hi place t * (2 + height e)
+  own_rank (Iterates loop e t) place = 1 + counters_left loop.lo loop.hi place t * (2 + height e)
   own_rank Jumps place = 1
   own_rank Joins place = 1
 
@@ -68,7 +68,7 @@ module _ (a : Analysis) where
   may_stay (Chooses is_first e es) = may_be_empty a (Alt (more e es))
   may_stay (StartsPlus greedy e) = false
   may_stay (Counts loop e) = may_be_empty a e || not (nat_lt 0 loop.lo)
-  may_stay (Counters loop e t) = may_be_empty a e || not (nat_lt t.count loop.lo)
+  may_stay (Iterates loop e t) = may_be_empty a e || not (nat_lt t.count loop.lo)
   may_stay t = true
 
   -- up to the first task that takes something
@@ -267,20 +267,20 @@ module _ (a : Analysis) (e : Tree) where
   -- into a further iteration
   pub counter_rank : (loop : Loop) (t : LoopCounter) (ts : List Task) (place : ℕ) → IsEasy a e → LoopFits a loop e →
       CountFits a loop loop.hi t.count → is_over loop place t ≡ false →
-      rank a (with_node a e (Jumps ∷ Counters loop e (next_counter loop place t) ∷ ts)) place < rank a (Counters loop e t ∷ ts) place
+      rank a (with_node a e (Jumps ∷ Iterates loop e (next_counter loop place t) ∷ ts)) place < rank a (Iterates loop e t ∷ ts) place
   counter_rank loop t ts place h fits counts goes = elim (cases_Bool (may_be_empty a e)) [
     | inl empty ↦
         let after = next_counter loop place t in
-        let in_node = node_rank a place e h (Jumps ∷ Counters loop e after ∷ ts) in
-        let whole = ap (λ v. only_if v (rank a (Jumps ∷ Counters loop e after ∷ ts) place)) empty in
+        let in_node = node_rank a place e h (Jumps ∷ Iterates loop e after ∷ ts) in
+        let whole = ap (λ v. only_if v (rank a (Jumps ∷ Iterates loop e after ∷ ts) place)) empty in
         let fewer = times_more (counters_left loop.lo loop.hi place after) (counters_left loop.lo loop.hi place t) (2 + height e)
         (fewer_counters loop.lo loop.hi loop.greedy loop.asks_moved t place fits counts goes empty) in
-        let rest = only_if_at_most (may_stay a (Counters loop e after)) (rank a ts place) in
+        let rest = only_if_at_most (may_stay a (Iterates loop e after)) (rank a ts place) in
         let same = ap (λ v. only_if v (rank a ts place)) (or_left (may_be_empty a e) (not (nat_lt t.count loop.lo)) empty) in
         omega (arith, in_node, whole, fewer, rest, same)
     | inr some ↦
-        let in_node = node_rank a place e h (Jumps ∷ Counters loop e (next_counter loop place t) ∷ ts) in
-        let none = ap (λ v. only_if v (rank a (Jumps ∷ Counters loop e (next_counter loop place t) ∷ ts) place)) some in
+        let in_node = node_rank a place e h (Jumps ∷ Iterates loop e (next_counter loop place t) ∷ ts) in
+        let none = ap (λ v. only_if v (rank a (Jumps ∷ Iterates loop e (next_counter loop place t) ∷ ts) place)) some in
         let one = times_more 0 (counters_left loop.lo loop.hi place t) (2 + height e)
         (some_counter loop.lo loop.hi loop.greedy loop.asks_moved t place counts goes) in
         omega (arith, in_node, none, one)
@@ -288,20 +288,20 @@ module _ (a : Analysis) (e : Tree) where
 
   -- out of the loop
   pub over_rank : (loop : Loop) (t : LoopCounter) (ts : List Task) (place : ℕ) → LoopFits a loop e → SinceFits a loop t.since place →
-      is_over loop place t ≡ true → rank a ts place < rank a (Counters loop e t ∷ ts) place
+      is_over loop place t ≡ true → rank a ts place < rank a (Iterates loop e t ∷ ts) place
   over_rank loop t ts place fits asked over =
       let same = ap (λ v. only_if v (rank a ts place))
       (over_may_stay loop.lo loop.hi loop.greedy loop.asks_moved t.count t.since place fits asked over) in
       omega (arith, same)
 
   pub past_rank : (loop : Loop) (t : LoopCounter) (ts : List Task) (place : ℕ) → nat_lt t.count loop.lo ≡ false →
-      rank a ts place < rank a (Counters loop e t ∷ ts) place
+      rank a ts place < rank a (Iterates loop e t ∷ ts) place
   past_rank loop t ts place past =
       let same = ap (λ v. only_if v (rank a ts place)) (or_right (may_be_empty a e) _ (ap not past)) in
       omega (arith, same)
 
   pub first_counter_rank : (loop : Loop) (ts : List Task) (place : ℕ) →
-      rank a (Counters loop e (record { count = 0; since = None }) ∷ ts) place < rank a (Counts loop e ∷ ts) place
+      rank a (Iterates loop e (record { count = 0; since = None }) ∷ ts) place < rank a (Counts loop e ∷ ts) place
   first_counter_rank loop ts place = go loop.hi
     where
       go : (hi : Option ℕ) →

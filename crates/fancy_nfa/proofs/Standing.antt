@@ -7,7 +7,7 @@ use Rattle.fancy_nfa.specs.NfaCode.{NfaCode, ◌>>◌, one, laid, each_laid, bra
 use Rattle.fancy_nfa.specs.NfaSearch.{LoopCounter, NfaConfig}
 use Rattle.fancy_nfa.specs.FirstWays.{spans_of}
 use Rattle.fancy_nfa.proofs.Segments.{LiesAt}
-use Rattle.fancy_nfa.proofs.Tasks.{Task, Takes, Asserts, Opens, Closes, Chooses, May, Stars, StartsPlus, Counts, Counters, Jumps, Joins}
+use Rattle.fancy_nfa.proofs.Tasks.{Task, Takes, Asserts, Opens, Closes, Chooses, May, Stars, StartsPlus, Counts, Iterates, Jumps, Joins}
 
 abbrev pub choosing : Bool → ℕ → ℕ → NfaState
 choosing true = Split
@@ -51,14 +51,14 @@ module _ (a : Analysis) (states : List NfaState) where
   Stands p counters opened (Counts loop e ∷ ts) =
       let code = one CounterBegin >> around (λ here after. CounterLoop loop after) (laid a.tree e) in
       IsLaidAt p code × Stands (behind p code) counters opened ts
-  Stands p [] opened (Counters loop e u ∷ ts) = ⊥
-  Stands p (t ∷ counters) opened (Counters loop e u ∷ ts) =
+  Stands p [] opened (Iterates loop e u ∷ ts) = ⊥
+  Stands p (t ∷ counters) opened (Iterates loop e u ∷ ts) =
       let code = around (λ here after. CounterLoop loop after) (laid a.tree e) in
       (t ≡ u) × IsLaidAt p code × Stands (behind p code) counters opened ts
   Stands p counters opened (Jumps ∷ ts) = (to : ℕ) × IsAt p (Jump to) × Stands to counters opened ts
   Stands p counters opened (Joins ∷ ts) = IsAt p Join × Stands (p + 1) counters opened ts
 
-  -- a stand of the search is at these tasks in this state
+  -- a configuration of the search is at these tasks in this match state
   pub record IsConfigOf (s : NfaConfig) (ts : List Task) (m : MatchState) : Type 0 where
     pub stands : Stands s.at s.counters s.opened ts
     pub place : s.place ≡ m.place

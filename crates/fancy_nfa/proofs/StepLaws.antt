@@ -10,7 +10,7 @@ use Rattle.fancy_nfa.proofs.Tasks.{Task, TaskStep, Found, Lost, Goes, Tries, way
 use Rattle.fancy_nfa.proofs.Standing.{IsConfigOf}
 
 module _ (q : Setting) (a : Analysis) where
-  -- each of these stands is at the tasks with the same index, in this state
+  -- each of these configurations is at the tasks with the same index, in this match state
   abbrev pub AreConfigsOf : List NfaState → List NfaConfig → List (List Task) → MatchState → Type 0
   AreConfigsOf states [] [] m = Unit {0}
   AreConfigsOf states [] (ts ∷ tss) m = ⊥
@@ -34,7 +34,7 @@ module _ (q : Setting) (a : Analysis) where
     AreLower [] ts m = Unit {0}
     AreLower (us ∷ uss) ts m = (TasksFit a m.place us × Lower us m ts m) × AreLower uss ts m
 
-    -- what a lead says of the ways of the tasks
+    -- what a step result says of the ways of the tasks
     abbrev pub StepMeans : List Task → MatchState → TaskStep → Type 0
     StepMeans ts m Found = ways_of_tasks a q ts m ≡ m ∷ []
     StepMeans ts m Lost = ways_of_tasks a q ts m ≡ []

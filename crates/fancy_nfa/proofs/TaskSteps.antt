@@ -17,7 +17,7 @@ use Rattle.fancy_delegation.proofs.Binding.{flat_map_through, flat_map_same}
 use Rattle.fancy_nfa.specs.NfaStates.{CharTest, Loop}
 use Rattle.fancy_nfa.specs.NfaSearch.{LoopCounter, passes, has_stayed, is_last, is_over, next_count, next_counter}
 use Rattle.fancy_nfa.specs.NfaCode.{a_loop}
-use Rattle.fancy_nfa.proofs.Tasks.{Task, TaskStep, Lost, Goes, Tries, Takes, Asserts, Opens, Closes, Chooses, May, Stars, StartsPlus, Counts, Counters, Jumps, Joins, may_be_empty, with_node, with_branches, tries_in_order, goes_past, counter_step, task_step, plain_ways, counter_ways, ways_of_task, ways_of_tasks, IsEasy, AreAllEasy, TakesSomething, LoopFits, CountFits, SinceFits, TasksFit}
+use Rattle.fancy_nfa.proofs.Tasks.{Task, TaskStep, Lost, Goes, Tries, Takes, Asserts, Opens, Closes, Chooses, May, Stars, StartsPlus, Counts, Iterates, Jumps, Joins, may_be_empty, with_node, with_branches, tries_in_order, goes_past, counter_step, task_step, plain_ways, counter_ways, ways_of_task, ways_of_tasks, IsEasy, AreAllEasy, TakesSomething, LoopFits, CountFits, SinceFits, TasksFit}
 use Rattle.fancy_nfa.proofs.StepLaws.{StepMeans}
 use Rattle.fancy_nfa.proofs.TaskWays.{flat_map_one, flat_map_prefer, node_steps, branches_step, node_fits, branches_fit, tasks_fit_on}
 use Rattle.fancy_nfa.proofs.CounterWays.{before_last, endless_moving, counter_is_over, counter_goes_on, counter_may_go_on}
@@ -208,30 +208,30 @@ module _ (q : Setting) (a : Analysis) where
       cond_both (loop.asks_moved && past) (Some place) None (λ o. SinceFits a loop o place)
       (λ z. (omega arith, (and_parts loop.asks_moved past z).0)) (λ z. tt)
 
-  counter_steps : (loop : Loop) (e : Tree) (t : LoopCounter) (ts : List Task) (m : MatchState) → TasksFit a m.place (Counters loop e t ∷ ts) →
-      m.place ≤ length q.text → Means (Counters loop e t ∷ ts) m (counter_step a q loop e t ts m)
+  counter_steps : (loop : Loop) (e : Tree) (t : LoopCounter) (ts : List Task) (m : MatchState) → TasksFit a m.place (Iterates loop e t ∷ ts) →
+      m.place ≤ length q.text → Means (Iterates loop e t ∷ ts) m (counter_step a q loop e t ts m)
   counter_steps loop e t ts m fit within =
       cond_both (is_over loop m.place t) (Tries true (ts ∷ []) m)
       (if nat_lt t.count loop.lo then Tries true (on ∷ []) m else tries_in_order a loop.greedy on ts m)
-      (Means (Counters loop e t ∷ ts) m)
-      (λ over. one_means true ts (Counters loop e t ∷ ts) m
+      (Means (Iterates loop e t ∷ ts) m)
+      (λ over. one_means true ts (Iterates loop e t ∷ ts) m
       (sym (ap (flat_map (ways_at ts)) (counter_is_over a q e loop t m fits over) ∙ flat_map_one (ways_at ts) m))
       (fit.1, over_rank a e loop t ts m.place fits since over))
       (λ goes. cond_both (nat_lt t.count loop.lo) (Tries true (on ∷ []) m) (tries_in_order a loop.greedy on ts m)
-      (Means (Counters loop e t ∷ ts) m)
-      (λ lt. one_means true on (Counters loop e t ∷ ts) m
-      (again e (Counters loop e next) ts m easy ∙ ap (flat_map (ways_at ts)) (sym (counter_goes_on a q e loop t m fits goes lt)))
+      (Means (Iterates loop e t ∷ ts) m)
+      (λ lt. one_means true on (Iterates loop e t ∷ ts) m
+      (again e (Iterates loop e next) ts m easy ∙ ap (flat_map (ways_at ts)) (sym (counter_goes_on a q e loop t m fits goes lt)))
       (on_is_below goes))
-      (λ past. choice_means loop.greedy on ts (Counters loop e t ∷ ts) m
-      (choice_ways loop.greedy on ts (Counters loop e t) m (flat_map (counter_ways a q loop e next) (plain_ways a q e m))
-      (again e (Counters loop e next) ts m easy) (counter_may_go_on a q e loop t m easy fits counts within goes past))
+      (λ past. choice_means loop.greedy on ts (Iterates loop e t ∷ ts) m
+      (choice_ways loop.greedy on ts (Iterates loop e t) m (flat_map (counter_ways a q loop e next) (plain_ways a q e m))
+      (again e (Iterates loop e next) ts m easy) (counter_may_go_on a q e loop t m easy fits counts within goes past))
       (on_is_below goes) (fit.1, past_rank a e loop t ts m.place past)))
     where
       next : LoopCounter
       next = next_counter loop m.place t
 
       on : List Task
-      on = with_node a e (Jumps ∷ Counters loop e next ∷ ts)
+      on = with_node a e (Jumps ∷ Iterates loop e next ∷ ts)
 
       easy : IsEasy a e
       easy = fit.0.0
@@ -245,9 +245,9 @@ module _ (q : Setting) (a : Analysis) where
       since : SinceFits a loop t.since m.place
       since = fit.0.3
 
-      on_is_below : is_over loop m.place t ≡ false → IsBelow on (Counters loop e t ∷ ts) m.place
+      on_is_below : is_over loop m.place t ≡ false → IsBelow on (Iterates loop e t ∷ ts) m.place
       on_is_below goes = (
-        node_fits a e easy m.place (Jumps ∷ Counters loop e next ∷ ts) (
+        node_fits a e easy m.place (Jumps ∷ Iterates loop e next ∷ ts) (
           tt,
           (
             (
@@ -276,7 +276,7 @@ module _ (q : Setting) (a : Analysis) where
   task_steps (Stars greedy e ∷ ts) m fit within = stars_step greedy e ts m fit.0.0 fit.0.1 fit.1 within
   task_steps (StartsPlus greedy e ∷ ts) m fit within = starts_plus_leads greedy e ts m fit.0.0 fit.0.1 fit.1 within
   task_steps (Counts loop e ∷ ts) m fit within = counts_step loop e ts m fit within
-  task_steps (Counters loop e t ∷ ts) m fit within = counter_steps loop e t ts m fit within
+  task_steps (Iterates loop e t ∷ ts) m fit within = counter_steps loop e t ts m fit within
   task_steps (Jumps ∷ ts) m fit within = (sym (flat_map_one (ways_at ts) m), fit.1, within, inr (refl, omega arith))
   task_steps (Joins ∷ ts) m fit within =
       one_means true ts (Joins ∷ ts) m (sym (flat_map_one (ways_at ts) m)) (fit.1, omega arith)

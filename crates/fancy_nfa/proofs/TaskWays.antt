@@ -14,7 +14,7 @@ use Rattle.fancy_delegation.proofs.Everywhere.{everywhere_from}
 use Rattle.fancy_delegation.proofs.Items.{contained_is_in}
 use Rattle.fancy_nfa.specs.NfaStates.{Loop}
 use Rattle.fancy_nfa.specs.FirstWays.{ways_of_nodes, AreEasy}
-use Rattle.fancy_nfa.proofs.Tasks.{Task, Counters, Joins, may_be_empty, with_loop, with_node, with_nodes, with_branches, tasks_of, plain_ways, ways_of_tasks, IsEasy, AreAllEasy, SinceFits, TaskFits, TasksFit}
+use Rattle.fancy_nfa.proofs.Tasks.{Task, Iterates, Joins, may_be_empty, with_loop, with_node, with_nodes, with_branches, tasks_of, plain_ways, ways_of_tasks, IsEasy, AreAllEasy, SinceFits, TaskFits, TasksFit}
 
 -- ---- lists of ways
 
@@ -102,7 +102,7 @@ module _ (a : Analysis) where
   since_fits_on loop (Some since) i j le h = (let from = h.0 in omega (arith, from, le), h.1)
 
   task_fits_on : (t : Task) (i j : ℕ) → i ≤ j → TaskFits a i t → TaskFits a j t
-  task_fits_on (Counters loop e t) i j le h = (h.0, h.1, h.2, since_fits_on loop t.since i j le h.3)
+  task_fits_on (Iterates loop e t) i j le h = (h.0, h.1, h.2, since_fits_on loop t.since i j le h.3)
   task_fits_on t i j le h = h
 
   -- further on in the text they still fit

@@ -30,7 +30,7 @@ pub data Task : Type 0 where
   Stars StartsPlus : (greedy : Bool) → Tree → Task
   -- a loop that counts, and at its head
   Counts : Loop → Tree → Task
-  Counters : Loop → Tree → LoopCounter → Task
+  Iterates : Loop → Tree → LoopCounter → Task
   -- to the head of a loop, or behind the last branch
   Jumps : Task
   Joins : Task
@@ -93,7 +93,7 @@ module _ (a : Analysis) where
 
     abbrev pub counter_step : Loop → Tree → LoopCounter → List Task → MatchState → TaskStep
     counter_step loop e t ts m =
-        let on = with_node e (Jumps ∷ Counters loop e (next_counter loop m.place t) ∷ ts) in
+        let on = with_node e (Jumps ∷ Iterates loop e (next_counter loop m.place t) ∷ ts) in
         if is_over loop m.place t then Tries true (ts ∷ []) m
         else if nat_lt t.count loop.lo then Tries true (on ∷ []) m
         else tries_in_order loop.greedy on ts m
@@ -114,8 +114,8 @@ module _ (a : Analysis) where
     task_step (Stars greedy e ∷ ts) m =
         tries_in_order greedy (with_node e (Jumps ∷ Stars greedy e ∷ ts)) ts m
     task_step (StartsPlus greedy e ∷ ts) m = Goes (with_node e (Jumps ∷ Stars greedy e ∷ ts)) m
-    task_step (Counts loop e ∷ ts) m = Goes (Counters loop e (record { count = 0; since = None }) ∷ ts) m
-    task_step (Counters loop e t ∷ ts) m = counter_step loop e t ts m
+    task_step (Counts loop e ∷ ts) m = Goes (Iterates loop e (record { count = 0; since = None }) ∷ ts) m
+    task_step (Iterates loop e t ∷ ts) m = counter_step loop e t ts m
     task_step (Jumps ∷ ts) m = Goes ts m
     task_step (Joins ∷ ts) m = Tries true (ts ∷ []) m
 
@@ -139,7 +139,7 @@ module _ (a : Analysis) where
     ways_of_task (Stars greedy e) = repeats q.text 0 None greedy (plain_ways e)
     ways_of_task (StartsPlus greedy e) = repeats q.text 1 None greedy (plain_ways e)
     ways_of_task (Counts loop e) = repeats q.text loop.lo loop.hi loop.greedy (plain_ways e)
-    ways_of_task (Counters loop e t) = counter_ways loop e t
+    ways_of_task (Iterates loop e t) = counter_ways loop e t
     ways_of_task Jumps = stays
     ways_of_task Joins = stays
 
@@ -187,7 +187,7 @@ module _ (a : Analysis) where
   TaskFits place (Stars greedy e) = IsEasy e × TakesSomething e
   TaskFits place (StartsPlus greedy e) = IsEasy e × TakesSomething e
   TaskFits place (Counts loop e) = IsEasy e × LoopFits loop e
-  TaskFits place (Counters loop e t) =
+  TaskFits place (Iterates loop e t) =
       IsEasy e × LoopFits loop e × CountFits loop loop.hi t.count × SinceFits loop t.since place
   TaskFits place Jumps = Unit {0}
   TaskFits place Joins = Unit {0}

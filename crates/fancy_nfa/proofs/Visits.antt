@@ -95,7 +95,7 @@ module _ (w : Ground) (start : ℕ) where
   under_tried {s} p frames to under x tried =
       ⊎_elim (λ e. (s, p, sym e, in_one to)) (λ h. under_on frames to under x h) tried
 
-  -- what is known of each pair that was tried, on another stack and among other notes
+  -- what is known of each pair that was tried, on another stack and with another failed set
   account_on : (frames more : List Frame) (failed known : Pair → Bool) (xs : List Pair) →
       ((x : Pair) → failed x ≡ true → known x ≡ true) →
       ((x : Pair) → IsTried x frames → (known x ≡ true) ⊎ IsTried x more) →

@@ -10,7 +10,7 @@ use Rattle.fancy_meaning.specs.Ways.{Setting}
 use Rattle.fancy_nfa.specs.NfaStates.{Loop}
 use Rattle.fancy_nfa.specs.NfaSearch.{LoopCounter, passes, is_over, next_counter}
 use Rattle.fancy_nfa.proofs.Totals.{total_by}
-use Rattle.fancy_nfa.proofs.Tasks.{Task, TaskStep, Found, Lost, Goes, Tries, task_step, goes_past, counter_step, tries_in_order, Takes, Asserts, Opens, Closes, Chooses, May, Stars, StartsPlus, Counts, Counters, Jumps, Joins, may_be_empty, with_node, with_nodes, with_branches, with_loop}
+use Rattle.fancy_nfa.proofs.Tasks.{Task, TaskStep, Found, Lost, Goes, Tries, task_step, goes_past, counter_step, tries_in_order, Takes, Asserts, Opens, Closes, Chooses, May, Stars, StartsPlus, Counts, Iterates, Jumps, Joins, may_be_empty, with_node, with_nodes, with_branches, with_loop}
 
 -- 1 where a state is counted
 abbrev pub cost : Bool → ℕ
@@ -71,14 +71,14 @@ module _ (a : Analysis) where
   weight (Stars greedy e ∷ ts) = 0
   weight (StartsPlus greedy e ∷ ts) = weigh e 0
   weight (Counts loop e ∷ ts) = 1
-  weight (Counters loop e t ∷ ts) = 0
+  weight (Iterates loop e t ∷ ts) = 0
   weight (Jumps ∷ ts) = weight ts
   weight (Joins ∷ ts) = 0
 
   -- what is taken up at most by taking up a memoized state once, with all that it leads to before a memoized one
   abbrev pub charge : List Task → ℕ
   charge (Stars greedy e ∷ ts) = 1 + weigh e 0 + weight ts
-  charge (Counters loop e t ∷ ts) = 1 + weigh e 0 + weight ts
+  charge (Iterates loop e t ∷ ts) = 1 + weigh e 0 + weight ts
   charge (Joins ∷ ts) = weight ts
   charge ts = 0
 
@@ -107,7 +107,7 @@ module _ (a : Analysis) where
 
   -- ---- each step
 
-  -- what a lead says of the weights
+  -- what a step result says of the weights
   abbrev pub IsWeighed : List Task → TaskStep → Type 0
   IsWeighed ts Found = cost (is_counted_task ts) ≤ weight ts
   IsWeighed ts Lost = cost (is_counted_task ts) ≤ weight ts
@@ -133,23 +133,23 @@ module _ (a : Analysis) where
     weighed_in_order ts on off m false e le = (e, omega (arith, le))
 
     weighed_counter : (loop : Loop) (e : Tree) (t : LoopCounter) (ts : List Task) (m : MatchState) →
-        IsWeighed (Counters loop e t ∷ ts) (counter_step a q loop e t ts m)
+        IsWeighed (Iterates loop e t ∷ ts) (counter_step a q loop e t ts m)
     weighed_counter loop e t ts m = by_cases (is_over loop m.place t) (nat_lt t.count loop.lo)
       where
         on : List Task
-        on = with_node a e (Jumps ∷ Counters loop e (next_counter loop m.place t) ∷ ts)
+        on = with_node a e (Jumps ∷ Iterates loop e (next_counter loop m.place t) ∷ ts)
 
         into : weight on ≡ weigh e 0
-        into = weight_node e (Jumps ∷ Counters loop e (next_counter loop m.place t) ∷ ts)
+        into = weight_node e (Jumps ∷ Iterates loop e (next_counter loop m.place t) ∷ ts)
 
         by_cases : (over begins : Bool) →
-            IsWeighed (Counters loop e t ∷ ts)
+            IsWeighed (Iterates loop e t ∷ ts)
             (if over then Tries true (ts ∷ []) m
             else if begins then Tries true (on ∷ []) m else tries_in_order a loop.greedy on ts m)
         by_cases true begins = (refl, omega arith)
         by_cases false true = let w = into in (refl, omega (arith, w))
         by_cases false false =
-            let w = into in weighed_in_order (Counters loop e t ∷ ts) on ts m loop.greedy refl (omega (arith, w))
+            let w = into in weighed_in_order (Iterates loop e t ∷ ts) on ts m loop.greedy refl (omega (arith, w))
 
     pub step_weighed : (ts : List Task) (m : MatchState) → IsWeighed ts (task_step a q ts m)
     step_weighed [] m = omega arith
@@ -172,6 +172,6 @@ module _ (a : Analysis) where
     step_weighed (StartsPlus greedy e ∷ ts) m =
         let w = weight_node e (Jumps ∷ Stars greedy e ∷ ts) in omega (arith, w)
     step_weighed (Counts loop e ∷ ts) m = omega arith
-    step_weighed (Counters loop e t ∷ ts) m = weighed_counter loop e t ts m
+    step_weighed (Iterates loop e t ∷ ts) m = weighed_counter loop e t ts m
     step_weighed (Jumps ∷ ts) m = omega arith
     step_weighed (Joins ∷ ts) m = (refl, omega arith)

@@ -75,7 +75,7 @@ FindsFirstWays = (q : Setting) (a : Analysis) (es : List Tree) (failed : Pair �
     AreMemoized q.text q.unicode (states_of a.tree es) failed →
     FindsFirst q a es failed place
 
--- a search from this stand that knows of no pair ends without a way
+-- a search from this configuration that knows of no pair ends without a way
 abbrev pub HasNoWay : Setting → List NfaState → NfaConfig → Type 0
 HasNoWay q states s =
     (steps : ℕ) × (found : Search)

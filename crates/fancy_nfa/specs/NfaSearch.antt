@@ -14,7 +14,7 @@ pub record LoopCounter : Type 0 where
   pub count : ℕ
   pub since : Option ℕ
 
--- where the search stands
+-- a configuration: where the search stands
 pub record NfaConfig : Type 0 where
   pub at : ℕ
   pub place : ℕ

@@ -1,5 +1,5 @@
-//! A plain search of an easy fragment, from state to state, finds the first way. Each theorem is the contract of a function
-//! that does nothing.
+//! A backtracking search of an easy fragment's NFA finds the first way. Each theorem is the contract of a function that
+//! does nothing.
 #![tactic(auto)]
 
 ghost use Rattle.fancy_nfa.specs.FirstWays.{FindsFirstWays, FailedSetIsSound};
@@ -11,8 +11,8 @@ pub fn plain_search_finds()
     ensures { FindsFirstWays }
 {}
 
-/// What is memoized is so: wherever a search comes to a pair that was memoized before it began, a search from there which knows
-/// of no pair ends without a way.
+/// The failed set is sound: wherever a search comes to a pair that was memoized before it began, a search from there which
+/// knows of no pair ends without a way.
 pub fn failed_set_is_sound()
     ensures { FailedSetIsSound }
 {}

@@ -1,16 +1,16 @@
--- Where tasks stand among the notes.
+-- Where tasks stand among the fees.
 use Rattle.std.proofs.Common.{◌≡◌, ℕ, suc, ◌+◌, Bool, true, false, List, [], ◌∷◌, ◌++◌, length, Option, Some, None, slice_get, refl, sym, ap, ◌∙◌, subst, arith, length-append}
 use Rattle.fancy_meaning.specs.Tree.{Tree, Trees, none, more, Any, Assert, Literal, Delegate, Concat, Alt, Group, Repeat}
 use Rattle.fancy_meaning.specs.Options.{Analysis}
 use Rattle.fancy_meaning.specs.Constructs.{LoopForm, Never, AtMostOnce, Epsilon, Star, Plus, Counted, loop_form}
 use Rattle.fancy_nfa.specs.NfaStates.{Loop, NfaState, Close, Split, BranchSplit, LoopSplit, Jump, Join, CounterLoop}
 use Rattle.fancy_nfa.specs.NfaCode.{NfaCode, laid, each_laid, in_sequence, branches, around, counted, preferring, repeated, a_loop}
-use Rattle.fancy_nfa.proofs.Tasks.{Task, Takes, Asserts, Opens, Closes, Chooses, May, Stars, StartsPlus, Counts, Counters, Jumps, Joins, may_be_empty, with_node, with_nodes, with_branches, with_loop, tasks_of}
+use Rattle.fancy_nfa.proofs.Tasks.{Task, Takes, Asserts, Opens, Closes, Chooses, May, Stars, StartsPlus, Counts, Iterates, Jumps, Joins, may_be_empty, with_node, with_nodes, with_branches, with_loop, tasks_of}
 use Rattle.fancy_nfa.proofs.Weights.{weigh, weigh_each, weight, weight_nodes}
 use Rattle.fancy_nfa.proofs.Fees.{Key, keys_of, Fee, fee_with, FeesCode, group_fees, may_fees, choice_fees, star_fees, plus_fees, counter_fees, count_fees, with_join, loop_fees, node_fees, each_fees, branch_fees, nodes_fees}
 use Rattle.fancy_nfa.proofs.Segments.{LiesAt, lies_front, lies_back}
 
--- ---- as many notes as states
+-- ---- as many fees as states
 
 abbrev pub AsLong : FeesCode → NfaCode → Type 0
 AsLong ns code = (cs : List (List Key)) (x base : ℕ) → length (ns cs x) ≡ length (code base)
@@ -85,7 +85,7 @@ module _ (a : Analysis) where
 -- of each loop around that counts what it tells apart
 abbrev pub around_of : List Task → List (List Key)
 around_of [] = []
-around_of (Counters loop e t ∷ ts) = keys_of loop ∷ around_of ts
+around_of (Iterates loop e t ∷ ts) = keys_of loop ∷ around_of ts
 around_of (t ∷ ts) = around_of ts
 
 module _ (a : Analysis) (states : List NfaState) (fees : List (Option Fee)) where
@@ -113,7 +113,7 @@ module _ (a : Analysis) (states : List NfaState) (fees : List (Option Fee)) wher
   FeesStand p (Counts loop e ∷ ts) =
       let ns = count_fees loop (weigh a e) (node_fees a e) (around_of ts) (weight a ts) in
       LiesAt fees p ns × FeesStand (p + length ns) ts
-  FeesStand p (Counters loop e t ∷ ts) =
+  FeesStand p (Iterates loop e t ∷ ts) =
       let ns = counter_fees loop (weigh a e) (node_fees a e) (around_of ts) (weight a ts) in
       LiesAt fees p ns × FeesStand (p + length ns) ts
   FeesStand p (Jumps ∷ ts) = (to : ℕ) × (slice_get states p ≡ Some (Jump to)) × FeesStand to ts
@@ -149,7 +149,7 @@ module _ (a : Analysis) (states : List NfaState) (fees : List (Option Fee)) wher
   pub config_here : (p r : ℕ) (ts : List Task) → p ≡ r → FeesStand p ts → FeesStand r ts
   config_here p r ts e h = subst (λ i. FeesStand i ts) e h
 
-  -- one list of notes after the other
+  -- one list of fees after the other
   lie_parts : (p : ℕ) (ns ks : List (Option Fee)) (ts : List Task) → LieBefore p (ns ++ ks) ts →
       LiesAt fees p ns × LieBefore (p + length ns) ks ts
   lie_parts p ns ks ts h =
