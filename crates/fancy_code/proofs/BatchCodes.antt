@@ -20,7 +20,7 @@ use Rattle.fancy_info.specs.Infos.{info_tree, info_children, info_within, node_o
 use Rattle.fancy_characters.specs.Classes.{IsClassRefusal}
 use Rattle.fancy_expr.specs.declared.error.Error.{Error}
 use Rattle.fancy_plain.specs.ClassTexts.{HasClass, itself, below, AreClasses, IsRefusal, texts_in}
-use Rattle.fancy_plain.specs.Tables.{HaveClasses, IsRefusedFor}
+use Rattle.fancy_plain.specs.Nfas.{HaveClasses, IsRefusedFor}
 use Rattle.fancy_code.specs.Batches.{Collects}
 use Rattle.fancy_code.specs.Neighbours.{IsMadeOf}
 use Rattle.fancy_info.proofs.Children.{only_one, tree_by}

@@ -24,7 +24,7 @@ use Rattle.fancy_info.specs.Infos.{info_tree}
 use Rattle.fancy_plain.specs.ClassTexts as classes
 use Rattle.fancy_plain.specs.ClassTexts.{HasClass, AreClasses, texts_of, texts_in}
 use Rattle.fancy_plain.specs.Neighbours.{IsEasy, trees_of}
-use Rattle.fancy_plain.specs.Tables.{AreFine, HaveClasses, IsRefusedFor}
+use Rattle.fancy_plain.specs.Nfas.{AreFine, HaveClasses, IsRefusedFor}
 use Rattle.fancy_code.specs.Sites.{Site}
 use Rattle.fancy_code.specs.Faults.{IsBelow, itself, below, through, Rejects, MayReject, rejected, too_big, refused, out_of_range, AreCompilable, HasRejected}
 use Rattle.fancy_code.specs.Drafts.{Draft, Breaks, Writes}

@@ -15,7 +15,7 @@ use Rattle.fancy_info.proofs.Children.{each_at, only_one, node_count-below, chil
 use Rattle.fancy_info.proofs.Unfolded.{tree_out, each_made}
 use Rattle.fancy_expr.specs.Walk.{start_inside, within_inside}
 use Rattle.fancy_plain.specs.Neighbours.{IsEasy}
-use Rattle.fancy_plain.specs.Tables.{AreFine}
+use Rattle.fancy_plain.specs.Nfas.{AreFine}
 use Rattle.fancy_fragments.specs.Nodes.{AreEasyNeighbours}
 use Rattle.fancy_compile.specs.declared.scope.Scope.{Scope}
 use Rattle.fancy_info.specs.NodeCounts.{node_count, node_counts}

@@ -1,9 +1,8 @@
--- The first way by the table is that of the nodes.
+-- The first way by the NFA is that of the nodes.
 use Rattle.std.proofs.Common.{◌≡◌, ◌≤◌, ◌-◌, ℕ, List, length, Option, Some, None, Result, Ok, Err, IfOk, sym, subst}
 use Rattle.std.proofs.Math.Logic.{∥∥₁_elim, ∥∥₁_map}
 use Rattle.std.specs.Coded.{×_prop, Π_prop, Unit-prop, le_prop, Coded-set, coded_option, coded×, coded_ℕ}
 use Rattle.std.proofs.Props.{props}
-use Rattle.std.specs.declared.alloc.AllocError.{AllocError}
 use Rattle.fancy_expr.specs.declared.error.Error.{Error}
 use Rattle.fancy_nfa.specs.FirstWays.{Seen, first_seen}
 use Rattle.fancy_plain.specs.declared.first_way.FirstWay.{FirstWay}
@@ -11,7 +10,7 @@ use Rattle.fancy_plain.specs.declared.first_way.Way.{Way}
 use Rattle.fancy_plain.specs.declared.one_pass.OnePass.{OnePass}
 use Rattle.fancy_plain.specs.declared.one_pass.OnePass.TheVariants as one_pass
 use Rattle.fancy_plain.specs.OnePass.{IsOnePass}
-use Rattle.fancy_plain.specs.Tables.{IsTableOf}
+use Rattle.fancy_plain.specs.Nfas.{IsNfaOf}
 use Rattle.fancy_plain.specs.Ways.{HasNoWayAt, IsFirstWay, IsOfNodes, IsSeenAs}
 use Rattle.fancy_fragments.specs.declared.fragment.Fragment.{Fragment}
 use Rattle.fancy_fragments.specs.Nodes.{IsLaidOut}
@@ -26,14 +25,14 @@ seen-prop (Some w) None = λ x y. elim x [ ]
 seen-prop (Some w) (Some seen) = ×_prop (search props) (Π_prop (λ g. Coded-set (coded_option (coded× coded_ℕ coded_ℕ)) _ _))
 
 module _ (f : Fragment) where
-  -- the table's own option is the fragment's
-  by_option : (laid : IsLaidOut (nodes_of f) f.unicode f.table) → IsTableOf laid.0 (nodes_of f) (f.table).unicode f.table
-  by_option laid = subst (λ u. IsTableOf laid.0 (nodes_of f) u f.table) (sym laid.1.unicode) laid.1
+  -- the NFA's own option is the fragment's
+  by_option : (laid : IsLaidOut (nodes_of f) f.unicode f.nfa) → IsNfaOf laid.0 (nodes_of f) (f.nfa).unicode f.nfa
+  by_option laid = subst (λ u. IsNfaOf laid.0 (nodes_of f) u f.nfa) (sym laid.1.unicode) laid.1
 
-  pub of_nodes : ∥ IsOfNodes f.table ∥₁
+  pub of_nodes : ∥ IsOfNodes f.nfa ∥₁
   of_nodes = ∥∥₁_map f.laid_out (λ laid. (laid.0, (nodes_of f, by_option laid)))
 
-  by_table : (text : List ℕ) (place : ℕ) (answer : FirstWay) → IsFirstWay text f.table place answer → IsFirstWayOf text f place answer
+  by_table : (text : List ℕ) (place : ℕ) (answer : FirstWay) → IsFirstWay text f.nfa place answer → IsFirstWayOf text f place answer
   by_table text place answer h = record {
     way = λ pos continued.
         ∥∥₁_elim f.laid_out (seen-prop answer.way _) (λ laid.
@@ -49,8 +48,8 @@ module _ (f : Fragment) where
         (h laid.0 (nodes_of f) (by_option laid)).1);
   }
 
-  -- what the table's nodes have not, the fragment's have not
-  pub no_way_from : (text : List ℕ) (place : ℕ) → HasNoWayAt text f.table place → HasNoWayFrom text f place
+  -- what the NFA's nodes have not, the fragment's have not
+  pub no_way_from : (text : List ℕ) (place : ℕ) → HasNoWayAt text f.nfa place → HasNoWayFrom text f place
   no_way_from text place h = λ pos continued.
       ∥∥₁_elim f.laid_out (seen-prop None _) (λ laid.
       subst
@@ -58,7 +57,7 @@ module _ (f : Fragment) where
       laid.1.unicode
       (subst (IsSeenAs None) (sym (h laid.0 (nodes_of f) (by_option laid) pos continued)) tt))
 
-  one_pass_from : (text : List ℕ) (place : ℕ) (s : OnePass) → IsOnePass text f.table place s → IsOnePassOf text f place s
+  pub one_pass_from : (text : List ℕ) (place : ℕ) (s : OnePass) → IsOnePass text f.nfa place s → IsOnePassOf text f place s
   one_pass_from text place (one_pass.Ends end) h = λ pos continued.
       ∥∥₁_elim f.laid_out (Prim.hlevel props) (λ laid.
       subst
@@ -68,12 +67,7 @@ module _ (f : Fragment) where
   one_pass_from text place one_pass.Fails h = no_way_from text place h
   one_pass_from text place one_pass.Unknown h = h
 
-pub found_one_pass : (text : List ℕ) (f : Fragment) (place : ℕ) (result : Result OnePass AllocError) →
-    IfOk result (IsOnePass text f.table place) → IfOk result (IsOnePassOf text f place)
-found_one_pass text f place (Ok s) h = one_pass_from f text place s h
-found_one_pass text f place (Err e) h = h
-
-pub found_first : (text : List ℕ) (f : Fragment) (place : ℕ) (result : Result FirstWay Error) → IfOk result (IsFirstWay text f.table place) →
+pub found_first : (text : List ℕ) (f : Fragment) (place : ℕ) (result : Result FirstWay Error) → IfOk result (IsFirstWay text f.nfa place) →
     IfOk result (IsFirstWayOf text f place)
 found_first text f place (Ok answer) h = by_table f text place answer h
 found_first text f place (Err e) h = h

@@ -10,9 +10,9 @@ use Rattle.fancy_expr.specs.Views.{tree_of}
 use Rattle.fancy_expr.proofs.Walks.{taken}
 use Rattle.fancy_info.specs.declared.info.Info.{Info}
 use Rattle.fancy_info.specs.Infos.{info_tree, AreInTurn, IsAnalysed}
-use Rattle.fancy_plain.specs.declared.table.Nfa.{Nfa}
+use Rattle.fancy_plain.specs.declared.nfa.Nfa.{Nfa}
 use Rattle.fancy_plain.specs.Neighbours.{IsEasy}
-use Rattle.fancy_plain.specs.Tables.{AreFine, IsTableOf}
+use Rattle.fancy_plain.specs.Nfas.{AreFine, IsNfaOf}
 use Rattle.fancy_fragments.specs.Nodes.{AreEasyNeighbours, BeginAt, IsLaidOut, fits_over, nodes_over, plain_tree}
 use Rattle.fancy_fragments.specs.Settable.{settable_above}
 use Rattle.fancy_fragments.proofs.Numbered.{are_numbered}
@@ -49,11 +49,11 @@ module _ (is : List Info) (h : AreEasyNeighbours is) (exprs : List Expr) (copied
       ∙ ap children (sym (are_numbered h.analysis h.within h.first is (each_analysed h.analysis is h.each) h.in_turn))
       ∙ children_listed (map info_tree is)
 
-  pub laid_over : (unicode : Bool) (table : Nfa) →
-      ((a : Analysis) → Each (IsEasy a) is → AreFine (map info_tree is) → IsTableOf a (map info_tree is) unicode table) →
-      ∥ IsLaidOut (nodes_over exprs first w) unicode table ∥₁
-  laid_over unicode table made =
-      ∣ (h.analysis, subst (λ es. IsTableOf h.analysis es unicode table) (sym same_nodes) (made h.analysis h.each h.fine)) ∣₁
+  pub laid_over : (unicode : Bool) (nfa : Nfa) →
+      ((a : Analysis) → Each (IsEasy a) is → AreFine (map info_tree is) → IsNfaOf a (map info_tree is) unicode nfa) →
+      ∥ IsLaidOut (nodes_over exprs first w) unicode nfa ∥₁
+  laid_over unicode nfa made =
+      ∣ (h.analysis, subst (λ es. IsNfaOf h.analysis es unicode nfa) (sym same_nodes) (made h.analysis h.each h.fine)) ∣₁
 
   pub fits_copied : (settable : ℕ) → settable ≡ settable_above (map info_tree is) → (slots : ℕ) →
       fits_over slots (nodes_over exprs first w) ≡ nat_le (2 * settable) slots

@@ -44,6 +44,6 @@ IsOnePassOf text f place (one_pass.Ends end) = (pos : ℕ) (continued : Bool) �
 IsOnePassOf text f place one_pass.Fails = HasNoWayFrom text f place
 IsOnePassOf text f place one_pass.Unknown = Unit {0}
 
--- it knows what searches of this fragment in this text have noted, and no more
+-- it knows what searches of this fragment in this text have memoized, and no more
 abbrev pub IsMemoFor : (text : List ℕ) → Fragment → Memo → Type 0
-IsMemoFor text f m = IsMemoOf text f.table m
+IsMemoFor text f m = IsMemoOf text f.nfa m

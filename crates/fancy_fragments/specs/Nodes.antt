@@ -10,9 +10,9 @@ use Rattle.fancy_expr.specs.Views.{tree_of}
 use Rattle.fancy_expr.specs.Each.{Each}
 use Rattle.fancy_info.specs.declared.info.Info.{Info}
 use Rattle.fancy_info.specs.Infos.{info_tree, info_expr, info_within, info_facts, AreInTurn, IsAnalysed}
-use Rattle.fancy_plain.specs.declared.table.Nfa.{Nfa}
+use Rattle.fancy_plain.specs.declared.nfa.Nfa.{Nfa}
 use Rattle.fancy_plain.specs.Neighbours.{IsEasy}
-use Rattle.fancy_plain.specs.Tables.{AreFine, IsTableOf}
+use Rattle.fancy_plain.specs.Nfas.{AreFine, IsNfaOf}
 
 -- well-formed nodes of one analysed tree, each behind the other, none of them hard
 pub record AreEasyNeighbours (is : List Info) : Type 0 where
@@ -27,9 +27,9 @@ pub record AreEasyNeighbours (is : List Info) : Type 0 where
 abbrev pub nodes_over : List Expr → ℕ → Within → List Tree
 nodes_over exprs first w = children (each_numbered w first (trees (map tree_of exprs)))
 
--- the table is that of easy nodes
+-- the NFA is that of easy nodes
 abbrev pub IsLaidOut : List Tree → Bool → Nfa → Type 0
-IsLaidOut es unicode table = (a : Analysis) × IsTableOf a es unicode table
+IsLaidOut es unicode nfa = (a : Analysis) × IsNfaOf a es unicode nfa
 
 -- the pairs that a way of these nodes can set are among the first so many slots
 abbrev pub fits_over : ℕ → List Tree → Bool

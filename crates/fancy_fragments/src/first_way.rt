@@ -29,7 +29,7 @@ pub fn first_way(
     first_way_with(alloc, fragment, text, ix, &mut memo)
 }
 
-/// The same, with what earlier searches of this fragment in this text have noted.
+/// As `first_way`, with what earlier searches of this fragment in this text have memoized.
 pub fn first_way_with(
     alloc: Global,
     fragment: &Fragment,
@@ -44,10 +44,10 @@ pub fn first_way_with(
     ensures memo { IsMemoFor text.now fragment.now memo.new }
     ensures refused { IfErr result IsMemory }
 {
-    fancy_plain::first_way::first_way_with(alloc, &fragment.table, text, ix, memo)
+    fancy_plain::first_way::first_way_with(alloc, &fragment.nfa, text, ix, memo)
 }
 
-/// The same where it was asked whether a way can begin there.
+/// As `first_way_with`, for a caller who has asked whether a way can begin there.
 pub fn first_way_from(
     alloc: Global,
     fragment: &Fragment,
@@ -62,5 +62,5 @@ pub fn first_way_from(
     ensures memo { IsMemoFor text.now fragment.now memo.new }
     ensures refused { IfErr result IsMemory }
 {
-    fancy_plain::first_way::first_way_from(alloc, &fragment.table, text, ix, memo)
+    fancy_plain::first_way::first_way_from(alloc, &fragment.nfa, text, ix, memo)
 }

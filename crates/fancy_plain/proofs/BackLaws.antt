@@ -10,7 +10,7 @@ use Rattle.fancy_plain.specs.declared.backtrack_stack.StackFrame.{StackFrame}
 use Rattle.fancy_plain.specs.declared.search.StepResult.{StepResult}
 use Rattle.fancy_plain.specs.declared.search.StepResult.TheVariants as step_result
 use Rattle.fancy_plain.specs.declared.search.Memo.{Memo}
-use Rattle.fancy_plain.specs.declared.search.Task.{Task}
+use Rattle.fancy_plain.specs.declared.search.Searcher.{Searcher}
 use Rattle.fancy_plain.specs.Paths.{IsConfig}
 use Rattle.fancy_plain.specs.Searches.{after_steps_of, leading_of, next_of, Advances, AreKept, ComesTo, EndsAs, GoesBack, HaveFailed, IsHere, IsSearch, Keeps, Leading, Leads}
 use Rattle.fancy_plain.specs.BacktrackStack.{choices_of}
@@ -18,16 +18,16 @@ use Rattle.fancy_plain.specs.Runs.{GoesOn}
 use Rattle.fancy_plain.proofs.PathLaws.{agree_cut, kept_agree, config_agrees}
 
 -- some steps on it still goes back, and the memo stands for it
-abbrev pub IsBack : Task → Memo → plain.Next → Type 0
-IsBack task m next =
+abbrev pub IsBack : Searcher → Memo → plain.Next → Type 0
+IsBack searcher m next =
     (steps : ℕ) × ((f : plain.Search) ×
-    ((after_steps_of task steps next ≡ plain.TakesBack f) × IsSearch (leading_of task) m f))
+    ((after_steps_of searcher steps next ≡ plain.TakesBack f) × IsSearch (leading_of searcher) m f))
 
 -- one step more
-pub one_more : (task : Task) (steps : ℕ) (n k : plain.Next) → after_steps_of task steps n ≡ k →
-    after_steps_of task (suc steps) n ≡ next_of task k
-one_more task zero n k e = ap (next_of task) e
-one_more task (suc steps) n k e = one_more task steps (next_of task n) k e
+pub one_more : (searcher : Searcher) (steps : ℕ) (n k : plain.Next) → after_steps_of searcher steps n ≡ k →
+    after_steps_of searcher (suc steps) n ≡ next_of searcher k
+one_more searcher zero n k e = ap (next_of searcher) e
+one_more searcher (suc steps) n k e = one_more searcher steps (next_of searcher n) k e
 
 -- the last choice that is kept
 pub record IsLast (leading : Leading) (m : Memo) (c : StackFrame) (cs : List StackFrame) (f : plain.Search) : Type 0 where
@@ -94,24 +94,24 @@ popped leading m cut c f items path failed visits h =
     }
 
 -- what the other way on answers is what going back answers
-pub goes_back : (task : Task) (next : plain.Next) (steps : ℕ) (s other : plain.NfaConfig) (f g : plain.Search)
-    (result : Result StepResult AllocError) (m : Memo) → after_steps_of task steps next ≡ plain.TakesBack f →
-    next_of task (plain.TakesBack f) ≡ plain.TakesUp other g → g.failed ≡ f.failed →
-    Leads (leading_of task) s f.failed (plain.TakesUp other g) result m → GoesBack task next result m
-goes_back task next steps s other f g (Ok (step_result.Found there)) m e up same (x, (is, h, stands)) = absurd (no_end is)
+pub goes_back : (searcher : Searcher) (next : plain.Next) (steps : ℕ) (s other : plain.NfaConfig) (f g : plain.Search)
+    (result : Result StepResult AllocError) (m : Memo) → after_steps_of searcher steps next ≡ plain.TakesBack f →
+    next_of searcher (plain.TakesBack f) ≡ plain.TakesUp other g → g.failed ≡ f.failed →
+    Leads (leading_of searcher) s f.failed (plain.TakesUp other g) result m → GoesBack searcher next result m
+goes_back searcher next steps s other f g (Ok (step_result.Found there)) m e up same (x, (is, h, stands)) = absurd (no_end is)
   where
     no_end : plain.TakesUp other g ≡ plain.Ends (Some s) x → ⊥
     no_end is = cc
-goes_back task next steps s other f g (Ok step_result.Lost) m e up same (x, (is, rest)) = absurd (no_back is)
+goes_back searcher next steps s other f g (Ok step_result.Lost) m e up same (x, (is, rest)) = absurd (no_back is)
   where
     no_back : plain.TakesUp other g ≡ plain.TakesBack x → ⊥
     no_back is = cc
-goes_back task next steps s other f g (Ok (step_result.Goes there)) m e up same (x, (t, (is, h, stands))) =
-    (suc steps, (x, (t, (one_more task steps next (plain.TakesBack f) e ∙ up ∙ is, h, stands))))
-goes_back task next steps s other f g (Err error) m e up same failed = (
+goes_back searcher next steps s other f g (Ok (step_result.Goes there)) m e up same (x, (t, (is, h, stands))) =
+    (suc steps, (x, (t, (one_more searcher steps next (plain.TakesBack f) e ∙ up ∙ is, h, stands))))
+goes_back searcher next steps s other f g (Err error) m e up same failed = (
   suc steps,
   λ p.
-      failed p ∙ sym (ap (λ v. v p) (ap (λ n. (search_in n).failed) (one_more task steps next (plain.TakesBack f) e ∙ up) ∙ same)),
+      failed p ∙ sym (ap (λ v. v p) (ap (λ n. (search_in n).failed) (one_more searcher steps next (plain.TakesBack f) e ∙ up) ∙ same)),
 )
 
 -- a pair is memoized, and nothing else changes
@@ -126,11 +126,11 @@ search_memoized leading m new f p same failed h = record {
 }
 
 -- the last choice was tried: its pair is memoized
-pub back_memoized : (task : Task) (next : plain.Next) (steps : ℕ) (f : plain.Search) (s : plain.NfaConfig) (rest : List plain.Frame) →
-    after_steps_of task steps next ≡ plain.TakesBack f → f.frames ≡ plain.Fails (plain.pair_of s) ∷ rest →
-    after_steps_of task (suc steps) next ≡ plain.TakesBack (plain.with_failed (plain.pair_of s) (record f { frames = rest }))
-back_memoized task next steps f s rest e keeps =
-    one_more task steps next (plain.TakesBack f) e ∙ ap (λ l. plain.back_to l f) keeps
+pub back_memoized : (searcher : Searcher) (next : plain.Next) (steps : ℕ) (f : plain.Search) (s : plain.NfaConfig) (rest : List plain.Frame) →
+    after_steps_of searcher steps next ≡ plain.TakesBack f → f.frames ≡ plain.Fails (plain.pair_of s) ∷ rest →
+    after_steps_of searcher (suc steps) next ≡ plain.TakesBack (plain.with_failed (plain.pair_of s) (record f { frames = rest }))
+back_memoized searcher next steps f s rest e keeps =
+    one_more searcher steps next (plain.TakesBack f) e ∙ ap (λ l. plain.back_to l f) keeps
 
 pub none_kept : (leading : Leading) (entries : List Entry) (path : ℕ) (cs : List StackFrame) (frames : List plain.Frame) → cs ≡ [] →
     AreKept leading entries path cs frames → frames ≡ []
@@ -138,71 +138,71 @@ none_kept leading entries path cs frames e h = subst (λ l. AreKept leading entr
 
 -- ---- from a step to the next
 
-pub steps_then : (task : Task) (k j : ℕ) (n w : plain.Next) → after_steps_of task k n ≡ w →
-    after_steps_of task (k + j) n ≡ after_steps_of task j w
-steps_then task zero j n w e =
+pub steps_then : (searcher : Searcher) (k j : ℕ) (n w : plain.Next) → after_steps_of searcher k n ≡ w →
+    after_steps_of searcher (k + j) n ≡ after_steps_of searcher j w
+steps_then searcher zero j n w e =
     let same : 0 + j ≡ j = omega arith in
-    ap (λ i. after_steps_of task i n) same ∙ ap (after_steps_of task j) e
-steps_then task (suc k) j n w e =
+    ap (λ i. after_steps_of searcher i n) same ∙ ap (after_steps_of searcher j) e
+steps_then searcher (suc k) j n w e =
     let same : suc k + j ≡ suc (k + j) = omega arith in
-    ap (λ i. after_steps_of task i n) same ∙ steps_then task k j (next_of task n) w e
+    ap (λ i. after_steps_of searcher i n) same ∙ steps_then searcher k j (next_of searcher n) w e
 
 -- one step alone
-pub comes_by : (task : Task) (s : plain.NfaConfig) (f : plain.Search) (result : Result StepResult AllocError) (m : Memo) →
-    Leads (leading_of task) s f.failed (next_of task (plain.TakesUp s f)) result m → ComesTo task (plain.TakesUp s f) result m
-comes_by task s f (Ok (step_result.Found there)) m (g, (is, h, stands)) = (1, (g, (s, (is, h, stands))))
-comes_by task s f (Ok step_result.Lost) m (g, (is, h)) = (1, (g, (is, h)))
-comes_by task s f (Ok (step_result.Goes there)) m (g, (t, (is, h, stands))) = (1, (g, (t, (is, h, stands))))
-comes_by task s f (Err error) m h = (0, h)
+pub comes_by : (searcher : Searcher) (s : plain.NfaConfig) (f : plain.Search) (result : Result StepResult AllocError) (m : Memo) →
+    Leads (leading_of searcher) s f.failed (next_of searcher (plain.TakesUp s f)) result m → ComesTo searcher (plain.TakesUp s f) result m
+comes_by searcher s f (Ok (step_result.Found there)) m (g, (is, h, stands)) = (1, (g, (s, (is, h, stands))))
+comes_by searcher s f (Ok step_result.Lost) m (g, (is, h)) = (1, (g, (is, h)))
+comes_by searcher s f (Ok (step_result.Goes there)) m (g, (t, (is, h, stands))) = (1, (g, (t, (is, h, stands))))
+comes_by searcher s f (Err error) m h = (0, h)
 
 -- some steps, and more from there
-pub comes_further : (task : Task) (k : ℕ) (n w : plain.Next) (result : Result StepResult AllocError) (m : Memo) → after_steps_of task k n ≡ w →
-    ComesTo task w result m → ComesTo task n result m
-comes_further task k n w (Ok (step_result.Found there)) m e (j, (f, (t, (is, h, stands)))) =
-    (k + j, (f, (t, (steps_then task k j n w e ∙ is, h, stands))))
-comes_further task k n w (Ok step_result.Lost) m e (j, (f, (is, h))) = (k + j, (f, (steps_then task k j n w e ∙ is, h)))
-comes_further task k n w (Ok (step_result.Goes there)) m e (j, (f, (t, (is, h, stands)))) =
-    (k + j, (f, (t, (steps_then task k j n w e ∙ is, h, stands))))
-comes_further task k n w (Err error) m e (j, h) =
-    (k + j, λ p. h p ∙ sym (ap (λ x. (search_in x).failed p) (steps_then task k j n w e)))
+pub comes_further : (searcher : Searcher) (k : ℕ) (n w : plain.Next) (result : Result StepResult AllocError) (m : Memo) → after_steps_of searcher k n ≡ w →
+    ComesTo searcher w result m → ComesTo searcher n result m
+comes_further searcher k n w (Ok (step_result.Found there)) m e (j, (f, (t, (is, h, stands)))) =
+    (k + j, (f, (t, (steps_then searcher k j n w e ∙ is, h, stands))))
+comes_further searcher k n w (Ok step_result.Lost) m e (j, (f, (is, h))) = (k + j, (f, (steps_then searcher k j n w e ∙ is, h)))
+comes_further searcher k n w (Ok (step_result.Goes there)) m e (j, (f, (t, (is, h, stands)))) =
+    (k + j, (f, (t, (steps_then searcher k j n w e ∙ is, h, stands))))
+comes_further searcher k n w (Err error) m e (j, h) =
+    (k + j, λ p. h p ∙ sym (ap (λ x. (search_in x).failed p) (steps_then searcher k j n w e)))
 
 -- some steps, and a way back from there
-pub comes_back : (task : Task) (k : ℕ) (n w : plain.Next) (result : Result StepResult AllocError) (m : Memo) → after_steps_of task k n ≡ w →
-    GoesBack task w result m → Advances task n result m
-comes_back task k n w (Ok (step_result.Found there)) m e h = absurd h
-comes_back task k n w (Ok step_result.Lost) m e (j, (f, (is, h))) = (k + j, (f, (steps_then task k j n w e ∙ is, h)))
-comes_back task k n w (Ok (step_result.Goes there)) m e (j, (f, (t, (is, h, stands)))) =
-    (k + j, (f, (t, (steps_then task k j n w e ∙ is, h, stands))))
-comes_back task k n w (Err error) m e (j, h) =
-    (k + j, λ p. h p ∙ sym (ap (λ x. (search_in x).failed p) (steps_then task k j n w e)))
+pub comes_back : (searcher : Searcher) (k : ℕ) (n w : plain.Next) (result : Result StepResult AllocError) (m : Memo) → after_steps_of searcher k n ≡ w →
+    GoesBack searcher w result m → Advances searcher n result m
+comes_back searcher k n w (Ok (step_result.Found there)) m e h = absurd h
+comes_back searcher k n w (Ok step_result.Lost) m e (j, (f, (is, h))) = (k + j, (f, (steps_then searcher k j n w e ∙ is, h)))
+comes_back searcher k n w (Ok (step_result.Goes there)) m e (j, (f, (t, (is, h, stands)))) =
+    (k + j, (f, (t, (steps_then searcher k j n w e ∙ is, h, stands))))
+comes_back searcher k n w (Err error) m e (j, h) =
+    (k + j, λ p. h p ∙ sym (ap (λ x. (search_in x).failed p) (steps_then searcher k j n w e)))
 
 -- no way back is needed
-pub comes_on : (task : Task) (n : plain.Next) (result : Result StepResult AllocError) (m : Memo) → (result ≡ Ok step_result.Lost → ⊥) →
-    ComesTo task n result m → Advances task n result m
-comes_on task n (Ok (step_result.Found there)) m w h = h
-comes_on task n (Ok step_result.Lost) m w h = absurd (w refl)
-comes_on task n (Ok (step_result.Goes there)) m w h = h
-comes_on task n (Err error) m w h = h
+pub comes_on : (searcher : Searcher) (n : plain.Next) (result : Result StepResult AllocError) (m : Memo) → (result ≡ Ok step_result.Lost → ⊥) →
+    ComesTo searcher n result m → Advances searcher n result m
+comes_on searcher n (Ok (step_result.Found there)) m w h = h
+comes_on searcher n (Ok step_result.Lost) m w h = absurd (w refl)
+comes_on searcher n (Ok (step_result.Goes there)) m w h = h
+comes_on searcher n (Err error) m w h = h
 
 pub ok_same : {l k : StepResult} → (let r : Result StepResult AllocError = Ok l in r) ≡ Ok k → l ≡ k
 ok_same e = cc
 
 -- from a step of the search to its end
-pub ends_found : (task : Task) (k : ℕ) (n w : plain.Next) (here : NfaConfig) (m : Memo) → after_steps_of task k n ≡ w →
-    Advances task w (Ok (step_result.Found here)) m → EndsAs task n (Ok (Some here)) m
-ends_found task k n w here m e (j, (f, (t, (is, h, stands)))) =
-    (k + j, (f, (t, (steps_then task k j n w e ∙ is, h, stands))))
+pub ends_found : (searcher : Searcher) (k : ℕ) (n w : plain.Next) (here : NfaConfig) (m : Memo) → after_steps_of searcher k n ≡ w →
+    Advances searcher w (Ok (step_result.Found here)) m → EndsAs searcher n (Ok (Some here)) m
+ends_found searcher k n w here m e (j, (f, (t, (is, h, stands)))) =
+    (k + j, (f, (t, (steps_then searcher k j n w e ∙ is, h, stands))))
 
-pub ends_lost : (task : Task) (k : ℕ) (n w : plain.Next) (m : Memo) → after_steps_of task k n ≡ w →
-    Advances task w (Ok step_result.Lost) m → EndsAs task n (Ok None) m
-ends_lost task k n w m e (j, (f, (is, h))) = (k + j, (f, (steps_then task k j n w e ∙ is, h)))
+pub ends_lost : (searcher : Searcher) (k : ℕ) (n w : plain.Next) (m : Memo) → after_steps_of searcher k n ≡ w →
+    Advances searcher w (Ok step_result.Lost) m → EndsAs searcher n (Ok None) m
+ends_lost searcher k n w m e (j, (f, (is, h))) = (k + j, (f, (steps_then searcher k j n w e ∙ is, h)))
 
-pub ends_err : (task : Task) (k : ℕ) (n w : plain.Next) (error : AllocError) (m : Memo) → after_steps_of task k n ≡ w →
-    Advances task w (Err error) m → EndsAs task n (Err error) m
-ends_err task k n w error m e (j, h) =
-    (k + j, λ p. h p ∙ sym (ap (λ x. (search_in x).failed p) (steps_then task k j n w e)))
+pub ends_err : (searcher : Searcher) (k : ℕ) (n w : plain.Next) (error : AllocError) (m : Memo) → after_steps_of searcher k n ≡ w →
+    Advances searcher w (Err error) m → EndsAs searcher n (Err error) m
+ends_err searcher k n w error m e (j, h) =
+    (k + j, λ p. h p ∙ sym (ap (λ x. (search_in x).failed p) (steps_then searcher k j n w e)))
 
-pub goes_further : (task : Task) (k : ℕ) (n w : plain.Next) (there : NfaConfig) (m : Memo) → after_steps_of task k n ≡ w →
-    Advances task w (Ok (step_result.Goes there)) m → GoesOn task n m there
-goes_further task k n w there m e (j, (f, (t, (is, h, stands)))) =
-    (k + j, (f, (t, (steps_then task k j n w e ∙ is, h, stands))))
+pub goes_further : (searcher : Searcher) (k : ℕ) (n w : plain.Next) (there : NfaConfig) (m : Memo) → after_steps_of searcher k n ≡ w →
+    Advances searcher w (Ok (step_result.Goes there)) m → GoesOn searcher n m there
+goes_further searcher k n w there m e (j, (f, (t, (is, h, stands)))) =
+    (k + j, (f, (t, (steps_then searcher k j n w e ∙ is, h, stands))))

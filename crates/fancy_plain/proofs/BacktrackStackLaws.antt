@@ -18,7 +18,7 @@ one_further [] n x within at = absurd (omega (arith, within))
 one_further (y ∷ ys) zero x within at = ap (λ z. z ∷ []) (sym at)
 one_further (y ∷ ys) (suc n) x within at = ap (λ l. y ∷ l) (one_further ys n x (omega (arith, within)) at)
 
--- the same where the item is written there
+-- and where the item is written there
 one_written : {A : Type 0} (xs : List A) (n : ℕ) (x : A) → n < length xs → take (suc n) (slice_set xs n x) ≡ take n xs ++ (x ∷ [])
 one_written [] n x within = absurd (omega (arith, within))
 one_written (y ∷ ys) zero x within = refl

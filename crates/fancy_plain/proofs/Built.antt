@@ -1,4 +1,4 @@
--- A table from its states.
+-- An NFA from its states.
 use Rattle.std.proofs.Common.{◌≡◌, List, [], ◌∷◌, ◌++◌, length, map, true≢false, refl, sym, ap, ◌∙◌, subst}
 use Rattle.std.specs.Prelude.{Result, Ok, Err, IsErr, IsErrAnd, IfErr}
 use Rattle.fancy_expr.specs.declared.error.Error.{Error}
@@ -11,7 +11,7 @@ use Rattle.fancy_expr.specs.Each.{Each}
 use Rattle.fancy_info.specs.declared.info.Info.{Info}
 use Rattle.fancy_info.specs.Infos.{info_tree}
 use Rattle.fancy_plain.specs.declared.layout.Layout.{Layout}
-use Rattle.fancy_plain.specs.Tables.{AreFine}
+use Rattle.fancy_plain.specs.Nfas.{AreFine}
 use Rattle.fancy_plain.specs.Layouts.{states_in}
 use Rattle.fancy_plain.specs.Neighbours.{IsEasy, trees_of}
 use Rattle.fancy_plain.proofs.Branches.{AddsEach}

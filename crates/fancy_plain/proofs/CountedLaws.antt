@@ -11,12 +11,12 @@ use Rattle.fancy_nfa.specs.NfaSearch.{is_last, next_count}
 use Rattle.fancy_plain.specs.declared.nfa_state.CharTest.{CharTest}
 use Rattle.fancy_plain.specs.declared.nfa_state.Loop as code
 use Rattle.fancy_plain.specs.declared.nfa_state.NfaState.TheVariants as nfa_state
-use Rattle.fancy_plain.specs.declared.search.Task.{Task}
-use Rattle.fancy_plain.specs.declared.search.Turning.TheVariants as turning
+use Rattle.fancy_plain.specs.declared.search.Searcher.{Searcher}
+use Rattle.fancy_plain.specs.declared.search.LoopChoice.TheVariants as loop_choice
 use Rattle.fancy_expr.specs.Views.{bound_of}
 use Rattle.fancy_plain.specs.CountedWays.{PassesMost, PassesSome}
 use Rattle.fancy_plain.specs.Runs.{IsBody, Refuses}
-use Rattle.fancy_plain.specs.OnePass.{Loses, Walks, stand_at}
+use Rattle.fancy_plain.specs.OnePass.{Loses, Walks, config_at}
 use Rattle.fancy_plain.specs.Views.{loop_of}
 use Rattle.fancy_plain.proofs.RunLaws.{test_fails}
 use Rattle.fancy_plain.proofs.SearchLaws.{counter_loop_by}
@@ -59,35 +59,35 @@ may_not lo hi bounded = rw (ne_eqb hi usize_max (λ e. omega (arith, e, bounded)
 
 -- ---- characters that pass
 
-module _ (task : Task) (test : CharTest) where
-  pub passes_further : (n from i j : ℕ) → PassesSome task test n from i → past_char (task.text).now (Test task test) i ≡ Some j →
-      PassesSome task test (suc n) from j
+module _ (searcher : Searcher) (test : CharTest) where
+  pub passes_further : (n from i j : ℕ) → PassesSome searcher test n from i → past_char (searcher.text).now (Test searcher test) i ≡ Some j →
+      PassesSome searcher test (suc n) from j
   passes_further n from i j some past = (i, (some, past))
 
-  pub passes_both : (m n from i to : ℕ) → PassesSome task test m from i → PassesSome task test n i to → PassesSome task test (m + n) from to
-  passes_both m zero from i to one e = subst (λ k. PassesSome task test k from to) {x = m} (omega arith) (subst (PassesSome task test m from) e one)
+  pub passes_both : (m n from i to : ℕ) → PassesSome searcher test m from i → PassesSome searcher test n i to → PassesSome searcher test (m + n) from to
+  passes_both m zero from i to one e = subst (λ k. PassesSome searcher test k from to) {x = m} (omega arith) (subst (PassesSome searcher test m from) e one)
   passes_both m (suc n) from i to one (j, (other, past)) =
-      subst (λ k. PassesSome task test k from to) {x = suc (m + n)} (omega arith) (j, (passes_both m n from i j one other, past))
+      subst (λ k. PassesSome searcher test k from to) {x = suc (m + n)} (omega arith) (j, (passes_both m n from i j one other, past))
 
   -- each takes some room
-  pub passes_room : (n from to : ℕ) → PassesSome task test n from to → from + n ≤ to
+  pub passes_room : (n from to : ℕ) → PassesSome searcher test n from to → from + n ≤ to
   passes_room zero from to e = omega (arith, e)
   passes_room (suc n) from to (i, (some, past)) =
       let before = passes_room n from i some in
-      let on = past_char_further (task.text).now (Test task test) i to past in
+      let on = past_char_further (searcher.text).now (Test searcher test) i to past in
       omega (arith, before, on)
 
-  pub passes_within : (n from to : ℕ) → PassesSome task test n from to → 0 < n → to ≤ length (task.text).now
+  pub passes_within : (n from to : ℕ) → PassesSome searcher test n from to → 0 < n → to ≤ length (searcher.text).now
   passes_within zero from to e some = omega (arith, some)
-  passes_within (suc n) from to (i, (some, past)) more = (past_char_fits (task.text).now (Test task test) i to past).1
+  passes_within (suc n) from to (i, (some, past)) more = (past_char_fits (searcher.text).now (Test searcher test) i to past).1
 
 -- ---- from iteration to iteration
 
-module _ (task : Task) (counters : code.Loop) (head after : ℕ) (test : CharTest)
-    (there : slice_get (task.states).now head ≡ Some (nfa_state.CounterLoop counters after)) (body : IsBody (task.states).now head (head + 1) test)
-    (greedy : counters.greedy ≡ true) (asks : counters.asks_moved ≡ false) where
+module _ (searcher : Searcher) (bounds : code.Loop) (head after : ℕ) (test : CharTest)
+    (there : slice_get (searcher.states).now head ≡ Some (nfa_state.CounterLoop bounds after)) (body : IsBody (searcher.states).now head (head + 1) test)
+    (greedy : bounds.greedy ≡ true) (asks : bounds.asks_moved ≡ false) where
   abbrev loop : states.Loop
-  loop = loop_of counters
+  loop = loop_of bounds
 
   abbrev counter : ℕ → plain.LoopCounter
   counter c = record { count = c; since = None }
@@ -108,119 +108,119 @@ module _ (task : Task) (counters : code.Loop) (head after : ℕ) (test : CharTes
 
   -- an iteration that has to be made
   goes_in : (c place : ℕ) → is_last loop.hi c ≡ false → nat_lt c loop.lo ≡ true →
-      Walks task true (at_head c place) (at_body (next_count loop.lo loop.hi c) place)
+      Walks searcher true (at_head c place) (at_body (next_count loop.lo loop.hi c) place)
   goes_in c place goes few =
-      tries_only task (nfa_state.CounterLoop counters after) (at_head c place) there (at_body (next_count loop.lo loop.hi c) place)
-      (counter_loop_by loop after (at_head c place) (counter c) [] place (counter c ∷ []) turning.In refl refl (goes, few)
+      tries_only searcher (nfa_state.CounterLoop bounds after) (at_head c place) there (at_body (next_count loop.lo loop.hi c) place)
+      (counter_loop_by loop after (at_head c place) (counter c) [] place (counter c ∷ []) loop_choice.In refl refl (goes, few)
       ∙ ap (λ t. plain.Tries true (record (at_body c place) { counters = t ∷ [] }) []) (next_is c place))
 
   -- one past those
   goes_on : (c place : ℕ) → is_last loop.hi c ≡ false → nat_lt c loop.lo ≡ false →
-      Walks task false (at_head c place) (at_body (next_count loop.lo loop.hi c) place)
+      Walks searcher false (at_head c place) (at_body (next_count loop.lo loop.hi c) place)
   goes_on c place goes enough =
-      tries_first task (nfa_state.CounterLoop counters after) (at_head c place) there true (at_body (next_count loop.lo loop.hi c) place)
-      (stand_at after place ∷ [])
-      (counter_loop_by loop after (at_head c place) (counter c) [] place (counter c ∷ []) turning.InOrOut refl refl (goes, enough, greedy)
-      ∙ ap (λ t. plain.Tries true (record (at_body c place) { counters = t ∷ [] }) (stand_at after place ∷ [])) (next_is c place))
+      tries_first searcher (nfa_state.CounterLoop bounds after) (at_head c place) there true (at_body (next_count loop.lo loop.hi c) place)
+      (config_at after place ∷ [])
+      (counter_loop_by loop after (at_head c place) (counter c) [] place (counter c ∷ []) loop_choice.InOrOut refl refl (goes, enough, greedy)
+      ∙ ap (λ t. plain.Tries true (record (at_body c place) { counters = t ∷ [] }) (config_at after place ∷ [])) (next_is c place))
 
   -- the character, and back to the head
-  goes_round : (c i j : ℕ) → past_char (task.text).now (Test task test) i ≡ Some j → Walks task true (at_body c i) (at_head c j)
+  goes_round : (c i j : ℕ) → past_char (searcher.text).now (Test searcher test) i ≡ Some j → Walks searcher true (at_body c i) (at_head c j)
   goes_round c i j past =
       let taken : plain.NfaConfig = record (at_body c j) { at = head + 1 + 1 } in
-      onward task true (at_body c i) taken (at_head c j)
-      (goes task (nfa_state.Character test) (at_body c i) body.0 taken (ap (plain.goes_past (at_body c i)) past))
-      (goes task (nfa_state.Jump head) taken body.1 (at_head c j) refl)
+      onward searcher true (at_body c i) taken (at_head c j)
+      (goes searcher (nfa_state.Character test) (at_body c i) body.0 taken (ap (plain.goes_past (at_body c i)) past))
+      (goes searcher (nfa_state.Jump head) taken body.1 (at_head c j) refl)
 
   -- an iteration, behind so many
-  iterates : (n i j : ℕ) (sure : Bool) → (sure ≡ true → n < loop.lo) → n < counters.hi →
-      past_char (task.text).now (Test task test) i ≡ Some j → Walks task sure (at_head (counts n) i) (at_head (counts (suc n)) j)
+  iterates : (n i j : ℕ) (sure : Bool) → (sure ≡ true → n < loop.lo) → n < bounds.hi →
+      past_char (searcher.text).now (Test searcher test) i ≡ Some j → Walks searcher sure (at_head (counts n) i) (at_head (counts (suc n)) j)
   iterates n i j sure few below past =
-      subst (λ c. Walks task sure (at_head (counts n) i) (at_head c j)) (counted_more loop.lo loop.hi n)
-      (onward task sure (at_head (counts n) i) (at_body (next_count loop.lo loop.hi (counts n)) i) (at_head (next_count loop.lo loop.hi (counts n)) j)
+      subst (λ c. Walks searcher sure (at_head (counts n) i) (at_head c j)) (counted_more loop.lo loop.hi n)
+      (onward searcher sure (at_head (counts n) i) (at_body (next_count loop.lo loop.hi (counts n)) i) (at_head (next_count loop.lo loop.hi (counts n)) j)
       (enters sure few) (goes_round (next_count loop.lo loop.hi (counts n)) i j past))
     where
       goes_by : is_last loop.hi (counts n) ≡ false
-      goes_by = may_go_on loop.lo counters.hi n below
+      goes_by = may_go_on loop.lo bounds.hi n below
 
       enters : (sure : Bool) → (sure ≡ true → n < loop.lo) →
-          Walks task sure (at_head (counts n) i) (at_body (next_count loop.lo loop.hi (counts n)) i)
+          Walks searcher sure (at_head (counts n) i) (at_body (next_count loop.lo loop.hi (counts n)) i)
       enters true few = goes_in (counts n) i goes_by (counted_few loop.lo loop.hi n (few refl))
       enters false few =
           ⊎_elim
-          (λ lt. unsure task (at_head (counts n) i) (at_body (next_count loop.lo loop.hi (counts n)) i)
+          (λ lt. unsure searcher (at_head (counts n) i) (at_body (next_count loop.lo loop.hi (counts n)) i)
           (goes_in (counts n) i goes_by (counted_few loop.lo loop.hi n lt)))
           (λ ge. goes_on (counts n) i goes_by (counted_enough loop.lo loop.hi n ge)) (cases_lt n loop.lo)
 
   -- all of them
-  iterates_all : (n from to : ℕ) (sure : Bool) → (sure ≡ true → n ≤ loop.lo) → n ≤ counters.hi → PassesSome task test n from to →
-      Walks task sure (at_head 0 from) (at_head (counts n) to)
+  iterates_all : (n from to : ℕ) (sure : Bool) → (sure ≡ true → n ≤ loop.lo) → n ≤ bounds.hi → PassesSome searcher test n from to →
+      Walks searcher sure (at_head 0 from) (at_head (counts n) to)
   iterates_all zero from to sure few below e =
-      subst (λ c. Walks task sure (at_head 0 from) (at_head c to)) (counted_none loop.lo loop.hi)
-      (subst (λ i. Walks task sure (at_head 0 from) (at_head 0 i)) e (remains task sure (at_head 0 from)))
+      subst (λ c. Walks searcher sure (at_head 0 from) (at_head c to)) (counted_none loop.lo loop.hi)
+      (subst (λ i. Walks searcher sure (at_head 0 from) (at_head 0 i)) e (remains searcher sure (at_head 0 from)))
   iterates_all (suc n) from to sure few below (i, (some, past)) =
-      joined task sure sure sure (at_head 0 from) (at_head (counts n) i) (at_head (counts (suc n)) to) (λ e. (e, e))
+      joined searcher sure sure sure (at_head 0 from) (at_head (counts n) i) (at_head (counts (suc n)) to) (λ e. (e, e))
       (iterates_all n from i sure (λ e. let h = few e in omega (arith, h)) (omega (arith, below)) some)
       (iterates n i to sure (λ e. let h = few e in omega (arith, h)) (omega (arith, below)) past)
 
   -- ---- out of the loop
 
   -- where as many were made as may be
-  leaves_last : (c place : ℕ) → is_last loop.hi c ≡ true → Walks task true (at_head c place) (stand_at after place)
+  leaves_last : (c place : ℕ) → is_last loop.hi c ≡ true → Walks searcher true (at_head c place) (config_at after place)
   leaves_last c place last =
-      tries_only task (nfa_state.CounterLoop counters after) (at_head c place) there (stand_at after place)
-      (counter_loop_by loop after (at_head c place) (counter c) [] place (counter c ∷ []) turning.Out refl refl last)
+      tries_only searcher (nfa_state.CounterLoop bounds after) (at_head c place) there (config_at after place)
+      (counter_loop_by loop after (at_head c place) (counter c) [] place (counter c ∷ []) loop_choice.Out refl refl last)
 
   -- where no character passes
-  leaves : (c place : ℕ) → is_last loop.hi c ≡ false → nat_lt c loop.lo ≡ false → Refuses task test place →
-      Walks task true (at_head c place) (stand_at after place)
+  leaves : (c place : ℕ) → is_last loop.hi c ≡ false → nat_lt c loop.lo ≡ false → Refuses searcher test place →
+      Walks searcher true (at_head c place) (config_at after place)
   leaves c place goes enough refused =
-      tries_memoized task (nfa_state.CounterLoop counters after) (at_head c place) there (at_body (next_count loop.lo loop.hi c) place) (stand_at after place)
-      (counter_loop_by loop after (at_head c place) (counter c) [] place (counter c ∷ []) turning.InOrOut refl refl (goes, enough, greedy)
-      ∙ ap (λ t. plain.Tries true (record (at_body c place) { counters = t ∷ [] }) (stand_at after place ∷ [])) (next_is c place))
-      (test_fails task test (head + 1) place body.0 refused)
+      tries_memoized searcher (nfa_state.CounterLoop bounds after) (at_head c place) there (at_body (next_count loop.lo loop.hi c) place) (config_at after place)
+      (counter_loop_by loop after (at_head c place) (counter c) [] place (counter c ∷ []) loop_choice.InOrOut refl refl (goes, enough, greedy)
+      ∙ ap (λ t. plain.Tries true (record (at_body c place) { counters = t ∷ [] }) (config_at after place ∷ [])) (next_is c place))
+      (test_fails searcher test (head + 1) place body.0 refused)
 
   -- where one had to
-  fails_short : (c place : ℕ) → is_last loop.hi c ≡ false → nat_lt c loop.lo ≡ true → Refuses task test place →
-      Loses task (at_head c place)
+  fails_short : (c place : ℕ) → is_last loop.hi c ≡ false → nat_lt c loop.lo ≡ true → Refuses searcher test place →
+      Loses searcher (at_head c place)
   fails_short c place goes few refused =
       let into = at_body (next_count loop.lo loop.hi c) place in
-      loses_behind task (at_head c place) into (goes_in c place goes few)
-      (loses task (nfa_state.Character test) into body.0 (ap (plain.goes_past into) refused))
+      loses_behind searcher (at_head c place) into (goes_in c place goes few)
+      (loses searcher (nfa_state.Character test) into body.0 (ap (plain.goes_past into) refused))
 
   -- ---- the whole loop
 
-  module _ (enter : ℕ) (begins : slice_get (task.states).now enter ≡ Some nfa_state.CounterBegin) (behind : enter + 1 ≡ head)
-      (from to left : ℕ) (most : PassesMost task test counters.hi from to left) where
+  module _ (enter : ℕ) (begins : slice_get (searcher.states).now enter ≡ Some nfa_state.CounterBegin) (behind : enter + 1 ≡ head)
+      (from to left : ℕ) (most : PassesMost searcher test bounds.hi from to left) where
     abbrev made : ℕ
-    made = counters.hi - left
+    made = bounds.hi - left
 
-    begins_at : Walks task true (stand_at enter from) (at_head 0 from)
+    begins_at : Walks searcher true (config_at enter from) (at_head 0 from)
     begins_at =
-        subst (λ i. Walks task true (stand_at enter from) (record (at_head 0 from) { at = i })) behind
-        (goes task nfa_state.CounterBegin (stand_at enter from) begins (record (at_head 0 from) { at = enter + 1 }) refl)
+        subst (λ i. Walks searcher true (config_at enter from) (record (at_head 0 from) { at = i })) behind
+        (goes searcher nfa_state.CounterBegin (config_at enter from) begins (record (at_head 0 from) { at = enter + 1 }) refl)
 
-    comes : (sure : Bool) → (sure ≡ true → made ≤ loop.lo) → Walks task sure (stand_at enter from) (at_head (counts made) to)
+    comes : (sure : Bool) → (sure ≡ true → made ≤ loop.lo) → Walks searcher sure (config_at enter from) (at_head (counts made) to)
     comes sure few =
-        joined task true sure sure (stand_at enter from) (at_head 0 from) (at_head (counts made) to) (λ e. (refl, e)) begins_at
+        joined searcher true sure sure (config_at enter from) (at_head 0 from) (at_head (counts made) to) (λ e. (refl, e)) begins_at
         (iterates_all made from to sure few (omega arith) most.1)
 
-    pub falls_short : 0 < left → made < counters.lo → Loses task (stand_at enter from)
+    pub falls_short : 0 < left → made < bounds.lo → Loses searcher (config_at enter from)
     falls_short some few =
-        loses_behind task (stand_at enter from) (at_head (counts made) to) (comes true (λ e. omega (arith, few)))
-        (fails_short (counts made) to (may_go_on loop.lo counters.hi made (let le = most.0 in omega (arith, some, le)))
+        loses_behind searcher (config_at enter from) (at_head (counts made) to) (comes true (λ e. omega (arith, few)))
+        (fails_short (counts made) to (may_go_on loop.lo bounds.hi made (let le = most.0 in omega (arith, some, le)))
         (counted_few loop.lo loop.hi made few) (most.2 some))
 
-    pub comes_past : (sure : Bool) → (sure ≡ true → made ≤ loop.lo) → (0 < left → counters.lo ≤ made) → length (task.text).now < usize_max →
-        counters.hi ≤ usize_max → Walks task sure (stand_at enter from) (stand_at after to)
+    pub comes_past : (sure : Bool) → (sure ≡ true → made ≤ loop.lo) → (0 < left → bounds.lo ≤ made) → length (searcher.text).now < usize_max →
+        bounds.hi ≤ usize_max → Walks searcher sure (config_at enter from) (config_at after to)
     comes_past sure few enough fits small =
-        onward task sure (stand_at enter from) (at_head (counts made) to) (stand_at after to) (comes sure few)
+        onward searcher sure (config_at enter from) (at_head (counts made) to) (config_at after to) (comes sure few)
         (⊎_elim (λ none. leaves_last (counts made) to (all_made none)) (λ some.
-        leaves (counts made) to (may_go_on loop.lo counters.hi made (let le = most.0 in omega (arith, some, le)))
+        leaves (counts made) to (may_go_on loop.lo bounds.hi made (let le = most.0 in omega (arith, some, le)))
         (counted_enough loop.lo loop.hi made (enough some)) (most.2 some)) (cases_lt left 1))
       where
         all_made : left < 1 → is_last loop.hi (counts made) ≡ true
         all_made none =
-            let same : counters.hi ≡ made = omega (arith, none) in
-            subst (λ n. is_last loop.hi (counts n) ≡ true) same (may_not counters.lo counters.hi (⊎_elim (λ lt. lt)
-            (λ ge. let within = passes_within task test made from to most.1 (omega (arith, ge, same)) in
-            let room = passes_room task test made from to most.1 in omega (arith, ge, same, within, room, fits)) (cases_lt counters.hi usize_max)))
+            let same : bounds.hi ≡ made = omega (arith, none) in
+            subst (λ n. is_last loop.hi (counts n) ≡ true) same (may_not bounds.lo bounds.hi (⊎_elim (λ lt. lt)
+            (λ ge. let within = passes_within searcher test made from to most.1 (omega (arith, ge, same)) in
+            let room = passes_room searcher test made from to most.1 in omega (arith, ge, same, within, room, fits)) (cases_lt bounds.hi usize_max)))

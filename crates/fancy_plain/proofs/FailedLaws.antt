@@ -83,7 +83,7 @@ pub not_same : (b : PairBits) (base : ℕ) (k m : List ℕ) → pair_bit b base 
 not_same b base k m apart =
     false_from_ne_true (same_numbers k m) (λ h. apart (ap (pair_bit b base) ((bytes_decides k m).0 h)))
 
--- ---- notes
+-- ---- memoized pairs
 
 pub memoized_at : (f : Failed) (k : List ℕ) (o : Option ℕ) → o ≡ pair_bit f.pair_bits f.base k → is_memoized o f k ≡ has_pair f k
 unfolding has_pair

@@ -300,7 +300,7 @@ module _ (text : List ℕ) (unicode : Bool) (states : List NfaState) where
           step_inside s h.reached ascii levels after h.last level more h.here out (slice_get states s.at)
           (level s.at h.here.comes)
 
--- the levels that follow on the states reached first are beginnings
+-- the levels that follow on the states reached first are first sets
 pub are_first_sets : (unicode : Bool) (states : List NfaState) (reached : List ℕ) (levels : List (List Bool)) (last : List ℕ) →
     covers reached 0 255 ≡ true → AreLevels unicode states reached levels last → AreFirstSets unicode states levels
 are_first_sets unicode states reached levels last first leads text place out =

@@ -17,14 +17,14 @@ use Rattle.fancy_nfa.specs.FirstWays.{AreMemoized, FindsFirst, no_pairs, of_sear
 use Rattle.fancy_nfa.proofs.PlainSearch.{plain_search_finds}
 use Rattle.fancy_plain.specs.declared.first_way.FirstWay.{FirstWay}
 use Rattle.fancy_plain.specs.declared.first_way.Way.{Way}
-use Rattle.fancy_plain.specs.declared.table.Nfa.{Nfa}
+use Rattle.fancy_plain.specs.declared.nfa.Nfa.{Nfa}
 use Rattle.fancy_plain.specs.declared.nfa_state.NfaState as code
 use Rattle.fancy_plain.specs.FailedPairs.{has_pair, key_of}
 use Rattle.fancy_plain.specs.declared.trail.Entry.{Entry}
 use Rattle.fancy_plain.specs.declared.trail.NfaConfig.{NfaConfig}
 use Rattle.fancy_plain.specs.declared.search.Memo.{Memo}
-use Rattle.fancy_plain.specs.declared.search.Task.{Task}
-use Rattle.fancy_plain.specs.Tables.{IsTableOf}
+use Rattle.fancy_plain.specs.declared.search.Searcher.{Searcher}
+use Rattle.fancy_plain.specs.Nfas.{IsNfaOf}
 use Rattle.fancy_plain.specs.Paths.{closed_after}
 use Rattle.fancy_plain.specs.BacktrackStack.{choices_of}
 use Rattle.fancy_plain.specs.Searches.{AreKept, EndsAs, HaveFailed, IsHere, IsSearch, Leading, leading_of}
@@ -96,7 +96,7 @@ module _ (text : List ℕ) (f : Nfa) (place : ℕ) (failed : Pair → Bool) (is_
   pub memo_after : (m : Memo) (steps : ℕ) → HaveFailed m (search_in (run steps)).failed → IsMemoOf text f m
   memo_after m steps h = ((search_in (run steps)).failed, (h, of_search place steps at memoized))
 
-  module _ (a : Analysis) (es : List Tree) (h : IsTableOf a es f.unicode f) (pos : ℕ) (continued : Bool) where
+  module _ (a : Analysis) (es : List Tree) (h : IsNfaOf a es f.unicode f) (pos : ℕ) (continued : Bool) where
     abbrev q : Setting
     q = record { text = text; pos = pos; continued = continued; unicode = f.unicode }
 
@@ -125,7 +125,7 @@ module _ (text : List ℕ) (f : Nfa) (place : ℕ) (failed : Pair → Bool) (is_
 
 -- ---- how a search ended
 
--- the stand of the code is at the end of the way, or both are none
+-- the configuration of the code is at the end of the way, or both are none
 abbrev pub AtEnd : Memo → Option NfaConfig → Option plain.NfaConfig → Type 0
 AtEnd m None None = Unit {0}
 AtEnd m None (Some t) = ⊥
@@ -142,12 +142,12 @@ pub record Ended (text : List ℕ) (unicode : Bool) (states : List NfaState) (fa
   pub visits : m.visits ≤ found.visits
   pub at_end : AtEnd m there way
 
-pub ended : (task : Task) (failed : Pair → Bool) (place : ℕ) (there : Option NfaConfig) (m : Memo) →
-    EndsAs task (TakesUp (plain.first_config place) (plain.first_search failed)) (Ok there) m →
-    Ended (task.text).now task.unicode (map state_of (task.states).now) failed place there m
-ended task failed place None m (steps, (f, (is, h))) =
+pub ended : (searcher : Searcher) (failed : Pair → Bool) (place : ℕ) (there : Option NfaConfig) (m : Memo) →
+    EndsAs searcher (TakesUp (plain.first_config place) (plain.first_search failed)) (Ok there) m →
+    Ended (searcher.text).now searcher.unicode (map state_of (searcher.states).now) failed place there m
+ended searcher failed place None m (steps, (f, (is, h))) =
     record { steps = steps; way = None; found = f; ends = is; have = h.failed; visits = h.visits; at_end = tt }
-ended task failed place (Some s) m (steps, (f, (t, (is, h, here)))) =
+ended searcher failed place (Some s) m (steps, (f, (t, (is, h, here)))) =
     record { steps = steps; way = Some t; found = f; ends = is; have = h.failed; visits = h.visits; at_end = here }
 
 -- ---- what is answered at the end
@@ -181,44 +181,44 @@ module _ (text : List ℕ) (f : Nfa) (place : ℕ) (failed : Pair → Bool) (is_
       go None h = tt
       go (Some t) h = absurd h
 
--- ---- a search by a table, from what a memo has memoized
+-- ---- a search by an NFA, from what a memo has memoized
 
-module _ (states : Bor (List code.NfaState)) (text : Bor (List ℕ)) (table : Nfa) (place : ℕ) (old m : Memo)
-    (same : states.now ≡ table.states.items) (is_text : IsText text.now) (at : IsTrue (is_place text.now place))
-    (memo : IsMemoOf text.now table old) (failed : m.failed ≡ old.failed) (path : m.trail.entries.items ≡ [])
+module _ (states : Bor (List code.NfaState)) (text : Bor (List ℕ)) (nfa : Nfa) (place : ℕ) (old m : Memo)
+    (same : states.now ≡ nfa.states.items) (is_text : IsText text.now) (at : IsTrue (is_place text.now place))
+    (memo : IsMemoOf text.now nfa old) (failed : m.failed ≡ old.failed) (path : m.trail.entries.items ≡ [])
     (frames : choices_of m.frames ≡ []) (visits : m.visits ≡ 0) where
-  abbrev task : Task
-  task = record { states = states; unicode = table.unicode; text = text }
+  abbrev searcher : Searcher
+  searcher = record { states = states; unicode = nfa.unicode; text = text }
 
   -- the search answered this, from whatever the code stands for at its start
   abbrev Finds : Result (Option NfaConfig) AllocError → Memo → Type 0
   Finds r n =
-      (s : plain.NfaConfig) (f : Search) → IsSearch (leading_of task) m f →
-      IsHere m (record { at = 0; place = place; counters = 0; opened = 0 }) s → EndsAs task (TakesUp s f) r n
+      (s : plain.NfaConfig) (f : Search) → IsSearch (leading_of searcher) m f →
+      IsHere m (record { at = 0; place = place; counters = 0; opened = 0 }) s → EndsAs searcher (TakesUp s f) r n
 
   ends : (r : Result (Option NfaConfig) AllocError) (n : Memo) → Finds r n →
-      EndsAs task (TakesUp (plain.first_config place) (plain.first_search memo.0)) r n
+      EndsAs searcher (TakesUp (plain.first_config place) (plain.first_search memo.0)) r n
   ends r n h =
       let have : HaveFailed m memo.0 = λ p. ap (λ x. has_pair x (key_of p)) failed ∙ memo.1.0 p in
-      h (plain.first_config place) (plain.first_search memo.0) (search_at_start (leading_of task) m memo.0 place path frames visits have)
-      (here_at_start (leading_of task) m memo.0 place path frames visits have)
+      h (plain.first_config place) (plain.first_search memo.0) (search_at_start (leading_of searcher) m memo.0 place path frames visits have)
+      (here_at_start (leading_of searcher) m memo.0 place path frames visits have)
 
-  pub end_refused : (e : AllocError) (n : Memo) → Finds (Err e) n → IsMemoOf text.now table n
+  pub end_refused : (e : AllocError) (n : Memo) → Finds (Err e) n → IsMemoOf text.now nfa n
   end_refused e n h =
       let x = ends (Err e) n h in
-      memo_after text.now table place memo.0 is_text at memo.1.1 n x.0
-      (subst (λ ps. HaveFailed n (search_in (searched text.now table.unicode ps memo.0 place x.0)).failed) (ap (map state_of) same) x.1)
+      memo_after text.now nfa place memo.0 is_text at memo.1.1 n x.0
+      (subst (λ ps. HaveFailed n (search_in (searched text.now nfa.unicode ps memo.0 place x.0)).failed) (ap (map state_of) same) x.1)
 
   pub end_found : (there : Option NfaConfig) (n : Memo) → Finds (Ok there) n →
-      Ended text.now table.unicode (map state_of table.states.items) memo.0 place there n
+      Ended text.now nfa.unicode (map state_of nfa.states.items) memo.0 place there n
   end_found there n h =
-      subst (λ ps. Ended text.now table.unicode ps memo.0 place there n) (ap (map state_of) same)
-      (ended task memo.0 place there n (ends (Ok there) n h))
+      subst (λ ps. Ended text.now nfa.unicode ps memo.0 place there n) (ap (map state_of) same)
+      (ended searcher memo.0 place there n (ends (Ok there) n h))
 
-  pub memo_found : (there : Option NfaConfig) (n : Memo) → Finds (Ok there) n → IsMemoOf text.now table n
+  pub memo_found : (there : Option NfaConfig) (n : Memo) → Finds (Ok there) n → IsMemoOf text.now nfa n
   memo_found there n h =
       let e = end_found there n h in
-      memo_after text.now table place memo.0 is_text at memo.1.1 n e.steps
+      memo_after text.now nfa place memo.0 is_text at memo.1.1 n e.steps
       (subst (λ x. HaveFailed n (search_in x).failed) (sym e.ends) e.have)
 
 -- ---- where no way can begin
@@ -249,8 +249,8 @@ no_way_behind text f bytes from is_text is out place behind at =
 
 pub none_first : (text : List ℕ) (f : Nfa) (place : ℕ) → HasNoWayAt text f place →
     IsFirstWay text f place (record { way = None; visits = 0 })
-none_first text f place h = λ a es table.
-    ((λ pos continued. subst (IsSeenAs None) (sym (h a es table pos continued)) tt), omega arith)
+none_first text f place h = λ a es nfa.
+    ((λ pos continued. subst (IsSeenAs None) (sym (h a es nfa pos continued)) tt), omega arith)
 
 pub excluded_byte : (levels : List (List Bool)) (ascii : List Bool) (byte : ℕ) → slice_get levels 0 ≡ Some ascii → byte < 128 →
     slice_index_or ascii byte false ≡ false → (text : List ℕ) (place : ℕ) → slice_get text place ≡ Some byte →

@@ -1,4 +1,4 @@
--- What holds of each stand that a search comes to: where it never holds of one at the end, no way is found.
+-- What holds of each configuration that a search comes to: where it never holds of one at the end, no way is found.
 use Rattle.std.proofs.Common.{◌≡◌, ◌+◌, ◌∷◌, ◌++◌, [], ℕ, zero, suc, Bool, true, false, List, Option, Some, None, if◌then◌else◌, slice_get, refl, sym, subst}
 use Rattle.fancy_nfa.specs.NfaStates.{NfaState}
 use Rattle.fancy_nfa.specs.NfaSearch.{StepResult, Found, Lost, Goes, Tries, Frame, Other, Fails, Next, TakesUp, TakesBack, Ends, Pair, Search, NfaConfig, after_steps, back_to, first_search, first_config, is_counted, step_result, next, next_by, others, pair_of, tries, visited, with_frames}
@@ -14,7 +14,7 @@ module _ (P : NfaConfig → Type 0) where
   FramesKeep (Other s ∷ frames) = P s × FramesKeep frames
   FramesKeep (Fails p ∷ frames) = FramesKeep frames
 
-  -- it is not the end, and leads to stands alone of which it holds
+  -- it is not the end, and leads to configurations alone of which it holds
   abbrev pub StepKeeps : StepResult → Type 0
   StepKeeps Found = ⊥
   StepKeeps Lost = Unit {0}
@@ -83,7 +83,7 @@ module _ (P : NfaConfig → Type 0) where
     none_kept None f h = refl
     none_kept (Some s) f h = absurd h
 
-    -- no way is found from a stand of which it holds
+    -- no way is found from a configuration of which it holds
     pub finds_none : (place : ℕ) → P (first_config place) → (failed : Pair → Bool) (steps : ℕ) (way : Option NfaConfig) (found : Search) →
         searched text unicode states failed place steps ≡ Ends way found → way ≡ None
     finds_none place begins failed steps way found ends =

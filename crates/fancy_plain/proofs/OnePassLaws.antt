@@ -18,15 +18,15 @@ use Rattle.fancy_plain.specs.declared.trail.NfaConfig.{NfaConfig}
 use Rattle.fancy_plain.specs.declared.nfa_state.CharTest.{CharTest}
 use Rattle.fancy_plain.specs.declared.nfa_state.NfaState.{NfaState}
 use Rattle.fancy_plain.specs.declared.nfa_state.NfaState.TheVariants as nfa_state
-use Rattle.fancy_plain.specs.declared.search.Task.{Task}
+use Rattle.fancy_plain.specs.declared.search.Searcher.{Searcher}
 use Rattle.fancy_plain.specs.declared.one_pass.OnePass.{OnePass}
 use Rattle.fancy_plain.specs.declared.one_pass.OnePass.TheVariants as one_pass
-use Rattle.fancy_plain.specs.declared.table.Nfa.{Nfa}
+use Rattle.fancy_plain.specs.declared.nfa.Nfa.{Nfa}
 use Rattle.fancy_plain.specs.AsciiRuns.{AllPass}
 use Rattle.fancy_plain.specs.Runs.{FailsFrom, IsBody, Passes}
 use Rattle.fancy_plain.specs.Searches.{after_steps_of, next_of}
-use Rattle.fancy_plain.specs.OnePass.{AreFails, EndsOnePass, Finds, IsBlank, IsOnePass, Loses, RunsOn, RunsPast, Walks, stand_at}
-use Rattle.fancy_plain.specs.Tables.{IsTableOf}
+use Rattle.fancy_plain.specs.OnePass.{AreFails, EndsOnePass, Finds, IsBlank, IsOnePass, Loses, RunsOn, RunsPast, Walks, config_at}
+use Rattle.fancy_plain.specs.Nfas.{IsNfaOf}
 use Rattle.fancy_plain.specs.Views.{state_of, test_of}
 use Rattle.fancy_plain.proofs.BackLaws.{steps_then}
 use Rattle.fancy_plain.proofs.FirstWayLaws.{finds, same_end, way_at}
@@ -48,17 +48,17 @@ and_parts false c e = absurd (true≢false (sym e))
 not_sure : {A : Type 0} → false ≡ true → A
 not_sure e = cc
 
-module _ (task : Task) where
+module _ (searcher : Searcher) where
   abbrev pub Test : CharTest → ℕ → Bool
-  Test test = passes (task.text).now task.unicode (test_of test)
+  Test test = passes (searcher.text).now searcher.unicode (test_of test)
 
   -- ---- one walk behind another
 
-  pub stays : (s : plain.NfaConfig) → Walks task true s s
+  pub stays : (s : plain.NfaConfig) → Walks searcher true s s
   stays s f blank = (0, (f, (refl, blank, λ e h. h)))
 
   pub joined : (b c d : Bool) (s t u : plain.NfaConfig) → (d ≡ true → (b ≡ true) × (c ≡ true)) →
-      Walks task b s t → Walks task c t u → Walks task d s u
+      Walks searcher b s t → Walks searcher c t u → Walks searcher d s u
   joined b c d s t u sure w v f blank =
       let x = w f blank in
       let y = v x.1.0 x.1.1.1 in (
@@ -66,7 +66,7 @@ module _ (task : Task) where
         (
           y.1.0,
           (
-            steps_then task x.0 y.0 (TakesUp s f) (TakesUp t x.1.0) x.1.1.0 ∙ y.1.1.0,
+            steps_then searcher x.0 y.0 (TakesUp s f) (TakesUp t x.1.0) x.1.1.0 ∙ y.1.1.0,
             y.1.1.1,
             λ e h. y.1.1.2 (sure e).1 (x.1.1.2 (sure e).0 h),
           ),
@@ -74,19 +74,19 @@ module _ (task : Task) where
       )
 
   -- what is sure is also not sure
-  pub unsure : (s t : plain.NfaConfig) → Walks task true s t → Walks task false s t
+  pub unsure : (s t : plain.NfaConfig) → Walks searcher true s t → Walks searcher false s t
   unsure s t w = joined true true false s t t (λ e. not_sure e) w (stays t)
 
-  pub remains : (b : Bool) (s : plain.NfaConfig) → Walks task b s s
+  pub remains : (b : Bool) (s : plain.NfaConfig) → Walks searcher b s s
   remains true s = stays s
   remains false s = unsure s s (stays s)
 
   -- on without a choice
-  pub onward : (b : Bool) (s t u : plain.NfaConfig) → Walks task b s t → Walks task true t u → Walks task b s u
+  pub onward : (b : Bool) (s t u : plain.NfaConfig) → Walks searcher b s t → Walks searcher true t u → Walks searcher b s u
   onward b s t u w v = joined b true b s t u (λ e. (e, refl)) w v
 
   -- and where that leads nowhere
-  pub loses_behind : (s t : plain.NfaConfig) → Walks task true s t → Loses task t → Loses task s
+  pub loses_behind : (s t : plain.NfaConfig) → Walks searcher true s t → Loses searcher t → Loses searcher s
   loses_behind s t w v f blank =
       let x = w f blank in
       let y = v x.1.0 x.1.1.1 in (
@@ -94,7 +94,7 @@ module _ (task : Task) where
         (
           y.1.0,
           (
-            steps_then task x.0 y.0 (TakesUp s f) (TakesUp t x.1.0) x.1.1.0 ∙ y.1.1.0,
+            steps_then searcher x.0 y.0 (TakesUp s f) (TakesUp t x.1.0) x.1.1.0 ∙ y.1.1.0,
             λ h. y.1.1.1 (x.1.1.2 refl h),
           ),
         ),
@@ -102,26 +102,26 @@ module _ (task : Task) where
 
   -- back to the beginning
   goes_back : (frames : List plain.Frame) (f : Search) → f.frames ≡ frames → AreFails frames →
-      (steps : ℕ) × ((g : Search) × (after_steps_of task steps (TakesBack f) ≡ Ends None g))
+      (steps : ℕ) × ((g : Search) × (after_steps_of searcher steps (TakesBack f) ≡ Ends None g))
   goes_back [] f e h = (1, (f, ap (λ l. plain.back_to l f) e))
   goes_back (Other s ∷ frames) f e h = absurd h
   goes_back (Fails p ∷ frames) f e h =
       let x = goes_back frames (plain.with_failed p (record f { frames = frames })) refl h in
-      (suc x.0, (x.1.0, ap (λ l. after_steps_of task x.0 (plain.back_to l f)) e ∙ x.1.1))
+      (suc x.0, (x.1.0, ap (λ l. after_steps_of searcher x.0 (plain.back_to l f)) e ∙ x.1.1))
 
-  pub finds_none : (ix : ℕ) (s : plain.NfaConfig) → Walks task true (stand_at 0 ix) s → Loses task s → Finds task ix None
+  pub finds_none : (ix : ℕ) (s : plain.NfaConfig) → Walks searcher true (config_at 0 ix) s → Loses searcher s → Finds searcher ix None
   finds_none ix s w v =
-      let x = loses_behind (stand_at 0 ix) s w v (first_search (λ q. false)) (λ q. refl) in
+      let x = loses_behind (config_at 0 ix) s w v (first_search (λ q. false)) (λ q. refl) in
       let y = goes_back x.1.0.frames x.1.0 refl (x.1.1.1 tt) in (
         x.0 + y.0,
         (
           y.1.0,
-          steps_then task x.0 y.0 (TakesUp (stand_at 0 ix) (first_search (λ q. false))) (TakesBack x.1.0) x.1.1.0 ∙ y.1.1,
+          steps_then searcher x.0 y.0 (TakesUp (config_at 0 ix) (first_search (λ q. false))) (TakesBack x.1.0) x.1.1.0 ∙ y.1.1,
         ),
       )
 
   -- on with one
-  pub by_choice : (b c : Bool) (s t u : plain.NfaConfig) → Walks task b s t → Walks task c t u → Walks task false s u
+  pub by_choice : (b c : Bool) (s t u : plain.NfaConfig) → Walks searcher b s t → Walks searcher c t u → Walks searcher false s u
   by_choice b c s t u w v = joined b c false s t u (λ e. not_sure e) w v
 
   -- ---- a step
@@ -146,41 +146,41 @@ module _ (task : Task) where
       let none : f.visits ≡ f.visits + 0 = omega arith in
       (0, (ap (λ n. record f { visits = n }) none, none))
 
-  module _ (p : NfaState) (s : plain.NfaConfig) (there : slice_get (task.states).now s.at ≡ Some p) where
-    stepped : (f : Search) (l : plain.StepResult) → plain.step_by (task.text).now task.unicode (state_of p) s ≡ l →
-        next_of task (TakesUp s f) ≡ plain.next_by l (Some (state_of p)) s f
-    stepped f l leads = next_there task p (at_state s.at) s refl there f ∙ ap (λ x. plain.next_by x (Some (state_of p)) s f) leads
+  module _ (p : NfaState) (s : plain.NfaConfig) (there : slice_get (searcher.states).now s.at ≡ Some p) where
+    stepped : (f : Search) (l : plain.StepResult) → plain.step_by (searcher.text).now searcher.unicode (state_of p) s ≡ l →
+        next_of searcher (TakesUp s f) ≡ plain.next_by l (Some (state_of p)) s f
+    stepped f l leads = next_there searcher p (at_state s.at) s refl there f ∙ ap (λ x. plain.next_by x (Some (state_of p)) s f) leads
 
-    pub goes : (t : plain.NfaConfig) → plain.step_by (task.text).now task.unicode (state_of p) s ≡ Goes t → Walks task true s t
+    pub goes : (t : plain.NfaConfig) → plain.step_by (searcher.text).now searcher.unicode (state_of p) s ≡ Goes t → Walks searcher true s t
     goes t leads f blank =
         let c = plain.is_counted (Some (state_of p)) in
         (1, (plain.visited (Some (state_of p)) f, (stepped f (Goes t) leads, counted_blank c f blank, λ e. counted_fails c f)))
 
     -- where it is the end
-    pub ends : (b : Bool) (ix : ℕ) → plain.step_by (task.text).now task.unicode (state_of p) s ≡ plain.Found →
-        Walks task b (stand_at 0 ix) s → Finds task ix (Some s)
+    pub ends : (b : Bool) (ix : ℕ) → plain.step_by (searcher.text).now searcher.unicode (state_of p) s ≡ plain.Found →
+        Walks searcher b (config_at 0 ix) s → Finds searcher ix (Some s)
     ends b ix leads w =
         let x = w (first_search (λ q. false)) (λ q. refl) in (
           x.0 + 1,
           (
             plain.visited (Some (state_of p)) x.1.0,
-            steps_then task x.0 1 (TakesUp (stand_at 0 ix) (first_search (λ q. false))) (TakesUp s x.1.0) x.1.1.0
+            steps_then searcher x.0 1 (TakesUp (config_at 0 ix) (first_search (λ q. false))) (TakesUp s x.1.0) x.1.1.0
                 ∙ stepped x.1.0 plain.Found leads,
           ),
         )
 
     -- where it leads nowhere
-    pub loses : plain.step_by (task.text).now task.unicode (state_of p) s ≡ Lost → Loses task s
+    pub loses : plain.step_by (searcher.text).now searcher.unicode (state_of p) s ≡ Lost → Loses searcher s
     loses leads f blank =
         (1, (plain.visited (Some (state_of p)) f, (stepped f Lost leads, counted_fails (plain.is_counted (Some (state_of p))) f)))
 
-    pub lost : (ix : ℕ) → plain.step_by (task.text).now task.unicode (state_of p) s ≡ Lost →
-        Walks task true (stand_at 0 ix) s → Finds task ix None
+    pub lost : (ix : ℕ) → plain.step_by (searcher.text).now searcher.unicode (state_of p) s ≡ Lost →
+        Walks searcher true (config_at 0 ix) s → Finds searcher ix None
     lost ix leads w = finds_none ix s w (loses leads)
 
     -- on at the only way, where the pair is one that is memoized
-    pub tries_only : (t : plain.NfaConfig) → plain.step_by (task.text).now task.unicode (state_of p) s ≡ plain.Tries true t [] →
-        Walks task true s t
+    pub tries_only : (t : plain.NfaConfig) → plain.step_by (searcher.text).now searcher.unicode (state_of p) s ≡ plain.Tries true t [] →
+        Walks searcher true s t
     tries_only t leads f blank =
         let c = plain.is_counted (Some (state_of p)) in (
           1,
@@ -196,7 +196,7 @@ module _ (task : Task) where
 
     -- on at the first of several ways, with the others kept for later
     pub tries_first : (is_memoized : Bool) (t : plain.NfaConfig) (ts : List plain.NfaConfig) →
-        plain.step_by (task.text).now task.unicode (state_of p) s ≡ plain.Tries is_memoized t ts → Walks task false s t
+        plain.step_by (searcher.text).now searcher.unicode (state_of p) s ≡ plain.Tries is_memoized t ts → Walks searcher false s t
     tries_first false t ts leads f blank =
         let v = plain.visited (Some (state_of p)) f in (
           1,
@@ -219,43 +219,43 @@ module _ (task : Task) where
         )
 
     -- on at the second of two ways, where the first one fails
-    pub tries_second : (t u : plain.NfaConfig) → plain.step_by (task.text).now task.unicode (state_of p) s ≡ plain.Tries false t (u ∷ []) →
-        FailsFrom task t.at t.place → Walks task true s u
+    pub tries_second : (t u : plain.NfaConfig) → plain.step_by (searcher.text).now searcher.unicode (state_of p) s ≡ plain.Tries false t (u ∷ []) →
+        FailsFrom searcher t.at t.place → Walks searcher true s u
     tries_second t u leads fails f blank =
         let c = plain.is_counted (Some (state_of p)) in
         let v = plain.visited (Some (state_of p)) f in
         let g : Search = plain.with_frames (Other u ∷ []) v in
         let x = fails t g refl refl in
-        let gone : after_steps_of task (1 + x.0) (TakesUp s f) ≡ TakesBack (record g { visits = g.visits + x.1.0 }) =
-        steps_then task 1 x.0 (TakesUp s f) (TakesUp t g) (stepped f (plain.Tries false t (u ∷ [])) leads) ∙ x.1.1 in (
+        let gone : after_steps_of searcher (1 + x.0) (TakesUp s f) ≡ TakesBack (record g { visits = g.visits + x.1.0 }) =
+        steps_then searcher 1 x.0 (TakesUp s f) (TakesUp t g) (stepped f (plain.Tries false t (u ∷ [])) leads) ∙ x.1.1 in (
           1 + x.0 + 1,
           (
             record v { visits = v.visits + x.1.0 },
             (
-              steps_then task (1 + x.0) 1 (TakesUp s f) (TakesBack (record g { visits = g.visits + x.1.0 })) gone,
+              steps_then searcher (1 + x.0) 1 (TakesUp s f) (TakesBack (record g { visits = g.visits + x.1.0 })) gone,
               counted_blank c f blank,
               λ e. counted_fails c f,
             ),
           ),
         )
 
-    -- the same where the pair is one that is memoized
-    pub tries_memoized : (t u : plain.NfaConfig) → plain.step_by (task.text).now task.unicode (state_of p) s ≡ plain.Tries true t (u ∷ []) →
-        FailsFrom task t.at t.place → Walks task true s u
+    -- and where the pair is one that is memoized
+    pub tries_memoized : (t u : plain.NfaConfig) → plain.step_by (searcher.text).now searcher.unicode (state_of p) s ≡ plain.Tries true t (u ∷ []) →
+        FailsFrom searcher t.at t.place → Walks searcher true s u
     tries_memoized t u leads fails f blank =
         let c = plain.is_counted (Some (state_of p)) in
         let v = plain.visited (Some (state_of p)) f in
         let g : Search = plain.with_frames (Other u ∷ Fails (pair_of s) ∷ []) v in
         let x = fails t g refl refl in
-        let up : next_of task (TakesUp s f) ≡ TakesUp t g =
+        let up : next_of searcher (TakesUp s f) ≡ TakesUp t g =
         stepped f (plain.Tries true t (u ∷ [])) leads ∙ cond-false (f.failed (pair_of s)) _ _ (blank (pair_of s)) in
-        let gone : after_steps_of task (1 + x.0) (TakesUp s f) ≡ TakesBack (record g { visits = g.visits + x.1.0 }) =
-        steps_then task 1 x.0 (TakesUp s f) (TakesUp t g) up ∙ x.1.1 in (
+        let gone : after_steps_of searcher (1 + x.0) (TakesUp s f) ≡ TakesBack (record g { visits = g.visits + x.1.0 }) =
+        steps_then searcher 1 x.0 (TakesUp s f) (TakesUp t g) up ∙ x.1.1 in (
           1 + x.0 + 1,
           (
             record v { frames = Fails (pair_of s) ∷ v.frames; visits = v.visits + x.1.0 },
             (
-              steps_then task (1 + x.0) 1 (TakesUp s f) (TakesBack (record g { visits = g.visits + x.1.0 })) gone,
+              steps_then searcher (1 + x.0) 1 (TakesUp s f) (TakesBack (record g { visits = g.visits + x.1.0 })) gone,
               counted_blank c f blank,
               λ e. counted_fails c f,
             ),
@@ -265,161 +265,161 @@ module _ (task : Task) where
   -- ---- choices
 
   -- at a choice that is not memoized, where the first way fails or not
-  pub chosen_of : (p : NfaState) (head first second place : ℕ) (is_lost : Bool) → slice_get (task.states).now head ≡ Some p →
-      plain.step_by (task.text).now task.unicode (state_of p) (stand_at head place)
-      ≡ plain.Tries false (stand_at first place) (stand_at second place ∷ []) →
-      (is_lost ≡ true → FailsFrom task first place) →
-      Walks task is_lost (stand_at head place) (stand_at (if is_lost then second else first) place)
+  pub chosen_of : (p : NfaState) (head first second place : ℕ) (is_lost : Bool) → slice_get (searcher.states).now head ≡ Some p →
+      plain.step_by (searcher.text).now searcher.unicode (state_of p) (config_at head place)
+      ≡ plain.Tries false (config_at first place) (config_at second place ∷ []) →
+      (is_lost ≡ true → FailsFrom searcher first place) →
+      Walks searcher is_lost (config_at head place) (config_at (if is_lost then second else first) place)
   chosen_of p head first second place true there leads fails =
-      tries_second p (stand_at head place) there (stand_at first place) (stand_at second place) leads (fails refl)
+      tries_second p (config_at head place) there (config_at first place) (config_at second place) leads (fails refl)
   chosen_of p head first second place false there leads fails =
-      tries_first p (stand_at head place) there false (stand_at first place) (stand_at second place ∷ []) leads
+      tries_first p (config_at head place) there false (config_at first place) (config_at second place ∷ []) leads
 
   -- at the head of a loop
-  pub chosen_at_counter_loop : (head first second place : ℕ) (is_lost : Bool) → slice_get (task.states).now head ≡ Some (nfa_state.LoopSplit first second) →
-      (is_lost ≡ true → FailsFrom task first place) →
-      Walks task is_lost (stand_at head place) (stand_at (if is_lost then second else first) place)
+  pub chosen_at_counter_loop : (head first second place : ℕ) (is_lost : Bool) → slice_get (searcher.states).now head ≡ Some (nfa_state.LoopSplit first second) →
+      (is_lost ≡ true → FailsFrom searcher first place) →
+      Walks searcher is_lost (config_at head place) (config_at (if is_lost then second else first) place)
   chosen_at_counter_loop head first second place true there fails =
-      tries_memoized (nfa_state.LoopSplit first second) (stand_at head place) there (stand_at first place) (stand_at second place) refl (fails refl)
+      tries_memoized (nfa_state.LoopSplit first second) (config_at head place) there (config_at first place) (config_at second place) refl (fails refl)
   chosen_at_counter_loop head first second place false there fails =
-      tries_first (nfa_state.LoopSplit first second) (stand_at head place) there true (stand_at first place) (stand_at second place ∷ []) refl
+      tries_first (nfa_state.LoopSplit first second) (config_at head place) there true (config_at first place) (config_at second place ∷ []) refl
 
   -- sure as long as it was, and as long as what was chosen is
-  pub both_sure : (b c : Bool) (s t u : plain.NfaConfig) → Walks task b s t → Walks task c t u → Walks task (b && c) s u
+  pub both_sure : (b c : Bool) (s t u : plain.NfaConfig) → Walks searcher b s t → Walks searcher c t u → Walks searcher (b && c) s u
   both_sure b c s t u w v = joined b c (b && c) s t u (and_parts b c) w v
 
   -- ---- what fails at once
 
   -- a jump to what fails
-  pub jump_fails : (at to place : ℕ) → slice_get (task.states).now at ≡ Some (nfa_state.Jump to) → FailsFrom task to place → FailsFrom task at place
+  pub jump_fails : (at to place : ℕ) → slice_get (searcher.states).now at ≡ Some (nfa_state.Jump to) → FailsFrom searcher to place → FailsFrom searcher at place
   jump_fails at to place there fails s f is here =
       let x = fails (goes_to to s) f refl here in (
         1 + x.0,
         (
           x.1.0,
-          steps_then task 1 x.0 (TakesUp s f) (TakesUp (goes_to to s) f) (next_there task (nfa_state.Jump to) (at_state at) s (sym is) there f) ∙ x.1.1,
+          steps_then searcher 1 x.0 (TakesUp s f) (TakesUp (goes_to to s) f) (next_there searcher (nfa_state.Jump to) (at_state at) s (sym is) there f) ∙ x.1.1,
         ),
       )
 
   -- two ways that fail
-  pub branches_fail : (p : NfaState) (at first second place : ℕ) → slice_get (task.states).now at ≡ Some p →
-      ((s : plain.NfaConfig) → plain.step_by (task.text).now task.unicode (state_of p) s ≡ plain.Tries false (goes_to first s) (goes_to second s ∷ [])) →
-      FailsFrom task first place → FailsFrom task second place → FailsFrom task at place
+  pub branches_fail : (p : NfaState) (at first second place : ℕ) → slice_get (searcher.states).now at ≡ Some p →
+      ((s : plain.NfaConfig) → plain.step_by (searcher.text).now searcher.unicode (state_of p) s ≡ plain.Tries false (goes_to first s) (goes_to second s ∷ [])) →
+      FailsFrom searcher first place → FailsFrom searcher second place → FailsFrom searcher at place
   branches_fail p at first second place there leads one other s f is here =
       let v = plain.visited (Some (state_of p)) f in
       let g : Search = plain.with_frames (Other (goes_to second s) ∷ []) v in
       let x = one (goes_to first s) g refl here in
       let h : Search = record v { visits = v.visits + x.1.0 } in
       let y = other (goes_to second s) h refl here in
-      let up : next_of task (TakesUp s f) ≡ TakesUp (goes_to first s) g =
-      next_there task p (at_state at) s (sym is) there f ∙ ap (λ l. plain.next_by l (Some (state_of p)) s f) (leads s) in
-      let back : after_steps_of task (1 + x.0) (TakesUp s f) ≡ TakesBack (record g { visits = g.visits + x.1.0 }) =
-      steps_then task 1 x.0 (TakesUp s f) (TakesUp (goes_to first s) g) up ∙ x.1.1 in
-      let on : after_steps_of task (1 + x.0 + 1) (TakesUp s f) ≡ TakesUp (goes_to second s) h =
-      steps_then task (1 + x.0) 1 (TakesUp s f) (TakesBack (record g { visits = g.visits + x.1.0 })) back in
+      let up : next_of searcher (TakesUp s f) ≡ TakesUp (goes_to first s) g =
+      next_there searcher p (at_state at) s (sym is) there f ∙ ap (λ l. plain.next_by l (Some (state_of p)) s f) (leads s) in
+      let back : after_steps_of searcher (1 + x.0) (TakesUp s f) ≡ TakesBack (record g { visits = g.visits + x.1.0 }) =
+      steps_then searcher 1 x.0 (TakesUp s f) (TakesUp (goes_to first s) g) up ∙ x.1.1 in
+      let on : after_steps_of searcher (1 + x.0 + 1) (TakesUp s f) ≡ TakesUp (goes_to second s) h =
+      steps_then searcher (1 + x.0) 1 (TakesUp s f) (TakesBack (record g { visits = g.visits + x.1.0 })) back in
       let c = counted_visits (plain.is_counted (Some (state_of p))) f in
       let visits : v.visits + x.1.0 + y.1.0 ≡ f.visits + (c.0 + x.1.0 + y.1.0) = omega (arith, c.1.1) in (
         1 + x.0 + 1 + y.0,
         (
           c.0 + x.1.0 + y.1.0,
-          steps_then task (1 + x.0 + 1) y.0 (TakesUp s f) (TakesUp (goes_to second s) h) on ∙ y.1.1
+          steps_then searcher (1 + x.0 + 1) y.0 (TakesUp s f) (TakesUp (goes_to second s) h) on ∙ y.1.1
               ∙ ap (λ n. TakesBack (record v { visits = n })) visits ∙ ap (λ w. TakesBack (record w { visits = f.visits + (c.0 + x.1.0 + y.1.0) })) c.1.0,
         ),
       )
 
   -- ---- a loop over one test
 
-  module _ (test : CharTest) (head first second : ℕ) (loop_split : slice_get (task.states).now head ≡ Some (nfa_state.LoopSplit first second))
-      (body : IsBody (task.states).now head first test) where
+  module _ (test : CharTest) (head first second : ℕ) (loop_split : slice_get (searcher.states).now head ≡ Some (nfa_state.LoopSplit first second))
+      (body : IsBody (searcher.states).now head first test) where
     abbrev taken : ℕ → Search → Search
     taken i f = record f {
-      frames = Other (stand_at second i) ∷ Fails (pair_of (stand_at head i)) ∷ f.frames;
+      frames = Other (config_at second i) ∷ Fails (pair_of (config_at head i)) ∷ f.frames;
       visits = f.visits + 1;
     }
 
     loop_splits : (i : ℕ) (f : Search) → IsBlank f →
-        next_of task (TakesUp (stand_at head i) f) ≡ TakesUp (stand_at first i) (taken i f)
+        next_of searcher (TakesUp (config_at head i) f) ≡ TakesUp (config_at first i) (taken i f)
     loop_splits i f blank =
-        next_there task (nfa_state.LoopSplit first second) (at_state head) (stand_at head i) refl loop_split f
-        ∙ cond-false (f.failed (pair_of (stand_at head i))) _ _ (blank (pair_of (stand_at head i)))
+        next_there searcher (nfa_state.LoopSplit first second) (at_state head) (config_at head i) refl loop_split f
+        ∙ cond-false (f.failed (pair_of (config_at head i))) _ _ (blank (pair_of (config_at head i)))
 
-    goes_in : (i : ℕ) → Walks task false (stand_at head i) (stand_at first i)
+    goes_in : (i : ℕ) → Walks searcher false (config_at head i) (config_at first i)
     goes_in i f blank = (1, (taken i f, (loop_splits i f blank, blank, λ e. not_sure e)))
 
     -- a character that passes
-    pub iterates : (i j : ℕ) → past_char (task.text).now (Test test) i ≡ Some j → Walks task false (stand_at head i) (stand_at head j)
+    pub iterates : (i j : ℕ) → past_char (searcher.text).now (Test test) i ≡ Some j → Walks searcher false (config_at head i) (config_at head j)
     iterates i j past =
-        let took : Walks task true (stand_at first i) (stand_at (first + 1) j) =
-        goes (nfa_state.Character test) (stand_at first i) body.0 (stand_at (first + 1) j) (ap (plain.goes_past (stand_at first i)) past) in
-        let back : Walks task true (stand_at (first + 1) j) (stand_at head j) =
-        goes (nfa_state.Jump head) (stand_at (first + 1) j) body.1 (stand_at head j) refl in
-        onward false (stand_at head i) (stand_at (first + 1) j) (stand_at head j)
-        (onward false (stand_at head i) (stand_at first i) (stand_at (first + 1) j) (goes_in i) took) back
+        let took : Walks searcher true (config_at first i) (config_at (first + 1) j) =
+        goes (nfa_state.Character test) (config_at first i) body.0 (config_at (first + 1) j) (ap (plain.goes_past (config_at first i)) past) in
+        let back : Walks searcher true (config_at (first + 1) j) (config_at head j) =
+        goes (nfa_state.Jump head) (config_at (first + 1) j) body.1 (config_at head j) refl in
+        onward false (config_at head i) (config_at (first + 1) j) (config_at head j)
+        (onward false (config_at head i) (config_at first i) (config_at (first + 1) j) (goes_in i) took) back
 
     -- none that passes
-    pub exits : (i : ℕ) → past_char (task.text).now (Test test) i ≡ None → Walks task false (stand_at head i) (stand_at second i)
+    pub exits : (i : ℕ) → past_char (searcher.text).now (Test test) i ≡ None → Walks searcher false (config_at head i) (config_at second i)
     exits i none f blank =
         let g = taken i f in
-        let gone : next_of task (TakesUp (stand_at first i) g) ≡ TakesBack (record g { visits = g.visits + 1 }) =
-        next_there task (nfa_state.Character test) (at_state first) (stand_at first i) refl body.0 g
-        ∙ ap (λ o. plain.next_by (plain.goes_past (stand_at first i) o) (Some (states.Character (test_of test))) (stand_at first i) g) none in (
+        let gone : next_of searcher (TakesUp (config_at first i) g) ≡ TakesBack (record g { visits = g.visits + 1 }) =
+        next_there searcher (nfa_state.Character test) (at_state first) (config_at first i) refl body.0 g
+        ∙ ap (λ o. plain.next_by (plain.goes_past (config_at first i) o) (Some (states.Character (test_of test))) (config_at first i) g) none in (
           3,
           (
-            record f { frames = Fails (pair_of (stand_at head i)) ∷ f.frames; visits = f.visits + 1 + 1 },
-            (ap (after_steps_of task 2) (loop_splits i f blank) ∙ ap (next_of task) gone, blank, λ e. not_sure e),
+            record f { frames = Fails (pair_of (config_at head i)) ∷ f.frames; visits = f.visits + 1 + 1 },
+            (ap (after_steps_of searcher 2) (loop_splits i f blank) ∙ ap (next_of searcher) gone, blank, λ e. not_sure e),
           ),
         )
 
   -- over a character more
-  pub runs_further : (test : CharTest) (from i j : ℕ) → RunsOn task test from i → past_char (task.text).now (Test test) i ≡ Some j →
-      RunsOn task test from j
+  pub runs_further : (test : CharTest) (from i j : ℕ) → RunsOn searcher test from i → past_char (searcher.text).now (Test test) i ≡ Some j →
+      RunsOn searcher test from j
   runs_further test from i j on past = λ head first second loop_split body.
-      by_choice false false (stand_at head from) (stand_at head i) (stand_at head j) (on head first second loop_split body)
+      by_choice false false (config_at head from) (config_at head i) (config_at head j) (on head first second loop_split body)
       (iterates test head first second loop_split body i j past)
 
-  pub runs_both : (test : CharTest) (from i j : ℕ) → RunsOn task test from i → RunsOn task test i j → RunsOn task test from j
+  pub runs_both : (test : CharTest) (from i j : ℕ) → RunsOn searcher test from i → RunsOn searcher test i j → RunsOn searcher test from j
   runs_both test from i j on more = λ head first second loop_split body.
-      by_choice false false (stand_at head from) (stand_at head i) (stand_at head j) (on head first second loop_split body)
+      by_choice false false (config_at head from) (config_at head i) (config_at head j) (on head first second loop_split body)
       (more head first second loop_split body)
 
   -- over none
-  pub runs_none : (test : CharTest) (i : ℕ) → RunsOn task test i i
+  pub runs_none : (test : CharTest) (i : ℕ) → RunsOn searcher test i i
   runs_none test i = λ head first second loop_split body.
-      by_choice true true (stand_at head i) (stand_at head i) (stand_at head i) (stays (stand_at head i)) (stays (stand_at head i))
+      by_choice true true (config_at head i) (config_at head i) (config_at head i) (stays (config_at head i)) (stays (config_at head i))
 
   -- over each character up to a place
-  pub runs_over : (test : CharTest) (from n : ℕ) → ((i : ℕ) → from ≤ i → i < from + n → Passes task test i) → RunsOn task test from (from + n)
-  runs_over test from zero each = subst (RunsOn task test from) {x = from} (omega arith) (runs_none test from)
+  pub runs_over : (test : CharTest) (from n : ℕ) → ((i : ℕ) → from ≤ i → i < from + n → Passes searcher test i) → RunsOn searcher test from (from + n)
+  runs_over test from zero each = subst (RunsOn searcher test from) {x = from} (omega arith) (runs_none test from)
   runs_over test from (suc n) each =
-      subst (RunsOn task test from) {x = from + n + 1} (omega arith)
+      subst (RunsOn searcher test from) {x = from + n + 1} (omega arith)
       (runs_further test from (from + n) (from + n + 1) (runs_over test from n (λ i on below. each i on (omega (arith, below))))
       (each (from + n) (omega arith) (omega arith)))
 
   -- over characters of ASCII that pass
-  pub runs_ascii : (bytes : List ℕ) (test : CharTest) (from to : ℕ) → bytes ≡ (task.text).now →
-      AllPass (passes [] task.unicode (test_of test)) bytes from to → from ≤ to → RunsOn task test from to
+  pub runs_ascii : (bytes : List ℕ) (test : CharTest) (from to : ℕ) → bytes ≡ (searcher.text).now →
+      AllPass (passes [] searcher.unicode (test_of test)) bytes from to → from ≤ to → RunsOn searcher test from to
   runs_ascii bytes test from to e all on =
-      subst (RunsOn task test from) {x = from + (to - from)} (omega (arith, on))
+      subst (RunsOn searcher test from) {x = from + (to - from)} (omega (arith, on))
       (runs_over test from (to - from)
       (λ i further below.
-      let h = all i further (omega (arith, on, below)) in passes_by bytes task test i e h.0 h.1 h.2))
+      let h = all i further (omega (arith, on, below)) in passes_by bytes searcher test i e h.0 h.1 h.2))
 
   -- and out of the loop
-  pub runs_out : (test : CharTest) (from i : ℕ) → RunsOn task test from i → past_char (task.text).now (Test test) i ≡ None →
-      RunsPast task test from i
+  pub runs_out : (test : CharTest) (from i : ℕ) → RunsOn searcher test from i → past_char (searcher.text).now (Test test) i ≡ None →
+      RunsPast searcher test from i
   runs_out test from i on none = λ head first second loop_split body.
-      by_choice false false (stand_at head from) (stand_at head i) (stand_at second i) (on head first second loop_split body)
+      by_choice false false (config_at head from) (config_at head i) (config_at second i) (on head first second loop_split body)
       (exits test head first second loop_split body i none)
 
 -- ---- what a walk to the end answers
 
 module _ (states : Bor (List NfaState)) (text : Bor (List ℕ)) (f : Nfa) (place : ℕ) (same : states.now ≡ f.states.items)
     (is_text : IsText text.now) (at : IsTrue (is_place text.now place)) where
-  abbrev table_task : Task
-  table_task = record { states = states; unicode = f.unicode; text = text }
+  abbrev nfa_searcher : Searcher
+  nfa_searcher = record { states = states; unicode = f.unicode; text = text }
 
   -- a search that ends so finds the first way
-  first_at : (way : Option plain.NfaConfig) → Finds table_task place way → (a : Analysis) (es : List Tree) → IsTableOf a es f.unicode f →
+  first_at : (way : Option plain.NfaConfig) → Finds nfa_searcher place way → (a : Analysis) (es : List Tree) → IsNfaOf a es f.unicode f →
       (pos : ℕ) (continued : Bool) →
       first_seen (record { text = text.now; pos = pos; continued = continued; unicode = f.unicode }) es place ≡ option_map seen_of way
   first_at way (steps, (g, e)) a es h pos continued =
@@ -428,11 +428,11 @@ module _ (states : Bor (List NfaState)) (text : Bor (List ℕ)) (f : Nfa) (place
       ∙ ap (λ n. option_map seen_of (way_at n))
       (sym (same_end text.now f place (λ p. false) is_text at no_pairs a es h pos continued steps way g ended))
 
-  pub one_pass_is : (r : OnePass) → EndsOnePass table_task place r → IsOnePass text.now f place r
-  one_pass_is (one_pass.Ends end) (i, h) = first_at (Some (stand_at i end)) h
+  pub one_pass_is : (r : OnePass) → EndsOnePass nfa_searcher place r → IsOnePass text.now f place r
+  one_pass_is (one_pass.Ends end) (i, h) = first_at (Some (config_at i end)) h
   one_pass_is one_pass.Fails h = first_at None h
   one_pass_is one_pass.Unknown h = tt
 
-  pub one_pass_answered : (r : Result OnePass AllocError) → IfOk r (EndsOnePass table_task place) → IfOk r (IsOnePass text.now f place)
+  pub one_pass_answered : (r : Result OnePass AllocError) → IfOk r (EndsOnePass nfa_searcher place) → IfOk r (IsOnePass text.now f place)
   one_pass_answered (Ok r) h = one_pass_is r h
   one_pass_answered (Err e) h = tt

@@ -1,4 +1,4 @@
--- The classes of a table's states are read by its option.
+-- The classes of an NFA's states are read by its option.
 use Rattle.std.proofs.Common.{◌≡◌, ℕ, zero, suc, Bool, List, [], ◌∷◌, slice_get, Some, ap, subst}
 use Rattle.std.proofs.Math.Bool.{Bool-set}
 use Rattle.std.proofs.Math.Logic.{∥∥₁_elim, ∥∥₁_map}
@@ -10,7 +10,7 @@ use Rattle.fancy_expr.specs.Each.{Each}
 use Rattle.fancy_plain.specs.declared.nfa_state.CharTest.TheVariants as test
 use Rattle.fancy_plain.specs.declared.nfa_state.NfaState.{NfaState}
 use Rattle.fancy_plain.specs.declared.nfa_state.NfaState.TheVariants as code
-use Rattle.fancy_plain.specs.declared.table.Nfa.{Nfa}
+use Rattle.fancy_plain.specs.declared.nfa.Nfa.{Nfa}
 use Rattle.fancy_plain.specs.Views.{IsStateReadBy}
 use Rattle.fancy_plain.specs.Ways.{IsOfNodes}
 

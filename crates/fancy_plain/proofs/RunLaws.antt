@@ -20,12 +20,12 @@ use Rattle.fancy_plain.specs.declared.nfa_state.NfaState.TheVariants as nfa_stat
 use Rattle.fancy_plain.specs.declared.search.StepResult.{StepResult}
 use Rattle.fancy_plain.specs.declared.search.StepResult.TheVariants as step_result
 use Rattle.fancy_plain.specs.declared.search.Memo.{Memo}
-use Rattle.fancy_plain.specs.declared.search.Task.{Task}
+use Rattle.fancy_plain.specs.declared.search.Searcher.{Searcher}
 use Rattle.fancy_plain.specs.AsciiRuns.{AllPass}
 use Rattle.fancy_plain.specs.BacktrackStack.{choices_of, run_choices}
 use Rattle.fancy_plain.specs.Paths.{EndsCounters, HasCounters, IsConfig, counter_of}
 use Rattle.fancy_plain.specs.Runs.{CanPass, FailsFrom, GoesOn, IsBody, IsLoopSplitOf, IsLostAt, IsRun, Passes, Refuses, Repeats, RunsOver, onward, run_frames, run_search}
-use Rattle.fancy_plain.specs.Searches.{AreKept, HaveFailed, IsHere, IsSearch, IsTask, Keeps, Leading, Leads, fails_of, after_steps_of, leading_of, next_of}
+use Rattle.fancy_plain.specs.Searches.{AreKept, HaveFailed, IsHere, IsSearch, IsSearcher, Keeps, Leading, Leads, fails_of, after_steps_of, leading_of, next_of}
 use Rattle.fancy_plain.specs.Views.{IsReadBy, loop_of, state_of, test_of}
 use Rattle.fancy_plain.specs.FailedPairs.{has_pair, key_of}
 use Rattle.fancy_plain.proofs.BackLaws.{back_memoized, one_more, steps_then}
@@ -35,9 +35,9 @@ use Rattle.fancy_plain.proofs.SearchLaws.{here_by, here_past, inside, key_outsid
 -- ---- the heads of loops
 
 -- a loop that does not count
-pub loop_split_of : (task : Task) (here : NfaConfig) (first second : ℕ) → slice_get (task.states).now here.at ≡ Some (nfa_state.LoopSplit first second) →
-    (s : plain.NfaConfig) → here.at ≡ s.at → IsLoopSplitOf (leading_of task) first (goes_to second) s
-loop_split_of task here first second head s at n = steps_by task (nfa_state.LoopSplit first second) here (onward n s) at head
+pub loop_split_of : (searcher : Searcher) (here : NfaConfig) (first second : ℕ) → slice_get (searcher.states).now here.at ≡ Some (nfa_state.LoopSplit first second) →
+    (s : plain.NfaConfig) → here.at ≡ s.at → IsLoopSplitOf (leading_of searcher) first (goes_to second) s
+loop_split_of searcher here first second head s at n = steps_by searcher (nfa_state.LoopSplit first second) here (onward n s) at head
 
 steps_on : (loop : states.Loop) (after : ℕ) (s : plain.NfaConfig) (t : plain.LoopCounter) (around : List plain.LoopCounter) →
     loop.greedy ≡ true → loop.hi ≡ None → loop.asks_moved ≡ false → t ≡ record { count = loop.lo; since = None } →
@@ -63,19 +63,19 @@ steps_on loop after s t around greedy bound asks is =
     by_parts true None true e f h = absurd (true≢false h)
 
 -- a loop that counts, where it counts no more
-pub head_of : (task : Task) (here : NfaConfig) (loop : code.Loop) (after : ℕ) →
-    slice_get (task.states).now here.at ≡ Some (nfa_state.CounterLoop loop after) →
+pub head_of : (searcher : Searcher) (here : NfaConfig) (loop : code.Loop) (after : ℕ) →
+    slice_get (searcher.states).now here.at ≡ Some (nfa_state.CounterLoop loop after) →
     (s : plain.NfaConfig) → here.at ≡ s.at → Repeats (loop_of loop) s.counters →
-    (out : plain.NfaConfig → plain.NfaConfig) × IsLoopSplitOf (leading_of task) (here.at + 1) out s
-head_of task here loop after head s at repeats = by_counters s.counters refl repeats
+    (out : plain.NfaConfig → plain.NfaConfig) × IsLoopSplitOf (leading_of searcher) (here.at + 1) out s
+head_of searcher here loop after head s at repeats = by_counters s.counters refl repeats
   where
     by_counters : (counters : List plain.LoopCounter) → s.counters ≡ counters → Repeats (loop_of loop) counters →
-        (out : plain.NfaConfig → plain.NfaConfig) × IsLoopSplitOf (leading_of task) (here.at + 1) out s
+        (out : plain.NfaConfig → plain.NfaConfig) × IsLoopSplitOf (leading_of searcher) (here.at + 1) out s
     by_counters [] e h = absurd h
     by_counters (t ∷ around) e (greedy, bound, asks, is) = (
       λ x. record (goes_to after x) { counters = around },
       λ n.
-          steps_by task (nfa_state.CounterLoop loop after) here (onward n s) at head
+          steps_by searcher (nfa_state.CounterLoop loop after) here (onward n s) at head
           ∙ ap (plain.counter_loop_step (loop_of loop) after (onward n s)) e
           ∙ steps_on (loop_of loop) after (onward n s) t around greedy bound asks is
           ∙ ap₂ (λ p u. plain.Tries true (record (onward n s) { at = p + 1; counters = u }) (record (goes_to after (onward n s)) { counters = around } ∷ []))
@@ -84,11 +84,11 @@ head_of task here loop after head s at repeats = by_counters s.counters refl rep
 
 -- ---- the steps of an iteration
 
-module _ (task : Task) (here : NfaConfig) (first : ℕ) (out : plain.NfaConfig → plain.NfaConfig) (test : CharTest)
-    (body : slice_get (task.states).now first ≡ Some (nfa_state.Character test))
-    (back : slice_get (task.states).now (first + 1) ≡ Some (nfa_state.Jump here.at))
-    (s : plain.NfaConfig) (at : here.at ≡ s.at) (loop_splits : IsLoopSplitOf (leading_of task) first out s)
-    (counted : plain.is_counted (slice_get (map state_of (task.states).now) here.at) ≡ true) where
+module _ (searcher : Searcher) (here : NfaConfig) (first : ℕ) (out : plain.NfaConfig → plain.NfaConfig) (test : CharTest)
+    (body : slice_get (searcher.states).now first ≡ Some (nfa_state.Character test))
+    (back : slice_get (searcher.states).now (first + 1) ≡ Some (nfa_state.Jump here.at))
+    (s : plain.NfaConfig) (at : here.at ≡ s.at) (loop_splits : IsLoopSplitOf (leading_of searcher) first out s)
+    (counted : plain.is_counted (slice_get (map state_of (searcher.states).now) here.at) ≡ true) where
   abbrev taken : Search → plain.NfaConfig → Search
   taken g t = record g {
     frames = plain.Other (out t) ∷ plain.Fails (pair_of t) ∷ g.frames;
@@ -96,48 +96,48 @@ module _ (task : Task) (here : NfaConfig) (first : ℕ) (out : plain.NfaConfig �
   }
 
   counter_loop_moves : (n : ℕ) (g : Search) → g.failed (pair_of (onward n s)) ≡ false →
-      next_of task (TakesUp (onward n s) g) ≡ TakesUp (goes_to first (onward n s)) (taken g (onward n s))
+      next_of searcher (TakesUp (onward n s) g) ≡ TakesUp (goes_to first (onward n s)) (taken g (onward n s))
   counter_loop_moves n g free =
       let t = onward n s in
-      let all = map state_of (task.states).now in
+      let all = map state_of (searcher.states).now in
       ap (λ l. plain.next_by l (slice_get all s.at) t g) (loop_splits n) ∙ cond-false (g.failed (pair_of t)) _ _ free
       ∙ ap (λ c. TakesUp (goes_to first t) (plain.with_frames (plain.Other (out t) ∷ plain.Fails (pair_of t) ∷ [])
       (if c then record g { visits = g.visits + 1 } else g))) (ap (λ k. plain.is_counted (slice_get all k)) (sym at) ∙ counted)
 
   body_step : (t : plain.NfaConfig) (g : Search) →
-      past_char (task.text).now (passes (task.text).now task.unicode (test_of test)) t.place ≡ Some (t.place + 1) →
-      next_of task (TakesUp (goes_to first t) g)
+      past_char (searcher.text).now (passes (searcher.text).now searcher.unicode (test_of test)) t.place ≡ Some (t.place + 1) →
+      next_of searcher (TakesUp (goes_to first t) g)
       ≡ TakesUp (record t { at = first + 1; place = t.place + 1 }) (record g { visits = g.visits + 1 })
   body_step t g past =
-      next_there task (nfa_state.Character test) (record here { at = first }) (goes_to first t) refl body g
+      next_there searcher (nfa_state.Character test) (record here { at = first }) (goes_to first t) refl body g
       ∙ ap (λ o. plain.next_by (plain.goes_past (goes_to first t) o) (Some (states.Character (test_of test))) (goes_to first t) g) past
 
   back_step : (t : plain.NfaConfig) (g : Search) → t.at ≡ first + 1 →
-      next_of task (TakesUp t g) ≡ TakesUp (goes_to here.at t) g
-  back_step t g e = next_there task (nfa_state.Jump here.at) (record here { at = first + 1 }) t (sym e) back g
+      next_of searcher (TakesUp t g) ≡ TakesUp (goes_to here.at t) g
+  back_step t g e = next_there searcher (nfa_state.Jump here.at) (record here { at = first + 1 }) t (sym e) back g
 
   -- where no character passes, it goes on by the way out
-  pub body_fails : (f : Search) → f.failed (pair_of s) ≡ false → Refuses task test s.place →
-      (leading_of task s ≡ plain.Tries true (goes_to first s) (out s ∷ []))
-      × (after_steps_of task 3 (TakesUp s f)
+  pub body_fails : (f : Search) → f.failed (pair_of s) ≡ false → Refuses searcher test s.place →
+      (leading_of searcher s ≡ plain.Tries true (goes_to first s) (out s ∷ []))
+      × (after_steps_of searcher 3 (TakesUp s f)
       ≡ TakesUp (out s) (record f { frames = plain.Fails (pair_of s) ∷ f.frames; visits = f.visits + 2 }))
   body_fails f free none =
       let same : s.place + 0 ≡ s.place = omega arith in
-      let step_result : leading_of task s ≡ plain.Tries true (goes_to first s) (out s ∷ []) =
-      subst (λ i. leading_of task (record s { place = i }) ≡ plain.Tries true (goes_to first (record s { place = i })) (out (record s { place = i }) ∷ []))
+      let step_result : leading_of searcher s ≡ plain.Tries true (goes_to first s) (out s ∷ []) =
+      subst (λ i. leading_of searcher (record s { place = i }) ≡ plain.Tries true (goes_to first (record s { place = i })) (out (record s { place = i }) ∷ []))
       same (loop_splits 0) in
-      let all = map state_of (task.states).now in
+      let all = map state_of (searcher.states).now in
       let g = taken f s in
-      let up : next_of task (TakesUp s f) ≡ TakesUp (goes_to first s) g =
+      let up : next_of searcher (TakesUp s f) ≡ TakesUp (goes_to first s) g =
       ap (λ l. plain.next_by l (slice_get all s.at) s f) step_result ∙ cond-false (f.failed (pair_of s)) _ _ free
       ∙ ap (λ c. TakesUp (goes_to first s) (plain.with_frames (plain.Other (out s) ∷ plain.Fails (pair_of s) ∷ [])
       (if c then record f { visits = f.visits + 1 } else f))) (ap (λ k. plain.is_counted (slice_get all k)) (sym at) ∙ counted) in
-      let gone : next_of task (TakesUp (goes_to first s) g) ≡ plain.TakesBack (record g { visits = g.visits + 1 }) =
-      next_there task (nfa_state.Character test) (record here { at = first }) (goes_to first s) refl body g
+      let gone : next_of searcher (TakesUp (goes_to first s) g) ≡ plain.TakesBack (record g { visits = g.visits + 1 }) =
+      next_there searcher (nfa_state.Character test) (record here { at = first }) (goes_to first s) refl body g
       ∙ ap (λ o. plain.next_by (plain.goes_past (goes_to first s) o) (Some (states.Character (test_of test))) (goes_to first s) g) none in
       let two : f.visits + 1 + 1 ≡ f.visits + 2 = omega arith in (
         step_result,
-        ap (after_steps_of task 2) up ∙ ap (next_of task) gone
+        ap (after_steps_of searcher 2) up ∙ ap (next_of searcher) gone
             ∙ ap (λ v. TakesUp (out s) (record f { frames = plain.Fails (pair_of s) ∷ f.frames; visits = v })) two,
       )
 
@@ -154,9 +154,9 @@ module _ (task : Task) (here : NfaConfig) (first : ℕ) (out : plain.NfaConfig �
       ∙ ap (λ v. TakesUp (onward (suc n) s) (record (taken (run_search out n s f) (onward n s)) { visits = v })) visits
 
   pub run_on : (n : ℕ) (f : Search) →
-      ((k : ℕ) → k < n → past_char (task.text).now (passes (task.text).now task.unicode (test_of test)) (s.place + k) ≡ Some (s.place + k + 1)) →
+      ((k : ℕ) → k < n → past_char (searcher.text).now (passes (searcher.text).now searcher.unicode (test_of test)) (s.place + k) ≡ Some (s.place + k + 1)) →
       ((k : ℕ) → k < n → f.failed (pair_of (onward k s)) ≡ false) →
-      (steps : ℕ) × (after_steps_of task steps (TakesUp s f) ≡ TakesUp (onward n s) (run_search out n s f))
+      (steps : ℕ) × (after_steps_of searcher steps (TakesUp s f) ≡ TakesUp (onward n s) (run_search out n s f))
   run_on zero f past free =
       let place : s.place ≡ s.place + 0 = omega arith in
       let visits : f.visits ≡ f.visits + 2 * 0 = omega arith in
@@ -164,9 +164,9 @@ module _ (task : Task) (here : NfaConfig) (first : ℕ) (out : plain.NfaConfig �
   run_on (suc n) f past free =
       let on = run_on n f (λ k below. past k (omega (arith, below))) (λ k below. free k (omega (arith, below))) in
       let g = run_search out n s f in
-      let one = one_more task on.0 (TakesUp s f) (TakesUp (onward n s) g) on.1 ∙ counter_loop_moves n g (free n (omega arith)) in
-      let two = one_more task (suc on.0) (TakesUp s f) _ one ∙ body_step (onward n s) (taken g (onward n s)) (past n (omega arith)) in
-      let three = one_more task (suc (suc on.0)) (TakesUp s f) _ two ∙ back_step _ _ refl in
+      let one = one_more searcher on.0 (TakesUp s f) (TakesUp (onward n s) g) on.1 ∙ counter_loop_moves n g (free n (omega arith)) in
+      let two = one_more searcher (suc on.0) (TakesUp s f) _ one ∙ body_step (onward n s) (taken g (onward n s)) (past n (omega arith)) in
+      let three = one_more searcher (suc (suc on.0)) (TakesUp s f) _ two ∙ back_step _ _ refl in
       (suc (suc (suc on.0)), three ∙ behind n f)
 
 -- ---- what is kept
@@ -256,29 +256,29 @@ run_stands leading m new here on s f first out (suc n) place some at to items re
 
 -- ---- from a step to the next
 
-pub goes_on_then : (task : Task) (next : plain.Next) (k : ℕ) (f : Search) (s : plain.NfaConfig) (m : Memo) (there : NfaConfig) →
-    after_steps_of task k next ≡ TakesUp s f → GoesOn task (TakesUp s f) m there → GoesOn task next m there
-goes_on_then task next k f s m there e (j, (g, (t, (is, h, stands)))) =
-    (k + j, (g, (t, (steps_then task k j next (TakesUp s f) e ∙ is, h, stands))))
+pub goes_on_then : (searcher : Searcher) (next : plain.Next) (k : ℕ) (f : Search) (s : plain.NfaConfig) (m : Memo) (there : NfaConfig) →
+    after_steps_of searcher k next ≡ TakesUp s f → GoesOn searcher (TakesUp s f) m there → GoesOn searcher next m there
+goes_on_then searcher next k f s m there e (j, (g, (t, (is, h, stands)))) =
+    (k + j, (g, (t, (steps_then searcher k j next (TakesUp s f) e ∙ is, h, stands))))
 
 -- a run that was found is passed
-pub past_run : (task : Task) (m new : Memo) (test : CharTest) (here : NfaConfig) (count : ℕ) (r : Result NfaConfig AllocError) →
-    RunsOver task m here test → IsRun task m test here count →
+pub past_run : (searcher : Searcher) (m new : Memo) (test : CharTest) (here : NfaConfig) (count : ℕ) (r : Result NfaConfig AllocError) →
+    RunsOver searcher m here test → IsRun searcher m test here count →
     IfOk r (λ on. (leading : Leading) (f : Search) (s : plain.NfaConfig) (first : ℕ) (out : plain.NfaConfig → plain.NfaConfig) → IsSearch leading m f →
     IsHere m here s → IsLoopSplitOf leading first out s → IsSearch leading new (run_search out count s f) × IsHere new on (onward count s)) →
-    IfOk r (λ on. (s : plain.NfaConfig) (f : Search) → IsSearch (leading_of task) m f → IsHere m here s → GoesOn task (TakesUp s f) new on)
-past_run task m new test here count (Err e) over run keeps = tt
-past_run task m new test here count (Ok on) over run keeps = λ s f h stands.
+    IfOk r (λ on. (s : plain.NfaConfig) (f : Search) → IsSearch (leading_of searcher) m f → IsHere m here s → GoesOn searcher (TakesUp s f) new on)
+past_run searcher m new test here count (Err e) over run keeps = tt
+past_run searcher m new test here count (Ok on) over run keeps = λ s f h stands.
     let loop = over s stands in
     let first = loop.0 in
     let out = loop.1.0 in
     let loop_splits = loop.1.1.0 in
     let body = loop.1.1.2 in
-    let kept = keeps (leading_of task) f s first out h stands loop_splits in
+    let kept = keeps (leading_of searcher) f s first out h stands loop_splits in
     let place = stands.place in
-    let steps = run_on task here first out test body.0 body.1 s stands.at loop_splits loop.1.1.1 count f
+    let steps = run_on searcher here first out test body.0 body.1 s stands.at loop_splits loop.1.1.1 count f
     (λ k below.
-    subst (λ i. past_char (task.text).now (passes (task.text).now task.unicode (test_of test)) i ≡ Some (i + 1)) {x = here.place + k}
+    subst (λ i. past_char (searcher.text).now (passes (searcher.text).now searcher.unicode (test_of test)) i ≡ Some (i + 1)) {x = here.place + k}
     (ap (λ i. i + k) place) (run (here.place + k) (omega arith) (omega (arith, below))).passes)
     (λ k below.
     (run (here.place + k) (omega arith) (omega (arith, below))).free (onward k s) f.failed
@@ -287,9 +287,9 @@ past_run task m new test here count (Ok on) over run keeps = λ s f h stands.
     (steps.0, (run_search out count s f, (onward count s, (steps.1, kept.0, kept.1))))
 
 -- a loop is gone over where a run of it ends as where it began
-pub runs_onward : (task : Task) (m new : Memo) (here : NfaConfig) (test : CharTest) (count : ℕ) → new.trail ≡ m.trail →
-    RunsOver task m here test → RunsOver task new (record here { place = here.place + count }) test
-runs_onward task m new here test count trail over = λ s stands.
+pub runs_onward : (searcher : Searcher) (m new : Memo) (here : NfaConfig) (test : CharTest) (count : ℕ) → new.trail ≡ m.trail →
+    RunsOver searcher m here test → RunsOver searcher new (record here { place = here.place + count }) test
+runs_onward searcher m new here test count trail over = λ s stands.
     let began : plain.NfaConfig = record s { place = here.place } in
     let first_here : IsHere m here began =
     at_beginning m.trail.entries.items (length m.trail.entries.items)
@@ -297,10 +297,10 @@ runs_onward task m new here test count trail over = λ s stands.
     let loop = over began first_here in
     let first = loop.0 in
     let out = loop.1.0 in
-    let loop_splits : IsLoopSplitOf (leading_of task) first out s =
+    let loop_splits : IsLoopSplitOf (leading_of searcher) first out s =
     λ n.
     let same : here.place + (count + n) ≡ s.place + n = let p = stands.place in omega (arith, p) in
-    subst (λ i. leading_of task (record s { place = i }) ≡ plain.Tries true (goes_to first (record s { place = i })) (out (record s { place = i }) ∷ []))
+    subst (λ i. leading_of searcher (record s { place = i }) ≡ plain.Tries true (goes_to first (record s { place = i })) (out (record s { place = i }) ∷ []))
     same (loop.1.1.0 (count + n)) in
     (first, (out, (loop_splits, loop.1.1.1, loop.1.1.2)))
   where
@@ -316,35 +316,35 @@ runs_onward task m new here test count trail over = λ s stands.
       spans = h.spans;
     }
 
--- the same for where it went
-pub run_over : (task : Task) (m new : Memo) (here : NfaConfig) (test : CharTest) (count : ℕ) (r : Result NfaConfig AllocError) →
-    new.trail ≡ m.trail → RunsOver task m here test → IfOk r (λ on. on ≡ record here { place = here.place + count }) →
-    IfOk r (λ on. RunsOver task new on test)
-run_over task m new here test count (Err e) trail over is = tt
-run_over task m new here test count (Ok on) trail over is =
-    subst (λ x. RunsOver task new x test) (sym is) (runs_onward task m new here test count trail over)
+-- and so it is where it went
+pub run_over : (searcher : Searcher) (m new : Memo) (here : NfaConfig) (test : CharTest) (count : ℕ) (r : Result NfaConfig AllocError) →
+    new.trail ≡ m.trail → RunsOver searcher m here test → IfOk r (λ on. on ≡ record here { place = here.place + count }) →
+    IfOk r (λ on. RunsOver searcher new on test)
+run_over searcher m new here test count (Err e) trail over is = tt
+run_over searcher m new here test count (Ok on) trail over is =
+    subst (λ x. RunsOver searcher new x test) (sym is) (runs_onward searcher m new here test count trail over)
 
-counted_at : (task : Task) (at : ℕ) (p : NfaState) → slice_get (task.states).now at ≡ Some p → plain.is_counted (Some (state_of p)) ≡ true →
-    plain.is_counted (slice_get (map state_of (task.states).now) at) ≡ true
-counted_at task at p there counts =
-    ap plain.is_counted (slice_get-map state_of (task.states).now at ∙ ap (option_map state_of) there) ∙ counts
+counted_at : (searcher : Searcher) (at : ℕ) (p : NfaState) → slice_get (searcher.states).now at ≡ Some p → plain.is_counted (Some (state_of p)) ≡ true →
+    plain.is_counted (slice_get (map state_of (searcher.states).now) at) ≡ true
+counted_at searcher at p there counts =
+    ap plain.is_counted (slice_get-map state_of (searcher.states).now at ∙ ap (option_map state_of) there) ∙ counts
 
-pub loop_split_runs : (task : Task) (m : Memo) (here : NfaConfig) (test : CharTest) (first second : ℕ) →
-    slice_get (task.states).now here.at ≡ Some (nfa_state.LoopSplit first second) → IsBody (task.states).now here.at first test → RunsOver task m here test
-loop_split_runs task m here test first second head body = λ s stands.
-    (first, (goes_to second, (loop_split_of task here first second head s stands.at, counted_at task here.at _ head refl, body)))
+pub loop_split_runs : (searcher : Searcher) (m : Memo) (here : NfaConfig) (test : CharTest) (first second : ℕ) →
+    slice_get (searcher.states).now here.at ≡ Some (nfa_state.LoopSplit first second) → IsBody (searcher.states).now here.at first test → RunsOver searcher m here test
+loop_split_runs searcher m here test first second head body = λ s stands.
+    (first, (goes_to second, (loop_split_of searcher here first second head s stands.at, counted_at searcher here.at _ head refl, body)))
 
-pub counter_loop_runs : (task : Task) (m : Memo) (here : NfaConfig) (test : CharTest) (loop : code.Loop) (after : ℕ) →
-    slice_get (task.states).now here.at ≡ Some (nfa_state.CounterLoop loop after) →
-    ((s : plain.NfaConfig) → IsHere m here s → Repeats (loop_of loop) s.counters) → IsBody (task.states).now here.at (here.at + 1) test →
-    RunsOver task m here test
-counter_loop_runs task m here test loop after head repeats body = λ s stands.
-    let on = head_of task here loop after head s stands.at (repeats s stands) in
-    (here.at + 1, (on.0, (on.1, counted_at task here.at _ head refl, body)))
+pub counter_loop_runs : (searcher : Searcher) (m : Memo) (here : NfaConfig) (test : CharTest) (loop : code.Loop) (after : ℕ) →
+    slice_get (searcher.states).now here.at ≡ Some (nfa_state.CounterLoop loop after) →
+    ((s : plain.NfaConfig) → IsHere m here s → Repeats (loop_of loop) s.counters) → IsBody (searcher.states).now here.at (here.at + 1) test →
+    RunsOver searcher m here test
+counter_loop_runs searcher m here test loop after head repeats body = λ s stands.
+    let on = head_of searcher here loop after head s stands.at (repeats s stands) in
+    (here.at + 1, (on.0, (on.1, counted_at searcher here.at _ head refl, body)))
 
-pub body_read : (task : Task) (head first : ℕ) (test : CharTest) → IsTask task → IsBody (task.states).now head first test →
-    IsReadBy task.unicode test
-body_read task head first test read body = read first (nfa_state.Character test) body.0
+pub body_read : (searcher : Searcher) (head first : ℕ) (test : CharTest) → IsSearcher searcher → IsBody (searcher.states).now head first test →
+    IsReadBy searcher.unicode test
+body_read searcher head first test read body = read first (nfa_state.Character test) body.0
 
 pub some_then : {A : Type 0} {P Q : A → Type 0} (o : Option A) → ((x : A) → P x → Q x) → IfSome o P → IfSome o Q
 some_then None f h = tt
@@ -353,51 +353,51 @@ some_then (Some x) f h = f x h
 -- ---- where a run goes on
 
 -- one more character may be passed
-pub one_further : (task : Task) (m : Memo) (test : CharTest) (here : NfaConfig) (at : ℕ) → here.place ≤ at →
-    ((i : ℕ) → here.place ≤ i → i < at → CanPass task m test here i) → CanPass task m test here at →
-    (i : ℕ) → here.place ≤ i → i < at + 1 → CanPass task m test here i
-one_further task m test here at on before this i from below =
-    ⊎_elim (λ lt. before i from lt) (λ ge. subst (CanPass task m test here) {x = at} (omega (arith, ge, below)) this) (cases_lt i at)
+pub one_further : (searcher : Searcher) (m : Memo) (test : CharTest) (here : NfaConfig) (at : ℕ) → here.place ≤ at →
+    ((i : ℕ) → here.place ≤ i → i < at → CanPass searcher m test here i) → CanPass searcher m test here at →
+    (i : ℕ) → here.place ≤ i → i < at + 1 → CanPass searcher m test here i
+one_further searcher m test here at on before this i from below =
+    ⊎_elim (λ lt. before i from lt) (λ ge. subst (CanPass searcher m test here) {x = at} (omega (arith, ge, below)) this) (cases_lt i at)
 
 -- a character of ASCII that passes
-passes_at : (task : Task) (test : CharTest) (at : ℕ) → at < length (task.text).now → slice_index_or (task.text).now at 0 < 128 →
-    passes [] task.unicode (test_of test) (slice_index_or (task.text).now at 0) ≡ true → Passes task test at
-passes_at task test at within ascii takes =
-    past_ascii (task.text).now (passes (task.text).now task.unicode (test_of test)) at (slice_index_or (task.text).now at 0)
-    (at_index (task.text).now at 0 within) ascii true
-    (sym (passes_alike (task.text).now task.unicode (test_of test) (slice_index_or (task.text).now at 0)) ∙ takes)
+passes_at : (searcher : Searcher) (test : CharTest) (at : ℕ) → at < length (searcher.text).now → slice_index_or (searcher.text).now at 0 < 128 →
+    passes [] searcher.unicode (test_of test) (slice_index_or (searcher.text).now at 0) ≡ true → Passes searcher test at
+passes_at searcher test at within ascii takes =
+    past_ascii (searcher.text).now (passes (searcher.text).now searcher.unicode (test_of test)) at (slice_index_or (searcher.text).now at 0)
+    (at_index (searcher.text).now at 0 within) ascii true
+    (sym (passes_alike (searcher.text).now searcher.unicode (test_of test) (slice_index_or (searcher.text).now at 0)) ∙ takes)
 
-pub passes_by : (bytes : List ℕ) (task : Task) (test : CharTest) (at : ℕ) → bytes ≡ (task.text).now → at < length bytes →
-    slice_index_or bytes at 0 < 128 → passes [] task.unicode (test_of test) (slice_index_or bytes at 0) ≡ true → Passes task test at
-passes_by bytes task test at e within ascii takes =
-    passes_at task test at (subst (λ t. at < length t) e within) (subst (λ t. slice_index_or t at 0 < 128) e ascii)
-    (subst (λ t. passes [] task.unicode (test_of test) (slice_index_or t at 0) ≡ true) e takes)
+pub passes_by : (bytes : List ℕ) (searcher : Searcher) (test : CharTest) (at : ℕ) → bytes ≡ (searcher.text).now → at < length bytes →
+    slice_index_or bytes at 0 < 128 → passes [] searcher.unicode (test_of test) (slice_index_or bytes at 0) ≡ true → Passes searcher test at
+passes_by bytes searcher test at e within ascii takes =
+    passes_at searcher test at (subst (λ t. at < length t) e within) (subst (λ t. slice_index_or t at 0 < 128) e ascii)
+    (subst (λ t. passes [] searcher.unicode (test_of test) (slice_index_or t at 0) ≡ true) e takes)
 
 -- a character of ASCII that passes, where the head may have a way
-may_pass : (task : Task) (m : Memo) (test : CharTest) (here : NfaConfig) (at : ℕ) → at < length (task.text).now →
-    slice_index_or (task.text).now at 0 < 128 →
-    passes [] task.unicode (test_of test) (slice_index_or (task.text).now at 0) ≡ true →
+may_pass : (searcher : Searcher) (m : Memo) (test : CharTest) (here : NfaConfig) (at : ℕ) → at < length (searcher.text).now →
+    slice_index_or (searcher.text).now at 0 < 128 →
+    passes [] searcher.unicode (test_of test) (slice_index_or (searcher.text).now at 0) ≡ true →
     ((s : plain.NfaConfig) (failed : plain.Pair → Bool) → IsHere m (record here { place = at }) s → HaveFailed m failed → failed (pair_of s) ≡ false) →
-    CanPass task m test here at
-may_pass task m test here at within ascii takes free = record { passes = passes_at task test at within ascii takes; free = free }
+    CanPass searcher m test here at
+may_pass searcher m test here at within ascii takes free = record { passes = passes_at searcher test at within ascii takes; free = free }
 
--- the same by the bytes of the text
-pub may_pass_by : (bytes : List ℕ) (task : Task) (m : Memo) (test : CharTest) (here : NfaConfig) (at : ℕ) → bytes ≡ (task.text).now →
-    at < length bytes → slice_index_or bytes at 0 < 128 → passes [] task.unicode (test_of test) (slice_index_or bytes at 0) ≡ true →
+-- so it is by the bytes of the text
+pub may_pass_by : (bytes : List ℕ) (searcher : Searcher) (m : Memo) (test : CharTest) (here : NfaConfig) (at : ℕ) → bytes ≡ (searcher.text).now →
+    at < length bytes → slice_index_or bytes at 0 < 128 → passes [] searcher.unicode (test_of test) (slice_index_or bytes at 0) ≡ true →
     ((s : plain.NfaConfig) (failed : plain.Pair → Bool) → IsHere m (record here { place = at }) s → HaveFailed m failed → failed (pair_of s) ≡ false) →
-    CanPass task m test here at
-may_pass_by bytes task m test here at e within ascii takes =
-    may_pass task m test here at (subst (λ t. at < length t) e within) (subst (λ t. slice_index_or t at 0 < 128) e ascii)
-    (subst (λ t. passes [] task.unicode (test_of test) (slice_index_or t at 0) ≡ true) e takes)
+    CanPass searcher m test here at
+may_pass_by bytes searcher m test here at e within ascii takes =
+    may_pass searcher m test here at (subst (λ t. at < length t) e within) (subst (λ t. slice_index_or t at 0 < 128) e ascii)
+    (subst (λ t. passes [] searcher.unicode (test_of test) (slice_index_or t at 0) ≡ true) e takes)
 
 -- characters of ASCII that pass, where no pair is known
-pub blank_run : (bytes : List ℕ) (task : Task) (m : Memo) (test : CharTest) (here : NfaConfig) (to : ℕ) → bytes ≡ (task.text).now →
-    AllPass (passes [] task.unicode (test_of test)) bytes here.place to → here.place ≤ to →
+pub blank_run : (bytes : List ℕ) (searcher : Searcher) (m : Memo) (test : CharTest) (here : NfaConfig) (to : ℕ) → bytes ≡ (searcher.text).now →
+    AllPass (passes [] searcher.unicode (test_of test)) bytes here.place to → here.place ≤ to →
     ((failed : plain.Pair → Bool) → HaveFailed m failed → (p : plain.Pair) → failed p ≡ false) →
-    IsRun task m test here (to - here.place)
-blank_run bytes task m test here to e all ordered blank i from below =
+    IsRun searcher m test here (to - here.place)
+blank_run bytes searcher m test here to e all ordered blank i from below =
     let h = all i from (omega (arith, ordered, below)) in
-    may_pass_by bytes task m test here i e h.0 h.1 h.2 (λ s failed stands have. blank failed have (pair_of s))
+    may_pass_by bytes searcher m test here i e h.0 h.1 h.2 (λ s failed stands have. blank failed have (pair_of s))
 
 -- ---- a pair that may have a way
 
@@ -406,7 +406,7 @@ pub free_outside : (m : Memo) (here : NfaConfig) → here.counters ≡ 0 → has
 free_outside m here none free s failed stands have =
     sym (have (pair_of s)) ∙ ap (has_pair m.failed) (sym (key_outside m here s stands none)) ∙ free
 
--- the same inside one iteration
+-- so it is inside one iteration
 pub free_inside : (m : Memo) (here : NfaConfig) (counter : LoopCounter) (outer : ℕ) (numbers : List ℕ) → outer ≡ 0 →
     ((s : plain.NfaConfig) → here.at ≡ s.at → here.place ≡ s.place → counter_of counter ∷ [] ≡ s.counters → numbers ≡ key_of (pair_of s)) →
     ((counters : List plain.LoopCounter) → HasCounters m.trail.entries.items here.counters counters →
@@ -420,49 +420,49 @@ free_inside m here counter outer numbers none are ends free s failed stands have
 -- ---- ways out of a loop that fail at once
 
 -- a test that no character passes
-pub test_fails : (task : Task) (test : CharTest) (at place : ℕ) → slice_get (task.states).now at ≡ Some (nfa_state.Character test) →
-    Refuses task test place → FailsFrom task at place
-test_fails task test at place there none s f e p =
+pub test_fails : (searcher : Searcher) (test : CharTest) (at place : ℕ) → slice_get (searcher.states).now at ≡ Some (nfa_state.Character test) →
+    Refuses searcher test place → FailsFrom searcher at place
+test_fails searcher test at place there none s f e p =
     let here : NfaConfig = record { at = at; place = place; counters = 0; opened = 0 } in (
       1,
       (
         1,
-        next_there task (nfa_state.Character test) here s (sym e) there f
+        next_there searcher (nfa_state.Character test) here s (sym e) there f
             ∙ ap (λ o. plain.next_by (plain.goes_past s o) (Some (states.Character (test_of test))) s f)
-            (ap (past_char (task.text).now (passes (task.text).now task.unicode (test_of test))) p ∙ none),
+            (ap (past_char (searcher.text).now (passes (searcher.text).now searcher.unicode (test_of test))) p ∙ none),
       ),
     )
 
 -- the end of a group goes on to the next state, or is in no group
-pub group_ends : (task : Task) (g at place : ℕ) → slice_get (task.states).now at ≡ Some (nfa_state.Close g) →
-    FailsFrom task (at + 1) place → FailsFrom task at place
-group_ends task g at place there fails s f e p = go s.opened refl
+pub group_ends : (searcher : Searcher) (g at place : ℕ) → slice_get (searcher.states).now at ≡ Some (nfa_state.Close g) →
+    FailsFrom searcher (at + 1) place → FailsFrom searcher at place
+group_ends searcher g at place there fails s f e p = go s.opened refl
   where
     here : NfaConfig
     here = record { at = at; place = place; counters = 0; opened = 0 }
 
     step : (opened : List ℕ) → s.opened ≡ opened →
-        next_of task (TakesUp s f) ≡ plain.next_by (plain.close_step g s opened) (Some (states.Close g)) s f
+        next_of searcher (TakesUp s f) ≡ plain.next_by (plain.close_step g s opened) (Some (states.Close g)) s f
     step opened is =
-        next_there task (nfa_state.Close g) here s (sym e) there f
+        next_there searcher (nfa_state.Close g) here s (sym e) there f
         ∙ ap (λ o. plain.next_by (plain.close_step g s o) (Some (states.Close g)) s f) is
 
     go : (opened : List ℕ) → s.opened ≡ opened →
-        (steps : ℕ) × ((n : ℕ) × (after_steps_of task steps (TakesUp s f) ≡ plain.TakesBack (record f { visits = f.visits + n })))
+        (steps : ℕ) × ((n : ℕ) × (after_steps_of searcher steps (TakesUp s f) ≡ plain.TakesBack (record f { visits = f.visits + n })))
     go [] is =
         let same : f.visits ≡ f.visits + 0 = omega arith in
         (1, (0, step [] is ∙ ap (λ v. plain.TakesBack (record f { visits = v })) same))
     go (from ∷ opened) is =
         let on = fails (record (plain.forward s) { opened = opened; spans = (g, (from, s.place)) ∷ s.spans }) f (ap (λ k. k + 1) e) p in
-        (suc on.0, (on.1.0, ap (after_steps_of task on.0) (step (from ∷ opened) is) ∙ on.1.1))
+        (suc on.0, (on.1.0, ap (after_steps_of searcher on.0) (step (from ∷ opened) is) ∙ on.1.1))
 
-pub lost_loop_split : (task : Task) (at place first second : ℕ) → slice_get (task.states).now at ≡ Some (nfa_state.LoopSplit first second) →
-    FailsFrom task second place → IsLostAt task at place
-lost_loop_split task at place first second there fails = λ s one other is_memoized e p step_result.
+pub lost_loop_split : (searcher : Searcher) (at place first second : ℕ) → slice_get (searcher.states).now at ≡ Some (nfa_state.LoopSplit first second) →
+    FailsFrom searcher second place → IsLostAt searcher at place
+lost_loop_split searcher at place first second there fails = λ s one other is_memoized e p step_result.
     let here : NfaConfig = record { at = at; place = place; counters = 0; opened = 0 } in
     let same = same_tries is_memoized true one other (goes_to first s) (goes_to second s)
-    (sym step_result ∙ steps_by task (nfa_state.LoopSplit first second) here s (sym e) there) in
-    (same.0, ap (λ x. x.place) same.1 ∙ p, subst (λ k. FailsFrom task k place) (sym (ap (λ x. x.at) same.1)) fails)
+    (sym step_result ∙ steps_by searcher (nfa_state.LoopSplit first second) here s (sym e) there) in
+    (same.0, ap (λ x. x.place) same.1 ∙ p, subst (λ k. FailsFrom searcher k place) (sym (ap (λ x. x.at) same.1)) fails)
 
 -- where a loop's head has another way on, it is the way out or into the loop
 counter_loop_tries : (loop : states.Loop) (after : ℕ) (s one other : plain.NfaConfig) (is_memoized : Bool) (counters : List plain.LoopCounter) →
@@ -490,44 +490,44 @@ counter_loop_tries loop after s one other is_memoized (t ∷ around) e = go (pla
         let same = same_tries is_memoized true one other off on (sym e) in
         (same.0, ap (λ x. x.place) same.1, ap (λ x. x.at) same.1)
 
-pub lost_counter_loop : (task : Task) (at place : ℕ) (loop : code.Loop) (after : ℕ) → slice_get (task.states).now at ≡ Some (nfa_state.CounterLoop loop after) →
-    FailsFrom task (if loop.greedy then after else at + 1) place → IsLostAt task at place
-lost_counter_loop task at place loop after there fails = λ s one other is_memoized e p step_result.
+pub lost_counter_loop : (searcher : Searcher) (at place : ℕ) (loop : code.Loop) (after : ℕ) → slice_get (searcher.states).now at ≡ Some (nfa_state.CounterLoop loop after) →
+    FailsFrom searcher (if loop.greedy then after else at + 1) place → IsLostAt searcher at place
+lost_counter_loop searcher at place loop after there fails = λ s one other is_memoized e p step_result.
     let here : NfaConfig = record { at = at; place = place; counters = 0; opened = 0 } in
-    let tries = counter_loop_tries (loop_of loop) after s one other is_memoized s.counters (sym (steps_by task (nfa_state.CounterLoop loop after) here s (sym e) there) ∙ step_result) in (
+    let tries = counter_loop_tries (loop_of loop) after s one other is_memoized s.counters (sym (steps_by searcher (nfa_state.CounterLoop loop after) here s (sym e) there) ∙ step_result) in (
       tries.0,
       tries.1 ∙ p,
-      subst (λ k. FailsFrom task k place) (sym (tries.2 ∙ ap (λ k. if loop.greedy then after else k + 1) e)) fails,
+      subst (λ k. FailsFrom searcher k place) (sym (tries.2 ∙ ap (λ k. if loop.greedy then after else k + 1) e)) fails,
     )
 
 -- the last choice is at the head of a loop whose other way on fails: its pair is memoized
-pub back_lost : (task : Task) (next : plain.Next) (steps : ℕ) (f : Search) (here : NfaConfig) (s : plain.NfaConfig) (rest : List Frame) →
-    after_steps_of task steps next ≡ plain.TakesBack f → here.at ≡ s.at → here.place ≡ s.place → IsLostAt task here.at here.place →
-    Keeps true (leading_of task s) s rest f.frames →
-    (k : ℕ) × ((n : ℕ) × (after_steps_of task k next
+pub back_lost : (searcher : Searcher) (next : plain.Next) (steps : ℕ) (f : Search) (here : NfaConfig) (s : plain.NfaConfig) (rest : List Frame) →
+    after_steps_of searcher steps next ≡ plain.TakesBack f → here.at ≡ s.at → here.place ≡ s.place → IsLostAt searcher here.at here.place →
+    Keeps true (leading_of searcher s) s rest f.frames →
+    (k : ℕ) × ((n : ℕ) × (after_steps_of searcher k next
     ≡ plain.TakesBack (plain.with_failed (pair_of s) (record f { frames = rest; visits = f.visits + n }))))
-back_lost task next steps f here s rest back at place lost (is_memoized, (one, (other, (step_result, frames)))) =
+back_lost searcher next steps f here s rest back at place lost (is_memoized, (one, (other, (step_result, frames)))) =
     let is = lost s one other is_memoized (sym at) (sym place) step_result in
     let kept : f.frames ≡ plain.Other other ∷ plain.Fails (pair_of s) ∷ rest = frames ∙ ap (λ b. plain.Other other ∷ (fails_of b s ++ rest)) is.0 in
     let g : Search = record f { frames = plain.Fails (pair_of s) ∷ rest } in
-    let up = one_more task steps next (plain.TakesBack f) back ∙ ap (λ l. plain.back_to l f) kept in
+    let up = one_more searcher steps next (plain.TakesBack f) back ∙ ap (λ l. plain.back_to l f) kept in
     let fails = is.2 other g refl is.1 in
-    let gone = steps_then task (suc steps) fails.0 next (TakesUp other g) up ∙ fails.1.1 in
-    (suc (suc steps + fails.0), (fails.1.0, one_more task (suc steps + fails.0) next _ gone))
+    let gone = steps_then searcher (suc steps) fails.0 next (TakesUp other g) up ∙ fails.1.1 in
+    (suc (suc steps + fails.0), (fails.1.0, one_more searcher (suc steps + fails.0) next _ gone))
 
 -- the last choice has no way left: its pair is memoized
-pub back_gone : (task : Task) (next : plain.Next) (steps : ℕ) (f : Search) (here : NfaConfig) (s : plain.NfaConfig) (rest : List Frame) →
-    after_steps_of task steps next ≡ plain.TakesBack f → here.at ≡ s.at → here.place ≡ s.place →
-    (untried : Bool) → (untried ≡ true → IsLostAt task here.at here.place) → Keeps untried (leading_of task s) s rest f.frames →
-    (k : ℕ) × ((n : ℕ) × (after_steps_of task k next
+pub back_gone : (searcher : Searcher) (next : plain.Next) (steps : ℕ) (f : Search) (here : NfaConfig) (s : plain.NfaConfig) (rest : List Frame) →
+    after_steps_of searcher steps next ≡ plain.TakesBack f → here.at ≡ s.at → here.place ≡ s.place →
+    (untried : Bool) → (untried ≡ true → IsLostAt searcher here.at here.place) → Keeps untried (leading_of searcher s) s rest f.frames →
+    (k : ℕ) × ((n : ℕ) × (after_steps_of searcher k next
     ≡ plain.TakesBack (plain.with_failed (pair_of s) (record f { frames = rest; visits = f.visits + n }))))
-back_gone task next steps f here s rest back at place true lost keeps = back_lost task next steps f here s rest back at place (lost refl) keeps
-back_gone task next steps f here s rest back at place false lost keeps =
+back_gone searcher next steps f here s rest back at place true lost keeps = back_lost searcher next steps f here s rest back at place (lost refl) keeps
+back_gone searcher next steps f here s rest back at place false lost keeps =
     let same : f.visits ≡ f.visits + 0 = omega arith in (
       suc steps,
       (
         0,
-        back_memoized task next steps f s rest back keeps
+        back_memoized searcher next steps f s rest back keeps
             ∙ ap (λ v. plain.TakesBack (plain.with_failed (pair_of s) (record f { frames = rest; visits = v }))) same,
       ),
     )
@@ -535,34 +535,34 @@ back_gone task next steps f here s rest back at place false lost keeps =
 pub more_visits : (leading : Leading) (m : Memo) (f : Search) (n : ℕ) → IsSearch leading m f → IsSearch leading m (record f { visits = f.visits + n })
 more_visits leading m f n h = record { frames = h.frames; failed = h.failed; visits = let v = h.visits in omega (arith, v) }
 
-pub refused_at_end : (task : Task) (test : CharTest) (place : ℕ) → slice_get (task.text).now place ≡ None → Refuses task test place
-refused_at_end task test place none = past_end (task.text).now (passes (task.text).now task.unicode (test_of test)) place none
+pub refused_at_end : (searcher : Searcher) (test : CharTest) (place : ℕ) → slice_get (searcher.text).now place ≡ None → Refuses searcher test place
+refused_at_end searcher test place none = past_end (searcher.text).now (passes (searcher.text).now searcher.unicode (test_of test)) place none
 
-pub refused_by_test : (task : Task) (test : CharTest) (place b : ℕ) → slice_get (task.text).now place ≡ Some b → b < 128 → (takes : Bool) →
-    IsTrue (not takes) → takes ≡ passes [] task.unicode (test_of test) b → Refuses task test place
-refused_by_test task test place b here small true excludes e = absurd (true≢false (sym excludes))
-refused_by_test task test place b here small false excludes e =
-    past_ascii (task.text).now (passes (task.text).now task.unicode (test_of test)) place b here small false
-    (sym (passes_alike (task.text).now task.unicode (test_of test) b) ∙ sym e)
+pub refused_by_test : (searcher : Searcher) (test : CharTest) (place b : ℕ) → slice_get (searcher.text).now place ≡ Some b → b < 128 → (takes : Bool) →
+    IsTrue (not takes) → takes ≡ passes [] searcher.unicode (test_of test) b → Refuses searcher test place
+refused_by_test searcher test place b here small true excludes e = absurd (true≢false (sym excludes))
+refused_by_test searcher test place b here small false excludes e =
+    past_ascii (searcher.text).now (passes (searcher.text).now searcher.unicode (test_of test)) place b here small false
+    (sym (passes_alike (searcher.text).now searcher.unicode (test_of test) b) ∙ sym e)
 
 -- ---- tests one by one
 
 -- past a test that passes
-pub test_passed : (task : Task) (m counted : Memo) (on : NfaConfig) (test : CharTest) (t : plain.NfaConfig) (g : Search) (most : ℕ) →
-    slice_get (task.states).now on.at ≡ Some (nfa_state.Character test) → Passes task test on.place →
-    counted ≡ record m { visits = min most (m.visits + 1) } → IsSearch (leading_of task) m g → IsHere m on t →
-    GoesOn task (TakesUp t g) counted (record on { at = on.at + 1; place = on.place + 1 })
-test_passed task m counted on test t g most there pass more h here =
-    let past = past_char (task.text).now (passes (task.text).now task.unicode (test_of test)) in (
+pub test_passed : (searcher : Searcher) (m counted : Memo) (on : NfaConfig) (test : CharTest) (t : plain.NfaConfig) (g : Search) (most : ℕ) →
+    slice_get (searcher.states).now on.at ≡ Some (nfa_state.Character test) → Passes searcher test on.place →
+    counted ≡ record m { visits = min most (m.visits + 1) } → IsSearch (leading_of searcher) m g → IsHere m on t →
+    GoesOn searcher (TakesUp t g) counted (record on { at = on.at + 1; place = on.place + 1 })
+test_passed searcher m counted on test t g most there pass more h here =
+    let past = past_char (searcher.text).now (passes (searcher.text).now searcher.unicode (test_of test)) in (
       1,
       (
         record g { visits = g.visits + 1 },
         (
           record (plain.forward t) { place = on.place + 1 },
           (
-            next_there task (nfa_state.Character test) on t here.at there g
+            next_there searcher (nfa_state.Character test) on t here.at there g
                 ∙ ap (λ o. plain.next_by (plain.goes_past t o) (Some (states.Character (test_of test))) t g) (ap past (sym here.place) ∙ pass),
-            one_visit (leading_of task) m g h counted most more,
+            one_visit (leading_of searcher) m g h counted most more,
             here_past counted on t (on.place + 1) (here_by m counted on t (ap (λ (x : Memo). x.trail) more) here),
           ),
         ),
@@ -576,69 +576,69 @@ abbrev pub out_of : plain.NfaConfig → plain.NfaConfig → Search → plain.Nex
 out_of s other f = TakesUp other (record f { frames = plain.Fails (pair_of s) ∷ f.frames; visits = f.visits + 2 })
 
 -- where the search is when the loop is left: what take_other is asked, and how it came there
-pub record Left (task : Task) (counted : Memo) (here : NfaConfig) (s : plain.NfaConfig) (f : Search) : Type 0 where
+pub record Left (searcher : Searcher) (counted : Memo) (here : NfaConfig) (s : plain.NfaConfig) (f : Search) : Type 0 where
   pub one : plain.NfaConfig
   pub other : plain.NfaConfig
   pub steps : ℕ
-  pub step_result : leading_of task s ≡ plain.Tries true one (other ∷ [])
-  pub comes : after_steps_of task steps (TakesUp s f) ≡ out_of s other f
-  pub search : IsSearch (leading_of task) counted (record f { visits = f.visits + 2 })
+  pub step_result : leading_of searcher s ≡ plain.Tries true one (other ∷ [])
+  pub comes : after_steps_of searcher steps (TakesUp s f) ≡ out_of s other f
+  pub search : IsSearch (leading_of searcher) counted (record f { visits = f.visits + 2 })
   pub stands : IsHere counted here s
 
-pub body_left : (task : Task) (m counted : Memo) (here : NfaConfig) (test : CharTest) (s : plain.NfaConfig) (f : Search) (most : ℕ) →
-    RunsOver task m here test → Refuses task test here.place →
+pub body_left : (searcher : Searcher) (m counted : Memo) (here : NfaConfig) (test : CharTest) (s : plain.NfaConfig) (f : Search) (most : ℕ) →
+    RunsOver searcher m here test → Refuses searcher test here.place →
     ((s : plain.NfaConfig) (failed : plain.Pair → Bool) → IsHere m here s → HaveFailed m failed → failed (pair_of s) ≡ false) →
-    counted ≡ record m { visits = min most (m.visits + 2) } → IsSearch (leading_of task) m f → IsHere m here s →
-    Left task counted here s f
-body_left task m counted here test s f most over none free more h stands =
+    counted ≡ record m { visits = min most (m.visits + 2) } → IsSearch (leading_of searcher) m f → IsHere m here s →
+    Left searcher counted here s f
+body_left searcher m counted here test s f most over none free more h stands =
     let loop = over s stands in
     let first = loop.0 in
     let out = loop.1.0 in
     let body = loop.1.1.2 in
-    let fails = body_fails task here first out test body.0 body.1 s stands.at loop.1.1.0 loop.1.1.1 f (free s f.failed stands h.failed)
-    (subst (λ i. Refuses task test i) stands.place none) in
+    let fails = body_fails searcher here first out test body.0 body.1 s stands.at loop.1.1.0 loop.1.1.1 f (free s f.failed stands h.failed)
+    (subst (λ i. Refuses searcher test i) stands.place none) in
     record {
       one = goes_to first s;
       other = out s;
       steps = 3;
       step_result = fails.0;
       comes = fails.1;
-      search = more_states (leading_of task) m f h counted most 2 more;
+      search = more_states (leading_of searcher) m f h counted most 2 more;
       stands = here_by m counted here s (ap (λ (x : Memo). x.trail) more) stands;
     }
 
 -- where a state is taken up, a step leads there
-pub never_lost : (task : Task) (s other : plain.NfaConfig) (failed : plain.Pair → Bool) (g : Search) (l : StepResult) (m : Memo) →
-    ((x : NfaConfig) → l ≡ step_result.Goes x → ⊥) → Leads (leading_of task) s failed (TakesUp other g) (Ok l) m → ⊥
-never_lost task s other failed g (step_result.Found there) m not (x, (is, h, stands)) = no_end is
+pub never_lost : (searcher : Searcher) (s other : plain.NfaConfig) (failed : plain.Pair → Bool) (g : Search) (l : StepResult) (m : Memo) →
+    ((x : NfaConfig) → l ≡ step_result.Goes x → ⊥) → Leads (leading_of searcher) s failed (TakesUp other g) (Ok l) m → ⊥
+never_lost searcher s other failed g (step_result.Found there) m not (x, (is, h, stands)) = no_end is
   where
     no_end : TakesUp other g ≡ plain.Ends (Some s) x → ⊥
     no_end is = cc
-never_lost task s other failed g step_result.Lost m not (x, (is, rest)) = no_back is
+never_lost searcher s other failed g step_result.Lost m not (x, (is, rest)) = no_back is
   where
     no_back : TakesUp other g ≡ plain.TakesBack x → ⊥
     no_back is = cc
-never_lost task s other failed g (step_result.Goes there) m not h = not there refl
+never_lost searcher s other failed g (step_result.Goes there) m not h = not there refl
 
 -- past a run, and then out of the loop
-pub past_loop : (task : Task) (m between new : Memo) (here on : NfaConfig) (r : Result NfaConfig AllocError) →
-    ((s : plain.NfaConfig) (f : Search) → IsSearch (leading_of task) m f → IsHere m here s → GoesOn task (TakesUp s f) between on) →
-    IfOk r (λ out. (s : plain.NfaConfig) (f : Search) → IsSearch (leading_of task) between f → IsHere between on s →
-    GoesOn task (TakesUp s f) new out) →
-    IfOk r (λ out. (s : plain.NfaConfig) (f : Search) → IsSearch (leading_of task) m f → IsHere m here s → GoesOn task (TakesUp s f) new out)
-past_loop task m between new here on (Err e) first further = tt
-past_loop task m between new here on (Ok out) first further = λ s f h stands.
+pub past_loop : (searcher : Searcher) (m between new : Memo) (here on : NfaConfig) (r : Result NfaConfig AllocError) →
+    ((s : plain.NfaConfig) (f : Search) → IsSearch (leading_of searcher) m f → IsHere m here s → GoesOn searcher (TakesUp s f) between on) →
+    IfOk r (λ out. (s : plain.NfaConfig) (f : Search) → IsSearch (leading_of searcher) between f → IsHere between on s →
+    GoesOn searcher (TakesUp s f) new out) →
+    IfOk r (λ out. (s : plain.NfaConfig) (f : Search) → IsSearch (leading_of searcher) m f → IsHere m here s → GoesOn searcher (TakesUp s f) new out)
+past_loop searcher m between new here on (Err e) first further = tt
+past_loop searcher m between new here on (Ok out) first further = λ s f h stands.
     let one = first s f h stands in
-    goes_on_then task (TakesUp s f) one.0 one.1.0 one.1.1.0 new out one.1.1.1.0 (further one.1.1.0 one.1.0 one.1.1.1.1 one.1.1.1.2)
+    goes_on_then searcher (TakesUp s f) one.0 one.1.0 one.1.1.0 new out one.1.1.1.0 (further one.1.1.0 one.1.0 one.1.1.1.1 one.1.1.1.2)
 
 -- where memory is refused then
-pub past_loop_refused : (task : Task) (m between new : Memo) (here on : NfaConfig) (r : Result NfaConfig AllocError) →
+pub past_loop_refused : (searcher : Searcher) (m between new : Memo) (here on : NfaConfig) (r : Result NfaConfig AllocError) →
     between.failed ≡ m.failed →
-    ((s : plain.NfaConfig) (f : Search) → IsSearch (leading_of task) m f → IsHere m here s → GoesOn task (TakesUp s f) between on) →
-    IfErr r (λ _. (s : plain.NfaConfig) (f : Search) → IsSearch (leading_of task) between f → IsHere between on s → HaveFailed new f.failed) →
-    IfErr r (λ _. (s : plain.NfaConfig) (f : Search) → IsSearch (leading_of task) m f → IsHere m here s → HaveFailed new f.failed)
-past_loop_refused task m between new here on (Ok out) same first further = tt
-past_loop_refused task m between new here on (Err e) same first further = λ s f h stands p.
+    ((s : plain.NfaConfig) (f : Search) → IsSearch (leading_of searcher) m f → IsHere m here s → GoesOn searcher (TakesUp s f) between on) →
+    IfErr r (λ _. (s : plain.NfaConfig) (f : Search) → IsSearch (leading_of searcher) between f → IsHere between on s → HaveFailed new f.failed) →
+    IfErr r (λ _. (s : plain.NfaConfig) (f : Search) → IsSearch (leading_of searcher) m f → IsHere m here s → HaveFailed new f.failed)
+past_loop_refused searcher m between new here on (Ok out) same first further = tt
+past_loop_refused searcher m between new here on (Err e) same first further = λ s f h stands p.
     let one = first s f h stands in
     further one.1.1.0 one.1.0 one.1.1.1.1 one.1.1.1.2 p ∙ sym (one.1.1.1.1.failed p)
     ∙ ap (λ x. has_pair x (key_of p)) same ∙ h.failed p

@@ -1,4 +1,4 @@
--- What is kept of a search and of a stand when the path grows or is cut.
+-- What is kept of a search and of a configuration when the path grows or is cut.
 use Rattle.std.proofs.Common.{◌≡◌, ◌≤◌, ◌+◌, ◌∷◌, ◌++◌, [], ℕ, min, List, Bool, true, false, Option, Some, None, Result, Ok, option_map, map, length, take, slice_get, refl, sym, ap, ap₂, ◌∙◌, ◌||◌, subst, arith, nat_lt, if◌then◌else◌, length-append, OnOk, IfOk, Err}
 use Rattle.std.proofs.lemmas.List.{take_all}
 use Rattle.fancy_nfa.specs.NfaSearch as plain
@@ -9,14 +9,14 @@ use Rattle.fancy_nfa.specs.NfaStates as states
 use Rattle.fancy_plain.specs.declared.search.StepResult.TheVariants as step_result
 use Rattle.fancy_plain.specs.Paths.{HasCounters, HasOpened, EndsOpened, EndsCounters, IsCounter, IsOpened, IsConfig, closed_after, counter_of}
 use Rattle.fancy_plain.specs.BacktrackStack.{choices_of}
-use Rattle.fancy_plain.specs.Searches.{HaveFailed, IsHere, IsSearch, Leading, Leads, CountersBy, leading_of, next_of}
-use Rattle.fancy_plain.specs.declared.search.Turning.{Turning}
-use Rattle.fancy_plain.specs.declared.search.Turning.TheVariants as turning
+use Rattle.fancy_plain.specs.Searches.{HaveFailed, IsHere, IsSearch, Leading, Leads, ChoosesBy, leading_of, next_of}
+use Rattle.fancy_plain.specs.declared.search.LoopChoice.{LoopChoice}
+use Rattle.fancy_plain.specs.declared.search.LoopChoice.TheVariants as loop_choice
 use Rattle.fancy_plain.specs.Views.{state_of}
 use Rattle.fancy_plain.specs.declared.nfa_state.NfaState.{NfaState}
 use Rattle.fancy_plain.specs.declared.nfa_state.NfaState.TheVariants as nfa_state
 use Rattle.fancy_plain.specs.declared.nfa_state.Loop as code
-use Rattle.fancy_plain.specs.declared.search.Task.{Task}
+use Rattle.fancy_plain.specs.declared.search.Searcher.{Searcher}
 use Rattle.fancy_plain.specs.declared.trail.Entry.{Entry}
 use Rattle.fancy_plain.specs.declared.trail.Entry.TheVariants as entry
 use Rattle.fancy_plain.specs.declared.trail.Trail.{Trail}
@@ -202,7 +202,7 @@ key_outside m s t h none = go t.counters (h.counters)
     go [] has = ap₂ (λ at place. at ∷ place ∷ []) h.at h.place
     go (u ∷ us) (k, (outer, (e, is, rest))) = absurd (omega (arith, none, e))
 
--- the iterations of a stand inside one alone
+-- the iterations of a configuration inside one alone
 pub inside : (m : Memo) (s : NfaConfig) (counter : LoopCounter) (outer : ℕ) (t : plain.NfaConfig) → outer ≡ 0 → IsHere m s t →
     EndsCounters m.trail.entries.items s.counters t.counters (Some (counter, outer)) → counter_of counter ∷ [] ≡ t.counters
 inside m s counter outer t none h ends = go t.counters ends
@@ -252,7 +252,7 @@ module _ (leading : Leading) (m : Memo) (f : plain.Search) (h : IsSearch leading
       IsSearch leading new (record f { visits = f.visits + 1 })
   one_visit new most e = more_states new most 1 e
 
--- the same stand, where the path is the same
+-- the configuration is the same where the path is
 pub here_by : (m n : Memo) (s : NfaConfig) (t : plain.NfaConfig) → n.trail ≡ m.trail → IsHere m s t → IsHere n s t
 here_by m n s t e h = subst (λ (l : Trail). IsConfig l.entries.items (length l.entries.items) s t) (sym e) h
 
@@ -305,22 +305,22 @@ module _ (l : Loop) (after : ℕ) (s : plain.NfaConfig) (t : plain.LoopCounter) 
       plain.counter_loop_step l after s (t ∷ ts) ≡ plain.Tries true off (on ∷ [])
   counter_loop_out_or_in = choice false
 
-  -- the lead where these ways on are found
-  abbrev pub step_result_of : Turning → plain.StepResult
-  step_result_of turning.Out = plain.Tries true off []
-  step_result_of turning.In = plain.Tries true on []
-  step_result_of turning.InOrOut = plain.Tries true on (off ∷ [])
-  step_result_of turning.OutOrIn = plain.Tries true off (on ∷ [])
+  -- the step result where these ways on are found
+  abbrev pub step_result_of : LoopChoice → plain.StepResult
+  step_result_of loop_choice.Out = plain.Tries true off []
+  step_result_of loop_choice.In = plain.Tries true on []
+  step_result_of loop_choice.InOrOut = plain.Tries true on (off ∷ [])
+  step_result_of loop_choice.OutOrIn = plain.Tries true off (on ∷ [])
 
-  pub counter_loop_by : (place : ℕ) (counters : List plain.LoopCounter) (r : Turning) → place ≡ s.place → counters ≡ t ∷ ts → CountersBy r l place t →
+  pub counter_loop_by : (place : ℕ) (counters : List plain.LoopCounter) (r : LoopChoice) → place ≡ s.place → counters ≡ t ∷ ts → ChoosesBy r l place t →
       plain.counter_loop_step l after s counters ≡ step_result_of r
-  counter_loop_by place counters r here is by = ap (plain.counter_loop_step l after s) is ∙ go r (subst (λ i. CountersBy r l i t) here by)
+  counter_loop_by place counters r here is by = ap (plain.counter_loop_step l after s) is ∙ go r (subst (λ i. ChoosesBy r l i t) here by)
     where
-      go : (r : Turning) → CountersBy r l s.place t → plain.counter_loop_step l after s (t ∷ ts) ≡ step_result_of r
-      go turning.Out h = counter_loop_out h
-      go turning.In h = counter_loop_in h
-      go turning.InOrOut h = counter_loop_in_or_out h
-      go turning.OutOrIn h = counter_loop_out_or_in h
+      go : (r : LoopChoice) → ChoosesBy r l s.place t → plain.counter_loop_step l after s (t ∷ ts) ≡ step_result_of r
+      go loop_choice.Out h = counter_loop_out h
+      go loop_choice.In h = counter_loop_in h
+      go loop_choice.InOrOut h = counter_loop_in_or_out h
+      go loop_choice.OutOrIn h = counter_loop_out_or_in h
 
   -- nothing is tried where the pair has no way
   pub counter_loop_in_vain : (f : plain.Search) (p : Option states.NfaState) → f.failed (plain.pair_of s) ≡ true →
@@ -351,16 +351,16 @@ no_other l after s first other [] none e = cc
 no_other l after s first other (t ∷ ts) none e = cc
 
 -- nor where there is one way on alone
-pub lone_way : (l : Loop) (after place : ℕ) (s first other : plain.NfaConfig) (t : plain.LoopCounter) (around ts : List plain.LoopCounter) (r : Turning) →
-    place ≡ s.place → ts ≡ t ∷ around → CountersBy r l place t → ¬ (r ≡ turning.InOrOut) → ¬ (r ≡ turning.OutOrIn) →
+pub lone_way : (l : Loop) (after place : ℕ) (s first other : plain.NfaConfig) (t : plain.LoopCounter) (around ts : List plain.LoopCounter) (r : LoopChoice) →
+    place ≡ s.place → ts ≡ t ∷ around → ChoosesBy r l place t → ¬ (r ≡ loop_choice.InOrOut) → ¬ (r ≡ loop_choice.OutOrIn) →
     ¬ (plain.counter_loop_step l after s ts ≡ plain.Tries true first (other ∷ []))
 lone_way l after place s first other t around ts r here is by a b e = go r a b (sym (counter_loop_by l after s t around place ts r here is by) ∙ e)
   where
-    go : (r : Turning) → ¬ (r ≡ turning.InOrOut) → ¬ (r ≡ turning.OutOrIn) → ¬ (step_result_of l after s t around r ≡ plain.Tries true first (other ∷ []))
-    go turning.Out a b e = cc
-    go turning.In a b e = cc
-    go turning.InOrOut a b e = a refl
-    go turning.OutOrIn a b e = b refl
+    go : (r : LoopChoice) → ¬ (r ≡ loop_choice.InOrOut) → ¬ (r ≡ loop_choice.OutOrIn) → ¬ (step_result_of l after s t around r ≡ plain.Tries true first (other ∷ []))
+    go loop_choice.Out a b e = cc
+    go loop_choice.In a b e = cc
+    go loop_choice.InOrOut a b e = a refl
+    go loop_choice.OutOrIn a b e = b refl
 
 pub counters_none : (entries : List Entry) (link : ℕ) (counters : List plain.LoopCounter) → EndsCounters entries link counters None → counters ≡ []
 counters_none entries link [] h = refl
@@ -431,28 +431,28 @@ here_past m s t place h = record {
   spans = h.spans;
 }
 
--- ---- the state where a stand is
+-- ---- the state of a configuration
 
--- two leads that try others are the same
+-- two step results that try others are the same
 pub same_tries : (n k : Bool) (s t u v : plain.NfaConfig) → plain.Tries n s (t ∷ []) ≡ plain.Tries k u (v ∷ []) → (n ≡ k) × (t ≡ v)
 same_tries n k s t u v e = (cc, cc)
 
 pub no_tries : (l : plain.StepResult) → (n : Bool) (s t : plain.NfaConfig) → l ≡ plain.Lost → l ≡ plain.Tries n s (t ∷ []) → ⊥
 no_tries l n s t e d = cc
 
-module _ (task : Task) (p : NfaState) (s : NfaConfig) (t : plain.NfaConfig) (at : s.at ≡ t.at)
-    (there : slice_get (task.states).now s.at ≡ Some p) where
-  pub plain_there : slice_get (map state_of (task.states).now) t.at ≡ Some (state_of p)
-  plain_there = slice_get-map state_of (task.states).now t.at ∙ ap (option_map state_of) (ap (slice_get (task.states).now) (sym at) ∙ there)
+module _ (searcher : Searcher) (p : NfaState) (s : NfaConfig) (t : plain.NfaConfig) (at : s.at ≡ t.at)
+    (there : slice_get (searcher.states).now s.at ≡ Some p) where
+  pub plain_there : slice_get (map state_of (searcher.states).now) t.at ≡ Some (state_of p)
+  plain_there = slice_get-map state_of (searcher.states).now t.at ∙ ap (option_map state_of) (ap (slice_get (searcher.states).now) (sym at) ∙ there)
 
-  pub steps_by : leading_of task t ≡ plain.step_by (task.text).now task.unicode (state_of p) t
-  steps_by = ap (λ o. plain.step_at (task.text).now task.unicode o t) plain_there
+  pub steps_by : leading_of searcher t ≡ plain.step_by (searcher.text).now searcher.unicode (state_of p) t
+  steps_by = ap (λ o. plain.step_at (searcher.text).now searcher.unicode o t) plain_there
 
   -- a step by this state
   pub next_there : (f : plain.Search) →
-      next_of task (plain.TakesUp t f)
-      ≡ plain.next_by (plain.step_by (task.text).now task.unicode (state_of p) t) (Some (state_of p)) t f
-  next_there f = ap (λ o. plain.next_by (plain.step_at (task.text).now task.unicode o t) o t f) plain_there
+      next_of searcher (plain.TakesUp t f)
+      ≡ plain.next_by (plain.step_by (searcher.text).now searcher.unicode (state_of p) t) (Some (state_of p)) t f
+  next_there f = ap (λ o. plain.next_by (plain.step_at (searcher.text).now searcher.unicode o t) o t f) plain_there
 
 -- only these states try another way on
 module _ (text : List ℕ) (unicode : Bool) (s t u : plain.NfaConfig) (n : Bool) where
@@ -504,19 +504,19 @@ counter_loop_fees l after s first other (t ∷ ts) n e = go (plain.is_over l s.p
     go false false true e = cc
     go false false false e = cc
 
--- a step from a stand by the state that is there
-module _ (task : Task) (p : NfaState) (here : NfaConfig) (s : plain.NfaConfig) (f : plain.Search) (at : here.at ≡ s.at)
-    (there : slice_get (task.states).now here.at ≡ Some p) (result : Result StepResult AllocError) (m : Memo) where
-  pub at_state : Leads (leading_of task) s f.failed
-      (plain.next_by (plain.step_by (task.text).now task.unicode (state_of p) s) (Some (state_of p)) s f) result m →
-      Leads (leading_of task) s f.failed (next_of task (plain.TakesUp s f)) result m
-  at_state h = subst (λ n. Leads (leading_of task) s f.failed n result m) (sym (next_there task p here s at there f)) h
+-- a step from a configuration by the state that is there
+module _ (searcher : Searcher) (p : NfaState) (here : NfaConfig) (s : plain.NfaConfig) (f : plain.Search) (at : here.at ≡ s.at)
+    (there : slice_get (searcher.states).now here.at ≡ Some p) (result : Result StepResult AllocError) (m : Memo) where
+  pub at_state : Leads (leading_of searcher) s f.failed
+      (plain.next_by (plain.step_by (searcher.text).now searcher.unicode (state_of p) s) (Some (state_of p)) s f) result m →
+      Leads (leading_of searcher) s f.failed (next_of searcher (plain.TakesUp s f)) result m
+  at_state h = subst (λ n. Leads (leading_of searcher) s f.failed n result m) (sym (next_there searcher p here s at there f)) h
 
-  pub at_step : Leads (leading_of task) s f.failed (plain.next_by (leading_of task s) (Some (state_of p)) s f) result m →
-      Leads (leading_of task) s f.failed (next_of task (plain.TakesUp s f)) result m
+  pub at_step : Leads (leading_of searcher) s f.failed (plain.next_by (leading_of searcher s) (Some (state_of p)) s f) result m →
+      Leads (leading_of searcher) s f.failed (next_of searcher (plain.TakesUp s f)) result m
   at_step h =
-      subst (λ o. Leads (leading_of task) s f.failed (plain.next_by (leading_of task s) o s f) result m)
-      (sym (plain_there task p here s at there)) h
+      subst (λ o. Leads (leading_of searcher) s f.failed (plain.next_by (leading_of searcher s) o s f) result m)
+      (sym (plain_there searcher p here s at there)) h
 
 -- what holds where a list was added
 pub when_added : {X E : Type 0} (r : Result X E) {P Q : Type 0} → (P → Q) → OnOk r P → IfOk r (λ x. Q)
@@ -528,18 +528,18 @@ pub failed_by : (m n : Memo) (failed : plain.Pair → Bool) → n.failed ≡ m.f
 failed_by m n failed e h p = ap (λ x. has_pair x (key_of p)) e ∙ h p
 
 -- past the last state there is none
-none_there : (task : Task) (here : NfaConfig) (s : plain.NfaConfig) → here.at ≡ s.at → length (task.states).now ≤ here.at →
-    slice_get (map state_of (task.states).now) s.at ≡ None
-none_there task here s at le =
-    slice_get-map state_of (task.states).now s.at
-    ∙ ap (option_map state_of) (slice_get_past (task.states).now s.at (omega (arith, le, at)))
+none_there : (searcher : Searcher) (here : NfaConfig) (s : plain.NfaConfig) → here.at ≡ s.at → length (searcher.states).now ≤ here.at →
+    slice_get (map state_of (searcher.states).now) s.at ≡ None
+none_there searcher here s at le =
+    slice_get-map state_of (searcher.states).now s.at
+    ∙ ap (option_map state_of) (slice_get_past (searcher.states).now s.at (omega (arith, le, at)))
 
-pub lost_past : (task : Task) (here : NfaConfig) (s : plain.NfaConfig) → here.at ≡ s.at → length (task.states).now ≤ here.at →
-    leading_of task s ≡ plain.Lost
-lost_past task here s at le = ap (λ o. plain.step_at (task.text).now task.unicode o s) (none_there task here s at le)
+pub lost_past : (searcher : Searcher) (here : NfaConfig) (s : plain.NfaConfig) → here.at ≡ s.at → length (searcher.states).now ≤ here.at →
+    leading_of searcher s ≡ plain.Lost
+lost_past searcher here s at le = ap (λ o. plain.step_at (searcher.text).now searcher.unicode o s) (none_there searcher here s at le)
 
-pub nothing_there : (task : Task) (here : NfaConfig) (s : plain.NfaConfig) (f : plain.Search) → here.at ≡ s.at →
-    length (task.states).now ≤ here.at →
-    next_of task (plain.TakesUp s f) ≡ plain.TakesBack (record f { visits = f.visits + 1 })
-nothing_there task here s f at le =
-    ap (λ o. plain.next_by (plain.step_at (task.text).now task.unicode o s) o s f) (none_there task here s at le)
+pub nothing_there : (searcher : Searcher) (here : NfaConfig) (s : plain.NfaConfig) (f : plain.Search) → here.at ≡ s.at →
+    length (searcher.states).now ≤ here.at →
+    next_of searcher (plain.TakesUp s f) ≡ plain.TakesBack (record f { visits = f.visits + 1 })
+nothing_there searcher here s f at le =
+    ap (λ o. plain.next_by (plain.step_at (searcher.text).now searcher.unicode o s) o s f) (none_there searcher here s at le)

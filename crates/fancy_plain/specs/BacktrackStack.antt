@@ -1,10 +1,10 @@
--- The choices on a path one by one, the last one first.
+-- The choices on a backtrack stack one by one, the last one first.
 use Rattle.std.specs.Prelude.{◌≡◌, ◌-◌, ℕ, zero, suc, List, [], ◌∷◌, flat_map, reverse, take, Option, Some, None}
 use Rattle.fancy_plain.specs.declared.backtrack_stack.StackFrame.{StackFrame}
 use Rattle.fancy_plain.specs.declared.backtrack_stack.BacktrackStack.{BacktrackStack}
 use Rattle.fancy_plain.specs.declared.backtrack_stack.Run.{Run}
 
--- the same one byte before
+-- this choice one byte before
 abbrev pub one_before : StackFrame → StackFrame
 one_before c = record c { config = record (c.config) { place = c.config.place - 1 } }
 

@@ -5,25 +5,25 @@ use Rattle.fancy_nfa.specs.NfaSearch.{NfaConfig, passes}
 use Rattle.fancy_plain.specs.declared.counted_ways.Passed.{Passed}
 use Rattle.fancy_plain.specs.declared.counted_ways.Passed.TheVariants as passed
 use Rattle.fancy_plain.specs.declared.nfa_state.CharTest.{CharTest}
-use Rattle.fancy_plain.specs.declared.search.Task.{Task}
+use Rattle.fancy_plain.specs.declared.search.Searcher.{Searcher}
 use Rattle.fancy_plain.specs.Runs.{Refuses}
-use Rattle.fancy_plain.specs.OnePass.{Loses, Walks, stand_at}
+use Rattle.fancy_plain.specs.OnePass.{Loses, Walks, config_at}
 use Rattle.fancy_plain.specs.Views.{test_of}
 
 -- so many characters that pass stand between these places
-abbrev pub PassesSome : Task → CharTest → (count : ℕ) → (from to : ℕ) → Type 0
+abbrev pub PassesSome : Searcher → CharTest → (count : ℕ) → (from to : ℕ) → Type 0
 PassesSome t test zero from to = from ≡ to
 PassesSome t test (suc n) from to =
     (i : ℕ) × (PassesSome t test n from i
     × (past_char (t.text).now (passes (t.text).now t.unicode (test_of test)) i ≡ Some to))
 
 -- the characters that pass end there, or these are as many as may be, so many less than that
-abbrev pub PassesMost : Task → CharTest → (most : ℕ) → (from to left : ℕ) → Type 0
+abbrev pub PassesMost : Searcher → CharTest → (most : ℕ) → (from to left : ℕ) → Type 0
 PassesMost t test most from to left =
     (left ≤ most) × PassesSome t test (most - left) from to × (0 < left → Refuses t test to)
 
--- what a search that knows of no pair comes to from the stand
-abbrev pub ComesPast : Task → (from : NfaConfig) → Passed → Type 0
-ComesPast t from (passed.On at place is_sure) = Walks t is_sure from (stand_at at place)
+-- what a search that knows of no pair comes to from the configuration
+abbrev pub ComesPast : Searcher → (from : NfaConfig) → Passed → Type 0
+ComesPast t from (passed.On at place is_sure) = Walks t is_sure from (config_at at place)
 ComesPast t from passed.Fails = Loses t from
 ComesPast t from passed.Unknown = Unit {0}

@@ -28,7 +28,7 @@ AreFirstSets unicode states levels = (text : List ℕ) (place : ℕ) → may_beg
 abbrev pub any_counter : ℕ
 any_counter = 255
 
--- the search may come to the state in this counter
+-- the search may come to the state with this counter
 abbrev pub covers : (reached : List ℕ) → (at counter : ℕ) → Bool
 covers reached at counter = slice_index_or reached at 0 == counter || slice_index_or reached at 0 == any_counter
 

@@ -10,7 +10,7 @@ pub mod Neighbours
 pub mod ClassTexts
 pub mod Shapes
 pub mod Layouts
-pub mod Tables
+pub mod Nfas
 pub mod FirstSets
 pub mod OnePass
 pub mod AsciiRuns

@@ -1,4 +1,4 @@
--- The path of a search: what each entry stands for, and a stand by its links.
+-- The path of a search: what each entry stands for, and a configuration by its links.
 use Rattle.std.specs.Prelude.{◌≡◌, ◌≤◌, ℕ, suc, List, [], ◌∷◌, take, Option, Some, None, slice_get}
 use Rattle.fancy_meaning.specs.MatchState.{Span}
 use Rattle.fancy_nfa.specs.NfaSearch as plain
@@ -43,7 +43,7 @@ closed_after before (entry.Closed group from to ∷ entries) = closed_after ((gr
 closed_after before (entry.LoopCounter link counter ∷ entries) = closed_after before entries
 closed_after before (entry.Opened link from ∷ entries) = closed_after before entries
 
--- a stand at the end of a path
+-- a configuration at the end of a path
 pub record IsConfig (entries : List Entry) (path : ℕ) (s : NfaConfig) (t : plain.NfaConfig) : Type 0 where
   pub at : s.at ≡ t.at
   pub place : s.place ≡ t.place

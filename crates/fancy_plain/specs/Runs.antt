@@ -9,15 +9,15 @@ use Rattle.fancy_plain.specs.declared.nfa_state.NfaState.{NfaState}
 use Rattle.fancy_plain.specs.declared.nfa_state.CharTest.{CharTest}
 use Rattle.fancy_plain.specs.declared.nfa_state.NfaState.TheVariants as nfa_state
 use Rattle.fancy_plain.specs.declared.search.Memo.{Memo}
-use Rattle.fancy_plain.specs.declared.search.Task.{Task}
+use Rattle.fancy_plain.specs.declared.search.Searcher.{Searcher}
 use Rattle.fancy_plain.specs.Searches.{HaveFailed, IsHere, IsSearch, Leading, after_steps_of, leading_of}
 use Rattle.fancy_plain.specs.Views.{state_of, test_of}
 
--- the same stand so many bytes on
+-- this configuration so many bytes on
 abbrev pub onward : ℕ → plain.NfaConfig → plain.NfaConfig
 onward n s = record s { place = s.place + n }
 
--- wherever the stand is, it goes on at the first state, and later by the way out, if its pair may have a way
+-- at each place the configuration goes on at the first state, and later by the way out, if its pair may have a way
 abbrev pub IsLoopSplitOf : Leading → (first : ℕ) → (out : plain.NfaConfig → plain.NfaConfig) → plain.NfaConfig → Type 0
 IsLoopSplitOf leading first out s =
     (n : ℕ) → leading (onward n s) ≡ plain.Tries true (goes_to first (onward n s)) (out (onward n s) ∷ [])
@@ -42,43 +42,43 @@ abbrev pub IsBody : List NfaState → (head first : ℕ) → CharTest → Type 0
 IsBody states head first test =
     (slice_get states first ≡ Some (nfa_state.Character test)) × (slice_get states (first + 1) ≡ Some (nfa_state.Jump head))
 
--- the stand is at the head of a loop whose body is this test, and whose way on comes before the way out
-abbrev pub RunsOver : Task → Memo → NfaConfig → CharTest → Type 0
+-- the configuration is at the head of a loop whose body is this test, and whose way on comes before the way out
+abbrev pub RunsOver : Searcher → Memo → NfaConfig → CharTest → Type 0
 RunsOver t m here test =
     (s : plain.NfaConfig) → IsHere m here s →
     (first : ℕ) × ((out : plain.NfaConfig → plain.NfaConfig) × (IsLoopSplitOf (leading_of t) first out s
     × (is_counted (slice_get (map state_of (t.states).now) here.at) ≡ true) × IsBody (t.states).now here.at first test))
 
 -- a character of one byte stands here and passes, and the head may have a way
-pub record CanPass (t : Task) (m : Memo) (test : CharTest) (here : NfaConfig) (i : ℕ) : Type 0 where
+pub record CanPass (t : Searcher) (m : Memo) (test : CharTest) (here : NfaConfig) (i : ℕ) : Type 0 where
   pub passes : past_char (t.text).now (passes (t.text).now t.unicode (test_of test)) i ≡ Some (i + 1)
   pub free : (s : plain.NfaConfig) (failed : Pair → Bool) → IsHere m (record here { place = i }) s → HaveFailed m failed →
       failed (pair_of s) ≡ false
 
--- so it is at this stand and each of the next bytes, so many in all
-abbrev pub IsRun : Task → Memo → CharTest → NfaConfig → ℕ → Type 0
+-- so it is in this configuration and at each of the next bytes, so many in all
+abbrev pub IsRun : Searcher → Memo → CharTest → NfaConfig → ℕ → Type 0
 IsRun t m test here n = (i : ℕ) → here.place ≤ i → i < here.place + n → CanPass t m test here i
 
--- a search that is to go on by `next` goes on from this stand after some steps
-abbrev pub GoesOn : Task → Next → Memo → NfaConfig → Type 0
-GoesOn task next m here =
-    (steps : ℕ) × ((f : Search) × ((t : plain.NfaConfig) × ((after_steps_of task steps next ≡ TakesUp t f)
-    × IsSearch (leading_of task) m f × IsHere m here t)))
+-- a search that is to go on by `next` goes on from this configuration after some steps
+abbrev pub GoesOn : Searcher → Next → Memo → NfaConfig → Type 0
+GoesOn searcher next m here =
+    (steps : ℕ) × ((f : Search) × ((t : plain.NfaConfig) × ((after_steps_of searcher steps next ≡ TakesUp t f)
+    × IsSearch (leading_of searcher) m f × IsHere m here t)))
 
 -- ---- ways out of a loop that fail at once
 
 -- no character that passes stands at the place
-abbrev pub Refuses : Task → CharTest → (place : ℕ) → Type 0
+abbrev pub Refuses : Searcher → CharTest → (place : ℕ) → Type 0
 Refuses t test place = past_char (t.text).now (passes (t.text).now t.unicode (test_of test)) place ≡ None
 
 -- a search that takes up this state at this place goes back after some steps, and nothing is memoized or kept
-abbrev pub FailsFrom : Task → (at place : ℕ) → Type 0
+abbrev pub FailsFrom : Searcher → (at place : ℕ) → Type 0
 FailsFrom t at place =
     (s : plain.NfaConfig) (f : Search) → s.at ≡ at → s.place ≡ place →
     (steps : ℕ) × ((n : ℕ) × (after_steps_of t steps (TakesUp s f) ≡ TakesBack (record f { visits = f.visits + n })))
 
 -- where the state is the head of a loop, its other way on fails so
-abbrev pub IsLostAt : Task → (at place : ℕ) → Type 0
+abbrev pub IsLostAt : Searcher → (at place : ℕ) → Type 0
 IsLostAt t at place =
     (s one other : plain.NfaConfig) (is_memoized : Bool) → s.at ≡ at → s.place ≡ place → leading_of t s ≡ plain.Tries is_memoized one (other ∷ []) →
     (is_memoized ≡ true) × (other.place ≡ place) × FailsFrom t other.at place
@@ -86,5 +86,5 @@ IsLostAt t at place =
 -- ---- tests one by one
 
 -- a character of one byte that passes stands at the place
-abbrev pub Passes : Task → CharTest → (place : ℕ) → Type 0
+abbrev pub Passes : Searcher → CharTest → (place : ℕ) → Type 0
 Passes t test place = past_char (t.text).now (passes (t.text).now t.unicode (test_of test)) place ≡ Some (place + 1)

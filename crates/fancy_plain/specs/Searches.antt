@@ -12,10 +12,10 @@ use Rattle.fancy_plain.specs.declared.trail.NfaConfig.{NfaConfig}
 use Rattle.fancy_plain.specs.declared.backtrack_stack.StackFrame.{StackFrame}
 use Rattle.fancy_plain.specs.declared.search.StepResult.{StepResult}
 use Rattle.fancy_plain.specs.declared.search.StepResult.TheVariants as step_result
-use Rattle.fancy_plain.specs.declared.search.Turning.{Turning}
-use Rattle.fancy_plain.specs.declared.search.Turning.TheVariants as turning
+use Rattle.fancy_plain.specs.declared.search.LoopChoice.{LoopChoice}
+use Rattle.fancy_plain.specs.declared.search.LoopChoice.TheVariants as loop_choice
 use Rattle.fancy_plain.specs.declared.search.Memo.{Memo}
-use Rattle.fancy_plain.specs.declared.search.Task.{Task}
+use Rattle.fancy_plain.specs.declared.search.Searcher.{Searcher}
 use Rattle.fancy_plain.specs.declared.nfa_state.NfaState.{NfaState}
 use Rattle.fancy_plain.specs.Views.{state_of, IsStateReadBy}
 use Rattle.fancy_plain.specs.BacktrackStack.{choices_of}
@@ -28,7 +28,7 @@ IsMemory (error.RuntimeError l) = ⊥
 IsMemory (error.CompileError e) = ⊥
 IsMemory (error.TreeFault at) = ⊥
 
--- where a stand leads, by the definition
+-- where a configuration leads, by the definition
 abbrev pub Leading : Type 0
 Leading = plain.NfaConfig → plain.StepResult
 
@@ -40,7 +40,7 @@ fails_of false s = []
 abbrev pub fails_before : Bool → plain.NfaConfig → List Frame → List Frame
 fails_before is_memoized s rest = fails_of is_memoized s ++ rest
 
--- what a choice at this stand keeps for later, before the rest
+-- what a choice in this configuration keeps for later, before the rest
 abbrev pub Keeps : Bool → plain.StepResult → plain.NfaConfig → (rest frames : List Frame) → Type 0
 Keeps true l s rest frames =
     (is_memoized : Bool) × ((first : plain.NfaConfig) × ((other : plain.NfaConfig) ×
@@ -64,11 +64,11 @@ pub record IsSearch (leading : Leading) (m : Memo) (f : Search) : Type 0 where
   pub failed : HaveFailed m f.failed
   pub visits : m.visits ≤ f.visits
 
--- the stand at the end of the path
+-- the configuration at the end of the path
 abbrev pub IsHere : Memo → NfaConfig → plain.NfaConfig → Type 0
 IsHere m s t = IsConfig m.trail.entries.items (length m.trail.entries.items) s t
 
--- a step from this stand, which is to come to `next`, answered this
+-- a step from this configuration, which is to come to `next`, answered this
 abbrev pub Leads : Leading → plain.NfaConfig → (Pair → Bool) → Next → Result StepResult AllocError → Memo → Type 0
 Leads leading s failed next (Ok (step_result.Found there)) m =
     (f : Search) × ((next ≡ Ends (Some s) f) × IsSearch leading m f × IsHere m there s)
@@ -81,63 +81,63 @@ Leads leading s failed next (Err e) m = HaveFailed m failed
 -- ---- at the head of a loop
 
 -- the ways on that the definition finds
-abbrev pub CountersBy : Turning → Loop → (place : ℕ) → plain.LoopCounter → Type 0
-CountersBy turning.Out l place t = plain.is_over l place t ≡ true
-CountersBy turning.In l place t = (plain.is_over l place t ≡ false) × (nat_lt t.count l.lo ≡ true)
-CountersBy turning.InOrOut l place t =
+abbrev pub ChoosesBy : LoopChoice → Loop → (place : ℕ) → plain.LoopCounter → Type 0
+ChoosesBy loop_choice.Out l place t = plain.is_over l place t ≡ true
+ChoosesBy loop_choice.In l place t = (plain.is_over l place t ≡ false) × (nat_lt t.count l.lo ≡ true)
+ChoosesBy loop_choice.InOrOut l place t =
     (plain.is_over l place t ≡ false) × (nat_lt t.count l.lo ≡ false) × (l.greedy ≡ true)
-CountersBy turning.OutOrIn l place t =
+ChoosesBy loop_choice.OutOrIn l place t =
     (plain.is_over l place t ≡ false) × (nat_lt t.count l.lo ≡ false) × (l.greedy ≡ false)
 
 -- ---- a fragment's states in a text
 
-abbrev pub leading_of : Task → Leading
+abbrev pub leading_of : Searcher → Leading
 leading_of t = plain.step_result (t.text).now t.unicode (map state_of (t.states).now)
 
-abbrev pub next_of : Task → Next → Next
+abbrev pub next_of : Searcher → Next → Next
 next_of t = plain.next (t.text).now t.unicode (map state_of (t.states).now)
 
-abbrev pub after_steps_of : Task → ℕ → Next → Next
+abbrev pub after_steps_of : Searcher → ℕ → Next → Next
 after_steps_of t = after_steps (t.text).now t.unicode (map state_of (t.states).now)
 
 -- its classes are read by its option
-abbrev pub IsTask : Task → Type 0
-IsTask t = (i : ℕ) (p : NfaState) → slice_get (t.states).now i ≡ Some p → IsStateReadBy t.unicode p
+abbrev pub IsSearcher : Searcher → Type 0
+IsSearcher t = (i : ℕ) (p : NfaState) → slice_get (t.states).now i ≡ Some p → IsStateReadBy t.unicode p
 
 -- what is tried later answered this, after some steps from `next`
-abbrev pub GoesBack : Task → Next → Result StepResult AllocError → Memo → Type 0
-GoesBack task next (Ok (step_result.Found there)) m = ⊥
-GoesBack task next (Ok step_result.Lost) m =
-    (steps : ℕ) × ((f : Search) × ((after_steps_of task steps next ≡ Ends None f) × IsSearch (leading_of task) m f))
-GoesBack task next (Ok (step_result.Goes there)) m =
-    (steps : ℕ) × ((f : Search) × ((t : plain.NfaConfig) × ((after_steps_of task steps next ≡ TakesUp t f)
-    × IsSearch (leading_of task) m f × IsHere m there t)))
-GoesBack task next (Err e) m =
-    (steps : ℕ) × HaveFailed m (search_in (after_steps_of task steps next)).failed
+abbrev pub GoesBack : Searcher → Next → Result StepResult AllocError → Memo → Type 0
+GoesBack searcher next (Ok (step_result.Found there)) m = ⊥
+GoesBack searcher next (Ok step_result.Lost) m =
+    (steps : ℕ) × ((f : Search) × ((after_steps_of searcher steps next ≡ Ends None f) × IsSearch (leading_of searcher) m f))
+GoesBack searcher next (Ok (step_result.Goes there)) m =
+    (steps : ℕ) × ((f : Search) × ((t : plain.NfaConfig) × ((after_steps_of searcher steps next ≡ TakesUp t f)
+    × IsSearch (leading_of searcher) m f × IsHere m there t)))
+GoesBack searcher next (Err e) m =
+    (steps : ℕ) × HaveFailed m (search_in (after_steps_of searcher steps next)).failed
 
--- a search that is to go on by `next` came to its end or to this stand, after some steps
-abbrev pub Advances : Task → Next → Result StepResult AllocError → Memo → Type 0
-Advances task next (Ok (step_result.Found there)) m =
-    (steps : ℕ) × ((f : Search) × ((s : plain.NfaConfig) × ((after_steps_of task steps next ≡ Ends (Some s) f)
-    × IsSearch (leading_of task) m f × IsHere m there s)))
-Advances task next (Ok step_result.Lost) m = GoesBack task next (Ok step_result.Lost) m
-Advances task next (Ok (step_result.Goes there)) m = GoesBack task next (Ok (step_result.Goes there)) m
-Advances task next (Err e) m = GoesBack task next (Err e) m
+-- a search that is to go on by `next` came to its end or to this configuration, after some steps
+abbrev pub Advances : Searcher → Next → Result StepResult AllocError → Memo → Type 0
+Advances searcher next (Ok (step_result.Found there)) m =
+    (steps : ℕ) × ((f : Search) × ((s : plain.NfaConfig) × ((after_steps_of searcher steps next ≡ Ends (Some s) f)
+    × IsSearch (leading_of searcher) m f × IsHere m there s)))
+Advances searcher next (Ok step_result.Lost) m = GoesBack searcher next (Ok step_result.Lost) m
+Advances searcher next (Ok (step_result.Goes there)) m = GoesBack searcher next (Ok (step_result.Goes there)) m
+Advances searcher next (Err e) m = GoesBack searcher next (Err e) m
 
--- the same, but where nothing leads on what is tried later is still to be taken back
-abbrev pub ComesTo : Task → Next → Result StepResult AllocError → Memo → Type 0
-ComesTo task next (Ok (step_result.Found there)) m = Advances task next (Ok (step_result.Found there)) m
-ComesTo task next (Ok step_result.Lost) m =
-    (steps : ℕ) × ((f : Search) × ((after_steps_of task steps next ≡ TakesBack f) × IsSearch (leading_of task) m f))
-ComesTo task next (Ok (step_result.Goes there)) m = GoesBack task next (Ok (step_result.Goes there)) m
-ComesTo task next (Err e) m = GoesBack task next (Err e) m
+-- as `Advances`, but where nothing leads on what is tried later is still to be taken back
+abbrev pub ComesTo : Searcher → Next → Result StepResult AllocError → Memo → Type 0
+ComesTo searcher next (Ok (step_result.Found there)) m = Advances searcher next (Ok (step_result.Found there)) m
+ComesTo searcher next (Ok step_result.Lost) m =
+    (steps : ℕ) × ((f : Search) × ((after_steps_of searcher steps next ≡ TakesBack f) × IsSearch (leading_of searcher) m f))
+ComesTo searcher next (Ok (step_result.Goes there)) m = GoesBack searcher next (Ok (step_result.Goes there)) m
+ComesTo searcher next (Err e) m = GoesBack searcher next (Err e) m
 
 -- a search that is to go on by `next` ended so, after some steps
-abbrev pub EndsAs : Task → Next → Result (Option NfaConfig) AllocError → Memo → Type 0
-EndsAs task next (Ok (Some there)) m =
-    (steps : ℕ) × ((f : Search) × ((t : plain.NfaConfig) × ((after_steps_of task steps next ≡ Ends (Some t) f)
-    × IsSearch (leading_of task) m f × IsHere m there t)))
-EndsAs task next (Ok None) m =
-    (steps : ℕ) × ((f : Search) × ((after_steps_of task steps next ≡ Ends None f) × IsSearch (leading_of task) m f))
-EndsAs task next (Err e) m =
-    (steps : ℕ) × HaveFailed m (search_in (after_steps_of task steps next)).failed
+abbrev pub EndsAs : Searcher → Next → Result (Option NfaConfig) AllocError → Memo → Type 0
+EndsAs searcher next (Ok (Some there)) m =
+    (steps : ℕ) × ((f : Search) × ((t : plain.NfaConfig) × ((after_steps_of searcher steps next ≡ Ends (Some t) f)
+    × IsSearch (leading_of searcher) m f × IsHere m there t)))
+EndsAs searcher next (Ok None) m =
+    (steps : ℕ) × ((f : Search) × ((after_steps_of searcher steps next ≡ Ends None f) × IsSearch (leading_of searcher) m f))
+EndsAs searcher next (Err e) m =
+    (steps : ℕ) × HaveFailed m (search_in (after_steps_of searcher steps next)).failed

@@ -35,7 +35,7 @@ state_of (code.LoopSplit first second) = plain.LoopSplit first second
 state_of (code.Jump to) = plain.Jump to
 state_of code.Join = plain.Join
 state_of code.CounterBegin = plain.CounterBegin
-state_of (code.CounterLoop counters after) = plain.CounterLoop (loop_of counters) after
+state_of (code.CounterLoop bounds after) = plain.CounterLoop (loop_of bounds) after
 
 -- a class is read with this option
 abbrev pub IsReadBy : Bool → CharTest → Type 0

@@ -11,10 +11,10 @@ use Rattle.fancy_nfa.specs.NfaSearch.{Pair}
 use Rattle.fancy_nfa.specs.FirstWays.{AreMemoized, Seen, first_seen}
 use Rattle.fancy_plain.specs.declared.first_way.FirstWay.{FirstWay}
 use Rattle.fancy_plain.specs.declared.first_way.Way.{Way}
-use Rattle.fancy_plain.specs.declared.table.Nfa.{Nfa}
+use Rattle.fancy_plain.specs.declared.nfa.Nfa.{Nfa}
 use Rattle.fancy_plain.specs.declared.search.Memo.{Memo}
 use Rattle.fancy_plain.specs.Views.{state_of}
-use Rattle.fancy_plain.specs.Tables.{IsTableOf}
+use Rattle.fancy_plain.specs.Nfas.{IsNfaOf}
 use Rattle.fancy_plain.specs.Searches.{HaveFailed}
 
 -- a group's number, the start and the end of its span
@@ -43,7 +43,7 @@ IsSeenAs (Some w) (Some way) = (w.end ≡ way.0) × ((g : ℕ) → listed w.span
 -- The answer is the first way of the nodes, wherever the search of the whole pattern began, and no more states are told
 -- as taken up than one of each at each place.
 abbrev pub IsFirstWay : (text : List ℕ) → Nfa → (place : ℕ) → FirstWay → Type 0
-IsFirstWay text f place answer = (a : Analysis) (es : List Tree) → IsTableOf a es f.unicode f →
+IsFirstWay text f place answer = (a : Analysis) (es : List Tree) → IsNfaOf a es f.unicode f →
     ((pos : ℕ) (continued : Bool) →
     IsSeenAs answer.way
     (first_seen (record { text = text; pos = pos; continued = continued; unicode = f.unicode }) es place))
@@ -51,15 +51,15 @@ IsFirstWay text f place answer = (a : Analysis) (es : List Tree) → IsTableOf a
 
 -- the nodes have no way from the place, wherever the search of the whole pattern began
 abbrev pub HasNoWayAt : (text : List ℕ) → Nfa → (place : ℕ) → Type 0
-HasNoWayAt text f place = (a : Analysis) (es : List Tree) → IsTableOf a es f.unicode f →
+HasNoWayAt text f place = (a : Analysis) (es : List Tree) → IsNfaOf a es f.unicode f →
     (pos : ℕ) (continued : Bool) →
     first_seen (record { text = text; pos = pos; continued = continued; unicode = f.unicode }) es place ≡ None
 
--- it is the fragment of some nodes
+-- it is the NFA of some nodes
 abbrev pub IsOfNodes : Nfa → Type 0
-IsOfNodes f = (a : Analysis) × ((es : List Tree) × IsTableOf a es f.unicode f)
+IsOfNodes f = (a : Analysis) × ((es : List Tree) × IsNfaOf a es f.unicode f)
 
--- it knows what searches of this fragment in this text have memoized, and no more
+-- it knows what searches by this NFA in this text have memoized, and no more
 abbrev pub IsMemoOf : (text : List ℕ) → Nfa → Memo → Type 0
 IsMemoOf text f m = (failed : Pair → Bool) ×
     (HaveFailed m failed × AreMemoized text f.unicode (map state_of f.states.items) failed)

@@ -37,18 +37,21 @@ impl CharTest {
         }
     }
 
-    /// The same by one test after the other.
+    /// As `past_ascii`, by one test for each character.
     #[inline(always)]
     fn past_tested(&self, unicode: bool, text: &[u8], from: usize) -> usize
         requires { IsReadBy unicode self.now }
         ensures pass { AllPass (plain.passes [] unicode (test_of self.now)) text.now from result }
         ensures further { from ≤ result }
     {
-        let mut at = from;
-        'run: while at < text.len() && text[at] < 128 && self.takes_ascii(unicode, text[at]) {
-            at += 1;
+        let mut place = from;
+        'run: while place < text.len()
+            && text[place] < 128
+            && self.takes_ascii(unicode, text[place])
+        {
+            place += 1;
         }
-        at
+        place
     }
 }
 
@@ -58,23 +61,23 @@ fn past_others(text: &[u8], from: usize, one: u8, other: u8) -> usize
     ensures pass { AllPass (is_other one other) text.now from result }
     ensures further { from ≤ result }
 {
-    let mut at = from;
-    'parts: while is_block(text, at, one, other) {
-        at += BLOCK;
+    let mut place = from;
+    'parts: while is_block(text, place, one, other) {
+        place += BLOCK;
     }
-    'run: while at < text.len() && is_other(text[at], one, other) {
-        at += 1;
+    'run: while place < text.len() && is_other(text[place], one, other) {
+        place += 1;
     }
-    at
+    place
 }
 
 /// A block of such characters is here.
 #[inline(always)]
-fn is_block(text: &[u8], at: usize, one: u8, other: u8) -> bool
-    ensures pass { IsTrue result → AllPass (is_other one other) text.now at (at + BLOCK) }
-    ensures within { IsTrue result → at + BLOCK ≤ length text.now }
+fn is_block(text: &[u8], place: usize, one: u8, other: u8) -> bool
+    ensures pass { IsTrue result → AllPass (is_other one other) text.now place (place + BLOCK) }
+    ensures within { IsTrue result → place + BLOCK ≤ length text.now }
 {
-    BLOCK <= text.len().saturating_sub(at) && are_others(&text[at..at + BLOCK], one, other)
+    BLOCK <= text.len().saturating_sub(place) && are_others(&text[place..place + BLOCK], one, other)
 }
 
 /// All are characters of ASCII other than these two.
@@ -105,11 +108,11 @@ fn past_same(text: &[u8], from: usize, c: u32) -> usize
     if c >= 128 {
         return from;
     }
-    let mut at = from;
-    'run: while at < text.len() && text[at] as u32 == c {
-        at += 1;
+    let mut place = from;
+    'run: while place < text.len() && text[place] as u32 == c {
+        place += 1;
     }
-    at
+    place
 }
 
 /// Past characters of ASCII that are in the class, if it is none of newlines.
@@ -121,9 +124,9 @@ fn past_members(class: &CharClassMatcher, text: &[u8], from: usize) -> usize
     if let CharClassMatcher::Newline { .. } = class {
         return from;
     }
-    let mut at = from;
-    'run: while at < text.len() && text[at] < 128 && class.takes_ascii(text[at]) {
-        at += 1;
+    let mut place = from;
+    'run: while place < text.len() && text[place] < 128 && class.takes_ascii(text[place]) {
+        place += 1;
     }
-    at
+    place
 }

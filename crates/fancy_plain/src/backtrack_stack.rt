@@ -1,9 +1,9 @@
-//! BacktrackStack on the path of a search. The last one is taken back first.
+//! The backtrack stack of a search: the choices on its path, of which the last one is taken back first.
 
 use crate::trail::NfaConfig;
 use std::alloc::{AllocError, Global};
 
-/// A choice on the path: where it stands, how long the path is, and whether its other way on is still untried.
+/// A choice on the path: its configuration, how long the path is, and whether its other way on is still untried.
 #[derive(Clone, Copy)]
 pub(crate) struct StackFrame {
     pub(crate) config: NfaConfig,
@@ -29,7 +29,7 @@ impl StackFrame {
     ghost use Rattle.std.specs.Prelude.{◌≡◌};
     ghost use Rattle.fancy_plain.specs.BacktrackStack.{one_before};
 
-    /// The same one byte before.
+    /// This choice one byte before.
     fn one_before(self) -> StackFrame
         ensures { result ≡ one_before self }
     {
@@ -76,7 +76,7 @@ impl BacktrackStack {
         Ok(())
     }
 
-    /// The same, behind all runs.
+    /// As `push`, where no room is left from before.
     #[cold]
     #[inline(never)]
     fn push_and_grow(&mut self, run: Run) -> Result<(), AllocError>

@@ -4,12 +4,12 @@ ghost use Rattle.std.specs.Prelude.{◌≡◌, ◌≤◌, ◌+◌, ◌-◌, fals
 ghost use Rattle.fancy_plain.specs.declared.nfa_state.NfaState.TheVariants as nfa_state;
 ghost use Rattle.fancy_plain.specs.CountedWays.{ComesPast, PassesMost, PassesSome};
 ghost use Rattle.fancy_plain.specs.Runs.{IsBody};
-ghost use Rattle.fancy_plain.specs.Searches.{IsTask};
-ghost use Rattle.fancy_plain.specs.OnePass.{stand_at};
+ghost use Rattle.fancy_plain.specs.Searches.{IsSearcher};
+ghost use Rattle.fancy_plain.specs.OnePass.{config_at};
 ghost use Rattle.fancy_plain.specs.Views.{IsReadBy};
 
 use crate::nfa_state::{CharTest, Loop, NfaState};
-use crate::search::Task;
+use crate::search::Searcher;
 use std::alloc::{AllocError, Global};
 
 /// What a loop comes to.
@@ -27,15 +27,15 @@ pub(crate) enum Passed {
     Unknown,
 }
 
-impl Task<'_> {
+impl Searcher<'_> {
     /// The test of the loop that counts with this head, where it is over one character, goes on first, and asks no
     /// iteration whether it moves.
-    pub(crate) fn counted_test(&self, head: usize, counters: Loop) -> Option<&CharTest>
+    pub(crate) fn counted_test(&self, head: usize, bounds: Loop) -> Option<&CharTest>
         ensures body { IfSome result (λ test. IsBody self.now.states.now head (head + 1) test.now) }
-        ensures greedy { IfSome result (λ _. counters.greedy ≡ true) }
-        ensures asks { IfSome result (λ _. counters.asks_moved ≡ false) }
+        ensures greedy { IfSome result (λ _. bounds.greedy ≡ true) }
+        ensures asks { IfSome result (λ _. bounds.asks_moved ≡ false) }
     {
-        if !counters.greedy || counters.asks_moved {
+        if !bounds.greedy || bounds.asks_moved {
             return None;
         }
         self.body_at(head.checked_add(1)?, head)
@@ -49,15 +49,15 @@ impl Task<'_> {
         enter: usize,
         place: usize,
     ) -> Result<Passed, AllocError>
-        requires task { IsTask self.now }
+        requires searcher { IsSearcher self.now }
         requires at { slice_get self.now.states.now enter ≡ Some nfa_state.CounterBegin }
-        ensures { IfOk result (ComesPast self.now (stand_at enter place)) }
+        ensures { IfOk result (ComesPast self.now (config_at enter place)) }
     {
-        let task = Task { ..*self };
-        task.past_counter_begin(alloc, enter, place)
+        let searcher = Searcher { ..*self };
+        searcher.past_counter_begin(alloc, enter, place)
     }
 
-    /// The same out of line.
+    /// As `past_counted`, out of line.
     #[inline(never)]
     fn past_counter_begin(
         &self,
@@ -65,26 +65,26 @@ impl Task<'_> {
         enter: usize,
         place: usize,
     ) -> Result<Passed, AllocError>
-        requires task { IsTask self.now }
+        requires searcher { IsSearcher self.now }
         requires at { slice_get self.now.states.now enter ≡ Some nfa_state.CounterBegin }
-        ensures { IfOk result (ComesPast self.now (stand_at enter place)) }
+        ensures { IfOk result (ComesPast self.now (config_at enter place)) }
     {
         let head = enter + 1;
-        let Some(NfaState::CounterLoop { counters, after }) = self.states.get(head) else {
+        let Some(NfaState::CounterLoop { bounds, after }) = self.states.get(head) else {
             return Ok(Passed::Unknown);
         };
-        let Some(test) = self.counted_test(head, *counters) else {
+        let Some(test) = self.counted_test(head, *bounds) else {
             return Ok(Passed::Unknown);
         };
-        let (end, left) = self.past_at_most(alloc, test, place, counters.hi)?;
-        let count = counters.hi - left;
-        if left > 0 && count < counters.lo {
+        let (end, left) = self.past_at_most(alloc, test, place, bounds.hi)?;
+        let count = bounds.hi - left;
+        if left > 0 && count < bounds.lo {
             return Ok(Passed::Fails);
         }
         Ok(Passed::On {
             at: *after,
             place: end,
-            is_sure: count <= counters.lo,
+            is_sure: count <= bounds.lo,
         })
     }
 
@@ -132,7 +132,7 @@ impl Task<'_> {
         }
     }
 
-    /// The same, where it helps to know which test it is.
+    /// As `past_ascii_within`. It is inlined for `Any` apart, since that is faster where the kind of test is known.
     #[inline(always)]
     fn past_ascii_by(&self, test: &CharTest, from: usize, most: usize) -> usize
         requires { IsReadBy self.now.unicode test.now }

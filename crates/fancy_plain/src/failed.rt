@@ -49,7 +49,7 @@ impl Failed {
         }
     }
 
-    /// Nothing was memoized.
+    /// No pair was added.
     #[inline(always)]
     pub(crate) fn is_empty(&self) -> bool
         ensures { IsTrue result → (k : List ℕ) → has_pair self.now k ≡ false }
@@ -67,7 +67,7 @@ impl Failed {
         }
     }
 
-    /// The same of a pair outside all loops that count.
+    /// Whether this pair, which is outside all loops that count, is among them.
     #[inline(always)]
     pub(crate) fn has_outside(&self, at: usize, place: usize) -> bool
         ensures { result ≡ has_pair self.now (at ∷ place ∷ []) }

@@ -47,36 +47,36 @@ pub(crate) fn first_sets(
 pub(crate) fn may_begin(levels: &[[bool; 128]], text: &[u8], ix: usize) -> bool
     ensures { result ≡ may_begin levels.now text.now ix }
 {
-    let mut at = ix;
+    let mut place = ix;
     'levels: for level in levels {
-        if at >= text.len() {
+        if place >= text.len() {
             return false;
         }
-        let byte = text[at];
+        let byte = text[place];
         if byte >= 128 {
             return true;
         }
         if !level[byte as usize] {
             return false;
         }
-        at += 1;
+        place += 1;
     }
     true
 }
 
-// ---- what a search may come to before it takes a character, or the next one: for each state its counter, which is one
+// ---- What a search may come to before it takes a character, or the next one: for each state its counter, which is one
 // more than how many iterations were begun of the loop around that counts. It is 0 at a state that the search does not
 // come to.
 
 impl Loop {
-    /// No further iteration may be begun in this counter.
+    /// No further iteration may be begun with this counter.
     fn is_over_in(self, counter: u8) -> bool
         ensures { result ≡ is_over (loop_of self) counter }
     {
         counter < ANY_COUNTER && counter as usize > self.hi
     }
 
-    /// A further one has to be begun in this counter, unless none may.
+    /// A further one has to be begun with this counter, unless none may.
     fn is_short_in(self, counter: u8) -> bool
         ensures { result ≡ is_short (loop_of self) counter }
     {
@@ -93,7 +93,7 @@ fn counter_at(reached: &[u8], at: usize) -> u8
     }
 }
 
-/// Whether the search may come to the state in this counter.
+/// Whether the search may come to the state with this counter.
 fn covers(reached: &[u8], at: usize, counter: u8) -> bool
     ensures { result ≡ covers reached.now at counter }
 {
@@ -129,7 +129,7 @@ fn follow(states: &[NfaState], reached: &mut [u8]) {
         let mut has_led_back = false;
         for at in 0..states.len() {
             let counter = counter_at(reached, at);
-            if counter > 0 && step_result(&states[at], at, counter, reached) {
+            if counter > 0 && add_next(&states[at], at, counter, reached) {
                 has_led_back = true;
             }
         }
@@ -140,45 +140,40 @@ fn follow(states: &[NfaState], reached: &mut [u8]) {
 }
 
 /// Adds what the state at `at` leads to, and answers whether that was news of a state that was gone through.
-fn step_result(nfa_state: &NfaState, at: usize, counter: u8, reached: &mut [u8]) -> bool
+fn add_next(nfa_state: &NfaState, at: usize, counter: u8, reached: &mut [u8]) -> bool
     requires { at < usize.MAX }
 {
     match nfa_state {
         NfaState::Match | NfaState::Character(_) => false,
-        NfaState::Jump(to) => step_to(reached, at, *to, counter),
-        NfaState::Split(first, second) => step_to_both(reached, at, (*first, *second), counter),
-        NfaState::BranchSplit(first, second) => step_to_both(
-            reached,
-            at,
-            (*first, *second),
-            counter,
-        ),
-        NfaState::LoopSplit(first, second) => step_to_both(reached, at, (*first, *second), counter),
-        NfaState::CounterBegin => step_to(reached, at, at + 1, 1),
-        NfaState::CounterLoop { counters, after } => {
-            if counters.is_over_in(counter) {
-                step_to(reached, at, *after, ANY_COUNTER)
-            } else if counters.is_short_in(counter) {
-                step_to(reached, at, at + 1, counter.saturating_add(1))
+        NfaState::Jump(to) => add_step(reached, at, *to, counter),
+        NfaState::Split(first, second) => add_both(reached, at, (*first, *second), counter),
+        NfaState::BranchSplit(first, second) => add_both(reached, at, (*first, *second), counter),
+        NfaState::LoopSplit(first, second) => add_both(reached, at, (*first, *second), counter),
+        NfaState::CounterBegin => add_step(reached, at, at + 1, 1),
+        NfaState::CounterLoop { bounds, after } => {
+            if bounds.is_over_in(counter) {
+                add_step(reached, at, *after, ANY_COUNTER)
+            } else if bounds.is_short_in(counter) {
+                add_step(reached, at, at + 1, counter.saturating_add(1))
             } else {
-                step_to_both(reached, at, (at + 1, *after), ANY_COUNTER)
+                add_both(reached, at, (at + 1, *after), ANY_COUNTER)
             }
         }
-        _ => step_to(reached, at, at + 1, counter),
+        _ => add_step(reached, at, at + 1, counter),
     }
 }
 
-fn step_to(reached: &mut [u8], at: usize, to: usize, counter: u8) -> bool {
+fn add_step(reached: &mut [u8], at: usize, to: usize, counter: u8) -> bool {
     add(reached, to, counter) && to <= at
 }
 
-fn step_to_both(reached: &mut [u8], at: usize, to: (usize, usize), counter: u8) -> bool {
-    let first = step_to(reached, at, to.0, counter);
-    let second = step_to(reached, at, to.1, counter);
+fn add_both(reached: &mut [u8], at: usize, to: (usize, usize), counter: u8) -> bool {
+    let first = add_step(reached, at, to.0, counter);
+    let second = add_step(reached, at, to.1, counter);
     first || second
 }
 
-/// Adds the state in this counter, and answers whether that was news. In two counters it is in any.
+/// Adds the state with this counter, and answers whether that was news. A state with two counters may have any.
 fn add(reached: &mut [u8], at: usize, counter: u8) -> bool {
     if at >= reached.len() || counter == 0 || covers(reached, at, counter) {
         return false;
@@ -207,10 +202,10 @@ fn steps_on(nfa_state: &NfaState, at: usize, reached: &[u8], after: &[u8]) -> bo
         NfaState::BranchSplit(first, second) => covers_both(reached, *first, *second, counter),
         NfaState::LoopSplit(first, second) => covers_both(reached, *first, *second, counter),
         NfaState::CounterBegin => covers(reached, at + 1, 1),
-        NfaState::CounterLoop { counters, after } => {
-            if counters.is_over_in(counter) {
+        NfaState::CounterLoop { bounds, after } => {
+            if bounds.is_over_in(counter) {
                 covers(reached, *after, ANY_COUNTER)
-            } else if counters.is_short_in(counter) {
+            } else if bounds.is_short_in(counter) {
                 covers(reached, at + 1, counter + 1)
             } else {
                 covers_both(reached, at + 1, *after, ANY_COUNTER)

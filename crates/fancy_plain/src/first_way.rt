@@ -1,4 +1,4 @@
-//! The first way by a table from a place.
+//! The first way of the nodes of an NFA from a place.
 
 ghost use Rattle.std.specs.Prelude.{◌≡◌, [], ℕ, IfOk, IfErr, IsTrue};
 ghost use Rattle.fancy_meaning.specs.Places.{is_place};
@@ -7,14 +7,14 @@ ghost use Rattle.fancy_plain.specs.Paths.{closed_after};
 ghost use Rattle.fancy_plain.specs.Searches.{IsMemory};
 ghost use Rattle.fancy_plain.specs.Ways.{listed, Ascends, HasAscending, IsFirstWay, IsMemoOf, IsOfNodes};
 
-use crate::search::{Memo, Task};
-use crate::table::Nfa;
+use crate::nfa::Nfa;
+use crate::search::{Memo, Searcher};
 use crate::trail::{Entry, NfaConfig};
 use fancy_expr::error::Error;
 use std::alloc::{AllocError, Global};
 use std::collections::BTreeMap;
 
-/// A way of a table's nodes.
+/// A way of an NFA's nodes.
 #[derive(Debug, Drop)]
 pub struct Way {
     /// The place where it ends, in bytes.
@@ -31,63 +31,63 @@ pub struct FirstWay {
     pub visits: u64,
 }
 
-/// The first way of the table's nodes from `ix`, a character boundary of the text. `Memory` where a request for memory was
+/// The first way of the NFA's nodes from `ix`, a character boundary of the text. `Memory` where a request for memory was
 /// refused, and after 2^64 - 1 steps, more than any machine takes.
-pub fn first_way(alloc: Global, table: &Nfa, text: &str, ix: usize) -> Result<FirstWay, Error>
+pub fn first_way(alloc: Global, nfa: &Nfa, text: &str, ix: usize) -> Result<FirstWay, Error>
     requires place { IsTrue (is_place text.now ix) }
-    requires table { ∥ IsOfNodes table.now ∥₁ }
-    ensures first { IfOk result (IsFirstWay text.now table.now ix) }
+    requires nodes { ∥ IsOfNodes nfa.now ∥₁ }
+    ensures first { IfOk result (IsFirstWay text.now nfa.now ix) }
     ensures ascends { IfOk result HasAscending }
     ensures refused { IfErr result IsMemory }
 {
-    let mut memo = Memo::new(alloc, table, ix);
-    first_way_with(alloc, table, text, ix, &mut memo)
+    let mut memo = Memo::new(alloc, nfa, ix);
+    first_way_with(alloc, nfa, text, ix, &mut memo)
 }
 
-/// The same, with what earlier searches by this table in this text have memoized.
+/// As `first_way`, with what earlier searches by this NFA in this text have memoized.
 pub fn first_way_with(
     alloc: Global,
-    table: &Nfa,
+    nfa: &Nfa,
     text: &str,
     ix: usize,
     memo: &mut Memo,
 ) -> Result<FirstWay, Error>
     requires place { IsTrue (is_place text.now ix) }
-    requires table { ∥ IsOfNodes table.now ∥₁ }
-    requires memo { IsMemoOf text.now table.now memo.old }
-    ensures first { IfOk result (IsFirstWay text.now table.now ix) }
+    requires nodes { ∥ IsOfNodes nfa.now ∥₁ }
+    requires memo { IsMemoOf text.now nfa.now memo.old }
+    ensures first { IfOk result (IsFirstWay text.now nfa.now ix) }
     ensures ascends { IfOk result HasAscending }
-    ensures memo { IsMemoOf text.now table.now memo.new }
+    ensures memo { IsMemoOf text.now nfa.now memo.new }
     ensures refused { IfErr result IsMemory }
 {
-    if !table.can_begin(text, ix) {
+    if !nfa.can_begin(text, ix) {
         return Ok(FirstWay {
             way: None,
             visits: 0,
         });
     }
-    first_way_from(alloc, table, text, ix, memo)
+    first_way_from(alloc, nfa, text, ix, memo)
 }
 
-/// The same where it was asked whether a way can begin there.
+/// As `first_way_with`, for a caller who has asked whether a way can begin there.
 pub fn first_way_from(
     alloc: Global,
-    table: &Nfa,
+    nfa: &Nfa,
     text: &str,
     ix: usize,
     memo: &mut Memo,
 ) -> Result<FirstWay, Error>
     requires place { IsTrue (is_place text.now ix) }
-    requires table { ∥ IsOfNodes table.now ∥₁ }
-    requires memo { IsMemoOf text.now table.now memo.old }
-    ensures first { IfOk result (IsFirstWay text.now table.now ix) }
+    requires nodes { ∥ IsOfNodes nfa.now ∥₁ }
+    requires memo { IsMemoOf text.now nfa.now memo.old }
+    ensures first { IfOk result (IsFirstWay text.now nfa.now ix) }
     ensures ascends { IfOk result HasAscending }
-    ensures memo { IsMemoOf text.now table.now memo.new }
+    ensures memo { IsMemoOf text.now nfa.now memo.new }
     ensures refused { IfErr result IsMemory }
 {
-    let task = Task {
-        states: &table.states,
-        unicode: table.unicode,
+    let searcher = Searcher {
+        states: &nfa.states,
+        unicode: nfa.unicode,
         text,
     };
     let start = NfaConfig {
@@ -97,7 +97,7 @@ pub fn first_way_from(
         opened: 0,
     };
     memo.start();
-    let found = task.find(memo, start)?;
+    let found = searcher.find(memo, start)?;
     let visits = memo.visits();
     let way = match found {
         Some(config) => Some(Way {
@@ -129,7 +129,7 @@ fn spans(alloc: Global, entries: &[Entry]) -> Result<Vec<(usize, usize, usize)>,
     Ok(spans)
 }
 
-/// The same, whatever the order in which they were closed.
+/// As `spans`, whatever the order in which the groups were closed.
 #[inline(never)]
 fn spans_by_map(alloc: Global, entries: &[Entry]) -> Result<Vec<(usize, usize, usize)>, AllocError>
     ensures listed { IfOk result (λ spans. (g : ℕ) → listed spans.items g

@@ -19,7 +19,7 @@ use fancy_expr::text::first_char;
 use fancy_info::info::Info;
 use std::alloc::Global;
 
-/// NfaStates in the making.
+/// States in the making.
 #[derive(Drop)]
 pub(crate) struct Layout {
     pub(crate) alloc: Global,
@@ -344,9 +344,9 @@ impl Layout {
     }
 
     #[cycle(lay)]
-    fn lay_counted(&mut self, counters: Loop, body: &Info) -> Result<(), Error>
+    fn lay_counted(&mut self, bounds: Loop, body: &Info) -> Result<(), Error>
         requires { IsEasyNode body.now }
-        ensures { LaysOver (counted (loop_of counters)) body.now self.old self.new result }
+        ensures { LaysOver (counted (loop_of bounds)) body.now self.old self.new result }
     {
         self.push(NfaState::CounterBegin)?;
         let here = self.states.len();
@@ -354,7 +354,7 @@ impl Layout {
         self.lay(body)?;
         self.push(NfaState::Jump(here))?;
         let after = self.states.len();
-        self.patch(here, NfaState::CounterLoop { counters, after });
+        self.patch(here, NfaState::CounterLoop { bounds, after });
         self.push(NfaState::Join)
     }
 }

@@ -1,4 +1,4 @@
-//! Easy fragments: neighbouring nodes that are searched plainly, by states, and their first way.
+//! Easy fragments as NFAs: neighbouring nodes laid out as states, and the search for their first way.
 #![tactic(auto)]
 
 mod ascii_runs;
@@ -8,12 +8,12 @@ mod failed;
 mod first_sets;
 pub mod first_way;
 mod layout;
+pub mod nfa;
 mod nfa_state;
 pub mod one_pass;
 mod pair_bits;
 pub mod required_bytes;
 mod runs;
 pub mod search;
-pub mod table;
 mod test_runs;
 mod trail;

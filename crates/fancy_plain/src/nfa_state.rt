@@ -1,4 +1,4 @@
-//! The states of a plain search, and the test on one character.
+//! The states of an NFA, and the test on one character.
 
 ghost use Rattle.std.specs.Prelude.{◌≡◌, ◌≤◌, ◌<◌, [], length, slice_get, IfOk, IfSome};
 ghost use Rattle.fancy_meaning.specs.Chars as chars;
@@ -49,9 +49,9 @@ pub(crate) enum NfaState {
     Close(usize),
     /// Before an alternation, or a body that may be left out: on at the first, and else at the second.
     Split(usize, usize),
-    /// The same before a further branch.
+    /// As `Split`, before a further branch.
     BranchSplit(usize, usize),
-    /// The same at the head of a loop that does not count.
+    /// As `Split`, at the head of a loop that does not count.
     LoopSplit(usize, usize),
     Jump(usize),
     /// Where several ways on meet.
@@ -59,7 +59,7 @@ pub(crate) enum NfaState {
     /// A loop that counts begins.
     CounterBegin,
     /// Before each of its iterations, which begin at the next state; `after` is behind the loop.
-    CounterLoop { counters: Loop, after: usize },
+    CounterLoop { bounds: Loop, after: usize },
 }
 
 impl CharTest {
@@ -110,7 +110,7 @@ impl CharTest {
         }
     }
 
-    /// The same, whatever character stands there.
+    /// As `past`, whatever character stands there.
     #[inline(never)]
     fn past_other(
         &self,

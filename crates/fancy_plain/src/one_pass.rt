@@ -1,22 +1,22 @@
-//! Ways that need no choice: each test passes where it stands, and each loop takes what it can.
+//! One-pass matches, which need no choice: each test passes where it stands, and each loop takes what it can.
 
 ghost use Rattle.std.specs.Prelude.{◌≡◌, ◌≤◌, ◌&&◌, if◌then◌else◌, ℕ, IfOk, IfSome, IsTrue, None, true};
 ghost use Rattle.fancy_meaning.specs.Places.{is_place};
-ghost use Rattle.fancy_plain.specs.declared.search.Task as tasks;
+ghost use Rattle.fancy_plain.specs.declared.search.Searcher as searcher_view;
 ghost use Rattle.fancy_plain.specs.Runs.{FailsFrom};
-ghost use Rattle.fancy_plain.specs.Searches.{IsTask};
-ghost use Rattle.fancy_plain.specs.OnePass.{EndsOnePass, Finds, IsOnePass, RunsOn, RunsPast, Walks, stand_at};
+ghost use Rattle.fancy_plain.specs.Searches.{IsSearcher};
+ghost use Rattle.fancy_plain.specs.OnePass.{EndsOnePass, Finds, IsOnePass, RunsOn, RunsPast, Walks, config_at};
 ghost use Rattle.fancy_plain.specs.Views.{IsReadBy};
 ghost use Rattle.fancy_plain.specs.Ways.{IsOfNodes};
 
 use crate::counted_ways::Passed;
+use crate::nfa::Nfa;
 use crate::nfa_state::{CharTest, Loop, NfaState};
-use crate::search::Task;
-use crate::table::Nfa;
+use crate::search::Searcher;
 use fancy_characters::look::holds;
 use std::alloc::{AllocError, Global};
 
-/// What is known of a first way without a choice.
+/// What one pass tells of the first way.
 #[derive(Clone, Copy, Debug)]
 pub enum OnePass {
     /// It ends here, in bytes, and sets no group.
@@ -27,42 +27,37 @@ pub enum OnePass {
     Unknown,
 }
 
-/// The first way of the table's nodes from `ix`, a character boundary of the text, as far as no choice is needed for it.
-/// An error is a request for memory that was refused.
-pub fn one_pass_end(
-    alloc: Global,
-    table: &Nfa,
-    text: &str,
-    ix: usize,
-) -> Result<OnePass, AllocError>
-    requires place { IsTrue (is_place text.now ix) }
-    requires table { ∥ IsOfNodes table.now ∥₁ }
-    ensures { IfOk result (IsOnePass text.now table.now ix) }
-{
-    if !table.is_one_pass {
-        return Ok(OnePass::Unknown);
+impl Nfa {
+    /// The first way of its nodes from `ix`, a character boundary of the text, as far as no choice is needed for it. An error
+    /// is a request for memory that was refused.
+    pub fn one_pass_end(&self, alloc: Global, text: &str, ix: usize) -> Result<OnePass, AllocError>
+        requires place { IsTrue (is_place text.now ix) }
+        requires nodes { ∥ IsOfNodes self.now ∥₁ }
+        ensures { IfOk result (IsOnePass text.now self.now ix) }
+    {
+        if !self.is_one_pass {
+            return Ok(OnePass::Unknown);
+        }
+        let searcher = Searcher {
+            states: &self.states,
+            unicode: self.unicode,
+            text,
+        };
+        searcher.walk(alloc, ix)
     }
-    let task = Task {
-        states: &table.states,
-        unicode: table.unicode,
-        text,
-    };
-    task.walk(alloc, ix)
 }
 
-impl Task<'_> {
+impl Searcher<'_> {
     /// Ways seem to need no choice that is taken back: there are no groups, loops that count are over one character,
     /// and what may be tried at one place begins with other characters each.
     pub(crate) fn is_one_pass(&self) -> bool
-        requires { IsTask self.now }
+        requires { IsSearcher self.now }
     {
         'states: for at in 0..self.states.len() {
             let is_one_pass = match self.states.get(at) {
                 Some(NfaState::LoopSplit(first, second)) => self.are_apart(*first, *second),
                 Some(NfaState::Split(first, second)) => self.are_apart(*first, *second),
-                Some(NfaState::CounterLoop { counters, after }) => self.is_alone(
-                    at, *counters, *after,
-                ),
+                Some(NfaState::CounterLoop { bounds, after }) => self.is_alone(at, *bounds, *after),
                 Some(NfaState::Open | NfaState::Close(_)) => false,
                 _ => true,
             };
@@ -75,14 +70,14 @@ impl Task<'_> {
 
     /// The loop that counts with this head is over one character, and it takes so many and no more, or what comes
     /// behind it begins with others.
-    fn is_alone(&self, head: usize, counters: Loop, after: usize) -> bool
-        requires { IsTask self.now }
+    fn is_alone(&self, head: usize, bounds: Loop, after: usize) -> bool
+        requires { IsSearcher self.now }
     {
-        self.counted_test(head, counters).is_some()
-            && (counters.lo == counters.hi || self.are_apart(head + 1, self.behind_joins(after)))
+        self.counted_test(head, bounds).is_some()
+            && (bounds.lo == bounds.hi || self.are_apart(head + 1, self.behind_joins(after)))
     }
 
-    /// Behind the ends and the heads of loops that stand there, on into the last of these.
+    /// Behind the ends and the heads of loops from this state on, on into the last of these.
     fn behind_joins(&self, at: usize) -> usize {
         let mut next = at;
         'joins: while let Some(
@@ -96,7 +91,7 @@ impl Task<'_> {
 
     /// No character of ASCII passes the tests at two of these states and of the branches behind the second one.
     fn are_apart(&self, first: usize, second: usize) -> bool
-        requires { IsTask self.now }
+        requires { IsSearcher self.now }
     {
         if matches!(self.states.get(second), Some(NfaState::Match)) {
             return true;
@@ -118,9 +113,9 @@ impl Task<'_> {
         false
     }
 
-    /// None of these characters passes the test that stands there, if one does, and those that pass are added.
+    /// None of these characters passes the test at this state, if there is one; those that pass it are added.
     fn are_others(&self, at: usize, taken: &mut [bool; 128]) -> bool
-        requires { IsTask self.now }
+        requires { IsSearcher self.now }
     {
         let Some(test) = self.test_at(at) else {
             return true;
@@ -136,9 +131,9 @@ impl Task<'_> {
         true
     }
 
-    /// The test that stands there, perhaps behind a jump.
+    /// The test at this state, perhaps behind a jump.
     fn test_at(&self, at: usize) -> Option<&CharTest>
-        requires { IsTask self.now }
+        requires { IsSearcher self.now }
         ensures { IfSome result (λ test. IsReadBy self.now.unicode test.now) }
     {
         match self.states.get(self.behind_jump(at)) {
@@ -149,7 +144,7 @@ impl Task<'_> {
 
     /// From state to state. What is tried first is left only where it fails at its first test.
     fn walk(&self, alloc: Global, ix: usize) -> Result<OnePass, AllocError>
-        requires { IsTask self.now }
+        requires { IsSearcher self.now }
         ensures { IfOk result (EndsOnePass self.now ix) }
     {
         let mut at = 0;
@@ -225,7 +220,7 @@ impl Task<'_> {
     /// From this state on a test comes first, or one for each of several branches, and the character there passes none.
     #[inline(always)]
     fn fails_from(&self, from: usize, place: usize) -> bool
-        requires { IsTask self.now }
+        requires { IsSearcher self.now }
         ensures { IsTrue result → FailsFrom self.now from place }
     {
         let mut at = from;
@@ -251,20 +246,20 @@ impl Task<'_> {
         false
     }
 
-    /// A test stands there, perhaps behind a jump, that no character there passes.
+    /// A test is at this state, perhaps behind a jump, and the character at the place does not pass it.
     #[inline(always)]
     fn fails_behind_jump(&self, at: usize, place: usize) -> bool
-        requires { IsTask self.now }
+        requires { IsSearcher self.now }
         ensures { IsTrue result → FailsFrom self.now at place }
     {
         self.fails_at(self.behind_jump(at), place)
     }
 
-    /// Where the jump that stands there leads, or else there.
+    /// Where the jump at this state leads, or else this state.
     #[inline(always)]
     fn behind_jump(&self, at: usize) -> usize
         ensures walks { (place : ℕ)
-            → Walks self.now true (stand_at at place) (stand_at result place) }
+            → Walks self.now true (config_at at place) (config_at result place) }
         ensures fails { (place : ℕ)
             → FailsFrom self.now result place → FailsFrom self.now at place }
     {
@@ -300,8 +295,8 @@ impl Task<'_> {
 
 /// What a test that fails says, where no loop was passed before, or else where one was.
 fn without_a_way(is_sure: bool) -> OnePass
-    ensures { (task : tasks.Task) (place : ℕ) → (IsTrue is_sure → Finds task place None)
-        → EndsOnePass task place result }
+    ensures { (searcher : searcher_view.Searcher) (place : ℕ) → (IsTrue is_sure → Finds searcher place None)
+        → EndsOnePass searcher place result }
 {
     if is_sure {
         OnePass::Fails

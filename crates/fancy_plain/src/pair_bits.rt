@@ -13,7 +13,7 @@ const MOST: usize = 256;
 pub(crate) struct PairBits {
     /// How many bits a place has; none where the states are many.
     width: u16,
-    /// NfaStates below this one have bits,
+    /// States below this one have bits,
     states: u16,
     /// inside iterations before which fewer were begun than this,
     counts: u8,
@@ -58,9 +58,9 @@ impl Loops {
                     depth = depth.saturating_add(1);
                     loops.depth = loops.depth.max(depth);
                 }
-                NfaState::CounterLoop { counters, .. } => {
-                    loops.counts = loops.counts.max(counters.counts());
-                    if counters.asks_moved {
+                NfaState::CounterLoop { bounds, .. } => {
+                    loops.counts = loops.counts.max(bounds.counts());
+                    if bounds.asks_moved {
                         loops.stays = 2;
                     }
                 }

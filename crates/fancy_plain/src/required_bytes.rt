@@ -1,4 +1,4 @@
-//! A character that every way takes: where none such stands from a place on, no way begins there or behind it.
+//! Required bytes, of which every way takes one: where none of them stands from a place on, no way begins there or behind it.
 
 ghost use Rattle.std.specs.Prelude.{◌≡◌, ◌≤◌, ◌<◌, ℕ, [], true, false, length, map, slice_get, slice_index_or, Some, IfSome, IsTrue};
 ghost use Rattle.fancy_meaning.specs.Places.{is_place};
@@ -8,19 +8,21 @@ ghost use Rattle.fancy_plain.specs.declared.nfa_state.NfaState.TheVariants as nf
 ghost use Rattle.fancy_plain.specs.Views.{state_of, test_of, IsStateReadBy, IsReadBy};
 ghost use Rattle.fancy_plain.specs.Ways.{HasNoWayAt};
 
+use crate::nfa::Nfa;
 use crate::nfa_state::{CharTest, NfaState};
-use crate::table::Nfa;
 
-/// Whether the text from `from` on, in bytes, has none of the bytes of which every way takes one: then no way begins
-/// there or behind it. Where no such bytes are known it is false.
-pub fn lacks_required(table: &Nfa, text: &str, from: usize) -> bool
-    ensures told { result ≡ lacks_any table.now.required_bytes text.now from }
-    ensures none { IsTrue result → (place : ℕ) → from ≤ place → IsTrue (is_place text.now place)
-        → HasNoWayAt text.now table.now place }
-{
-    match &table.required_bytes {
-        None => false,
-        Some(bytes) => lacks(bytes, text.as_bytes(), from),
+impl Nfa {
+    /// Whether the text from `from` on, in bytes, has none of the bytes of which every way takes one: then no way begins
+    /// there or behind it. Where no such bytes are known it is false.
+    pub fn lacks_required(&self, text: &str, from: usize) -> bool
+        ensures told { result ≡ lacks_any self.now.required_bytes text.now from }
+        ensures none { IsTrue result → (place : ℕ) → from ≤ place
+            → IsTrue (is_place text.now place) → HasNoWayAt text.now self.now place }
+    {
+        match &self.required_bytes {
+            None => false,
+            Some(bytes) => lacks(bytes, text.as_bytes(), from),
+        }
     }
 }
 
@@ -28,8 +30,8 @@ pub fn lacks_required(table: &Nfa, text: &str, from: usize) -> bool
 fn lacks(bytes: &[bool; 256], text: &[u8], from: usize) -> bool
     ensures { result ≡ lacks bytes.now text.now from }
 {
-    'bytes: for at in from..text.len() {
-        if bytes[text[at] as usize] {
+    'bytes: for place in from..text.len() {
+        if bytes[text[place] as usize] {
             return false;
         }
     }
@@ -131,7 +133,7 @@ fn further(a: usize, b: usize) -> usize
 fn repeats(nfa_state: &NfaState) -> bool {
     match nfa_state {
         NfaState::LoopSplit(_, _) => true,
-        NfaState::CounterLoop { counters, .. } => counters.hi == usize::MAX,
+        NfaState::CounterLoop { bounds, .. } => bounds.hi == usize::MAX,
         _ => false,
     }
 }

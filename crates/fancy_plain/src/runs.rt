@@ -5,18 +5,18 @@ ghost use Rattle.fancy_nfa.specs.NfaSearch as plain;
 ghost use Rattle.fancy_nfa.specs.NfaSearch.{Search, TakesUp};
 ghost use Rattle.fancy_plain.specs.Views.{IsReadBy};
 ghost use Rattle.fancy_plain.specs.Runs.{FailsFrom, GoesOn, IsBody, IsLostAt, IsRun, Refuses, RunsOver};
-ghost use Rattle.fancy_plain.specs.Searches.{HaveFailed, IsHere, IsSearch, IsTask, leading_of};
+ghost use Rattle.fancy_plain.specs.Searches.{HaveFailed, IsHere, IsSearch, IsSearcher, leading_of};
 
 use crate::nfa_state::{CharTest, NfaState, byte_at};
-use crate::search::{Memo, StepResult, Task};
+use crate::search::{Memo, Searcher, StepResult};
 use crate::trail::NfaConfig;
 use std::alloc::AllocError;
 
-impl Task<'_> {
+impl Searcher<'_> {
     /// At the head of a loop over one character, past the characters that pass, and out of the loop where one fails.
     #[inline(always)]
     pub(crate) fn past_loop(&self, m: &mut Memo, config: NfaConfig) -> Result<NfaConfig, AllocError>
-        requires { IsTask self.now }
+        requires { IsSearcher self.now }
         ensures ok { IfOk result (λ on. (s : plain.NfaConfig) (f : Search)
             → IsSearch (leading_of self.now) m.old f → IsHere m.old config s
             → GoesOn self.now (TakesUp s f) m.new on) }
@@ -67,7 +67,7 @@ impl Task<'_> {
         test: &CharTest,
         config: NfaConfig,
     ) -> Result<NfaConfig, AllocError>
-        requires task { IsTask self.now }
+        requires searcher { IsSearcher self.now }
         requires runs { RunsOver self.now m.old config test.now }
         requires refused { Refuses self.now test.now config.place }
         ensures ok { IfOk result (λ on. (s : plain.NfaConfig) (f : Search)
@@ -91,20 +91,20 @@ impl Task<'_> {
     /// each iteration is like the others.
     #[inline(always)]
     fn body_test(&self, m: &Memo, config: NfaConfig) -> Option<&CharTest>
-        requires { IsTask self.now }
+        requires { IsSearcher self.now }
         ensures runs { IfSome result (λ test. RunsOver self.now m.now config test.now) }
         ensures read { IfSome result (λ test. IsReadBy self.now.unicode test.now) }
     {
         match self.states.get(config.at) {
             Some(NfaState::LoopSplit(first, _)) => self.body_at(*first, config.at),
-            Some(NfaState::CounterLoop { counters, .. }) if m.repeats(*counters, config) => {
+            Some(NfaState::CounterLoop { bounds, .. }) if m.repeats(*bounds, config) => {
                 self.body_at(config.at + 1, config.at)
             }
             _ => None,
         }
     }
 
-    /// The test on a character that stands there, where it is the body of the loop with this head.
+    /// The test on a character at the state `first`, where it is the body of the loop with this head.
     #[inline(always)]
     pub(crate) fn body_at(&self, first: usize, head: usize) -> Option<&CharTest>
         ensures { IfSome result (λ test. IsBody self.now.states.now head first test.now) }
@@ -129,30 +129,30 @@ impl Task<'_> {
         if m.is_blank() {
             return test.past_ascii(self.unicode, text, config.place) - config.place;
         }
-        let mut at = config.place;
-        'run: while at < text.len()
-            && text[at] < 128
-            && test.takes_ascii(self.unicode, text[at])
+        let mut end = config.place;
+        'run: while end < text.len()
+            && text[end] < 128
+            && test.takes_ascii(self.unicode, text[end])
             && !m.may_have_failed(NfaConfig {
-                place: at,
+                place: end,
                 ..config
             })
         {
-            at += 1;
+            end += 1;
         }
-        at - config.place
+        end - config.place
     }
 
     /// The other way on from the head of a loop fails at its first test.
     #[inline(always)]
     pub(crate) fn is_lost(&self, config: NfaConfig) -> bool
-        requires { IsTask self.now }
+        requires { IsSearcher self.now }
         ensures { IsTrue result → IsLostAt self.now config.at config.place }
     {
         match self.states.get(config.at) {
             Some(NfaState::LoopSplit(_, second)) => self.fails_at(*second, config.place),
-            Some(NfaState::CounterLoop { counters, after }) => {
-                let second = counters.second_way(config.at, *after);
+            Some(NfaState::CounterLoop { bounds, after }) => {
+                let second = bounds.second_way(config.at, *after);
                 self.fails_at(second, config.place)
             }
             _ => false,
@@ -163,7 +163,7 @@ impl Task<'_> {
     /// no more, or it is of ASCII and fails.
     #[inline(always)]
     pub(crate) fn fails_at(&self, at: usize, place: usize) -> bool
-        requires { IsTask self.now }
+        requires { IsSearcher self.now }
         ensures { IsTrue result → FailsFrom self.now at place }
     {
         let mut next = at;

@@ -11,12 +11,12 @@ ghost use Rattle.fancy_plain.specs.declared.nfa_state.NfaState.TheVariants as nf
 ghost use Rattle.fancy_plain.specs.BacktrackStack.{choices_of};
 ghost use Rattle.fancy_plain.specs.Runs.{IsLoopSplitOf, Repeats, onward, run_search};
 ghost use Rattle.fancy_plain.specs.Ways.{IsMemoOf};
-ghost use Rattle.fancy_plain.specs.Searches.{Advances, ComesTo, EndsAs, GoesBack, HaveFailed, IsHere, IsTask, CountersBy, fails_before, leading_of, IsSearch, Keeps, Leading, Leads};
+ghost use Rattle.fancy_plain.specs.Searches.{Advances, ComesTo, EndsAs, GoesBack, HaveFailed, IsHere, IsSearcher, ChoosesBy, fails_before, leading_of, IsSearch, Keeps, Leading, Leads};
 
 use crate::backtrack_stack::{BacktrackStack, StackFrame};
 use crate::failed::Failed;
+use crate::nfa::Nfa;
 use crate::nfa_state::{CharTest, Loop, NfaState};
-use crate::table::Nfa;
 use crate::trail::{Entry, LoopCounter, NfaConfig, Trail};
 use fancy_characters::look::holds;
 use std::alloc::{AllocError, Global};
@@ -42,9 +42,9 @@ pub(crate) enum StepResult {
     Goes(NfaConfig),
 }
 
-/// The states of a table, and the text that they are searched in.
+/// The states of an NFA, and the text that they are searched in.
 #[derive(Clone, Copy)]
-pub(crate) struct Task<'a> {
+pub(crate) struct Searcher<'a> {
     pub(crate) states: &'a [NfaState],
     pub(crate) unicode: bool,
     pub(crate) text: &'a str,
@@ -52,7 +52,7 @@ pub(crate) struct Task<'a> {
 
 /// Which ways on there are at the head of a loop, the first one first.
 #[derive(Clone, Copy)]
-pub(crate) enum Turning {
+pub(crate) enum LoopChoice {
     Out,
     In,
     InOrOut,
@@ -61,17 +61,17 @@ pub(crate) enum Turning {
 
 impl Loop {
     /// Which ways on there are.
-    fn turning(self, counter: LoopCounter, place: usize) -> Turning
-        ensures { CountersBy result (loop_of self) place (counter_of counter) }
+    fn loop_choice(self, counter: LoopCounter, place: usize) -> LoopChoice
+        ensures { ChoosesBy result (loop_of self) place (counter_of counter) }
     {
         if self.is_over(counter, place) {
-            Turning::Out
+            LoopChoice::Out
         } else if counter.count < self.lo {
-            Turning::In
+            LoopChoice::In
         } else if self.greedy {
-            Turning::InOrOut
+            LoopChoice::InOrOut
         } else {
-            Turning::OutOrIn
+            LoopChoice::OutOrIn
         }
     }
 
@@ -111,7 +111,7 @@ impl Loop {
     }
 }
 
-/// Writes the numbers of the pair of this stand.
+/// Writes the numbers of this configuration's pair.
 fn write_numbers(
     trail: &Trail,
     config: NfaConfig,
@@ -127,7 +127,7 @@ fn write_numbers(
     push_counters(trail, config, numbers)
 }
 
-/// The numbers of the pair of this stand, inside this iteration and no other.
+/// The numbers of this configuration's pair, inside this iteration and no other.
 fn numbers_inside(config: NfaConfig, counter: LoopCounter) -> [usize; 4]
     ensures { (s : plain.NfaConfig) → config.at ≡ s.at → config.place ≡ s.place
         → counter_of counter ∷ [] ≡ s.counters → result ≡ key_of (pair_of s) }
@@ -136,7 +136,7 @@ fn numbers_inside(config: NfaConfig, counter: LoopCounter) -> [usize; 4]
     [config.at, config.place, counter.count, has_stayed as usize]
 }
 
-/// Adds the numbers of the iterations around this stand.
+/// Adds the numbers of the iterations around this configuration.
 fn push_counters(
     trail: &Trail,
     config: NfaConfig,
@@ -158,13 +158,13 @@ fn push_counters(
 }
 
 impl Memo {
-    /// For searches by the table in one text, from `pos` on.
-    pub fn new(alloc: Global, table: &Nfa, pos: usize) -> Memo
-        ensures { (text : List ℕ) → IsMemoOf text table.now result }
+    /// For searches by the NFA in one text, from `pos` on.
+    pub fn new(alloc: Global, nfa: &Nfa, pos: usize) -> Memo
+        ensures { (text : List ℕ) → IsMemoOf text nfa.now result }
     {
         Memo {
             alloc,
-            failed: Failed::new(alloc, table.pair_bits, pos),
+            failed: Failed::new(alloc, nfa.pair_bits, pos),
             frames: BacktrackStack::new(alloc),
             trail: Trail::new(alloc),
             numbers: Vec::new(alloc),
@@ -172,11 +172,11 @@ impl Memo {
         }
     }
 
-    /// As `new` for another table or text, with the room of this one, in time that follows what was memoized.
-    pub fn clear(&mut self, table: &Nfa, pos: usize)
-        ensures { (text : List ℕ) → IsMemoOf text table.now self.new }
+    /// As `new` for another NFA or text, with the room of this one, in time that follows what was memoized.
+    pub fn clear(&mut self, nfa: &Nfa, pos: usize)
+        ensures { (text : List ℕ) → IsMemoOf text nfa.now self.new }
     {
-        self.failed.clear(table.pair_bits, pos);
+        self.failed.clear(nfa.pair_bits, pos);
     }
 
     /// Before another search.
@@ -219,7 +219,7 @@ impl Memo {
         self.visits = self.visits.saturating_add(states);
     }
 
-    /// Whether the pair of this stand is known to have no way.
+    /// Whether this configuration's pair is known to have no way.
     #[inline(always)]
     fn has_failed(&mut self, config: NfaConfig) -> Result<bool, AllocError>
         ensures ok { IfOk result (λ yes. (s : plain.NfaConfig) (failed : plain.Pair → Bool)
@@ -235,7 +235,7 @@ impl Memo {
         self.has_failed_inside(NfaConfig { ..config })
     }
 
-    /// The same, inside a loop that counts.
+    /// As `has_failed`, inside a loop that counts.
     #[inline(never)]
     fn has_failed_inside(&mut self, config: NfaConfig) -> Result<bool, AllocError>
         ensures ok { IfOk result (λ yes. (s : plain.NfaConfig) (failed : plain.Pair → Bool)
@@ -258,7 +258,7 @@ impl Memo {
         self.failed.is_empty()
     }
 
-    /// Whether the pair of this stand may be known to have no way. Inside two loops that count it may, once any pair is.
+    /// Whether this configuration's pair may be known to have no way. Inside two loops that count it may, once any pair is.
     #[inline(always)]
     pub(crate) fn may_have_failed(&self, config: NfaConfig) -> bool
         ensures { result ≡ false → (s : plain.NfaConfig) (failed : plain.Pair → Bool)
@@ -278,20 +278,20 @@ impl Memo {
 
     /// At the head of this loop each iteration from here on is like the one here, and the way on into it comes first.
     #[inline(always)]
-    pub(crate) fn repeats(&self, counters: Loop, config: NfaConfig) -> bool
+    pub(crate) fn repeats(&self, bounds: Loop, config: NfaConfig) -> bool
         ensures { IsTrue result → (s : plain.NfaConfig) → IsHere self.now config s
-            → Repeats (loop_of counters) s.counters }
+            → Repeats (loop_of bounds) s.counters }
     {
-        if !counters.greedy || counters.asks_moved || counters.hi != usize::MAX {
+        if !bounds.greedy || bounds.asks_moved || bounds.hi != usize::MAX {
             return false;
         }
         match self.trail.counter(config.counters) {
-            Some((counter, _)) => counter.count == counters.lo && counter.since.is_none(),
+            Some((counter, _)) => counter.count == bounds.lo && counter.since.is_none(),
             None => false,
         }
     }
 
-    /// The pair of this stand has no way.
+    /// This configuration's pair has no way.
     #[inline(always)]
     fn add_failed(&mut self, config: NfaConfig) -> Result<(), AllocError>
         ensures ok { IfOk result (λ _. (s : plain.NfaConfig) (f : Search)
@@ -308,7 +308,7 @@ impl Memo {
         self.add_failed_inside(NfaConfig { ..config })
     }
 
-    /// The same, inside a loop that counts.
+    /// As `add_failed`, inside a loop that counts.
     #[inline(never)]
     fn add_failed_inside(&mut self, config: NfaConfig) -> Result<(), AllocError>
         ensures ok { IfOk result (λ _. (s : plain.NfaConfig) (f : Search)
@@ -347,8 +347,8 @@ impl Memo {
         Ok(())
     }
 
-    /// Takes up a loop's head and the character there, at this stand and at each of the next bytes, so many in all. A choice
-    /// is kept at each. Goes on behind them.
+    /// Takes up a loop's head and the character there, in this configuration and at each of the next bytes, so many in all.
+    /// A choice is kept at each. Goes on behind them.
     pub(crate) fn keep_run(
         &mut self,
         config: NfaConfig,
@@ -383,8 +383,8 @@ impl Memo {
         })
     }
 
-    /// Into the loop whose head this stand is at.
-    fn begin_turn(
+    /// Begins an iteration of the loop whose head this configuration is at.
+    fn begin_iteration(
         &mut self,
         config: NfaConfig,
         outer: usize,
@@ -461,7 +461,7 @@ impl Memo {
         Ok(StepResult::Goes(config.goes_to(first)))
     }
 
-    /// The same, unless there is no way from here.
+    /// At the head of a loop that does not count: on at the first, and later at the second, unless there is no way from here.
     fn loop_split(&mut self, config: NfaConfig, first: usize) -> Result<StepResult, AllocError>
         ensures { (leading : Leading) (s : plain.NfaConfig) (second : ℕ) (f : Search)
             → IsSearch leading self.old f → IsHere self.old config s
@@ -492,19 +492,19 @@ impl Memo {
         Ok(StepResult::Goes(config.forward()))
     }
 
-    /// At the head of a loop that counts.
-    fn counter(
+    /// At the head of a loop that counts: on by the ways that are open, unless there is no way from here.
+    fn counter_loop(
         &mut self,
         config: NfaConfig,
-        counters: Loop,
+        bounds: Loop,
         after: usize,
     ) -> Result<StepResult, AllocError>
         requires { config.at < usize.MAX }
         ensures { (leading : Leading) (s : plain.NfaConfig) (f : Search)
             → IsSearch leading self.old f → IsHere self.old config s
-            → leading s ≡ plain.counter_loop_step (loop_of counters) after s s.counters
+            → leading s ≡ plain.counter_loop_step (loop_of bounds) after s s.counters
             → Leads leading s f.failed
-            (plain.next_by (leading s) (Some (states.CounterLoop (loop_of counters) after)) s f)
+            (plain.next_by (leading s) (Some (states.CounterLoop (loop_of bounds) after)) s f)
             result self.new }
     {
         let Some((counter, outer)) = self.trail.counter(config.counters) else {
@@ -515,20 +515,20 @@ impl Memo {
             return Ok(StepResult::Lost);
         }
         self.count();
-        match counters.turning(counter, config.place) {
-            Turning::Out => {
+        match bounds.loop_choice(counter, config.place) {
+            LoopChoice::Out => {
                 self.keep(config, false)?;
                 Ok(StepResult::Goes(config.goes_out(after, outer)))
             }
-            Turning::In => {
+            LoopChoice::In => {
                 self.keep(config, false)?;
-                self.counter_in(config, counters, counter, outer)
+                self.counter_in(config, bounds, counter, outer)
             }
-            Turning::InOrOut => {
+            LoopChoice::InOrOut => {
                 self.keep(config, true)?;
-                self.counter_in(config, counters, counter, outer)
+                self.counter_in(config, bounds, counter, outer)
             }
-            Turning::OutOrIn => {
+            LoopChoice::OutOrIn => {
                 self.keep(config, true)?;
                 Ok(StepResult::Goes(config.goes_out(after, outer)))
             }
@@ -539,21 +539,21 @@ impl Memo {
     fn other_counter(
         &mut self,
         config: NfaConfig,
-        counters: Loop,
+        bounds: Loop,
         after: usize,
     ) -> Result<StepResult, AllocError>
         requires { config.at < usize.MAX }
         ensures { (leading : Leading) (s first other : plain.NfaConfig) (f : Search)
             → IsSearch leading self.old f → IsHere self.old config s
-            → plain.counter_loop_step (loop_of counters) after s s.counters ≡ plain.Tries true first (other ∷ [])
+            → plain.counter_loop_step (loop_of bounds) after s s.counters ≡ plain.Tries true first (other ∷ [])
             → Leads leading s f.failed (TakesUp other f) result self.new }
     {
         let Some((counter, outer)) = self.trail.counter(config.counters) else {
             return Ok(StepResult::Lost);
         };
-        match counters.turning(counter, config.place) {
-            Turning::InOrOut => Ok(StepResult::Goes(config.goes_out(after, outer))),
-            Turning::OutOrIn => self.counter_in(config, counters, counter, outer),
+        match bounds.loop_choice(counter, config.place) {
+            LoopChoice::InOrOut => Ok(StepResult::Goes(config.goes_out(after, outer))),
+            LoopChoice::OutOrIn => self.counter_in(config, bounds, counter, outer),
             _ => Ok(StepResult::Lost),
         }
     }
@@ -562,34 +562,34 @@ impl Memo {
     fn counter_in(
         &mut self,
         config: NfaConfig,
-        counters: Loop,
+        bounds: Loop,
         counter: LoopCounter,
         outer: usize,
     ) -> Result<StepResult, AllocError>
         requires at { config.at < usize.MAX }
-        requires goes_on { plain.is_over (loop_of counters) config.place (counter_of counter) ≡ false }
+        requires goes_on { plain.is_over (loop_of bounds) config.place (counter_of counter) ≡ false }
         ensures { (leading : Leading) (s : plain.NfaConfig) (f : Search) (around : List plain.LoopCounter)
             → IsSearch leading self.old f → IsHere self.old config s
             → outer ≤ length self.old.trail.entries.items
             → HasCounters self.old.trail.entries.items outer around
             → Leads leading s f.failed (TakesUp (record (plain.forward s)
-            { counters = plain.next_counter (loop_of counters) s.place (counter_of counter) ∷ around }) f)
+            { counters = plain.next_counter (loop_of bounds) s.place (counter_of counter) ∷ around }) f)
             result self.new }
     {
-        let next = counters.next_counter(counter, config.place);
-        let on = self.begin_turn(config, outer, next)?;
+        let next = bounds.next_counter(counter, config.place);
+        let on = self.begin_iteration(config, outer, next)?;
         Ok(StepResult::Goes(on))
     }
 }
 
-impl Task<'_> {
-    /// Searches from this stand on. After 2^64 - 1 steps, more than any machine takes, it gives up with `Memory`.
+impl Searcher<'_> {
+    /// Searches from this configuration on. After 2^64 - 1 steps, more than any machine takes, it gives up with `Memory`.
     pub(crate) fn find(
         &self,
         m: &mut Memo,
         start: NfaConfig,
     ) -> Result<Option<NfaConfig>, AllocError>
-        requires { IsTask self.now }
+        requires { IsSearcher self.now }
         ensures { (s : plain.NfaConfig) (f : Search)
             → IsSearch (leading_of self.now) m.old f → IsHere m.old start s
             → EndsAs self.now (TakesUp s f) result m.new }
@@ -608,7 +608,7 @@ impl Task<'_> {
     /// Takes up the state, and where it leads nowhere goes back to what is tried later.
     #[inline(always)]
     fn advance(&self, m: &mut Memo, config: NfaConfig) -> Result<StepResult, AllocError>
-        requires { IsTask self.now }
+        requires { IsSearcher self.now }
         ensures { (s : plain.NfaConfig) (f : Search)
             → IsSearch (leading_of self.now) m.old f → IsHere m.old config s
             → Advances self.now (TakesUp s f) result m.new }
@@ -622,7 +622,7 @@ impl Task<'_> {
     /// Takes up the state.
     #[inline(always)]
     fn take_up(&self, m: &mut Memo, config: NfaConfig) -> Result<StepResult, AllocError>
-        requires { IsTask self.now }
+        requires { IsSearcher self.now }
         ensures { (s : plain.NfaConfig) (f : Search)
             → IsSearch (leading_of self.now) m.old f → IsHere m.old config s
             → ComesTo self.now (TakesUp s f) result m.new }
@@ -643,7 +643,7 @@ impl Task<'_> {
         m: &mut Memo,
         config: NfaConfig,
     ) -> Result<StepResult, AllocError>
-        requires task { IsTask self.now }
+        requires searcher { IsSearcher self.now }
         requires at { slice_get self.now.states.now config.at ≡ Some nfa_state.now }
         requires read { IsStateReadBy self.now.unicode nfa_state.now }
         ensures { (s : plain.NfaConfig) (f : Search)
@@ -657,8 +657,8 @@ impl Task<'_> {
             NfaState::BranchSplit(first, _) => m.choose(config, *first),
             NfaState::Close(group) => m.close(config, *group),
             NfaState::Join => m.join(config),
-            NfaState::CounterLoop { counters, after } => self.take_up_counter_loop(
-                m, config, *counters, *after,
+            NfaState::CounterLoop { bounds, after } => self.take_up_counter_loop(
+                m, config, *bounds, *after,
             ),
             NfaState::Split(first, _) => {
                 m.count();
@@ -674,7 +674,7 @@ impl Task<'_> {
                     count: 0,
                     since: None,
                 };
-                let next = m.begin_turn(config, config.counters, counter)?;
+                let next = m.begin_iteration(config, config.counters, counter)?;
                 Ok(StepResult::Goes(next))
             }
             NfaState::Holds(assertion) => {
@@ -700,7 +700,7 @@ impl Task<'_> {
         config: NfaConfig,
         first: usize,
     ) -> Result<StepResult, AllocError>
-        requires task { IsTask self.now }
+        requires searcher { IsSearcher self.now }
         requires at { (second : ℕ)
             × (slice_get self.now.states.now config.at ≡ Some (nfa_state.LoopSplit first second)) }
         ensures { (s : plain.NfaConfig) (f : Search)
@@ -714,17 +714,17 @@ impl Task<'_> {
         m.loop_split(on, first)
     }
 
-    /// The same at the head of a loop that counts.
+    /// At the head of a loop that counts, past it or past what it goes over in one go.
     #[inline(always)]
     fn take_up_counter_loop(
         &self,
         m: &mut Memo,
         config: NfaConfig,
-        counters: Loop,
+        bounds: Loop,
         after: usize,
     ) -> Result<StepResult, AllocError>
-        requires task { IsTask self.now }
-        requires at { slice_get self.now.states.now config.at ≡ Some (nfa_state.CounterLoop counters after) }
+        requires searcher { IsSearcher self.now }
+        requires at { slice_get self.now.states.now config.at ≡ Some (nfa_state.CounterLoop bounds after) }
         ensures { (s : plain.NfaConfig) (f : Search)
             → IsSearch (leading_of self.now) m.old f → IsHere m.old config s
             → ComesTo self.now (TakesUp s f) result m.new }
@@ -733,7 +733,7 @@ impl Task<'_> {
         if on.at != config.at {
             return Ok(StepResult::Goes(on));
         }
-        m.counter(on, counters, after)
+        m.counter_loop(on, bounds, after)
     }
 
     /// Past one character that passes the test.
@@ -767,7 +767,7 @@ impl Task<'_> {
     /// Back to the last choice that has an untried way on. Each that was tried on the way back has none.
     #[inline(always)]
     fn take_back(&self, m: &mut Memo) -> Result<StepResult, AllocError>
-        requires { IsTask self.now }
+        requires { IsSearcher self.now }
         ensures { (f : Search) → IsSearch (leading_of self.now) m.old f
             → GoesBack self.now (TakesBack f) result m.new }
     {
@@ -781,7 +781,7 @@ impl Task<'_> {
         Ok(StepResult::Lost)
     }
 
-    /// On at the other way from this stand.
+    /// On at the other way from this configuration.
     #[inline(always)]
     pub(crate) fn take_other(
         &self,
@@ -826,9 +826,9 @@ impl Task<'_> {
                 m.keep(config, false)?;
                 Ok(StepResult::Goes(config.goes_to(*second)))
             }
-            NfaState::CounterLoop { counters, after } => {
+            NfaState::CounterLoop { bounds, after } => {
                 m.keep(config, false)?;
-                m.other_counter(config, *counters, *after)
+                m.other_counter(config, *bounds, *after)
             }
             _ => Ok(StepResult::Lost),
         }

@@ -4,18 +4,18 @@ ghost use Rattle.std.specs.Prelude.{◌≡◌, ◌<◌, length, IsTrue};
 ghost use Rattle.fancy_nfa.specs.NfaSearch as plain;
 ghost use Rattle.fancy_nfa.specs.NfaSearch.{Search, TakesUp};
 ghost use Rattle.fancy_plain.specs.Runs.{GoesOn, Passes};
-ghost use Rattle.fancy_plain.specs.Searches.{IsHere, IsSearch, IsTask, leading_of};
+ghost use Rattle.fancy_plain.specs.Searches.{IsHere, IsSearch, IsSearcher, leading_of};
 ghost use Rattle.fancy_plain.specs.Views.{IsReadBy};
 
 use crate::nfa_state::{CharTest, NfaState};
-use crate::search::{Memo, Task};
+use crate::search::{Memo, Searcher};
 use crate::trail::NfaConfig;
 
-impl Task<'_> {
+impl Searcher<'_> {
     /// Past the tests from here on that characters of ASCII pass, and past jumps between them.
     #[inline(always)]
     pub(crate) fn past_tests(&self, m: &mut Memo, config: NfaConfig) -> NfaConfig
-        requires { IsTask self.now }
+        requires { IsSearcher self.now }
         ensures on { (s : plain.NfaConfig) (f : Search)
             → IsSearch (leading_of self.now) m.old f → IsHere m.old config s
             → GoesOn self.now (TakesUp s f) m.new result }

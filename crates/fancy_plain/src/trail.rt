@@ -1,4 +1,4 @@
-//! Where a search stands, and what it went through on the path to there.
+//! Configurations of a search, and the path that it took to the one where it stands.
 
 ghost use Rattle.std.specs.Prelude.{◌≡◌, ◌++◌, ◌∷◌, [], ◌≤◌, ◌<◌, ◌+◌, List, ℕ, take, length, option_map, Some, None, IfOk, IfSome};
 ghost use Rattle.fancy_nfa.specs.NfaSearch as plain;
@@ -34,7 +34,7 @@ pub(crate) struct LoopCounter {
     pub(crate) since: Option<usize>,
 }
 
-/// Where a search stands: the state, the place in bytes, and the links to the innermost loop that counts and the
+/// A configuration of a search: the state, the place in bytes, and the links to the innermost loop that counts and the
 /// innermost group.
 #[derive(Clone, Copy)]
 pub(crate) struct NfaConfig {

@@ -21,7 +21,7 @@ use Rattle.fancy_characters.specs.contracts.compiled.CompiledClass as CompiledCl
 use Rattle.fancy_characters.specs.contracts.compiled.Others as Others
 use Rattle.fancy_plain.specs.contracts.nfa_state.CharTest as CharTest
 use Rattle.fancy_plain.specs.contracts.nfa_state.NfaState as NfaState
-use Rattle.fancy_plain.specs.contracts.table.Nfa as Nfa
+use Rattle.fancy_plain.specs.contracts.nfa.Nfa as Nfa
 use Rattle.fancy_fragments.specs.contracts.fragment.Fragment as Fragment
 use Rattle.fancy_fragments.specs.contracts.delegate.Delegate as Delegate
 use Rattle.fancy_program.specs.contracts.insn.Insn as Insn

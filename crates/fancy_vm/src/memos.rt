@@ -100,7 +100,7 @@ impl Memos {
         ensures ascends { IfOk result HasAscending }
         ensures memos { AreMemosOf task.now self.new }
     {
-        if !fragment.can_begin(task.text, ix) {
+        if !fragment.nfa().can_begin(task.text, ix) {
             return Ok(FirstWay {
                 way: None,
                 visits: 0,

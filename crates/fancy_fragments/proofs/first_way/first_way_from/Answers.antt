@@ -1,8 +1,8 @@
 use Rattle.fancy_fragments.proofs.FirstWays.{of_nodes, found_first}
 use Rattle.fancy_fragments.proofs.first_way.first_way_from.Goals as goal
 
-pub first_way_from-requires-clause-table : goal.first_way_from-requires-clause-table
-first_way_from-requires-clause-table c = of_nodes c.args.fragment.now
+pub first_way_from-requires-clause-nodes : goal.first_way_from-requires-clause-nodes
+first_way_from-requires-clause-nodes c = of_nodes c.args.fragment.now
 
 pub returns-clause-first : goal.returns-clause-first
 returns-clause-first c =

@@ -20,5 +20,5 @@ pub returns-then-saturating_sub-ge-BLOCK-clause-pass : goal.returns-then-saturat
 returns-then-saturating_sub-ge-BLOCK-clause-pass c found =
     let room = c.if-saturating_sub-ge-BLOCK.true in
     let is = c.saturating_sub.ensures in
-    part_passes (is_other c.args.one c.args.other) c.args.text.now c.args.at (c.args.at + 16) (omega (arith, room, is))
+    part_passes (is_other c.args.one c.args.other) c.args.text.now c.args.place (c.args.place + 16) (omega (arith, room, is))
     (c.are_others.ensures found)

@@ -5,7 +5,7 @@ use Rattle.fancy_plain.specs.AsciiRuns.{AllPass}
 use Rattle.fancy_plain.proofs.ascii_runs.past_members.Given as goal
 
 abbrev pub invariant-run : goal.invariant-run
-invariant-run l = AllPass (class_test (class_of l.class)) l.text l.from l.at × (l.from ≤ l.at)
+invariant-run l = AllPass (class_test (class_of l.class)) l.text l.from l.place × (l.from ≤ l.place)
 
 abbrev pub decreases-run : goal.decreases-run
-decreases-run l = length l.text - l.at
+decreases-run l = length l.text - l.place

@@ -3,13 +3,13 @@ use Rattle.fancy_plain.specs.AsciiRuns.{AllPass, is_other}
 use Rattle.fancy_plain.proofs.ascii_runs.past_others.Given as goal
 
 abbrev pub invariant-parts : goal.invariant-parts
-invariant-parts l = AllPass (is_other l.one l.other) l.text l.from l.at × (l.from ≤ l.at)
+invariant-parts l = AllPass (is_other l.one l.other) l.text l.from l.place × (l.from ≤ l.place)
 
 abbrev pub decreases-parts : goal.decreases-parts
-decreases-parts l = length l.text - l.at
+decreases-parts l = length l.text - l.place
 
 abbrev pub invariant-run : goal.invariant-run
-invariant-run l = AllPass (is_other l.one l.other) l.text l.from l.at × (l.from ≤ l.at)
+invariant-run l = AllPass (is_other l.one l.other) l.text l.from l.place × (l.from ≤ l.place)
 
 abbrev pub decreases-run : goal.decreases-run
-decreases-run l = length l.text - l.at
+decreases-run l = length l.text - l.place

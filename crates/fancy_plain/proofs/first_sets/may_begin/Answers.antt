@@ -3,27 +3,27 @@ use Rattle.fancy_plain.specs.FirstSets.{may_begin}
 use Rattle.fancy_plain.proofs.FirstSetLaws.{level_asked, level_at_end, level_passed}
 use Rattle.fancy_plain.proofs.first_sets.may_begin.Goals as goal
 
-pub returns-then-at-text : goal.returns-then-at-text
-returns-then-at-text c =
-    sym (level_at_end c.args.levels.now c.args.text.now c.levels.level-index c.levels.at c.levels-test.true c.if-at-text.true)
+pub returns-then-place-text : goal.returns-then-place-text
+returns-then-place-text c =
+    sym (level_at_end c.args.levels.now c.args.text.now c.levels.level-index c.levels.place c.levels-test.true c.if-place-text.true)
     ∙ c.levels.invariant
 
 pub returns-then-byte-ge128 : goal.returns-then-byte-ge128
 returns-then-byte-ge128 c =
-    sym (level_passed c.args.levels.now c.args.text.now c.levels.level-index c.levels.at c.levels-test.true c.if-at-text.false
+    sym (level_passed c.args.levels.now c.args.text.now c.levels.level-index c.levels.place c.levels-test.true c.if-place-text.false
     c.if-byte-ge128.true)
     ∙ c.levels.invariant
 
 pub returns-then-not-level-byte : goal.returns-then-not-level-byte
 returns-then-not-level-byte c =
-    sym (level_asked c.args.levels.now c.args.text.now c.levels.level-index c.levels.at c.levels-test.true c.if-at-text.false
+    sym (level_asked c.args.levels.now c.args.text.now c.levels.level-index c.levels.place c.levels-test.true c.if-place-text.false
     c.if-byte-ge128.false
-    ∙ ap (λ a. a && may_begin (drop (c.levels.level-index + 1) c.args.levels.now) c.args.text.now (c.levels.at + 1)) c.if-not-level-byte.true)
+    ∙ ap (λ a. a && may_begin (drop (c.levels.level-index + 1) c.args.levels.now) c.args.text.now (c.levels.place + 1)) c.if-not-level-byte.true)
     ∙ c.levels.invariant
 
 pub levels-preserved : goal.levels-preserved
 levels-preserved c =
-    sym (level_asked c.args.levels.now c.args.text.now c.levels.level-index c.levels.at c.levels-test.true c.if-at-text.false
+    sym (level_asked c.args.levels.now c.args.text.now c.levels.level-index c.levels.place c.levels-test.true c.if-place-text.false
     c.if-byte-ge128.false
-    ∙ ap (λ a. a && may_begin (drop (c.levels.level-index + 1) c.args.levels.now) c.args.text.now (c.levels.at + 1)) c.if-not-level-byte.false)
+    ∙ ap (λ a. a && may_begin (drop (c.levels.level-index + 1) c.args.levels.now) c.args.text.now (c.levels.place + 1)) c.if-not-level-byte.false)
     ∙ c.levels.invariant

@@ -3,4 +3,4 @@ use Rattle.fancy_plain.specs.RequiredBytes.{lacks}
 use Rattle.fancy_plain.proofs.required_bytes.lacks.Given as goal
 
 abbrev pub invariant-bytes : goal.invariant-bytes
-invariant-bytes l = lacks l.fn.bytes l.fn.text l.at ≡ lacks l.fn.bytes l.fn.text l.fn.from
+invariant-bytes l = lacks l.fn.bytes l.fn.text l.place ≡ lacks l.fn.bytes l.fn.text l.fn.from

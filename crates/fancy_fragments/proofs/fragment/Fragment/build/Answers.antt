@@ -11,8 +11,8 @@ pub invariant_of-result : goal.invariant_of-result
 invariant_of-result c =
     let is = c.args.infos.now in
     let exprs = c.in_ok-exprs.exprs.items in record {
-      laid_out = laid_over is c.requires exprs c.in_ok-exprs.ensures _ _ c.beginning-first_group.ensures c.args.unicode c.in_ok-table.table
-          c.in_ok-table.ensures.table;
+      laid_out = laid_over is c.requires exprs c.in_ok-exprs.ensures _ _ c.beginning-first_group.ensures c.args.unicode c.in_ok-nfa.nfa
+          c.in_ok-nfa.ensures.nfa;
       fits = fits_copied is c.requires exprs c.in_ok-exprs.ensures _ _ c.beginning-first_group.ensures c.settable_above.result
           c.settable_above.ensures;
     }

@@ -370,11 +370,11 @@ lay_counted-returns t c = λ a easy.
     let t4 = c.push-3.new.self in
     let t5 = c.patch.new.self in
     let t6 = c.push-4.new.self in
-    let head : ℕ → ℕ → plain.NfaState = λ here after. plain.CounterLoop (loop_of c.args.counters) after in
+    let head : ℕ → ℕ → plain.NfaState = λ here after. plain.CounterLoop (loop_of c.args.bounds) after in
     let here = c.len-here.result in
     lays_behind (one plain.CounterBegin) (around head body >> one plain.Join) s t1 t6 texts c.push-4.result c.in_ok-push.ensures
     (lays_before (around head body) (one plain.Join) t1 t5 t6 texts c.push-4.result
-    (adds_around body texts t1 c.push-2.new.self c.lay.new.self t4 t5 head (plain.CounterLoop (loop_of c.args.counters) c.len-after.result) here
+    (adds_around body texts t1 c.push-2.new.self c.lay.new.self t4 t5 head (plain.CounterLoop (loop_of c.args.bounds) c.len-after.result) here
     (c.len-here.ensures ∙ place t1) (ap (head here) (c.len-after.ensures ∙ place t4)) c.in_ok-push-2.ensures (c.in_ok-lay.ensures a easy)
     c.in_ok-push-3.ensures c.patch.ensures)
     c.push-4.ensures)

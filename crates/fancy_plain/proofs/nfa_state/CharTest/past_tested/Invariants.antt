@@ -5,7 +5,7 @@ use Rattle.fancy_plain.specs.Views.{test_of}
 use Rattle.fancy_plain.proofs.nfa_state.CharTest.past_tested.Given as goal
 
 abbrev pub invariant-run : goal.invariant-run
-invariant-run l = AllPass (passes [] l.unicode (test_of l.self)) l.text l.from l.at × (l.from ≤ l.at)
+invariant-run l = AllPass (passes [] l.unicode (test_of l.self)) l.text l.from l.place × (l.from ≤ l.place)
 
 abbrev pub decreases-run : goal.decreases-run
-decreases-run l = length l.text - l.at
+decreases-run l = length l.text - l.place

@@ -9,15 +9,15 @@ use Rattle.fancy_plain.proofs.search.Memo.counter_in.Goals as goal
 -- src/search.rt:392:5
 pub returns : goal.returns
 returns c = λ leading s f around h here le has.
-    let next = plain.next_counter (loop_of c.args.counters) s.place (counter_of c.args.counter) in (
+    let next = plain.next_counter (loop_of c.args.bounds) s.place (counter_of c.args.counter) in (
       f,
       (
         record (plain.forward s) { counters = next ∷ around },
         (
           refl,
           c.in_ok-on.ensures.search leading f h,
-          subst (λ t. IsHere c.begin_turn.new.self c.in_ok-on.on (record (plain.forward s) { counters = t ∷ around }))
-              (c.next_counter-next.ensures ∙ ap (λ i. plain.next_counter (loop_of c.args.counters) i (counter_of c.args.counter)) here.place)
+          subst (λ t. IsHere c.begin_iteration.new.self c.in_ok-on.on (record (plain.forward s) { counters = t ∷ around }))
+              (c.next_counter-next.ensures ∙ ap (λ i. plain.next_counter (loop_of c.args.bounds) i (counter_of c.args.counter)) here.place)
               (c.in_ok-on.ensures.here s around here le has),
         ),
       ),

@@ -4,13 +4,13 @@ use Rattle.fancy_plain.specs.Paths.{counter_of}
 use Rattle.fancy_plain.specs.Views.{loop_of}
 use Rattle.fancy_plain.specs.Searches.{IsHere, Leads}
 use Rattle.fancy_plain.specs.declared.trail.NfaConfig.{NfaConfig}
-use Rattle.fancy_plain.specs.declared.search.Turning.TheVariants as turning
+use Rattle.fancy_plain.specs.declared.search.LoopChoice.TheVariants as loop_choice
 use Rattle.fancy_plain.proofs.SearchLaws.{counter_loop_by, here_out, lone_way, no_other, off, on, one_other, counters_none, counters_open}
 use Rattle.fancy_plain.proofs.search.Memo.other_counter.Goals as goal
 
 pub returns-in_default : goal.returns-in_default
 returns-in_default c = λ leading s first other f h here e.
-    absurd (no_other (loop_of c.args.counters) c.args.after s first other s.counters
+    absurd (no_other (loop_of c.args.bounds) c.args.after s first other s.counters
     (counters_none c.args.self.now.trail.entries.items c.args.config.counters s.counters (c.in_default.ensures.counters s.counters here.counters)) e)
 
 pub returns-in-InOrOut : goal.returns-in-InOrOut
@@ -19,9 +19,9 @@ returns-in-InOrOut c = λ leading s first other f h here e.
     let ends = counters_open c.args.self.now.trail.entries.items c.args.config.counters s.counters (c.in-Some.counter, c.in-Some.outer)
     (c.in-Some.ensures.counters s.counters here.counters) in
     let around = ends.0 in
-    let l = loop_of c.args.counters in
+    let l = loop_of c.args.bounds in
     let there = off l c.args.after s t around in
-    let led = counter_loop_by l c.args.after s t around c.args.config.place s.counters turning.InOrOut here.place ends.1.0 c.in-InOrOut.ensures in (
+    let led = counter_loop_by l c.args.after s t around c.args.config.place s.counters loop_choice.InOrOut here.place ends.1.0 c.in-InOrOut.ensures in (
       f,
       (
         there,
@@ -40,15 +40,15 @@ returns-in-OutOrIn c = λ leading s first other f h here e.
     let ends = counters_open c.args.self.now.trail.entries.items c.args.config.counters s.counters (c.in-Some.counter, c.in-Some.outer)
     (c.in-Some.ensures.counters s.counters here.counters) in
     let around = ends.0 in
-    let l = loop_of c.args.counters in
-    let led = counter_loop_by l c.args.after s t around c.args.config.place s.counters turning.OutOrIn here.place ends.1.0 c.in-OutOrIn.ensures in
+    let l = loop_of c.args.bounds in
+    let led = counter_loop_by l c.args.after s t around c.args.config.place s.counters loop_choice.OutOrIn here.place ends.1.0 c.in-OutOrIn.ensures in
     subst (λ o. Leads leading s f.failed (TakesUp o f) c.counter_in.result c.counter_in.new.self)
     (sym (one_other _ first other _ (on l c.args.after s t around) e led))
     (c.counter_in.ensures leading s f around h here (omega (arith, ends.1.1, here.counters_link)) ends.1.2)
 
-pub returns-in_default-turning : goal.returns-in_default-turning
-returns-in_default-turning c = λ leading s first other f h here e.
+pub returns-in_default-loop_choice : goal.returns-in_default-loop_choice
+returns-in_default-loop_choice c = λ leading s first other f h here e.
     let ends = counters_open c.args.self.now.trail.entries.items c.args.config.counters s.counters (c.in-Some.counter, c.in-Some.outer)
     (c.in-Some.ensures.counters s.counters here.counters) in
-    absurd (lone_way (loop_of c.args.counters) c.args.after c.args.config.place s first other (counter_of c.in-Some.counter) ends.0 s.counters
-    c.turning.result here.place ends.1.0 c.turning.ensures c.in_default-turning.not-InOrOut c.in_default-turning.not-OutOrIn e)
+    absurd (lone_way (loop_of c.args.bounds) c.args.after c.args.config.place s first other (counter_of c.in-Some.counter) ends.0 s.counters
+    c.loop_choice.result here.place ends.1.0 c.loop_choice.ensures c.in_default-loop_choice.not-InOrOut c.in_default-loop_choice.not-OutOrIn e)

@@ -30,5 +30,6 @@ returns-clause-memos c = record {
 
 pub returns-then-not-can_begin-clause-first : goal.returns-then-not-can_begin-clause-first
 returns-then-not-can_begin-clause-first c =
-    let none = c.can_begin.ensures.none c.if-not-can_begin.true in
+    let task = c.args.task.now in
+    let none = c.nfa.ensures.none task.text.now c.args.ix (c.can_begin.ensures.none c.if-not-can_begin.true) in
     record { way = none; visits = λ a easy. omega arith }

@@ -1,0 +1,109 @@
+use Rattle.std.proofs.Common.{◌≡◌, ◌+◌, true≢false, refl, sym, ap, ◌∙◌, subst, arith, suc, true, length}
+use Rattle.fancy_nfa.specs.NfaSearch as plain
+use Rattle.fancy_nfa.specs.NfaSearch.{Next, Search, TakesBack, TakesUp, pair_of}
+use Rattle.fancy_plain.specs.Searches.{AreKept, fails_before, leading_of, Keeps}
+use Rattle.std.proofs.lemmas.Result.{err_from_is_err_and}
+use Rattle.fancy_plain.specs.declared.search.Memo.{Memo}
+use Rattle.fancy_plain.specs.BacktrackStack.{choices_of}
+use Rattle.fancy_plain.specs.Runs.{IsLostAt}
+use Rattle.fancy_plain.proofs.BackLaws.{goes_back, none_kept, one_more, popped, search_memoized}
+use Rattle.fancy_nfa.specs.FirstWays.{search_in}
+use Rattle.fancy_plain.proofs.RunLaws.{back_gone, more_visits}
+use Rattle.fancy_plain.proofs.search.Searcher.take_back.Goals as goal
+use Rattle.fancy_plain.proofs.search.Searcher.take_back.Goals.{else-choice-via-then-choice+else-not-is_lost, else-choice-via-else-choice}
+
+-- src/search.rt
+pub frames-init : goal.frames-init
+frames-init c = λ f h. (0, (f, (refl, h)))
+
+pub frames-smaller : goal.frames-smaller
+frames-smaller c =
+    let same = ap (λ (m : Memo). length (choices_of m.frames)) c.add_failed.ensures.rest in
+    let shorter = ap length c.in-Some.ensures in
+    omega (arith, same, shorter)
+
+pub frames-preserved : goal.frames-preserved
+frames-preserved c = λ f h.
+    let searcher = c.args.self.now in
+    let leading = leading_of searcher in
+    let back = c.frames.invariant f h in
+    let g = back.1.0 in
+    let choice = c.in-Some.choice in
+    let cut : Memo = record c.frames.m { frames = c.pop.new.self; trail = c.truncate.new.self } in
+    let last = popped leading c.frames.m cut choice g c.in-Some.ensures c.truncate.ensures refl refl back.1.1.1 in
+    let lost : choice.is_untried ≡ true → IsLostAt searcher choice.config.at choice.config.place =
+    elim c.else-choice.branch [
+      | else-choice-via-then-choice+else-not-is_lost w ↦ λ _. w.is_lost.ensures w.if-not-is_lost.false
+      | else-choice-via-else-choice w ↦ λ yes. absurd (true≢false (sym yes ∙ w.if-choice.false))
+    ] in
+    let gone = back_gone searcher (TakesBack f) back.0 g choice.config last.config last.rest back.1.1.0 last.here.at last.here.place choice.is_untried
+    lost last.keeps in
+    let n = gone.1.0 in
+    let memoized = c.in_ok-add_failed.ensures.ok last.config (record g { frames = last.rest }) last.here last.search.failed in (
+      gone.0,
+      (
+        plain.with_failed (pair_of last.config) (record g { frames = last.rest; visits = g.visits + n }),
+        (
+          gone.1.1,
+          search_memoized leading cut c.add_failed.new.self (record g { frames = last.rest; visits = g.visits + n }) (pair_of last.config)
+              c.add_failed.ensures.rest memoized (more_visits leading cut (record g { frames = last.rest }) n last.search),
+        ),
+      ),
+    )
+
+pub returns-in_err-add_failed : goal.returns-in_err-add_failed
+returns-in_err-add_failed c = λ f h.
+    let searcher = c.args.self.now in
+    let leading = leading_of searcher in
+    let back = c.frames.invariant f h in
+    let g = back.1.0 in
+    let cut : Memo = record c.frames.m { frames = c.pop.new.self; trail = c.truncate.new.self } in
+    let last = popped leading c.frames.m cut c.in-Some.choice g c.in-Some.ensures c.truncate.ensures refl refl back.1.1.1 in
+    let p = err_from_is_err_and c.from_residual.result c.from_residual.ensures.1 in
+    rw p.1 (
+      back.0,
+      λ q.
+          c.in_err-add_failed.ensures.err g.failed last.search.failed q
+          ∙ sym (ap (λ n. (search_in n).failed q) back.1.1.0),
+    )
+
+pub returns-then-not-is_lost : goal.returns-then-not-is_lost
+returns-then-not-is_lost c = λ f h.
+    let searcher = c.args.self.now in
+    let leading = leading_of searcher in
+    let back = c.frames.invariant f h in
+    let g = back.1.0 in
+    let cut : Memo = record c.frames.m { frames = c.pop.new.self; trail = c.truncate.new.self } in
+    let last = popped leading c.frames.m cut c.in-Some.choice g c.in-Some.ensures c.truncate.ensures refl refl back.1.1.1 in
+    let keeps = subst (λ b. Keeps b (leading last.config) last.config last.rest g.frames) {y = true} c.if-choice.true last.keeps in
+    let is_memoized = keeps.0 in
+    let other = keeps.1.1.0 in
+    goes_back searcher (TakesBack f) back.0 last.config other g
+    (record g { frames = fails_before is_memoized last.config last.rest }) c.take_other.result c.take_other.new.m back.1.1.0
+    (ap (λ l. plain.back_to l g) keeps.1.1.1.1) refl
+    (c.take_other.ensures last.config keeps.1.0 other is_memoized g last.rest last.search last.here keeps.1.1.1.0)
+
+pub returns : goal.returns
+returns c = λ f h.
+    let searcher = c.args.self.now in
+    let back = c.frames.invariant f h in
+    let g = back.1.0 in
+    let k = back.1.1.1 in
+    let no = c.in_default.ensures in
+    let none = none_kept (leading_of searcher) c.frames.m.trail.entries.items (length c.frames.m.trail.entries.items)
+    (choices_of c.frames.m.frames) g.frames no.0 k.frames in (
+      suc back.0,
+      (
+        g,
+        (
+          one_more searcher back.0 (TakesBack f) (TakesBack g) back.1.1.0 ∙ ap (λ l. plain.back_to l g) none,
+          record {
+            frames =
+                subst (λ l. AreKept (leading_of searcher) c.frames.m.trail.entries.items (length c.frames.m.trail.entries.items) l g.frames)
+                (no.0 ∙ sym no.1) k.frames;
+            failed = k.failed;
+            visits = k.visits;
+          },
+        ),
+      ),
+    )

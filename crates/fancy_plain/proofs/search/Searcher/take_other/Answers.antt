@@ -1,0 +1,24 @@
+use Rattle.std.proofs.Common.{sym, ◌≤◌, length, refl}
+use Rattle.std.proofs.lemmas.Bool.{ltb-false}
+use Rattle.fancy_plain.specs.Searches.{leading_of}
+use Rattle.fancy_plain.proofs.SearchLaws.{lost_past, no_tries}
+use Rattle.std.proofs.lemmas.Bool.{ltb-true}
+use Rattle.std.proofs.lemmas.Option.{slice_get_read}
+use Rattle.fancy_plain.proofs.search.Searcher.take_other.Goals as goal
+
+pub returns-in-None : goal.returns-in-None
+returns-in-None c = λ s first other is_memoized f rest h here e.
+    let searcher = c.args.self.now in
+    let past : length searcher.states.now ≤ c.args.config.at =
+    ltb-false c.args.config.at (length searcher.states.now) (sym c.in-None.ensures.lookup.0) in
+    absurd (no_tries (leading_of searcher s) is_memoized first other (lost_past searcher c.args.config s here.at past) e)
+
+pub returns-in-Some : goal.returns-in-Some
+returns-in-Some c = c.other_from.ensures
+
+pub other_from-requires : goal.other_from-requires
+other_from-requires c =
+    let states = c.args.self.now.states.now in
+    let at = c.args.config.at in
+    let found = c.in-Some.ensures.lookup in
+    slice_get_read states (length states) at c.in-Some.nfa_state.now refl (ltb-true at (length states) (sym found.0)) found.1

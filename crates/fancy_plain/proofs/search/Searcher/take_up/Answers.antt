@@ -1,0 +1,32 @@
+use Rattle.std.proofs.Common.{sym, ◌≤◌, ◌+◌, length, refl}
+use Rattle.fancy_plain.specs.Searches.{leading_of}
+use Rattle.std.proofs.lemmas.Bool.{ltb-false}
+use Rattle.fancy_plain.proofs.SearchLaws.{nothing_there, one_visit}
+use Rattle.std.proofs.lemmas.Bool.{ltb-true}
+use Rattle.std.proofs.lemmas.Option.{slice_get_read}
+use Rattle.fancy_plain.proofs.search.Searcher.take_up.Goals as goal
+
+-- src/search.rt:428:5
+pub returns-in-None : goal.returns-in-None
+returns-in-None c = λ s f h here.
+    let searcher = c.args.self.now in
+    let past : length searcher.states.now ≤ c.args.config.at = ltb-false c.args.config.at (length searcher.states.now) (sym c.in-None.ensures.lookup.0) in (
+      1,
+      (
+        record f { visits = f.visits + 1 },
+        (
+          nothing_there searcher c.args.config s f here.at past,
+          one_visit (leading_of searcher) c.args.m.now f h c.count.new.self _ c.count.ensures,
+        ),
+      ),
+    )
+
+pub returns-in-Some : goal.returns-in-Some
+returns-in-Some c = c.take_up_state.ensures
+
+pub take_up_state-requires-clause-at : goal.take_up_state-requires-clause-at
+take_up_state-requires-clause-at c =
+    let states = c.args.self.now.states.now in
+    let at = c.args.config.at in
+    let found = c.in-Some.ensures.lookup in
+    slice_get_read states (length states) at c.in-Some.nfa_state.now refl (ltb-true at (length states) (sym found.0)) found.1

@@ -1,0 +1,125 @@
+//! The NFA of neighbouring easy nodes.
+
+ghost use Rattle.std.specs.Prelude.{◌≡◌, ◌<◌, ◌+◌, ℕ, List, Some, false, IfErr, IfOk, IfSome, IsTrue, map, slice_get};
+ghost use Rattle.fancy_info.specs.Infos.{info_tree};
+ghost use Rattle.fancy_expr.specs.Each.{Each};
+ghost use Rattle.fancy_meaning.specs.Options.{Analysis};
+ghost use Rattle.fancy_meaning.specs.Places.{is_place};
+ghost use Rattle.fancy_meaning.specs.Premises.{IsText};
+ghost use Rattle.fancy_plain.specs.FirstSets.{may_begin, AreFirstSets};
+ghost use Rattle.fancy_plain.specs.RequiredBytes.{AreRequired};
+ghost use Rattle.fancy_plain.specs.Neighbours.{AreNeighbours, IsEasy};
+ghost use Rattle.fancy_plain.specs.Views.{state_of};
+ghost use Rattle.std.proofs.Props.{props};
+
+use crate::first_sets::{first_sets, may_begin};
+use crate::layout::Layout;
+use crate::nfa_state::NfaState;
+use crate::pair_bits::PairBits;
+use crate::required_bytes::required_bytes;
+use crate::search::Searcher;
+use fancy_expr::error::Error;
+use fancy_info::info::Info;
+use std::alloc::Global;
+
+/// Neighbouring easy nodes, laid out as states.
+#[derive(Drop)]
+pub struct Nfa {
+    pub(crate) states: Vec<NfaState>,
+    pub(crate) unicode: bool,
+    /// Which bit a pair has that was found to have no way.
+    pub(crate) pair_bits: PairBits,
+    /// The ASCII characters that can stand at a way's first places, level by level, beside any others.
+    pub(crate) first_sets: Vec<[bool; 128]>,
+    /// Whether ways seem to need no choice.
+    pub(crate) is_one_pass: bool,
+    /// Bytes of which every way takes one, if some are known.
+    pub(crate) required_bytes: Option<[bool; 256]>,
+    ghost begin: { AreFirstSets unicode (map state_of states.items) first_sets.items },
+    ghost need: { IfSome required_bytes (AreRequired unicode (map state_of states.items)) } by { Prim.hlevel props },
+}
+
+impl Nfa {
+    ghost use Rattle.fancy_plain.specs.Nfas.{AreFine, HaveClasses, IsNfaOf, IsRefusedFor};
+    ghost use Rattle.fancy_plain.specs.Ways.{HasNoWayAt};
+
+    /// The NFA of neighbouring nodes of one analysed tree, none of them hard.
+    ///
+    /// A class text that `regex` excludes is refused as `InnerError` or `ClassTooBig`, but not in a loop that is never
+    /// entered or in a DEFINE, which are not written out. Want of memory is `Error::Memory`.
+    pub fn build(alloc: Global, infos: &[Info], unicode: bool) -> Result<Nfa, Error>
+        requires { AreNeighbours infos.now }
+        ensures nfa { IfOk result (λ f. (a : Analysis)
+            → Each (IsEasy a) infos.now → AreFine (map info_tree infos.now)
+            → IsNfaOf a (map info_tree infos.now) unicode f) }
+        ensures classes { IfOk result (λ f. HaveClasses unicode infos.now) }
+        ensures refused { IfErr result (IsRefusedFor unicode infos.now) }
+    {
+        let states = Vec::new(alloc);
+        let mut layout = Layout {
+            alloc,
+            unicode,
+            states,
+        };
+        layout.lay_each(infos)?;
+        let mut states = layout.states;
+        states.push(NfaState::Match)?;
+        let pair_bits = PairBits::of(&states);
+        let first_sets = first_sets(alloc, &states, unicode)?;
+        let required_bytes = required_bytes(&states, unicode);
+        let searcher = Searcher {
+            states: &states,
+            unicode,
+            text: "",
+        };
+        let is_one_pass = searcher.is_one_pass();
+        Ok(Nfa {
+            states,
+            unicode,
+            pair_bits,
+            first_sets,
+            is_one_pass,
+            required_bytes,
+        })
+    }
+
+    /// Whether a way can begin at `ix`, a character boundary of the text, by the character that stands there. There may
+    /// be none though it can, but where it cannot there is none.
+    pub fn can_begin(&self, text: &str, ix: usize) -> bool
+        requires place { IsTrue (is_place text.now ix) }
+        ensures told { result ≡ may_begin self.now.first_sets.items text.now ix }
+        ensures none { result ≡ false → HasNoWayAt text.now self.now ix }
+    {
+        may_begin(&self.first_sets, text.as_bytes(), ix)
+    }
+
+    /// Ways seem to need no choice.
+    pub fn is_one_pass(&self) -> bool
+        ensures { result ≡ self.now.is_one_pass }
+    {
+        self.is_one_pass
+    }
+
+    /// Whether no way can begin where this byte stands.
+    pub fn excludes(&self, byte: u8) -> bool
+        ensures { IsTrue result → (text : List ℕ) (ix : ℕ) → IsText text → IsTrue (is_place text ix)
+            → slice_get text ix ≡ Some byte → HasNoWayAt text self.now ix }
+    {
+        match self.first_sets.first() {
+            None => false,
+            Some(ascii) => byte < 128 && !ascii[byte as usize],
+        }
+    }
+
+    /// Whether no way can begin where this byte stands behind an ASCII character.
+    pub fn excludes_second(&self, byte: u8) -> bool
+        ensures { IsTrue result → (text : List ℕ) (ix first : ℕ) → IsText text
+            → IsTrue (is_place text ix) → slice_get text ix ≡ Some first → first < 128
+            → slice_get text (ix + 1) ≡ Some byte → HasNoWayAt text self.now ix }
+    {
+        match self.first_sets.get(1) {
+            None => false,
+            Some(second) => byte < 128 && !second[byte as usize],
+        }
+    }
+}
