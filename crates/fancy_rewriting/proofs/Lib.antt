@@ -1,0 +1,4 @@
+pub mod Behind
+pub mod Replaced
+pub mod Wholes
+pub mod Rules

@@ -1,0 +1,3 @@
+pub mod Contexts
+pub mod Rewriting
+pub mod Counterexamples
