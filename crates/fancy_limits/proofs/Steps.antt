@@ -6,10 +6,10 @@ use Rattle.fancy_meaning.specs.Machine.{Task, step_at, exec, then_on, begin, run
 use Rattle.fancy_limits.specs.Limits.{with_step_limit}
 
 module _ (t : Task) where
-  abbrev Settles : ℕ → ℕ → Config → Type 0
+  abbrev pub Settles : ℕ → ℕ → Config → Type 0
   Settles n more c = (exec t n c ≡ StepLimitExceeded) ⊎ (exec t (n + more) c ≡ exec t n c)
 
-  settles : (n more : ℕ) (c : Config) → Settles n more c
+  pub settles : (n more : ℕ) (c : Config) → Settles n more c
   settles zero more c = inl refl
   settles (suc n) more c = by_next (λ d. settles n more d) (step_at t (slice_get (t.program).body c.pc) c) refl
     where
