@@ -1,0 +1,5 @@
+pub mod EasyWays
+pub mod Settled
+pub mod Uniform
+pub mod Begun
+pub mod Successive

@@ -1,0 +1,2 @@
+pub mod StartsBegun
+pub mod Successive
