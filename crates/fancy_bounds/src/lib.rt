@@ -10,14 +10,14 @@ pub fn backtracks_by_starts_begun()
     ensures { BacktracksByStartsBegun }
 {}
 
-/// Eight instructions are enough for each start up to the one where the match was tried, or for all where there is none,
-/// and one more where the longest match is asked for.
+/// Eight instructions are enough for each start up to the one where the match was tried, or for all where there is
+/// none, and one more where the longest match is asked for.
 pub fn instructions_by_starts_begun()
     ensures { InstructionsByStartsBegun }
 {}
 
-/// Searches of which each begins at the start of the match before, or later, begin one start for each place and for each
-/// match together, at most.
+/// Searches of which each begins at the start of the match before, or later, begin one start for each place and for
+/// each match together, at most.
 pub fn starts_of_successive_searches()
     ensures { StartsOfSuccessiveSearches }
 {}

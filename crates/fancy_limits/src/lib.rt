@@ -1,5 +1,5 @@
-//! Limits are monotone: a run that passes none has the same outcome under all higher ones. Each theorem is the contract of
-//! a function that does nothing.
+//! Limits are monotone: a run that passes none has the same outcome under all higher ones. Each theorem is the contract
+//! of a function that does nothing.
 #![tactic(auto)]
 
 ghost use Rattle.fancy_limits.specs.Limits.{StepLimitIsMonotone, BacktrackLimitIsMonotone, LimitsAreMonotone};

@@ -21,8 +21,8 @@ PartsMayBeReplaced = (q : Setting) (whole : Tree) (depths : Depths) (c : Context
     let w : Tree → Ways = λ x. ways q whole x depths in
     HaveEqualWays w c e f → (s : MatchState) → w (filled c e) s ≡ w (filled c f) s
 
--- Replaced in the whole tree, whose groups calls name: where the parts have equal ways whatever calls give, and the same
--- groups, each search has the same answer.
+-- Replaced in the whole tree, whose groups calls name: where the parts have equal ways whatever calls give, and the
+-- same groups, each search has the same answer.
 abbrev pub AnswersKeepUnderReplacement : Type 0
 AnswersKeepUnderReplacement = (q : Search) (c : Context) (e f : Tree) → groups e ≡ groups f →
     ((call : ℕ → Ways) → HaveEqualWays (ways_with q.setting call) c e f) →

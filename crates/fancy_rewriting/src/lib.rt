@@ -1,5 +1,5 @@
-//! A part of a tree may be replaced by one with equal ways, and rules by which trees are written shorter. Each theorem is
-//! the contract of a function that does nothing.
+//! A part of a tree may be replaced by one with equal ways, and rules by which trees are written shorter. Each theorem
+//! is the contract of a function that does nothing.
 #![tactic(auto)]
 
 ghost use Rattle.fancy_rewriting.specs.Rewriting.{PartsMayBeReplaced, AnswersKeepUnderReplacement, RulesKeepWays, RulesKeepAnswers};
@@ -10,8 +10,8 @@ pub fn parts_may_be_replaced()
     ensures { PartsMayBeReplaced }
 {}
 
-/// Parts that have equal ways whatever calls give, and the same groups, may be replaced in the whole tree: each search has
-/// the same answer.
+/// Parts that have equal ways whatever calls give, and the same groups, may be replaced in the whole tree: each search
+/// has the same answer.
 pub fn answers_keep_under_replacement()
     ensures { AnswersKeepUnderReplacement }
 {}
@@ -27,7 +27,8 @@ pub fn rules_keep_answers()
     ensures { RulesKeepAnswers }
 {}
 
-/// Equal ways within one tree are not enough to replace a part of the whole: a call put in its group's place has no way.
+/// Equal ways within one tree are not enough to replace a part of the whole: a call put in its group's place has no
+/// way.
 pub fn calls_need_their_groups()
     ensures { CallsNeedTheirGroups }
 {}

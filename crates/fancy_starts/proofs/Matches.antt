@@ -111,6 +111,21 @@ answer_begins q m h free e = (
   answer_is q ∙ ap (numbers_of q) e ∙ ap Some (numbers_from_start (group_count q.tree) m (begins q m h free e)),
 )
 
+-- where there is an answer there is a match, tried from where the answer begins
+pub match_of_answer : (q : Search) → (q.pos ≤ length q.text) ⊎ (q.anchored ≡ false) → has_keep_out q.tree ≡ false →
+    (from : ℕ) (numbers : List ℕ) → answer q ≡ Some (from ∷ numbers) → (m : Found) × (match_of q ≡ Some m) × (m.0 ≡ from)
+match_of_answer q h free from numbers e = go (match_of q) refl
+  where
+    first_number : List ℕ → ℕ
+    first_number [] = 0
+    first_number (i ∷ is) = i
+
+    go : (o : Option Found) → match_of q ≡ o → (m : Found) × (match_of q ≡ Some m) × (m.0 ≡ from)
+    go None is = absurd (none-some (from ∷ numbers) (sym (ap (numbers_of q) is) ∙ sym (answer_is q) ∙ e))
+    go (Some m) is =
+        let known = answer_begins q m h free is in
+        (m, is, ap first_number (same_Some _ _ (sym known.1 ∙ e)))
+
 -- ---- a later start
 
 module _ (q : Search) (pos : ℕ) (continued : Bool) (not_anchored : q.anchored ≡ false) (free : has_continue q.tree ≡ false)
@@ -151,16 +166,8 @@ module _ (q : Search) (pos : ℕ) (continued : Bool) (not_anchored : q.anchored 
 
   pub same_answer_later : has_keep_out q.tree ≡ false → (from : ℕ) (numbers : List ℕ) → pos ≤ from →
       answer q ≡ Some (from ∷ numbers) → answer later ≡ Some (from ∷ numbers)
-  same_answer_later keeps from numbers at e = go (match_of q) refl
-    where
-      first_number : List ℕ → ℕ
-      first_number [] = 0
-      first_number (i ∷ is) = i
-
-      go : (o : Option Found) → match_of q ≡ o → answer later ≡ Some (from ∷ numbers)
-      go None is = absurd (none-some (from ∷ numbers) (sym (ap (numbers_of q) is) ∙ sym (answer_is q) ∙ e))
-      go (Some m) is =
-          let known = answer_begins q m (inr not_anchored) keeps is in
-          let start : m.0 ≡ from = ap first_number (same_Some _ _ (sym known.1 ∙ e)) in
-          answer_is later ∙ ap (numbers_of later) (same_later m (omega (arith, start, at)) is)
-          ∙ sym (ap (numbers_of q) is) ∙ sym (answer_is q) ∙ e
+  same_answer_later keeps from numbers at e =
+      let known = match_of_answer q (inr not_anchored) keeps from numbers e in
+      let start = known.2 in
+      answer_is later ∙ ap (numbers_of later) (same_later known.0 (omega (arith, start, at)) known.1)
+      ∙ sym (ap (numbers_of q) known.1) ∙ sym (answer_is q) ∙ e

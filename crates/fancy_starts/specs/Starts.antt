@@ -13,6 +13,11 @@ abbrev pub AnswerBeginsAtItsStart : Type 0
 AnswerBeginsAtItsStart = (q : Search) (m : Found) → q.pos ≤ length q.text → has_keep_out q.tree ≡ false →
     match_of q ≡ Some m → (groups : List ℕ) × (answer q ≡ Some (m.0 ∷ (m.1).place ∷ groups))
 
+-- and where it begins is the start that was tried
+abbrev pub MatchOfAnswer : Type 0
+MatchOfAnswer = (q : Search) (from : ℕ) (numbers : List ℕ) → q.pos ≤ length q.text → has_keep_out q.tree ≡ false →
+    answer q ≡ Some (from ∷ numbers) → (m : Found) × (match_of q ≡ Some m) × (m.0 ≡ from)
+
 -- ---- a later start, without `\G`
 
 -- where there is no answer, there is none from a later place

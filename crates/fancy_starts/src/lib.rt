@@ -1,8 +1,8 @@
-//! Where a match begins, where a search may begin, and the longest match beside the first. Each theorem is the contract of
-//! a function that does nothing.
+//! Where a match begins, where a search may begin, and the longest match beside the first. Each theorem is the contract
+//! of a function that does nothing.
 #![tactic(auto)]
 
-ghost use Rattle.fancy_starts.specs.Starts.{AnswerIsOfMatch, AnswerBeginsAtItsStart, NoneFromLater, SameMatchFromLater, SameAnswerFromLater, LongestBesideFirst, LongestAnswerBesideFirst, LongestEndsNoEarlier};
+ghost use Rattle.fancy_starts.specs.Starts.{AnswerIsOfMatch, AnswerBeginsAtItsStart, MatchOfAnswer, NoneFromLater, SameMatchFromLater, SameAnswerFromLater, LongestBesideFirst, LongestAnswerBesideFirst, LongestEndsNoEarlier};
 
 /// The answer of a search is its match as numbers: the chosen way at the earliest start that has an admitted one.
 pub fn answer_is_of_match()
@@ -12,6 +12,11 @@ pub fn answer_is_of_match()
 /// Without `\K` an answer's first two numbers are the start that was tried and the end of the way.
 pub fn answer_begins_at_its_start()
     ensures { AnswerBeginsAtItsStart }
+{}
+
+/// Without `\K` there is a match where there is an answer, and it was tried from where the answer begins.
+pub fn match_of_answer()
+    ensures { MatchOfAnswer }
 {}
 
 /// Without `\G`, a search that has no answer has none from each later place.
@@ -29,8 +34,8 @@ pub fn same_answer_from_later()
     ensures { SameAnswerFromLater }
 {}
 
-/// A search for the longest match has one exactly where a search for the first has, at the same tried start, and it is at
-/// least as long.
+/// A search for the longest match has one exactly where a search for the first has, at the same tried start, and it is
+/// at least as long.
 pub fn longest_beside_first()
     ensures { LongestBesideFirst }
 {}
