@@ -1,7 +1,7 @@
 pub mod FitsLaws
 pub mod StartPrefilterLaws
 pub mod StartRunLaws
-pub mod BlockLaws
+pub mod VectorScanLaws
 pub mod StartsLaws
 pub mod AttemptLaws
 pub mod LazyLoopsLaws

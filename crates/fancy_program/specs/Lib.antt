@@ -4,4 +4,4 @@ pub mod StartPrefilters
 pub mod StartRuns
 pub mod Attempts
 pub mod LazyLoops
-pub mod Wholes
+pub mod SingleDelegates

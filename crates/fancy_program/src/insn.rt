@@ -149,9 +149,9 @@ pub struct Prog {
     /// What lets a run pass over starts, if the program has it.
     pub prefilter: Option<StartPrefilter>,
     /// Whether its runs are likely to need no machine.
-    pub is_whole: bool,
+    pub is_single_delegate: bool,
     /// Its attempts seem to hold one branch at most, and to set no group.
-    pub is_direct: bool,
+    pub is_single_branch: bool,
     ghost fits: { IsTrue (program_fits (prog_with body.items parts)) },
     ghost begins: { ForSome prefilter (IsPrefilterOf (map insn_of body.items)) },
 }

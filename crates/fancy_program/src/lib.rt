@@ -2,12 +2,12 @@
 #![tactic(auto)]
 
 mod attempt;
-mod blocks;
-pub mod hints;
 pub mod insn;
 pub mod lazy;
 mod listing;
 pub mod moves;
 pub mod prefilter;
 mod program;
+pub mod shape;
 pub mod threads;
+mod vector_scan;

@@ -14,7 +14,8 @@ use std::alloc::{AllocError, Global};
 /// A step back by so many characters is a long one.
 pub const LONG_STEP: usize = 64;
 
-/// The place this many characters before. A character has a byte at least, so there is none where the bytes are fewer.
+/// The place this many characters before `ix`. A character has a byte at least, so there is none where the bytes are
+/// fewer.
 pub fn back_by(text: &[u8], chars: usize, ix: usize) -> Option<usize>
     ensures { result ≡ place.back_by text.now chars ix }
 {
@@ -22,18 +23,18 @@ pub fn back_by(text: &[u8], chars: usize, ix: usize) -> Option<usize>
         return None;
     }
     let mut left = chars;
-    let mut at = ix;
+    let mut pos = ix;
     'back: loop {
-        if is_place(text, at) {
+        if is_place(text, pos) {
             if left == 0 {
-                return Some(at);
+                return Some(pos);
             }
             left -= 1;
         }
-        if at == 0 {
+        if pos == 0 {
             return None;
         }
-        at -= 1;
+        pos -= 1;
     }
 }
 
@@ -42,8 +43,8 @@ pub fn chars_between(text: &[u8], from: usize, to: usize) -> usize
     ensures { result ≡ place.chars_between text.now from to }
 {
     let mut count = 0;
-    'places: for at in from..to {
-        if is_place(text, at + 1) {
+    'places: for pos in from..to {
+        if is_place(text, pos + 1) {
             count += 1;
         }
     }
@@ -81,7 +82,7 @@ pub fn past_class(
     }
 }
 
-/// The same, whatever character stands there.
+/// As `past_class`, for any character.
 #[inline(never)]
 fn past_other(
     alloc: Global,

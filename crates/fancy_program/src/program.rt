@@ -6,9 +6,9 @@ ghost use Rattle.fancy_meaning.specs.Fits.{program_fits};
 ghost use Rattle.fancy_program.specs.Insns.{insn_of, prog_with};
 ghost use Rattle.fancy_program.specs.Programs.{prog_of};
 
-use crate::hints::{is_direct, is_whole};
 use crate::insn::{Insn, Prog, ProgParts};
 use crate::prefilter::StartPrefilter;
+use crate::shape::{is_single_branch, is_single_delegate};
 use crate::threads::{crosses_threads, is_shared_by_threads};
 
 impl Prog {
@@ -23,14 +23,14 @@ impl Prog {
         crosses_threads::<Prog>();
         is_shared_by_threads::<Prog>();
         let prefilter = StartPrefilter::of(&body);
-        let is_whole = is_whole(&body);
-        let is_direct = !is_whole && is_direct(&body);
+        let is_single_delegate = is_single_delegate(&body);
+        let is_single_branch = !is_single_delegate && is_single_branch(&body);
         Prog {
             body,
             parts,
             prefilter,
-            is_whole,
-            is_direct,
+            is_single_delegate,
+            is_single_branch,
         }
     }
 

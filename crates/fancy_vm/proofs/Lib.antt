@@ -3,11 +3,11 @@ pub mod ThreadsLaws
 pub mod NumbersLaws
 pub mod CountLaws
 pub mod StepLaws
-pub mod WalksLaws
-pub mod StretchLaws
-pub mod TailsLaws
+pub mod SteppersLaws
+pub mod LookBehindCacheLaws
+pub mod TrailingNewlinesLaws
 pub mod MeaningLaws
 pub mod MemosLaws
 pub mod PairsLaws
-pub mod WholeLaws
-pub mod DirectLaws
+pub mod SingleDelegateLaws
+pub mod SingleBranchLaws

@@ -4,11 +4,11 @@ pub mod Memos
 pub mod Ready
 pub mod Sound
 pub mod Stops
-pub mod Tails
-pub mod Stretches
+pub mod TrailingNewlines
+pub mod LookBehindCaches
 pub mod Outcomes
 pub mod Means
-pub mod Walks
-pub mod WalkSteps
+pub mod Steppers
+pub mod StepperSteps
 pub mod Founds
-pub mod Directs
+pub mod SingleBranch

@@ -2,17 +2,17 @@
 #![tactic(auto)]
 
 mod delegates;
-mod direct;
 mod lazy;
 mod limits;
 mod longest;
+mod look_behind_cache;
 mod machine;
 mod memos;
 mod runs;
+mod single_branch;
+mod single_delegate;
 mod starts;
+mod stepper;
 mod steps;
-mod stretch;
-mod tails;
+mod trailing_newlines;
 pub mod vm;
-mod walk;
-mod whole;

@@ -5,13 +5,13 @@ ghost use Rattle.fancy_meaning.specs.Config as config;
 ghost use Rattle.fancy_meaning.specs.Machine as machine;
 ghost use Rattle.fancy_state.specs.Held.{first_held};
 ghost use Rattle.fancy_vm.specs.Sound.{IsSound};
-ghost use Rattle.fancy_vm.specs.Stretches.{IsStretch};
-ghost use Rattle.fancy_vm.specs.Tails.{AreTails};
+ghost use Rattle.fancy_vm.specs.LookBehindCaches.{IsLookBehindCache};
+ghost use Rattle.fancy_vm.specs.TrailingNewlines.{AreTrailingNewlines};
 
 use crate::longest::Longest;
+use crate::look_behind_cache::LookBehindCache;
 use crate::runs::RunOptions;
-use crate::stretch::Stretch;
-use crate::tails::Tails;
+use crate::trailing_newlines::TrailingNewlines;
 use fancy_expr::error::{Error, RuntimeError};
 use fancy_program::insn::Prog;
 use fancy_state::state::State;
@@ -44,12 +44,12 @@ pub(crate) struct Machine<'a> {
     /// The longest match so far, where the longest is asked for.
     pub(crate) longest: Longest,
     /// From where on only newlines are left in the text.
-    pub(crate) tails: Tails,
-    /// How far back the last long step back went.
-    pub(crate) stretch: Stretch,
+    pub(crate) trailing_newlines: TrailingNewlines,
+    /// What the last long step back found.
+    pub(crate) look_behind_cache: LookBehindCache,
     ghost sound: { IsSound task state },
-    ghost are_tails: { AreTails task.text.now tails },
-    ghost is_stretch: { IsStretch task.text.now stretch },
+    ghost are_trailing_newlines: { AreTrailingNewlines task.text.now trailing_newlines },
+    ghost is_cache: { IsLookBehindCache task.text.now look_behind_cache },
 }
 
 /// What an instruction led to.
@@ -116,8 +116,8 @@ impl<'a> Machine<'a> {
             passed: 0,
             state,
             longest,
-            tails: Tails::new(),
-            stretch: Stretch::new(),
+            trailing_newlines: TrailingNewlines::new(),
+            look_behind_cache: LookBehindCache::new(),
         }
     }
 

@@ -76,7 +76,7 @@ impl Memos {
         }
     }
 
-    /// A search of the fragment that stands there was made in this run.
+    /// A search of the fragment there was made in this run.
     #[inline(always)]
     pub(crate) fn have_memoized(&self, pc: usize) -> bool {
         match self.by_place.get(pc) {
@@ -85,7 +85,7 @@ impl Memos {
         }
     }
 
-    /// The first way from `ix` of the fragment that stands at `pc` in the program, by what this run noted of it.
+    /// The first way from `ix` of the fragment at `pc` of the program, by what this run noted of it.
     pub(crate) fn first_way(
         &mut self,
         task: &Task<'_>,
@@ -113,7 +113,7 @@ impl Memos {
         way
     }
 
-    /// Takes out what was noted in this run of the fragment that stands at `pc` in the program.
+    /// Takes out what was noted in this run of the fragment at `pc` of the program.
     fn memo_for(
         &mut self,
         task: &Task<'_>,

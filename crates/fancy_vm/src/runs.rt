@@ -7,7 +7,7 @@ ghost use Rattle.fancy_meaning.specs.Machine as machine;
 ghost use Rattle.fancy_meaning.specs.Fits.{run_fits};
 ghost use Rattle.fancy_vm.specs.Memos.{AreMemosOf};
 ghost use Rattle.fancy_vm.specs.Means.{IsMeaning, IsMeaningPair, answer_in, numbers_of};
-ghost use Rattle.fancy_vm.specs.Outcomes.{Finds, RunAnswers, RunAnswersPair, config_of, held_match, plain_task};
+ghost use Rattle.fancy_vm.specs.Outcomes.{RunEnds, RunAnswers, RunAnswersPair, config_of, held_match, plain_task};
 ghost use Rattle.fancy_vm.specs.Ready.{AreFresh, IsReady};
 ghost use Rattle.fancy_state.specs.Held.{first_held};
 ghost use Rattle.fancy_state.specs.Refused.{IsMemory};
@@ -17,7 +17,7 @@ ghost use Rattle.fancy_vm.specs.Tasks.{IsUnused, allocator_of, default_at, defau
 use crate::longest::Longest;
 use crate::machine::{MAX_BRANCHES, Machine, Next, Stop, Task};
 use crate::memos::Memos;
-use crate::whole::Found;
+use crate::single_delegate::Found;
 use fancy_characters::places::is_place;
 use fancy_expr::error::{Error, RuntimeError};
 use fancy_program::insn::{Insn, Prog};
@@ -47,7 +47,7 @@ pub struct RunOptions {
 
 impl RunOptions {
     /// The default from this place on.
-    fn at(pos: usize) -> RunOptions
+    fn from_pos(pos: usize) -> RunOptions
         ensures { options_of result ≡ default_at pos }
     {
         RunOptions {
@@ -80,7 +80,7 @@ impl Default for RunOptions {
     fn default() -> RunOptions
         ensures { options_of result ≡ default_at 0 }
     {
-        RunOptions::at(0)
+        RunOptions::from_pos(0)
     }
 }
 
@@ -207,7 +207,7 @@ pub fn run_default(
         (λ found. IsMeaning (prog_of prog.now) text.now (default_at pos) (numbers_of found)) }
 {
     let mut scratch = Scratch::new(alloc);
-    run(alloc, prog, text, &RunOptions::at(pos), &mut scratch)
+    run(alloc, prog, text, &RunOptions::from_pos(pos), &mut scratch)
 }
 
 impl Scratch {
@@ -348,7 +348,7 @@ impl Machine<'_> {
         requires place { IsTrue (is_place self.old.task.text.now self.old.task.options.now.pos) }
         requires memos { AreMemosOf self.old.task memos.old }
         ensures task { self.new.task ≡ self.old.task }
-        ensures finds { Finds (machine.run (plain_task self.old.task)) result self.new }
+        ensures finds { RunEnds (machine.run (plain_task self.old.task)) result self.new }
     {
         let mut left = self.task.options.step_limit;
         let prog = self.task.prog;

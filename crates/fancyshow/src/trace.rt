@@ -6,7 +6,7 @@ use crate::outcome::Trouble;
 use crate::refusals::refusal;
 use crate::request::Request;
 use fancy_expr::error::Error;
-use fancy_vm::vm::{Prog, Progress, RunOptions, Walk};
+use fancy_vm::vm::{Prog, Progress, RunOptions, Stepper};
 use std::alloc::{AllocError, Global};
 
 /// How many instructions a run may execute where nothing else is said.
@@ -14,10 +14,10 @@ const MOST_STEPS: u64 = 1_000;
 
 const HEAD: &str = "    step    byte  branches  backtracks  instruction\n";
 
-/// Writes where the walk stands: the instruction that is next, and how many were executed before.
-fn push_standing(out: &mut String, prog: &Prog, walk: &Walk<'_>) -> Result<(), AllocError> {
-    let (steps, pc, ix) = (walk.steps(), walk.pc(), walk.ix());
-    let (branches, backtracks) = (walk.branches(), walk.backtracks());
+/// Writes where the stepper is: the instruction that is next, and how many were executed before.
+fn push_standing(out: &mut String, prog: &Prog, stepper: &Stepper<'_>) -> Result<(), AllocError> {
+    let (steps, pc, ix) = (stepper.steps(), stepper.pc(), stepper.ix());
+    let (branches, backtracks) = (stepper.branches(), stepper.backtracks());
     write!(
         out,
         "{steps:>8}  {ix:>6}  {branches:>8}  {backtracks:>10}  {pc}"
@@ -53,14 +53,19 @@ fn options(request: &Request) -> RunOptions {
     }
 }
 
-/// Writes each instruction that the walk executes, so many at most and one more, and last what it answers.
-fn push_steps(out: &mut String, prog: &Prog, walk: Walk<'_>, most: u64) -> Result<(), AllocError> {
+/// Writes each instruction that the stepper executes, so many at most and one more, and last what it answers.
+fn push_steps(
+    out: &mut String,
+    prog: &Prog,
+    stepper: Stepper<'_>,
+    most: u64,
+) -> Result<(), AllocError> {
     out.push_str(HEAD)?;
-    let mut walk = walk;
+    let mut stepper = stepper;
     for _ in 0..=most {
-        push_standing(out, prog, &walk)?;
-        match walk.step() {
-            Ok(Progress::GoesOn(further)) => walk = further,
+        push_standing(out, prog, &stepper)?;
+        match stepper.step() {
+            Ok(Progress::GoesOn(further)) => stepper = further,
             Ok(Progress::Ends(found)) => return push_numbers(out, &found),
             Err(error) => return writeln!(out, "{error}"),
         }
@@ -78,9 +83,9 @@ fn written(
     if !options.fits(prog, text) {
         return Ok(None);
     }
-    let walk = Walk::new(alloc, prog, text, options)?;
+    let stepper = Stepper::new(alloc, prog, text, options)?;
     let mut out = String::new(alloc);
-    push_steps(&mut out, prog, walk, options.step_limit)?;
+    push_steps(&mut out, prog, stepper, options.step_limit)?;
     Ok(Some(out))
 }
 

@@ -9,24 +9,24 @@ returns-then-chars-ix c = back_too_far c.args.text.now c.args.chars c.args.ix c.
 
 pub returns-then-left-eq0 : goal.returns-then-left-eq0
 returns-then-left-eq0 c =
-    sym (back_here c.args.text.now c.back.at (sym c.if-is_place.ensures))
-    ∙ ap (λ n. place.back_by c.args.text.now n c.back.at) (sym c.if-left-eq0.true) ∙ c.back.invariant
+    sym (back_here c.args.text.now c.back.pos (sym c.if-is_place.ensures))
+    ∙ ap (λ n. place.back_by c.args.text.now n c.back.pos) (sym c.if-left-eq0.true) ∙ c.back.invariant
 
-pub returns-then-at-eq0 : goal.returns-then-at-eq0
-returns-then-at-eq0 c =
+pub returns-then-pos-eq0 : goal.returns-then-pos-eq0
+returns-then-pos-eq0 c =
     elim c.if-is_place.branch [
-      | then-is_place+else-left-eq0 w ↦ back_out_on c.args.text.now c.back.left c.back.at c.if-at-eq0.true (sym w.if-is_place.ensures) (omega arith)
+      | then-is_place+else-left-eq0 w ↦ back_out_on c.args.text.now c.back.left c.back.pos c.if-pos-eq0.true (sym w.if-is_place.ensures) (omega arith)
           ∙ c.back.invariant
-      | else-is_place w ↦ back_out c.args.text.now c.back.left c.back.at c.if-at-eq0.true (sym w.if-is_place.ensures) ∙ c.back.invariant
+      | else-is_place w ↦ back_out c.args.text.now c.back.left c.back.pos c.if-pos-eq0.true (sym w.if-is_place.ensures) ∙ c.back.invariant
     ]
 
 pub back-preserved : goal.back-preserved
 back-preserved c =
     elim c.if-is_place.branch [
       | then-is_place+else-left-eq0 w ↦
-          ap (λ n. place.back_by c.args.text.now n (c.back.at - 1)) w.left-is
-          ∙ back_on c.args.text.now c.back.left c.back.at (sym w.if-is_place.ensures) (omega arith) (omega arith) ∙ c.back.invariant
+          ap (λ n. place.back_by c.args.text.now n (c.back.pos - 1)) w.left-is
+          ∙ back_on c.args.text.now c.back.left c.back.pos (sym w.if-is_place.ensures) (omega arith) (omega arith) ∙ c.back.invariant
       | else-is_place w ↦
-          ap (λ n. place.back_by c.args.text.now n (c.back.at - 1)) w.left-is
-          ∙ back_over c.args.text.now c.back.left c.back.at (sym w.if-is_place.ensures) (omega arith) ∙ c.back.invariant
+          ap (λ n. place.back_by c.args.text.now n (c.back.pos - 1)) w.left-is
+          ∙ back_over c.args.text.now c.back.left c.back.pos (sym w.if-is_place.ensures) (omega arith) ∙ c.back.invariant
     ]

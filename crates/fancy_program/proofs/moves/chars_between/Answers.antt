@@ -11,19 +11,19 @@ places-init c = sym (no_chars c.args.text.now c.args.from (min c.args.from c.arg
 
 pub overflow_add-count : goal.overflow_add-count
 overflow_add-count c =
-    let few = chars_at_most c.args.text.now c.args.from (min c.places.at c.args.to) in
+    let few = chars_at_most c.args.text.now c.args.from (min c.places.pos c.args.to) in
     omega (arith, few, c.places.invariant, c.places-test.true, c.ranges.to)
 
 pub places-preserved : goal.places-preserved
 places-preserved c =
-    let here : min c.places.at c.args.to ≡ c.places.at = omega arith in
-    let next : min (c.places.at + 1) c.args.to ≡ suc c.places.at = omega arith in
-    let up : suc c.places.at ≡ c.places.at + 1 = omega arith in
+    let here : min c.places.pos c.args.to ≡ c.places.pos = omega arith in
+    let next : min (c.places.pos + 1) c.args.to ≡ suc c.places.pos = omega arith in
+    let up : suc c.places.pos ≡ c.places.pos + 1 = omega arith in
     let count = place.chars_between c.args.text.now c.args.from in
     let before = c.places.invariant ∙ ap count here in
     let stands = ap (place.is_place c.args.text.now) up in
-    let more = λ (v : Bool) (e : place.is_place c.args.text.now (c.places.at + 1) ≡ v).
-    more_chars c.args.text.now c.args.from c.places.at v (stands ∙ e) (omega arith) in
+    let more = λ (v : Bool) (e : place.is_place c.args.text.now (c.places.pos + 1) ≡ v).
+    more_chars c.args.text.now c.args.from c.places.pos v (stands ∙ e) (omega arith) in
     elim c.if-is_place.branch [
       | then-is_place w ↦
           w.count-is ∙ ap (λ n. n + 1) before ∙ sym (ap count next ∙ more _ (sym w.if-is_place.ensures))
@@ -34,5 +34,5 @@ places-preserved c =
 
 pub returns : goal.returns
 returns c =
-    let all : min c.places.at c.args.to ≡ c.args.to = omega (arith, c.places-test.false) in
+    let all : min c.places.pos c.args.to ≡ c.args.to = omega (arith, c.places-test.false) in
     c.places.invariant ∙ ap (place.chars_between c.args.text.now c.args.from) all

@@ -8,4 +8,4 @@ use Rattle.fancy_vm.proofs.runs.run_default.Goals as goal
 pub returns-clause-headline : goal.returns-clause-headline
 returns-clause-headline c =
     subst (λ (o : RunOptions). IfOk c.run.result (λ found. IsMeaning (prog_of c.args.prog.now) c.args.text.now o (numbers_of found)))
-    c.at.ensures c.run.ensures.headline
+    c.from_pos.ensures c.run.ensures.headline

@@ -4,7 +4,7 @@ use Rattle.fancy_program.specs.Programs.{prog_of}
 use Rattle.fancy_vm.specs.Tasks.{options_of, task_of}
 use Rattle.fancy_vm.specs.Founds.{IsFound}
 use Rattle.fancy_vm.proofs.MeaningLaws.{run_means_pair}
-use Rattle.fancy_vm.proofs.WholeLaws.{found_pair}
+use Rattle.fancy_vm.proofs.SingleDelegateLaws.{found_pair}
 use Rattle.fancy_vm.proofs.runs.run_spans.Goals as goal
 
 pub returns-in-Match-clause-machine : goal.returns-in-Match-clause-machine

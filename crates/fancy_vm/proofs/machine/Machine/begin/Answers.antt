@@ -22,8 +22,8 @@ invariant_of-result c =
     record {
       sound = subst (IsSound c.args.task.now) (sym c.requires.state)
           (record { slots = len; small = omega (arith, len); max_stack = refl; implicit = c.requires.implicit });
-      are_tails = c.new.ensures c.args.task.now.text.now;
-      is_stretch = c.new-2.ensures c.args.task.now.text.now;
+      are_trailing_newlines = c.new.ensures c.args.task.now.text.now;
+      is_cache = c.new-2.ensures c.args.task.now.text.now;
     }
 
 pub returns-clause-begins : goal.returns-clause-begins

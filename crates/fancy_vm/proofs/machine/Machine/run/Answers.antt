@@ -5,7 +5,7 @@ use Rattle.fancy_meaning.specs.Machine as machine
 use Rattle.fancy_meaning.specs.Places.{is_place}
 use Rattle.fancy_laws.proofs.Every.{no_item}
 use Rattle.fancy_vm.specs.Memos.{AreMemosOf}
-use Rattle.fancy_vm.specs.Outcomes.{StepAnswers, config_of, ending, plain_task, Finds}
+use Rattle.fancy_vm.specs.Outcomes.{StepAnswers, config_of, ending, plain_task, RunEnds}
 use Rattle.fancy_vm.specs.declared.machine.Task.{Task}
 use Rattle.fancy_program.proofs.PlacesLaws.{GoesToPlaces, IsAtPlaces, step_at_leads}
 use Rattle.fancy_program.proofs.StartsLaws.{all_at_places, runs_past}
@@ -80,7 +80,7 @@ returns-in_err-step-clause-finds c =
     let p = err_from_is_err_and c.from_residual.result c.from_residual.ensures.1 in
     let leads = subst (λ (t : Task). StepAnswers (next_of (plain_task t) now) (Err stop) new) c.steps.invariant.task c.in_err-step.ensures.leads in
     rw (p.1, p.2)
-    (subst (λ (o : Outcome). Finds o (Err stop) new) c.steps.invariant.same
+    (subst (λ (o : Outcome). RunEnds o (Err stop) new) c.steps.invariant.same
     (stop_finds (plain_task task) now new left stop c.steps-test.true leads))
 
 pub returns-in_err-step-clause-task : goal.returns-in_err-step-clause-task

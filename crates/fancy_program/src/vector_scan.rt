@@ -1,0 +1,250 @@
+//! The vector scan: where in 32 bytes of a text one of a few needles stands, or a character that is not ASCII.
+
+ghost use Rattle.std.specs.Prelude.{◌≡◌, ◌<◌, ◌≤◌, ◌+◌, ℕ, IfSome, IsTrue, None, Some, false, length, map};
+ghost use Rattle.std.specs.List.{range_with_len};
+ghost use Rattle.std.specs.Simd.Lanes.{mask_l};
+ghost use Rattle.fancy_program.specs.StartRuns.{AreBare, AreSingle, AreNeedlesOf, IsBare, IsSingle, is_candidate};
+
+use std::simd::prelude::*;
+
+/// How many bytes a vector has.
+pub(crate) const VECTOR: usize = 32;
+
+/// Needles: the ASCII characters from `first` to `last`, and up to two more. 128 stands for one that is missing.
+#[derive(Clone, Copy)]
+pub(crate) struct Needles {
+    first: u8,
+    last: u8,
+    second: u8,
+    third: u8,
+}
+
+/// A position is a candidate where one of the first needles stands, and after it a second one, if there are any, or a
+/// byte that is not ASCII. It is one also where such a byte stands itself.
+#[derive(Clone, Copy)]
+pub(crate) struct NeedlePair {
+    pub(crate) first: Needles,
+    pub(crate) second: Option<Needles>,
+}
+
+/// What is known of needles before a scan, which saves comparisons.
+#[derive(Clone, Copy)]
+pub(crate) struct ScanKind {
+    /// Each range of needles is one character.
+    pub(crate) is_single: bool,
+    /// There are no needles but the ranges.
+    pub(crate) is_bare: bool,
+}
+
+impl ScanKind {
+    #[inline(always)]
+    pub(crate) fn of(is_single: bool, is_bare: bool) -> ScanKind
+        ensures single { result.is_single ≡ is_single }
+        ensures bare { result.is_bare ≡ is_bare }
+    {
+        ScanKind { is_single, is_bare }
+    }
+}
+
+impl Needles {
+    /// The range is one character.
+    fn is_single(self) -> bool
+        ensures { IsTrue result → IsSingle self }
+    {
+        self.first == self.last
+    }
+
+    /// There are no needles but the range.
+    fn is_bare(self) -> bool
+        ensures { IsTrue result → IsBare self }
+    {
+        self.second == 128 && self.third == 128
+    }
+
+    /// One of the needles is common in texts, so that the second byte is worth a comparison at once.
+    pub(crate) fn are_common(self) -> bool {
+        is_common(self.first) || is_common(self.second) || is_common(self.third)
+    }
+}
+
+/// The byte is a small letter, a digit or a space, as most of many texts are.
+fn is_common(byte: u8) -> bool {
+    matches!(byte, b'a'..=b'z' | b'0'..=b'9' | b' ')
+}
+
+impl NeedlePair {
+    /// What is known of these needles.
+    pub(crate) fn kind(self) -> ScanKind
+        ensures single { IsTrue result.is_single → AreSingle self }
+        ensures bare { IsTrue result.is_bare → AreBare self }
+    {
+        let needles = self.first;
+        match self.second {
+            None => ScanKind {
+                is_single: needles.is_single(),
+                is_bare: needles.is_bare(),
+            },
+            Some(second) => ScanKind {
+                is_single: needles.is_single() && second.is_single(),
+                is_bare: needles.is_bare() && second.is_bare(),
+            },
+        }
+    }
+
+    /// How many positions of the vector at `pos` come before the first candidate, if there is one. The byte after the
+    /// vector is read too.
+    #[inline(always)]
+    pub(crate) fn first_candidate(self, text: &[u8], pos: usize, kind: ScanKind) -> Option<usize>
+        requires room { pos + VECTOR < length text.now }
+        requires single { IsTrue kind.is_single → AreSingle self }
+        requires bare { IsTrue kind.is_bare → AreBare self }
+        ensures none { result ≡ None → (k : ℕ) → pos ≤ k → k < pos + VECTOR
+            → is_candidate self text.now k ≡ false }
+        ensures within { IfSome result (λ count. count ≤ VECTOR) }
+        ensures before { IfSome result (λ count. (k : ℕ) → pos ≤ k → k < pos + count
+            → is_candidate self text.now k ≡ false) }
+    {
+        let candidates = self.candidates(text, pos, kind);
+        if candidates == 0 {
+            return None;
+        }
+        Some(candidates.trailing_zeros() as usize)
+    }
+
+    /// A bit for each candidate of the vector.
+    #[inline(always)]
+    fn candidates(self, text: &[u8], pos: usize, kind: ScanKind) -> u64
+        requires room { pos + VECTOR < length text.now }
+        requires single { IsTrue kind.is_single → AreSingle self }
+        requires bare { IsTrue kind.is_bare → AreBare self }
+        ensures { result ≡ mask_l (map (is_candidate self text.now) (range_with_len pos VECTOR)) }
+    {
+        match self.second {
+            None => self.candidates_of_one(text, pos, kind),
+            Some(second) => self.candidates_of_pair(second, text, pos, kind),
+        }
+    }
+
+    /// The candidates where there are no second needles.
+    #[inline(always)]
+    fn candidates_of_one(self, text: &[u8], pos: usize, kind: ScanKind) -> u64
+        requires room { pos + VECTOR < length text.now }
+        requires single { IsTrue kind.is_single → AreSingle self }
+        requires bare { IsTrue kind.is_bare → AreBare self }
+        requires none { self.second ≡ None }
+        ensures { result ≡ mask_l (map (is_candidate self text.now) (range_with_len pos VECTOR)) }
+    {
+        let needles = self.first;
+        let block = u8x32::from_slice(&text[pos..]);
+        let high = block.simd_ge(u8x32::splat(128));
+        let one = high | block.simd_eq(u8x32::splat(needles.first));
+        if kind.is_single && kind.is_bare {
+            return one.to_bitmask();
+        }
+        let others = block.simd_eq(u8x32::splat(needles.second))
+            | block.simd_eq(u8x32::splat(needles.third));
+        if kind.is_single {
+            return (one | others).to_bitmask();
+        }
+        let range = block.simd_ge(u8x32::splat(needles.first))
+            & block.simd_le(u8x32::splat(needles.last));
+        ((high | range) | others).to_bitmask()
+    }
+
+    /// The candidates where these are the second needles.
+    #[inline(always)]
+    fn candidates_of_pair(self, second: Needles, text: &[u8], pos: usize, kind: ScanKind) -> u64
+        requires room { pos + VECTOR < length text.now }
+        requires single { IsTrue kind.is_single → AreSingle self }
+        requires bare { IsTrue kind.is_bare → AreBare self }
+        requires second { self.second ≡ Some second }
+        ensures { result ≡ mask_l (map (is_candidate self text.now) (range_with_len pos VECTOR)) }
+    {
+        let needles = self.first;
+        let block = u8x32::from_slice(&text[pos..]);
+        let after = u8x32::from_slice(&text[pos + 1..]);
+        let high = block.simd_ge(u8x32::splat(128));
+        let high_after = after.simd_ge(u8x32::splat(128));
+        let one = high | block.simd_eq(u8x32::splat(needles.first));
+        let one_after = high_after | after.simd_eq(u8x32::splat(second.first));
+        if kind.is_single && kind.is_bare {
+            return ((one & one_after) | high).to_bitmask();
+        }
+        let others = block.simd_eq(u8x32::splat(needles.second))
+            | block.simd_eq(u8x32::splat(needles.third));
+        let others_after = after.simd_eq(u8x32::splat(second.second))
+            | after.simd_eq(u8x32::splat(second.third));
+        if kind.is_single {
+            return (((one | others) & (one_after | others_after)) | high).to_bitmask();
+        }
+        let range = block.simd_ge(u8x32::splat(needles.first))
+            & block.simd_le(u8x32::splat(needles.last));
+        let range_after = after.simd_ge(u8x32::splat(second.first))
+            & after.simd_le(u8x32::splat(second.last));
+        let hits = (high | range) | others;
+        let hits_after = (high_after | range_after) | others_after;
+        ((hits & hits_after) | high).to_bitmask()
+    }
+}
+
+/// The ASCII characters that are not in the set, where they are at most three, or a range without a common one.
+pub(crate) fn needles_outside(set: &[bool; 256]) -> Option<Needles>
+    ensures { IfSome result (λ needles. AreNeedlesOf set.now needles) }
+{
+    if let Some(needles) = three_outside(set) {
+        return Some(needles);
+    }
+    range_outside(set)
+}
+
+/// The ASCII characters that are not in the set, where they are at most three.
+fn three_outside(set: &[bool; 256]) -> Option<Needles>
+    ensures { IfSome result (λ needles. AreNeedlesOf set.now needles) }
+{
+    let mut needles = Needles {
+        first: 128,
+        last: 128,
+        second: 128,
+        third: 128,
+    };
+    'ask: for b in 0..128u8 {
+        if set[b as usize] {
+            continue;
+        }
+        if needles.third < 128 {
+            return None;
+        }
+        needles = Needles {
+            first: b,
+            last: b,
+            second: needles.first,
+            third: needles.second,
+        };
+    }
+    Some(needles)
+}
+
+/// The range of the ASCII characters that are not in the set, where it has no common one.
+fn range_outside(set: &[bool; 256]) -> Option<Needles>
+    ensures { IfSome result (λ needles. AreNeedlesOf set.now needles) }
+{
+    let mut first = 128;
+    let mut last = 0;
+    'ask: for b in 0..128u8 {
+        if !set[b as usize] {
+            first = b.min(first);
+            last = b;
+        }
+    }
+    'common: for b in first..=last {
+        if is_common(b) {
+            return None;
+        }
+    }
+    Some(Needles {
+        first,
+        last,
+        second: 128,
+        third: 128,
+    })
+}
