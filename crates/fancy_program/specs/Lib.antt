@@ -5,3 +5,4 @@ pub mod StartRuns
 pub mod Attempts
 pub mod LazyLoops
 pub mod SingleDelegates
+pub mod Strategies

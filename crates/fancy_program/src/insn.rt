@@ -7,8 +7,10 @@ ghost use Rattle.fancy_meaning.specs.Fits.{answer_fits, flag_fits, instr_fits, i
 ghost use Rattle.fancy_program.specs.declared.insn.Insn.{Insn};
 ghost use Rattle.fancy_program.specs.Attempts.{IsPrefilterOf};
 ghost use Rattle.fancy_program.specs.Insns.{insn_of, prog_with};
+ghost use Rattle.fancy_program.specs.Strategies.{IsStrategyOf};
 
 use crate::prefilter::StartPrefilter;
+use crate::strategy::Strategy;
 use fancy_characters::classes::{CaseiLiteral, CharClassMatcher};
 use fancy_characters::look::is_of_end;
 use fancy_expr::expr::Assertion;
@@ -148,12 +150,11 @@ pub struct Prog {
     pub parts: ProgParts,
     /// What lets a run pass over starts, if the program has it.
     pub prefilter: Option<StartPrefilter>,
-    /// Whether its runs are likely to need no machine.
-    pub is_single_delegate: bool,
-    /// Its attempts seem to hold one branch at most, and to set no group.
-    pub is_single_branch: bool,
+    /// Which way its runs take.
+    pub strategy: Strategy,
     ghost fits: { IsTrue (program_fits (prog_with body.items parts)) },
     ghost begins: { ForSome prefilter (IsPrefilterOf (map insn_of body.items)) },
+    ghost decides: { IsStrategyOf (map insn_of body.items) prefilter strategy },
 }
 
 impl ProgParts {

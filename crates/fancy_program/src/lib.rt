@@ -8,6 +8,7 @@ mod listing;
 pub mod moves;
 pub mod prefilter;
 mod program;
-pub mod shape;
+mod shape;
+pub mod strategy;
 pub mod threads;
 mod vector_scan;

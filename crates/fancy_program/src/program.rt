@@ -8,7 +8,7 @@ ghost use Rattle.fancy_program.specs.Programs.{prog_of};
 
 use crate::insn::{Insn, Prog, ProgParts};
 use crate::prefilter::StartPrefilter;
-use crate::shape::{is_single_branch, is_single_delegate};
+use crate::strategy::Strategy;
 use crate::threads::{crosses_threads, is_shared_by_threads};
 
 impl Prog {
@@ -22,15 +22,14 @@ impl Prog {
     {
         crosses_threads::<Prog>();
         is_shared_by_threads::<Prog>();
-        let prefilter = StartPrefilter::of(&body);
-        let is_single_delegate = is_single_delegate(&body);
-        let is_single_branch = !is_single_delegate && is_single_branch(&body);
+        let insns: &[Insn] = &body;
+        let prefilter = StartPrefilter::of(insns);
+        let strategy = Strategy::of(insns, &prefilter);
         Prog {
             body,
             parts,
             prefilter,
-            is_single_delegate,
-            is_single_branch,
+            strategy,
         }
     }
 

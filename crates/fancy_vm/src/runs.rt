@@ -17,7 +17,7 @@ ghost use Rattle.fancy_vm.specs.Tasks.{IsUnused, allocator_of, default_at, defau
 use crate::longest::Longest;
 use crate::machine::{MAX_BRANCHES, Machine, Next, Stop, Task};
 use crate::memos::Memos;
-use crate::single_delegate::Found;
+use crate::strategy::Found;
 use fancy_characters::places::is_place;
 use fancy_expr::error::{Error, RuntimeError};
 use fancy_program::insn::{Insn, Prog};
@@ -158,7 +158,7 @@ pub fn run_into(
         options,
         alloc,
     };
-    match task.run_without_machine()? {
+    match task.run_by_strategy()? {
         Found::Match(start, end) => {
             task.write_pair(numbers, start, end)?;
             Ok(true)
@@ -187,7 +187,7 @@ pub fn run_spans(
         options,
         alloc,
     };
-    match task.run_without_machine()? {
+    match task.run_by_strategy()? {
         Found::Match(start, end) => Ok(Some((start.min(end), end))),
         Found::NoMatch => Ok(None),
         Found::Unknown => scratch.answer_pair(&task),

@@ -3,7 +3,11 @@ use Rattle.fancy_program.proofs.ThreadsLaws.{prog_sends, prog_syncs}
 use Rattle.fancy_program.proofs.insn.Prog.new.Goals as goal
 
 pub invariant_of-result : goal.invariant_of-result
-invariant_of-result c = record { fits = c.requires; begins = rw c.deref.ensures.value at c.of-prefilter.ensures }
+invariant_of-result c = record {
+  fits = c.requires;
+  begins = rw c.deref-insns.ensures.value at c.of-prefilter.ensures;
+  decides = rw c.deref-insns.ensures.value at c.of-strategy.ensures;
+}
 
 pub crosses_threads-requires-send-T : goal.crosses_threads-requires-send-T
 crosses_threads-requires-send-T c κs = search (prog_sends, sendable) depth 20
