@@ -107,7 +107,8 @@ impl Delegate {
     }
 }
 
-/// The pattern text of neighbouring nodes, one behind the other, in UTF-8. `Memory` where a request for memory was refused.
+/// The pattern text of neighbouring nodes, one behind the other, in UTF-8. `Memory` where a request for memory was
+/// refused.
 pub fn pattern_text(alloc: Global, infos: &[Info]) -> Result<String, Error>
     requires { AreEasyNeighbours infos.now }
     ensures text { IfOk result (λ text. (unicode : Bool)

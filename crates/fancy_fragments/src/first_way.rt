@@ -1,9 +1,10 @@
 //! The first way of a fragment from a place.
 
-ghost use Rattle.std.specs.Prelude.{ℕ, List, IfOk, IfErr, IsTrue};
+ghost use Rattle.std.specs.Prelude.{ℕ, Bool, List, false, IfOk, IfErr, IsTrue};
 ghost use Rattle.fancy_meaning.specs.Places.{is_place};
-ghost use Rattle.fancy_plain.specs.Searches.{IsMemory};
-ghost use Rattle.fancy_plain.specs.Ways.{HasAscending};
+ghost use Rattle.fancy_nfa.specs.NfaSearch.{Pair};
+ghost use Rattle.fancy_plain.specs.Searches.{HaveFailed, IsMemory};
+ghost use Rattle.fancy_plain.specs.Ways.{CountsVisits, HasAscending};
 ghost use Rattle.fancy_fragments.specs.Fragments.{IsFirstWayOf, IsMemoFor};
 
 use crate::fragment::Fragment;
@@ -23,6 +24,8 @@ pub fn first_way(
     requires place { IsTrue (is_place text.now ix) }
     ensures first { IfOk result (IsFirstWayOf text.now fragment.now ix) }
     ensures ascends { IfOk result HasAscending }
+    ensures visits { IfOk result
+        (CountsVisits text.now fragment.now.nfa (λ pair. false) ix) }
     ensures refused { IfErr result IsMemory }
 {
     let mut memo = fragment.memo(alloc, ix);
@@ -41,26 +44,10 @@ pub fn first_way_with(
     requires memo { IsMemoFor text.now fragment.now memo.old }
     ensures first { IfOk result (IsFirstWayOf text.now fragment.now ix) }
     ensures ascends { IfOk result HasAscending }
+    ensures visits { IfOk result (λ answer. (failed : Pair → Bool) → HaveFailed memo.old failed
+        → CountsVisits text.now fragment.now.nfa failed ix answer) }
     ensures memo { IsMemoFor text.now fragment.now memo.new }
     ensures refused { IfErr result IsMemory }
 {
     fancy_plain::first_way::first_way_with(alloc, &fragment.nfa, text, ix, memo)
-}
-
-/// As `first_way_with`, for a caller who has asked whether a way can begin there.
-pub fn first_way_from(
-    alloc: Global,
-    fragment: &Fragment,
-    text: &str,
-    ix: usize,
-    memo: &mut Memo,
-) -> Result<FirstWay, Error>
-    requires place { IsTrue (is_place text.now ix) }
-    requires memo { IsMemoFor text.now fragment.now memo.old }
-    ensures first { IfOk result (IsFirstWayOf text.now fragment.now ix) }
-    ensures ascends { IfOk result HasAscending }
-    ensures memo { IsMemoFor text.now fragment.now memo.new }
-    ensures refused { IfErr result IsMemory }
-{
-    fancy_plain::first_way::first_way_from(alloc, &fragment.nfa, text, ix, memo)
 }

@@ -1,12 +1,13 @@
 //! Fragments: neighbouring easy nodes that are searched for plainly.
 
-ghost use Rattle.std.specs.Prelude.{◌≡◌, ◌*◌, ℕ, List, IfOk, IfErr, map, nat_le};
+ghost use Rattle.std.specs.Prelude.{◌≡◌, ◌*◌, ℕ, List, false, IfOk, IfErr, map, nat_le};
 ghost use Rattle.fancy_meaning.specs.Fits.{fragment_fits};
 ghost use Rattle.fancy_expr.specs.Views.{tree_of};
 ghost use Rattle.fancy_expr.specs.Walk.{within_of};
 ghost use Rattle.fancy_info.specs.Infos.{info_tree};
 ghost use Rattle.fancy_plain.specs.OnePass.{IsOnePass};
 ghost use Rattle.fancy_plain.specs.Nfas.{HaveClasses, IsRefusedFor};
+ghost use Rattle.fancy_plain.specs.Searches.{HaveFailed};
 ghost use Rattle.fancy_plain.specs.Ways.{HasNoWayAt, IsOfNodes};
 ghost use Rattle.fancy_fragments.specs.Nodes.{AreEasyNeighbours, BeginAt, IsLaidOut, fits_over, nodes_over, plain_tree};
 
@@ -73,8 +74,8 @@ impl Fragment {
         self.settable <= slots / 2
     }
 
-    /// The NFA of its nodes. Where it answers that there is no way, the fragment has none, and what one pass by it finds is
-    /// the fragment's first way.
+    /// The NFA of its nodes. Where it answers that there is no way, the fragment has none, and what one pass by it
+    /// finds is the fragment's first way.
     pub fn nfa(&self) -> &Nfa
         ensures nfa { result.now ≡ self.now.nfa }
         ensures nodes { ∥ IsOfNodes result.now ∥₁ }
@@ -88,14 +89,16 @@ impl Fragment {
 
     /// What searches of the fragment in one text, from `pos` on, have memoized: nothing yet.
     pub fn memo(&self, alloc: Global, pos: usize) -> Memo
-        ensures { (text : List ℕ) → IsMemoFor text self.now result }
+        ensures memo { (text : List ℕ) → IsMemoFor text self.now result }
+        ensures knows { HaveFailed result (λ pair. false) }
     {
         Memo::new(alloc, &self.nfa, pos)
     }
 
     /// Empties a memo of any fragment and any text for this one, and keeps its room.
     pub fn clear(&self, memo: &mut Memo, pos: usize)
-        ensures { (text : List ℕ) → IsMemoFor text self.now memo.new }
+        ensures memo { (text : List ℕ) → IsMemoFor text self.now memo.new }
+        ensures knows { HaveFailed memo.new (λ pair. false) }
     {
         memo.clear(&self.nfa, pos);
     }

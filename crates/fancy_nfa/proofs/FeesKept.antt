@@ -48,7 +48,7 @@ module _ (q : Setting) (a : Analysis) (states : List NfaState) (fees : List (Opt
 
   close_kept : (g : ℕ) (s : NfaConfig) (opened : List ℕ) (ts : List Task) (m : MatchState) → FeeStands (s.at + 1) ts →
       KeepsFees (close_step g s opened) (Goes ts m)
-  close_kept g s [] ts m h = tt
+  close_kept g s [] ts m h = h
   close_kept g s (from ∷ opened) ts m h = h
 
   -- what is between one fee and another

@@ -59,8 +59,8 @@ pub data AreMemoized (text : List ℕ) (unicode : Bool) (states : List NfaState)
       AreMemoized text unicode states failed →
       AreMemoized text unicode states (search_in (searched text unicode states failed place steps)).failed
 
--- A search comes to its end, whatever was memoized before: it finds the first way, and has taken up at most as many states
--- as the bound says.
+-- A search comes to its end, whatever was memoized before: it finds the first way, and has taken up at most as many
+-- states as the bound says.
 pub record FindsFirst (q : Setting) (a : Analysis) (es : List Tree) (failed : Pair → Bool) (place : ℕ) : Type 0 where
   pub steps : ℕ
   pub way : Option NfaConfig
@@ -83,7 +83,8 @@ HasNoWay q states s =
 
 -- where a search comes to a pair that was memoized before it began, there is no way
 abbrev pub FailedSetIsSound : Type 0
-FailedSetIsSound = (q : Setting) (a : Analysis) (es : List Tree) (failed : Pair → Bool) (place steps : ℕ) (s : NfaConfig)
+FailedSetIsSound = (q : Setting) (a : Analysis) (es : List Tree) (failed : Pair → Bool) (place steps : ℕ)
+    (s : NfaConfig)
     (found : Search) →
     IsText q.text → IsTrue (is_place q.text place) → AreEasy a es →
     AreMemoized q.text q.unicode (states_of a.tree es) failed →

@@ -94,8 +94,9 @@ counter_loop_step loop after s (t ∷ counters) =
 
 -- ---- states
 
+-- the end of a group that is not open sets no span
 abbrev pub close_step : ℕ → NfaConfig → List ℕ → StepResult
-close_step g s [] = Lost
+close_step g s [] = Goes (forward s)
 close_step g s (from ∷ opened) =
     Goes (record (forward s) { opened = opened; spans = (g, (from, s.place)) ∷ s.spans })
 

@@ -68,7 +68,7 @@ module _ (leading : Leading) (m cut : Memo) (c : StackFrame) (cs : List StackFra
         (subst (λ l. AreKept leading l c.path cs last.rest) (sym path)
         (kept_agree es (take c.path es) leading c.path cs last.rest (agree_cut c.path c.path es (omega arith)) last.kept)));
     failed = λ p. ap (λ x. Rattle.fancy_plain.specs.FailedPairs.has_pair x (Rattle.fancy_plain.specs.FailedPairs.key_of p)) failed ∙ h.failed p;
-    visits = subst (λ v. v ≤ f.visits) (sym visits) h.visits;
+    visits = visits ∙ h.visits;
   }
 
 -- the last choice is taken off what is kept, and the path is cut to where it stands
@@ -122,7 +122,7 @@ search_memoized leading m new f p same failed h = record {
   frames =
       subst (λ (n : Memo). AreKept leading n.trail.entries.items (length n.trail.entries.items) (choices_of n.frames) f.frames) (sym same) h.frames;
   failed = failed;
-  visits = subst (λ (n : Memo). n.visits ≤ f.visits) (sym same) h.visits;
+  visits = ap (λ (n : Memo). n.visits) same ∙ h.visits;
 }
 
 -- the last choice was tried: its pair is memoized

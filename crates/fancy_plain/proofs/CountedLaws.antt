@@ -18,7 +18,7 @@ use Rattle.fancy_plain.specs.CountedWays.{PassesMost, PassesSome}
 use Rattle.fancy_plain.specs.Runs.{IsBody, Refuses}
 use Rattle.fancy_plain.specs.OnePass.{Loses, Walks, config_at}
 use Rattle.fancy_plain.specs.Views.{loop_of}
-use Rattle.fancy_plain.proofs.RunLaws.{test_fails}
+use Rattle.fancy_plain.proofs.RunLaws.{fails_at_once, test_fails}
 use Rattle.fancy_plain.proofs.SearchLaws.{counter_loop_by}
 use Rattle.fancy_plain.proofs.OnePassLaws.{Test, goes, joined, loses, loses_behind, onward, past_char_further, remains, tries_first, tries_memoized, tries_only, unsure}
 
@@ -174,10 +174,11 @@ module _ (searcher : Searcher) (bounds : code.Loop) (head after : ℕ) (test : C
   leaves : (c place : ℕ) → is_last loop.hi c ≡ false → nat_lt c loop.lo ≡ false → Refuses searcher test place →
       Walks searcher true (at_head c place) (config_at after place)
   leaves c place goes enough refused =
-      tries_memoized searcher (nfa_state.CounterLoop bounds after) (at_head c place) there (at_body (next_count loop.lo loop.hi c) place) (config_at after place)
+      tries_memoized searcher (nfa_state.CounterLoop bounds after) (at_head c place) there (at_body (next_count loop.lo loop.hi c) place)
+      (config_at after place)
       (counter_loop_by loop after (at_head c place) (counter c) [] place (counter c ∷ []) loop_choice.InOrOut refl refl (goes, enough, greedy)
       ∙ ap (λ t. plain.Tries true (record (at_body c place) { counters = t ∷ [] }) (config_at after place ∷ [])) (next_is c place))
-      (test_fails searcher test (head + 1) place body.0 refused)
+      (fails_at_once searcher (head + 1) place (test_fails searcher test (head + 1) place body.0 refused))
 
   -- where one had to
   fails_short : (c place : ℕ) → is_last loop.hi c ≡ false → nat_lt c loop.lo ≡ true → Refuses searcher test place →

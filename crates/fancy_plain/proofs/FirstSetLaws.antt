@@ -76,7 +76,8 @@ pub record IsReached (counter : ℕ) (counters : List LoopCounter) : Type 0 wher
 reached_any : (counters : List LoopCounter) → IsReached 255 counters
 reached_any counters = record { comes = omega arith; known = λ small. absurd (omega (arith, small)) }
 
-reached_there : (there counter : ℕ) (counters : List LoopCounter) → (there == counter || there == 255) ≡ true → IsReached counter counters → IsReached there counters
+reached_there : (there counter : ℕ) (counters : List LoopCounter) → (there == counter || there == 255) ≡ true → IsReached counter counters →
+    IsReached there counters
 reached_there there counter counters e h = go (there == counter) (there == 255) refl refl e
   where
     go : (a b : Bool) → (there == counter) ≡ a → (there == 255) ≡ b → (a || b) ≡ true → IsReached there counters
@@ -234,7 +235,7 @@ module _ (text : List ℕ) (unicode : Bool) (states : List NfaState) where
           go false e = absurd (true≢false (sym (cond-false (nat_lt b 128) _ _ e) ∙ none))
 
     close_inside : (g : ℕ) (opened : List ℕ) → covers reached (s.at + 1) counter ≡ true → StepInside (close_step g s opened)
-    close_inside g [] covered = tt
+    close_inside g [] covered = stays_at (forward s) refl counter covered here
     close_inside g (i ∷ is) covered =
         stays_at (record (forward s) { opened = is; spans = (g, (i, s.place)) ∷ s.spans }) refl counter covered here
 

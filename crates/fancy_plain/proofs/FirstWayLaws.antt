@@ -1,9 +1,10 @@
 -- From the end of a search to what the first way answers.
-use Rattle.std.proofs.Common.{◌≡◌, ◌<◌, ◌≤◌, ◌+◌, ◌&&◌, [], ◌∷◌, slice_get, slice_index_or, true, nat_lt, if◌then◌else◌, ℕ, zero, suc, Bool, false, List, length, map, take, Option, Some, None, Result, Ok, Err, IfSome, IsTrue, option_map, refl, sym, arith, ap, ◌∙◌, subst}
+use Rattle.std.proofs.Common.{◌≡◌, ◌<◌, ◌≤◌, ◌+◌, ◌&&◌, [], ◌∷◌, slice_get, slice_index_or, true, nat_lt, if◌then◌else◌, ℕ, zero, suc, Bool, false, List, length, map, take, Option, Some, None, Result, Ok, Err, IfOk, IfSome, IsTrue, option_map, refl, sym, arith, ap, ◌∙◌, subst}
 use Rattle.std.proofs.lemmas.Bool.Decides.{nat_tests}
 use Rattle.std.proofs.lemmas.List.{take_all}
 use denote.Bor.{Bor}
 use Rattle.std.specs.declared.alloc.AllocError.{AllocError}
+use Rattle.fancy_expr.specs.declared.error.Error.{Error}
 use Rattle.fancy_meaning.specs.Tree.{Tree}
 use Rattle.fancy_meaning.specs.Places.{is_place}
 use Rattle.fancy_meaning.specs.Options.{Analysis}
@@ -27,11 +28,11 @@ use Rattle.fancy_plain.specs.declared.search.Searcher.{Searcher}
 use Rattle.fancy_plain.specs.Nfas.{IsNfaOf}
 use Rattle.fancy_plain.specs.Paths.{closed_after}
 use Rattle.fancy_plain.specs.BacktrackStack.{choices_of}
-use Rattle.fancy_plain.specs.Searches.{AreKept, EndsAs, HaveFailed, IsHere, IsSearch, Leading, leading_of}
+use Rattle.fancy_plain.specs.Searches.{AreKept, EndsAs, HaveFailed, IsHere, IsSearch, Leading, leading_of, saturated}
 use Rattle.fancy_plain.specs.FirstSets.{is_begun_by, may_begin}
 use Rattle.fancy_plain.specs.RequiredBytes.{AreRequired, lacks}
 use Rattle.fancy_plain.specs.Views.{state_of}
-use Rattle.fancy_plain.specs.Ways.{HasNoWayAt, IsFirstWay, IsMemoOf, IsSeenAs, listed}
+use Rattle.fancy_plain.specs.Ways.{CountsVisits, HasNoWayAt, IsFirstWay, IsMemoOf, IsSeenAs, listed}
 use Rattle.fancy_plain.proofs.RequiredBytesLaws.{lacks_left}
 
 -- ---- a search has one end
@@ -139,7 +140,7 @@ pub record Ended (text : List ℕ) (unicode : Bool) (states : List NfaState) (fa
   pub found : Search
   pub ends : searched text unicode states failed place steps ≡ Ends way found
   pub have : HaveFailed m found.failed
-  pub visits : m.visits ≤ found.visits
+  pub visits : m.visits ≡ saturated found.visits
   pub at_end : AtEnd m there way
 
 pub ended : (searcher : Searcher) (failed : Pair → Bool) (place : ℕ) (there : Option NfaConfig) (m : Memo) →
@@ -221,6 +222,23 @@ module _ (states : Bor (List code.NfaState)) (text : Bor (List ℕ)) (nfa : Nfa)
       memo_after text.now nfa place memo.0 is_text at memo.1.1 n e.steps
       (subst (λ x. HaveFailed n (search_in x).failed) (sym e.ends) e.have)
 
+  -- and so it is where the memo knows of these pairs
+  pub counted : (there : Option NfaConfig) (n : Memo) → Finds (Ok there) n → (known : Pair → Bool) → HaveFailed old known →
+      Ended text.now nfa.unicode (map state_of nfa.states.items) known place there n
+  counted there n h known knows =
+      let have : HaveFailed m known = λ p. ap (λ x. has_pair x (key_of p)) failed ∙ knows p in
+      subst (λ ps. Ended text.now nfa.unicode ps known place there n) (ap (map state_of) same)
+      (ended searcher known place there n
+      (h (plain.first_config place) (plain.first_search known) (search_at_start (leading_of searcher) m known place path frames visits have)
+      (here_at_start (leading_of searcher) m known place path frames visits have)))
+
+pub counted_by : (text : List ℕ) (f : Nfa) (place : ℕ) (memo : Memo) (known : Pair → Bool) → HaveFailed memo known →
+    (r : Result FirstWay Error) →
+    IfOk r (λ answer. (failed : Pair → Bool) → HaveFailed memo failed → CountsVisits text f failed place answer) →
+    IfOk r (CountsVisits text f known place)
+counted_by text f place memo known knows (Ok answer) h = h known knows
+counted_by text f place memo known knows (Err e) h = tt
+
 -- ---- where no way can begin
 
 -- where no search finds a way, the nodes have none
@@ -246,11 +264,6 @@ pub no_way_behind : (text : List ℕ) (f : Nfa) (bytes : List Bool) (from : ℕ)
 no_way_behind text f bytes from is_text is out place behind at =
     no_way_found text f place is_text at
     (subst (λ o. IfSome o (AreRequired f.unicode (map state_of f.states.items))) is f.need text place (lacks_left bytes text from place behind out))
-
-pub none_first : (text : List ℕ) (f : Nfa) (place : ℕ) → HasNoWayAt text f place →
-    IsFirstWay text f place (record { way = None; visits = 0 })
-none_first text f place h = λ a es nfa.
-    ((λ pos continued. subst (IsSeenAs None) (sym (h a es nfa pos continued)) tt), omega arith)
 
 pub excluded_byte : (levels : List (List Bool)) (ascii : List Bool) (byte : ℕ) → slice_get levels 0 ≡ Some ascii → byte < 128 →
     slice_index_or ascii byte false ≡ false → (text : List ℕ) (place : ℕ) → slice_get text place ≡ Some byte →

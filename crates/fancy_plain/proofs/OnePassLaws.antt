@@ -303,7 +303,8 @@ module _ (searcher : Searcher) where
 
   -- two ways that fail
   pub branches_fail : (p : NfaState) (at first second place : ℕ) → slice_get (searcher.states).now at ≡ Some p →
-      ((s : plain.NfaConfig) → plain.step_by (searcher.text).now searcher.unicode (state_of p) s ≡ plain.Tries false (goes_to first s) (goes_to second s ∷ [])) →
+      ((s : plain.NfaConfig) → plain.step_by (searcher.text).now searcher.unicode (state_of p) s
+      ≡ plain.Tries false (goes_to first s) (goes_to second s ∷ [])) →
       FailsFrom searcher first place → FailsFrom searcher second place → FailsFrom searcher at place
   branches_fail p at first second place there leads one other s f is here =
       let v = plain.visited (Some (state_of p)) f in

@@ -156,7 +156,7 @@ module _ (text : List ℕ) (unicode : Bool) (states : List NfaState) (bytes : Li
   holds_keeps s false h = tt
 
   close_keeps : (g : ℕ) (s : NfaConfig) (opened : List ℕ) → Before (forward s) → StepKeeps Before (close_step g s opened)
-  close_keeps g s [] h = tt
+  close_keeps g s [] h = h
   close_keeps g s (i ∷ is) h = h
 
   counter_loop_keeps : (l : plain.Loop) (off : ℕ) (s : NfaConfig) (counters : List LoopCounter) → Before (forward s) → Before (goes_to off s) →

@@ -24,8 +24,8 @@ use Rattle.fancy_plain.specs.declared.search.Searcher.{Searcher}
 use Rattle.fancy_plain.specs.AsciiRuns.{AllPass}
 use Rattle.fancy_plain.specs.BacktrackStack.{choices_of, run_choices}
 use Rattle.fancy_plain.specs.Paths.{EndsCounters, HasCounters, IsConfig, counter_of}
-use Rattle.fancy_plain.specs.Runs.{CanPass, FailsFrom, GoesOn, IsBody, IsLoopSplitOf, IsLostAt, IsRun, Passes, Refuses, Repeats, RunsOver, onward, run_frames, run_search}
-use Rattle.fancy_plain.specs.Searches.{AreKept, HaveFailed, IsHere, IsSearch, IsSearcher, Keeps, Leading, Leads, fails_of, after_steps_of, leading_of, next_of}
+use Rattle.fancy_plain.specs.Runs.{CanPass, FailsAtOnce, FailsFrom, GoesOn, lost_visits, IsBody, IsLoopSplitOf, IsLostAt, IsRun, Passes, Refuses, Repeats, RunsOver, onward, run_frames, run_search}
+use Rattle.fancy_plain.specs.Searches.{AreKept, HaveFailed, IsHere, IsSearch, IsSearcher, Keeps, Leading, Leads, fails_of, after_steps_of, leading_of, next_of, saturated}
 use Rattle.fancy_plain.specs.Views.{IsReadBy, loop_of, state_of, test_of}
 use Rattle.fancy_plain.specs.FailedPairs.{has_pair, key_of}
 use Rattle.fancy_plain.proofs.BackLaws.{back_memoized, one_more, steps_then}
@@ -35,7 +35,8 @@ use Rattle.fancy_plain.proofs.SearchLaws.{here_by, here_past, inside, key_outsid
 -- ---- the heads of loops
 
 -- a loop that does not count
-pub loop_split_of : (searcher : Searcher) (here : NfaConfig) (first second : ℕ) → slice_get (searcher.states).now here.at ≡ Some (nfa_state.LoopSplit first second) →
+pub loop_split_of : (searcher : Searcher) (here : NfaConfig) (first second : ℕ) →
+    slice_get (searcher.states).now here.at ≡ Some (nfa_state.LoopSplit first second) →
     (s : plain.NfaConfig) → here.at ≡ s.at → IsLoopSplitOf (leading_of searcher) first (goes_to second) s
 loop_split_of searcher here first second head s at n = steps_by searcher (nfa_state.LoopSplit first second) here (onward n s) at head
 
@@ -221,12 +222,13 @@ module _ (leading : Leading) (entries : List Entry) (here : NfaConfig) (s : plai
   )
 
 -- the memo behind a run
-pub run_stands : (leading : Leading) (m new : Memo) (here on : NfaConfig) (s : plain.NfaConfig) (f : Search) (first : ℕ) (out : plain.NfaConfig → plain.NfaConfig) (count place : ℕ) →
+pub run_stands : (leading : Leading) (m new : Memo) (here on : NfaConfig) (s : plain.NfaConfig) (f : Search) (first : ℕ)
+    (out : plain.NfaConfig → plain.NfaConfig) (count place : ℕ) →
     0 < count → place ≡ here.place + count - 1 → on ≡ record here { place = here.place + count } →
     choices_of new.frames
     ≡ run_choices (count - 1) (record { config = record here { place = place }; path = length m.trail.entries.items; is_untried = true })
     ++ choices_of m.frames →
-    new ≡ record m { frames = new.frames; visits = new.visits } → new.visits ≤ m.visits + 2 * count →
+    new ≡ record m { frames = new.frames; visits = new.visits } → new.visits ≡ saturated (m.visits + 2 * count) →
     IsSearch leading m f → IsHere m here s → IsLoopSplitOf leading first out s →
     IsSearch leading new (run_search out count s f) × IsHere new on (onward count s)
 run_stands leading m new here on s f first out zero place some at to items rest visits h stands loop_splits = absurd (omega (arith, some))
@@ -234,7 +236,8 @@ run_stands leading m new here on s f first out (suc n) place some at to items re
     let es = m.trail.entries.items in
     let trail : new.trail ≡ m.trail = ap (λ (x : Memo). x.trail) rest in
     let same : new.failed ≡ m.failed = ap (λ (x : Memo). x.failed) rest in
-    let kept = run_kept leading es here s first out loop_splits stands (choices_of m.frames) f.frames h.frames n place (let p = stands.place in omega (arith, at, p)) in
+    let kept = run_kept leading es here s first out loop_splits stands (choices_of m.frames) f.frames h.frames n place
+    (let p = stands.place in omega (arith, at, p)) in
     let count : suc n - 1 ≡ n = omega arith in (
       record {
         frames =
@@ -330,7 +333,8 @@ counted_at searcher at p there counts =
     ap plain.is_counted (slice_get-map state_of (searcher.states).now at ∙ ap (option_map state_of) there) ∙ counts
 
 pub loop_split_runs : (searcher : Searcher) (m : Memo) (here : NfaConfig) (test : CharTest) (first second : ℕ) →
-    slice_get (searcher.states).now here.at ≡ Some (nfa_state.LoopSplit first second) → IsBody (searcher.states).now here.at first test → RunsOver searcher m here test
+    slice_get (searcher.states).now here.at ≡ Some (nfa_state.LoopSplit first second) → IsBody (searcher.states).now here.at first test →
+    RunsOver searcher m here test
 loop_split_runs searcher m here test first second head body = λ s stands.
     (first, (goes_to second, (loop_split_of searcher here first second head s stands.at, counted_at searcher here.at _ head refl, body)))
 
@@ -421,21 +425,18 @@ free_inside m here counter outer numbers none are ends free s failed stands have
 
 -- a test that no character passes
 pub test_fails : (searcher : Searcher) (test : CharTest) (at place : ℕ) → slice_get (searcher.states).now at ≡ Some (nfa_state.Character test) →
-    Refuses searcher test place → FailsFrom searcher at place
+    Refuses searcher test place → FailsAtOnce searcher at place
 test_fails searcher test at place there none s f e p =
     let here : NfaConfig = record { at = at; place = place; counters = 0; opened = 0 } in (
       1,
-      (
-        1,
-        next_there searcher (nfa_state.Character test) here s (sym e) there f
-            ∙ ap (λ o. plain.next_by (plain.goes_past s o) (Some (states.Character (test_of test))) s f)
-            (ap (past_char (searcher.text).now (passes (searcher.text).now searcher.unicode (test_of test))) p ∙ none),
-      ),
+      next_there searcher (nfa_state.Character test) here s (sym e) there f
+          ∙ ap (λ o. plain.next_by (plain.goes_past s o) (Some (states.Character (test_of test))) s f)
+          (ap (past_char (searcher.text).now (passes (searcher.text).now searcher.unicode (test_of test))) p ∙ none),
     )
 
--- the end of a group goes on to the next state, or is in no group
+-- the end of a group goes on to the next state
 pub group_ends : (searcher : Searcher) (g at place : ℕ) → slice_get (searcher.states).now at ≡ Some (nfa_state.Close g) →
-    FailsFrom searcher (at + 1) place → FailsFrom searcher at place
+    FailsAtOnce searcher (at + 1) place → FailsAtOnce searcher at place
 group_ends searcher g at place there fails s f e p = go s.opened refl
   where
     here : NfaConfig
@@ -448,21 +449,25 @@ group_ends searcher g at place there fails s f e p = go s.opened refl
         ∙ ap (λ o. plain.next_by (plain.close_step g s o) (Some (states.Close g)) s f) is
 
     go : (opened : List ℕ) → s.opened ≡ opened →
-        (steps : ℕ) × ((n : ℕ) × (after_steps_of searcher steps (TakesUp s f) ≡ plain.TakesBack (record f { visits = f.visits + n })))
+        (steps : ℕ) × (after_steps_of searcher steps (TakesUp s f) ≡ plain.TakesBack (record f { visits = f.visits + 1 }))
     go [] is =
-        let same : f.visits ≡ f.visits + 0 = omega arith in
-        (1, (0, step [] is ∙ ap (λ v. plain.TakesBack (record f { visits = v })) same))
+        let on = fails (plain.forward s) f (ap (λ k. k + 1) e) p in
+        (suc on.0, ap (after_steps_of searcher on.0) (step [] is) ∙ on.1)
     go (from ∷ opened) is =
         let on = fails (record (plain.forward s) { opened = opened; spans = (g, (from, s.place)) ∷ s.spans }) f (ap (λ k. k + 1) e) p in
-        (suc on.0, (on.1.0, ap (after_steps_of searcher on.0) (step (from ∷ opened) is) ∙ on.1.1))
+        (suc on.0, ap (after_steps_of searcher on.0) (step (from ∷ opened) is) ∙ on.1)
+
+-- what fails at once fails
+pub fails_at_once : (searcher : Searcher) (at place : ℕ) → FailsAtOnce searcher at place → FailsFrom searcher at place
+fails_at_once searcher at place h = λ s f e p. let x = h s f e p in (x.0, (1, x.1))
 
 pub lost_loop_split : (searcher : Searcher) (at place first second : ℕ) → slice_get (searcher.states).now at ≡ Some (nfa_state.LoopSplit first second) →
-    FailsFrom searcher second place → IsLostAt searcher at place
+    FailsAtOnce searcher second place → IsLostAt searcher at place
 lost_loop_split searcher at place first second there fails = λ s one other is_memoized e p step_result.
     let here : NfaConfig = record { at = at; place = place; counters = 0; opened = 0 } in
     let same = same_tries is_memoized true one other (goes_to first s) (goes_to second s)
     (sym step_result ∙ steps_by searcher (nfa_state.LoopSplit first second) here s (sym e) there) in
-    (same.0, ap (λ x. x.place) same.1 ∙ p, subst (λ k. FailsFrom searcher k place) (sym (ap (λ x. x.at) same.1)) fails)
+    (same.0, ap (λ x. x.place) same.1 ∙ p, subst (λ k. FailsAtOnce searcher k place) (sym (ap (λ x. x.at) same.1)) fails)
 
 -- where a loop's head has another way on, it is the way out or into the loop
 counter_loop_tries : (loop : states.Loop) (after : ℕ) (s one other : plain.NfaConfig) (is_memoized : Bool) (counters : List plain.LoopCounter) →
@@ -490,50 +495,46 @@ counter_loop_tries loop after s one other is_memoized (t ∷ around) e = go (pla
         let same = same_tries is_memoized true one other off on (sym e) in
         (same.0, ap (λ x. x.place) same.1, ap (λ x. x.at) same.1)
 
-pub lost_counter_loop : (searcher : Searcher) (at place : ℕ) (loop : code.Loop) (after : ℕ) → slice_get (searcher.states).now at ≡ Some (nfa_state.CounterLoop loop after) →
-    FailsFrom searcher (if loop.greedy then after else at + 1) place → IsLostAt searcher at place
+pub lost_counter_loop : (searcher : Searcher) (at place : ℕ) (loop : code.Loop) (after : ℕ) →
+    slice_get (searcher.states).now at ≡ Some (nfa_state.CounterLoop loop after) →
+    FailsAtOnce searcher (if loop.greedy then after else at + 1) place → IsLostAt searcher at place
 lost_counter_loop searcher at place loop after there fails = λ s one other is_memoized e p step_result.
     let here : NfaConfig = record { at = at; place = place; counters = 0; opened = 0 } in
-    let tries = counter_loop_tries (loop_of loop) after s one other is_memoized s.counters (sym (steps_by searcher (nfa_state.CounterLoop loop after) here s (sym e) there) ∙ step_result) in (
+    let tries = counter_loop_tries (loop_of loop) after s one other is_memoized s.counters
+    (sym (steps_by searcher (nfa_state.CounterLoop loop after) here s (sym e) there) ∙ step_result) in (
       tries.0,
       tries.1 ∙ p,
-      subst (λ k. FailsFrom searcher k place) (sym (tries.2 ∙ ap (λ k. if loop.greedy then after else k + 1) e)) fails,
+      subst (λ k. FailsAtOnce searcher k place) (sym (tries.2 ∙ ap (λ k. if loop.greedy then after else k + 1) e)) fails,
     )
 
 -- the last choice is at the head of a loop whose other way on fails: its pair is memoized
 pub back_lost : (searcher : Searcher) (next : plain.Next) (steps : ℕ) (f : Search) (here : NfaConfig) (s : plain.NfaConfig) (rest : List Frame) →
     after_steps_of searcher steps next ≡ plain.TakesBack f → here.at ≡ s.at → here.place ≡ s.place → IsLostAt searcher here.at here.place →
     Keeps true (leading_of searcher s) s rest f.frames →
-    (k : ℕ) × ((n : ℕ) × (after_steps_of searcher k next
-    ≡ plain.TakesBack (plain.with_failed (pair_of s) (record f { frames = rest; visits = f.visits + n }))))
+    (k : ℕ) × (after_steps_of searcher k next
+    ≡ plain.TakesBack (plain.with_failed (pair_of s) (record f { frames = rest; visits = f.visits + 1 })))
 back_lost searcher next steps f here s rest back at place lost (is_memoized, (one, (other, (step_result, frames)))) =
     let is = lost s one other is_memoized (sym at) (sym place) step_result in
     let kept : f.frames ≡ plain.Other other ∷ plain.Fails (pair_of s) ∷ rest = frames ∙ ap (λ b. plain.Other other ∷ (fails_of b s ++ rest)) is.0 in
     let g : Search = record f { frames = plain.Fails (pair_of s) ∷ rest } in
     let up = one_more searcher steps next (plain.TakesBack f) back ∙ ap (λ l. plain.back_to l f) kept in
     let fails = is.2 other g refl is.1 in
-    let gone = steps_then searcher (suc steps) fails.0 next (TakesUp other g) up ∙ fails.1.1 in
-    (suc (suc steps + fails.0), (fails.1.0, one_more searcher (suc steps + fails.0) next _ gone))
+    let gone = steps_then searcher (suc steps) fails.0 next (TakesUp other g) up ∙ fails.1 in
+    (suc (suc steps + fails.0), one_more searcher (suc steps + fails.0) next _ gone)
 
 -- the last choice has no way left: its pair is memoized
 pub back_gone : (searcher : Searcher) (next : plain.Next) (steps : ℕ) (f : Search) (here : NfaConfig) (s : plain.NfaConfig) (rest : List Frame) →
     after_steps_of searcher steps next ≡ plain.TakesBack f → here.at ≡ s.at → here.place ≡ s.place →
     (untried : Bool) → (untried ≡ true → IsLostAt searcher here.at here.place) → Keeps untried (leading_of searcher s) s rest f.frames →
-    (k : ℕ) × ((n : ℕ) × (after_steps_of searcher k next
-    ≡ plain.TakesBack (plain.with_failed (pair_of s) (record f { frames = rest; visits = f.visits + n }))))
+    (k : ℕ) × (after_steps_of searcher k next
+    ≡ plain.TakesBack (plain.with_failed (pair_of s) (record f { frames = rest; visits = f.visits + lost_visits untried })))
 back_gone searcher next steps f here s rest back at place true lost keeps = back_lost searcher next steps f here s rest back at place (lost refl) keeps
 back_gone searcher next steps f here s rest back at place false lost keeps =
     let same : f.visits ≡ f.visits + 0 = omega arith in (
       suc steps,
-      (
-        0,
-        back_memoized searcher next steps f s rest back keeps
-            ∙ ap (λ v. plain.TakesBack (plain.with_failed (pair_of s) (record f { frames = rest; visits = v }))) same,
-      ),
+      back_memoized searcher next steps f s rest back keeps
+          ∙ ap (λ v. plain.TakesBack (plain.with_failed (pair_of s) (record f { frames = rest; visits = v }))) same,
     )
-
-pub more_visits : (leading : Leading) (m : Memo) (f : Search) (n : ℕ) → IsSearch leading m f → IsSearch leading m (record f { visits = f.visits + n })
-more_visits leading m f n h = record { frames = h.frames; failed = h.failed; visits = let v = h.visits in omega (arith, v) }
 
 pub refused_at_end : (searcher : Searcher) (test : CharTest) (place : ℕ) → slice_get (searcher.text).now place ≡ None → Refuses searcher test place
 refused_at_end searcher test place none = past_end (searcher.text).now (passes (searcher.text).now searcher.unicode (test_of test)) place none
@@ -548,11 +549,11 @@ refused_by_test searcher test place b here small false excludes e =
 -- ---- tests one by one
 
 -- past a test that passes
-pub test_passed : (searcher : Searcher) (m counted : Memo) (on : NfaConfig) (test : CharTest) (t : plain.NfaConfig) (g : Search) (most : ℕ) →
+pub test_passed : (searcher : Searcher) (m counted : Memo) (on : NfaConfig) (test : CharTest) (t : plain.NfaConfig) (g : Search) →
     slice_get (searcher.states).now on.at ≡ Some (nfa_state.Character test) → Passes searcher test on.place →
-    counted ≡ record m { visits = min most (m.visits + 1) } → IsSearch (leading_of searcher) m g → IsHere m on t →
+    counted ≡ record m { visits = saturated (m.visits + 1) } → IsSearch (leading_of searcher) m g → IsHere m on t →
     GoesOn searcher (TakesUp t g) counted (record on { at = on.at + 1; place = on.place + 1 })
-test_passed searcher m counted on test t g most there pass more h here =
+test_passed searcher m counted on test t g there pass more h here =
     let past = past_char (searcher.text).now (passes (searcher.text).now searcher.unicode (test_of test)) in (
       1,
       (
@@ -562,7 +563,7 @@ test_passed searcher m counted on test t g most there pass more h here =
           (
             next_there searcher (nfa_state.Character test) on t here.at there g
                 ∙ ap (λ o. plain.next_by (plain.goes_past t o) (Some (states.Character (test_of test))) t g) (ap past (sym here.place) ∙ pass),
-            one_visit (leading_of searcher) m g h counted most more,
+            one_visit (leading_of searcher) m g h counted more,
             here_past counted on t (on.place + 1) (here_by m counted on t (ap (λ (x : Memo). x.trail) more) here),
           ),
         ),
@@ -585,12 +586,12 @@ pub record Left (searcher : Searcher) (counted : Memo) (here : NfaConfig) (s : p
   pub search : IsSearch (leading_of searcher) counted (record f { visits = f.visits + 2 })
   pub stands : IsHere counted here s
 
-pub body_left : (searcher : Searcher) (m counted : Memo) (here : NfaConfig) (test : CharTest) (s : plain.NfaConfig) (f : Search) (most : ℕ) →
+pub body_left : (searcher : Searcher) (m counted : Memo) (here : NfaConfig) (test : CharTest) (s : plain.NfaConfig) (f : Search) →
     RunsOver searcher m here test → Refuses searcher test here.place →
     ((s : plain.NfaConfig) (failed : plain.Pair → Bool) → IsHere m here s → HaveFailed m failed → failed (pair_of s) ≡ false) →
-    counted ≡ record m { visits = min most (m.visits + 2) } → IsSearch (leading_of searcher) m f → IsHere m here s →
+    counted ≡ record m { visits = saturated (m.visits + 2) } → IsSearch (leading_of searcher) m f → IsHere m here s →
     Left searcher counted here s f
-body_left searcher m counted here test s f most over none free more h stands =
+body_left searcher m counted here test s f over none free more h stands =
     let loop = over s stands in
     let first = loop.0 in
     let out = loop.1.0 in
@@ -603,7 +604,7 @@ body_left searcher m counted here test s f most over none free more h stands =
       steps = 3;
       step_result = fails.0;
       comes = fails.1;
-      search = more_states (leading_of searcher) m f h counted most 2 more;
+      search = more_states (leading_of searcher) m f h counted 2 more;
       stands = here_by m counted here s (ap (λ (x : Memo). x.trail) more) stands;
     }
 

@@ -9,7 +9,7 @@ use Rattle.fancy_nfa.specs.NfaStates as states
 use Rattle.fancy_plain.specs.declared.search.StepResult.TheVariants as step_result
 use Rattle.fancy_plain.specs.Paths.{HasCounters, HasOpened, EndsOpened, EndsCounters, IsCounter, IsOpened, IsConfig, closed_after, counter_of}
 use Rattle.fancy_plain.specs.BacktrackStack.{choices_of}
-use Rattle.fancy_plain.specs.Searches.{HaveFailed, IsHere, IsSearch, Leading, Leads, ChoosesBy, leading_of, next_of}
+use Rattle.fancy_plain.specs.Searches.{HaveFailed, IsHere, IsSearch, saturated, Leading, Leads, ChoosesBy, leading_of, next_of}
 use Rattle.fancy_plain.specs.declared.search.LoopChoice.{LoopChoice}
 use Rattle.fancy_plain.specs.declared.search.LoopChoice.TheVariants as loop_choice
 use Rattle.fancy_plain.specs.Views.{state_of}
@@ -190,6 +190,31 @@ close_steps m trail s t leading f group from outer h here ends e = go t.opened h
           ),
         )
 
+-- no group is open on the path, and the end of one goes on
+pub close_none : (m : Memo) (s : NfaConfig) (t : plain.NfaConfig) (leading : Leading) (f : plain.Search) (group : ℕ) →
+    IsSearch leading m f → IsHere m s t →
+    ((opened : List ℕ) → HasOpened m.trail.entries.items s.opened opened → EndsOpened m.trail.entries.items s.opened opened None) →
+    Leads leading t f.failed (plain.next_by (plain.close_step group t t.opened) (Some (Close group)) t f)
+    (Ok (step_result.Goes (record s { at = s.at + 1 }))) m
+close_none m s t leading f group h here ends = go t.opened here.opened
+  where
+    go : (opened : List ℕ) → HasOpened m.trail.entries.items s.opened opened →
+        Leads leading t f.failed (plain.next_by (plain.close_step group t opened) (Some (Close group)) t f)
+        (Ok (step_result.Goes (record s { at = s.at + 1 }))) m
+    go [] has = (f, (plain.forward t, (refl, h, on)))
+      where
+        on : IsHere m (record s { at = s.at + 1 }) (plain.forward t)
+        on = record {
+          at = ap (λ n. n + 1) here.at;
+          place = here.place;
+          counters_link = here.counters_link;
+          opened_link = here.opened_link;
+          counters = here.counters;
+          opened = here.opened;
+          spans = here.spans;
+        }
+    go (i ∷ is) has = absurd (ends (i ∷ is) has)
+
 -- ---- pairs that have no way
 
 -- outside all loops that count a pair has two numbers
@@ -207,7 +232,8 @@ pub inside : (m : Memo) (s : NfaConfig) (counter : LoopCounter) (outer : ℕ) (t
     EndsCounters m.trail.entries.items s.counters t.counters (Some (counter, outer)) → counter_of counter ∷ [] ≡ t.counters
 inside m s counter outer t none h ends = go t.counters ends
   where
-    go : (counters : List plain.LoopCounter) → EndsCounters m.trail.entries.items s.counters counters (Some (counter, outer)) → counter_of counter ∷ [] ≡ counters
+    go : (counters : List plain.LoopCounter) → EndsCounters m.trail.entries.items s.counters counters (Some (counter, outer)) →
+        counter_of counter ∷ [] ≡ counters
     go [] e = absurd e
     go (u ∷ []) e = ap (λ x. x ∷ []) e.0
     go (u ∷ v ∷ vs) (is, below, (k, (further, (link, at, rest)))) = absurd (omega (arith, none, link))
@@ -239,18 +265,18 @@ module _ (leading : Leading) (m : Memo) (f : plain.Search) (h : IsSearch leading
   pub renumbered : (new : Memo) → new ≡ record m { numbers = new.numbers } → IsSearch leading new f
   renumbered new e = subst (λ n. IsSearch leading n f) (sym e) (record { frames = h.frames; failed = h.failed; visits = h.visits })
 
-  pub more_states : (new : Memo) (most n : ℕ) → new ≡ record m { visits = min most (m.visits + n) } →
+  pub more_states : (new : Memo) (n : ℕ) → new ≡ record m { visits = saturated (m.visits + n) } →
       IsSearch leading new (record f { visits = f.visits + n })
-  more_states new most n e =
+  more_states new n e =
       subst (λ x. IsSearch leading x (record f { visits = f.visits + n })) (sym e)
-      (record { frames = h.frames; failed = h.failed; visits = fewer })
+      (record { frames = h.frames; failed = h.failed; visits = counted })
     where
-      fewer : min most (m.visits + n) ≤ f.visits + n
-      fewer = let v = h.visits in omega (arith, v)
+      counted : saturated (m.visits + n) ≡ saturated (f.visits + n)
+      counted = let v = h.visits in omega (arith, v)
 
-  pub one_visit : (new : Memo) (most : ℕ) → new ≡ record m { visits = min most (m.visits + 1) } →
+  pub one_visit : (new : Memo) → new ≡ record m { visits = saturated (m.visits + 1) } →
       IsSearch leading new (record f { visits = f.visits + 1 })
-  one_visit new most e = more_states new most 1 e
+  one_visit new e = more_states new 1 e
 
 -- the configuration is the same where the path is
 pub here_by : (m n : Memo) (s : NfaConfig) (t : plain.NfaConfig) → n.trail ≡ m.trail → IsHere m s t → IsHere n s t
@@ -272,7 +298,8 @@ here_at m s t i j e h = record {
 -- ---- at the head of a loop
 
 -- the link leads to this iteration, inside these
-pub counters_open : (entries : List Entry) (link : ℕ) (counters : List plain.LoopCounter) (found : LoopCounter × ℕ) → EndsCounters entries link counters (Some found) →
+pub counters_open : (entries : List Entry) (link : ℕ) (counters : List plain.LoopCounter) (found : LoopCounter × ℕ) →
+    EndsCounters entries link counters (Some found) →
     (around : List plain.LoopCounter) × ((counters ≡ counter_of found.0 ∷ around) × (found.1 ≤ link) × HasCounters entries found.1 around)
 counters_open entries link [] found h = absurd h
 counters_open entries link (t ∷ ts) found (e, le, has) = (ts, (ap (λ u. u ∷ ts) (sym e), le, has))
@@ -356,7 +383,8 @@ pub lone_way : (l : Loop) (after place : ℕ) (s first other : plain.NfaConfig) 
     ¬ (plain.counter_loop_step l after s ts ≡ plain.Tries true first (other ∷ []))
 lone_way l after place s first other t around ts r here is by a b e = go r a b (sym (counter_loop_by l after s t around place ts r here is by) ∙ e)
   where
-    go : (r : LoopChoice) → ¬ (r ≡ loop_choice.InOrOut) → ¬ (r ≡ loop_choice.OutOrIn) → ¬ (step_result_of l after s t around r ≡ plain.Tries true first (other ∷ []))
+    go : (r : LoopChoice) → ¬ (r ≡ loop_choice.InOrOut) → ¬ (r ≡ loop_choice.OutOrIn) →
+        ¬ (step_result_of l after s t around r ≡ plain.Tries true first (other ∷ []))
     go loop_choice.Out a b e = cc
     go loop_choice.In a b e = cc
     go loop_choice.InOrOut a b e = a refl
@@ -390,8 +418,8 @@ pub record PairKept (m counted kept : Memo) (leading : Leading) (s : NfaConfig) 
   pub link : (link : ℕ) → link ≤ length m.trail.entries.items → link ≤ length kept.trail.entries.items
 
 -- A pair that is taken up: the memo is asked for it, the visit is counted, and the choice is kept.
-module _ (m asked counted kept : Memo) (most : ℕ) (same : asked ≡ record m { numbers = asked.numbers })
-    (more : counted ≡ record asked { visits = min most (asked.visits + 1) }) (rest : kept ≡ record counted { frames = kept.frames })
+module _ (m asked counted kept : Memo) (same : asked ≡ record m { numbers = asked.numbers })
+    (more : counted ≡ record asked { visits = saturated (asked.visits + 1) }) (rest : kept ≡ record counted { frames = kept.frames })
     (leading : Leading) (s : NfaConfig) (t : plain.NfaConfig) (f : plain.Search) (h : IsSearch leading m f) (here : IsHere m s t) where
   trail_counted : counted.trail ≡ m.trail
   trail_counted = ap (λ (n : Memo). n.trail) more ∙ ap (λ (n : Memo). n.trail) same
@@ -400,7 +428,7 @@ module _ (m asked counted kept : Memo) (most : ℕ) (same : asked ≡ record m {
   trail_kept = ap (λ (n : Memo). n.trail) rest ∙ trail_counted
 
   search_counted : IsSearch leading counted (record f { visits = f.visits + 1 })
-  search_counted = one_visit leading asked f (renumbered leading m f h asked same) counted most more
+  search_counted = one_visit leading asked f (renumbered leading m f h asked same) counted more
 
   here_counted : IsHere counted s t
   here_counted = here_by m counted s t trail_counted here

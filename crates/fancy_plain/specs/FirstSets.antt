@@ -21,9 +21,9 @@ AreFirstSets unicode states levels = (text : List ℕ) (place : ℕ) → may_beg
     (failed : Pair → Bool) (steps : ℕ) (way : Option NfaConfig) (found : Search) →
     searched text unicode states failed place steps ≡ Ends way found → way ≡ None
 
--- ---- What a search comes to before it takes a character, or the next one: for each state its counter, which is one more
--- than how many iterations were begun of the loop around that counts, where the last is not asked whether it moves.
--- It is 0 at a state that the search does not come to, and 255 where nothing is known.
+-- ---- What a search comes to before it takes a character, or the next one: for each state its counter, which is one
+-- more than how many iterations were begun of the loop around that counts, where the last is not asked whether it
+-- moves. It is 0 at a state that the search does not come to, and 255 where nothing is known.
 
 abbrev pub any_counter : ℕ
 any_counter = 255
@@ -57,9 +57,12 @@ steps_within reached after at counter (plain.Character test) = covers after (at 
 steps_within reached after at counter (plain.Holds a) = covers reached (at + 1) counter
 steps_within reached after at counter plain.Open = covers reached (at + 1) counter
 steps_within reached after at counter (plain.Close g) = covers reached (at + 1) counter
-steps_within reached after at counter (plain.Split first second) = covers reached first counter && covers reached second counter
-steps_within reached after at counter (plain.BranchSplit first second) = covers reached first counter && covers reached second counter
-steps_within reached after at counter (plain.LoopSplit first second) = covers reached first counter && covers reached second counter
+steps_within reached after at counter (plain.Split first second) =
+    covers reached first counter && covers reached second counter
+steps_within reached after at counter (plain.BranchSplit first second) =
+    covers reached first counter && covers reached second counter
+steps_within reached after at counter (plain.LoopSplit first second) =
+    covers reached first counter && covers reached second counter
 steps_within reached after at counter (plain.Jump to) = covers reached to counter
 steps_within reached after at counter plain.Join = covers reached (at + 1) counter
 steps_within reached after at counter plain.CounterBegin = covers reached (at + 1) 1

@@ -29,8 +29,8 @@ AreFails [] = Unit {0}
 AreFails (Other s ∷ frames) = ⊥
 AreFails (Fails p ∷ frames) = AreFails frames
 
--- A search that knows of no pair goes on from the one configuration to the other. Where that is sure, it keeps no way for
--- later.
+-- A search that knows of no pair goes on from the one configuration to the other. Where that is sure, it keeps no way
+-- for later.
 abbrev pub Walks : Searcher → (is_sure : Bool) → (from to : NfaConfig) → Type 0
 Walks t is_sure from to =
     (f : Search) → IsBlank f →

@@ -19,7 +19,9 @@ counters_number b (c ∷ []) = None
 counters_number b (c ∷ s ∷ []) = counter_number b c s
 counters_number b (c ∷ s ∷ d ∷ []) = None
 counters_number b (c ∷ s ∷ d ∷ t ∷ []) =
-    option_and_then (λ inner. option_and_then (λ outer. Some (outer * counters_base b + inner)) (counter_number b d t)) (counter_number b c s)
+    option_and_then
+    (λ inner. option_and_then (λ outer. Some (outer * counters_base b + inner)) (counter_number b d t))
+    (counter_number b c s)
 counters_number b (c ∷ s ∷ d ∷ t ∷ n ∷ ns) = None
 
 -- the number of a pair among those of its place

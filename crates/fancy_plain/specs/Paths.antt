@@ -21,7 +21,8 @@ IsCounter (Some (entry.Closed group from to)) k outer t = ⊥
 abbrev pub HasCounters : List Entry → (link : ℕ) → List plain.LoopCounter → Type 0
 HasCounters entries link [] = link ≡ 0
 HasCounters entries link (t ∷ ts) =
-    (k : ℕ) × ((outer : ℕ) × ((link ≡ suc k) × IsCounter (slice_get entries k) k outer t × HasCounters entries outer ts))
+    (k : ℕ) × ((outer : ℕ) ×
+    ((link ≡ suc k) × IsCounter (slice_get entries k) k outer t × HasCounters entries outer ts))
 
 -- the entry is of a group that began here, inside one whose entry is before the k-th
 abbrev pub IsOpened : Option Entry → (k outer from : ℕ) → Type 0

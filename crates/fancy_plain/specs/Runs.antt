@@ -40,7 +40,8 @@ Repeats loop (t ∷ counters) =
 -- the test at this state is the body of the loop with this head
 abbrev pub IsBody : List NfaState → (head first : ℕ) → CharTest → Type 0
 IsBody states head first test =
-    (slice_get states first ≡ Some (nfa_state.Character test)) × (slice_get states (first + 1) ≡ Some (nfa_state.Jump head))
+    (slice_get states first ≡ Some (nfa_state.Character test))
+    × (slice_get states (first + 1) ≡ Some (nfa_state.Jump head))
 
 -- the configuration is at the head of a loop whose body is this test, and whose way on comes before the way out
 abbrev pub RunsOver : Searcher → Memo → NfaConfig → CharTest → Type 0
@@ -52,7 +53,8 @@ RunsOver t m here test =
 -- a character of one byte stands here and passes, and the head may have a way
 pub record CanPass (t : Searcher) (m : Memo) (test : CharTest) (here : NfaConfig) (i : ℕ) : Type 0 where
   pub passes : past_char (t.text).now (passes (t.text).now t.unicode (test_of test)) i ≡ Some (i + 1)
-  pub free : (s : plain.NfaConfig) (failed : Pair → Bool) → IsHere m (record here { place = i }) s → HaveFailed m failed →
+  pub free : (s : plain.NfaConfig) (failed : Pair → Bool) → IsHere m (record here { place = i }) s →
+      HaveFailed m failed →
       failed (pair_of s) ≡ false
 
 -- so it is in this configuration and at each of the next bytes, so many in all
@@ -71,17 +73,30 @@ GoesOn searcher next m here =
 abbrev pub Refuses : Searcher → CharTest → (place : ℕ) → Type 0
 Refuses t test place = past_char (t.text).now (passes (t.text).now t.unicode (test_of test)) place ≡ None
 
--- a search that takes up this state at this place goes back after some steps, and nothing is memoized or kept
+-- a search that takes up this state at this place goes back after some steps with one state counted, and nothing is
+-- memoized or kept
+abbrev pub FailsAtOnce : Searcher → (at place : ℕ) → Type 0
+FailsAtOnce t at place =
+    (s : plain.NfaConfig) (f : Search) → s.at ≡ at → s.place ≡ place →
+    (steps : ℕ) × (after_steps_of t steps (TakesUp s f) ≡ TakesBack (record f { visits = f.visits + 1 }))
+
+-- as `FailsAtOnce`, with any number of states counted
 abbrev pub FailsFrom : Searcher → (at place : ℕ) → Type 0
 FailsFrom t at place =
     (s : plain.NfaConfig) (f : Search) → s.at ≡ at → s.place ≡ place →
     (steps : ℕ) × ((n : ℕ) × (after_steps_of t steps (TakesUp s f) ≡ TakesBack (record f { visits = f.visits + n })))
 
--- where the state is the head of a loop, its other way on fails so
+-- where the state is the head of a loop, its other way on fails at once
 abbrev pub IsLostAt : Searcher → (at place : ℕ) → Type 0
 IsLostAt t at place =
-    (s one other : plain.NfaConfig) (is_memoized : Bool) → s.at ≡ at → s.place ≡ place → leading_of t s ≡ plain.Tries is_memoized one (other ∷ []) →
-    (is_memoized ≡ true) × (other.place ≡ place) × FailsFrom t other.at place
+    (s one other : plain.NfaConfig) (is_memoized : Bool) → s.at ≡ at → s.place ≡ place →
+    leading_of t s ≡ plain.Tries is_memoized one (other ∷ []) →
+    (is_memoized ≡ true) × (other.place ≡ place) × FailsAtOnce t other.at place
+
+-- how many states are counted where a choice has no way left: one of its other way, if that was untried
+abbrev pub lost_visits : (is_untried : Bool) → ℕ
+lost_visits true = 1
+lost_visits false = 0
 
 -- ---- tests one by one
 

@@ -1,5 +1,5 @@
 -- How the search of the code stands for the search of the definition.
-use Rattle.std.specs.Prelude.{◌≡◌, ◌≤◌, ℕ, Bool, true, false, List, [], ◌∷◌, ◌++◌, length, map, slice_get, nat_lt, Option, Some, None, Result, Ok, Err}
+use Rattle.std.specs.Prelude.{◌≡◌, ◌≤◌, ◌^◌, ◌-◌, ℕ, min, Bool, true, false, List, [], ◌∷◌, ◌++◌, length, map, slice_get, nat_lt, Option, Some, None, Result, Ok, Err}
 use Rattle.fancy_nfa.specs.NfaStates.{Loop}
 use Rattle.fancy_nfa.specs.NfaSearch as plain
 use Rattle.fancy_nfa.specs.NfaSearch.{Pair, Frame, Other, Fails, Search, Next, TakesUp, TakesBack, Ends, pair_of, after_steps}
@@ -59,10 +59,14 @@ AreKept leading entries path (c ∷ cs) frames =
 abbrev pub HaveFailed : Memo → (Pair → Bool) → Type 0
 HaveFailed m failed = (p : Pair) → has_pair m.failed (key_of p) ≡ failed p
 
+-- a count of the code, which stays at the greatest number of its type
+abbrev pub saturated : ℕ → ℕ
+saturated n = min (2 ^ 64 - 1) n
+
 pub record IsSearch (leading : Leading) (m : Memo) (f : Search) : Type 0 where
   pub frames : AreKept leading m.trail.entries.items (length m.trail.entries.items) (choices_of m.frames) f.frames
   pub failed : HaveFailed m f.failed
-  pub visits : m.visits ≤ f.visits
+  pub visits : m.visits ≡ saturated f.visits
 
 -- the configuration at the end of the path
 abbrev pub IsHere : Memo → NfaConfig → plain.NfaConfig → Type 0
@@ -108,7 +112,8 @@ IsSearcher t = (i : ℕ) (p : NfaState) → slice_get (t.states).now i ≡ Some 
 abbrev pub GoesBack : Searcher → Next → Result StepResult AllocError → Memo → Type 0
 GoesBack searcher next (Ok (step_result.Found there)) m = ⊥
 GoesBack searcher next (Ok step_result.Lost) m =
-    (steps : ℕ) × ((f : Search) × ((after_steps_of searcher steps next ≡ Ends None f) × IsSearch (leading_of searcher) m f))
+    (steps : ℕ) × ((f : Search) ×
+    ((after_steps_of searcher steps next ≡ Ends None f) × IsSearch (leading_of searcher) m f))
 GoesBack searcher next (Ok (step_result.Goes there)) m =
     (steps : ℕ) × ((f : Search) × ((t : plain.NfaConfig) × ((after_steps_of searcher steps next ≡ TakesUp t f)
     × IsSearch (leading_of searcher) m f × IsHere m there t)))
@@ -128,7 +133,8 @@ Advances searcher next (Err e) m = GoesBack searcher next (Err e) m
 abbrev pub ComesTo : Searcher → Next → Result StepResult AllocError → Memo → Type 0
 ComesTo searcher next (Ok (step_result.Found there)) m = Advances searcher next (Ok (step_result.Found there)) m
 ComesTo searcher next (Ok step_result.Lost) m =
-    (steps : ℕ) × ((f : Search) × ((after_steps_of searcher steps next ≡ TakesBack f) × IsSearch (leading_of searcher) m f))
+    (steps : ℕ) × ((f : Search) ×
+    ((after_steps_of searcher steps next ≡ TakesBack f) × IsSearch (leading_of searcher) m f))
 ComesTo searcher next (Ok (step_result.Goes there)) m = GoesBack searcher next (Ok (step_result.Goes there)) m
 ComesTo searcher next (Err e) m = GoesBack searcher next (Err e) m
 
@@ -138,6 +144,7 @@ EndsAs searcher next (Ok (Some there)) m =
     (steps : ℕ) × ((f : Search) × ((t : plain.NfaConfig) × ((after_steps_of searcher steps next ≡ Ends (Some t) f)
     × IsSearch (leading_of searcher) m f × IsHere m there t)))
 EndsAs searcher next (Ok None) m =
-    (steps : ℕ) × ((f : Search) × ((after_steps_of searcher steps next ≡ Ends None f) × IsSearch (leading_of searcher) m f))
+    (steps : ℕ) × ((f : Search) ×
+    ((after_steps_of searcher steps next ≡ Ends None f) × IsSearch (leading_of searcher) m f))
 EndsAs searcher next (Err e) m =
     (steps : ℕ) × HaveFailed m (search_in (after_steps_of searcher steps next)).failed

@@ -7,15 +7,15 @@ use Rattle.fancy_meaning.specs.Tree.{Tree}
 use Rattle.fancy_meaning.specs.Options.{Analysis}
 use Rattle.fancy_meaning.specs.FragmentStates.{visit_bound}
 use Rattle.fancy_meaning.specs.MatchState.{Span}
-use Rattle.fancy_nfa.specs.NfaSearch.{Pair}
-use Rattle.fancy_nfa.specs.FirstWays.{AreMemoized, Seen, first_seen}
+use Rattle.fancy_nfa.specs.NfaSearch.{Ends, NfaConfig, Pair, Search}
+use Rattle.fancy_nfa.specs.FirstWays.{AreMemoized, Seen, first_seen, searched}
 use Rattle.fancy_plain.specs.declared.first_way.FirstWay.{FirstWay}
 use Rattle.fancy_plain.specs.declared.first_way.Way.{Way}
 use Rattle.fancy_plain.specs.declared.nfa.Nfa.{Nfa}
 use Rattle.fancy_plain.specs.declared.search.Memo.{Memo}
 use Rattle.fancy_plain.specs.Views.{state_of}
 use Rattle.fancy_plain.specs.Nfas.{IsNfaOf}
-use Rattle.fancy_plain.specs.Searches.{HaveFailed}
+use Rattle.fancy_plain.specs.Searches.{HaveFailed, saturated}
 
 -- a group's number, the start and the end of its span
 abbrev pub span_entry : ℕ × ℕ × ℕ → ℕ × Span
@@ -48,6 +48,14 @@ IsFirstWay text f place answer = (a : Analysis) (es : List Tree) → IsNfaOf a e
     IsSeenAs answer.way
     (first_seen (record { text = text; pos = pos; continued = continued; unicode = f.unicode }) es place))
     × (answer.visits ≤ visit_bound a.tree es (length text - place))
+
+-- the search of the definition from the place, where these pairs are known to have no way, ends with so many states
+-- counted
+abbrev pub CountsVisits : (text : List ℕ) → Nfa → (failed : Pair → Bool) → (place : ℕ) → FirstWay → Type 0
+CountsVisits text f failed place answer =
+    (steps : ℕ) × ((way : Option NfaConfig) × ((found : Search) ×
+    ((searched text f.unicode (map state_of f.states.items) failed place steps ≡ Ends way found)
+    × (answer.visits ≡ saturated found.visits))))
 
 -- the nodes have no way from the place, wherever the search of the whole pattern began
 abbrev pub HasNoWayAt : (text : List ℕ) → Nfa → (place : ℕ) → Type 0

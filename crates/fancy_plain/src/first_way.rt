@@ -1,11 +1,12 @@
 //! The first way of the nodes of an NFA from a place.
 
-ghost use Rattle.std.specs.Prelude.{◌≡◌, [], ℕ, IfOk, IfErr, IsTrue};
+ghost use Rattle.std.specs.Prelude.{◌≡◌, [], ℕ, Bool, false, IfOk, IfErr, IsTrue};
 ghost use Rattle.fancy_meaning.specs.Places.{is_place};
 ghost use Rattle.fancy_nfa.specs.FirstWays.{spans_of};
+ghost use Rattle.fancy_nfa.specs.NfaSearch.{Pair};
 ghost use Rattle.fancy_plain.specs.Paths.{closed_after};
-ghost use Rattle.fancy_plain.specs.Searches.{IsMemory};
-ghost use Rattle.fancy_plain.specs.Ways.{listed, Ascends, HasAscending, IsFirstWay, IsMemoOf, IsOfNodes};
+ghost use Rattle.fancy_plain.specs.Searches.{HaveFailed, IsMemory};
+ghost use Rattle.fancy_plain.specs.Ways.{listed, Ascends, CountsVisits, HasAscending, IsFirstWay, IsMemoOf, IsOfNodes};
 
 use crate::nfa::Nfa;
 use crate::search::{Memo, Searcher};
@@ -27,17 +28,18 @@ pub struct Way {
 #[derive(Debug, Drop)]
 pub struct FirstWay {
     pub way: Option<Way>,
-    /// How many states were taken up.
+    /// How many states the search took up.
     pub visits: u64,
 }
 
-/// The first way of the NFA's nodes from `ix`, a character boundary of the text. `Memory` where a request for memory was
-/// refused, and after 2^64 - 1 steps, more than any machine takes.
+/// The first way of the NFA's nodes from `ix`, a character boundary of the text. `Memory` where a request for memory
+/// was refused, and after 2^64 - 1 steps, more than any machine takes.
 pub fn first_way(alloc: Global, nfa: &Nfa, text: &str, ix: usize) -> Result<FirstWay, Error>
     requires place { IsTrue (is_place text.now ix) }
     requires nodes { ∥ IsOfNodes nfa.now ∥₁ }
     ensures first { IfOk result (IsFirstWay text.now nfa.now ix) }
     ensures ascends { IfOk result HasAscending }
+    ensures visits { IfOk result (CountsVisits text.now nfa.now (λ pair. false) ix) }
     ensures refused { IfErr result IsMemory }
 {
     let mut memo = Memo::new(alloc, nfa, ix);
@@ -57,31 +59,8 @@ pub fn first_way_with(
     requires memo { IsMemoOf text.now nfa.now memo.old }
     ensures first { IfOk result (IsFirstWay text.now nfa.now ix) }
     ensures ascends { IfOk result HasAscending }
-    ensures memo { IsMemoOf text.now nfa.now memo.new }
-    ensures refused { IfErr result IsMemory }
-{
-    if !nfa.can_begin(text, ix) {
-        return Ok(FirstWay {
-            way: None,
-            visits: 0,
-        });
-    }
-    first_way_from(alloc, nfa, text, ix, memo)
-}
-
-/// As `first_way_with`, for a caller who has asked whether a way can begin there.
-pub fn first_way_from(
-    alloc: Global,
-    nfa: &Nfa,
-    text: &str,
-    ix: usize,
-    memo: &mut Memo,
-) -> Result<FirstWay, Error>
-    requires place { IsTrue (is_place text.now ix) }
-    requires nodes { ∥ IsOfNodes nfa.now ∥₁ }
-    requires memo { IsMemoOf text.now nfa.now memo.old }
-    ensures first { IfOk result (IsFirstWay text.now nfa.now ix) }
-    ensures ascends { IfOk result HasAscending }
+    ensures visits { IfOk result (λ answer. (failed : Pair → Bool) → HaveFailed memo.old failed
+        → CountsVisits text.now nfa.now failed ix answer) }
     ensures memo { IsMemoOf text.now nfa.now memo.new }
     ensures refused { IfErr result IsMemory }
 {

@@ -28,8 +28,8 @@ pub enum OnePass {
 }
 
 impl Nfa {
-    /// The first way of its nodes from `ix`, a character boundary of the text, as far as no choice is needed for it. An error
-    /// is a request for memory that was refused.
+    /// The first way of its nodes from `ix`, a character boundary of the text, as far as no choice is needed for it.
+    /// An error is a request for memory that was refused.
     pub fn one_pass_end(&self, alloc: Global, text: &str, ix: usize) -> Result<OnePass, AllocError>
         requires place { IsTrue (is_place text.now ix) }
         requires nodes { ∥ IsOfNodes self.now ∥₁ }

@@ -8,7 +8,8 @@ use crate::nfa_state::{Loop, NfaState};
 /// The most bits of a place.
 const MOST: usize = 256;
 
-/// Which pairs have a bit. A pair inside no more than two loops that count has one, where the states and the counts are few.
+/// Which pairs have a bit. A pair inside no more than two loops that count has one, where the states and the counts
+/// are few.
 #[derive(Clone, Copy)]
 pub(crate) struct PairBits {
     /// How many bits a place has; none where the states are many.

@@ -1,4 +1,5 @@
-//! Required bytes, of which every way takes one: where none of them stands from a place on, no way begins there or behind it.
+//! Required bytes, of which every way takes one: where none of them stands from a place on, no way begins there or
+//! behind it.
 
 ghost use Rattle.std.specs.Prelude.{◌≡◌, ◌≤◌, ◌<◌, ℕ, [], true, false, length, map, slice_get, slice_index_or, Some, IfSome, IsTrue};
 ghost use Rattle.fancy_meaning.specs.Places.{is_place};
@@ -12,8 +13,8 @@ use crate::nfa::Nfa;
 use crate::nfa_state::{CharTest, NfaState};
 
 impl Nfa {
-    /// Whether the text from `from` on, in bytes, has none of the bytes of which every way takes one: then no way begins
-    /// there or behind it. Where no such bytes are known it is false.
+    /// Whether the text from `from` on, in bytes, has none of the bytes of which every way takes one: then no way
+    /// begins there or behind it. Where no such bytes are known it is false.
     pub fn lacks_required(&self, text: &str, from: usize) -> bool
         ensures told { result ≡ lacks_any self.now.required_bytes text.now from }
         ensures none { IsTrue result → (place : ℕ) → from ≤ place

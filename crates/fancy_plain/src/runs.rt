@@ -4,7 +4,7 @@ ghost use Rattle.std.specs.Prelude.{◌≡◌, ◌≤◌, ◌+◌, IsTrue, IfErr
 ghost use Rattle.fancy_nfa.specs.NfaSearch as plain;
 ghost use Rattle.fancy_nfa.specs.NfaSearch.{Search, TakesUp};
 ghost use Rattle.fancy_plain.specs.Views.{IsReadBy};
-ghost use Rattle.fancy_plain.specs.Runs.{FailsFrom, GoesOn, IsBody, IsLostAt, IsRun, Refuses, RunsOver};
+ghost use Rattle.fancy_plain.specs.Runs.{FailsAtOnce, GoesOn, IsBody, IsLostAt, IsRun, Refuses, RunsOver};
 ghost use Rattle.fancy_plain.specs.Searches.{HaveFailed, IsHere, IsSearch, IsSearcher, leading_of};
 
 use crate::nfa_state::{CharTest, NfaState, byte_at};
@@ -58,8 +58,8 @@ impl Searcher<'_> {
         m.keep_run(config, count)
     }
 
-    /// At the head of a loop over one character where none is that passes, out of the loop if that does not fail at once,
-    /// and past the tests behind it.
+    /// At the head of a loop over one character where none is that passes, out of the loop if that does not fail at
+    /// once, and past the tests behind it.
     #[inline(always)]
     fn past_body(
         &self,
@@ -87,8 +87,8 @@ impl Searcher<'_> {
         }
     }
 
-    /// The test on a character that is the body of the loop whose head is here, where the way on into it comes first and
-    /// each iteration is like the others.
+    /// The test on a character that is the body of the loop whose head is here, where the way on into it comes first
+    /// and each iteration is like the others.
     #[inline(always)]
     fn body_test(&self, m: &Memo, config: NfaConfig) -> Option<&CharTest>
         requires { IsSearcher self.now }
@@ -159,12 +159,12 @@ impl Searcher<'_> {
         }
     }
 
-    /// From this state on a test comes first, behind groups that end, and the character here is none that passes: there is
-    /// no more, or it is of ASCII and fails.
+    /// From this state on a test comes first, behind groups that end, and the character here is none that passes:
+    /// there is no more, or it is of ASCII and fails.
     #[inline(always)]
     pub(crate) fn fails_at(&self, at: usize, place: usize) -> bool
         requires { IsSearcher self.now }
-        ensures { IsTrue result → FailsFrom self.now at place }
+        ensures { IsTrue result → FailsAtOnce self.now at place }
     {
         let mut next = at;
         'groups: while let Some(NfaState::Close(_)) = self.states.get(next) {

@@ -9,7 +9,7 @@ ghost use Rattle.fancy_plain.specs.Paths.{HasCounters, counter_of};
 ghost use Rattle.fancy_plain.specs.Views.{loop_of, state_of, IsStateReadBy, IsReadBy, test_of};
 ghost use Rattle.fancy_plain.specs.declared.nfa_state.NfaState.TheVariants as nfa_state;
 ghost use Rattle.fancy_plain.specs.BacktrackStack.{choices_of};
-ghost use Rattle.fancy_plain.specs.Runs.{IsLoopSplitOf, Repeats, onward, run_search};
+ghost use Rattle.fancy_plain.specs.Runs.{IsLoopSplitOf, Repeats, lost_visits, onward, run_search};
 ghost use Rattle.fancy_plain.specs.Ways.{IsMemoOf};
 ghost use Rattle.fancy_plain.specs.Searches.{Advances, ComesTo, EndsAs, GoesBack, HaveFailed, IsHere, IsSearcher, ChoosesBy, fails_before, leading_of, IsSearch, Keeps, Leading, Leads};
 
@@ -157,10 +157,19 @@ fn push_counters(
     Ok(())
 }
 
+/// How many states are taken up where a choice has no way left: if its other way was untried, one that fails.
+#[inline(always)]
+fn lost_visits(is_untried: bool) -> u64
+    ensures { result ≡ lost_visits is_untried }
+{
+    if is_untried { 1 } else { 0 }
+}
+
 impl Memo {
     /// For searches by the NFA in one text, from `pos` on.
     pub fn new(alloc: Global, nfa: &Nfa, pos: usize) -> Memo
-        ensures { (text : List ℕ) → IsMemoOf text nfa.now result }
+        ensures memo { (text : List ℕ) → IsMemoOf text nfa.now result }
+        ensures knows { HaveFailed result (λ pair. false) }
     {
         Memo {
             alloc,
@@ -174,7 +183,8 @@ impl Memo {
 
     /// As `new` for another NFA or text, with the room of this one, in time that follows what was memoized.
     pub fn clear(&mut self, nfa: &Nfa, pos: usize)
-        ensures { (text : List ℕ) → IsMemoOf text nfa.now self.new }
+        ensures memo { (text : List ℕ) → IsMemoOf text nfa.now self.new }
+        ensures knows { HaveFailed self.new (λ pair. false) }
     {
         self.failed.clear(nfa.pair_bits, pos);
     }
@@ -258,7 +268,8 @@ impl Memo {
         self.failed.is_empty()
     }
 
-    /// Whether this configuration's pair may be known to have no way. Inside two loops that count it may, once any pair is.
+    /// Whether this configuration's pair may be known to have no way. Inside two loops that count it may, once any
+    /// pair is.
     #[inline(always)]
     pub(crate) fn may_have_failed(&self, config: NfaConfig) -> bool
         ensures { result ≡ false → (s : plain.NfaConfig) (failed : plain.Pair → Bool)
@@ -347,8 +358,8 @@ impl Memo {
         Ok(())
     }
 
-    /// Takes up a loop's head and the character there, in this configuration and at each of the next bytes, so many in all.
-    /// A choice is kept at each. Goes on behind them.
+    /// Takes up a loop's head and the character there, in this configuration and at each of the next bytes, so many
+    /// in all. A choice is kept at each. Goes on behind them.
     pub(crate) fn keep_run(
         &mut self,
         config: NfaConfig,
@@ -435,7 +446,7 @@ impl Memo {
             (Some (states.Close group)) s f) result self.new }
     {
         let Some((from, outer)) = self.trail.opened(config.opened) else {
-            return Ok(StepResult::Lost);
+            return Ok(StepResult::Goes(config.forward()));
         };
         self.trail.push(Entry::Closed {
             group,
@@ -461,7 +472,8 @@ impl Memo {
         Ok(StepResult::Goes(config.goes_to(first)))
     }
 
-    /// At the head of a loop that does not count: on at the first, and later at the second, unless there is no way from here.
+    /// At the head of a loop that does not count: on at the first, and later at the second, unless there is no way
+    /// from here.
     fn loop_split(&mut self, config: NfaConfig, first: usize) -> Result<StepResult, AllocError>
         ensures { (leading : Leading) (s : plain.NfaConfig) (second : ℕ) (f : Search)
             → IsSearch leading self.old f → IsHere self.old config s
@@ -583,7 +595,8 @@ impl Memo {
 }
 
 impl Searcher<'_> {
-    /// Searches from this configuration on. After 2^64 - 1 steps, more than any machine takes, it gives up with `Memory`.
+    /// Searches from this configuration on. After 2^64 - 1 steps, more than any machine takes, it gives up with
+    /// `Memory`.
     pub(crate) fn find(
         &self,
         m: &mut Memo,
@@ -776,6 +789,7 @@ impl Searcher<'_> {
             if choice.is_untried && !self.is_lost(choice.config) {
                 return self.take_other(m, choice.config);
             }
+            m.count_more(lost_visits(choice.is_untried));
             m.add_failed(choice.config)?;
         }
         Ok(StepResult::Lost)

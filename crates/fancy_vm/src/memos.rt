@@ -8,7 +8,7 @@ ghost use Rattle.fancy_vm.specs.MemoRuns.{AddsNoMemo, AreOfRuns};
 
 use crate::machine::Task;
 use fancy_expr::error::Error;
-use fancy_fragments::first_way::first_way_from;
+use fancy_fragments::first_way::first_way_with;
 use fancy_fragments::fragment::Fragment;
 use fancy_plain::first_way::FirstWay;
 use fancy_plain::search::Memo;
@@ -107,7 +107,7 @@ impl Memos {
             });
         }
         let mut memo = self.memo_for(task, fragment, pc)?;
-        let way = first_way_from(task.alloc, fragment, task.text, ix, &mut *memo);
+        let way = first_way_with(task.alloc, fragment, task.text, ix, &mut *memo);
         let run = self.run;
         self.by_place[pc] = Some(RunMemo { memo, run });
         way

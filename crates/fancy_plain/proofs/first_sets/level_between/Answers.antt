@@ -37,7 +37,8 @@ states-preserved c =
           (no_take unicode c.states.ascii w.index-states-at.result w.in_default.not-Character))
       | else-counter_at-gt0 w ↦
           subst (λ ascii. AreWithin unicode states reached after ascii (n + 1)) (sym w.ascii-is)
-          (unreached_within unicode states reached after c.states.ascii n (subst (λ k. k ≤ 0) c.counter_at.ensures w.if-counter_at-gt0.false) c.states.invariant)
+          (unreached_within unicode states reached after c.states.ascii n
+          (subst (λ k. k ≤ 0) c.counter_at.ensures w.if-counter_at-gt0.false) c.states.invariant)
     ]
 
 pub returns : goal.returns

@@ -18,7 +18,7 @@ returns-in_default c = λ leading s f h here e. (
     ap (λ k. plain.next_by k (Some (states.CounterLoop (loop_of c.args.bounds) c.args.after)) s f)
         (e ∙ ap (plain.counter_loop_step (loop_of c.args.bounds) c.args.after s)
         (counters_none c.args.self.now.trail.entries.items c.args.config.counters s.counters (c.in_default.ensures.counters s.counters here.counters))),
-    one_visit leading c.args.self.now f h c.count.new.self _ c.count.ensures,
+    one_visit leading c.args.self.now f h c.count.new.self c.count.ensures,
   ),
 )
 
@@ -46,7 +46,7 @@ returns-in_ok-keep-in-Out c = λ leading s f h here e.
     let led = e ∙ counter_loop_by l c.args.after s t around c.args.config.place s.counters loop_choice.Out here.place ends.1.0 c.in-Out.ensures in
     let anew = tries_anew leading s _ _ f led (Some (states.CounterLoop l c.args.after))
     (sym (c.in_ok-has_failed.ensures.ok s f.failed here h.failed) ∙ c.if-branch.false) in
-    let pair = pair_kept c.args.self.now c.has_failed.new.self c.count-2.new.self c.keep.new.self _ c.has_failed.ensures.rest c.count-2.ensures
+    let pair = pair_kept c.args.self.now c.has_failed.new.self c.count-2.new.self c.keep.new.self c.has_failed.ensures.rest c.count-2.ensures
     c.keep.ensures.rest leading c.args.config s f h here in
     let counted = record f { visits = f.visits + 1 } in
     let frames = plain.Fails (pair_of s) ∷ f.frames in
@@ -74,7 +74,7 @@ returns-in_ok-keep-in-In c = λ leading s f h here e.
     let led = e ∙ counter_loop_by l c.args.after s t around c.args.config.place s.counters loop_choice.In here.place ends.1.0 c.in-In.ensures in
     let anew = tries_anew leading s _ _ f led (Some (states.CounterLoop l c.args.after))
     (sym (c.in_ok-has_failed.ensures.ok s f.failed here h.failed) ∙ c.if-branch.false) in
-    let pair = pair_kept c.args.self.now c.has_failed.new.self c.count-2.new.self c.keep-in-In.new.self _ c.has_failed.ensures.rest c.count-2.ensures
+    let pair = pair_kept c.args.self.now c.has_failed.new.self c.count-2.new.self c.keep-in-In.new.self c.has_failed.ensures.rest c.count-2.ensures
     c.keep-in-In.ensures.rest leading c.args.config s f h here in
     let counted = record f { visits = f.visits + 1 } in
     let frames = plain.Fails (pair_of s) ∷ f.frames in
@@ -93,14 +93,15 @@ returns-in_ok-keep-in-InOrOut c = λ leading s f h here e.
     let led = e ∙ counter_loop_by l c.args.after s t around c.args.config.place s.counters loop_choice.InOrOut here.place ends.1.0 c.in-InOrOut.ensures in
     let anew = tries_anew leading s _ _ f led (Some (states.CounterLoop l c.args.after))
     (sym (c.in_ok-has_failed.ensures.ok s f.failed here h.failed) ∙ c.if-branch.false) in
-    let pair = pair_kept c.args.self.now c.has_failed.new.self c.count-2.new.self c.keep-in-InOrOut.new.self _ c.has_failed.ensures.rest c.count-2.ensures
+    let pair = pair_kept c.args.self.now c.has_failed.new.self c.count-2.new.self c.keep-in-InOrOut.new.self c.has_failed.ensures.rest c.count-2.ensures
     c.keep-in-InOrOut.ensures.rest leading c.args.config s f h here in
     let counted = record f { visits = f.visits + 1 } in
     let frames = plain.Other (off (loop_of c.args.bounds) c.args.after s t around) ∷ plain.Fails (pair_of s) ∷ f.frames in
     let kept = c.in_ok-keep-in-InOrOut.ensures.ok leading counted s frames pair.search pair.before (true, (_, (_, (led, refl)))) in
     let inside = pair.link c.in-Some.outer (omega (arith, ends.1.1, here.counters_link)) in
     subst (λ n. Leads leading s f.failed n c.counter_in-in-InOrOut.result c.counter_in-in-InOrOut.new.self) (sym anew)
-    (c.counter_in-in-InOrOut.ensures leading s (record counted { frames = frames }) around kept pair.here inside (pair.counters c.in-Some.outer around ends.1.2))
+    (c.counter_in-in-InOrOut.ensures leading s (record counted { frames = frames }) around kept pair.here inside
+    (pair.counters c.in-Some.outer around ends.1.2))
 
 pub returns-in_ok-keep-in-OutOrIn : goal.returns-in_ok-keep-in-OutOrIn
 returns-in_ok-keep-in-OutOrIn c = λ leading s f h here e.
@@ -112,7 +113,7 @@ returns-in_ok-keep-in-OutOrIn c = λ leading s f h here e.
     let led = e ∙ counter_loop_by l c.args.after s t around c.args.config.place s.counters loop_choice.OutOrIn here.place ends.1.0 c.in-OutOrIn.ensures in
     let anew = tries_anew leading s _ _ f led (Some (states.CounterLoop l c.args.after))
     (sym (c.in_ok-has_failed.ensures.ok s f.failed here h.failed) ∙ c.if-branch.false) in
-    let pair = pair_kept c.args.self.now c.has_failed.new.self c.count-2.new.self c.keep-in-OutOrIn.new.self _ c.has_failed.ensures.rest c.count-2.ensures
+    let pair = pair_kept c.args.self.now c.has_failed.new.self c.count-2.new.self c.keep-in-OutOrIn.new.self c.has_failed.ensures.rest c.count-2.ensures
     c.keep-in-OutOrIn.ensures.rest leading c.args.config s f h here in
     let counted = record f { visits = f.visits + 1 } in
     let frames = plain.Other (on (loop_of c.args.bounds) c.args.after s t around) ∷ plain.Fails (pair_of s) ∷ f.frames in

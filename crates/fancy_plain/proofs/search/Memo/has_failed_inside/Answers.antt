@@ -10,5 +10,6 @@ returns-in-Some-default-eq0-clause-ok c = λ s failed h have.
     let counter = c.in-Some-default-eq0.counter in
     let ends = c.in-Some-default-eq0.ensures.counters s.counters h.counters in
     c.has.ensures
-    ∙ ap (has_pair m.failed) (c.numbers_inside.ensures s h.at h.place (inside m c.args.config counter c.in-Some-default-eq0.field-0-1 s c.in-Some-default-eq0.field-0-1-test h ends))
+    ∙ ap (has_pair m.failed) (c.numbers_inside.ensures s h.at h.place
+    (inside m c.args.config counter c.in-Some-default-eq0.field-0-1 s c.in-Some-default-eq0.field-0-1-test h ends))
     ∙ have (pair_of s)

@@ -29,6 +29,6 @@ returns c = λ leading s second f h here e.
     (sym (c.in_ok-has_failed.ensures.ok s f.failed here h.failed) ∙ c.if-branch.false)))
     (c.choose.ensures leading s counted frames
     (one_visit leading c.has_failed.new.self f (renumbered leading c.args.self.now f h c.has_failed.new.self same)
-    c.count.new.self _ c.count.ensures)
+    c.count.new.self c.count.ensures)
     (here_by c.args.self.now c.count.new.self c.args.config s (ap (λ (m : Memo). m.trail) c.count.ensures ∙ ap (λ (m : Memo). m.trail) same) here)
     (true, (plain.goes_to c.args.first s, (plain.goes_to second s, (e, refl)))))

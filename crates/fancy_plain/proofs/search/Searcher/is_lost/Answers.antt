@@ -1,7 +1,7 @@
 use Rattle.std.proofs.Common.{Some, length, refl, sym, ap, ◌∙◌, subst}
 use Rattle.std.proofs.lemmas.Bool.{ltb-true}
 use Rattle.std.proofs.lemmas.Option.{slice_get_read}
-use Rattle.fancy_plain.specs.Runs.{FailsFrom}
+use Rattle.fancy_plain.specs.Runs.{FailsAtOnce}
 use Rattle.fancy_plain.proofs.RunLaws.{lost_loop_split, lost_counter_loop}
 use Rattle.fancy_plain.proofs.search.Searcher.is_lost.Goals as goal
 
@@ -23,4 +23,4 @@ returns-in-Some-CounterLoop c = λ yes.
     lost_counter_loop c.args.self.now at c.args.config.place c.in-Some-CounterLoop.bounds c.in-Some-CounterLoop.after
     (slice_get_read states (length states) at c.in-Some-CounterLoop.field-0.now refl (ltb-true at (length states) (sym found.0)) found.1
     ∙ ap Some c.in-Some-CounterLoop.field-0-is)
-    (subst (λ k. FailsFrom c.args.self.now k c.args.config.place) c.second_way-second.ensures (c.fails_at-in-Some-CounterLoop.ensures yes))
+    (subst (λ k. FailsAtOnce c.args.self.now k c.args.config.place) c.second_way-second.ensures (c.fails_at-in-Some-CounterLoop.ensures yes))

@@ -14,7 +14,8 @@ use Rattle.fancy_plain.proofs.search.Searcher.other_from.Goals as goal
 pub returns-in_ok-keep-in-LoopSplit : goal.returns-in_ok-keep-in-LoopSplit
 returns-in_ok-keep-in-LoopSplit c = λ s first other is_memoized f rest h here e.
     let searcher = c.args.self.now in
-    let by = steps_by searcher (nfa_state.LoopSplit c.in-LoopSplit.field-0 c.in-LoopSplit.second) c.args.config s here.at (c.requires ∙ ap Some c.in-LoopSplit.is) in
+    let by = steps_by searcher (nfa_state.LoopSplit c.in-LoopSplit.field-0 c.in-LoopSplit.second) c.args.config s here.at
+    (c.requires ∙ ap Some c.in-LoopSplit.is) in
     let same = same_tries _ _ _ _ _ _ (sym e ∙ by) in
     let there = plain.goes_to c.in-LoopSplit.second s in (
       record f { frames = plain.Fails (pair_of s) ∷ rest },
@@ -34,7 +35,8 @@ returns-in_ok-keep-in-LoopSplit c = λ s first other is_memoized f rest h here e
 pub returns-in_ok-keep-in-CounterLoop : goal.returns-in_ok-keep-in-CounterLoop
 returns-in_ok-keep-in-CounterLoop c = λ s first other is_memoized f rest h here e.
     let searcher = c.args.self.now in
-    let by = steps_by searcher (nfa_state.CounterLoop c.in-CounterLoop.bounds c.in-CounterLoop.after) c.args.config s here.at (c.requires ∙ ap Some c.in-CounterLoop.is) in
+    let by = steps_by searcher (nfa_state.CounterLoop c.in-CounterLoop.bounds c.in-CounterLoop.after) c.args.config s here.at
+    (c.requires ∙ ap Some c.in-CounterLoop.is) in
     let memoized = counter_loop_fees (loop_of c.in-CounterLoop.bounds) c.in-CounterLoop.after s first other s.counters is_memoized (sym by ∙ e) in
     subst (λ n. Leads (leading_of searcher) s f.failed (TakesUp other (record f { frames = fails_before n s rest }))
     c.other_counter.result c.other_counter.new.self) (sym memoized)
@@ -84,7 +86,8 @@ returns-in-Split c = λ s first other is_memoized f rest h here e.
 pub returns-in-BranchSplit : goal.returns-in-BranchSplit
 returns-in-BranchSplit c = λ s first other is_memoized f rest h here e.
     let searcher = c.args.self.now in
-    let by = steps_by searcher (nfa_state.BranchSplit c.in-BranchSplit.field-0 c.in-BranchSplit.second) c.args.config s here.at (c.requires ∙ ap Some c.in-BranchSplit.is) in
+    let by = steps_by searcher (nfa_state.BranchSplit c.in-BranchSplit.field-0 c.in-BranchSplit.second) c.args.config s here.at
+    (c.requires ∙ ap Some c.in-BranchSplit.is) in
     let same = same_tries _ _ _ _ _ _ (sym e ∙ by) in
     let there = plain.goes_to c.in-BranchSplit.second s in (
       record f { frames = rest },

@@ -40,7 +40,7 @@ test_runs-preserved c =
     ∙ ap Some c.in-Some-Character.field-0-is in (
       λ s f h here.
           let was = c.test_runs.invariant.0 s f h here in
-          let passed = test_passed searcher m counted on c.in-Some-Character.test was.1.1.0 was.1.0 _ there
+          let passed = test_passed searcher m counted on c.in-Some-Character.test was.1.1.0 was.1.0 there
           (c.if-not-passes.ensures.passes refl) c.count.ensures was.1.1.1.1 was.1.1.1.2 in
           let one = goes_on_then searcher (TakesUp s f) was.0 was.1.0 was.1.1.0 counted next was.1.1.1.0 passed in
           goes_on_then searcher (TakesUp s f) one.0 one.1.0 one.1.1.0 counted c.past_jump-on-in-Some-Character.result one.1.1.1.0

@@ -30,7 +30,7 @@ returns-in-Some c = λ s f h here.
         (
           ap (λ o. plain.next_by (plain.goes_past s o) (Some (states.Character test)) s f)
               (ap past (sym here.place) ∙ sym c.in_ok-place.ensures.ok ∙ c.in-Some.is),
-          one_visit (leading_of searcher) c.args.m.now f h c.count.new.self _ c.count.ensures,
+          one_visit (leading_of searcher) c.args.m.now f h c.count.new.self c.count.ensures,
           here_past c.count.new.self c.args.config s c.in-Some.place
               (here_by c.args.m.now c.count.new.self c.args.config s (ap (λ (m : Memo). m.trail) c.count.ensures) here),
         ),
@@ -48,6 +48,6 @@ returns-in-None c = λ s f h here.
       (
         ap (λ o. plain.next_by (plain.goes_past s o) (Some (states.Character test)) s f)
             (ap past (sym here.place) ∙ sym c.in_ok-place.ensures.ok ∙ c.in-None.is),
-        one_visit (leading_of searcher) c.args.m.now f h c.count.new.self _ c.count.ensures,
+        one_visit (leading_of searcher) c.args.m.now f h c.count.new.self c.count.ensures,
       ),
     )

@@ -1,14 +1,16 @@
 use Rattle.std.proofs.Common.{◌≡◌, ◌+◌, true≢false, refl, sym, ap, ◌∙◌, subst, arith, suc, true, length}
 use Rattle.fancy_nfa.specs.NfaSearch as plain
 use Rattle.fancy_nfa.specs.NfaSearch.{Next, Search, TakesBack, TakesUp, pair_of}
-use Rattle.fancy_plain.specs.Searches.{AreKept, fails_before, leading_of, Keeps}
+use Rattle.fancy_plain.specs.Searches.{AreKept, IsSearch, fails_before, leading_of, Keeps}
 use Rattle.std.proofs.lemmas.Result.{err_from_is_err_and}
 use Rattle.fancy_plain.specs.declared.search.Memo.{Memo}
 use Rattle.fancy_plain.specs.BacktrackStack.{choices_of}
-use Rattle.fancy_plain.specs.Runs.{IsLostAt}
+use Rattle.fancy_plain.specs.FailedPairs.{has_pair, key_of}
+use Rattle.fancy_plain.specs.Runs.{IsLostAt, lost_visits}
 use Rattle.fancy_plain.proofs.BackLaws.{goes_back, none_kept, one_more, popped, search_memoized}
 use Rattle.fancy_nfa.specs.FirstWays.{search_in}
-use Rattle.fancy_plain.proofs.RunLaws.{back_gone, more_visits}
+use Rattle.fancy_plain.proofs.RunLaws.{back_gone}
+use Rattle.fancy_plain.proofs.SearchLaws.{here_by, more_states}
 use Rattle.fancy_plain.proofs.search.Searcher.take_back.Goals as goal
 use Rattle.fancy_plain.proofs.search.Searcher.take_back.Goals.{else-choice-via-then-choice+else-not-is_lost, else-choice-via-else-choice}
 
@@ -19,8 +21,9 @@ frames-init c = λ f h. (0, (f, (refl, h)))
 pub frames-smaller : goal.frames-smaller
 frames-smaller c =
     let same = ap (λ (m : Memo). length (choices_of m.frames)) c.add_failed.ensures.rest in
+    let counted = ap (λ (m : Memo). length (choices_of m.frames)) c.count_more.ensures in
     let shorter = ap length c.in-Some.ensures in
-    omega (arith, same, shorter)
+    omega (arith, same, counted, shorter)
 
 pub frames-preserved : goal.frames-preserved
 frames-preserved c = λ f h.
@@ -38,15 +41,20 @@ frames-preserved c = λ f h.
     ] in
     let gone = back_gone searcher (TakesBack f) back.0 g choice.config last.config last.rest back.1.1.0 last.here.at last.here.place choice.is_untried
     lost last.keeps in
-    let n = gone.1.0 in
-    let memoized = c.in_ok-add_failed.ensures.ok last.config (record g { frames = last.rest }) last.here last.search.failed in (
+    let n = lost_visits choice.is_untried in
+    let left : Search = record g { frames = last.rest } in
+    let counted = c.count_more.new.self in
+    let here = here_by cut counted choice.config last.config (ap (λ (m : Memo). m.trail) c.count_more.ensures) last.here in
+    let more = subst (λ k. IsSearch leading counted (record left { visits = g.visits + k })) c.lost_visits.ensures
+    (more_states leading cut left last.search counted c.lost_visits.result c.count_more.ensures) in
+    let memoized = c.in_ok-add_failed.ensures.ok last.config (record left { visits = g.visits + n }) here more.failed in (
       gone.0,
       (
-        plain.with_failed (pair_of last.config) (record g { frames = last.rest; visits = g.visits + n }),
+        plain.with_failed (pair_of last.config) (record left { visits = g.visits + n }),
         (
-          gone.1.1,
-          search_memoized leading cut c.add_failed.new.self (record g { frames = last.rest; visits = g.visits + n }) (pair_of last.config)
-              c.add_failed.ensures.rest memoized (more_visits leading cut (record g { frames = last.rest }) n last.search),
+          gone.1,
+          search_memoized leading counted c.add_failed.new.self (record left { visits = g.visits + n }) (pair_of last.config)
+              c.add_failed.ensures.rest memoized more,
         ),
       ),
     )
@@ -63,7 +71,8 @@ returns-in_err-add_failed c = λ f h.
     rw p.1 (
       back.0,
       λ q.
-          c.in_err-add_failed.ensures.err g.failed last.search.failed q
+          c.in_err-add_failed.ensures.err g.failed
+          (λ k. ap (λ (m : Memo). has_pair m.failed (key_of k)) c.count_more.ensures ∙ last.search.failed k) q
           ∙ sym (ap (λ n. (search_in n).failed q) back.1.1.0),
     )
 

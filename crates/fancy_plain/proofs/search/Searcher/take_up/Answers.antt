@@ -16,7 +16,7 @@ returns-in-None c = λ s f h here.
         record f { visits = f.visits + 1 },
         (
           nothing_there searcher c.args.config s f here.at past,
-          one_visit (leading_of searcher) c.args.m.now f h c.count.new.self _ c.count.ensures,
+          one_visit (leading_of searcher) c.args.m.now f h c.count.new.self c.count.ensures,
         ),
       ),
     )

@@ -53,7 +53,8 @@ pub returns-in-Close : goal.returns-in-Close
 returns-in-Close c = λ s f h here.
     let searcher = c.args.self.now in
     let p = nfa_state.Close c.in-Close.group in
-    comes_by c.args.self.now s f c.close.result c.close.new.self (at_state searcher p c.args.config s f here.at (c.requires.at ∙ ap Some c.in-Close.is) c.close.result c.close.new.self
+    comes_by c.args.self.now s f c.close.result c.close.new.self (at_state searcher p c.args.config s f here.at
+    (c.requires.at ∙ ap Some c.in-Close.is) c.close.result c.close.new.self
     (c.close.ensures (leading_of searcher) s f h here))
 
 -- src/search.rt:443:5
@@ -71,9 +72,10 @@ returns-in-Split c = λ s f h here.
     let p = nfa_state.Split c.in-Split.first c.in-Split.field-1 in
     let there = c.requires.at ∙ ap Some c.in-Split.is in
     let other = plain.goes_to c.in-Split.field-1 s in
-    comes_by c.args.self.now s f c.choose-in-Split.result c.choose-in-Split.new.self (at_state searcher p c.args.config s f here.at there c.choose-in-Split.result c.choose-in-Split.new.self
+    comes_by c.args.self.now s f c.choose-in-Split.result c.choose-in-Split.new.self
+    (at_state searcher p c.args.config s f here.at there c.choose-in-Split.result c.choose-in-Split.new.self
     (c.choose-in-Split.ensures (leading_of searcher) s (record f { visits = f.visits + 1 }) (plain.Other other ∷ f.frames)
-    (one_visit (leading_of searcher) c.args.m.now f h c.count.new.self _ c.count.ensures)
+    (one_visit (leading_of searcher) c.args.m.now f h c.count.new.self c.count.ensures)
     (here_by c.args.m.now c.count.new.self c.args.config s (ap (λ (m : Memo). m.trail) c.count.ensures) here)
     (false, (plain.goes_to c.in-Split.first s, (other, (steps_by searcher p c.args.config s here.at there, refl))))))
 
@@ -81,9 +83,10 @@ returns-in-Split c = λ s f h here.
 pub returns-in-Open : goal.returns-in-Open
 returns-in-Open c = λ s f h here.
     let searcher = c.args.self.now in
-    comes_by c.args.self.now s f c.open.result c.open.new.self (at_state searcher nfa_state.Open c.args.config s f here.at (c.requires.at ∙ ap Some c.in-Open.is) c.open.result c.open.new.self
+    comes_by c.args.self.now s f c.open.result c.open.new.self (at_state searcher nfa_state.Open c.args.config s f here.at
+    (c.requires.at ∙ ap Some c.in-Open.is) c.open.result c.open.new.self
     (c.open.ensures (leading_of searcher) s (record f { visits = f.visits + 1 })
-    (one_visit (leading_of searcher) c.args.m.now f h c.count-in-Open.new.self _ c.count-in-Open.ensures)
+    (one_visit (leading_of searcher) c.args.m.now f h c.count-in-Open.new.self c.count-in-Open.ensures)
     (here_by c.args.m.now c.count-in-Open.new.self c.args.config s (ap (λ (m : Memo). m.trail) c.count-in-Open.ensures) here)))
 
 -- src/search.rt:443:5
@@ -101,7 +104,7 @@ returns-in_ok-next-in-CounterBegin c = λ s f h here.
           (
             next_there searcher nfa_state.CounterBegin c.args.config s here.at (c.requires.at ∙ ap Some c.in-CounterBegin.is) f,
             c.in_ok-next-in-CounterBegin.ensures.search (leading_of searcher) (record f { visits = f.visits + 1 })
-                (one_visit (leading_of searcher) c.args.m.now f h m _ c.count-in-CounterBegin.ensures),
+                (one_visit (leading_of searcher) c.args.m.now f h m c.count-in-CounterBegin.ensures),
             c.in_ok-next-in-CounterBegin.ensures.here s s.counters (here_by c.args.m.now m c.args.config s trail here)
                 (subst (λ (l : Trail). c.args.config.counters ≤ length l.entries.items) (sym trail) here.counters_link)
                 (subst (λ (l : Trail). HasCounters l.entries.items c.args.config.counters s.counters) (sym trail) here.counters),
@@ -126,7 +129,7 @@ returns-then-holds c = λ s f h here.
           (
             next_there searcher p c.args.config s here.at (c.requires.at ∙ ap Some c.in-Holds.is) f
                 ∙ ap (λ l. plain.next_by l (Some (state_of p)) s f) (cond-true _ _ _ yes_here),
-            one_visit (leading_of searcher) c.args.m.now f h m _ c.count-in-Holds.ensures,
+            one_visit (leading_of searcher) c.args.m.now f h m c.count-in-Holds.ensures,
             subst (λ (x : NfaConfig). IsHere m x (plain.forward s)) (sym c.forward.ensures)
                 (here_at m c.args.config s (c.args.config.at + 1) (s.at + 1) (ap (λ n. n + 1) here.at)
                 (here_by c.args.m.now m c.args.config s (ap (λ (n : Memo). n.trail) c.count-in-Holds.ensures) here)),
@@ -148,7 +151,7 @@ returns-else-holds c = λ s f h here.
         (
           next_there searcher p c.args.config s here.at (c.requires.at ∙ ap Some c.in-Holds.is) f
               ∙ ap (λ l. plain.next_by l (Some (state_of p)) s f) (cond-false _ _ _ not_here),
-          one_visit (leading_of searcher) c.args.m.now f h c.count-in-Holds.new.self _ c.count-in-Holds.ensures,
+          one_visit (leading_of searcher) c.args.m.now f h c.count-in-Holds.new.self c.count-in-Holds.ensures,
         ),
       ),
     )
@@ -164,7 +167,7 @@ returns-in-Match c = λ s f h here.
           s,
           ((
             next_there searcher nfa_state.Match c.args.config s here.at (c.requires.at ∙ ap Some c.in-Match.is) f,
-            one_visit (leading_of searcher) c.args.m.now f h c.count-in-Match.new.self _ c.count-in-Match.ensures,
+            one_visit (leading_of searcher) c.args.m.now f h c.count-in-Match.new.self c.count-in-Match.ensures,
             here_by c.args.m.now c.count-in-Match.new.self c.args.config s (ap (λ (m : Memo). m.trail) c.count-in-Match.ensures) here,
           )
               ),
@@ -174,7 +177,8 @@ returns-in-Match c = λ s f h here.
 
 pub returns-in-Character : goal.returns-in-Character
 returns-in-Character c = λ s f h here.
-    comes_by c.args.self.now s f c.take.result c.take.new.m (at_state c.args.self.now (nfa_state.Character c.in-Character.test) c.args.config s f here.at (c.requires.at ∙ ap Some c.in-Character.is) c.take.result c.take.new.m
+    comes_by c.args.self.now s f c.take.result c.take.new.m (at_state c.args.self.now (nfa_state.Character c.in-Character.test) c.args.config s f here.at
+    (c.requires.at ∙ ap Some c.in-Character.is) c.take.result c.take.new.m
     (c.take.ensures s f h here))
 
 pub returns-in_err-next-in-CounterBegin : goal.returns-in_err-next-in-CounterBegin

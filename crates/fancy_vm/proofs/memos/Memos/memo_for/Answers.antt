@@ -12,7 +12,7 @@ returns-in_err-new-in-None-clause-memos c =
 pub returns-in_ok-new-in-None-clause-memo : goal.returns-in_ok-new-in-None-clause-memo
 returns-in_ok-new-in-None-clause-memo c =
     let text = c.args.task.now.text.now in
-    subst (IsMemoFor text c.args.fragment.now) (sym c.in_ok-new-in-None.ensures.ok) (c.memo.ensures text)
+    subst (IsMemoFor text c.args.fragment.now) (sym c.in_ok-new-in-None.ensures.ok) (c.memo.ensures.memo text)
 
 pub returns-in_ok-new-in-None-clause-memos : goal.returns-in_ok-new-in-None-clause-memos
 returns-in_ok-new-in-None-clause-memos c =
@@ -25,7 +25,7 @@ returns-after-run-self-clause-memo c =
     let pc = c.args.pc in
     let found = c.in-Some.field-0 in
     elim c.if-run-self.branch [
-      | then-run-self w ↦ subst is_memo (sym w.memo-is) (w.clear.ensures text)
+      | then-run-self w ↦ subst is_memo (sym w.memo-is) (w.clear.ensures.memo text)
       | else-run-self w ↦
           subst is_memo (sym w.memo-is)
           (c.requires.memos.each pc found (c.in_ok-grow.ensures.same pc found (c.take_out.ensures.found ∙ ap Some c.in-Some.is))
