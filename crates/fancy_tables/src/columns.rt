@@ -1,12 +1,12 @@
 //! The columns of a row, with ` | ` between them.
 
 use std::alloc::{AllocError, Global};
+use std::collections::BTreeMap;
 
 /// All but the last column, which is what is expected.
 pub fn key_of(row: &str) -> &str {
-    row.rsplit_once(" | ")
-        .map(|(key, _expected)| key)
-        .unwrap_or(row)
+    let (key, _expected) = row.rsplit_once(" | ").unwrap_or((row, ""));
+    key
 }
 
 /// The first column, and the columns after it.
@@ -32,6 +32,19 @@ pub fn four(text: &str) -> (usize, usize, usize, usize) {
     let two = numbers.next().unwrap_or(0);
     let three = numbers.next().unwrap_or(0);
     (one, two, three, numbers.next().unwrap_or(0))
+}
+
+/// The number that the word spells, if there is a word and it spells one.
+fn limit(word: Option<&str>) -> Option<u64> {
+    word?.parse::<u64>().ok()
+}
+
+/// The place, and two limits where they are given, with spaces between them; 0 where there is no place.
+pub fn limits(words: &str) -> (usize, Option<u64>, Option<u64>) {
+    let mut words = words.split_whitespace();
+    let place = number(words.next().unwrap_or(""));
+    let first = limit(words.next());
+    (place, first, limit(words.next()))
 }
 
 /// `9*a` is nine letters a.
@@ -98,13 +111,65 @@ pub fn search_words(alloc: Global, key: &str) -> Result<Vec<String>, AllocError>
     let mut words = Vec::new(alloc);
     words.push(String::from_str(alloc, tree)?)?;
     words.push(with_line_ends(alloc, text)?)?;
-    for word in after.split_whitespace() {
+    words.append(&mut words_of(alloc, after)?)?;
+    Ok(words)
+}
+
+/// The words of a column.
+pub fn words_of(alloc: Global, column: &str) -> Result<Vec<String>, AllocError> {
+    let mut words = Vec::new(alloc);
+    for word in column.split_whitespace() {
         words.push(String::from_str(alloc, word)?)?;
     }
     Ok(words)
 }
 
+/// The characters, each followed by `+` where it is folded and by `-` where it is not.
+pub fn folded_chars(alloc: Global, text: &str) -> Result<Vec<(char, bool)>, AllocError> {
+    let mut chars = Vec::new(alloc);
+    let mut rest = text.chars();
+    while let Some(character) = rest.next() {
+        chars.push((character, rest.next() == Some('+')))?;
+    }
+    Ok(chars)
+}
+
+/// One more group of the name, as `NAME=GROUP`.
+fn add_group(
+    names: &mut BTreeMap<String, Vec<usize>>,
+    alloc: Global,
+    word: &str,
+) -> Result<(), AllocError> {
+    let (name, group) = word.split_once('=').unwrap_or((word, ""));
+    let mut groups = names.remove(name).unwrap_or(Vec::new(alloc));
+    groups.push(number(group))?;
+    names.insert(String::from_str(alloc, name)?, groups)?;
+    Ok(())
+}
+
+/// The groups of each name, as `NAME=GROUP` for each.
+pub fn names_of(alloc: Global, column: &str) -> Result<BTreeMap<String, Vec<usize>>, AllocError> {
+    let mut names = BTreeMap::new(alloc);
+    for word in column.split_whitespace() {
+        add_group(&mut names, alloc, word)?;
+    }
+    Ok(names)
+}
+
+/// Spells the ends of lines as `\\n` and `\\r`.
+pub fn push_spelled(line: &mut String, text: &str) -> Result<(), AllocError> {
+    for character in text.chars() {
+        match character {
+            '\n' => line.push_str("\\n")?,
+            '\r' => line.push_str("\\r")?,
+            _ => line.push(character)?,
+        }
+    }
+    Ok(())
+}
+
 /// Where calls do not agree.
-pub fn differ(alloc: Global, call: &str) -> Result<String, AllocError> {
-    format!(in alloc; "DIFFER: {call}")
+pub fn push_differ(line: &mut String, call: &str) -> Result<(), AllocError> {
+    line.clear();
+    write!(line, "DIFFER: {call}")
 }

@@ -7,8 +7,14 @@ use std::{fs, io};
 
 /// Works a row out.
 pub trait Table {
-    /// What comes out for the key of a row of this table.
-    fn outcome(&mut self, alloc: Global, table: &str, key: &str) -> Result<String, AllocError>;
+    /// Writes what comes out for the key of a row of this table.
+    fn push_outcome(
+        &mut self,
+        line: &mut String,
+        alloc: Global,
+        table: &str,
+        key: &str,
+    ) -> Result<(), AllocError>;
 }
 
 /// Comments, which begin with `#`, are printed as they stand.
@@ -22,7 +28,8 @@ fn print_row<T: Table>(
         return println!(rt; "{row}");
     }
     let key = key_of(row);
-    let line = worker.outcome(rt.alloc(), table, key)?;
+    let mut line = String::new(rt.alloc());
+    worker.push_outcome(&mut line, rt.alloc(), table, key)?;
     println!(rt; "{key} | {line}")
 }
 

@@ -1,0 +1,113 @@
+//! One character and one place: classes, folding, pieces, assertions.
+
+use crate::trees::read;
+use fancy_regex_engine::classes::{
+    CaseiLiteral, CharClassMatcher, fold_equal, matches_literal_casei_unicode, past_piece,
+};
+use fancy_regex_engine::error::Error;
+use fancy_regex_engine::expr::{Assertion, Expr};
+use fancy_regex_engine::look::holds;
+use fancy_tables::columns::{folded_chars, number, pair, split, with_codes, with_line_ends};
+use std::alloc::{AllocError, Global};
+
+fn name_of(class: &CharClassMatcher) -> &str {
+    match class {
+        CharClassMatcher::Codepoint { name, .. } => name.as_str(),
+        CharClassMatcher::Newline { .. } => "",
+    }
+}
+
+/// The class's name, and how many bytes of the text it takes; `i` where it is folded, `a` where by ASCII.
+fn push_class(line: &mut String, alloc: Global, key: &str) -> Result<(), Error> {
+    let (name, rest) = split(key);
+    let (letters, text) = split(rest);
+    let text = with_codes(alloc, text)?;
+    let casei = letters.contains('i');
+    let unicode = !letters.contains('a');
+    let class = CharClassMatcher::codepoint(alloc, name, casei, unicode)?;
+    let taken = class.match_len(alloc, text.as_str(), 0)?;
+    Ok(write!(line, "{} {taken:?}", name_of(&class))?)
+}
+
+/// How many bytes of the text end a line by ASCII and by Unicode.
+fn push_newline(line: &mut String, alloc: Global, text: &str) -> Result<(), Error> {
+    let ascii = CharClassMatcher::Newline { unicode: false }.match_len(alloc, text, 0)?;
+    let unicode = CharClassMatcher::Newline { unicode: true }.match_len(alloc, text, 0)?;
+    Ok(write!(line, "{ascii:?} {unicode:?}")?)
+}
+
+/// Whether the texts are equal when they are folded, and their first characters.
+fn push_folds(line: &mut String, key: &str) -> Result<(), AllocError> {
+    let (one, other) = split(key);
+    let whole = matches_literal_casei_unicode(one, other);
+    let first = match (one.chars().next(), other.chars().next()) {
+        (Some(one), Some(other)) => fold_equal(one, other),
+        _ => false,
+    };
+    write!(line, "{whole} {first}")
+}
+
+/// How many bytes a literal takes at a place.
+fn push_literal(line: &mut String, alloc: Global, key: &str) -> Result<(), AllocError> {
+    let (chars, rest) = split(key);
+    let (letters, rest) = split(rest);
+    let (text, ix) = split(rest);
+    let literal = CaseiLiteral::new(folded_chars(alloc, chars)?, !letters.contains('a'));
+    let taken = literal.match_len(text, number(ix));
+    write!(line, "{taken:?}")
+}
+
+/// Where a piece of the text ends that stands at a place again.
+fn push_piece(line: &mut String, alloc: Global, key: &str) -> Result<(), AllocError> {
+    let (text, rest) = split(key);
+    let (letters, rest) = split(rest);
+    let (ends, ix) = split(rest);
+    let text = with_codes(alloc, text)?;
+    let casei = letters.contains('i');
+    let unicode = !letters.contains('a');
+    let (from, to) = pair(ends);
+    let end = past_piece(text.as_str(), unicode, casei, from, to, number(ix));
+    write!(line, "{end:?}")
+}
+
+/// The assertion that the tree is.
+fn assertion(alloc: Global, tree: &str) -> Result<Assertion, Error> {
+    match read(alloc, tree)?.expr {
+        Expr::Assertion(assertion) => Ok(assertion),
+        _ => Err(Error::TreeFault { at: 0 }),
+    }
+}
+
+/// The places of the text where the assertion holds.
+fn push_places(line: &mut String, alloc: Global, key: &str) -> Result<(), Error> {
+    let (tree, rest) = split(key);
+    let (letters, text) = split(rest);
+    let assertion = assertion(alloc, tree)?;
+    let text = with_line_ends(alloc, text)?;
+    line.push_str("at")?;
+    for ix in 0..text.len() + 1 {
+        let text = text.as_str();
+        if text.is_char_boundary(ix) && holds(assertion, !letters.contains('a'), text, ix) {
+            write!(line, " {ix}")?;
+        }
+    }
+    Ok(())
+}
+
+/// What comes out for the key of a row.
+pub fn push_character(
+    line: &mut String,
+    alloc: Global,
+    table: &str,
+    key: &str,
+) -> Result<(), Error> {
+    match table {
+        "classes" => push_class(line, alloc, key)?,
+        "newlines" => push_newline(line, alloc, with_codes(alloc, key)?.as_str())?,
+        "folds" => push_folds(line, key)?,
+        "literals" => push_literal(line, alloc, key)?,
+        "places" => push_places(line, alloc, key)?,
+        _ => push_piece(line, alloc, key)?,
+    }
+    Ok(())
+}

@@ -1,0 +1,116 @@
+//! Lists of matches and of pieces, and texts with their matches replaced.
+
+use crate::replacements::push_replacement;
+use fancy_matches::found::Captures;
+use fancy_matches::regexes::Regex;
+use fancy_regex_engine::arguments::read_arguments;
+use fancy_regex_engine::error::Error;
+use fancy_regex_engine::expr::read_tree;
+use fancy_regex_engine::search::SearchOptions;
+use fancy_replace::split::{split, splitn};
+use fancy_tables::columns::{number, split as columns, with_line_ends, words_of, written_out};
+use fancy_tables::lists::{close, push_group, push_none, push_span};
+use std::alloc::{AllocError, Global};
+
+/// The most groups that are printed.
+const MOST_GROUPS: usize = 10;
+
+/// The options that the words ask for; none where they ask nothing that fits.
+fn options(alloc: Global, words: &str) -> Result<Option<SearchOptions>, AllocError> {
+    let words = words_of(alloc, words)?;
+    match read_arguments(&words) {
+        Some(arguments) => Ok(Some(arguments.options())),
+        None => Ok(None),
+    }
+}
+
+/// The regex of a tree by these words.
+pub fn regex(alloc: Global, tree: &str, words: &str) -> Result<Regex, Error> {
+    let Some(options) = options(alloc, words)? else {
+        return Err(Error::TreeFault { at: 0 });
+    };
+    if !options.fits("") {
+        return Err(Error::TreeFault { at: 0 });
+    }
+    let tree = read_tree(alloc, tree)?;
+    Regex::new(alloc, &tree, &options)
+}
+
+/// A match with its groups that are set on the line, and alone among the spans.
+fn push_captures(
+    line: &mut String,
+    spans: &mut String,
+    captures: &Captures<'_>,
+) -> Result<(), AllocError> {
+    let whole = captures.whole();
+    push_span(line, whole.start(), whole.end())?;
+    for group in 1..MOST_GROUPS {
+        if let Some(found) = captures.get(group) {
+            push_group(line, group, found.start(), found.end())?;
+        }
+    }
+    push_span(spans, whole.start(), whole.end())
+}
+
+/// All matches, by the iterator that gives groups.
+fn push_all_captures(
+    line: &mut String,
+    spans: &mut String,
+    regex: &mut Regex,
+    text: &str,
+) -> Result<(), Error> {
+    for captures in regex.captures_iter(text) {
+        push_captures(line, spans, &captures?)?;
+    }
+    Ok(())
+}
+
+/// All matches, by the one that gives none.
+fn push_all_matches(spans: &mut String, regex: &mut Regex, text: &str) -> Result<(), Error> {
+    for found in regex.find_iter(text) {
+        let found = found?;
+        push_span(spans, found.start(), found.end())?;
+    }
+    Ok(())
+}
+
+/// The matches with their groups, where both iterators agree on where they are.
+fn push_matches(
+    line: &mut String,
+    alloc: Global,
+    regex: &mut Regex,
+    text: &str,
+) -> Result<(), Error> {
+    let text = with_line_ends(alloc, written_out(alloc, text)?.as_str())?;
+    let (mut spans, mut others) = (String::new(alloc), String::new(alloc));
+    push_all_captures(line, &mut spans, regex, text.as_str())?;
+    push_all_matches(&mut others, regex, text.as_str())?;
+    Ok(close(line, spans.as_str(), others.as_str())?)
+}
+
+/// TEXT, how many at most: the pieces.
+fn push_pieces(line: &mut String, regex: &mut Regex, text: &str, limit: &str) -> Result<(), Error> {
+    if limit == "all" {
+        for piece in split(regex, text) {
+            write!(line, "[{}]", piece?)?;
+        }
+    } else {
+        for piece in splitn(regex, text, number(limit)) {
+            write!(line, "[{}]", piece?)?;
+        }
+    }
+    Ok(push_none(line)?)
+}
+
+/// TREE, TEXT, and more: what the table asks of the regex of the tree.
+pub fn push_list(line: &mut String, alloc: Global, table: &str, key: &str) -> Result<(), Error> {
+    let (tree, rest) = columns(key);
+    let (text, rest) = columns(rest);
+    let words = if table == "matches" { rest } else { "" };
+    let mut regex = regex(alloc, tree, words)?;
+    match table {
+        "matches" => push_matches(line, alloc, &mut regex, text),
+        "splits" => push_pieces(line, &mut regex, text, rest),
+        _ => push_replacement(line, alloc, &mut regex, text, rest),
+    }
+}

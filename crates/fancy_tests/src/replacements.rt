@@ -1,0 +1,45 @@
+//! Matches that are replaced.
+
+use fancy_matches::regexes::Regex;
+use fancy_regex_engine::error::Error;
+use fancy_replace::replace::{replace, replace_all, replacen};
+use fancy_replace::template::Template;
+use fancy_tables::columns::{names_of, number, split as columns};
+use std::alloc::{AllocError, Global};
+
+/// The template, by the groups of each name.
+fn template(alloc: Global, named: &str, text: &str) -> Result<Template, AllocError> {
+    let names = names_of(alloc, named)?;
+    Template::new(alloc, text, &names)
+}
+
+/// The text with its matches replaced, by the call that the column names.
+fn push_replaced(
+    line: &mut String,
+    alloc: Global,
+    regex: &mut Regex,
+    text: &str,
+    limit: &str,
+    template: &Template,
+) -> Result<(), Error> {
+    let made = match limit {
+        "all" => replace_all(alloc, regex, text, template),
+        "first" => replace(alloc, regex, text, template),
+        _ => replacen(alloc, regex, text, number(limit), template),
+    };
+    Ok(line.push_str(made?.as_ref())?)
+}
+
+/// TEXT, how many at most, names, a template: the text with its matches replaced.
+pub fn push_replacement(
+    line: &mut String,
+    alloc: Global,
+    regex: &mut Regex,
+    text: &str,
+    rest: &str,
+) -> Result<(), Error> {
+    let (limit, rest) = columns(rest);
+    let (named, written) = columns(rest);
+    let template = template(alloc, named, written)?;
+    push_replaced(line, alloc, regex, text, limit, &template)
+}

@@ -1,0 +1,55 @@
+//! A text from match to match of many trees.
+
+use crate::lists::regex;
+use fancy_characters::places::is_place;
+use fancy_regex_engine::error::Error;
+use fancy_scanner::scanner::Scanner;
+use fancy_tables::columns::{split as columns, with_line_ends};
+use fancy_tables::lists::{past, push_none, push_numbered};
+use std::alloc::Global;
+
+/// Adds the trees with ` ; ` between them.
+fn add_trees(scanner: &mut Scanner, alloc: Global, trees: &str) -> Result<(), Error> {
+    for tree in trees.split(" ; ") {
+        scanner.add(regex(alloc, tree, "")?)?;
+    }
+    Ok(())
+}
+
+/// The match from here on, if this is a place of the text, with the number of its tree; answers where the scan goes on,
+/// which is past every text where there is none.
+fn push_next(
+    line: &mut String,
+    scanner: &mut Scanner,
+    text: &str,
+    pos: usize,
+) -> Result<usize, Error> {
+    if !is_place(text.as_bytes(), pos) {
+        return Ok(pos.saturating_add(1));
+    }
+    let Some(scan) = scanner.find_from(text, pos)? else {
+        return Ok(usize::MAX);
+    };
+    let found = scan.captures.whole();
+    push_numbered(line, scan.index, found.start(), found.end())?;
+    Ok(past(found.start(), found.end()))
+}
+
+/// Each match of these trees, from the text's start on.
+fn push_all(line: &mut String, scanner: &mut Scanner, text: &str) -> Result<(), Error> {
+    let mut pos = 0;
+    for _ in 0..=text.len() {
+        pos = push_next(line, scanner, text, pos)?;
+    }
+    Ok(push_none(line)?)
+}
+
+/// TREES, TEXT: from the text's start on each match, with the number of its tree; after an empty one the scan goes on one
+/// character further.
+pub fn push_scans(line: &mut String, alloc: Global, key: &str) -> Result<(), Error> {
+    let (trees, text) = columns(key);
+    let text = with_line_ends(alloc, text)?;
+    let mut scanner = Scanner::new(alloc);
+    add_trees(&mut scanner, alloc, trees)?;
+    push_all(line, &mut scanner, text.as_str())
+}

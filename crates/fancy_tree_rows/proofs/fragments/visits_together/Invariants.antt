@@ -1,5 +1,0 @@
-use Rattle.fancy_fragments.specs.Fragments.{IsMemoFor}
-use Rattle.fancy_tree_rows.proofs.fragments.visits_together.Given as goal
-
-abbrev pub invariant-starts : goal.invariant-starts
-invariant-starts l = IsMemoFor l.text l.fragment l.memo
