@@ -6,7 +6,7 @@ ghost use Rattle.fancy_compile.specs.GroupTables.{Gathers, GathersOwn, IsTable, 
 ghost use Rattle.fancy_meaning.specs.Options.{Analysis};
 ghost use Rattle.std.specs.Prelude.{IfOk, [], false, length, replicate, slice_index_or, ◌<◌, ◌∷◌, ◌≡◌};
 
-use crate::nodes::child;
+use crate::analysed_nodes::child;
 use fancy_expr::expr::Expr;
 use fancy_info::info::Info;
 use std::alloc::{AllocError, Global};
