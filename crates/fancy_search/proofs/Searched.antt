@@ -86,15 +86,23 @@ module _ (t : ExprTree) (context : AnalyzeContext) (o : CompileOptions) (ok : Is
   pub compiled_from : (i : Info) (prog : Prog) → IsAnalysisOf t (analysis_options_of context) i →
       Compiles (plan_with analysed o) (Ok prog) → IsCompiledFrom input (record { prog = prog })
   compiled_from i prog h compiled = record {
-    accepted = λ implicit. record {
-      well_formed = ok.0;
-      same_end_text = same_end_text;
-      analysed = h.accepted;
-      compiled = compiled.not_refused;
-      implicit_group_0 = implicit;
-    };
+    well_formed = ok.0;
+    same_end_text = same_end_text;
+    analysable = h.accepted;
+    compilable = compiled.not_refused;
     program = compiled.layout;
   }
+
+-- where group 0 is implicit, the tree is accepted
+pub accepted_of : (i : Input) (compiled : Compiled) → IsCompiledFrom i compiled → (i.analysis).explicit_capture_group_0 ≡ false →
+    IsAccepted i (instructions_of i)
+accepted_of i compiled from implicit = record {
+  well_formed = from.well_formed;
+  same_end_text = from.same_end_text;
+  analysed = from.analysable;
+  compiled = from.compilable;
+  implicit_group_0 = implicit;
+}
 
 passes_of : (l : RuntimeError) → outcome_of l ≡ searches.outcome_of (limit_of l)
 passes_of limit.BacktrackLimitExceeded = refl
@@ -111,7 +119,7 @@ module _ (i : Input) (compiled : Compiled) (text : List ℕ) (o : RunOptions) (f
   implicit = sym (ap (λ (p : plain_program.Prog). p.explicit_group_0) from.program) ∙ run_implicit (task_of (program compiled) text o) fits
 
   pub accepted_input : IsAccepted i (instructions_of i)
-  accepted_input = from.accepted implicit
+  accepted_input = accepted_of i compiled from implicit
 
   accepted : IsAccepted i (length prog.body)
   accepted = subst (λ (p : plain_program.Prog). IsAccepted i (length p.body)) (sym from.program) accepted_input

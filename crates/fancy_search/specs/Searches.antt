@@ -1,5 +1,5 @@
 -- The promise filled in for a search of the code: its input, its program, its reply, and what it was compiled from.
-use Rattle.std.specs.Prelude.{◌≡◌, ◌≤◌, ◌*◌, ℕ, Bool, IsFalse, false, ◌&&◌, ◌||◌, not, List, Option, length, Result, Ok, Err}
+use Rattle.std.specs.Prelude.{◌≡◌, ◌≤◌, ◌*◌, ℕ, Bool, IsFalse, true, ◌&&◌, ◌||◌, not, List, Option, length, Result, Ok, Err}
 use Rattle.std.specs.declared.vec.Vec.{Vec}
 use Rattle.std.specs.declared.alloc.Global.{Global}
 use Rattle.fancy_meaning.specs.Options as plain
@@ -8,8 +8,11 @@ use Rattle.fancy_meaning.specs.Config.{Outcome, BacktrackLimitExceeded, StackOve
 use Rattle.fancy_meaning.specs.Instr as plain_program
 use Rattle.fancy_meaning.specs.Machine as machine
 use Rattle.fancy_meaning.specs.Hard.{is_root_hard}
+use Rattle.fancy_meaning.specs.WellFormed.{IsWellFormed}
+use Rattle.fancy_meaning.specs.AnalysisRefusals.{CompileError, AnalysisRefuses}
+use Rattle.fancy_meaning.specs.CompileRefusals.{CompileRefuses}
 use Rattle.fancy_meaning.specs.Layout.{layout}
-use Rattle.fancy_meaning.specs.Premises.{Input, plan, IsAccepted}
+use Rattle.fancy_meaning.specs.Premises.{Input, plan}
 use Rattle.fancy_meaning.specs.Theorems.{tried}
 use Rattle.fancy_meaning.specs.Promise.{Limit, Backtracks, Branches, Instructions, Reply, Found, Refused, Passed, OutOfMemory, IsRefused, Promise}
 use Rattle.fancy_expr.specs.declared.error.Error.{Error}
@@ -42,8 +45,8 @@ abbrev pub options_fit : AnalyzeContext → CompileOptions → Bool
 options_fit context options =
     not options.disallow_empty_match_at_eof_after_newline || context.disallow_empty_match_at_eof_after_newline
 
--- The same, group 0 is implicit, the search begins at a place of the text, and only where the analysis knew of it a match
--- has to take something, or the longest one is asked for.
+-- The options fit each other, group 0 is implicit, the search begins at a place of the text, and only where the analysis
+-- knew of it a match has to take something, or the longest one is asked for.
 abbrev pub search_fits : SearchOptions → List ℕ → Bool
 search_fits o text =
     options_fit o.analysis o.compilation && not (o.analysis).explicit_capture_group_0 && is_place text (o.run).pos
@@ -107,7 +110,16 @@ module _ (i : Input) where
   IsRefusedAs error.Memory = Unit {0}
   IsRefusedAs (error.TreeFault at) = ⊥
 
-  -- what was compiled is the program of the tree, which is accepted where group 0 is implicit
+  -- What was compiled is the program of the tree, which is well-formed, and no case to refuse it holds, whether group 0 is
+  -- implicit or explicit.
   pub record IsCompiledFrom (compiled : Compiled) : Type 0 where
-    pub accepted : (i.analysis).explicit_capture_group_0 ≡ false → IsAccepted i (instructions_of i)
+    pub well_formed : IsWellFormed i.parsed
+    -- the option of `compile` is set only on a tree analysed with it
+    pub same_end_text : (i.options).end_text ≡ true → (i.analysis).end_text ≡ true
+    pub analysable : (error : CompileError) → ¬ AnalysisRefuses i.parsed i.analysis error
+    pub compilable : (error : CompileError) → ¬ CompileRefuses (plan i) (instructions_of i) error
     pub program : prog_of (program compiled) ≡ program_of i
+
+-- it was compiled from some tree
+abbrev pub HasSource : Compiled → Type 0
+HasSource compiled = ∥ ((i : Input) × IsCompiledFrom i compiled) ∥₁

@@ -1,4 +1,5 @@
-//! A search for a tree in a text by one call: analysis, compiler and machine, one after the other.
+//! A search for a tree in a text by one call, and a tree that is compiled once and searched for many times.
 #![tactic(auto)]
 
+pub mod request;
 pub mod search;
