@@ -1,3 +1,4 @@
 pub mod Lists
 pub mod Searching
 pub mod Stepping
+pub mod Counting

@@ -2,7 +2,7 @@
 use Rattle.std.proofs.Common.{◌≢◌, ne_eqb, slice_index_or, inl, inr, ◌⊎◌, ◌+◌, ◌*◌, slice_range, drop, ◌≡◌, ℕ, zero, suc, ◌-◌, ◌<◌, ◌≤◌, ⊎_elim, min, max, Bool, true, false, ◌&&◌, not, List, [], ◌∷◌, ◌++◌, length, nat_le, nat_lt, Option, Some, None, IfSome, IsTrue, filter_map, slice_get, map, option_map, true≢false, eq-eqb, leb-true, ◌==◌, refl, sym, ap, ap₂, ◌∙◌, subst, arith, if◌then◌else◌}
 use Rattle.regex_hir.specs.Text.{is_some_and}
 use Rattle.std.proofs.lemmas.Bool.{and_parts, cases_lt, cond_both}
-use Rattle.std.proofs.lemmas.List.{drop_all}
+use Rattle.std.proofs.lemmas.List.{drop_all, length-append}
 use Rattle.std.proofs.lemmas.List.Folds.{drop_split}
 use Rattle.std.proofs.lemmas.Option.{none-some, same_Some}
 use Rattle.std.proofs.lemmas.Bool.Decides.{nat_tests}
@@ -26,7 +26,7 @@ use Rattle.fancy_laws.proofs.Every.{Every, every_one, every_if, every_filter, ev
 use Rattle.fancy_laws.proofs.Moves.{is_place_parts, past_char_tells}
 use Rattle.fancy_laws.proofs.WaysOf.{every_place_from}
 use Rattle.fancy_vm.specs.Outcomes.{first_pair}
-use Rattle.fancy_matches.specs.Listing.{AreSpans, group_span, Standing, after, found_at, AreApart, IsPast, PiecesJoin, in_turn, part, pieces, all_spans, at_start, further, is_listed, left, listed, listed_one, next_pos, options_at}
+use Rattle.fancy_matches.specs.Listing.{AreSpans, ComesTo, by_match, past_match, stays, group_span, Standing, after, found_at, AreApart, IsPast, PiecesJoin, in_turn, part, pieces, all_spans, at_start, further, is_listed, left, listed, listed_one, next_pos, options_at}
 
 -- ---- what an answer has
 
@@ -97,7 +97,7 @@ further_on text i = go (past_char text (any_takes true false) i) (λ j e. len_ut
     go None k = omega arith
     go (Some j) k = k j refl
 
-next_on : (text : List ℕ) (s : Standing) (span : Span) → s.pos ≤ span.1 → s.pos < next_pos text s span
+pub next_on : (text : List ℕ) (s : Standing) (span : Span) → s.pos ≤ span.1 → s.pos < next_pos text s span
 next_on text s (start, end) on =
     cond_both (nat_lt (max s.pos start) end) end (further text end) (λ i. s.pos < i)
     (λ e. grind (arith, nat_tests)) (λ e. let f = further_on text end in omega (arith, f, on))
@@ -174,8 +174,8 @@ module _ (p : Plan) (text : List ℕ) (o : RunOptions) (is : IsText text) where
   found_answer : (s : Standing) → is_place text s.pos ≡ true → found s ≡ answer (search_of p text (options_at o s))
   found_answer s at = ap (λ b. if b then answer (search_of p text (options_at o s)) else None) at
 
-  pub ended : (s : Standing) → is_place text s.pos ≡ false → left p text o s ≡ []
-  ended s is_so =
+  pub ended_at : (s : Standing) → is_place text s.pos ≡ false → left p text o s ≡ []
+  ended_at s is_so =
       left_none s (ap (λ b. if b then answer (search_of p text (options_at o s)) else None) is_so)
 
   pub no_place_ends : (s : Standing) → length text < s.pos → left p text o s ≡ []
@@ -186,7 +186,7 @@ module _ (p : Plan) (text : List ℕ) (o : RunOptions) (is : IsText text) where
     finds_none e = left_none s (found_answer s at ∙ sym e)
 
     module _ (m : List ℕ) (e : Some m ≡ answer (search_of p text (options_at o s))) where
-      is_found : found s ≡ Some m
+      pub is_found : found s ≡ Some m
       is_found = found_answer s at ∙ sym e
 
       pub finds_sound : AreNumbers text s.pos m × ArePairs text m
@@ -204,6 +204,57 @@ module _ (p : Plan) (text : List ℕ) (o : RunOptions) (is : IsText text) where
       finds_passed is_so =
           left_some s m is_found
           ∙ ap (λ b. (if b then m ∷ [] else []) ++ left p text o (after text s (first_pair m))) is_so
+
+-- ---- a list comes from one standing to another
+
+module _ (p : Plan) (text : List ℕ) (o : RunOptions) where
+  pub comes_more : {s t u : Standing} {ms ns : List (List ℕ)} → ComesTo p text o s ms t → ComesTo p text o t ns u → ComesTo p text o s (ms ++ ns) u
+  comes_more stays d = d
+  comes_more (by_match s m found listed c) d = by_match s m found listed (comes_more c d)
+  comes_more (past_match s m found listed c) d = past_match s m found listed (comes_more c d)
+
+  module _ (is : IsText text) where
+    -- its matches are the first of those that were left
+    pub comes_left : {s t : Standing} {ms : List (List ℕ)} → ComesTo p text o s ms t → left p text o s ≡ ms ++ left p text o t
+    comes_left stays = refl
+    comes_left (by_match s m found listed c) =
+        left_some p text o is s m found
+        ∙ ap (λ b. (if b then m ∷ [] else []) ++ left p text o (after text s (first_pair m))) listed
+        ∙ ap (λ rest. m ∷ rest) (comes_left c)
+    comes_left (past_match s m found listed c) =
+        left_some p text o is s m found
+        ∙ ap (λ b. (if b then m ∷ [] else []) ++ left p text o (after text s (first_pair m))) listed
+        ∙ comes_left c
+
+    -- it stands further on for each of them
+    pub comes_on : {s t : Standing} {ms : List (List ℕ)} → ComesTo p text o s ms t → length ms + s.pos ≤ t.pos
+    comes_on {s} stays = omega arith
+    comes_on (by_match s m found listed c) = let on = goes_on p text o is s m found in let rest = comes_on c in omega (arith, on, rest)
+    comes_on (past_match s m found listed c) = let on = goes_on p text o is s m found in let rest = comes_on c in omega (arith, on, rest)
+
+-- ---- a list has no more matches than places
+
+one_most : (b : Bool) (m : List ℕ) → length (if b then m ∷ [] else []) ≤ 1
+one_most true m = omega arith
+one_most false m = omega arith
+
+module _ (p : Plan) (text : List ℕ) (o : RunOptions) (is : IsText text) where
+  listed_most : (n : ℕ) (s : Standing) → length (listed p text o n s) ≤ n
+  unfolding listed
+  listed_most zero s = omega arith
+  listed_most (suc n) s = go (found_at p text o s) refl (λ m. listed_most n (after text s (first_pair m)))
+    where
+      go : (x : Option (List ℕ)) → found_at p text o s ≡ x → ((m : List ℕ) → length (listed p text o n (after text s (first_pair m))) ≤ n) →
+          length (listed p text o (suc n) s) ≤ suc n
+      go None e rest = let none = ap (λ (xs : List (List ℕ)). length xs) (listed_none p text o is (suc n) s e) in omega (arith, none)
+      go (Some m) e rest =
+          let some = ap (λ (xs : List (List ℕ)). length xs) (listed_some p text o is n s m e) in
+          let one = one_most (is_listed s (first_pair m)) m in
+          let more = rest m in
+          omega (arith, some, one, more, length-append (listed_one p text o s m) (listed p text o n (after text s (first_pair m))))
+
+  pub all_most : length (left p text o at_start) ≤ suc (length text)
+  all_most = let most = listed_most (suc (length text) - 0) at_start in omega (arith, most)
 
 -- ---- the matches of a list lie apart
 

@@ -1,5 +1,5 @@
 -- A search of a regex: which options it may have, and that it answers as is promised.
-use Rattle.std.proofs.Common.{IfSome, ◌≡◌, ℕ, ◌&&◌, ◌||◌, not, Bool, true, List, [], ◌∷◌, ◌++◌, map, length, Option, Some, None, Result, Ok, Err, is_some, option_map, refl, sym, ap, ◌∙◌, subst, arith, if◌then◌else◌}
+use Rattle.std.proofs.Common.{IfSome, ◌≡◌, ◌≤◌, ℕ, true, List, [], length, Option, Some, None, Ok, Err, is_some, option_map, refl, sym, ap, subst}
 use Rattle.std.proofs.Math.Logic.{∥∥₁_elim}
 use Rattle.std.proofs.Props.{props}
 use Rattle.std.proofs.lemmas.Bool.{and_parts, and_from}
@@ -8,12 +8,10 @@ use Rattle.std.specs.declared.vec.Vec.{Vec}
 use Rattle.std.specs.declared.alloc.Global.{Global}
 use Rattle.fancy_meaning.specs.Answer.{answer, search_of}
 use Rattle.fancy_meaning.specs.Fits.{run_fits}
-use Rattle.fancy_meaning.specs.Layout.{layout}
 use Rattle.fancy_meaning.specs.Instr as plain_program
 use Rattle.fancy_meaning.specs.Config.{Outcome}
 use Rattle.fancy_meaning.specs.Machine as machine
 use Rattle.fancy_meaning.specs.MatchState.{Span}
-use Rattle.fancy_meaning.specs.Options as plain
 use Rattle.fancy_meaning.specs.Places.{is_place}
 use Rattle.fancy_meaning.specs.Premises.{Input, plan, IsAccepted, IsSpan, IsText}
 use Rattle.fancy_expr.specs.declared.error.Error.{Error}
@@ -25,10 +23,11 @@ use Rattle.fancy_vm.specs.Tasks.{options_of as run_options_of, task_of}
 use Rattle.fancy_program.specs.declared.insn.Prog.{Prog}
 use Rattle.fancy_vm.specs.declared.runs.RunOptions.{RunOptions}
 use Rattle.fancy_search.specs.declared.search.Compiled.{Compiled}
-use Rattle.fancy_search.specs.Searches.{IsCompiledFrom, Promises, instructions_of, program, program_of}
+use Rattle.fancy_search.specs.Searches.{Bounds, HasSource, IsCompiledFrom, Promises, instructions_of, program}
+use Rattle.fancy_search.proofs.Bounded.{run_bounds}
 use Rattle.fancy_search.proofs.Searched.{accepted_input, run_promises}
 use Rattle.fancy_program.proofs.FitsLaws.{run_place}
-use Rattle.fancy_matches.specs.Listing.{AreSpans}
+use Rattle.fancy_matches.specs.Listing.{AreSpans, begun_at}
 use Rattle.fancy_matches.specs.Regexes.{shown_match, with_numbers, with_span}
 use Rattle.fancy_matches.specs.declared.found.Match.{Match}
 use Rattle.fancy_matches.proofs.Lists.{AreNumbers, answer_sound, numbers_found, spans_of_pairs}
@@ -41,6 +40,12 @@ unfolding run_fits
 fits_at prog base o text fits at empty longest =
     let rest = (and_parts (is_place [] base.pos) _ fits).1 in
     and_from (is_place text o.pos) _ at (rw (empty, longest) rest)
+
+pub fits_begun : (prog : Prog) (base o : RunOptions) (text : List ℕ) (pos : ℕ) → run_fits (task_of prog [] base) ≡ true →
+    is_place text pos ≡ true → run_options_of o ≡ begun_at (run_options_of base) pos → run_fits (task_of prog text o) ≡ true
+fits_begun prog base o text pos fits at is =
+    fits_at prog base o text fits (subst (λ p. is_place text p ≡ true) (sym (ap (λ q. q.pos) is)) at)
+    (ap (λ q. q.not_empty) is) (ap (λ q. q.leftmost_longest) is)
 
 pair_error : (r : Outcome) (e : Error) → RunAnswersPair r (Err e) → RunAnswers r (Err e)
 pair_error r (error.CompileError e) h = h
@@ -58,17 +63,17 @@ module _ (i : Input) (compiled : Compiled) (text : List ℕ) (o : RunOptions) (f
       IsAccepted i (instructions_of i) × (found ≡ option_map first_pair (answer (search_of (plan i) text (run_options_of o))))
   pair_found found means = (accepted_input i compiled text o from fits, means.answers i accepted from.program)
 
-  pub pair_fails : (e : Error) → RunAnswersPair (machine.run (task_of (program compiled) text o)) (Err e) →
-      Promises i text (run_options_of o) (Err e)
-  pair_fails e h = run_promises i compiled text o from fits (Err e) (pair_error _ e h) tt
+  pub pair_fails : IsText text → (e : Error) → RunAnswersPair (machine.run (task_of (program compiled) text o)) (Err e) →
+      Promises i text (run_options_of o) (Err e) × Bounds i text (run_options_of o) (Err e)
+  pair_fails is e h = (
+    run_promises i compiled text o from fits (Err e) (pair_error _ e h) tt,
+    run_bounds i compiled text o from fits is.utf8 is.fits (Err e) (pair_error _ e h),
+  )
 
 -- ---- what was found lies in the text, whatever tree the program is of
 
-abbrev Source : Compiled → Type 0
-Source compiled = ∥ ((i : Input) × IsCompiledFrom i compiled) ∥₁
-
 pub captures_sound : (compiled : Compiled) (text : List ℕ) (o : RunOptions) (numbers : Vec ℕ Global) → IsText text →
-    is_place text o.pos ≡ true → Source compiled →
+    is_place text o.pos ≡ true → HasSource compiled →
     ((i : Input) → IsCompiledFrom i compiled → Promises i text (run_options_of o) (Ok (Some numbers))) →
     AreNumbers text o.pos numbers.items × AreSpans text numbers.items
 captures_sound compiled text o numbers is at source promise =
@@ -77,13 +82,14 @@ captures_sound compiled text o numbers is at source promise =
     (sound.0, spans_of_pairs text numbers.items sound.1))
 
 pair_is_span : (text : List ℕ) (pos start end : ℕ) (x : Option (List ℕ)) → IfSome x (AreNumbers text pos) →
-    Some (start, end) ≡ option_map first_pair x → IsSpan text (start, end)
+    Some (start, end) ≡ option_map first_pair x → IsSpan text (start, end) × (pos ≤ end)
 pair_is_span text pos start end None h e = absurd (none-some _ (sym e))
-pair_is_span text pos start end (Some m) h e = subst (IsSpan text) (sym (same_Some (start, end) (first_pair m) e)) h.whole
+pair_is_span text pos start end (Some m) h e =
+    subst (λ (p : Span). IsSpan text p × (pos ≤ p.1)) (sym (same_Some (start, end) (first_pair m) e)) (h.whole, h.on)
 
 pub pair_sound : (compiled : Compiled) (text : List ℕ) (o : RunOptions) (start end : ℕ) → IsText text →
-    run_fits (task_of (program compiled) text o) ≡ true → Source compiled →
-    IsMeaningPair (prog_of (program compiled)) text (run_options_of o) (Some (start, end)) → IsSpan text (start, end)
+    run_fits (task_of (program compiled) text o) ≡ true → HasSource compiled →
+    IsMeaningPair (prog_of (program compiled)) text (run_options_of o) (Some (start, end)) → IsSpan text (start, end) × (o.pos ≤ end)
 pair_sound compiled text o start end is fits source means =
     ∥∥₁_elim source (Prim.hlevel props) (λ from.
     pair_is_span text o.pos start end (answer (search_of (plan from.0) text (run_options_of o)))

@@ -1,68 +1,157 @@
 -- What the next search of a list comes to, by what is promised of it.
-use Rattle.std.proofs.Common.{◌≡◌, ℕ, ◌<◌, ◌≤◌, length, arith, Bool, true, false, List, [], ◌∷◌, map, Option, Some, None, Result, Ok, Err, option_map, refl, sym, ap, ap₂, ◌∙◌, subst}
+use Rattle.std.proofs.Common.{◌≡◌, ℕ, ◌<◌, ◌≤◌, length, arith, true, false, List, [], ◌∷◌, Option, Some, None, Result, Ok, Err, option_map, refl, sym, ap, ◌∙◌, subst}
 use Rattle.std.proofs.Math.Logic.{∥∥₁_elim}
 use Rattle.std.proofs.lemmas.Option.{none-some, same_Some}
 use Rattle.std.specs.Coded.{le_prop}
 use Rattle.fancy_meaning.specs.Answer.{answer, search_of}
+use Rattle.fancy_meaning.specs.Fits.{run_fits}
 use Rattle.fancy_meaning.specs.MatchState.{Span}
 use Rattle.fancy_meaning.specs.Options as plain
 use Rattle.fancy_meaning.specs.Places.{is_place}
 use Rattle.fancy_meaning.specs.Premises.{Input, plan, IsText}
 use Rattle.fancy_vm.specs.Outcomes.{first_pair}
-use Rattle.fancy_matches.specs.Listing.{Standing, after, is_listed, options_at}
-use Rattle.fancy_matches.specs.Regexes.{FailsBy, FindsCaptures, IsRegexOf, IsSame, StepsTo, StepsToMatch, captures_text, left_of, numbers_in, shown_captures, shown_match, span_of, text_of, with_numbers, with_span}
+use Rattle.fancy_vm.specs.Tasks.{options_of as run_options_of, task_of}
+use Rattle.fancy_vm.specs.declared.runs.RunOptions.{RunOptions}
+use Rattle.fancy_search.specs.Searches.{HasSource, IsCompiledFrom, program}
+use Rattle.fancy_search.specs.declared.search.Compiled.{Compiled}
+use Rattle.fancy_expr.specs.declared.error.Error.{Error}
+use Rattle.fancy_laws.proofs.Moves.{is_place_parts}
+use Rattle.fancy_matches.specs.Listing.{ComesTo, Standing, after, by_match, ended, is_listed, options_at, past_match, stays}
+use Rattle.fancy_matches.specs.Regexes.{ComesBy, GivesBy, IsRegexOf, IsSame, Shows, StepsBy, left_of, numbers_in, shown_captures, shown_match, span_of, with_numbers, with_span}
 use Rattle.fancy_matches.specs.declared.found.Captures.{Captures}
 use Rattle.fancy_matches.specs.declared.found.Match.{Match}
 use Rattle.fancy_matches.specs.declared.regexes.Regex.{Regex}
-use Rattle.fancy_search.specs.Searches.{IsCompiledFrom}
-use Rattle.fancy_expr.specs.declared.error.Error.{Error}
-use Rattle.fancy_laws.proofs.Moves.{is_place_parts}
-use Rattle.fancy_vm.specs.Tasks.{options_of as run_options_of}
-use Rattle.fancy_vm.specs.declared.runs.RunOptions.{RunOptions}
-use Rattle.fancy_matches.proofs.Lists.{ended, finds_further, finds_listed, finds_none, finds_passed, no_place_ends}
+use Rattle.fancy_matches.proofs.Lists.{comes_left, comes_more, comes_on, ended_at, finds_none, is_found, no_place_ends}
+use Rattle.fancy_matches.proofs.Searching.{fits_at}
 
-none_shown : (text : List ℕ) (x : Option (List ℕ)) → None ≡ option_map (with_numbers text) x → None ≡ x
-none_shown text None e = refl
-none_shown text (Some m) e = absurd (none-some _ e)
+-- ---- what is seen of an answer
 
-pub some_shown : (text t m : List ℕ) (x : Option (List ℕ)) → Some (t, m) ≡ option_map (with_numbers text) x → (t ≡ text) × (Some m ≡ x)
-some_shown text t m None e = absurd (none-some _ (sym e))
-some_shown text t m (Some n) e =
-    let same = same_Some (t, m) (text, n) e in (ap (λ p. p.0) same, ap (λ p. Some p.1) same)
+none_seen : {B : Type 0} (seen : List ℕ → B) (x : Option (List ℕ)) → None ≡ option_map seen x → None ≡ x
+none_seen seen None e = refl
+none_seen seen (Some m) e = absurd (none-some _ e)
 
-module _ (i : Input) (text : List ℕ) (o : plain.RunOptions) (is : IsText text) (s : Standing) (at : is_place text s.pos ≡ true) where
-  pub none_found : FindsCaptures i text (options_at o s) (Ok None) → left_of i text o s ≡ []
-  none_found h = finds_none (plan i) text o is s at (none_shown text (answer (search_of (plan i) text (options_at o s))) h.1)
+-- the numbers of which this is seen
+record IsSeen {B : Type 0} (seen : List ℕ → B) (shown : B) (x : Option (List ℕ)) : Type 0 where
+  pub numbers : List ℕ
+  pub found : Some numbers ≡ x
+  pub shows : shown ≡ seen numbers
 
-  module _ (c : Captures) (h : FindsCaptures i text (options_at o s) (Ok (Some c))) where
-    abbrev next : Standing
-    next = after text s (first_pair (numbers_in c))
+some_seen : {B : Type 0} (seen : List ℕ → B) (shown : B) (x : Option (List ℕ)) → Some shown ≡ option_map seen x → IsSeen seen shown x
+some_seen seen shown None e = absurd (none-some _ (sym e))
+some_seen seen shown (Some m) e = record { numbers = m; found = refl; shows = same_Some shown (seen m) e }
 
-    shows : (captures_text c ≡ text) × (Some (numbers_in c) ≡ answer (search_of (plan i) text (options_at o s)))
-    shows = some_shown text (captures_text c) (numbers_in c) (answer (search_of (plan i) text (options_at o s))) h.1
+-- the span of what is shown of a match
+abbrev pub captures_span : Captures → Span
+captures_span c = first_pair (numbers_in c)
 
-    pub is_further : s.pos < next.pos
-    is_further = finds_further (plan i) text o is s at (numbers_in c) shows.1
+pub captures_spans : (text : List ℕ) (c : Captures) (numbers : List ℕ) → shown_captures c ≡ with_numbers text numbers →
+    captures_span c ≡ first_pair numbers
+captures_spans text c numbers e = ap (λ (p : List ℕ × List ℕ). first_pair p.1) e
 
-    pub is_next : is_listed s (first_pair (numbers_in c)) ≡ true →
-        map (with_numbers text) (left_of i text o s) ≡ shown_captures c ∷ map (with_numbers text) (left_of i text o next)
-    is_next is_so =
-        ap (map (with_numbers text)) (finds_listed (plan i) text o is s at (numbers_in c) shows.1 is_so)
-        ∙ ap (λ t. (t, numbers_in c) ∷ map (with_numbers text) (left_of i text o next)) (sym shows.0)
+pub match_spans : (text : List ℕ) (m : Match) (numbers : List ℕ) → shown_match m ≡ with_span text numbers → span_of m ≡ first_pair numbers
+match_spans text m numbers e = ap (λ (p : List ℕ × Span). p.1) e
 
-    pub is_passed : is_listed s (first_pair (numbers_in c)) ≡ false → left_of i text o s ≡ left_of i text o next
-    is_passed is_so = finds_passed (plan i) text o is s at (numbers_in c) shows.1 is_so
+-- ---- a search from where the list of a tree stands, once it came there without a match
+
+module _ {A B : Type 0} (show : A → B) (seen : List ℕ → B) (span : A → Span)
+    (spans : (x : A) (numbers : List ℕ) → show x ≡ seen numbers → span x ≡ first_pair numbers)
+    (i : Input) (text : List ℕ) (o : plain.RunOptions) (is : IsText text) (from s : Standing) (at : is_place text s.pos ≡ true)
+    (comes : ComesTo (plan i) text o from [] s) where
+  abbrev answered : Option (List ℕ)
+  answered = answer (search_of (plan i) text (options_at o s))
+
+  none_left : Shows i text (options_at o s) show seen (Ok None) → left_of i text o from ≡ []
+  none_left h = comes_left (plan i) text o is comes ∙ finds_none (plan i) text o is s at (none_seen seen answered h.1)
+
+  module _ (x : A) (h : Shows i text (options_at o s) show seen (Ok (Some x))) where
+    sees : IsSeen seen (show x) answered
+    sees = some_seen seen (show x) answered h.1
+
+    pair : span x ≡ first_pair sees.numbers
+    pair = spans x sees.numbers sees.shows
+
+    by_this : is_listed s (span x) ≡ true → ComesTo (plan i) text o from (sees.numbers ∷ []) (after text s (span x))
+    by_this so =
+        subst (λ p. ComesTo (plan i) text o from (sees.numbers ∷ []) (after text s p)) (sym pair)
+        (comes_more (plan i) text o comes
+        (by_match s sees.numbers (is_found (plan i) text o is s at sees.numbers sees.found) (subst (λ p. is_listed s p ≡ true) pair so) stays))
+
+    comes_by : is_listed s (span x) ≡ true → ComesBy i text o seen from (show x) (after text s (span x))
+    comes_by so = record {
+      numbers = sees.numbers;
+      shows = sees.shows;
+      comes = by_this so;
+      left = comes_left (plan i) text o is (by_this so);
+    }
+
+    comes_past : is_listed s (span x) ≡ false → ComesTo (plan i) text o from [] (after text s (span x))
+    comes_past so =
+        subst (λ p. ComesTo (plan i) text o from [] (after text s p)) (sym pair)
+        (comes_more (plan i) text o comes
+        (past_match s sees.numbers (is_found (plan i) text o is s at sees.numbers sees.found) (subst (λ p. is_listed s p ≡ false) pair so) stays))
 
 -- ---- a step of the loop over searches
 
--- The regex is of the same tree, the list stands no earlier, and what is left is what was left.
-pub record GoesOn (r s : Regex) (text : List ℕ) (from to : Standing) : Type 0 where
-  pub same : IsSame r s
+-- the list of a compiled tree came without a match from one standing to another
+pub record GoesOn (c : Compiled) (text : List ℕ) (o : plain.RunOptions) (from to : Standing) : Type 0 where
   pub on : from.pos ≤ to.pos
-  pub rest : (i : Input) (o : plain.RunOptions) → IsRegexOf i o r → left_of i text o to ≡ left_of i text o from
+  pub comes : (i : Input) → IsCompiledFrom i c → ComesTo (plan i) text o from [] to
 
-pub at_first : (r : Regex) (text : List ℕ) (s : Standing) → GoesOn r r text s s
-at_first r text s = record { same = (refl, refl); on = omega arith; rest = λ i o h. refl }
+pub at_first : (c : Compiled) (text : List ℕ) (o : plain.RunOptions) (s : Standing) → GoesOn c text o s s
+at_first c text o s = record { on = omega arith; comes = λ i from. stays }
+
+-- a list stands here at a place, and its next search is made with the options that it is to have
+module _ (c : Compiled) (text : List ℕ) (is : IsText text) (base here : RunOptions) (from s : Standing) (at : is_place text s.pos ≡ true)
+    (options : run_options_of here ≡ options_at (run_options_of base) s) where
+  pub search_fits : run_fits (task_of (program c) [] base) ≡ true → run_fits (task_of (program c) text here) ≡ true
+  search_fits fits =
+      fits_at (program c) base here text fits
+      (subst (λ pos. is_place text pos ≡ true) (sym (ap (λ q. q.pos) options)) at)
+      (ap (λ q. q.not_empty) options) (ap (λ q. q.leftmost_longest) options)
+
+  module _ (goes : GoesOn c text (run_options_of base) from s) {A B : Type 0} (show : A → B) (seen : List ℕ → B) (span : A → Span)
+      (spans : (x : A) (numbers : List ℕ) → show x ≡ seen numbers → span x ≡ first_pair numbers) (result : Result (Option A) Error)
+      (promise : (i : Input) → IsCompiledFrom i c → Shows i text (run_options_of here) show seen result) where
+    abbrev o : plain.RunOptions
+    o = run_options_of base
+
+    found_so : (r : Result (Option A) Error) → result ≡ r → (i : Input) → IsCompiledFrom i c → Shows i text (options_at o s) show seen r
+    found_so r was i of = subst (λ q. Shows i text q show seen r) options (subst (Shows i text (run_options_of here) show seen) was (promise i of))
+
+    -- nothing was found, and the list ends
+    pub search_none : result ≡ Ok None → (i : Input) → IsCompiledFrom i c → StepsBy i text o show seen from (Ok None) (ended s)
+    search_none was i of = (
+      none_left show seen span spans i text o is from s at (goes.comes i of) (found_so (Ok None) was i of),
+      no_place_ends (plan i) text o is (ended s) is.fits,
+    )
+
+    pub search_error : (e : Error) → result ≡ Err e → (i : Input) → IsCompiledFrom i c → StepsBy i text o show seen from (Err e) s
+    search_error e was i of =
+        let h = found_so (Err e) was i of in (goes.comes i of, record { place = at; promise = h.0; bounds = h.1 })
+
+    module _ (x : A) (was : result ≡ Ok (Some x)) where
+      -- a match of the list
+      pub search_listed : is_listed s (span x) ≡ true → (i : Input) → IsCompiledFrom i c →
+          StepsBy i text o show seen from (Ok (Some x)) (after text s (span x))
+      search_listed so i of =
+          comes_by show seen span spans i text o is from s at (goes.comes i of) x (found_so (Ok (Some x)) was i of) so
+
+      -- a match that is passed over
+      pub search_past : is_listed s (span x) ≡ false → s.pos < (after text s (span x)).pos → GoesOn c text o from (after text s (span x))
+      search_past so further = record {
+        on = let on = goes.on in omega (arith, on, further);
+        comes = λ i of.
+            comes_past show seen span spans i text o is from s at (goes.comes i of) x (found_so (Ok (Some x)) was i of) so;
+      }
+
+-- none is left where the list stands at no place
+pub none_at_end : {A B : Type 0} (show : A → B) (seen : List ℕ → B) (c : Compiled) (text : List ℕ) (is : IsText text) (o : plain.RunOptions)
+    (from to : Standing) → GoesOn c text o from to → is_place text to.pos ≡ false → (i : Input) → IsCompiledFrom i c →
+    StepsBy i text o show seen from (Ok None) to
+none_at_end show seen c text is o from to goes no_place i of =
+    let none = ended_at (plan i) text o is to no_place in (comes_left (plan i) text o is (goes.comes i of) ∙ none, none)
+
+-- ---- a step of a regex
 
 pub of_same : (r s : Regex) (i : Input) (o : plain.RunOptions) → IsSame r s → IsRegexOf i o r → IsRegexOf i o s
 of_same r s i o same h = record {
@@ -70,78 +159,36 @@ of_same r s i o same h = record {
   options = ap run_options_of same.1 ∙ h.options;
 }
 
-same_twice : (r s t : Regex) → IsSame r s → IsSame s t → IsSame r t
+pub same_twice : (r s t : Regex) → IsSame r s → IsSame s t → IsSame r t
 same_twice r s t a b = (b.0 ∙ a.0, b.1 ∙ a.1)
 
--- a list stands here at a place, and its next search was made with the options that it is to have
-module _ (r : Regex) (text : List ℕ) (is : IsText text) (st : Standing) (at : is_place text st.pos ≡ true) (made : RunOptions)
-    (options : run_options_of made ≡ options_at (run_options_of r.options) st) (result : Result (Option Captures) Error)
-    (promise : (i : Input) → IsCompiledFrom i r.compiled → FindsCaptures i text (run_options_of made) result) where
-  promised : (i : Input) (o : plain.RunOptions) → IsRegexOf i o r → FindsCaptures i text (options_at o st) result
-  promised i o h =
-      subst (λ p. FindsCaptures i text p result) (options ∙ ap (λ q. options_at q st) h.options) (promise i h.compiled)
+-- what its searches for the next match came to
+module _ {A B : Type 0} (show : A → B) (seen : List ℕ → B) (r : Regex) (text : List ℕ) (is : IsText text) (from to : Standing)
+    (result : Result (Option A) Error)
+    (steps : (i : Input) → IsCompiledFrom i r.compiled → StepsBy i text (run_options_of r.options) show seen from result to) where
+  steps_so : (x : Result (Option A) Error) → result ≡ x → (i : Input) (o : plain.RunOptions) → IsRegexOf i o r →
+      StepsBy i text o show seen from x to
+  steps_so x was i o h =
+      subst (λ q. StepsBy i text q show seen from x to) h.options
+      (subst (λ y. StepsBy i text (run_options_of r.options) show seen from y to) was (steps i h.compiled))
 
-  module _ (entry new : Regex) (from : Standing) (goes : GoesOn entry r text from st) (same : IsSame r new) where
-    -- nothing was found: the list has ended
-    pub loop_none : result ≡ Ok None → (to : Standing) → length text < to.pos → GoesOn entry new text from to
-    loop_none e to past = record {
-      same = same_twice entry r new goes.same same;
-      on = let on = goes.on in let within = (is_place_parts text st.pos at).0 in omega (arith, on, within, past);
-      rest = λ i o h.
-          no_place_ends (plan i) text o is to past
-          ∙ sym (none_found i text o is st at (subst (FindsCaptures i text (options_at o st)) e (promised i o (of_same entry r i o goes.same h))))
-          ∙ goes.rest i o h;
-    }
+  pub gives_none : result ≡ Ok None → (i : Input) (o : plain.RunOptions) → IsRegexOf i o r → GivesBy i text o show seen from None to
+  gives_none was i o h = steps_so (Ok None) was i o h
 
-    -- an error: the list has ended, and the next search was to fail so
-    pub loop_error : (e : Error) → result ≡ Err e → (i : Input) (o : plain.RunOptions) → IsRegexOf i o entry → FailsBy i text o from e
-    loop_error e was i o h =
-        (st, (goes.rest i o h, subst (FindsCaptures i text (options_at o st)) was (promised i o (of_same entry r i o goes.same h))))
+  pub gives_some : (x : A) → result ≡ Ok (Some x) → (i : Input) (o : plain.RunOptions) → IsRegexOf i o r →
+      GivesBy i text o show seen from (Some (Ok x)) to
+  gives_some x was i o h = steps_so (Ok (Some x)) was i o h
 
-    module _ (c : Captures) (was : result ≡ Ok (Some c)) where
-      found_so : (i : Input) (o : plain.RunOptions) → IsRegexOf i o entry → FindsCaptures i text (options_at o st) (Ok (Some c))
-      found_so i o h = subst (FindsCaptures i text (options_at o st)) was (promised i o (of_same entry r i o goes.same h))
+  pub gives_error : (e : Error) → result ≡ Err e → (i : Input) (o : plain.RunOptions) → IsRegexOf i o r →
+      GivesBy i text o show seen from (Some (Err e)) (ended to)
+  gives_error e was i o h =
+      let s = steps_so (Err e) was i o h in
+      (record { standing = to; comes = s.0; fails = s.1 }, no_place_ends (plan i) text o is (ended to) is.fits)
 
-      pub loop_further : ∥ ((i : Input) × IsCompiledFrom i r.compiled) ∥₁ →
-          st.pos < (after text st (first_pair (numbers_in c))).pos
-      loop_further source =
-          ∥∥₁_elim source le_prop (λ from.
-          is_further from.0 text (run_options_of r.options) is st at c
-          (subst (FindsCaptures from.0 text (options_at (run_options_of r.options) st)) was
-          (promised from.0 (run_options_of r.options) (record { compiled = from.1; options = refl }))))
-
-      -- a match that is passed over
-      pub loop_passed : is_listed st (first_pair (numbers_in c)) ≡ false → st.pos < (after text st (first_pair (numbers_in c))).pos →
-          GoesOn entry new text from (after text st (first_pair (numbers_in c)))
-      loop_passed is_so further = record {
-        same = same_twice entry r new goes.same same;
-        on = let on = goes.on in omega (arith, on, further);
-        rest = λ i o h. sym (is_passed i text o is st at c (found_so i o h) is_so) ∙ goes.rest i o h;
-      }
-
-      -- a match of the list
-      pub loop_listed : is_listed st (first_pair (numbers_in c)) ≡ true → (i : Input) (o : plain.RunOptions) → IsRegexOf i o entry →
-          StepsTo i text o from (Some (Ok c)) (after text st (first_pair (numbers_in c)))
-      loop_listed is_so i o h =
-          ap (map (with_numbers text)) (sym (goes.rest i o h)) ∙ is_next i text o is st at c (found_so i o h) is_so
-
--- none is left where the list stands at no place
-pub loop_ended : (entry r : Regex) (text : List ℕ) (is : IsText text) (from to : Standing) → GoesOn entry r text from to →
-    is_place text to.pos ≡ false → (i : Input) (o : plain.RunOptions) → IsRegexOf i o entry → StepsTo i text o from None to
-loop_ended entry r text is from to goes no_place i o h =
-    let none = ended (plan i) text o is to no_place in (sym (goes.rest i o h) ∙ none, none)
-
--- the same step without the groups
-abbrev spanned : List ℕ × List ℕ → List ℕ × Span
-spanned found = (found.0, first_pair found.1)
-
-spans_shown : (text : List ℕ) (xs : List (List ℕ)) → map spanned (map (with_numbers text) xs) ≡ map (with_span text) xs
-spans_shown text [] = refl
-spans_shown text (x ∷ xs) = ap (λ rest. with_span text x ∷ rest) (spans_shown text xs)
-
-pub match_steps : (i : Input) (text : List ℕ) (o : plain.RunOptions) (s t : Standing) (c : Captures) (m : Match) →
-    span_of m ≡ first_pair (numbers_in c) → text_of m ≡ captures_text c → StepsTo i text o s (Some (Ok c)) t → StepsToMatch i text o s (Some (Ok m)) t
-match_steps i text o s t c m span within step =
-    sym (spans_shown text (left_of i text o s)) ∙ ap (map spanned) step
-    ∙ ap₂ (λ found at. (found, at) ∷ map spanned (map (with_numbers text) (left_of i text o t))) (sym within) (sym span)
-    ∙ ap (λ rest. shown_match m ∷ rest) (spans_shown text (left_of i text o t))
+  pub error_within : HasSource r.compiled → (e : Error) → result ≡ Err e → from.pos ≤ length text
+  error_within source e was =
+      ∥∥₁_elim source le_prop (λ of.
+      let s = steps_so (Err e) was of.0 (run_options_of r.options) (record { compiled = of.1; options = refl }) in
+      let on = comes_on (plan of.0) text (run_options_of r.options) is s.0 in
+      let within = (is_place_parts text to.pos (s.1).place).0 in
+      omega (arith, on, within))

@@ -12,7 +12,7 @@ use Rattle.fancy_meaning.specs.Places.{is_place}
 use Rattle.fancy_meaning.specs.Premises.{IsSpan}
 use Rattle.fancy_vm.specs.Outcomes.{first_pair}
 
--- where a list stands
+-- where a list of matches stands
 pub record Standing : Type 0 where
   -- where the next search begins; no place of the text once the list has ended
   pub pos : ℕ
@@ -34,6 +34,10 @@ begun_at o pos = record {
 -- before the first match
 abbrev pub at_start : Standing
 at_start = record { pos = 0; last = None }
+
+-- the list has ended: no place of a text is this far on
+abbrev pub ended : Standing → Standing
+ended s = record { pos = usize_max; last = s.last }
 
 -- The options of the next search, by those of all searches: it is continued where the last match ended, and so is the
 -- first.
@@ -76,6 +80,15 @@ module _ (p : Plan) (text : List ℕ) (o : RunOptions) where
   -- the match, if it is one of the list
   abbrev pub listed_one : Standing → List ℕ → List (List ℕ)
   listed_one s numbers = if is_listed s (first_pair numbers) then numbers ∷ [] else []
+
+  -- The list comes from where it stands, by these matches, to another standing: each search goes past the match that it
+  -- found, whether that is one of the list or not.
+  pub data ComesTo : Standing → List (List ℕ) → Standing → Type 0 where
+    stays : {s : Standing} → ComesTo s [] s
+    by_match : {t : Standing} {ms : List (List ℕ)} (s : Standing) (m : List ℕ) → found_at s ≡ Some m →
+        is_listed s (first_pair m) ≡ true → ComesTo (after text s (first_pair m)) ms t → ComesTo s (m ∷ ms) t
+    past_match : {t : Standing} {ms : List (List ℕ)} (s : Standing) (m : List ℕ) → found_at s ≡ Some m →
+        is_listed s (first_pair m) ≡ false → ComesTo (after text s (first_pair m)) ms t → ComesTo s ms t
 
   -- the matches of the next n searches, each by its numbers
   unfoldable pub listed : ℕ → Standing → List (List ℕ)

@@ -1,15 +1,16 @@
 -- What clauses see of a regex, of what it finds, and of its lists.
-use Rattle.std.specs.Prelude.{◌≡◌, ℕ, ◌+◌, ◌*◌, ◌==◌, Bool, List, [], ◌∷◌, map, Option, Some, None, Result, Ok, Err, is_some, option_map, slice_index_or, if◌then◌else◌}
+use Rattle.std.specs.Prelude.{◌≡◌, ◌≤◌, ℕ, Bool, true, List, [], ◌∷◌, length, Option, Some, None, Result, Ok, Err, is_some, option_map}
+use Rattle.std.specs.Borrow.{MutBor}
 use Rattle.fancy_meaning.specs.Answer.{answer, search_of}
 use Rattle.fancy_meaning.specs.MatchState.{Span}
-use Rattle.fancy_meaning.specs.Numbers.{usize_max}
 use Rattle.fancy_meaning.specs.Options as plain
+use Rattle.fancy_meaning.specs.Places.{is_place}
 use Rattle.fancy_meaning.specs.Premises.{Input, plan, IsAccepted}
 use Rattle.fancy_expr.specs.declared.error.Error.{Error}
 use Rattle.fancy_vm.specs.Outcomes.{first_pair}
 use Rattle.fancy_vm.specs.Tasks.{options_of as run_options_of}
-use Rattle.fancy_search.specs.Searches.{IsCompiledFrom, Promises, instructions_of}
-use Rattle.fancy_matches.specs.Listing.{Standing, all_matches, left, options_at}
+use Rattle.fancy_search.specs.Searches.{Bounds, IsCompiledFrom, Promises, instructions_of}
+use Rattle.fancy_matches.specs.Listing.{ComesTo, Standing, all_matches, at_start, left, options_at}
 use Rattle.fancy_matches.specs.declared.found.Captures.{Captures}
 use Rattle.fancy_matches.specs.declared.found.Match.{Match}
 use Rattle.fancy_matches.specs.declared.iterators.CaptureMatches.{CaptureMatches}
@@ -35,7 +36,7 @@ captures_text c = c.text.now
 abbrev pub numbers_in : Captures → List ℕ
 numbers_in c = c.numbers.items
 
--- a match of this text with these numbers, and the same with all its groups
+-- what is shown of a match: its text and its span, or the numbers of all its groups
 abbrev pub shown_match : Match → List ℕ × Span
 shown_match m = (text_of m, span_of m)
 
@@ -48,6 +49,35 @@ with_span text numbers = (text, first_pair numbers)
 abbrev pub with_numbers : List ℕ → List ℕ → List ℕ × List ℕ
 with_numbers text numbers = (text, numbers)
 
+-- ---- searches
+
+module _ (i : Input) (text : List ℕ) (o : plain.RunOptions) where
+  -- A search answers as is promised, by what is said of its answer; where the whole tree is easy, it passes a limit only
+  -- below its bound.
+  abbrev pub PromisesSo : {A : Type 0} → (Option (List ℕ) → A → Type 0) → Result A Error → Type 0
+  PromisesSo Says (Ok found) = IsAccepted i (instructions_of i) × Says (answer (search_of (plan i) text o)) found
+  PromisesSo Says (Err e) = Promises i text o (Err e) × Bounds i text o (Err e)
+
+  -- what is shown of a match is what is seen of its numbers
+  abbrev pub Shows : {A B : Type 0} → (A → B) → (List ℕ → B) → Result (Option A) Error → Type 0
+  Shows show seen = PromisesSo (λ numbers found. option_map show found ≡ option_map seen numbers)
+
+  -- the span of the match
+  abbrev pub FindsMatch : Result (Option Match) Error → Type 0
+  FindsMatch = Shows shown_match (with_span text)
+
+  -- all its numbers
+  abbrev pub FindsCaptures : Result (Option Captures) Error → Type 0
+  FindsCaptures = Shows shown_captures (with_numbers text)
+
+  -- whether there is one
+  abbrev pub FindsWhether : Result Bool Error → Type 0
+  FindsWhether = PromisesSo (λ numbers there. there ≡ is_some numbers)
+
+-- it is of this text, and ends at or past where the search for it began
+abbrev pub EndsOn : List ℕ → ℕ → List ℕ × Span → Type 0
+EndsOn text pos found = (found.0 ≡ text) × (pos ≤ found.1.1)
+
 -- ---- a regex
 
 -- it was compiled from the tree, and its searches have these options but where they begin
@@ -59,23 +89,10 @@ pub record IsRegexOf (i : Input) (o : plain.RunOptions) (r : Regex) : Type 0 whe
 abbrev pub IsSame : Regex → Regex → Type 0
 IsSame r s = (s.compiled ≡ r.compiled) × (s.options ≡ r.options)
 
-module _ (i : Input) (text : List ℕ) (o : plain.RunOptions) where
-  -- a search answers as is promised, by what is said of its answer
-  abbrev pub PromisesSo : {A : Type 0} → (Option (List ℕ) → A → Type 0) → Result A Error → Type 0
-  PromisesSo Says (Ok found) = IsAccepted i (instructions_of i) × Says (answer (search_of (plan i) text o)) found
-  PromisesSo Says (Err e) = Promises i text o (Err e)
-
-  -- the span of the match
-  abbrev pub Finds : Result (Option Match) Error → Type 0
-  Finds = PromisesSo (λ numbers found. option_map shown_match found ≡ option_map (with_span text) numbers)
-
-  -- all its numbers
-  abbrev pub FindsCaptures : Result (Option Captures) Error → Type 0
-  FindsCaptures = PromisesSo (λ numbers found. option_map shown_captures found ≡ option_map (with_numbers text) numbers)
-
-  -- whether there is one
-  abbrev pub Tells : Result Bool Error → Type 0
-  Tells = PromisesSo (λ numbers there. there ≡ is_some numbers)
+-- of the same tree, and lent by the same caller
+pub record IsSameLoan (r s : MutBor Regex) : Type 0 where
+  pub same : IsSame r.now s.now
+  pub name : s.ghost_name ≡ r.ghost_name
 
 -- ---- lists
 
@@ -84,43 +101,97 @@ module _ (i : Input) (text : List ℕ) (o : plain.RunOptions) where
   abbrev pub left_of : Standing → List (List ℕ)
   left_of = left (plan i) text o
 
-  -- A search that the list comes to before its next match answers this error, as is promised.
-  abbrev pub FailsBy : Standing → Error → Type 0
-  FailsBy s e = (r : Standing) × ((left_of r ≡ left_of s) × Promises i text (options_at o r) (Err e))
+  -- The next search of the list answers this error, as is promised, and a limit only below its bound.
+  pub record FailsAt (s : Standing) (e : Error) : Type 0 where
+    pub place : is_place text s.pos ≡ true
+    pub promise : Promises i text (options_at o s) (Err e)
+    pub bounds : Bounds i text (options_at o s) (Err e)
 
-  -- What the next call gives, by what it shows of a match, and where the list then stands: the next match of the list;
-  -- or none, where none is left; or an error, and then the list has ended.
-  abbrev pub StepsBy : {A B : Type 0} → (A → B) → (List ℕ → B) → Standing → Option (Result A Error) → Standing → Type 0
-  StepsBy show seen s None t = (left_of s ≡ []) × (left_of t ≡ [])
-  StepsBy show seen s (Some (Ok x)) t = map seen (left_of s) ≡ show x ∷ map seen (left_of t)
-  StepsBy show seen s (Some (Err e)) t = FailsBy s e × (left_of t ≡ [])
+  -- A search that the list comes to before its next match answers this error.
+  pub record FailsBy (s : Standing) (e : Error) : Type 0 where
+    pub standing : Standing
+    pub comes : ComesTo (plan i) text o s [] standing
+    pub fails : FailsAt standing e
 
-  abbrev pub StepsTo : Standing → Option (Result Captures Error) → Standing → Type 0
-  StepsTo = StepsBy shown_captures (with_numbers text)
+  -- The list comes by one match to where it then stands, and this is what is seen of the match.
+  pub record ComesBy {B : Type 0} (seen : List ℕ → B) (s : Standing) (shown : B) (t : Standing) : Type 0 where
+    pub numbers : List ℕ
+    pub shows : shown ≡ seen numbers
+    pub comes : ComesTo (plan i) text o s (numbers ∷ []) t
+    pub left : left_of s ≡ numbers ∷ left_of t
 
-  abbrev pub StepsToMatch : Standing → Option (Result Match Error) → Standing → Type 0
+  -- What the searches for the next match answer, by what is shown of it, and where the list then stands: after that
+  -- match; or at its end, where none is left; or, with an error, before the search that failed.
+  abbrev pub StepsBy : {A B : Type 0} → (A → B) → (List ℕ → B) → Standing → Result (Option A) Error → Standing → Type 0
+  StepsBy show seen s (Ok None) t = (left_of s ≡ []) × (left_of t ≡ [])
+  StepsBy show seen s (Ok (Some x)) t = ComesBy seen s (show x) t
+  StepsBy show seen s (Err e) t = ComesTo (plan i) text o s [] t × FailsAt t e
+
+  abbrev pub StepsToCaptures : Standing → Result (Option Captures) Error → Standing → Type 0
+  StepsToCaptures = StepsBy shown_captures (with_numbers text)
+
+  abbrev pub StepsToMatch : Standing → Result (Option Match) Error → Standing → Type 0
   StepsToMatch = StepsBy shown_match (with_span text)
 
+  -- What the next item of a list is, and where the list then stands: the next match; or none, where none is left; or the
+  -- error of a search that the list comes to before, and then the list has ended.
+  abbrev pub GivesBy : {A B : Type 0} → (A → B) → (List ℕ → B) → Standing → Option (Result A Error) → Standing → Type 0
+  GivesBy show seen s None t = (left_of s ≡ []) × (left_of t ≡ [])
+  GivesBy show seen s (Some (Ok x)) t = ComesBy seen s (show x) t
+  GivesBy show seen s (Some (Err e)) t = FailsBy s e × (left_of t ≡ [])
+
+  abbrev pub GivesCaptures : Standing → Option (Result Captures Error) → Standing → Type 0
+  GivesCaptures = GivesBy shown_captures (with_numbers text)
+
+  abbrev pub GivesMatch : Standing → Option (Result Match Error) → Standing → Type 0
+  GivesMatch = GivesBy shown_match (with_span text)
+
+-- ---- iterators
+
+-- what an iterator holds: a caller's regex, the text, and where the list of matches stands
+pub record Iteration : Type 0 where
+  pub regex : MutBor Regex
+  pub text : List ℕ
+  pub standing : Standing
+
+abbrev pub captures_iteration : CaptureMatches → Iteration
+captures_iteration s = record { regex = s.regex; text = s.text.now; standing = standing_of s.standing }
+
+abbrev pub matches_iteration : Matches → Iteration
+matches_iteration s = record { regex = s.regex; text = s.text.now; standing = standing_of s.standing }
+
+-- it holds this regex, over this text, before the first match
+pub record Begins (r : MutBor Regex) (text : List ℕ) (s : Iteration) : Type 0 where
+  pub regex : s.regex.now ≡ r.now
+  pub name : s.regex.ghost_name ≡ r.ghost_name
+  pub within : s.text ≡ text
+  pub first : s.standing ≡ at_start
+
 -- so a call of the iterator steps, whatever its regex was compiled from, and text and regex stay
+pub record Goes (Gives : Input → List ℕ → plain.RunOptions → Standing → Standing → Type 0) (s t : Iteration) : Type 0 where
+  pub gives : (i : Input) (o : plain.RunOptions) → IsRegexOf i o s.regex.now → Gives i s.text o s.standing t.standing
+  pub within : t.text ≡ s.text
+  pub regex : IsSameLoan s.regex t.regex
+
 abbrev pub NextCaptures : CaptureMatches → Option (Result Captures Error) → CaptureMatches → Type 0
 NextCaptures s item t =
-    ((i : Input) (o : plain.RunOptions) → IsRegexOf i o s.regex.now →
-    StepsTo i s.text.now o (standing_of s.standing) item (standing_of t.standing))
-    × ((t.text.now ≡ s.text.now) × IsSame s.regex.now t.regex.now)
+    Goes (λ i text o from to. GivesCaptures i text o from item to) (captures_iteration s) (captures_iteration t)
 
 abbrev pub NextMatch : Matches → Option (Result Match Error) → Matches → Type 0
 NextMatch s item t =
-    ((i : Input) (o : plain.RunOptions) → IsRegexOf i o s.regex.now →
-    StepsToMatch i s.text.now o (standing_of s.standing) item (standing_of t.standing))
-    × ((t.text.now ≡ s.text.now) × IsSame s.regex.now t.regex.now)
+    Goes (λ i text o from to. GivesMatch i text o from item to) (matches_iteration s) (matches_iteration t)
 
--- it is over this tree and text, and all matches are left
-pub record HasAllCaptures (i : Input) (o : plain.RunOptions) (text : List ℕ) (s : CaptureMatches) : Type 0 where
-  pub regex : IsRegexOf i o s.regex.now
-  pub within : s.text.now ≡ text
-  pub all : left_of i text o (standing_of s.standing) ≡ all_matches (plan i) text o
+-- ---- a count of all matches
 
-pub record HasAllMatches (i : Input) (o : plain.RunOptions) (text : List ℕ) (s : Matches) : Type 0 where
-  pub regex : IsRegexOf i o s.regex.now
-  pub within : s.text.now ≡ text
-  pub all : left_of i text o (standing_of s.standing) ≡ all_matches (plan i) text o
+module _ (i : Input) (text : List ℕ) (o : plain.RunOptions) where
+  -- a search that the list of all matches comes to answers this error
+  pub record FailsInAll (e : Error) : Type 0 where
+    pub gone : List (List ℕ)
+    pub standing : Standing
+    pub comes : ComesTo (plan i) text o at_start gone standing
+    pub fails : FailsAt i text o standing e
+
+  -- how many matches there are, or why that is not known
+  abbrev pub Counts : Result ℕ Error → Type 0
+  Counts (Ok n) = n ≡ length (all_matches (plan i) text o)
+  Counts (Err e) = FailsInAll e

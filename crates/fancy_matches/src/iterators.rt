@@ -33,7 +33,7 @@ impl<'r, 't> Iterator for CaptureMatches<'r, 't> {
     }
 }
 
-/// The matches of a text from left to right, as `CaptureMatches` has them, without their groups.
+/// The matches of a text from left to right, those of `CaptureMatches`, without their groups.
 #[derive(Drop)]
 pub struct Matches<'r, 't> {
     pub(crate) regex: &'r mut Regex,
@@ -51,10 +51,6 @@ impl<'r, 't> Iterator for Matches<'r, 't> {
     ghost remaining = { λ s. at_most (suc (length s.text.now) - s.standing.pos) };
 
     fn next(&mut self) -> Option<Result<Match<'t>, Error>> {
-        match self.regex.next_captures(self.text, &mut self.standing) {
-            None => None,
-            Some(Ok(captures)) => Some(Ok(captures.whole())),
-            Some(Err(error)) => Some(Err(error)),
-        }
+        self.regex.next_match(self.text, &mut self.standing)
     }
 }

@@ -1,7 +1,9 @@
 //! All matches of a text, by the names of fancy-regex and `regex`.
 #![tactic(auto)]
 
+pub mod count;
 pub mod found;
 pub mod iterators;
 pub mod regexes;
+pub mod searches;
 pub mod standing;

@@ -7,17 +7,17 @@ ghost use Rattle.fancy_meaning.specs.Places as places;
 ghost use Rattle.fancy_meaning.specs.Premises.{Input};
 ghost use Rattle.fancy_expr.specs.Sound.{IsWellFormedTree};
 ghost use Rattle.fancy_vm.specs.Tasks.{options_of as run_options_of, task_of};
-ghost use Rattle.fancy_search.specs.Searches.{IsCompiledFrom, IsRefusedAs, input_of, program, search_fits};
+ghost use Rattle.fancy_search.specs.Searches.{HasSource, IsRefusedAs, input_of, program, search_fits};
 ghost use Rattle.fancy_matches.specs.Listing as list;
 
 use crate::found::{Captures, Match};
 use crate::iterators::{CaptureMatches, Matches};
+use crate::searches::{find_captures, find_match, next_captures, next_match};
 use crate::standing::Standing;
-use fancy_characters::places::is_place;
 use fancy_expr::error::Error;
 use fancy_expr::expr::ExprTree;
 use fancy_search::search::{Compiled, SearchOptions};
-use fancy_vm::vm::{RunOptions, Scratch, run_spans};
+use fancy_vm::vm::{RunOptions, Scratch};
 use std::alloc::Global;
 
 /// A tree that is compiled once and searched for many times, with the memory that its searches use again.
@@ -28,11 +28,11 @@ pub struct Regex {
     options: RunOptions,
     scratch: Scratch,
     ghost fits: { IsTrue (run_fits (task_of (program compiled) [] options)) },
-    ghost source: { ∥ ((i : Input) × IsCompiledFrom i compiled) ∥₁ },
+    ghost source: { HasSource compiled },
 }
 
 impl Regex {
-    ghost use Rattle.fancy_matches.specs.Regexes.{Finds, FindsCaptures, HasAllCaptures, HasAllMatches, IsRegexOf, IsSame, StepsTo, Tells, standing_of};
+    ghost use Rattle.fancy_matches.specs.Regexes.{Begins, FindsCaptures, FindsMatch, FindsWhether, GivesCaptures, GivesMatch, IsRegexOf, IsSame, captures_iteration, matches_iteration, standing_of};
 
     /// Analyses and compiles the tree, which has passed `is_well_formed`. The options fit a text that is empty, so they
     /// begin at 0; where a search begins, and whether it is continued, each search sets for itself.
@@ -57,25 +57,13 @@ impl Regex {
         })
     }
 
-    /// The groups of the first match by these options.
-    fn captures_by<'t>(
-        &mut self,
-        text: &'t str,
-        options: &RunOptions,
-    ) -> Result<Option<Captures<'t>>, Error>
-        requires { IsTrue (run_fits (task_of (program self.old.compiled) text.now options.now)) }
-        ensures promise { (i : Input)
-            → IsCompiledFrom i self.old.compiled
-            → FindsCaptures i text.now (run_options_of options.now) result }
-        ensures same { IsSame self.old self.new }
+    /// The options of a search from this place on.
+    fn begun_at(&self, pos: usize) -> RunOptions
+        ensures { run_options_of result ≡ list.begun_at (run_options_of self.now.options) pos }
     {
-        match self
-            .compiled
-            .search(self.alloc, text, options, &mut self.scratch)
-        {
-            Ok(None) => Ok(None),
-            Ok(Some(numbers)) => Ok(Some(Captures { text, numbers })),
-            Err(error) => Err(error),
+        RunOptions {
+            pos,
+            ..self.options
         }
     }
 
@@ -92,11 +80,14 @@ impl Regex {
             → FindsCaptures i text.now (list.begun_at o pos) result }
         ensures same { IsSame self.old self.new }
     {
-        let options = RunOptions {
-            pos,
-            ..self.options
-        };
-        self.captures_by(text, &options)
+        let options = self.begun_at(pos);
+        find_captures(
+            self.alloc,
+            &self.compiled,
+            text,
+            &options,
+            &mut self.scratch,
+        )
     }
 
     /// The groups of the first match.
@@ -116,19 +107,17 @@ impl Regex {
         ensures promise { (i : Input)
             → (o : plain.RunOptions)
             → IsRegexOf i o self.old
-            → Finds i text.now (list.begun_at o pos) result }
+            → FindsMatch i text.now (list.begun_at o pos) result }
         ensures same { IsSame self.old self.new }
     {
-        let options = RunOptions {
-            pos,
-            ..self.options
-        };
-        let prog = self.compiled.program();
-        match run_spans(self.alloc, prog, text, &options, &mut self.scratch) {
-            Ok(None) => Ok(None),
-            Ok(Some((start, end))) => Ok(Some(Match { text, start, end })),
-            Err(error) => Err(error),
-        }
+        let options = self.begun_at(pos);
+        find_match(
+            self.alloc,
+            &self.compiled,
+            text,
+            &options,
+            &mut self.scratch,
+        )
     }
 
     /// The first match.
@@ -136,7 +125,7 @@ impl Regex {
         ensures promise { (i : Input)
             → (o : plain.RunOptions)
             → IsRegexOf i o self.old
-            → Finds i text.now (list.begun_at o 0) result }
+            → FindsMatch i text.now (list.begun_at o 0) result }
         ensures same { IsSame self.old self.new }
     {
         self.find_from(text, 0)
@@ -147,7 +136,7 @@ impl Regex {
         ensures promise { (i : Input)
             → (o : plain.RunOptions)
             → IsRegexOf i o self.old
-            → Tells i text.now (list.begun_at o 0) result }
+            → FindsWhether i text.now (list.begun_at o 0) result }
         ensures same { IsSame self.old self.new }
     {
         match self.find(text) {
@@ -156,7 +145,8 @@ impl Regex {
         }
     }
 
-    /// The next match of the list that stands so, which then stands after it. After an error the list has ended.
+    /// The next match of the list that stands so, with its groups; the list then stands after it. After an error the list
+    /// has ended.
     pub fn next_captures<'t>(
         &mut self,
         text: &'t str,
@@ -165,38 +155,67 @@ impl Regex {
         ensures list { (i : Input)
             → (o : plain.RunOptions)
             → IsRegexOf i o self.old
-            → StepsTo i text.now o (standing_of standing.old) result (standing_of standing.new) }
+            → GivesCaptures i text.now o (standing_of standing.old) result (standing_of standing.new) }
         ensures further { IfSome
             result
             (λ item. suc (length text.now) - standing.new.pos
             < suc (length text.now) - standing.old.pos) }
         ensures same { IsSame self.old self.new }
     {
-        'searches: while is_place(text.as_bytes(), standing.pos) {
-            let options = standing.options(&self.options);
-            match self.captures_by(text, &options) {
-                Ok(None) => standing.pos = usize::MAX,
-                Ok(Some(captures)) => {
-                    let whole = captures.whole();
-                    if standing.pass(text, whole.start, whole.end) {
-                        return Some(Ok(captures));
-                    }
-                }
-                Err(error) => {
-                    standing.pos = usize::MAX;
-                    return Some(Err(error));
-                }
+        match next_captures(
+            self.alloc,
+            &self.compiled,
+            text,
+            &self.options,
+            standing,
+            &mut self.scratch,
+        ) {
+            Ok(None) => None,
+            Ok(Some(captures)) => Some(Ok(captures)),
+            Err(error) => {
+                standing.end();
+                Some(Err(error))
             }
         }
-        None
     }
 
-    /// All matches, one after the other, each with its groups.
-    pub fn captures_iter<'r, 't>(&'r mut self, text: &'t str) -> CaptureMatches<'r, 't>
-        ensures all { (i : Input)
+    /// The next match of the list that stands so, without its groups; the list then stands after it. After an error the
+    /// list has ended.
+    pub fn next_match<'t>(
+        &mut self,
+        text: &'t str,
+        standing: &mut Standing,
+    ) -> Option<Result<Match<'t>, Error>>
+        ensures list { (i : Input)
             → (o : plain.RunOptions)
             → IsRegexOf i o self.old
-            → HasAllCaptures i o text.now result }
+            → GivesMatch i text.now o (standing_of standing.old) result (standing_of standing.new) }
+        ensures further { IfSome
+            result
+            (λ item. suc (length text.now) - standing.new.pos
+            < suc (length text.now) - standing.old.pos) }
+        ensures same { IsSame self.old self.new }
+    {
+        match next_match(
+            self.alloc,
+            &self.compiled,
+            text,
+            &self.options,
+            standing,
+            &mut self.scratch,
+        ) {
+            Ok(None) => None,
+            Ok(Some(found)) => Some(Ok(found)),
+            Err(error) => {
+                standing.end();
+                Some(Err(error))
+            }
+        }
+    }
+
+    /// All matches, one after the other, each with its groups. The regex is the caller's again once the iterator is gone.
+    pub fn captures_iter<'r, 't>(&'r mut self, text: &'t str) -> CaptureMatches<'r, 't>
+        ensures { Begins self.entry text.now (captures_iteration result) }
     {
         CaptureMatches {
             regex: self,
@@ -205,12 +224,9 @@ impl Regex {
         }
     }
 
-    /// All matches, one after the other.
+    /// All matches, one after the other, without their groups. The regex is the caller's again once the iterator is gone.
     pub fn find_iter<'r, 't>(&'r mut self, text: &'t str) -> Matches<'r, 't>
-        ensures all { (i : Input)
-            → (o : plain.RunOptions)
-            → IsRegexOf i o self.old
-            → HasAllMatches i o text.now result }
+        ensures { Begins self.entry text.now (matches_iteration result) }
     {
         Matches {
             regex: self,

@@ -41,6 +41,13 @@ impl Standing {
         }
     }
 
+    /// The list has ended: no place of a text is this far on.
+    pub fn end(&mut self)
+        ensures { standing_of self.new ≡ list.ended (standing_of self.old) }
+    {
+        self.pos = usize::MAX;
+    }
+
     /// Goes past a match that was found, and says whether it is one of the list: it does not begin before its search,
     /// and is not empty where the last match ended.
     pub fn pass(&mut self, text: &str, start: usize, end: usize) -> bool

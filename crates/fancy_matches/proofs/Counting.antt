@@ -1,0 +1,91 @@
+-- A count of all matches goes on from match to match.
+use Rattle.std.proofs.Common.{◌≡◌, ◌≤◌, ℕ, suc, List, [], ◌∷◌, ◌++◌, length, Option, Some, None, Result, Ok, Err, refl, sym, ap, ◌∙◌, subst, arith, append-nil}
+use Rattle.std.proofs.Math.Logic.{∥∥₁_elim}
+use Rattle.std.proofs.lemmas.List.{length-append}
+use Rattle.std.specs.Coded.{le_prop}
+use Rattle.fancy_meaning.specs.Numbers.{usize_max}
+use Rattle.fancy_meaning.specs.Options as plain
+use Rattle.fancy_meaning.specs.Premises.{Input, IsText, plan}
+use Rattle.fancy_expr.specs.declared.error.Error.{Error}
+use Rattle.fancy_vm.specs.Tasks.{options_of as run_options_of}
+use Rattle.fancy_matches.specs.Listing.{ComesTo, Standing, at_start, left, stays}
+use Rattle.fancy_matches.specs.Regexes.{Counts, GivesMatch, IsRegexOf, IsSame, Iteration}
+use Rattle.fancy_matches.specs.declared.found.Match.{Match}
+use Rattle.fancy_matches.specs.declared.regexes.Regex.{Regex}
+use Rattle.fancy_matches.proofs.Lists.{all_most, comes_left, comes_more}
+use Rattle.fancy_matches.proofs.Stepping.{of_same, same_twice}
+
+-- by so many matches the list of a regex came to where it stands
+pub record Counted (i : Input) (text : List ℕ) (o : plain.RunOptions) (count : ℕ) (s : Standing) : Type 0 where
+  pub gone : List (List ℕ)
+  pub counts : length gone ≡ count
+  pub comes : ComesTo (plan i) text o at_start gone s
+
+pub record HasCounted (r : Regex) (text : List ℕ) (count : ℕ) (s : Iteration) : Type 0 where
+  pub same : IsSame r s.regex.now
+  pub within : s.text ≡ text
+  pub so_far : (i : Input) (o : plain.RunOptions) → IsRegexOf i o r → Counted i text o count s.standing
+
+pub none_counted : (r : Regex) (text : List ℕ) (s : Iteration) → s.regex.now ≡ r → s.text ≡ text → s.standing ≡ at_start →
+    HasCounted r text 0 s
+none_counted r text s is within first = record {
+  same = (ap (λ (x : Regex). x.compiled) is, ap (λ (x : Regex). x.options) is);
+  within = within;
+  so_far = λ i o h. record { gone = []; counts = refl; comes = subst (λ t. ComesTo (plan i) text o at_start [] t) (sym first) stays };
+}
+
+module _ (r : Regex) (text : List ℕ) (is : IsText text) (count : ℕ) (s t : Iteration) (so_far : HasCounted r text count s)
+    (item : Option (Result Match Error))
+    (gives : (i : Input) (o : plain.RunOptions) → IsRegexOf i o s.regex.now → GivesMatch i s.text o s.standing item t.standing) where
+  gives_so : (x : Option (Result Match Error)) → item ≡ x → (i : Input) (o : plain.RunOptions) → IsRegexOf i o r →
+      GivesMatch i text o s.standing x t.standing
+  gives_so x was i o h =
+      subst (λ y. GivesMatch i text o s.standing y t.standing) was
+      (subst (λ u. GivesMatch i u o s.standing item t.standing) so_far.within (gives i o (of_same r s.regex.now i o so_far.same h)))
+
+  module _ (m : Match) (was : item ≡ Some (Ok m)) where
+    next : (i : Input) (o : plain.RunOptions) → IsRegexOf i o r → Counted i text o (suc count) t.standing
+    next i o h =
+        let before = so_far.so_far i o h in
+        let one = gives_so (Some (Ok m)) was i o h in
+        record {
+          gone = before.gone ++ one.numbers ∷ [];
+          counts = omega (arith, before.counts, length-append before.gone (one.numbers ∷ []));
+          comes = comes_more (plan i) text o before.comes one.comes;
+        }
+
+    pub goes_on : (n : ℕ) → n ≡ suc count → t.text ≡ s.text → IsSame s.regex.now t.regex.now → HasCounted r text n t
+    goes_on n more within same = record {
+      same = same_twice r s.regex.now t.regex.now so_far.same same;
+      within = within ∙ so_far.within;
+      so_far = λ i o h. subst (λ k. Counted i text o k t.standing) (sym more) (next i o h);
+    }
+
+    -- there are no more matches than places
+    pub fits : suc count ≤ usize_max
+    fits =
+        ∥∥₁_elim r.source le_prop (λ of.
+        let o = run_options_of r.options in
+        let h = next of.0 o (record { compiled = of.1; options = refl }) in
+        let all = ap (λ (xs : List (List ℕ)). length xs) (comes_left (plan of.0) text o is h.comes) in
+        let most = all_most (plan of.0) text o is in
+        let small = is.fits in
+        omega (arith, all, most, small, h.counts, length-append h.gone (left (plan of.0) text o t.standing)))
+
+  pub all_counted : item ≡ None → (i : Input) (o : plain.RunOptions) → IsRegexOf i o r → Counts i text o (Ok count)
+  all_counted was i o h =
+      let before = so_far.so_far i o h in
+      sym before.counts
+      ∙ ap (λ (xs : List (List ℕ)). length xs)
+      (sym (comes_left (plan i) text o is before.comes ∙ ap (λ rest. before.gone ++ rest) (gives_so None was i o h).0 ∙ append-nil before.gone))
+
+  pub count_fails : (e : Error) → item ≡ Some (Err e) → (i : Input) (o : plain.RunOptions) → IsRegexOf i o r → Counts i text o (Err e)
+  count_fails e was i o h =
+      let before = so_far.so_far i o h in
+      let fails = (gives_so (Some (Err e)) was i o h).0 in
+      record {
+        gone = before.gone ++ [];
+        standing = fails.standing;
+        comes = comes_more (plan i) text o before.comes fails.comes;
+        fails = fails.fails;
+      }

@@ -1,0 +1,39 @@
+use Rattle.std.proofs.Common.{◌<◌, length, Some, Ok, Err, ap, ◌∙◌, sym, subst, arith}
+use Rattle.fancy_meaning.specs.Numbers.{usize_max}
+use Rattle.fancy_matches.specs.Regexes.{GivesBy, shown_match, with_span, standing_of}
+use Rattle.fancy_matches.proofs.Stepping.{error_within, gives_error, gives_none, gives_some}
+use Rattle.fancy_matches.proofs.regexes.Regex.next_match.Goals as goal
+
+pub returns-in-Ok-None-clause-list : goal.returns-in-Ok-None-clause-list
+returns-in-Ok-None-clause-list c =
+    let text = c.args.text.now in
+    let small : length text < usize_max = omega arith in
+    gives_none shown_match (with_span text) c.args.self.now text (record { utf8 = c.utf8.text; fits = small }) (standing_of c.args.standing.now)
+    (standing_of c.next_match.new.standing) c.next_match.result c.next_match.ensures.steps (c.in-Ok-None.is ∙ ap Ok c.in-Ok-None.field-0-is)
+
+pub returns-in-Ok-Some-clause-list : goal.returns-in-Ok-Some-clause-list
+returns-in-Ok-Some-clause-list c =
+    let text = c.args.text.now in
+    let small : length text < usize_max = omega arith in
+    gives_some shown_match (with_span text) c.args.self.now text (record { utf8 = c.utf8.text; fits = small }) (standing_of c.args.standing.now)
+    (standing_of c.next_match.new.standing) c.next_match.result c.next_match.ensures.steps c.in-Ok-Some.found
+    (c.in-Ok-Some.is ∙ ap Ok c.in-Ok-Some.field-0-is)
+
+pub returns-in-Err-clause-list : goal.returns-in-Err-clause-list
+returns-in-Err-clause-list c i o h =
+    let text = c.args.text.now in
+    let small : length text < usize_max = omega arith in
+    let from = standing_of c.args.standing.now in
+    subst (GivesBy i text o shown_match (with_span text) from (Some (Err c.in-Err.error))) (sym c.end.ensures)
+    (gives_error shown_match (with_span text) c.args.self.now text (record { utf8 = c.utf8.text; fits = small }) from
+    (standing_of c.next_match.new.standing) c.next_match.result c.next_match.ensures.steps c.in-Err.error c.in-Err.is i o h)
+
+pub returns-in-Err-clause-further : goal.returns-in-Err-clause-further
+returns-in-Err-clause-further c =
+    let regex = c.args.self.now in
+    let text = c.args.text.now in
+    let small : length text < usize_max = omega arith in
+    let within = error_within shown_match (with_span text) regex text (record { utf8 = c.utf8.text; fits = small }) (standing_of c.args.standing.now)
+    (standing_of c.next_match.new.standing) c.next_match.result c.next_match.ensures.steps regex.source c.in-Err.error c.in-Err.is in
+    let ends = ap (λ s. s.pos) c.end.ensures in
+    omega (arith, within, ends, small)

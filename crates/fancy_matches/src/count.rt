@@ -1,0 +1,27 @@
+//! How many matches a text has.
+
+ghost use Rattle.fancy_meaning.specs.Options as plain;
+ghost use Rattle.fancy_meaning.specs.Premises.{Input};
+ghost use Rattle.fancy_matches.specs.Regexes.{Counts, IsRegexOf, IsSame};
+
+use crate::regexes::Regex;
+use fancy_expr::error::Error;
+
+/// How many matches the text has. The regex is the caller's again afterwards, of the same tree.
+///
+/// A limit that a search passes is answered by its name. Want of memory is `Error::Memory`.
+pub fn count_matches(regex: &mut Regex, text: &str) -> Result<usize, Error>
+    ensures count { (i : Input)
+        → (o : plain.RunOptions)
+        → IsRegexOf i o regex.old
+        → Counts i text.now o result }
+    ensures same { IsSame regex.old regex.new }
+{
+    let mut count = 0;
+    let mut matches = regex.find_iter(text);
+    'matches: while let Some(found) = matches.next() {
+        found?;
+        count += 1;
+    }
+    Ok(count)
+}
