@@ -1,4 +1,4 @@
--- The next match of a text lies ahead of the last one, and behind it lie all others.
+-- The next match of a text lies ahead of the last one, and after it lie all others.
 use Rattle.std.proofs.Common.{◌≡◌, ◌≤◌, ◌-◌, ℕ, zero, suc, List, [], ◌∷◌, map, take, Option, Some, None, Result, Ok, Err, option_map, true, refl, sym, ap, ap₂, ◌∙◌, subst, arith, ne_eqb, ◌==◌, if◌then◌else◌}
 use Rattle.std.proofs.Math.Logic.{∥∥₁_elim}
 use Rattle.std.proofs.Props.{props}
@@ -11,8 +11,8 @@ use Rattle.fancy_expr.specs.declared.error.Error.{Error}
 use Rattle.fancy_search.specs.Searches.{IsCompiledFrom}
 use Rattle.fancy_vm.specs.Outcomes.{first_pair}
 use Rattle.fancy_vm.specs.Tasks.{options_of as run_options_of}
-use Rattle.fancy_matches.specs.Listing.{AreApart, Standing, all_matches}
-use Rattle.fancy_matches.specs.Regexes.{FailsBy, IsRegexOf, StepsTo, captures_text, left_of, numbers_in, standing_of, with_numbers}
+use Rattle.fancy_matches.specs.Listing.{AreApart, ComesTo, Standing, all_matches}
+use Rattle.fancy_matches.specs.Regexes.{FailsBy, GivesCaptures, IsRegexOf, captures_text, left_of, numbers_in, standing_of}
 use Rattle.fancy_matches.specs.declared.found.Captures.{Captures}
 use Rattle.fancy_matches.specs.declared.regexes.Regex.{Regex}
 use Rattle.fancy_matches.proofs.Lists.{matches_apart}
@@ -45,40 +45,30 @@ take_limit-cons (Some (suc n)) m ms some = ap (λ k. m ∷ take k ms) (omega ari
 
 -- ---- a step
 
-numbers_back : (text : List ℕ) (ms : List (List ℕ)) → map (λ (p : List ℕ × List ℕ). p.1) (map (with_numbers text) ms) ≡ ms
-numbers_back text [] = refl
-numbers_back text (m ∷ ms) = ap (λ rest. m ∷ rest) (numbers_back text ms)
-
-head_text : List ℕ → List (List ℕ × List ℕ) → List ℕ
-head_text text [] = text
-head_text text (p ∷ ps) = p.0
-
-first_text : (text within m : List ℕ) (ms rest : List (List ℕ)) → map (with_numbers text) ms ≡ (within, m) ∷ map (with_numbers text) rest →
-    within ≡ text
-unfolding head_text
-first_text text within m [] rest e = sym (ap (head_text text) e)
-first_text text within m (n ∷ ms) rest e = sym (ap (head_text text) e)
-
 -- what a search answered where the text was gone through so far
 module _ (r : Regex) (s : Cuts) (ahead : IsAhead r s) (found : Option (Result Captures Error)) (t : Standing)
-    (list : (i : Input) (o : plain.RunOptions) → IsRegexOf i o r → StepsTo i s.text.now o (standing_of s.standing) found t) where
+    (list : (i : Input) (o : plain.RunOptions) → IsRegexOf i o r → GivesCaptures i s.text.now o (standing_of s.standing) found t) where
   abbrev text : List ℕ
   text = s.text.now
 
   module _ (c : Captures) (is : found ≡ Some (Ok c)) where
-    steps : (i : Input) (o : plain.RunOptions) → IsRegexOf i o r → StepsTo i text o (standing_of s.standing) (Some (Ok c)) t
-    steps i o h = subst (λ x. StepsTo i text o (standing_of s.standing) x t) is (list i o h)
+    steps : (i : Input) (o : plain.RunOptions) → IsRegexOf i o r → GivesCaptures i text o (standing_of s.standing) (Some (Ok c)) t
+    steps i o h = subst (λ x. GivesCaptures i text o (standing_of s.standing) x t) is (list i o h)
+
+    numbers_are : (i : Input) (o : plain.RunOptions) (h : IsRegexOf i o r) → (steps i o h).numbers ≡ numbers_in c
+    numbers_are i o h = sym (ap (λ (p : List ℕ × List ℕ). p.1) (steps i o h).shows)
+
+    pub next_comes : (i : Input) (o : plain.RunOptions) → IsRegexOf i o r →
+        ComesTo (plan i) text o (standing_of s.standing) (numbers_in c ∷ []) t
+    next_comes i o h =
+        subst (λ m. ComesTo (plan i) text o (standing_of s.standing) (m ∷ []) t) (numbers_are i o h) (steps i o h).comes
 
     pub next_is : (i : Input) (o : plain.RunOptions) → IsRegexOf i o r →
         left_of i text o (standing_of s.standing) ≡ numbers_in c ∷ left_of i text o t
-    next_is i o h =
-        sym (numbers_back text (left_of i text o (standing_of s.standing)))
-        ∙ ap (map (λ (p : List ℕ × List ℕ). p.1)) (steps i o h)
-        ∙ ap (λ rest. numbers_in c ∷ rest) (numbers_back text (left_of i text o t))
+    next_is i o h = (steps i o h).left ∙ ap (λ m. m ∷ left_of i text o t) (numbers_are i o h)
 
     pub next_text : (i : Input) (o : plain.RunOptions) → IsRegexOf i o r → captures_text c ≡ text
-    next_text i o h =
-        first_text text (captures_text c) (numbers_in c) (left_of i text o (standing_of s.standing)) (left_of i text o t) (steps i o h)
+    next_text i o h = ap (λ (p : List ℕ × List ℕ). p.0) (steps i o h).shows
 
     parts : (i : Input) (o : plain.RunOptions) → IsRegexOf i o r →
         AreAhead text s.from (first_pair (numbers_in c) ∷ map first_pair (left_of i text o t))
@@ -104,7 +94,7 @@ module _ (r : Regex) (s : Cuts) (ahead : IsAhead r s) (found : Option (Result Ca
 
   module _ (e : Error) (is : found ≡ Some (Err e)) (i : Input) (o : plain.RunOptions) (of : IsRegexOf i o r) where
     failed : FailsBy i text o (standing_of s.standing) e × (left_of i text o t ≡ [])
-    failed = subst (λ x. StepsTo i text o (standing_of s.standing) x t) is (list i o of)
+    failed = subst (λ x. GivesCaptures i text o (standing_of s.standing) x t) is (list i o of)
 
     pub fails : FailsBy i text o (standing_of s.standing) e
     fails = failed.0
@@ -134,8 +124,8 @@ piece_last i o s t within h =
 pub first_pieces : (i : Input) (o : plain.RunOptions) (text : List ℕ) (most : Option ℕ) (s : Cuts) → HasAllCuts text most s →
     pieces_between s.text.now s.from (cuts_left i o s) ≡ pieces_between text 0 (take_limit most (all_matches (plan i) text o))
 first_pieces i o text most s h =
-    ap₂ (λ t from. pieces_between t from (cuts_left i o s)) h.within h.from
-    ∙ ap₂ (λ limit ms. pieces_between text 0 (take_limit limit ms)) h.limit (h.all i o)
+    ap₂ (λ t from. pieces_between t from (take_limit s.limit (left_of i t o (standing_of s.standing)))) h.within h.from
+    ∙ ap₂ (λ limit from. pieces_between text 0 (take_limit limit (left_of i text o from))) h.limit h.first
 
 pub pieces_within : (text : List ℕ) (limit cuts : ℕ) (ms : List (List ℕ)) → cuts ≡ limit - 1 →
     (if limit == 0 then [] else pieces_between text 0 (take cuts ms)) ≡ at_most_pieces text limit ms

@@ -1,13 +1,13 @@
 -- A replacement goes on from match to match.
-use Rattle.std.proofs.Common.{Result, Ok, Err, ◌≡◌, ◌≤◌, ◌<◌, ◌-◌, ℕ, zero, suc, Bool, true, false, List, [], ◌∷◌, ◌++◌, length, drop, take, map, Option, Some, None, option_map, ⊎_elim, refl, sym, ap, ap₂, ◌∙◌, subst, arith, append_assoc, append-nil, slice_range}
+use Rattle.std.proofs.Common.{Result, Ok, Err, ◌≡◌, ◌≤◌, ◌<◌, ◌-◌, ℕ, zero, suc, Bool, true, false, List, [], ◌∷◌, ◌++◌, length, take, map, Option, Some, None, option_map, ⊎_elim, refl, sym, ap, ap₂, ◌∙◌, subst, arith, append_assoc, append-nil, slice_range}
 use Rattle.std.proofs.lemmas.Bool.{cases_lt}
-use Rattle.std.proofs.lemmas.List.{drop_all, length-take-le, take-map, take_at}
+use Rattle.std.proofs.lemmas.List.{drop_all, length-append, length-take-le, take-map, take_at}
 use Rattle.std.proofs.lemmas.List.Folds.{drop_split}
 use Rattle.fancy_meaning.specs.Options as plain
 use Rattle.fancy_meaning.specs.Premises.{Input, IsText, plan}
 use Rattle.fancy_expr.specs.declared.error.Error.{Error}
 use Rattle.fancy_vm.specs.Outcomes.{first_pair}
-use Rattle.fancy_matches.specs.Listing.{AreApart, PiecesJoin, all_matches, all_spans, in_turn, part}
+use Rattle.fancy_matches.specs.Listing.{AreApart, ComesTo, PiecesJoin, all_matches, all_spans, at_start, in_turn, part, stays}
 use Rattle.fancy_matches.specs.Regexes.{FailsBy, IsRegexOf, IsSame, captures_text, left_of, numbers_in, standing_of}
 use Rattle.fancy_matches.specs.declared.regexes.Regex.{Regex}
 use Rattle.fancy_replace.specs.Pieces.{IsBelow, pieces_between, rewrite, take_limit}
@@ -17,8 +17,8 @@ use Rattle.fancy_replace.specs.Steps.{HasAllCuts, IsAhead, IsNextCut, NextCut, S
 use Rattle.fancy_replace.specs.declared.cuts.Cut.{Cut}
 use Rattle.fancy_replace.specs.declared.cuts.Cuts.{Cuts}
 use Rattle.fancy_laws.proofs.Moves.{is_place_parts}
-use Rattle.fancy_matches.proofs.Lists.{matches_apart, spans_join}
-use Rattle.fancy_matches.proofs.Stepping.{of_same}
+use Rattle.fancy_matches.proofs.Lists.{comes_more, matches_apart, spans_join}
+use Rattle.fancy_matches.proofs.Stepping.{of_same, same_twice}
 use Rattle.fancy_replace.proofs.Cutting.{take_limit-cons}
 
 abbrev left_in : Input → plain.RunOptions → List ℕ → Cuts → List (List ℕ)
@@ -28,12 +28,12 @@ left_in i o text s = take_limit s.limit (left_of i text o (standing_of s.standin
 abbrev rest_rewrite : (List ℕ → List ℕ) → List ℕ → ℕ → List (List ℕ) → List ℕ
 rest_rewrite replacement text from ms = in_turn (pieces_between text from ms) (map replacement ms)
 
--- so many of the matches to be replaced were gone through, and what was written goes on to the whole
+-- these of the matches to be replaced were gone through, and what was written goes on to the whole
 pub record IsDone (i : Input) (o : plain.RunOptions) (text : List ℕ) (most : Option ℕ) (replacement : List ℕ → List ℕ)
     (s : Cuts) (out : List ℕ) (is_same : Bool) : Type 0 where
-  pub count : ℕ
-  pub left : left_of i text o (standing_of s.standing) ≡ drop count (all_matches (plan i) text o)
-  pub limit : s.limit ≡ option_map (λ n. n - count) most
+  pub gone : List (List ℕ)
+  pub comes : ComesTo (plan i) text o at_start gone (standing_of s.standing)
+  pub limit : s.limit ≡ option_map (λ n. n - length gone) most
   pub value : out ++ rest_rewrite replacement text s.from (left_in i o text s) ≡ rewrite replacement text (to_replace i o text most)
   pub fresh : is_same ≡ true → left_in i o text s ≡ to_replace i o text most
   pub some : is_same ≡ false → ¬ (to_replace i o text most ≡ [])
@@ -46,9 +46,6 @@ pub record GoesOn (r q : Regex) (text : List ℕ) (most : Option ℕ) (replaceme
   pub ahead : IsAhead q s
   pub done : (i : Input) (o : plain.RunOptions) → IsRegexOf i o r → IsDone i o text most replacement s out is_same
 
-same_twice : (r s t : Regex) → IsSame r s → IsSame s t → IsSame r t
-same_twice r s t a b = (b.0 ∙ a.0, b.1 ∙ a.1)
-
 less_none : (most : Option ℕ) → most ≡ option_map (λ n. n - 0) most
 less_none None = refl
 less_none (Some n) = ap Some (omega arith)
@@ -56,11 +53,6 @@ less_none (Some n) = ap Some (omega arith)
 less_more : (most : Option ℕ) (count : ℕ) → option_map (λ n. n - 1) (option_map (λ n. n - count) most) ≡ option_map (λ n. n - suc count) most
 less_more None count = refl
 less_more (Some n) count = ap Some (omega arith)
-
-drop_next : (count : ℕ) (xs : List (List ℕ)) (y : List ℕ) (ys : List (List ℕ)) → drop count xs ≡ y ∷ ys → drop (suc count) xs ≡ ys
-drop_next zero xs y ys e = ap (drop 1) e
-drop_next (suc n) [] y ys e = cc
-drop_next (suc n) (x ∷ xs) y ys e = drop_next n xs y ys e
 
 below_limit : (most limit : Option ℕ) (count : ℕ) → limit ≡ option_map (λ n. n - count) most → ¬ (limit ≡ Some 0) → IsBelow most count
 below_limit None limit count e some = tt
@@ -76,12 +68,11 @@ at_first r text most replacement s out h none = record {
   within = h.within;
   ahead = h.ahead r;
   done = λ i o of.
-      let all : left_of i text o (standing_of s.standing) ≡ all_matches (plan i) text o =
-      ap (λ t. left_of i t o (standing_of s.standing)) (sym h.within) ∙ h.all i o in
+      let all : left_of i text o (standing_of s.standing) ≡ all_matches (plan i) text o = ap (left_of i text o) h.first in
       let left : left_in i o text s ≡ to_replace i o text most = ap₂ take_limit h.limit all in
       record {
-        count = 0;
-        left = all;
+        gone = [];
+        comes = subst (λ t. ComesTo (plan i) text o at_start [] t) (sym h.first) stays;
         limit = h.limit ∙ less_none most;
         value = ap₂ (λ x n. x ++ rest_rewrite replacement text n (left_in i o text s)) none h.from ∙ ap (rest_rewrite replacement text 0) left;
         fresh = λ _. left;
@@ -118,9 +109,13 @@ module _ (i : Input) (o : plain.RunOptions) (text : List ℕ) (most : Option ℕ
   further new e =
       let rest = rest_rewrite (write text) text t.from (left_in i o text t) in
       record {
-        count = suc done.count;
-        left = sym (drop_next done.count (all_matches (plan i) text o) m (left_of i text o (standing_of t.standing)) (sym done.left ∙ found));
-        limit = next.limit ∙ ap (option_map (λ n. n - 1)) done.limit ∙ less_more most done.count;
+        gone = done.gone ++ m ∷ [];
+        comes =
+            comes_more (plan i) text o done.comes
+            (subst (λ x. ComesTo (plan i) x o (standing_of s.standing) (m ∷ []) (standing_of t.standing)) at next.comes);
+        limit =
+            next.limit ∙ ap (option_map (λ n. n - 1)) done.limit ∙ less_more most (length done.gone)
+            ∙ ap (λ k. option_map (λ n. n - k) most) (omega (arith, length-append done.gone (m ∷ [])));
         value =
             ap (λ x. x ++ rest) (e ∙ ap (λ x. out ++ (c.piece.now ++ write x m)) (next.text ∙ at)) ∙ (simp append_assoc)
             ∙ ap₂ (λ piece n. out ++ (piece ++ (write text m ++ rest_rewrite (write text) text n (left_in i o text t)))) piece_is next.from
@@ -161,11 +156,12 @@ fails_after : (i : Input) (o : plain.RunOptions) (text : List ℕ) (most : Optio
 fails_after i o text most replacement s out is_same e at h done =
     let fails = subst (λ x. FailsBy i x o (standing_of s.standing) e) at h.1 in
     record {
-      count = done.count;
-      below = below_limit most s.limit done.count done.limit h.0;
-      standing = fails.0;
-      left = fails.1.0 ∙ done.left;
-      fails = fails.1.1;
+      gone = done.gone;
+      below = below_limit most s.limit (length done.gone) done.limit h.0;
+      standing = fails.standing;
+      comes = subst (λ ms. ComesTo (plan i) text o at_start ms fails.standing) (append-nil done.gone)
+          (comes_more (plan i) text o done.comes fails.comes);
+      fails = fails.fails;
     }
 
 -- ---- a call for the next match

@@ -1,5 +1,5 @@
 -- The text after a replacement, and why there is none.
-use Rattle.std.specs.Prelude.{◌≡◌, ◌⊎◌, ℕ, List, [], ◌∷◌, drop, take, Option, Result, Ok, Err}
+use Rattle.std.specs.Prelude.{◌≡◌, ◌⊎◌, ℕ, List, [], ◌∷◌, length, take, IfOk, Option, Result, Ok, Err}
 use Rattle.std.specs.Cow.{cow_str_bytes, IsOwnedStr}
 use Rattle.std.specs.declared.alloc.Global.{Global}
 use Rattle.std.specs.declared.borrow.CowStr.{CowStr}
@@ -7,10 +7,10 @@ use Rattle.fancy_meaning.specs.Options as plain
 use Rattle.fancy_meaning.specs.Premises.{Input, plan}
 use Rattle.fancy_expr.specs.declared.error.Error.{Error}
 use Rattle.fancy_expr.specs.declared.error.Error.TheVariants.{Memory}
-use Rattle.fancy_search.specs.Searches.{Promises}
 use Rattle.fancy_vm.specs.Outcomes.{first_pair}
-use Rattle.fancy_matches.specs.Listing.{Standing, all_matches, options_at, part}
-use Rattle.fancy_matches.specs.Regexes.{left_of}
+use Rattle.fancy_matches.specs.Listing.{ComesTo, Standing, all_matches, at_start, part}
+use Rattle.fancy_matches.specs.Regexes.{FailsAt, IsRegexOf, IsSame}
+use Rattle.fancy_matches.specs.declared.regexes.Regex.{Regex}
 use Rattle.fancy_replace.specs.Pieces.{IsBelow, rewrite, take_limit}
 
 module _ (i : Input) (o : plain.RunOptions) (text : List ℕ) (limit : Option ℕ) where
@@ -18,13 +18,13 @@ module _ (i : Input) (o : plain.RunOptions) (text : List ℕ) (limit : Option �
   abbrev pub to_replace : List (List ℕ)
   to_replace = take_limit limit (all_matches (plan i) text o)
 
-  -- after so many matches, below the limit, a search for the next one answered this error, as is promised
+  -- After matches that are fewer than the limit, a search that the list comes to before its next match answers this error.
   pub record FailsAfter (e : Error) : Type 0 where
-    pub count : ℕ
-    pub below : IsBelow limit count
+    pub gone : List (List ℕ)
+    pub below : IsBelow limit (length gone)
     pub standing : Standing
-    pub left : left_of i text o standing ≡ drop count (all_matches (plan i) text o)
-    pub fails : Promises i text (options_at o standing) (Err e)
+    pub comes : ComesTo (plan i) text o at_start gone standing
+    pub fails : FailsAt i text o standing e
 
   -- The text with what is written for each of these matches in its place, and the text itself where there is none; or
   -- an error that a search answered, or want of memory.
@@ -33,7 +33,7 @@ module _ (i : Input) (o : plain.RunOptions) (text : List ℕ) (limit : Option �
       (cow_str_bytes v ≡ rewrite (replacement text) text to_replace) × (to_replace ≡ [] → ¬ (IsOwnedStr v))
   Replaces replacement (Err e) = FailsAfter e ⊎ (e ≡ Memory)
 
--- what is written for each match is the match
+-- what is written for each match is the match itself
 abbrev pub WritesMatch : (List ℕ → List ℕ → List ℕ) → List ℕ → Type 0
 WritesMatch replacement text = (numbers : List ℕ) → replacement text numbers ≡ part text (first_pair numbers)
 
@@ -42,3 +42,15 @@ abbrev pub KeepsBefore : Input → plain.RunOptions → List ℕ → List ℕ �
 KeepsBefore i o text new =
     (first : List ℕ) (others : List (List ℕ)) → all_matches (plan i) text o ≡ first ∷ others →
     take (first_pair first).0 new ≡ take (first_pair first).0 text
+
+-- A replacement of the first so many matches of a regex, or of all, by what is written for each, answered this, and left
+-- the regex so.
+pub record IsReplacement (r : Regex) (text : List ℕ) (limit : Option ℕ) (write : List ℕ → List ℕ → List ℕ)
+    (result : Result (CowStr Global) Error) (q : Regex) : Type 0 where
+  pub promise : (i : Input) (o : plain.RunOptions) → IsRegexOf i o r → Replaces i o text limit write result
+  pub before : (i : Input) (o : plain.RunOptions) → IsRegexOf i o r →
+      IfOk result (λ v. KeepsBefore i o text (cow_str_bytes v))
+  -- each match in its own place leaves the text as it was
+  pub itself : (i : Input) (o : plain.RunOptions) → IsRegexOf i o r → WritesMatch write text →
+      IfOk result (λ v. cow_str_bytes v ≡ text)
+  pub same : IsSame r q

@@ -6,7 +6,7 @@ use Rattle.fancy_meaning.specs.Places.{is_place}
 use Rattle.fancy_meaning.specs.Premises.{Input, IsSpan, plan}
 use Rattle.fancy_expr.specs.declared.error.Error.{Error}
 use Rattle.fancy_vm.specs.Outcomes.{first_pair}
-use Rattle.fancy_matches.specs.Listing.{all_matches}
+use Rattle.fancy_matches.specs.Listing.{ComesTo, at_start}
 use Rattle.fancy_matches.specs.Regexes.{FailsBy, IsRegexOf, IsSame, captures_text, left_of, numbers_in, standing_of}
 use Rattle.fancy_matches.specs.declared.regexes.Regex.{Regex}
 use Rattle.fancy_replace.specs.Pieces.{take_limit}
@@ -20,7 +20,7 @@ AreAhead text from (span ∷ spans) = (from ≤ span.0) × (IsSpan text span × 
 
 -- ---- where a text is cut
 
--- what stands behind the last match that was gone through
+-- what stands after the last match that was gone through
 abbrev pub rest_of : Cuts → List ℕ
 rest_of s = slice_range s.text.now s.from (length s.text.now)
 
@@ -45,6 +45,7 @@ module _ (i : Input) (o : plain.RunOptions) where
   pub record IsNextCut (s : Cuts) (c : Cut) (t : Cuts) : Type 0 where
     pub within_limit : ¬ (s.limit ≡ Some 0)
     pub found : all_left s ≡ numbers_in c.captures ∷ all_left t
+    pub comes : ComesTo (plan i) s.text.now o (standing_of s.standing) (numbers_in c.captures ∷ []) (standing_of t.standing)
     pub text : captures_text c.captures ≡ s.text.now
     pub piece : c.piece.now ≡ slice_range s.text.now s.from (first_pair (numbers_in c.captures)).0
     pub from : t.from ≡ (first_pair (numbers_in c.captures)).1
@@ -79,5 +80,5 @@ pub record HasAllCuts (text : List ℕ) (most : Option ℕ) (s : Cuts) : Type 0 
   pub within : s.text.now ≡ text
   pub from : s.from ≡ 0
   pub limit : s.limit ≡ most
-  pub all : (i : Input) (o : plain.RunOptions) → all_left i o s ≡ all_matches (plan i) text o
+  pub first : standing_of s.standing ≡ at_start
   pub ahead : (r : Regex) → IsAhead r s

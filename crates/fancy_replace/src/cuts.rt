@@ -61,7 +61,7 @@ impl<'t> Cuts<'t> {
         }
     }
 
-    /// What stands behind the last match that was gone through.
+    /// What stands after the last match that was gone through.
     pub(crate) fn rest(self) -> &'t str
         requires { IsAtPlace self }
         ensures { result.now ≡ rest_of self.entry }

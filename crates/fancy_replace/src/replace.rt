@@ -1,12 +1,9 @@
 //! Matches are replaced.
 
-ghost use Rattle.std.specs.Prelude.{◌≡◌, ◌++◌, IfOk, OnOk, Some, None, string_bytes};
-ghost use Rattle.std.specs.Cow.{cow_str_bytes};
-ghost use Rattle.fancy_meaning.specs.Options as plain;
-ghost use Rattle.fancy_meaning.specs.Premises.{Input};
-ghost use Rattle.fancy_matches.specs.Regexes.{IsRegexOf, IsSame, captures_text, numbers_in};
+ghost use Rattle.std.specs.Prelude.{◌≡◌, ◌++◌, OnOk, Some, None, string_bytes};
+ghost use Rattle.fancy_matches.specs.Regexes.{captures_text, numbers_in};
 ghost use Rattle.fancy_replace.specs.Pieces.{as_limit};
-ghost use Rattle.fancy_replace.specs.Replacements.{KeepsBefore, Replaces, WritesMatch};
+ghost use Rattle.fancy_replace.specs.Replacements.{IsReplacement};
 
 use crate::cuts::{Cut, Cuts};
 use crate::replacer::Replacer;
@@ -22,20 +19,8 @@ pub fn replace<'t, R: Replacer>(
     text: &'t str,
     replacement: &R,
 ) -> Result<CowStr<'t, Global>, Error>
-    ensures promise { (i : Input)
-        → (o : plain.RunOptions)
-        → IsRegexOf i o regex.old
-        → Replaces i o text.now (Some 1) (R.replacement_text replacement.now) result }
-    ensures before { (i : Input)
-        → (o : plain.RunOptions)
-        → IsRegexOf i o regex.old
-        → IfOk result (λ v. KeepsBefore i o text.now (cow_str_bytes v)) }
-    ensures itself { (i : Input)
-        → (o : plain.RunOptions)
-        → IsRegexOf i o regex.old
-        → WritesMatch (R.replacement_text replacement.now) text.now
-        → IfOk result (λ v. cow_str_bytes v ≡ text.now) }
-    ensures same { IsSame regex.old regex.new }
+    ensures { IsReplacement
+        regex.old text.now (Some 1) (R.replacement_text replacement.now) result regex.new }
 {
     replacen(alloc, regex, text, 1, replacement)
 }
@@ -47,20 +32,8 @@ pub fn replace_all<'t, R: Replacer>(
     text: &'t str,
     replacement: &R,
 ) -> Result<CowStr<'t, Global>, Error>
-    ensures promise { (i : Input)
-        → (o : plain.RunOptions)
-        → IsRegexOf i o regex.old
-        → Replaces i o text.now None (R.replacement_text replacement.now) result }
-    ensures before { (i : Input)
-        → (o : plain.RunOptions)
-        → IsRegexOf i o regex.old
-        → IfOk result (λ v. KeepsBefore i o text.now (cow_str_bytes v)) }
-    ensures itself { (i : Input)
-        → (o : plain.RunOptions)
-        → IsRegexOf i o regex.old
-        → WritesMatch (R.replacement_text replacement.now) text.now
-        → IfOk result (λ v. cow_str_bytes v ≡ text.now) }
-    ensures same { IsSame regex.old regex.new }
+    ensures { IsReplacement
+        regex.old text.now None (R.replacement_text replacement.now) result regex.new }
 {
     replacen(alloc, regex, text, 0, replacement)
 }
@@ -76,20 +49,8 @@ pub fn replacen<'t, R: Replacer>(
     limit: usize,
     replacement: &R,
 ) -> Result<CowStr<'t, Global>, Error>
-    ensures promise { (i : Input)
-        → (o : plain.RunOptions)
-        → IsRegexOf i o regex.old
-        → Replaces i o text.now (as_limit limit) (R.replacement_text replacement.now) result }
-    ensures before { (i : Input)
-        → (o : plain.RunOptions)
-        → IsRegexOf i o regex.old
-        → IfOk result (λ v. KeepsBefore i o text.now (cow_str_bytes v)) }
-    ensures itself { (i : Input)
-        → (o : plain.RunOptions)
-        → IsRegexOf i o regex.old
-        → WritesMatch (R.replacement_text replacement.now) text.now
-        → IfOk result (λ v. cow_str_bytes v ≡ text.now) }
-    ensures same { IsSame regex.old regex.new }
+    ensures { IsReplacement
+        regex.old text.now (as_limit limit) (R.replacement_text replacement.now) result regex.new }
 {
     let mut cuts = Cuts::new(text, limit_of(limit));
     let mut out = String::new(alloc);

@@ -9,7 +9,7 @@ use fancy_matches::regexes::Regex;
 
 /// The pieces of the text between its matches, one more than these.
 pub fn split<'r, 't>(regex: &'r mut Regex, text: &'t str) -> Split<'r, 't>
-    ensures pieces { HasPieces regex.old (all_pieces text.now) result }
+    ensures pieces { HasPieces regex.entry text.now (all_pieces text.now) result }
     ensures join { PiecesAndMatchesJoin regex.old text.now }
 {
     Split {
@@ -21,7 +21,7 @@ pub fn split<'r, 't>(regex: &'r mut Regex, text: &'t str) -> Split<'r, 't>
 
 /// As `split`, but at most `limit` pieces, of which the last is the rest of the text with all its matches.
 pub fn splitn<'r, 't>(regex: &'r mut Regex, text: &'t str, limit: usize) -> Split<'r, 't>
-    ensures pieces { HasPieces regex.old (most_pieces text.now limit) result }
+    ensures pieces { HasPieces regex.entry text.now (most_pieces text.now limit) result }
     ensures join { MostPiecesJoin regex.old text.now limit }
 {
     Split {

@@ -9,6 +9,9 @@ pub returns-clause-pieces : goal.returns-clause-pieces
 returns-clause-pieces c = record {
   pieces = λ i o h. first_pieces i o c.args.text.now None c.new.result c.new.ensures;
   regex = refl;
+  name = refl;
+  within = c.new.ensures.within;
+  first = c.new.ensures.first;
   can = c.new.ensures.ahead c.args.regex.now;
 }
 

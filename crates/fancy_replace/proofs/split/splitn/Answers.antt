@@ -17,6 +17,9 @@ returns c =
             ap (λ ps. if c.args.limit == 0 then [] else ps) (first_pieces i o text (Some cuts) c.new.result c.new.ensures)
             ∙ pieces_within text c.args.limit cuts (all_matches (plan i) text o) (omega (arith, c.saturating_sub.ensures));
         regex = refl;
+        name = refl;
+        within = c.new.ensures.within;
+        first = c.new.ensures.first;
         can = c.new.ensures.ahead c.args.regex.now;
       };
       join = λ i o h some. most_join i o text c.args.limit (record { utf8 = c.utf8.text; fits = small }) some;

@@ -1,4 +1,4 @@
-use Rattle.std.proofs.Common.{◌<◌, length, map, refl, sym, ap, subst, arith}
+use Rattle.std.proofs.Common.{◌<◌, length, map, refl, sym, subst, arith}
 use Rattle.std.proofs.lemmas.Str.{IsCharBoundary-start}
 use Rattle.fancy_laws.proofs.Characters.{place_of_cut}
 use Rattle.fancy_meaning.specs.Numbers.{usize_max}
@@ -16,7 +16,7 @@ returns c =
       within = refl;
       from = refl;
       limit = refl;
-      all = λ i o. ap (left_of i text o) c.first.ensures;
+      first = c.first.ensures;
       ahead = λ r. record {
         place = place_of_cut text 0 (IsCharBoundary-start text c.utf8.text);
         spans = λ i o h.

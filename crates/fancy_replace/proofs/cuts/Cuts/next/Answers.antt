@@ -5,7 +5,7 @@ use Rattle.fancy_vm.specs.Outcomes.{first_pair}
 use Rattle.fancy_matches.specs.Regexes.{left_of, standing_of}
 use Rattle.fancy_matches.proofs.Stepping.{of_same}
 use Rattle.fancy_replace.specs.Steps.{AreAhead}
-use Rattle.fancy_replace.proofs.Cutting.{fails, next_begins, next_ends_at_place, next_is, next_starts_at_place, next_text, none_ahead, rest_ahead}
+use Rattle.fancy_replace.proofs.Cutting.{fails, next_begins, next_comes, next_ends_at_place, next_is, next_starts_at_place, next_text, none_ahead, rest_ahead}
 use Rattle.fancy_replace.proofs.cuts.Cuts.next.Goals as goal
 
 pub range-piece-requires-clause-start_le_end : goal.range-piece-requires-clause-start_le_end
@@ -65,6 +65,7 @@ returns-in-Some-Ok-clause-next c =
       steps = λ i o h. record {
         within_limit = λ e. true≢false (sym (c.is_spent.ensures.1 e) ∙ c.if-is_spent.false);
         found = next_is r s c.requires c.next_captures.result to c.next_captures.ensures.list c.in-Some-Ok.captures was i o h;
+        comes = next_comes r s c.requires c.next_captures.result to c.next_captures.ensures.list c.in-Some-Ok.captures was i o h;
         text = next_text r s c.requires c.next_captures.result to c.next_captures.ensures.list c.in-Some-Ok.captures was i o h;
         piece = c.range-piece.ensures.value ∙ ap (λ n. slice_range s.text.now s.from n) (c.start.ensures ∙ ap (λ p. p.0) span);
         from = c.end-self.ensures ∙ ap (λ p. p.1) span;

@@ -1,4 +1,5 @@
-use Rattle.std.proofs.Common.{[], ◌∷◌, Ok, refl, sym, ap, ◌∙◌, subst, if◌then◌else◌}
+use Rattle.std.proofs.Common.{[], ◌∷◌, Ok, refl, sym, ap, ◌∙◌, subst, true≢false, if◌then◌else◌}
+use Rattle.fancy_matches.specs.Regexes.{numbers_in}
 use Rattle.fancy_replace.specs.Pieces.{pieces_between}
 use Rattle.fancy_replace.specs.Steps.{StepsToCut, cuts_left}
 use Rattle.fancy_replace.proofs.Cutting.{piece_last, piece_next}
@@ -9,25 +10,38 @@ returns-in-Ok-Some-clause-steps c =
     let s = c.args.self.now.cuts in
     let t = c.next.new.self in
     let cut = c.in-Ok-Some.cut in
-    let was = c.in-Ok-Some.is ∙ ap Ok c.in-Ok-Some.field-0-is in (
-      λ i o h.
-          ap (λ b. if b then [] else pieces_between s.text.now s.from (cuts_left i o s)) c.if-self.false
-          ∙ piece_next i o s cut t c.next.ensures.next.within (subst (λ x. StepsToCut i o s x t) was (c.next.ensures.next.steps i o h))
-          ∙ ap (λ b. cut.piece.now ∷ (if b then [] else pieces_between t.text.now t.from (cuts_left i o t))) (sym c.if-self.false),
-      c.next.ensures.next.same,
-    )
+    let was = c.in-Ok-Some.is ∙ ap Ok c.in-Ok-Some.field-0-is in
+    record {
+      steps = λ i o h.
+          let next = subst (λ x. StepsToCut i o s x t) was (c.next.ensures.next.steps i o h) in (
+            ap (λ b. if b then [] else pieces_between s.text.now s.from (cuts_left i o s)) c.if-self.false
+                ∙ piece_next i o s cut t c.next.ensures.next.within next
+                ∙ ap (λ b. cut.piece.now ∷ (if b then [] else pieces_between t.text.now t.from (cuts_left i o t))) (sym c.if-self.false),
+            λ goes_on. (numbers_in cut.captures, next.comes),
+          );
+      within = c.next.ensures.next.within;
+      regex = record { same = c.next.ensures.next.same; name = refl };
+    }
 
 pub returns-in-Ok-None-clause-steps : goal.returns-in-Ok-None-clause-steps
 returns-in-Ok-None-clause-steps c =
     let s = c.args.self.now.cuts in
     let t = c.next.new.self in
-    let was = c.in-Ok-None.is ∙ ap Ok c.in-Ok-None.field-0-is in (
-      λ i o h.
-          ap (λ b. if b then [] else pieces_between s.text.now s.from (cuts_left i o s)) c.if-self.false
-          ∙ piece_last i o s t c.next.ensures.next.within (subst (λ x. StepsToCut i o s x t) was (c.next.ensures.next.steps i o h))
-          ∙ ap (λ piece. piece ∷ []) (sym c.rest.ensures),
-      c.next.ensures.next.same,
-    )
+    let was = c.in-Ok-None.is ∙ ap Ok c.in-Ok-None.field-0-is in
+    record {
+      steps = λ i o h. (
+        ap (λ b. if b then [] else pieces_between s.text.now s.from (cuts_left i o s)) c.if-self.false
+            ∙ piece_last i o s t c.next.ensures.next.within (subst (λ x. StepsToCut i o s x t) was (c.next.ensures.next.steps i o h))
+            ∙ ap (λ piece. piece ∷ []) (sym c.rest.ensures),
+        λ goes_on. absurd (true≢false goes_on),
+      );
+      within = c.next.ensures.next.within;
+      regex = record { same = c.next.ensures.next.same; name = refl };
+    }
 
 pub returns-in-Err-clause-steps : goal.returns-in-Err-clause-steps
-returns-in-Err-clause-steps c = (λ i o h. ((c.in-Err.ensures.next.steps i o h).1, refl), c.next.ensures.next.same)
+returns-in-Err-clause-steps c = record {
+  steps = λ i o h. ((c.in-Err.ensures.next.steps i o h).1, refl);
+  within = c.in-Err.ensures.next.within;
+  regex = record { same = c.in-Err.ensures.next.same; name = refl };
+}
