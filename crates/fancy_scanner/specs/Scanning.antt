@@ -5,7 +5,7 @@ use Rattle.fancy_meaning.specs.Options as plain
 use Rattle.fancy_meaning.specs.Premises.{Input, plan, IsAccepted}
 use Rattle.fancy_expr.specs.declared.error.Error.{Error}
 use Rattle.fancy_vm.specs.Outcomes.{first_pair}
-use Rattle.fancy_search.specs.Searches.{Promises, instructions_of}
+use Rattle.fancy_search.specs.Searches.{Bounds, Promises, instructions_of}
 use Rattle.fancy_matches.specs.Listing.{begun_at}
 use Rattle.fancy_matches.specs.Regexes.{IsRegexOf, numbers_in, captures_text}
 use Rattle.fancy_matches.specs.declared.regexes.Regex.{Regex}
@@ -58,9 +58,10 @@ abbrev pub AreAccepted : List Rule → Type 0
 AreAccepted [] = Unit {0}
 AreAccepted (r ∷ rules) = IsAccepted r.input (instructions_of r.input) × AreAccepted rules
 
--- the search for one of the rules answers this error, as is promised
+-- the search for one of the rules answers this error, as is promised, and a limit only below its bound
 pub data FailsForOne (text : List ℕ) (pos : ℕ) (e : Error) : List Rule → Type 0 where
-  here : {r : Rule} {rules : List Rule} → Promises r.input text (begun_at r.options pos) (Err e) → FailsForOne text pos e (r ∷ rules)
+  here : {r : Rule} {rules : List Rule} → Promises r.input text (begun_at r.options pos) (Err e) →
+      Bounds r.input text (begun_at r.options pos) (Err e) → FailsForOne text pos e (r ∷ rules)
   later : {r : Rule} {rules : List Rule} → FailsForOne text pos e rules → FailsForOne text pos e (r ∷ rules)
 
 abbrev pub Scans : List Rule → (text : List ℕ) (pos : ℕ) → Result (Option Scan) Error → Type 0

@@ -46,7 +46,7 @@ impl Scanner {
         }
     }
 
-    /// One more tree, behind the others. The only error is want of memory, which leaves the scanner as it was.
+    /// One more tree, after the others. The only error is want of memory, which leaves the scanner as it was.
     pub fn add(&mut self, regex: Regex) -> Result<(), AllocError>
         ensures ok { OnOk result ((rules : List Rule) (i : Input) (o : plain.RunOptions)
             → IsScannerOf rules self.old → IsRegexOf i o regex
@@ -83,13 +83,13 @@ impl Scanner {
 }
 
 /// Of two matches the one that begins first, and of equals the first one.
-fn earlier<'t>(scan: Scan<'t>, behind: Option<Scan<'t>>) -> Scan<'t>
+fn earlier<'t>(scan: Scan<'t>, later: Option<Scan<'t>>) -> Scan<'t>
     ensures { (text : List ℕ) (found : Option RuleMatch)
         → captures_text scan.entry.captures ≡ text
-        → option_map scan_view behind.entry ≡ option_map (in_text text) found
+        → option_map scan_view later.entry ≡ option_map (in_text text) found
         → scan_view result ≡ in_text text (scanning.earlier (rule_match scan.entry) found) }
 {
-    match behind {
+    match later {
         Some(other) => {
             if other.start() < scan.start() {
                 other

@@ -1,9 +1,8 @@
-use Rattle.std.proofs.Common.{◌≡◌, ◌-◌, suc, length, Ok, ◌∙◌, subst, arith}
-use Rattle.std.proofs.lemmas.List.{length-set}
+use Rattle.std.proofs.Common.{◌≡◌, ◌-◌, length, Ok, ◌∙◌, subst, arith}
 use Rattle.std.proofs.lemmas.Result.{err_from_is_err_and}
 use Rattle.fancy_matches.specs.Listing.{begun_at}
 use Rattle.fancy_matches.specs.Regexes.{FindsCaptures}
-use Rattle.fancy_scanner.proofs.Rules.{Behind, back_past_none, back_past_some, behind_all, fails_at, rule_at, same_put, tree_before}
+use Rattle.fancy_scanner.proofs.Rules.{IsFirstFrom, back_past_none, back_past_some, scan_of_none, fails_at, rule_at, same_put, tree_before}
 use Rattle.fancy_scanner.proofs.scanner.Scanner.find_from.Goals as goal
 
 pub trees-init : goal.trees-init
@@ -13,7 +12,7 @@ trees-init c =
     record {
       within = omega (arith, all);
       same = λ rules h. h;
-      behind = λ rules h. behind_all c.args.text.now c.args.pos rules v.items c.len-index.result h all;
+      scanned = λ rules h. scan_of_none c.args.text.now c.args.pos rules v.items c.len-index.result h all;
     }
 
 pub index_mut-requires : goal.index_mut-requires
@@ -42,8 +41,8 @@ trees-preserved-in-Some c =
     let x = c.index_mut.result.now in
     tree_before text pos c.args.self.now.regexes.items c.trees.self.regexes.items c.trees.index c.trees.first _ x c.captures_from.new.self
     c.trees.invariant c.trees-test.true c.index_mut.ensures.value c.captures_from.ensures.same
-    (λ rules at behind.
-    back_past_some text pos rules (c.trees.index - 1) x at c.trees.first behind c.in-Some.captures c.earlier.result
+    (λ rules at scanned.
+    back_past_some text pos rules (c.trees.index - 1) x at c.trees.first scanned c.in-Some.captures c.earlier.result
     (subst (λ found. FindsCaptures (at.rule).input text (begun_at (at.rule).options pos) (Ok found)) c.in-Some.is
     (c.in_ok-captures.ensures.promise (at.rule).input (at.rule).options at.of))
     (λ found within before. c.earlier.ensures text found within before))
@@ -55,15 +54,15 @@ trees-preserved c =
     let x = c.index_mut.result.now in
     tree_before text pos c.args.self.now.regexes.items c.trees.self.regexes.items c.trees.index c.trees.first _ x c.captures_from.new.self
     c.trees.invariant c.trees-test.true c.index_mut.ensures.value c.captures_from.ensures.same
-    (λ rules at behind.
-    back_past_none text pos rules (c.trees.index - 1) x at c.trees.first behind
+    (λ rules at scanned.
+    back_past_none text pos rules (c.trees.index - 1) x at c.trees.first scanned
     (subst (λ found. FindsCaptures (at.rule).input text (begun_at (at.rule).options pos) (Ok found)) c.in_default.is
     (c.in_ok-captures.ensures.promise (at.rule).input (at.rule).options at.of)))
 
 pub returns-clause-promise : goal.returns-clause-promise
 returns-clause-promise c = λ rules h.
     let none : c.trees.index ≡ 0 = omega (arith, c.trees-test.false) in
-    let all = subst (λ n. Behind c.args.text.now c.args.pos rules n c.trees.first) none (c.trees.invariant.behind rules h) in
+    let all = subst (λ n. IsFirstFrom c.args.text.now c.args.pos rules n c.trees.first) none (c.trees.invariant.scanned rules h) in
     (all.accepted, all.first)
 
 pub returns-clause-same : goal.returns-clause-same
