@@ -19,7 +19,7 @@ use Rattle.fancy_command.specs.declared.arguments.Arguments.{Arguments}
 use Rattle.fancy_search.specs.declared.search.SearchOptions.{SearchOptions}
 use Rattle.fancy_command.specs.Arguments as line
 use Rattle.fancy_command.specs.Arguments.{Text, Question, arguments_of, question_of}
-use Rattle.fancy_command.specs.Commands.{Finds, searched, IsRead}
+use Rattle.fancy_command.specs.Commands.{AnswersTo, searched, IsRead}
 use Rattle.fancy_search.proofs.Searched.{place_of}
 use Rattle.fancy_search.specs.Searches.{Promises, input_of, options_fit, search_fits}
 
@@ -70,10 +70,10 @@ options_are_fit a text o as_analysed as_compiled as_run at =
     (and_from (options_fit (line.analysis a) (line.compilation a)) true (none_or a.end_text) refl) at) (none_or a.not_empty)) (none_or a.longest)
 
 -- what the search answers is what the words ask for
-pub finds_by : (q : Question) (t : ExprTree) (o : SearchOptions) (answer : Result (Option (Vec ℕ Global)) Error) → IsRead q.tree t →
+pub answers_by : (q : Question) (t : ExprTree) (o : SearchOptions) (answer : Result (Option (Vec ℕ Global)) Error) → IsRead q.tree t →
     o.analysis ≡ line.analysis q.arguments → o.compilation ≡ line.compilation q.arguments → run_options_of o.run ≡ line.running q.arguments →
-    Promises (input_of t o.analysis o.compilation) q.text (run_options_of o.run) answer → Finds q answer
-finds_by q t o answer read as_analysed as_compiled as_run h =
+    Promises (input_of t o.analysis o.compilation) q.text (run_options_of o.run) answer → AnswersTo q answer
+answers_by q t o answer read as_analysed as_compiled as_run h =
     searched {t = t} read
     (subst (λ (x : plain.RunOptions). Promises (input_of t (line.analysis q.arguments) (line.compilation q.arguments)) q.text x answer) as_run
     (subst (λ (x : CompileOptions). Promises (input_of t (line.analysis q.arguments) x) q.text (run_options_of o.run) answer) as_compiled

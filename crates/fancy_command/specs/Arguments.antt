@@ -5,7 +5,8 @@ use Rattle.fancy_meaning.specs.Places.{is_place}
 use Rattle.fancy_notation.specs.Words.{found, number_of, when}
 use Rattle.fancy_info.specs.declared.context.AnalyzeContext.{AnalyzeContext}
 use Rattle.fancy_compile.specs.declared.options.CompileOptions.{CompileOptions}
-use Rattle.fancy_compile.specs.declared.options.BytesMode.TheVariants as mode
+use Rattle.fancy_search.specs.declared.request.Request.{Request}
+use Rattle.fancy_search.specs.Requests as asked
 use Rattle.fancy_command.specs.declared.arguments.Arguments.{Arguments}
 use Rattle.fancy_command.specs.declared.arguments.Flag.{Flag}
 use Rattle.fancy_command.specs.declared.arguments.Flag.TheVariants.{CompileAnchored, Anchored, NotContinued, NotEmpty, EndText, Ascii, Longest}
@@ -35,9 +36,9 @@ limits =
     ∷ (codes "--max-prog", MaxProg)
     ∷ []
 
--- no option, and this place
-abbrev pub at : ℕ → Arguments
-at pos = record {
+-- no option, and a search from this place on
+abbrev pub with_pos : ℕ → Arguments
+with_pos pos = record {
   pos = pos;
   compile_anchored = false;
   anchored = false;
@@ -106,43 +107,38 @@ abbrev mutual
 
 -- what the words after TREE and TEXT say: a place, where the first one is a number, and options
 abbrev pub arguments_of : List Text → Option Arguments
-arguments_of [] = Some (at 0)
-arguments_of (w ∷ ws) = elim (number_of w) [ Some pos ↦ with_options (at pos) ws | None ↦ with_options (at 0) (w ∷ ws) ]
+arguments_of [] = Some (with_pos 0)
+arguments_of (w ∷ ws) = elim (number_of w) [ Some pos ↦ with_options (with_pos pos) ws | None ↦ with_options (with_pos 0) (w ∷ ws) ]
 
--- ---- what they ask of each call
-
-abbrev pub analysis : Arguments → AnalyzeContext
-analysis a = record {
-  explicit_capture_group_0 = false;
-  find_not_empty = a.not_empty;
-  disallow_empty_match_at_eof_after_newline = a.end_text;
-  leftmost_longest = a.longest;
-}
+-- ---- what they ask of a search
 
 abbrev pub most_nesting : ℕ
 most_nesting = 4_000
 
-abbrev pub compilation : Arguments → CompileOptions
-compilation a = record {
-  anchored = a.compile_anchored;
-  contains_subroutines = false;
-  disallow_empty_match_at_eof_after_newline = a.end_text;
-  bytes_mode = mode.Unicode;
-  unicode = not a.ascii;
+abbrev pub request : Arguments → Request
+request a = record {
+  pos = a.pos;
+  compile_anchored = a.compile_anchored;
+  anchored = a.anchored;
+  not_continued = a.not_continued;
+  not_empty = a.not_empty;
+  end_text = a.end_text;
+  ascii = a.ascii;
+  longest = a.longest;
   max_prog_size = a.max_prog;
   max_nesting = Some most_nesting;
-}
-
-abbrev pub running : Arguments → RunOptions
-running a = record {
-  pos = a.pos;
-  anchored = a.anchored;
-  continued = not a.not_continued;
-  not_empty = a.not_empty;
-  leftmost_longest = a.longest;
   backtrack_limit = unwrap_or a.backtracks 1_000_000;
   step_limit = unwrap_or a.steps (2 ^ 64 - 1);
 }
+
+abbrev pub analysis : Arguments → AnalyzeContext
+analysis a = asked.analysis (request a)
+
+abbrev pub compilation : Arguments → CompileOptions
+compilation a = asked.compilation (request a)
+
+abbrev pub running : Arguments → RunOptions
+running a = asked.running (request a)
 
 -- ---- the whole line
 

@@ -32,16 +32,16 @@ abbrev pub IsFaultOf : Text → Error → Type 0
 IsFaultOf text e = IsFault (length text) (tokens_of text) e
 
 -- TREE cannot be read, or the search for the tree that it spells answers as is promised
-pub data Finds (q : line.Question) : Result (Option (Vec ℕ Global)) Error → Type 0 where
-  unread : {e : Error} → IsFaultOf q.tree e → Finds q (Err e)
+pub data AnswersTo (q : line.Question) : Result (Option (Vec ℕ Global)) Error → Type 0 where
+  unread : {e : Error} → IsFaultOf q.tree e → AnswersTo q (Err e)
   searched : {answer : Result (Option (Vec ℕ Global)) Error} {t : ExprTree} → IsRead q.tree t →
       Promises (input_of t (analysis q.arguments) (compilation q.arguments)) q.text (running q.arguments) answer →
-      Finds q answer
+      AnswersTo q answer
 
 -- the line of the answer, or why there is none
 abbrev pub Shows : line.Question → Result (String Global) Error → Type 0
-Shows q (Ok shown) = (answer : Option (Vec ℕ Global)) × Finds q (Ok answer) × (string_bytes shown ≡ answer_line answer)
-Shows q (Err e) = Finds q (Err e)
+Shows q (Ok shown) = (answer : Option (Vec ℕ Global)) × AnswersTo q (Ok answer) × (string_bytes shown ≡ answer_line answer)
+Shows q (Err e) = AnswersTo q (Err e)
 
 pub data Stream : Type 0 where
   StandardOutput StandardError : Stream
@@ -56,19 +56,19 @@ pub data Reports (words : List Text) : Stream → Text → ℕ → Type 0 where
   too_deep : {q : line.Question} → question_of words ≡ Some q → most_depth < depth q.tree →
       Reports words StandardOutput depth_line 1
   answered : {q : line.Question} {answer : Option (Vec ℕ Global)} → question_of words ≡ Some q →
-      depth q.tree ≤ most_depth → Finds q (Ok answer) → Reports words StandardOutput (answer_line answer) 0
+      depth q.tree ≤ most_depth → AnswersTo q (Ok answer) → Reports words StandardOutput (answer_line answer) 0
   refused : {q : line.Question} {e : Error} → question_of words ≡ Some q → depth q.tree ≤ most_depth →
-      Finds q (Err e) → Reports words StandardOutput (error_line e) 1
+      AnswersTo q (Err e) → Reports words StandardOutput (error_line e) 1
 
 -- where a write failed the status is 3
 abbrev pub status_after : Bool → ℕ → ℕ
 status_after written status = if written then status else 3
 
--- the refusal was written by its name, or as want of memory, with this status
-pub data Refuses (out out' : Option Text) (e : Error) : ℕ → Type 0 where
-  by_name : {written : Bool} → Writes out out' (error_line e) written → Refuses out out' e (status_after written 1)
+-- the error was written by its name, or as want of memory, with this status
+pub data WritesError (out out' : Option Text) (e : Error) : ℕ → Type 0 where
+  by_name : {written : Bool} → Writes out out' (error_line e) written → WritesError out out' e (status_after written 1)
   as_memory : {written : Bool} → Writes out out' (error_line error.Memory) written →
-      Refuses out out' e (status_after written 1)
+      WritesError out out' e (status_after written 1)
 
 -- What these words make the program write on standard output and standard error, from what either held to what it
 -- holds, and the status.

@@ -6,8 +6,9 @@ ghost use Rattle.fancy_vm.specs.Tasks.{options_of as run_options_of};
 ghost use Rattle.fancy_command.specs.Arguments as line;
 
 use fancy_analysis::analyze::AnalyzeContext;
-use fancy_compile::compile::{BytesMode, CompileOptions};
+use fancy_compile::compile::CompileOptions;
 use fancy_notation::numbers::number;
+use fancy_search::request::Request;
 use fancy_search::search::SearchOptions;
 use fancy_vm::vm::RunOptions;
 
@@ -81,9 +82,9 @@ fn limit_of(word: &str) -> Option<Limit>
 }
 
 impl Arguments {
-    /// No option, and this place.
-    fn at(pos: usize) -> Arguments
-        ensures { result ≡ line.at pos }
+    /// No option, and a search from this place on.
+    fn with_pos(pos: usize) -> Arguments
+        ensures { result ≡ line.with_pos pos }
     {
         Arguments {
             pos,
@@ -207,31 +208,45 @@ impl Arguments {
         Some(arguments)
     }
 
+    /// What they ask of a search.
+    pub fn request(&self) -> Request
+        ensures { result ≡ line.request self.now }
+    {
+        Request {
+            pos: self.pos,
+            compile_anchored: self.compile_anchored,
+            anchored: self.anchored,
+            not_continued: self.not_continued,
+            not_empty: self.not_empty,
+            end_text: self.end_text,
+            ascii: self.ascii,
+            longest: self.longest,
+            max_prog_size: self.max_prog,
+            max_nesting: Some(MOST_NESTING),
+            backtrack_limit: self.backtracks.unwrap_or(1_000_000),
+            step_limit: self.steps.unwrap_or(u64::MAX),
+        }
+    }
+
     /// How the tree is analysed.
     pub fn analysis(&self) -> AnalyzeContext
         ensures { result ≡ line.analysis self.now }
     {
-        AnalyzeContext {
-            explicit_capture_group_0: false,
-            find_not_empty: self.not_empty,
-            disallow_empty_match_at_eof_after_newline: self.end_text,
-            leftmost_longest: self.longest,
-        }
+        self.request().analysis()
     }
 
     /// How it is compiled.
     pub fn compilation(&self) -> CompileOptions
         ensures { result ≡ line.compilation self.now }
     {
-        CompileOptions {
-            anchored: self.compile_anchored,
-            contains_subroutines: false,
-            disallow_empty_match_at_eof_after_newline: self.end_text,
-            bytes_mode: BytesMode::Unicode,
-            unicode: !self.ascii,
-            max_prog_size: self.max_prog,
-            max_nesting: Some(MOST_NESTING),
-        }
+        self.request().compilation()
+    }
+
+    /// How its program is run.
+    pub fn running(&self) -> RunOptions
+        ensures { run_options_of result ≡ line.running self.now }
+    {
+        self.request().running()
     }
 
     /// The options of the search.
@@ -240,40 +255,21 @@ impl Arguments {
         ensures compilation { result.compilation ≡ line.compilation self.now }
         ensures run { run_options_of result.run ≡ line.running self.now }
     {
-        SearchOptions {
-            analysis: self.analysis(),
-            compilation: self.compilation(),
-            run: self.running(),
-        }
-    }
-
-    /// How its program is run.
-    pub fn running(&self) -> RunOptions
-        ensures { run_options_of result ≡ line.running self.now }
-    {
-        RunOptions {
-            pos: self.pos,
-            anchored: self.anchored,
-            continued: !self.not_continued,
-            not_empty: self.not_empty,
-            leftmost_longest: self.longest,
-            backtrack_limit: self.backtracks.unwrap_or(1_000_000),
-            step_limit: self.steps.unwrap_or(u64::MAX),
-        }
+        self.request().options()
     }
 }
 
-/// What the words after TREE and TEXT say: a place, where the first one is a number, and options, each at most
-/// once.
+/// What the words after TREE and TEXT say: a place, where the first one is a number, and options, each at most once.
+///
 /// None where a word can't stand where it stands, or a number does not fit or is missing.
 pub fn read_arguments(words: &[String]) -> Option<Arguments>
     ensures { result ≡ line.arguments_of (map string_bytes words.now) }
 {
     let Some((first, rest)) = words.split_first() else {
-        return Some(Arguments::at(0));
+        return Some(Arguments::with_pos(0));
     };
     match number(first.as_str()) {
-        Some(pos) => Arguments::at(pos).with_options(rest),
-        None => Arguments::at(0).with_options(words),
+        Some(pos) => Arguments::with_pos(pos).with_options(rest),
+        None => Arguments::with_pos(0).with_options(words),
     }
 }

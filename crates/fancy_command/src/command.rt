@@ -3,7 +3,7 @@
 ghost use Rattle.std.specs.Prelude.{◌≡◌, IfSome, IsTrue, map, option_map, string_bytes};
 ghost use Rattle.fancy_meaning.specs.Places.{is_place};
 ghost use Rattle.fancy_command.specs.Arguments.{question_of};
-ghost use Rattle.fancy_command.specs.Commands.{Finds, Performs, Refuses, Shows, asked, status_after};
+ghost use Rattle.fancy_command.specs.Commands.{AnswersTo, Performs, WritesError, Shows, asked, status_after};
 
 use crate::arguments::{Arguments, read_arguments};
 use crate::printing::{answer_line, depth_line, error_line, memory_line, usage_line, write_line};
@@ -27,7 +27,7 @@ struct Question<'a> {
     arguments: Arguments,
 }
 
-/// What the words ask; none where they ask nothing, or the search is to begin inside a character.
+/// The question of a command line; none where the line is invalid, or the search is to begin inside a character.
 fn ask(args: &[String]) -> Option<Question<'_>>
     ensures asks { option_map asked result ≡ question_of (map string_bytes args.now) }
     ensures begins { IfSome result (λ q. IsTrue (is_place q.text.now q.arguments.pos)) }
@@ -51,7 +51,7 @@ impl Question<'_> {
     /// The answer of the search.
     fn find(&self, alloc: Global) -> Result<Option<Vec<usize>>, Error>
         requires { IsTrue (is_place self.now.text.now self.now.arguments.pos) }
-        ensures { Finds (asked self.now) result }
+        ensures { AnswersTo (asked self.now) result }
     {
         let tree = read_tree(alloc, self.tree)?;
         let options = self.arguments.options();
@@ -76,9 +76,9 @@ fn status(written: bool, wanted: u8) -> u8
     if written { wanted } else { 3 }
 }
 
-/// Writes the line of a refusal: its name, or that memory ran out where there is none for the name.
+/// Writes the line of an error: its name, or that memory ran out where there is none for the name.
 fn report<O: Write>(alloc: Global, error: &Error, out: &mut O) -> u8
-    ensures { Refuses (O.contents out.old) (O.contents out.new) error.now result }
+    ensures { WritesError (O.contents out.old) (O.contents out.new) error.now result }
 {
     match error_line(alloc, error) {
         Ok(line) => status(write_line(out, line.as_bytes()), 1),
@@ -91,8 +91,8 @@ fn report<O: Write>(alloc: Global, error: &Error, out: &mut O) -> u8
 ///
 /// The answer is written on `out` with status 0: start and end of each group in bytes of TEXT, or `none`. A refusal
 /// is written there by its name with status 1; a TREE that nests deeper than `MOST_DEPTH` is not read, and its refusal
-/// is `RecursionExceeded`. Other words, or a place inside a character of TEXT, give a line on
-/// `err` with status 2, and TREE is not read. Where a write fails, the status is 3, and no more is written: what was
+/// is `RecursionExceeded`. An invalid command line, or a place inside a character of TEXT, gives a line on `err` with
+/// status 2, and TREE is not read. Where a write fails, the status is 3, and no more is written: what was
 /// written before it is a part of the line from its start.
 pub fn command<O: Write, E: Write>(alloc: Global, args: &[String], out: &mut O, err: &mut E) -> u8
     ensures { Performs
