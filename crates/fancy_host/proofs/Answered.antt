@@ -1,5 +1,5 @@
 -- What the calls of a host need of each other.
-use Rattle.std.proofs.Common.{◌≡◌, ◌<◌, ◌≤◌, ℕ, Bool, true, false, List, Option, Some, None, Result, IsFalse, refl, sym, ap, ◌∙◌, subst}
+use Rattle.std.proofs.Common.{◌≡◌, ◌<◌, ◌≤◌, ℕ, Bool, true, false, List, Option, Some, None, Result, IsFalse, IsTrue, refl, sym, ap, ◌∙◌, subst}
 use Rattle.std.specs.Prelude.{IsUtf8}
 use Rattle.std.specs.Str.Lossy.{utf8_valid_len}
 use Rattle.std.specs.Option.{is_some}
@@ -22,7 +22,7 @@ use Rattle.fancy_host.specs.declared.searches.Searcher.{Searcher}
 use Rattle.fancy_host.specs.declared.outcome.FancyOutcome.{FancyOutcome}
 use Rattle.fancy_notation.specs.Depth.{depth}
 use Rattle.fancy_host.specs.Codes.{no_program, too_deep, unfit}
-use Rattle.fancy_host.specs.Hosted.{Answers, Compiles, FailsToCompile, Finds, IsMadeFrom, IsPromised, analysis, asked_of, coded, compilation, compiled, does_not_fit, failure, fails, for_no_tree, found, groups, holds, in_no_text, nests_too_deep, not_utf8, running, spells_no_text}
+use Rattle.fancy_host.specs.Hosted.{Answers, Compiles, FailsToCompile, FindsFirst, IsMadeFrom, IsPromised, analysis, asked_of, coded, compilation, compiled, does_not_fit, failure, fails, for_no_tree, found, groups, holds, in_no_text, nests_too_deep, not_utf8, running, spells_no_text}
 
 -- where nothing is said to be, there is nothing
 pub none_there : {X : Type 0} → (m : Option X) (b : Bool) → is_some m ≡ b → b ≡ false → m ≡ None
@@ -33,6 +33,10 @@ module _ (c : Compiled) (text : List ℕ) (o : FancyOptions) (r : plain.RunOptio
   pub unfit_by : run_fits (record { program = prog_of (program c); text = text; options = r }) ≡ false →
       IsFalse (run_fits (record { program = prog_of (program c); text = text; options = running o }))
   unfit_by h = subst (λ x. run_fits (record { program = prog_of (program c); text = text; options = x }) ≡ false) same h
+
+  pub fits_by : run_fits (record { program = prog_of (program c); text = text; options = r }) ≡ true →
+      IsTrue (run_fits (record { program = prog_of (program c); text = text; options = running o }))
+  fits_by h = subst (λ x. run_fits (record { program = prog_of (program c); text = text; options = x }) ≡ true) same h
 
   -- what is promised of the options of a run is promised of those of a host
   pub promised_by : (answer : Result (Option (Vec ℕ Global)) Error) →
@@ -81,17 +85,17 @@ module _ (text : List ℕ) (o : FancyOptions) (outcome : FancyOutcome) where
 
   module _ (old : List ℕ) where
     pub unread_finds : (held : Option Searcher) (byte : ℕ) → ¬ IsUtf8 text → outcome ≡ not_utf8 byte → byte ≡ utf8_valid_len text →
-        Finds text o old held old outcome
-    unread_finds held byte bad is at = subst (λ x. Finds text o old held old x) (sym (is ∙ ap not_utf8 at)) (in_no_text bad)
+        FindsFirst text o old held old outcome
+    unread_finds held byte bad is at = subst (λ x. FindsFirst text o old held old x) (sym (is ∙ ap not_utf8 at)) (in_no_text bad)
 
-    pub no_tree_finds : (held : Option Searcher) → IsUtf8 text → held ≡ None → outcome ≡ coded no_program → Finds text o old held old outcome
+    pub no_tree_finds : (held : Option Searcher) → IsUtf8 text → held ≡ None → outcome ≡ coded no_program → FindsFirst text o old held old outcome
     no_tree_finds held utf8 nothing is =
-        subst (λ h. Finds text o old h old outcome) (sym nothing) (subst (λ x. Finds text o old None old x) (sym is) (for_no_tree utf8))
+        subst (λ h. FindsFirst text o old h old outcome) (sym nothing) (subst (λ x. FindsFirst text o old None old x) (sym is) (for_no_tree utf8))
 
     pub found_by : (read new : List ℕ) (held : Option Searcher) (s taken : Searcher) → read ≡ text → IsUtf8 text → held ≡ Some s → taken ≡ s →
-        Answers taken read o old new outcome → Finds text o old held new outcome
+        Answers taken read o old new outcome → FindsFirst text o old held new outcome
     found_by read new held s taken same utf8 there is h =
-        subst (λ m. Finds text o old m new outcome) (sym there)
+        subst (λ m. FindsFirst text o old m new outcome) (sym there)
         (found utf8 (subst (λ t. Answers s t o old new outcome) same (subst (λ x. Answers x read o old new outcome) is h)))
 
     pub unfit_answers : (s : Searcher) (r : plain.RunOptions) → r ≡ running o →

@@ -1,7 +1,6 @@
 pub mod Answered
-pub mod Behind
+pub mod HandleRows
 pub mod Listed
-pub mod Steps
 pub mod Values
 pub mod Writing
 pub mod HandleLaws

@@ -1,5 +1,5 @@
 -- What the calls of a host answer.
-use Rattle.std.specs.Prelude.{◌≡◌, ◌<◌, ◌≤◌, ℕ, ◌+◌, ◌-◌, ◌/◌, ◌^◌, Bool, true, false, not, IsFalse, IsUtf8, List, [], ◌∷◌, ◌++◌, length, take, drop, min, Option, None, Some, option_map, unwrap_or, Result, Ok, Err, if◌then◌else◌, ◌==◌}
+use Rattle.std.specs.Prelude.{◌<◌, ◌≤◌, ℕ, ◌+◌, ◌-◌, ◌/◌, ◌^◌, true, false, not, IsFalse, IsTrue, IsUtf8, List, ◌∷◌, ◌++◌, length, take, drop, min, Option, None, Some, option_map, unwrap_or, Result, Ok, Err, if◌then◌else◌, ◌==◌}
 use Rattle.std.specs.Str.Lossy.{utf8_valid_len}
 use Rattle.std.specs.declared.vec.Vec.{Vec}
 use Rattle.std.specs.declared.alloc.Global.{Global}
@@ -22,7 +22,8 @@ use Rattle.fancy_expr.specs.Sound.{IsWellFormedTree}
 use Rattle.fancy_expr.specs.Views as views
 use Rattle.fancy_info.specs.declared.context.AnalyzeContext.{AnalyzeContext}
 use Rattle.fancy_compile.specs.declared.options.CompileOptions.{CompileOptions}
-use Rattle.fancy_compile.specs.declared.options.BytesMode.TheVariants as mode
+use Rattle.fancy_search.specs.declared.request.Request.{Request}
+use Rattle.fancy_search.specs.Requests as asked
 use Rattle.fancy_program.specs.Programs.{prog_of}
 use Rattle.fancy_search.specs.declared.search.Compiled.{Compiled}
 use Rattle.fancy_search.specs.Searches.{Bounds, IsCompiledFrom, IsRefusedAs, Promises, input_of, program}
@@ -50,35 +51,31 @@ default_options = record {
   longest = false;
 }
 
-abbrev pub analysis : FancyOptions → AnalyzeContext
-analysis o = record {
-  explicit_capture_group_0 = false;
-  find_not_empty = o.not_empty;
-  disallow_empty_match_at_eof_after_newline = o.end_text;
-  leftmost_longest = o.longest;
-}
-
-abbrev pub compilation : FancyOptions → CompileOptions
-compilation o = record {
-  anchored = o.compile_anchored;
-  contains_subroutines = false;
-  disallow_empty_match_at_eof_after_newline = o.end_text;
-  bytes_mode = mode.Unicode;
-  unicode = not o.ascii;
+-- what they ask of a search
+abbrev pub request : FancyOptions → Request
+request o = record {
+  pos = o.pos;
+  compile_anchored = o.compile_anchored;
+  anchored = o.anchored;
+  not_continued = o.not_continued;
+  not_empty = o.not_empty;
+  end_text = o.end_text;
+  ascii = o.ascii;
+  longest = o.longest;
   max_prog_size = Some o.max_prog_size;
   max_nesting = Some o.max_nesting;
-}
-
-abbrev pub running : FancyOptions → plain.RunOptions
-running o = record {
-  pos = o.pos;
-  anchored = o.anchored;
-  continued = not o.not_continued;
-  not_empty = o.not_empty;
-  leftmost_longest = o.longest;
   backtrack_limit = o.backtrack_limit;
   step_limit = o.step_limit;
 }
+
+abbrev pub analysis : FancyOptions → AnalyzeContext
+analysis o = asked.analysis (request o)
+
+abbrev pub compilation : FancyOptions → CompileOptions
+compilation o = asked.compilation (request o)
+
+abbrev pub running : FancyOptions → plain.RunOptions
+running o = asked.running (request o)
 
 -- ---- outcomes
 
@@ -86,7 +83,7 @@ running o = record {
 abbrev pub coded : ℕ → FancyOutcome
 coded code = record { code = code; byte = usize_max; group = usize_max; count = 0; next = usize_max }
 
--- the same with so many
+-- the outcome with so many
 abbrev pub with_count : ℕ → FancyOutcome → FancyOutcome
 with_count count outcome = record outcome { count = count }
 
@@ -173,17 +170,18 @@ abbrev pub IsPromised : Compiled → List ℕ → FancyOptions → Result (Optio
 IsPromised c text o answer =
     (i : Input) → IsCompiledFrom i c → Promises i text (running o) answer × Bounds i text (running o) answer
 
--- what a search writes, and its outcome
+-- what a search writes, and its outcome: it is unfit exactly where the options do not fit the program and the text
 pub data Answers (s : Searcher) (text : List ℕ) (o : FancyOptions) (old : List ℕ) : List ℕ → FancyOutcome → Type 0 where
   does_not_fit : IsFalse (run_fits (record { program = prog_of (program s.compiled); text = text; options = running o })) →
       Answers s text o old old (coded unfit)
-  answered : (answer : Result (Option (Vec ℕ Global)) Error) → IsPromised s.compiled text o answer →
+  answered : IsTrue (run_fits (record { program = prog_of (program s.compiled); text = text; options = running o })) →
+      (answer : Result (Option (Vec ℕ Global)) Error) → IsPromised s.compiled text o answer →
       Answers s text o old (written answer old) (outcome_of text answer)
 
--- the same by a program that may hold no tree, in bytes that may be no text
-pub data Finds (text : List ℕ) (o : FancyOptions) (old : List ℕ) :
+-- what a search answers by a program that may hold no tree, in bytes that may be no text
+pub data FindsFirst (text : List ℕ) (o : FancyOptions) (old : List ℕ) :
     Option Searcher → List ℕ → FancyOutcome → Type 0 where
-  in_no_text : {held : Option Searcher} → ¬ IsUtf8 text → Finds text o old held old (not_utf8 (utf8_valid_len text))
-  for_no_tree : IsUtf8 text → Finds text o old None old (coded no_program)
+  in_no_text : {held : Option Searcher} → ¬ IsUtf8 text → FindsFirst text o old held old (not_utf8 (utf8_valid_len text))
+  for_no_tree : IsUtf8 text → FindsFirst text o old None old (coded no_program)
   found : {s : Searcher} {new : List ℕ} {outcome : FancyOutcome} → IsUtf8 text → Answers s text o old new outcome →
-      Finds text o old (Some s) new outcome
+      FindsFirst text o old (Some s) new outcome

@@ -1,5 +1,5 @@
 -- What a host is answered that asks for all matches of a text.
-use Rattle.std.specs.Prelude.{◌≡◌, ◌≤◌, ℕ, ◌/◌, IsFalse, IsUtf8, List, [], ◌∷◌, ◌++◌, length, map, Option, None, Some, Result, Ok, Err, if◌then◌else◌}
+use Rattle.std.specs.Prelude.{◌≡◌, ◌≤◌, ℕ, ◌/◌, IsFalse, IsTrue, IsUtf8, List, [], ◌∷◌, length, map, Option, None, Some, if◌then◌else◌}
 use Rattle.std.specs.List.{flat_map}
 use Rattle.std.specs.Str.Lossy.{utf8_valid_len}
 use Rattle.fancy_meaning.specs.Fits.{run_fits}
@@ -10,8 +10,9 @@ use Rattle.fancy_expr.specs.declared.error.Error.{Error}
 use Rattle.fancy_vm.specs.Outcomes.{first_pair}
 use Rattle.fancy_program.specs.Programs.{prog_of}
 use Rattle.fancy_search.specs.declared.search.Compiled.{Compiled}
-use Rattle.fancy_search.specs.Searches.{IsCompiledFrom, Promises, program}
-use Rattle.fancy_matches.specs.Listing.{Standing, begun_at, left, options_at}
+use Rattle.fancy_search.specs.Searches.{IsCompiledFrom, program}
+use Rattle.fancy_matches.specs.Listing.{ComesTo, Standing, begun_at, left}
+use Rattle.fancy_matches.specs.Regexes.{FailsAt}
 use Rattle.fancy_host.specs.declared.options.FancyOptions.{FancyOptions}
 use Rattle.fancy_host.specs.declared.outcome.FancyOutcome.{FancyOutcome}
 use Rattle.fancy_host.specs.declared.searches.Searcher.{Searcher}
@@ -42,49 +43,48 @@ spans_left i text o s = map first_pair (left (plan i) text o s)
 -- ---- a tree that is compiled, a text, and the options of all searches
 
 module _ (c : Compiled) (text : List ℕ) (o : RunOptions) where
-  -- These spans are the first of the list that stands at `from`, and the others are the list that stands at `to`.
-  abbrev pub AreFirst : Standing → List Span → Standing → Type 0
-  AreFirst from spans to = (i : Input) → IsCompiledFrom i c → spans_left i text o from ≡ spans ++ spans_left i text o to
+  -- the list comes from the one standing to the other by matches with these spans
+  abbrev pub ComesBy : Standing → List Span → Standing → Type 0
+  ComesBy from spans to =
+      (i : Input) → IsCompiledFrom i c →
+      (ms : List (List ℕ)) × ((map first_pair ms ≡ spans) × ComesTo (plan i) text o from ms to)
 
-  -- the list has ended
-  abbrev pub HasEnded : Standing → Type 0
-  HasEnded s = (i : Input) → IsCompiledFrom i c → spans_left i text o s ≡ []
+  -- these are the spans of all matches that are left
+  abbrev pub AreAll : Standing → List Span → Type 0
+  AreAll s spans = (i : Input) → IsCompiledFrom i c → spans_left i text o s ≡ spans
 
-  -- the next search of the list fails so, as is promised
-  abbrev pub FailsBy : Standing → Error → Type 0
-  FailsBy s e = (i : Input) → IsCompiledFrom i c → Promises i text (options_at o s) (Err e)
+  -- the next search of the list answers this error, as is promised
+  abbrev pub Fails : Standing → Error → Type 0
+  Fails s e = (i : Input) → IsCompiledFrom i c → FailsAt i text o s e
 
-  -- the next match of the list, or none, or why it is not known, and where the list then stands
-  abbrev pub StepsTo : Standing → Result (Option Span) Error → Standing → Type 0
-  StepsTo from (Ok None) to = AreFirst from [] to × HasEnded to
-  StepsTo from (Ok (Some span)) to = AreFirst from (span ∷ []) to
-  StepsTo from (Err e) to = AreFirst from [] to × FailsBy to e
-
-  -- why no more than so many matches are written: there is no room for one more, the list has ended, or its next search
-  -- fails
-  pub data Stops (spaces count : ℕ) (to : Standing) : FancyOutcome → Type 0 where
-    is_full : count ≡ spaces → Stops spaces count to (coded ok)
-    has_ended : HasEnded to → Stops spaces count to (coded no_match)
-    fails : (e : Error) → FailsBy to e → Stops spaces count to (failure e)
+  -- Why these spans are written and no more, where there is room for so many: there is no room for one more, and the
+  -- list stands after them; they are all, and the list has ended; or the list comes after them to a search that fails,
+  -- and stands before it.
+  pub data Stops (spaces : ℕ) (from : Standing) (spans : List Span) : Standing → FancyOutcome → Type 0 where
+    is_full : {to : Standing} → length spans ≡ spaces → ComesBy from spans to → Stops spaces from spans to (coded ok)
+    has_ended : {to : Standing} → AreAll from spans → AreAll to [] → Stops spaces from spans to (coded no_match)
+    fails : {to : Standing} (e : Error) → ComesBy from spans to → Fails to e → Stops spaces from spans to (failure e)
 
   -- what is written of the list that stands at `from`, where it then stands, and the outcome
   pub data Writes (from : Standing) (old : List ℕ) : Standing → List ℕ → FancyOutcome → Type 0 where
     writes : {to : Standing} {outcome : FancyOutcome} → (spans : List Span) → length spans ≤ room old →
-        AreFirst from spans to → Stops (room old) (length spans) to outcome →
+        Stops (room old) from spans to outcome →
         Writes from old to (over (numbers_of spans) old) (with_count (length spans) outcome)
 
 -- ---- calls
 
--- what a program writes of a list, where the list then stands, and the outcome
+-- what a program writes of a list, where the list then stands, and the outcome: it is unfit exactly where the options do
+-- not fit the program
 pub data Lists (s : Searcher) (text : List ℕ) (o : FancyOptions) (from : FancyStanding) (old : List ℕ) :
     FancyStanding → List ℕ → FancyOutcome → Type 0 where
   does_not_fit : IsFalse (run_fits (record { program = prog_of (program s.compiled); text = []; options = listing o })) →
       Lists s text o from old from old (coded unfit)
   listed : {to : FancyStanding} {new : List ℕ} {outcome : FancyOutcome} →
+      IsTrue (run_fits (record { program = prog_of (program s.compiled); text = []; options = listing o })) →
       Writes s.compiled text (listing o) (standing_of from) old (standing_of to) new outcome →
       Lists s text o from old to new outcome
 
--- the same by a program that may hold no tree, in bytes that may be no text
+-- what is listed by a program that may hold no tree, in bytes that may be no text
 pub data FindsAll (text : List ℕ) (o : FancyOptions) (from : FancyStanding) (old : List ℕ) :
     Option Searcher → FancyStanding → List ℕ → FancyOutcome → Type 0 where
   in_no_text : {held : Option Searcher} → ¬ IsUtf8 text →

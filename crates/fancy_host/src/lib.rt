@@ -11,7 +11,7 @@ mod standing;
 
 ghost use Rattle.std.specs.Prelude.{◌≡◌, None, length};
 ghost use Rattle.fancy_host.specs.Codes.{name_of};
-ghost use Rattle.fancy_host.specs.Hosted.{Compiles, Finds, default_options, group_count, over, tree_of};
+ghost use Rattle.fancy_host.specs.Hosted.{Compiles, FindsFirst, default_options, group_count, over, tree_of};
 ghost use Rattle.fancy_host.specs.Lists.{FindsAll};
 
 use fancy_notation::depth::depth;
@@ -73,7 +73,7 @@ pub extern "C" fn fancy_find(
     options: &FancyOptions,
     spans: &mut [usize],
 ) -> FancyOutcome
-    ensures finds { Finds
+    ensures finds { FindsFirst
         text.now
         options.now
         spans.old

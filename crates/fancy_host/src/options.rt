@@ -5,8 +5,7 @@ ghost use Rattle.fancy_vm.specs.Tasks.{options_of as run_options_of};
 ghost use Rattle.fancy_host.specs.Hosted as hosted;
 ghost use Rattle.fancy_host.specs.Lists as lists;
 
-use fancy_analysis::analyze::AnalyzeContext;
-use fancy_compile::compile::{BytesMode, CompileOptions};
+use fancy_search::request::Request;
 use fancy_vm::vm::RunOptions;
 
 /// The options of a tree and of a search.
@@ -27,7 +26,7 @@ pub struct FancyOptions {
     pub step_limit: u64,
     /// Only the first start is tried: said to the compiler.
     pub compile_anchored: bool,
-    /// The same, said to the search.
+    /// Only the first start is tried: said to the search.
     pub anchored: bool,
     /// No match ended at `pos`.
     pub not_continued: bool,
@@ -64,49 +63,34 @@ impl Default for FancyOptions {
 }
 
 impl FancyOptions {
-    /// How the tree is analysed.
-    pub fn analysis(&self) -> AnalyzeContext
-        ensures { result ≡ hosted.analysis self.now }
+    /// What they ask of a search.
+    pub fn request(&self) -> Request
+        ensures { result ≡ hosted.request self.now }
     {
-        AnalyzeContext {
-            explicit_capture_group_0: false,
-            find_not_empty: self.not_empty,
-            disallow_empty_match_at_eof_after_newline: self.end_text,
-            leftmost_longest: self.longest,
-        }
-    }
-
-    /// How it is compiled.
-    pub fn compilation(&self) -> CompileOptions
-        ensures { result ≡ hosted.compilation self.now }
-    {
-        CompileOptions {
-            anchored: self.compile_anchored,
-            contains_subroutines: false,
-            disallow_empty_match_at_eof_after_newline: self.end_text,
-            bytes_mode: BytesMode::Unicode,
-            unicode: !self.ascii,
+        Request {
+            pos: self.pos,
+            compile_anchored: self.compile_anchored,
+            anchored: self.anchored,
+            not_continued: self.not_continued,
+            not_empty: self.not_empty,
+            end_text: self.end_text,
+            ascii: self.ascii,
+            longest: self.longest,
             max_prog_size: Some(self.max_prog_size),
             max_nesting: Some(self.max_nesting),
-        }
-    }
-
-    /// How its program is run.
-    pub fn running(&self) -> RunOptions
-        ensures { run_options_of result ≡ hosted.running self.now }
-    {
-        RunOptions {
-            pos: self.pos,
-            anchored: self.anchored,
-            continued: !self.not_continued,
-            not_empty: self.not_empty,
-            leftmost_longest: self.longest,
             backtrack_limit: self.backtrack_limit,
             step_limit: self.step_limit,
         }
     }
 
-    /// The same for all matches, which say themselves where a search begins and whether it is continued.
+    /// How the program of the tree is run.
+    pub fn running(&self) -> RunOptions
+        ensures { run_options_of result ≡ hosted.running self.now }
+    {
+        self.request().running()
+    }
+
+    /// How all its matches are searched for: the list says itself where a search begins and whether it is continued.
     pub fn listing(&self) -> RunOptions
         ensures { run_options_of result ≡ lists.listing self.now }
     {

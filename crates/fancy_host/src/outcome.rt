@@ -161,7 +161,7 @@ impl FancyOutcome {
         }
     }
 
-    /// The same with so many.
+    /// The outcome with so many.
     pub fn with_count(self, count: usize) -> FancyOutcome
         ensures { result ≡ hosted.with_count count self }
     {

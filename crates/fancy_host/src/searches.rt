@@ -2,20 +2,19 @@
 
 ghost use Rattle.std.specs.Prelude.{◌≡◌, [], IsTrue, MatchResult};
 ghost use Rattle.fancy_meaning.specs.Fits.{run_fits};
-ghost use Rattle.fancy_meaning.specs.Premises.{Input};
 ghost use Rattle.fancy_vm.specs.Tasks.{options_of as run_options_of, task_of};
-ghost use Rattle.fancy_search.specs.Searches.{IsCompiledFrom, program};
+ghost use Rattle.fancy_search.specs.Searches.{HasSource, program};
 ghost use Rattle.fancy_matches.specs.Regexes.{standing_of};
 
 use crate::options::FancyOptions;
 use crate::outcome::{FancyOutcome, NO_MATCH, OK, write_answer};
 use crate::standing::FancyStanding;
-use fancy_characters::places::is_place;
 use fancy_expr::error::Error;
+use fancy_matches::searches::next_match;
 use fancy_matches::standing::Standing;
 use fancy_notation::notation::read_tree;
 use fancy_search::search::Compiled;
-use fancy_vm::vm::{RunOptions, Scratch, run_spans};
+use fancy_vm::vm::{RunOptions, Scratch};
 use std::alloc::Global;
 
 /// A compiled tree, and the memory that its searches use again.
@@ -23,13 +22,13 @@ use std::alloc::Global;
 pub struct Searcher {
     compiled: Compiled,
     scratch: Scratch,
-    ghost source: { ∥ ((i : Input) × IsCompiledFrom i compiled) ∥₁ },
+    ghost source: { HasSource compiled },
 }
 
 impl Searcher {
     ghost use Rattle.fancy_host.specs.Hosted.{Answers, FailsToCompile, IsMadeFrom};
     ghost use Rattle.fancy_host.specs.Hosted as hosted;
-    ghost use Rattle.fancy_host.specs.Lists.{Lists, StepsTo, Writes};
+    ghost use Rattle.fancy_host.specs.Lists.{Lists, Writes};
 
     /// Reads and compiles the tree that a text spells.
     pub fn compile(
@@ -43,7 +42,8 @@ impl Searcher {
             (λ error. FailsToCompile tree.now options.now error) }
     {
         let tree = read_tree(alloc, tree)?;
-        let compiled = Compiled::new(alloc, &tree, options.analysis(), options.compilation())?;
+        let request = options.request();
+        let compiled = Compiled::new(alloc, &tree, request.analysis(), request.compilation())?;
         let scratch = Scratch::new(alloc);
         Ok(Box::new(alloc, Searcher { compiled, scratch })?)
     }
@@ -77,40 +77,6 @@ impl Searcher {
         FancyOutcome::of_answer(text.as_bytes(), &answer)
     }
 
-    /// The span of the next match of the list that stands so, which then stands after it; where a search fails, before
-    /// that search.
-    fn next_span(
-        &mut self,
-        alloc: Global,
-        text: &str,
-        options: &RunOptions,
-        standing: &mut Standing,
-    ) -> Result<Option<(usize, usize)>, Error>
-        requires { IsTrue (run_fits (task_of (program self.old.compiled) [] options.now)) }
-        ensures list { StepsTo
-            self.old.compiled
-            text.now
-            (run_options_of options.now)
-            (standing_of standing.old)
-            result
-            (standing_of standing.new) }
-        ensures keeps { self.new.compiled ≡ self.old.compiled }
-    {
-        'searches: while is_place(text.as_bytes(), standing.pos) {
-            let here = standing.options(options);
-            let prog = self.compiled.program();
-            match run_spans(alloc, prog, text, &here, &mut self.scratch)? {
-                None => standing.pos = usize::MAX,
-                Some((start, end)) => {
-                    if standing.pass(text, start, end) {
-                        return Ok(Some((start, end)));
-                    }
-                }
-            }
-        }
-        Ok(None)
-    }
-
     /// Writes the spans of the matches of the list that stands so, as many as there is room for.
     fn write_spans(
         &mut self,
@@ -134,11 +100,18 @@ impl Searcher {
     {
         let room = spans.len() / 2;
         for count in 0..room {
-            match self.next_span(alloc, text, options, standing) {
+            match next_match(
+                alloc,
+                &self.compiled,
+                text,
+                options,
+                standing,
+                &mut self.scratch,
+            ) {
                 Ok(None) => return FancyOutcome::coded(NO_MATCH).with_count(count),
-                Ok(Some((start, end))) => {
-                    spans[2 * count] = start;
-                    spans[2 * count + 1] = end;
+                Ok(Some(found)) => {
+                    spans[2 * count] = found.start();
+                    spans[2 * count + 1] = found.end();
                 }
                 Err(error) => return FancyOutcome::of_error(&error).with_count(count),
             }

@@ -21,7 +21,7 @@ use Rattle.std.proofs.alloc.Calls.{handle_tells}
 use Rattle.std.proofs.ResultValues.{and_tt}
 use Rattle.std.proofs.raw_atomic.Walks.{proved_at}
 use Rattle.fancy_host.proofs.Values.{al, both}
-use Rattle.fancy_host.proofs.Behind.{R, Z, LZ, Handle, none_in}
+use Rattle.fancy_host.proofs.HandleRows.{R, Z, LZ, Handle, none_in}
 use Rattle.fancy_host.specs.contracts.program.Handle.empty.{ended, clauses}
 use Rattle.fancy_host.specs.contracts.program.Handle.empty.Key.{name as #self}
 use Rattle.fancy_host.proofs.program.Handle.empty.Statement.{statement}

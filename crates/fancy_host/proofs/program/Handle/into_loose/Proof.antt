@@ -23,7 +23,7 @@ use Rattle.std.specs.Prelude.{Option}
 use Rattle.std.specs.Option.{IsSome}
 use Rattle.std.specs.contracts.impls.GlobalAllocator.TheImpl.{ghosts}
 use Rattle.fancy_host.proofs.Values.{both, loose_good, loose_in, loose_out}
-use Rattle.fancy_host.proofs.Behind.{R, Z, LZ, Box, Handle, FromHandle, what_is_there}
+use Rattle.fancy_host.proofs.HandleRows.{R, Z, LZ, Box, Handle, FromHandle, what_is_there}
 use Rattle.fancy_host.specs.contracts.program.Handle.into_loose.{ended, clauses}
 use Rattle.fancy_host.specs.contracts.program.Handle.into_loose.Key.{name as #self}
 use Rattle.fancy_host.proofs.program.Handle.into_loose.Statement.{statement}

@@ -18,7 +18,7 @@ use Rattle.std.specs.Prelude.{Some}
 use Rattle.std.proofs.raw_atomic.Walks.{proved_at}
 use Rattle.std.specs.contracts.impls.GlobalAllocator.TheImpl.{ghosts}
 use Rattle.fancy_host.proofs.Values.{both, loose_good, loose_in, loose_out}
-use Rattle.fancy_host.proofs.Behind.{R, Z, LZ, Box, Handle, FromBox}
+use Rattle.fancy_host.proofs.HandleRows.{R, Z, LZ, Box, Handle, FromBox}
 use Rattle.fancy_host.specs.contracts.program.Handle.of_loose.{ended, clauses}
 use Rattle.fancy_host.specs.contracts.program.Handle.of_loose.Key.{name as #self}
 use Rattle.fancy_host.proofs.program.Handle.of_loose.Statement.{statement}

@@ -1,5 +1,6 @@
-use Rattle.std.proofs.Common.{sym, ap, subst}
+use Rattle.std.proofs.Common.{sym, ap, ◌∙◌, subst}
 use Rattle.std.proofs.lemmas.Result.{err_from_is_err_and}
+use Rattle.fancy_search.specs.Requests as asked
 use Rattle.fancy_search.specs.Searches.{IsCompiledFrom}
 use Rattle.fancy_host.specs.Hosted.{asked_of, refused, unread, without_memory}
 use Rattle.fancy_host.proofs.Answered.{compiled_by, refused_by}
@@ -15,7 +16,9 @@ returns-in_err-compiled c =
     let p = err_from_is_err_and c.from_residual-in_err-compiled.result c.from_residual-in_err-compiled.ensures.1 in
     rw (p.1, p.2)
     (refused {t = c.in_ok-tree.tree} c.in_ok-tree.ensures.answer
-    (refused_by c.in_ok-tree.tree c.args.options.now c.analysis.result c.compilation.result c.analysis.ensures c.compilation.ensures _ c.in_err-compiled.ensures))
+    (refused_by c.in_ok-tree.tree c.args.options.now c.analysis.result c.compilation.result
+    (c.analysis.ensures ∙ ap asked.analysis c.request-request.ensures) (c.compilation.ensures ∙ ap asked.compilation c.request-request.ensures) _
+    c.in_err-compiled.ensures))
 
 pub returns-in_err-new : goal.returns-in_err-new
 returns-in_err-new c =
@@ -24,6 +27,8 @@ returns-in_err-new c =
 
 pub returns : goal.returns
 returns c =
-    let from = compiled_by c.in_ok-tree.tree c.args.options.now c.analysis.result c.compilation.result c.analysis.ensures c.compilation.ensures c.in_ok-compiled.compiled c.in_ok-compiled.ensures in
+    let from = compiled_by c.in_ok-tree.tree c.args.options.now c.analysis.result c.compilation.result (c.analysis.ensures ∙ ap asked.analysis
+    c.request-request.ensures) (c.compilation.ensures ∙ ap asked.compilation c.request-request.ensures) c.in_ok-compiled.compiled c.in_ok-compiled.ensures in
     let kept = ap (λ s. s.compiled) c.in_ok-new.ensures.ok in
-    record { tree = c.in_ok-tree.tree; read = c.in_ok-tree.ensures.answer; from = subst (λ x. IsCompiledFrom (asked_of c.in_ok-tree.tree c.args.options.now) x) (sym kept) from }
+    record { tree = c.in_ok-tree.tree; read = c.in_ok-tree.ensures.answer; from = subst
+    (λ x. IsCompiledFrom (asked_of c.in_ok-tree.tree c.args.options.now) x) (sym kept) from }

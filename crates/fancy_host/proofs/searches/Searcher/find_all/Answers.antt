@@ -31,7 +31,9 @@ returns-clause-lists c =
     let new = c.write_spans-outcome.new.spans in
     let outcome = c.write_spans-outcome.result in
     let to = matches.standing_of c.write_spans-outcome.new.standing in
+    let fits = sym c.fits.ensures ∙ c.if-not-fits.false in
     listed
+    (subst (λ r. run_fits (record { program = prog_of (program s.compiled); text = []; options = r }) ≡ true) c.listing-listing.ensures fits)
     (subst (λ t. Writes s.compiled text (listing o) (standing_of c.args.standing.now) old t new outcome) (sym c.of.ensures)
     (subst (λ from. Writes s.compiled text (listing o) from old to new outcome) c.standing-list.ensures
     (subst (λ r. Writes s.compiled text r (matches.standing_of c.standing-list.result) old to new outcome) c.listing-listing.ensures

@@ -1,4 +1,4 @@
--- The rows of what lies behind a handle, and the machine values of a handle.
+-- The rows of what a handle points to, and the machine values of a handle.
 use Rattle.std.proofs.Common.{List, [], ◌∷◌, refl, w64}
 use seplogic.Ra.Ura.{Ura}
 use mir.Val.{Val, vint}
