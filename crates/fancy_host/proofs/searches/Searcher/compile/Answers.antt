@@ -30,5 +30,9 @@ returns c =
     let from = compiled_by c.in_ok-tree.tree c.args.options.now c.analysis.result c.compilation.result (c.analysis.ensures ∙ ap asked.analysis
     c.request-request.ensures) (c.compilation.ensures ∙ ap asked.compilation c.request-request.ensures) c.in_ok-compiled.compiled c.in_ok-compiled.ensures in
     let kept = ap (λ s. s.compiled) c.in_ok-new.ensures.ok in
-    record { tree = c.in_ok-tree.tree; read = c.in_ok-tree.ensures.answer; from = subst
-    (λ x. IsCompiledFrom (asked_of c.in_ok-tree.tree c.args.options.now) x) (sym kept) from }
+    record {
+      tree = c.in_ok-tree.tree;
+      read = c.in_ok-tree.ensures.answer;
+      from = subst
+          (λ x. IsCompiledFrom (asked_of c.in_ok-tree.tree c.args.options.now) x) (sym kept) from;
+    }
