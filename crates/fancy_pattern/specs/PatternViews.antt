@@ -1,0 +1,89 @@
+-- The views of the parser's values: tokens as plain ones.
+use Rattle.std.specs.Prelude.{ℕ, zero, suc, ◌+◌, ◌/◌, ◌%◌, ◌++◌, nat_lt, Bool, true, false, List, [], ◌∷◌, map, codes, encode_utf8, encode_utf8_all, Option, Some, None, if◌then◌else◌}
+use Rattle.std.specs.Option.{option_map}
+use Rattle.fancy_meaning.specs.Tree as tree
+use Rattle.fancy_meaning.specs.Tree.{Tree}
+use Rattle.fancy_expr.specs.Views.{assertion_of, look_of, verb_of}
+use Rattle.fancy_pattern.specs.declared.tokens.Leaf.{Leaf}
+use Rattle.fancy_pattern.specs.declared.tokens.Leaf.TheVariants as leaf
+use Rattle.fancy_pattern.specs.declared.tokens.Target as code_target
+use Rattle.fancy_pattern.specs.declared.tokens.Target.TheVariants as target
+use Rattle.fancy_pattern.specs.declared.tokens.Reference as code_reference
+use Rattle.fancy_pattern.specs.declared.tokens.Opening as code_opening
+use Rattle.fancy_pattern.specs.declared.tokens.Opening.TheVariants as opening
+use Rattle.fancy_pattern.specs.declared.tokens.ClassPiece.{ClassPiece}
+use Rattle.fancy_pattern.specs.declared.tokens.ClassPiece.TheVariants as piece
+use Rattle.fancy_pattern.specs.declared.tokens.Token as code_token
+use Rattle.fancy_pattern.specs.declared.tokens.Token.TheVariants as token
+use Rattle.fancy_pattern.specs.declared.tokens.Item as code_item
+use Rattle.fancy_pattern.specs.declared.tokens.Placed as code_placed
+use Rattle.fancy_pattern.specs.Tokens as plain
+
+abbrev pub hex_class : Bool → List ℕ
+hex_class negated = if negated then codes "[^0-9A-Fa-f]" else codes "[0-9A-Fa-f]"
+
+abbrev pub leaf_of : Leaf → Tree
+leaf_of (leaf.Any newline crlf) = tree.Any newline crlf
+leaf_of (leaf.Assertion a) = tree.Assert tree.NoLook (assertion_of a)
+leaf_of (leaf.GeneralNewline unicode) = tree.GeneralNewline unicode
+leaf_of (leaf.Literal val casei) = tree.Literal val casei
+leaf_of (leaf.HexDigits negated) = tree.Delegate (hex_class negated) false
+leaf_of leaf.KeepOut = tree.KeepOut
+leaf_of leaf.ContinueFromPreviousMatchEnd = tree.ContinueFromPreviousMatchEnd
+leaf_of leaf.AbsentClear = tree.AbsentClear
+leaf_of (leaf.Verb v) = tree.Control (verb_of v)
+
+abbrev pub target_of : code_target.Target → plain.Target
+target_of (target.Name name) = plain.Name name.now
+target_of (target.Number n) = plain.Number n
+target_of target.Nowhere = plain.Nowhere
+
+abbrev pub reference_of : code_reference.Reference → plain.Reference
+reference_of r = record { naming = r.naming; target = target_of r.target; level = r.level; left = r.left }
+
+abbrev pub opening_of : code_opening.Opening → plain.Opening
+opening_of (opening.Enclosing e) = plain.Around e
+opening_of (opening.Group number name) = plain.Group number (option_map (λ n. n.now) name)
+opening_of opening.AbsentBar = plain.AbsentBar
+opening_of (opening.If r) = plain.If (reference_of r)
+opening_of opening.IfPattern = plain.IfPattern
+opening_of (opening.IfLook look) = plain.IfLook (look_of look)
+
+-- a digit below 16
+abbrev pub hex_digit : ℕ → ℕ
+hex_digit d = if nat_lt d 10 then 48 + d else 55 + d
+
+-- the number in capital hexadecimal digits, as short as it is; so many digits at most
+abbrev pub hex_digits : ℕ → ℕ → List ℕ
+hex_digits zero n = []
+hex_digits (suc most) n = (if nat_lt n 16 then [] else hex_digits most (n / 16)) ++ hex_digit (n % 16) ∷ []
+
+-- a piece of a class as it is handed on
+abbrev pub piece_text : ClassPiece → List ℕ
+piece_text (piece.Char c) = c ∷ []
+piece_text (piece.Escaped c) = 92 ∷ c ∷ []
+piece_text (piece.Code c) = codes "\\x{" ++ hex_digits 6 c ++ codes "}"
+piece_text (piece.Set letter text) = 92 ∷ letter ∷ text.now
+piece_text (piece.HexDigits negated) = if negated then codes "[^0-9A-Fa-f]" else codes "0-9A-Fa-f"
+piece_text piece.Backspace = codes "\\x08"
+piece_text piece.Escape = codes "\\x1B"
+
+abbrev pub token_of : code_token.Token → plain.Token
+token_of (token.Leaf l) = plain.Node (leaf_of l)
+token_of (token.Set letter text casei) = plain.Node (tree.Delegate (encode_utf8_all (92 ∷ letter ∷ text.now)) casei)
+token_of (token.Refer r) = plain.Refer (reference_of r)
+token_of token.Flags = plain.FlagsItem
+token_of (token.Open o) = plain.Open (opening_of o)
+token_of token.Bar = plain.Bar
+token_of token.Close = plain.Close
+token_of (token.Quantifier q greedy) = plain.Quantified q greedy
+token_of (token.ClassOpen casei) = plain.ClassOpen casei
+token_of (token.ClassPiece p) = plain.ClassText (piece_text p)
+token_of token.ClassClose = plain.ClassClose
+token_of (token.Broken kind) = plain.Broken kind
+
+abbrev pub item_of : code_item.Item → plain.Item
+item_of i = record { token = token_of i.token; flags = i.flags }
+
+abbrev pub placed_of : code_placed.Placed → plain.Placed
+placed_of p = record { left = p.left; token = token_of p.token }

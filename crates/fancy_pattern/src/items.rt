@@ -1,0 +1,266 @@
+//! The token at the front of a text.
+
+ghost use Rattle.std.specs.Prelude.{◌≡◌, ◌+◌, ◌^◌, ◌<◌, ◌≤◌, length, IfOk, option_map};
+ghost use Rattle.fancy_meaning.specs.WellFormed.{most_groups};
+ghost use Rattle.fancy_pattern.specs.Texts.{seen};
+ghost use Rattle.fancy_pattern.specs.Items as plain;
+ghost use Rattle.fancy_pattern.specs.Items.{any_of, start_of, end_of, quantified, brace_at, sign_token, item_at, opened_by, class_of, outside_at, within_at, found_at};
+ghost use Rattle.fancy_pattern.specs.PatternViews.{leaf_of, token_of, item_of, opening_of};
+
+use crate::characters::first;
+use crate::classes::{ClassPlace, Head, class_item_at};
+use crate::error::{ErrorKind, Fault, fault_at};
+use crate::escapes::escape_at;
+use crate::flags::Flags;
+use crate::groups::opening_at;
+use crate::quantifiers::counts_at;
+use crate::tokens::{Item, Leaf, Opening, Quantifier, Token};
+use fancy_expr::expr::Assertion;
+use fancy_expr::well_formed::MOST_GROUPS;
+
+/// What holds at a place of a pattern.
+#[derive(Clone, Copy)]
+pub struct Lexing {
+    pub flags: Flags,
+    /// How many groups were opened.
+    pub opened: usize,
+    /// The class that is open; with depth 0 none is.
+    pub class: ClassPlace,
+}
+
+/// A token, and what holds behind it.
+#[derive(Clone, Copy)]
+pub struct Found<'a> {
+    pub token: Token<'a>,
+    pub behind: Lexing,
+}
+
+fn any_of(flags: Flags) -> Leaf
+    ensures { leaf_of result ≡ any_of flags }
+{
+    if flags.dot_all {
+        Leaf::Any {
+            newline: true,
+            crlf: false,
+        }
+    } else {
+        Leaf::Any {
+            newline: false,
+            crlf: flags.crlf,
+        }
+    }
+}
+
+fn start_of(flags: Flags) -> Leaf
+    ensures { leaf_of result ≡ start_of flags }
+{
+    if !flags.multi_line {
+        Leaf::Assertion(Assertion::StartText)
+    } else if flags.oniguruma {
+        Leaf::Assertion(Assertion::StartLineOniguruma { crlf: flags.crlf })
+    } else {
+        Leaf::Assertion(Assertion::StartLine { crlf: flags.crlf })
+    }
+}
+
+fn end_of(flags: Flags) -> Leaf
+    ensures { leaf_of result ≡ end_of flags }
+{
+    if flags.multi_line {
+        Leaf::Assertion(Assertion::EndLine { crlf: flags.crlf })
+    } else {
+        Leaf::Assertion(Assertion::EndText)
+    }
+}
+
+fn quantified<'a>(flags: Flags, quantifier: Quantifier) -> Token<'a>
+    ensures { token_of result ≡ quantified flags quantifier }
+{
+    Token::Quantifier {
+        quantifier,
+        greedy: !flags.swap_greed,
+    }
+}
+
+fn literal<'a>(flags: Flags, c: char) -> Token<'a>
+    ensures { token_of result ≡ plain.literal flags c }
+{
+    Token::Leaf(Leaf::Literal {
+        val: c,
+        casei: flags.casei,
+    })
+}
+
+/// A `{`: counts, or a literal; `text` begins with it, and `after` follows it.
+#[tactic(auto, unfolding(crate::specs::Items::brace_at))]
+fn brace_at<'a>(
+    flags: Flags,
+    text: &'a [char],
+    after: &'a [char],
+) -> Result<(Token<'a>, &'a [char]), Fault>
+    ensures value { seen (λ p. (token_of p.0, p.1.now)) result
+        ≡ brace_at flags text.now after.now }
+    ensures shorter { IfOk result (λ p. length p.1.now ≤ length after.now) }
+{
+    match counts_at(after, flags.ignore_whitespace) {
+        Some((counts, rest)) => match counts {
+            Ok(quantifier) => Ok((quantified(flags, quantifier), rest)),
+            Err(kind) => Err(fault_at(kind, text)),
+        },
+        None => Ok((literal(flags, '{'), after)),
+    }
+}
+
+/// The tokens of one character that are no literals.
+fn sign_token<'a>(flags: Flags, c: char) -> Option<Token<'a>>
+    ensures { option_map token_of result ≡ sign_token flags c }
+{
+    match c {
+        '.' => Some(Token::Leaf(any_of(flags))),
+        '^' => Some(Token::Leaf(start_of(flags))),
+        '$' => Some(Token::Leaf(end_of(flags))),
+        '|' => Some(Token::Bar),
+        ')' => Some(Token::Close),
+        '*' => Some(quantified(flags, Quantifier::Star)),
+        '+' => Some(quantified(flags, Quantifier::Plus)),
+        '?' => Some(quantified(flags, Quantifier::Question)),
+        '[' => Some(Token::ClassOpen { casei: flags.casei }),
+        _ => None,
+    }
+}
+
+/// The token at the front, outside of classes.
+#[tactic(auto, unfolding(crate::specs::Items::item_at))]
+fn item_at(flags: Flags, opened: usize, text: &[char]) -> Result<(Item<'_>, &[char]), Fault>
+    requires { opened < 2 ^ 63 }
+    ensures value { seen (λ p. (item_of p.0, p.1.now)) result ≡ item_at flags opened text.now }
+    ensures shorter { IfOk result (λ p. length p.1.now + 1 ≤ length text.now) }
+{
+    let Some((c, after)) = first(text) else {
+        return Err(fault_at(ErrorKind::GeneralParseError, text));
+    };
+    if let Some(token) = sign_token(flags, c) {
+        return Ok((Item::new(flags, token), after));
+    }
+    match c {
+        '(' => opening_at(flags, opened, after),
+        '\\' => {
+            let (token, rest) = escape_at(flags, opened, after)?;
+            Ok((Item::new(flags, token), rest))
+        }
+        '{' => {
+            let (token, rest) = brace_at(flags, text, after)?;
+            Ok((Item::new(flags, token), rest))
+        }
+        _ => Ok((Item::new(flags, literal(flags, c)), after)),
+    }
+}
+
+/// How many groups a token opens.
+fn opened_by(token: Token<'_>) -> usize
+    ensures value { result ≡ opened_by (token_of token.entry) }
+    ensures one { result ≤ 1 }
+{
+    match token {
+        Token::Open(opening) => group_opened_by(opening),
+        _ => 0,
+    }
+}
+
+fn group_opened_by(opening: Opening<'_>) -> usize
+    ensures value { result ≡ plain.group_opened_by
+        (opening_of opening.entry) }
+    ensures one { result ≤ 1 }
+{
+    match opening {
+        Opening::Group { .. } => 1,
+        _ => 0,
+    }
+}
+
+/// The class that is open behind a token.
+fn class_of(token: Token<'_>) -> ClassPlace
+    ensures value { result ≡ class_of (token_of token.entry) }
+    ensures one { result.depth ≤ 1 }
+{
+    match token {
+        Token::ClassOpen { .. } => ClassPlace {
+            depth: 1,
+            head: Head::Start,
+        },
+        _ => ClassPlace {
+            depth: 0,
+            head: Head::Inner,
+        },
+    }
+}
+
+/// The token at the front, outside of classes, and what holds behind it.
+#[tactic(auto, unfolding(crate::specs::Items::outside_at))]
+fn outside_at(now: Lexing, text: &[char]) -> Result<(Found<'_>, &[char]), Fault>
+    requires { now.opened ≤ most_groups }
+    ensures value { seen (λ p. (plain.found_of p.0, p.1.now)) result ≡ outside_at now text.now }
+    ensures shorter { IfOk result (λ p. length p.1.now + 1 ≤ length text.now) }
+    ensures opened { IfOk result (λ p. p.0.behind.opened ≤ most_groups) }
+    ensures depth { IfOk result (λ p. p.0.behind.class.depth ≤ 1) }
+{
+    let (item, rest) = item_at(now.flags, now.opened, text)?;
+    let opened = now.opened + opened_by(item.token);
+    if opened > MOST_GROUPS {
+        return Err(fault_at(ErrorKind::GeneralParseError, text));
+    }
+    Ok((
+        Found {
+            token: item.token,
+            behind: Lexing {
+                flags: item.flags,
+                opened,
+                class: class_of(item.token),
+            },
+        },
+        rest,
+    ))
+}
+
+/// The token at the front in a class, and what holds behind it.
+#[tactic(auto, unfolding(crate::specs::Items::within_at))]
+fn within_at(now: Lexing, text: &[char]) -> Result<(Found<'_>, &[char]), Fault>
+    requires room { now.class.depth < 2 ^ 63 }
+    requires opened { now.opened ≤ most_groups }
+    ensures value { seen (λ p. (plain.found_of p.0, p.1.now)) result ≡ within_at now text.now }
+    ensures shorter { IfOk result (λ p. length p.1.now + 1 ≤ length text.now) }
+    ensures opened { IfOk result (λ p. p.0.behind.opened ≤ most_groups) }
+    ensures depth { IfOk result (λ p. p.0.behind.class.depth + length p.1.now
+        ≤ now.class.depth + length text.now) }
+{
+    let (item, rest) = class_item_at(now.class, text)?;
+    Ok((
+        Found {
+            token: item.token,
+            behind: Lexing {
+                flags: now.flags,
+                opened: now.opened,
+                class: item.place,
+            },
+        },
+        rest,
+    ))
+}
+
+/// The token at the front, and what holds behind it.
+#[tactic(auto, unfolding(crate::specs::Items::found_at))]
+pub(crate) fn found_at(now: Lexing, text: &[char]) -> Result<(Found<'_>, &[char]), Fault>
+    requires room { now.class.depth < 2 ^ 63 }
+    requires opened { now.opened ≤ most_groups }
+    ensures value { seen (λ p. (plain.found_of p.0, p.1.now)) result ≡ found_at now text.now }
+    ensures shorter { IfOk result (λ p. length p.1.now + 1 ≤ length text.now) }
+    ensures opened { IfOk result (λ p. p.0.behind.opened ≤ most_groups) }
+    ensures depth { IfOk result (λ p. p.0.behind.class.depth + length p.1.now
+        ≤ now.class.depth + length text.now) }
+{
+    if now.class.depth == 0 {
+        outside_at(now, text)
+    } else {
+        within_at(now, text)
+    }
+}

@@ -1,0 +1,158 @@
+//! Tokens: what a pattern is made of, each with its place. The flags of that place are taken into account.
+
+ghost use Rattle.std.specs.Prelude.{◌≡◌};
+ghost use Rattle.fancy_pattern.specs.Tokens as plain;
+
+use crate::error::ErrorKind;
+use crate::flags::Flags;
+use fancy_expr::expr::{Assertion, BacktrackingControlVerb, LookAround};
+
+/// An atom that is a node by itself and has no text.
+#[derive(Clone, Copy)]
+pub enum Leaf {
+    Any { newline: bool, crlf: bool },
+    Assertion(Assertion),
+    GeneralNewline { unicode: bool },
+    Literal { val: char, casei: bool },
+    HexDigits { negated: bool },
+    KeepOut,
+    ContinueFromPreviousMatchEnd,
+    AbsentClear,
+    Verb(BacktrackingControlVerb),
+}
+
+/// What is done with a group that is named.
+#[derive(Clone, Copy)]
+pub enum Naming {
+    Backref { casei: bool },
+    Exists,
+    Call,
+}
+
+/// How a group is named.
+#[derive(Clone, Copy)]
+pub enum Target<'a> {
+    Name(&'a [char]),
+    /// By its number, or by how far back or on from here it is.
+    Number(usize),
+    /// Before group 1, or past the largest number.
+    Nowhere,
+}
+
+/// What names a group.
+#[derive(Clone, Copy)]
+pub struct Reference<'a> {
+    pub naming: Naming,
+    pub target: Target<'a>,
+    pub level: Option<isize>,
+    /// How many characters of the pattern begin where the name or the number is.
+    pub left: usize,
+}
+
+/// What stands around alternatives, up to the closing parenthesis.
+#[derive(Clone, Copy)]
+pub enum Enclosing {
+    /// It adds no node.
+    Plain,
+    Atomic,
+    Define,
+    Look(LookAround),
+    AbsentRepeater,
+}
+
+/// What an opening parenthesis begins.
+#[derive(Clone, Copy)]
+pub enum Opening<'a> {
+    Enclosing(Enclosing),
+    Group {
+        number: usize,
+        name: Option<&'a [char]>,
+    },
+    /// `(?~|`
+    AbsentBar,
+    /// A conditional that asks for a group.
+    If(Reference<'a>),
+    /// A conditional and the parenthesis of its condition, a pattern.
+    IfPattern,
+    /// A conditional and the parenthesis of its condition, a look-around.
+    IfLook(LookAround),
+}
+
+/// A quantifier, as far as `*` or the counts say.
+#[derive(Clone, Copy)]
+pub enum Quantifier {
+    Star,
+    Plus,
+    Question,
+    /// With `usize::MAX` as `hi` there is no bound.
+    Counts { lo: usize, hi: usize },
+}
+
+/// What a class is made of, as it is handed on.
+#[derive(Clone, Copy)]
+pub enum ClassPiece<'a> {
+    Char(char),
+    /// With a backslash before it.
+    Escaped(char),
+    /// By its number.
+    Code(char),
+    /// A backslash, this letter and this text.
+    Set { letter: char, text: &'a [char] },
+    HexDigits { negated: bool },
+    Backspace,
+    Escape,
+}
+
+/// A token.
+#[derive(Clone, Copy)]
+pub enum Token<'a> {
+    Leaf(Leaf),
+    /// A set of characters: a backslash, this letter and this text.
+    Set {
+        letter: char,
+        text: &'a [char],
+        casei: bool,
+    },
+    Refer(Reference<'a>),
+    /// A flags item, `(?i)`.
+    Flags,
+    Open(Opening<'a>),
+    Bar,
+    Close,
+    Quantifier { quantifier: Quantifier, greedy: bool },
+    /// The `[` of a class.
+    ClassOpen { casei: bool },
+    ClassPiece(ClassPiece<'a>),
+    /// The `]` of a class.
+    ClassClose,
+    /// What cannot be read; the last token.
+    Broken(ErrorKind),
+}
+
+/// A token, and the flags that hold behind it.
+#[derive(Clone, Copy)]
+pub struct Item<'a> {
+    pub token: Token<'a>,
+    pub flags: Flags,
+}
+
+impl<'a> Item<'a> {
+    ghost use Rattle.fancy_pattern.specs.Tokens.{item};
+    ghost use Rattle.fancy_pattern.specs.PatternViews.{item_of, token_of};
+
+    pub(crate) fn new(flags: Flags, token: Token<'a>) -> Item<'a>
+        ensures { item_of result ≡ item flags (token_of token.entry) }
+    {
+        Item { token, flags }
+    }
+}
+
+/// A token, and where it is.
+#[derive(Clone, Copy)]
+pub struct Placed<'a> {
+    /// How many characters of the pattern begin where it does.
+    pub left: usize,
+    /// The byte where it begins.
+    pub at: usize,
+    pub token: Token<'a>,
+}
