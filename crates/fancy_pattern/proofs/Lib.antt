@@ -1,2 +1,4 @@
 pub mod Words
 pub mod Numerals
+pub mod Lexed
+pub mod NamedGroups

@@ -9,3 +9,6 @@ pub mod Groups
 pub mod PatternViews
 pub mod Classes
 pub mod Items
+pub mod Lexing
+pub mod LexerViews
+pub mod Naming

@@ -2,6 +2,7 @@
 use Rattle.std.specs.Prelude.{ℕ, ℤ, Bool, List, Option}
 use Rattle.fancy_meaning.specs.Tree.{Tree, Look}
 use Rattle.fancy_pattern.specs.declared.error.ErrorKind.{ErrorKind}
+use Rattle.fancy_pattern.specs.declared.error.Fault.{Fault}
 use Rattle.fancy_pattern.specs.declared.flags.Flags.{Flags}
 use Rattle.fancy_pattern.specs.declared.tokens.Enclosing.{Enclosing}
 use Rattle.fancy_pattern.specs.declared.tokens.Naming.{Naming}
@@ -57,3 +58,10 @@ item flags token = record { token = token; flags = flags }
 pub record Placed : Type 0 where
   pub left : ℕ
   pub token : Token
+
+abbrev pub placed : ℕ → Token → Placed
+placed left token = record { left = left; token = token }
+
+-- what cannot be read, as a token
+abbrev pub broken : Fault → Placed
+broken fault = record { left = fault.left; token = Broken fault.kind }

@@ -133,3 +133,12 @@ fn past_blank(text: &[char], ignore_whitespace: bool) -> Option<&[char]>
     }
     None
 }
+
+/// How many bytes these characters have.
+pub(crate) fn byte_count(text: &[char]) -> usize {
+    let mut count: usize = 0;
+    for c in text {
+        count = count.saturating_add(c.len_utf8());
+    }
+    count
+}

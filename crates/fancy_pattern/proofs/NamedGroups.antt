@@ -1,0 +1,63 @@
+-- The groups with names, token by token, and the bytes of a name, character by character.
+use Rattle.std.proofs.Common.{◌≡◌, ℕ, ◌+◌, ◌<◌, List, [], ◌∷◌, ◌++◌, length, take, map, filter, cond, true, false, Option, Some, None, String, Vec, string_bytes, get_or, encode_utf8, encode_utf8_all, refl, sym, ap, ◌∙◌, append-nil, append_assoc}
+use Rattle.std.proofs.lemmas.List.{take_more, map-append}
+use Rattle.std.proofs.lemmas.Str.{encodes-append}
+use Rattle.std.specs.BTreeMap.{BTreeMap, get_by_text}
+use Rattle.std.specs.Option.{option_map_or}
+use Rattle.std.specs.Str.{bytes_eq}
+use Rattle.std.specs.declared.alloc.Global.{Global}
+use Rattle.fancy_pattern.specs.declared.tokens.Placed.{Placed as Code}
+use Rattle.fancy_pattern.specs.Tokens.{Placed}
+use Rattle.fancy_pattern.specs.Naming.{named_of, named_in, numbers_of, numbers_in}
+use Rattle.fancy_pattern.specs.PatternViews.{placed_of}
+
+-- one more character
+pub one_char_more : (cs : List ℕ) (i c : ℕ) (old new : List ℕ) → i < length cs → c ≡ get_or cs i c → old ≡ encode_utf8_all (take i cs) →
+    new ≡ old ++ encode_utf8 c → new ≡ encode_utf8_all (take (i + 1) cs)
+one_char_more cs i c old new lt at before is =
+    is
+    ∙ ap (λ l. l ++ encode_utf8 c) before
+    ∙ sym (encodes-append (take i cs) (c ∷ []) ∙ ap (λ l. encode_utf8_all (take i cs) ++ l) (append-nil (encode_utf8 c)))
+    ∙ ap encode_utf8_all (ap (λ d. take i cs ++ d ∷ []) at ∙ sym (take_more cs i c lt))
+
+named_in-append : (ps qs : List Placed) → named_in (ps ++ qs) ≡ named_in ps ++ named_in qs
+named_in-append [] qs = refl
+named_in-append (p ∷ ps) qs =
+    ap (λ l. named_of p.token ++ l) (named_in-append ps qs) ∙ sym (append_assoc (named_of p.token) (named_in ps) (named_in qs))
+
+-- one more token
+pub one_token_more : (ts : List Code) (i : ℕ) (d : Code) (old new : List (List ℕ × ℕ)) → i < length ts → old ≡ named_in (map placed_of (take i ts)) →
+    new ≡ old ++ named_of (placed_of (get_or ts i d)).token → new ≡ named_in (map placed_of (take (i + 1) ts))
+one_token_more ts i d old new lt before is =
+    let t = get_or ts i d in
+    is
+    ∙ ap (λ l. l ++ named_of (placed_of t).token) before
+    ∙ ap (λ l. named_in (map placed_of (take i ts)) ++ l) (sym (append-nil (named_of (placed_of t).token)))
+    ∙ sym (named_in-append (map placed_of (take i ts)) (placed_of t ∷ []))
+    ∙ ap named_in (sym (map-append placed_of (take i ts) (t ∷ [])))
+    ∙ ap (λ l. named_in (map placed_of l)) (sym (take_more ts i d lt))
+
+-- names as texts and as their bytes
+pub numbers_by_text : (pairs : List (String Global × ℕ)) (name : List ℕ) →
+    map (λ p. p.1) (filter (λ p. bytes_eq name (string_bytes p.0)) pairs) ≡ numbers_of (map (λ p. (string_bytes p.0, p.1)) pairs) name
+numbers_by_text [] name = refl
+numbers_by_text (p ∷ ps) name =
+    elim (bytes_eq name (string_bytes p.0)) as (λ b.
+      map (λ (q : String Global × ℕ). q.1) (cond b (p ∷ filter (λ q. bytes_eq name (string_bytes q.0)) ps) (filter (λ q. bytes_eq name (string_bytes q.0)) ps))
+      ≡ map (λ (q : List ℕ × ℕ). q.1)
+      (cond b ((string_bytes p.0, p.1) ∷ filter (λ q. bytes_eq name q.0) (map (λ q. (string_bytes q.0, q.1)) ps))
+      (filter (λ q. bytes_eq name q.0) (map (λ q. (string_bytes q.0, q.1)) ps)))) [
+      | true ↦ ap (λ l. p.1 ∷ l) (numbers_by_text ps name)
+      | false ↦ numbers_by_text ps name
+    ]
+
+-- what a look-up finds
+pub found_numbers : (m : BTreeMap (String Global) (Vec ℕ Global)) (q name items want : List ℕ) (v : Vec ℕ Global) → get_by_text m q ≡ Some v → q ≡ name →
+    items ≡ v.items → numbers_in m name ≡ want → items ≡ want
+found_numbers m q name items want v found same are agrees =
+    are ∙ sym (ap (λ o. option_map_or (λ (g : Vec ℕ Global). g.items) o []) found) ∙ ap (numbers_in m) same ∙ agrees
+
+pub found_none : (m : BTreeMap (String Global) (Vec ℕ Global)) (q name want : List ℕ) → get_by_text m q ≡ None → q ≡ name →
+    numbers_in m name ≡ want → [] ≡ want
+found_none m q name want found same agrees =
+    sym (ap (λ o. option_map_or (λ (g : Vec ℕ Global). g.items) o []) found) ∙ ap (numbers_in m) same ∙ agrees
