@@ -2,3 +2,5 @@ pub mod Words
 pub mod Numerals
 pub mod Lexed
 pub mod NamedGroups
+pub mod MadeNodes
+pub mod Points

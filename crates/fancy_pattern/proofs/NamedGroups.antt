@@ -43,10 +43,10 @@ pub numbers_by_text : (pairs : List (String Global × ℕ)) (name : List ℕ) �
 numbers_by_text [] name = refl
 numbers_by_text (p ∷ ps) name =
     elim (bytes_eq name (string_bytes p.0)) as (λ b.
-      map (λ (q : String Global × ℕ). q.1) (cond b (p ∷ filter (λ q. bytes_eq name (string_bytes q.0)) ps) (filter (λ q. bytes_eq name (string_bytes q.0)) ps))
-      ≡ map (λ (q : List ℕ × ℕ). q.1)
-      (cond b ((string_bytes p.0, p.1) ∷ filter (λ q. bytes_eq name q.0) (map (λ q. (string_bytes q.0, q.1)) ps))
-      (filter (λ q. bytes_eq name q.0) (map (λ q. (string_bytes q.0, q.1)) ps)))) [
+    map (λ (q : String Global × ℕ). q.1) (cond b (p ∷ filter (λ q. bytes_eq name (string_bytes q.0)) ps) (filter (λ q. bytes_eq name (string_bytes q.0)) ps))
+    ≡ map (λ (q : List ℕ × ℕ). q.1)
+    (cond b ((string_bytes p.0, p.1) ∷ filter (λ q. bytes_eq name q.0) (map (λ q. (string_bytes q.0, q.1)) ps))
+    (filter (λ q. bytes_eq name q.0) (map (λ q. (string_bytes q.0, q.1)) ps)))) [
       | true ↦ ap (λ l. p.1 ∷ l) (numbers_by_text ps name)
       | false ↦ numbers_by_text ps name
     ]

@@ -8,7 +8,7 @@ use Rattle.fancy_pattern.specs.declared.classes.Head.TheVariants.{Start, Caret, 
 use Rattle.fancy_pattern.specs.Texts.{Text, Read, fault_at, ◌>>=◌, uncons}
 use Rattle.fancy_pattern.specs.Escapes.{hex_at, property_at, is_set}
 use Rattle.fancy_pattern.specs.Tokens.{Token, ClassText, ClassClose}
-use Rattle.fancy_pattern.specs.PatternViews.{token_of, hex_digits}
+use Rattle.fancy_pattern.specs.PatternViews.{token_of, code_text}
 
 -- a token of a class, and the place behind it
 pub record ClassItem : Type 0 where
@@ -48,7 +48,7 @@ own_piece c =
 
 -- a character by its number
 unfoldable pub coded_at : ℕ → Text → Read Text
-coded_at count text = hex_at count text >>= λ c. Ok (codes "\\x{" ++ hex_digits 6 c.0 ++ codes "}", c.1)
+coded_at count text = hex_at count text >>= λ c. Ok (code_text c.0, c.1)
 
 -- a property, by its letter and its name
 unfoldable pub kept_set_at : ℕ → Text → Read Text

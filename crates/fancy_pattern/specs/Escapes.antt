@@ -57,9 +57,9 @@ unfoldable pub property_length : Text → Option ℕ
 property_length text =
     option_and_then
     (λ p. if not (p.0 == 123) then Some 1
-        else if nat_lt (length (take_while (λ c. not (c == 125)) text)) (length text)
-        then Some (length (take_while (λ c. not (c == 125)) text) + 1)
-        else None)
+    else if nat_lt (length (take_while (λ c. not (c == 125)) text)) (length text)
+    then Some (length (take_while (λ c. not (c == 125)) text) + 1)
+    else None)
     (uncons text)
 
 unfoldable pub property_at : Text → Read Text

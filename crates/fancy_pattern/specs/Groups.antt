@@ -65,12 +65,12 @@ abbrev pub past_verb_at : Text → ℕ
 past_verb_at text =
     min
     (min
-      (min
-        (min
-          (min (past_common (codes "FAIL)") text) (past_common (codes "F)") text))
-          (past_common (codes "ACCEPT)") text))
-        (past_common (codes "COMMIT)") text))
-      (past_common (codes "SKIP)") text))
+    (min
+    (min
+    (min (past_common (codes "FAIL)") text) (past_common (codes "F)") text))
+    (past_common (codes "ACCEPT)") text))
+    (past_common (codes "COMMIT)") text))
+    (past_common (codes "SKIP)") text))
     (past_common (codes "PRUNE)") text)
 
 unfoldable pub verb_at : Flags → Text → Read Item
@@ -141,9 +141,11 @@ unfoldable pub condition_by_group_at : Flags → Text → Option ℤ → Text �
 condition_by_group_at f digits level text rest =
     elim (number_of 10 digits) [
       | None ↦ Err (fault_at InvalidBackref text)
-      | Some n ↦ Ok
-          (item f (Open (If
-            (record { naming = naming.Exists; target = Number n; level = level; left = length text }))), rest)
+      | Some n ↦ Ok (
+        item f (Open (If
+            (record { naming = naming.Exists; target = Number n; level = level; left = length text }))),
+        rest,
+      )
     ]
 
 -- the look-around that begins behind an opening parenthesis

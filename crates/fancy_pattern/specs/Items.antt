@@ -108,15 +108,17 @@ unfoldable pub outside_at : Lexing → Text → Read Found
 outside_at now text =
     item_at now.flags now.opened text
     >>= λ i. if nat_lt most_groups (now.opened + opened_by i.0.token) then Err (fault_at GeneralParseError text)
-    else Ok
-        (record {
-          token = i.0.token;
-          behind = record {
-            flags = i.0.flags;
-            opened = now.opened + opened_by i.0.token;
-            class = class_of i.0.token;
-          };
-        }, i.1)
+    else Ok (
+      record {
+        token = i.0.token;
+        behind = record {
+          flags = i.0.flags;
+          opened = now.opened + opened_by i.0.token;
+          class = class_of i.0.token;
+        };
+      },
+      i.1,
+    )
 
 -- in a class
 unfoldable pub within_at : Lexing → Text → Read Found

@@ -27,7 +27,7 @@ Steps true old new =
     (added : List Placed)
     × (placed_in new ≡ placed_in old ++ added)
     × ((ts : List Placed) →
-      Lexes (state_of new) (text_of new) ts → Lexes (state_of old) (text_of old) (added ++ ts))
+    Lexes (state_of new) (text_of new) ts → Lexes (state_of old) (text_of old) (added ++ ts))
 Steps false old new =
     (added : List Placed)
     × (placed_in new ≡ placed_in old ++ added)

@@ -12,3 +12,5 @@ pub mod Items
 pub mod Lexing
 pub mod LexerViews
 pub mod Naming
+pub mod Grammar
+pub mod Reading

@@ -1,5 +1,5 @@
 -- The views of the parser's values: tokens as plain ones.
-use Rattle.std.specs.Prelude.{ℕ, zero, suc, ◌+◌, ◌/◌, ◌%◌, ◌++◌, nat_lt, Bool, true, false, List, [], ◌∷◌, map, codes, encode_utf8, encode_utf8_all, Option, Some, None, if◌then◌else◌}
+use Rattle.std.specs.Prelude.{ℕ, ◌+◌, ◌-◌, ◌/◌, ◌%◌, ◌++◌, drop, nat_lt, Bool, true, false, List, [], ◌∷◌, map, codes, encode_utf8, encode_utf8_all, Option, Some, None, if◌then◌else◌}
 use Rattle.std.specs.Option.{option_map}
 use Rattle.fancy_meaning.specs.Tree as tree
 use Rattle.fancy_meaning.specs.Tree.{Tree}
@@ -53,18 +53,43 @@ opening_of (opening.IfLook look) = plain.IfLook (look_of look)
 abbrev pub hex_digit : ℕ → ℕ
 hex_digit d = if nat_lt d 10 then 48 + d else 55 + d
 
--- the number in capital hexadecimal digits, as short as it is; so many digits at most
-abbrev pub hex_digits : ℕ → ℕ → List ℕ
-hex_digits zero n = []
-hex_digits (suc most) n = (if nat_lt n 16 then [] else hex_digits most (n / 16)) ++ hex_digit (n % 16) ∷ []
+-- how many digits the number of a character has
+abbrev pub hex_length : ℕ → ℕ
+hex_length n =
+    if nat_lt n 0x10 then 1
+    else if nat_lt n 0x100 then 2
+    else if nat_lt n 0x1000 then 3
+    else if nat_lt n 0x1_0000 then 4
+    else if nat_lt n 0x10_0000 then 5
+    else 6
+
+-- the number of a character in capital hexadecimal digits, without leading zeros
+abbrev pub hex_digits : ℕ → List ℕ
+hex_digits n =
+    drop (6 - hex_length n)
+    (hex_digit (n / 0x10_0000 % 16)
+    ∷ hex_digit (n / 0x1_0000 % 16)
+    ∷ hex_digit (n / 0x1000 % 16)
+    ∷ hex_digit (n / 0x100 % 16)
+    ∷ hex_digit (n / 0x10 % 16)
+    ∷ hex_digit (n % 16)
+    ∷ [])
+
+-- a character by its number
+abbrev pub code_text : ℕ → List ℕ
+code_text c = codes "\\x{" ++ hex_digits c ++ 125 ∷ []
+
+-- what stands for `\h` and `\H` in a class
+abbrev pub hex_digits_text : Bool → List ℕ
+hex_digits_text negated = if negated then codes "[^0-9A-Fa-f]" else codes "0-9A-Fa-f"
 
 -- a piece of a class as it is handed on
 abbrev pub piece_text : ClassPiece → List ℕ
 piece_text (piece.Char c) = c ∷ []
 piece_text (piece.Escaped c) = 92 ∷ c ∷ []
-piece_text (piece.Code c) = codes "\\x{" ++ hex_digits 6 c ++ codes "}"
+piece_text (piece.Code c) = code_text c
 piece_text (piece.Set letter text) = 92 ∷ letter ∷ text.now
-piece_text (piece.HexDigits negated) = if negated then codes "[^0-9A-Fa-f]" else codes "0-9A-Fa-f"
+piece_text (piece.HexDigits negated) = hex_digits_text negated
 piece_text piece.Backspace = codes "\\x08"
 piece_text piece.Escape = codes "\\x1B"
 

@@ -36,7 +36,7 @@ unfoldable pub upper_at : Text → Bool → Text → Option (Written × Text)
 upper_at lo x text =
     option_and_then
     (λ after. if is_empty lo && is_empty (digits_at x text).0 then None
-        else Some (record { lo = lo; hi = Some (digits_at x text).0 }, after))
+    else Some (record { lo = lo; hi = Some (digits_at x text).0 }, after))
     (past_word (codes "}") (digits_at x text).1)
 
 -- `N}`, `N,}`, `,N}` or `N,N}`
@@ -44,9 +44,9 @@ unfoldable pub written_at : Bool → Text → Option (Written × Text)
 written_at x text =
     option_and_then
     (λ p. if p.0 == 125 && not (is_empty (digits_at x text).0)
-        then Some (record { lo = (digits_at x text).0; hi = None }, p.1)
-        else if p.0 == 44 then upper_at (digits_at x text).0 x p.1
-        else None)
+    then Some (record { lo = (digits_at x text).0; hi = None }, p.1)
+    else if p.0 == 44 then upper_at (digits_at x text).0 x p.1
+    else None)
     (uncons (digits_at x text).1)
 
 -- a number of iterations is below the largest number

@@ -131,9 +131,7 @@ fn leaf_escape(flags: Flags, c: char) -> Option<Leaf>
     match c {
         'A' => Some(Leaf::Assertion(Assertion::StartText)),
         'z' => Some(Leaf::Assertion(Assertion::EndText)),
-        'Z' => Some(Leaf::Assertion(
-            Assertion::EndTextIgnoreTrailingNewlines { crlf: flags.crlf },
-        )),
+        'Z' => Some(Leaf::Assertion(Assertion::EndTextIgnoreTrailingNewlines { crlf: flags.crlf })),
         'B' => Some(Leaf::Assertion(Assertion::NotWordBoundary)),
         '<' => Some(Leaf::Assertion(Assertion::LeftWordBoundary)),
         '>' => Some(Leaf::Assertion(Assertion::RightWordBoundary)),

@@ -133,11 +133,11 @@ impl<'a> Lexer<'a> {
         chars: &'a [char],
     ) -> Result<Vec<Placed<'a>>, AllocError>
         ensures { IfOk result (λ tokens. Lexes
-        (at_start flags) chars.now
-        (map placed_of tokens.items)) }
-{
-    let mut lexer = Lexer::new(alloc, flags, chars);
-    while lexer.next()? {}
-    Ok(lexer.tokens)
-}
+            (at_start flags) chars.now
+            (map placed_of tokens.items)) }
+    {
+        let mut lexer = Lexer::new(alloc, flags, chars);
+        while lexer.next()? {}
+        Ok(lexer.tokens)
+    }
 }

@@ -2,10 +2,11 @@
 #![tactic(auto)]
 
 mod characters;
+mod class_text;
 mod classes;
 pub mod error;
-mod failure;
 mod escapes;
+mod failure;
 pub mod flags;
 mod group_names;
 mod groups;
@@ -14,6 +15,11 @@ mod lexer;
 mod named;
 mod names;
 mod nesting;
+mod nodes;
 mod numbers;
+pub mod options;
+pub mod pattern;
 mod quantifiers;
+mod reader;
+mod survey;
 pub mod tokens;

@@ -78,7 +78,11 @@ fn count(digits: &[char]) -> Option<usize>
     ensures { result ≡ count_of digits.now }
 {
     let count = number(digits, 10)?;
-    if count < usize::MAX { Some(count) } else { None }
+    if count < usize::MAX {
+        Some(count)
+    } else {
+        None
+    }
 }
 
 /// The least number of iterations, 0 where it is left out.

@@ -88,6 +88,14 @@ pub enum Quantifier {
     Counts { lo: usize, hi: usize },
 }
 
+/// What a `?` or a `+` behind a quantifier makes of it.
+#[derive(Clone, Copy)]
+pub enum Suffix {
+    /// Lazy in place of greedy, or greedy in place of lazy.
+    Turned,
+    Possessive,
+}
+
 /// What a class is made of, as it is handed on.
 #[derive(Clone, Copy)]
 pub enum ClassPiece<'a> {
@@ -119,9 +127,14 @@ pub enum Token<'a> {
     Open(Opening<'a>),
     Bar,
     Close,
-    Quantifier { quantifier: Quantifier, greedy: bool },
+    Quantifier {
+        quantifier: Quantifier,
+        greedy: bool,
+    },
     /// The `[` of a class.
-    ClassOpen { casei: bool },
+    ClassOpen {
+        casei: bool,
+    },
     ClassPiece(ClassPiece<'a>),
     /// The `]` of a class.
     ClassClose,

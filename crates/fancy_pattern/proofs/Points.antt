@@ -1,0 +1,172 @@
+-- What the reader's calls answer is spelled.
+use Rattle.std.proofs.Common.{◌≡◌, ℕ, ◌-◌, ◌<◌, ◌≤◌, Bool, true, false, not, cond, List, [], ◌∷◌, ◌++◌, length, drop, map, filter, Option, Some, None, option_map, is_some, encode_utf8, encode_utf8_all, string_bytes, refl, sym, ap, ◌∙◌, subst, arith, append-nil, append_assoc, length-drop}
+use Rattle.std.proofs.lemmas.Bool.{true≢false}
+use Rattle.std.proofs.lemmas.List.{map-append, take_all}
+use Rattle.fancy_meaning.specs.Tree as tree
+use Rattle.fancy_meaning.specs.Tree.{Tree}
+use Rattle.fancy_expr.specs.declared.expr.Expr.{Expr}
+use Rattle.fancy_expr.specs.Views.{tree_of}
+use Rattle.fancy_pattern.specs.declared.reader.Reader.{Reader}
+use Rattle.fancy_pattern.specs.declared.tokens.Placed.{Placed as Code}
+use Rattle.fancy_pattern.specs.declared.tokens.Quantifier.{Quantifier}
+use Rattle.fancy_pattern.specs.declared.tokens.Suffix.{Suffix}
+use Rattle.fancy_pattern.specs.Tokens.{Token, Placed, Opening}
+use Rattle.fancy_pattern.specs.PatternViews.{placed_of}
+use Rattle.fancy_pattern.specs.Grammar.{Names, Takes, first_gives, gives_some, is_at, is_branch_end, is_empty, is_repeatable, bar, closing, quantifier, suffix, class_text, class_close, class_of, branch_of, joined, alternated, suffixed, SpellsSuffix, no_suffix, a_suffix, SpellsClass, class_end, class_piece, SpellsAtom, SpellsPiece, plain, quantified, SpellsPieces, no_piece, piece, SpellsBranch, branch, SpellsBars, no_bar, barred, SpellsAlternatives, branches}
+use Rattle.fancy_pattern.proofs.MadeNodes.{text_added, one_char}
+use Rattle.fancy_pattern.specs.Reading.{point_of, Skips, Quantifies, alone, by, some_of}
+
+pub skipped : (old new : Reader) → 0 < length old.rest.now → new.rest.now ≡ drop 1 old.rest.now → Skips old new
+skipped old new h rest = let p = front old.rest.now new.rest.now h rest in record { first = p.0; tokens = p.1 }
+  where
+    front : (xs ys : List Code) → 0 < length xs → ys ≡ drop 1 xs → (p : Placed) × (map placed_of xs ≡ p ∷ map placed_of ys)
+    front [] ys h e = absurd (omega (arith, h))
+    front (x ∷ xs) ys h e = (placed_of x, ap (λ l. placed_of x ∷ map placed_of l) (sym e))
+
+-- the next token gives v, and it was passed
+pub takes_next : {V : Type 0} (gives : Token → Option V) (v : V) (old new : Reader) → first_gives gives (point_of old) ≡ Some v → Skips old new →
+    Takes gives (point_of old) v (point_of new)
+takes_next gives v old new e s = record { first = s.first; tokens = s.tokens; is = sym (ap (first_gives gives) s.tokens) ∙ e }
+
+at_some : (o : Option (Unit {0})) → gives_some o ≡ true → o ≡ Some tt
+at_some None h = absurd (true≢false (sym h))
+at_some (Some u) h = refl
+
+-- the same where nothing is given but that it is there
+pub takes_at : (gives : Token → Option (Unit {0})) (old new : Reader) → is_at gives (point_of old) ≡ true → Skips old new →
+    Takes gives (point_of old) tt (point_of new)
+takes_at gives old new e s = takes_next gives tt old new (at_some (first_gives gives (point_of old)) e) s
+
+pub not_there : {V : Type 0} (o : Option V) → o ≡ None → gives_some o ≡ false
+not_there o e = ap gives_some e
+
+-- ---- pieces
+
+pub by_quantifier : (e r : Tree) (x y z : List Placed) (q : Quantifier) (g : Bool) (s : Option Suffix) → is_repeatable e ≡ true → Takes quantifier x (q, g) y →
+    SpellsSuffix y z s → r ≡ suffixed q g s e → Quantifies e x z r
+by_quantifier e r x y z q g s may t more is = subst (Quantifies e x z) (sym is) (by may t more)
+
+pub piece_spelled : (names : Names) (e r : Tree) (x y z : List Placed) → SpellsAtom names x y e → Quantifies e y z r → SpellsPiece names x z r
+piece_spelled names e r x y z a (alone h) = plain a h
+piece_spelled names e r x y z a (by may t more) = quantified a may t more
+
+pub branch_spelled : (names : Names) (x y : List Placed) (es : List Tree) (made : List Tree) (r : Tree) → SpellsPieces names x y es →
+    made ≡ filter (λ e. not (is_empty e)) es → r ≡ joined made → SpellsBranch names x y r
+branch_spelled names x y es made r s are is = subst (SpellsBranch names x y) (sym (is ∙ ap joined are)) (branch s)
+
+pub alternatives_spelled : (names : Names) (x y z : List Placed) (e : Tree) (es given made : List Tree) (r : Tree) → SpellsBranch names x y e →
+    SpellsBars names y z es → given ≡ e ∷ [] → made ≡ given ++ es → r ≡ alternated made → SpellsAlternatives names x z r
+alternatives_spelled names x y z e es given made r s more one are is =
+    subst (SpellsAlternatives names x z) (sym (is ∙ ap alternated (are ∙ ap (λ l. l ++ es) one))) (branches s more)
+
+-- ---- loops
+
+-- the pieces so far
+pub record PiecesRead (names : Names) (start now : Reader) (made : List Expr) : Type 0 where
+  pub so_far : List Tree
+  pub are : map tree_of made ≡ filter (λ e. not (is_empty e)) so_far
+  pub spelled : (z : List Placed) (more : List Tree) → SpellsPieces names (point_of now) z more → SpellsPieces names (point_of start) z (so_far ++ more)
+  pub shorter : length now.rest.now ≤ length start.rest.now
+
+pub pieces_begin : (names : Names) (r : Reader) (made : List Expr) → made ≡ [] → PiecesRead names r r made
+pieces_begin names r made none = record { so_far = []; are = ap (map tree_of) none; spelled = λ z more s. s; shorter = omega arith }
+
+filtered : (es : List Tree) (e : Tree) → filter (λ x. not (is_empty x)) (es ++ e ∷ []) ≡ filter (λ x. not (is_empty x)) es ++ some_of e
+filtered [] e = by_test (is_empty e)
+  where
+    by_test : (b : Bool) → cond (not b) (e ∷ []) [] ≡ cond b [] (e ∷ [])
+    by_test true = refl
+    by_test false = refl
+filtered (x ∷ es) e = by_test (not (is_empty x)) (filtered es e)
+  where
+    by_test : (b : Bool) → filter (λ y. not (is_empty y)) (es ++ e ∷ []) ≡ filter (λ y. not (is_empty y)) es ++ some_of e →
+        cond b (x ∷ filter (λ y. not (is_empty y)) (es ++ e ∷ [])) (filter (λ y. not (is_empty y)) (es ++ e ∷ []))
+        ≡ cond b (x ∷ filter (λ y. not (is_empty y)) es) (filter (λ y. not (is_empty y)) es) ++ some_of e
+    by_test true h = ap (λ l. x ∷ l) h
+    by_test false h = h
+
+pub pieces_next : (names : Names) (start old new : Reader) (made more_made : List Expr) (e : Tree) → PiecesRead names start old made →
+    is_branch_end (point_of old) ≡ false → SpellsPiece names (point_of old) (point_of new) e → map tree_of more_made ≡ map tree_of made ++ some_of e →
+    length new.rest.now ≤ length old.rest.now →
+    PiecesRead names start new more_made
+pieces_next names start old new made more_made e r on s are shorter = record {
+  so_far = r.so_far ++ e ∷ [];
+  are = are ∙ ap (λ l. l ++ some_of e) r.are ∙ sym (filtered r.so_far e);
+  spelled = λ z more t. subst (SpellsPieces names (point_of start) z) (sym (append_assoc r.so_far (e ∷ []) more)) (r.spelled z (e ∷ more) (piece on s t));
+  shorter = let a = r.shorter in omega (arith, a, shorter);
+}
+
+pub pieces_done : (names : Names) (start now : Reader) (made : List Expr) → PiecesRead names start now made → is_branch_end (point_of now) ≡ true →
+    (es : List Tree) × SpellsPieces names (point_of start) (point_of now) es × (map tree_of made ≡ filter (λ e. not (is_empty e)) es)
+pieces_done names start now made r at_end = (
+  r.so_far,
+  subst (SpellsPieces names (point_of start) (point_of now)) (append-nil r.so_far) (r.spelled (point_of now) [] (no_piece at_end)),
+  r.are,
+)
+
+-- the branches so far, behind those given
+pub record BarsRead (names : Names) (start now : Reader) (given made : List Expr) : Type 0 where
+  pub so_far : List Tree
+  pub are : map tree_of made ≡ map tree_of given ++ so_far
+  pub spelled : (z : List Placed) (more : List Tree) → SpellsBars names (point_of now) z more → SpellsBars names (point_of start) z (so_far ++ more)
+  pub shorter : length now.rest.now ≤ length start.rest.now
+
+pub bars_begin : (names : Names) (r : Reader) (given : List Expr) → BarsRead names r r given given
+bars_begin names r given = record { so_far = []; are = sym (append-nil (map tree_of given)); spelled = λ z more s. s; shorter = omega arith }
+
+pub bars_next : (names : Names) (start old mid new : Reader) (given made more_made : List Expr) (e : Expr) → BarsRead names start old given made →
+    Takes bar (point_of old) tt (point_of mid) → SpellsBranch names (point_of mid) (point_of new) (tree_of e) → more_made ≡ made ++ e ∷ [] →
+    length new.rest.now ≤ length old.rest.now →
+    BarsRead names start new given more_made
+bars_next names start old mid new given made more_made e r t s are shorter = record {
+  so_far = r.so_far ++ tree_of e ∷ [];
+  are =
+      ap (map tree_of) are
+      ∙ map-append tree_of made (e ∷ [])
+      ∙ ap (λ l. l ++ tree_of e ∷ []) r.are
+      ∙ append_assoc (map tree_of given) r.so_far (tree_of e ∷ []);
+  spelled = λ z more u.
+      subst (SpellsBars names (point_of start) z) (sym (append_assoc r.so_far (tree_of e ∷ []) more)) (r.spelled z (tree_of e ∷ more) (barred t s u));
+  shorter = let a = r.shorter in omega (arith, a, shorter);
+}
+
+pub bars_done : (names : Names) (start now : Reader) (given made : List Expr) → BarsRead names start now given made → is_at bar (point_of now) ≡ false →
+    (es : List Tree) × SpellsBars names (point_of start) (point_of now) es × (map tree_of made ≡ map tree_of given ++ es)
+bars_done names start now given made r at_end = (
+  r.so_far,
+  subst (SpellsBars names (point_of start) (point_of now)) (append-nil r.so_far) (r.spelled (point_of now) [] (no_bar at_end)),
+  r.are,
+)
+
+-- the class so far
+pub record ClassRead (start now : Reader) (text : List ℕ) : Type 0 where
+  pub so_far : List ℕ
+  pub is : text ≡ [] ++ encode_utf8_all (91 ∷ so_far)
+  pub spelled : (z : List Placed) (more : List ℕ) → SpellsClass (point_of now) z more → SpellsClass (point_of start) z (so_far ++ more)
+  pub shorter : length now.rest.now ≤ length start.rest.now
+
+pub class_begin : (r : Reader) (old new : List ℕ) → old ≡ [] → new ≡ old ++ encode_utf8 91 → ClassRead r r new
+class_begin r old new none is = record {
+  so_far = [];
+  is = one_char [] new 91 (is ∙ ap (λ l. l ++ encode_utf8 91) none);
+  spelled = λ z more s. s;
+  shorter = omega arith;
+}
+
+pub class_next : (start old new : Reader) (text more_text added : List ℕ) → ClassRead start old text → Takes class_text (point_of old) added (point_of new) →
+    more_text ≡ text ++ encode_utf8_all added → length new.rest.now ≤ length old.rest.now → ClassRead start new more_text
+class_next start old new text more_text added r t is shorter = record {
+  so_far = r.so_far ++ added;
+  is = text_added [] (91 ∷ r.so_far) added text more_text r.is is;
+  spelled = λ z more s. subst (SpellsClass (point_of start) z) (sym (append_assoc r.so_far added more)) (r.spelled z (added ++ more) (class_piece t s));
+  shorter = let a = r.shorter in omega (arith, a, shorter);
+}
+
+pub class_done : (start old new : Reader) (text whole : List ℕ) (casei : Bool) → ClassRead start old text → Takes class_close (point_of old) tt (point_of new) →
+    whole ≡ text ++ encode_utf8 93 →
+    (t : List ℕ) × SpellsClass (point_of start) (point_of new) t × (tree.Delegate whole casei ≡ class_of t casei)
+class_done start old new text whole casei r t is = (
+  r.so_far,
+  subst (SpellsClass (point_of start) (point_of new)) (append-nil r.so_far) (r.spelled (point_of new) [] (class_end t)),
+  ap (λ bytes. tree.Delegate bytes casei) (text_added [] (91 ∷ r.so_far) (93 ∷ []) text whole r.is (one_char text whole 93 is)),
+)

@@ -1,0 +1,9 @@
+use Rattle.std.proofs.Common.{ap, ◌++◌, ◌∙◌, encode_utf8}
+use Rattle.fancy_meaning.specs.Tree.{Literal}
+use Rattle.fancy_pattern.proofs.MadeNodes.{literal-made}
+use Rattle.fancy_pattern.proofs.nodes.literal.Goals as goal
+
+pub returns : goal.returns
+returns c =
+    ap (λ k. Literal k c.args.casei)
+    (literal-made c.args.c _ c.ranges.c.0 (c.in_ok-push.ensures.bytes ∙ ap (λ l. l ++ encode_utf8 c.args.c) c.new-val.ensures.bytes))

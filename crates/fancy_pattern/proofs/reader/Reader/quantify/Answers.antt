@@ -1,0 +1,14 @@
+use Rattle.std.proofs.Common.{sym}
+use Rattle.fancy_expr.specs.Views.{tree_of}
+use Rattle.fancy_pattern.specs.Grammar.{quantifier}
+use Rattle.fancy_pattern.specs.Reading.{point_of}
+use Rattle.fancy_pattern.proofs.Points.{takes_next, by_quantifier}
+use Rattle.fancy_pattern.proofs.reader.Reader.quantify.Goals as goal
+
+pub returns-clause-spells : goal.returns-clause-spells
+returns-clause-spells c =
+    by_quantifier (tree_of c.args.atom) (tree_of c.in_ok-suffixed.field-0) (point_of c.args.self.now) (point_of c.skip.new.self)
+    (point_of c.take_suffix-suffix.new.self)
+    c.args.quantifier c.args.greedy c.take_suffix-suffix.result (sym c.if-not-is_repeatable.ensures)
+    (takes_next quantifier (c.args.quantifier, c.args.greedy) c.args.self.now c.skip.new.self c.requires.there c.skip.ensures.skips)
+    c.take_suffix-suffix.ensures.spells c.in_ok-suffixed.ensures
