@@ -47,7 +47,8 @@ enum fancy_code {
     FANCY_INNER_ERROR = 18,          /* a class cannot be read */
     FANCY_CLASS_TOO_BIG = 19,
     FANCY_PATTERN_TOO_COMPLEX = 20,  /* the program would have more than max_prog_size instructions */
-    FANCY_RECURSION_EXCEEDED = 21    /* the tree nests deeper than max_depth */
+    FANCY_RECURSION_EXCEEDED = 21,   /* the tree nests deeper than max_depth */
+    FANCY_NEST_LIMIT_EXCEEDED = 22   /* more nodes would be written out in one another than max_nesting */
 };
 
 /* What a host holds: a compiled tree, or nothing. Begin with FANCY_NOTHING. Only the calls change it, and a copy of it is

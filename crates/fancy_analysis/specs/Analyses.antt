@@ -22,4 +22,5 @@ abbrev pub IsRefusedAs : ParsedTree → AnalysisOptions → Error → Type 0
 IsRefusedAs p options (code.CompileError error) = AnalysisRefuses p options (error_of error)
 IsRefusedAs p options (code.RuntimeError error) = ⊥
 IsRefusedAs p options (code.TreeFault at) = ⊥
+IsRefusedAs p options code.NestLimitExceeded = ⊥
 IsRefusedAs p options code.Memory = Unit {0}

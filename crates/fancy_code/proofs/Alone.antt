@@ -96,6 +96,7 @@ class_refused p s inner casei (error.CompileError (code.ClassTooBig text)) h a =
 class_refused p s inner casei (error.CompileError x) h a = absurd h
 class_refused p s inner casei (error.RuntimeError x) h a = h
 class_refused p s inner casei (error.TreeFault at) h a = h
+class_refused p s inner casei error.NestLimitExceeded h a = h
 
 -- ---- assertions
 

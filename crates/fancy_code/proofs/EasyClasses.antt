@@ -122,6 +122,7 @@ module _ (p : Site) where
     class_breaks inner casei g (error.CompileError x) h = absurd h
     class_breaks inner casei g (error.RuntimeError x) h = h
     class_breaks inner casei g (error.TreeFault at) h = h
+    class_breaks inner casei g error.NestLimitExceeded h = h
 
   -- why easy nodes are not written
   pub refused_easy : (is : List Info) (a : Laid) (s : Draft) (x : Error) → IsRefusedFor p.unicode is x → Breaks p a (map info_tree is) s x

@@ -35,3 +35,4 @@ module _ (p : Site) where
     breaks_by over rejected (error.CompileError x) (inr h) = inr (rejected _ h)
     breaks_by over rejected (error.RuntimeError x) h = h
     breaks_by over rejected (error.TreeFault at) h = h
+    breaks_by over rejected error.NestLimitExceeded h = h

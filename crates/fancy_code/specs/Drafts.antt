@@ -55,6 +55,7 @@ Breaks p a es s (error.CompileError x) =
     (error_of x)
 Breaks p a es s (error.RuntimeError x) = ⊥
 Breaks p a es s (error.TreeFault at) = ⊥
+Breaks p a es s error.NestLimitExceeded = ⊥
 
 -- from one fault to another
 abbrev pub Turns : Site → Laid → List Tree → Draft → Draft → Option Error → Option Error → Type 0

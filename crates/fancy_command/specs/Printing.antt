@@ -57,6 +57,7 @@ abbrev pub error_text : Error → List ℕ
 error_text (error.CompileError e) = compile_error_text e
 error_text (error.RuntimeError e) = limit_text e
 error_text (error.TreeFault at) = codes "TreeFault " ++ decimal at
+error_text error.NestLimitExceeded = codes "NestLimitExceeded"
 error_text error.Memory = codes "Memory"
 
 abbrev pub error_line : Error → List ℕ

@@ -94,6 +94,7 @@ fn push_error(line: &mut String, error: &Error) -> Result<(), AllocError>
         Error::CompileError(error) => push_compile_error(line, error),
         Error::RuntimeError(error) => line.push_str(limit_name(*error)),
         Error::TreeFault { at } => write!(line, "TreeFault {at}"),
+        Error::NestLimitExceeded => line.push_str("NestLimitExceeded"),
         Error::Memory => line.push_str("Memory"),
     }
 }

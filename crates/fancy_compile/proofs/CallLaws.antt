@@ -105,6 +105,7 @@ module _ (p : Site) (g : ℕ) (b : Tree) (at : target p.analysis.tree g ≡ Some
     open_breaks a s (error.CompileError x) (inr (inr r)) = absurd r
     open_breaks a s (error.RuntimeError x) h = h
     open_breaks a s (error.TreeFault i) h = h
+    open_breaks a s error.NestLimitExceeded h = h
 
     open_turns : (a : Laid) (s t : Draft) (fs ft : Option Error) → Turns inside a (b ∷ []) s t fs ft → Turns p a (SubroutineCall g ∷ []) s t fs ft
     open_turns a s t None None h = (h.0, (open_accepted h.1.0, tt))

@@ -100,6 +100,7 @@ module _ (p : Plan) where
   refused_breaks ranged s limit empty (error.CompileError x) (inr (inr h)) = absurd h
   refused_breaks ranged s limit empty (error.RuntimeError x) h = h
   refused_breaks ranged s limit empty (error.TreeFault at) h = h
+  refused_breaks ranged s limit empty error.NestLimitExceeded h = h
 
   -- ---- no case holds
 

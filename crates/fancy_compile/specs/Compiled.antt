@@ -70,6 +70,7 @@ module _ (p : Plan) where
   Compiles (Err error.Memory) = Unit {0}
   Compiles (Err (error.RuntimeError x)) = ⊥
   Compiles (Err (error.TreeFault at)) = ⊥
+  Compiles (Err error.NestLimitExceeded) = ⊥
 
   -- the whole program was written, from nothing
   abbrev pub IsWritingOf : Draft → Type 0

@@ -59,6 +59,9 @@ pub enum Error {
     /// The notation of a tree cannot be read from this byte on.
     #[error("the tree cannot be read at byte {at}")]
     TreeFault { at: usize },
+    /// More nodes stand in one another, where they are written out, than the limit allows.
+    #[error("the tree nests deeper than the limit")]
+    NestLimitExceeded,
     /// A request for memory was refused.
     #[error("memory ran out")]
     Memory,

@@ -44,6 +44,7 @@ code_of (error.RuntimeError limit.BacktrackLimitExceeded) = 7
 code_of (error.RuntimeError limit.StackOverflow) = 8
 code_of (error.RuntimeError limit.StepLimitExceeded) = 9
 code_of (error.CompileError e) = code_of_refusal e
+code_of error.NestLimitExceeded = 22
 
 -- the name of each code, from 0 up
 abbrev pub names : List (List ℕ)
@@ -70,6 +71,7 @@ names =
     ∷ codes "ClassTooBig"
     ∷ codes "PatternTooComplex"
     ∷ codes "RecursionExceeded"
+    ∷ codes "NestLimitExceeded"
     ∷ []
 
 -- no code has a name of no letters

@@ -65,6 +65,7 @@ fn code_of(error: &Error) -> u32
         Error::RuntimeError(RuntimeError::StackOverflow) => 8,
         Error::RuntimeError(RuntimeError::StepLimitExceeded) => 9,
         Error::CompileError(refusal) => code_of_refusal(refusal),
+        Error::NestLimitExceeded => 22,
     }
 }
 
@@ -95,6 +96,7 @@ fn name_of(code: u32) -> &'static str
         19 => "ClassTooBig",
         20 => "PatternTooComplex",
         21 => "RecursionExceeded",
+        22 => "NestLimitExceeded",
         _ => "",
     }
 }

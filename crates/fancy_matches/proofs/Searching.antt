@@ -52,6 +52,7 @@ pair_error r (error.CompileError e) h = h
 pair_error r (error.RuntimeError l) h = h
 pair_error r error.Memory h = h
 pair_error r (error.TreeFault at) h = h
+pair_error r error.NestLimitExceeded h = h
 
 -- what a search that answers the first pair alone has found, or why it has not
 module _ (i : Input) (compiled : Compiled) (text : List ℕ) (o : RunOptions) (from : IsCompiledFrom i compiled)

@@ -2,7 +2,7 @@
 use Rattle.std.proofs.Common.{◌≡◌, ℕ, List, [], ◌∷◌, ◌++◌, Option, Some, None, refl, sym, ap, ◌∙◌, subst, append_assoc}
 use Rattle.fancy_meaning.specs.Tree.{Tree}
 use Rattle.fancy_expr.specs.declared.error.Error.{Error}
-use Rattle.fancy_expr.specs.declared.error.Error.TheVariants.{CompileError, RuntimeError, TreeFault, Memory}
+use Rattle.fancy_expr.specs.declared.error.Error.TheVariants.{CompileError, RuntimeError, TreeFault, NestLimitExceeded, Memory}
 use Rattle.fancy_notation.specs.declared.reader.Reader.{Reader}
 use Rattle.fancy_notation.specs.Tokens.{Token, Placed}
 use Rattle.fancy_notation.specs.Grammar.{Takes, Spells}
@@ -42,6 +42,7 @@ pub fails_first : (w : Want) (ws : List Want) (old : Reader) (e : Error) → Fai
 fails_first w ws old (CompileError x) h = h
 fails_first w ws old (RuntimeError x) h = h
 fails_first w ws old (TreeFault at) h = λ more. h (ws ++ more)
+fails_first w ws old NestLimitExceeded h = h
 fails_first w ws old Memory h = tt
 
 -- where the stack goes on from the one reader to the other, it fails where that one fails
@@ -52,6 +53,7 @@ fails_on old mid before after (CompileError x) same on h = h
 fails_on old mid before after (RuntimeError x) same on h = h
 fails_on old mid before after (TreeFault at) same on h =
     λ more. on more ∙ subst (λ end. misfit end (point_of mid).tokens mid.groups (after ++ more) ≡ Some at) same (h more)
+fails_on old mid before after NestLimitExceeded same on h = h
 fails_on old mid before after Memory same on h = tt
 
 -- behind a token that was read

@@ -5,7 +5,7 @@ use Rattle.fancy_expr.specs.declared.expr.Expr.{Expr}
 use Rattle.fancy_expr.specs.declared.expr.ExprTree.{ExprTree}
 use Rattle.fancy_expr.specs.Views.{tree_of}
 use Rattle.fancy_expr.specs.declared.error.Error.{Error}
-use Rattle.fancy_expr.specs.declared.error.Error.TheVariants.{CompileError, RuntimeError, TreeFault, Memory}
+use Rattle.fancy_expr.specs.declared.error.Error.TheVariants.{CompileError, RuntimeError, TreeFault, NestLimitExceeded, Memory}
 use Rattle.fancy_notation.specs.declared.reader.Reader.{Reader}
 use Rattle.fancy_notation.specs.Tokens.{Placed}
 use Rattle.fancy_expr.specs.Sound.{AllSound, IsWellFormedTree}
@@ -49,6 +49,7 @@ whole_fails start at ts (TreeFault p) b h =
     fault_there at ts p
     (sym (ap (λ n. misfit n (point_of start).tokens start.groups (Node ∷ [])) b.ends
     ∙ ap (λ x. misfit at x.tokens x.groups (Node ∷ [])) (whole_start start at ts b)) ∙ h [])
+whole_fails start at ts NestLimitExceeded b h = h
 whole_fails start at ts Memory b h = tt
 
 -- more tokens come where all was read
@@ -97,4 +98,5 @@ whole_reads end ts (Ok tree) h e s = one_spelling ts (tree_of tree.expr) e h.0 s
 whole_reads end ts (Err (CompileError x)) h e s = absurd h
 whole_reads end ts (Err (RuntimeError x)) h e s = absurd h
 whole_reads end ts (Err (TreeFault at)) h e s = absurd (not_spelled end ts at e h s)
+whole_reads end ts (Err NestLimitExceeded) h e s = absurd h
 whole_reads end ts (Err Memory) h e s = refl

@@ -27,6 +27,7 @@ IsMemory error.Memory = Unit {0}
 IsMemory (error.RuntimeError l) = ⊥
 IsMemory (error.CompileError e) = ⊥
 IsMemory (error.TreeFault at) = ⊥
+IsMemory error.NestLimitExceeded = ⊥
 
 -- where a configuration leads, by the definition
 abbrev pub Leading : Type 0

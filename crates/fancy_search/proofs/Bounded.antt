@@ -58,3 +58,4 @@ module _ (i : Input) (compiled : Compiled) (text : List ℕ) (o : RunOptions) (f
   run_bounds (Err error.Memory) answers = tt
   run_bounds (Err (error.CompileError e)) answers = tt
   run_bounds (Err (error.TreeFault at)) answers = tt
+  run_bounds (Err error.NestLimitExceeded) answers = tt

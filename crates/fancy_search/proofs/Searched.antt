@@ -71,6 +71,7 @@ module _ (t : ExprTree) (context : AnalyzeContext) (o : CompileOptions) (ok : Is
   analysis_refused (error.RuntimeError e) h = h
   analysis_refused error.Memory h = h
   analysis_refused (error.TreeFault at) h = h
+  analysis_refused error.NestLimitExceeded h = h
 
   may_answer : {e : _} → MayAnswer (plan input) e → IsRefused input (instructions_of input) e
   may_answer (refuses h) = by_compiler h
@@ -82,6 +83,7 @@ module _ (t : ExprTree) (context : AnalyzeContext) (o : CompileOptions) (ok : Is
   compiler_refused (error.RuntimeError e) h = h
   compiler_refused error.Memory h = h
   compiler_refused (error.TreeFault at) h = h
+  compiler_refused error.NestLimitExceeded h = h
 
   pub compiled_from : (i : Info) (prog : Prog) → IsAnalysisOf t (analysis_options_of context) i →
       Compiles (plan_with analysed o) (Ok prog) → IsCompiledFrom input (record { prog = prog })
@@ -136,6 +138,7 @@ module _ (i : Input) (compiled : Compiled) (text : List ℕ) (o : RunOptions) (f
   run_promises (Err error.Memory) answers means = tt
   run_promises (Err (error.CompileError e)) answers means = absurd answers
   run_promises (Err (error.TreeFault at)) answers means = absurd answers
+  run_promises (Err error.NestLimitExceeded) answers means = absurd answers
 
 -- a refusal is one that is promised
 pub refusal_promises : (i : Input) (text : List ℕ) (o : RunOptions) (e : Error) → searches.IsRefusedAs i e →
@@ -144,6 +147,7 @@ refusal_promises i text o (error.CompileError e) h = h
 refusal_promises i text o (error.RuntimeError e) h = absurd h
 refusal_promises i text o error.Memory h = tt
 refusal_promises i text o (error.TreeFault at) h = absurd h
+refusal_promises i text o error.NestLimitExceeded h = absurd h
 
 -- what fits the search
 pub record FitsSearch (s : SearchOptions) (text : List ℕ) : Type 0 where

@@ -89,6 +89,7 @@ module _ (i : Input) where
   Promises text o (Err (error.RuntimeError e)) = MayReply text o (Passed (limit_of e))
   Promises text o (Err error.Memory) = MayReply text o OutOfMemory
   Promises text o (Err (error.TreeFault at)) = ⊥
+  Promises text o (Err error.NestLimitExceeded) = ⊥
 
   -- one backtrack and eight instructions for each start that may be tried are more than the limit, and no number of
   -- branches is
@@ -109,6 +110,7 @@ module _ (i : Input) where
   IsRefusedAs (error.RuntimeError e) = ⊥
   IsRefusedAs error.Memory = Unit {0}
   IsRefusedAs (error.TreeFault at) = ⊥
+  IsRefusedAs error.NestLimitExceeded = ⊥
 
   -- What was compiled is the program of the tree, which is well-formed, and no case to refuse it holds, whether group 0 is
   -- implicit or explicit.

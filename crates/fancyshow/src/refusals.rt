@@ -34,6 +34,7 @@ fn explained(alloc: Global, tree: &str, error: &Error) -> Result<Trouble, Error>
             let help = help(*limit);
             Ok(Trouble::Refusal(format!(in alloc; "{limit} ({limit:?})\n  {help}")?))
         }
+        Error::NestLimitExceeded => Ok(Trouble::Refusal(format!(in alloc; "{error} ({error:?})")?)),
         Error::Memory => Ok(Trouble::Memory),
     }
 }
