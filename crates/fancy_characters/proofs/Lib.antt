@@ -6,3 +6,4 @@ pub mod PlacesLaws
 pub mod AsciiLaws
 pub mod ClassLaws
 pub mod MembersLaws
+pub mod ThreadsLaws

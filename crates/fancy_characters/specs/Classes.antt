@@ -9,11 +9,11 @@ use Rattle.fancy_characters.specs.declared.classes.CharClassMatcher.{CharClassMa
 use Rattle.fancy_characters.specs.declared.classes.CharClassMatcher.TheVariants as code
 
 abbrev pub class_of : CharClassMatcher → plain.CharClass
-class_of (code.Codepoint name class) = plain.Codepoint class.inner class.casei class.unicode
+class_of (code.Codepoint class) = plain.Codepoint class.inner class.casei class.unicode
 class_of (code.Newline unicode) = plain.Newline unicode
 
 abbrev pub class_name : CharClassMatcher → Option (List ℕ)
-class_name (code.Codepoint name class) = Some (string_bytes name)
+class_name (code.Codepoint class) = Some class.inner
 class_name (code.Newline unicode) = None
 
 -- Memory ran out, the class text is none, or `regex` has no room for it.

@@ -19,8 +19,8 @@ use std::alloc::Global;
 /// A set of characters that one is tested for.
 #[derive(Drop)]
 pub enum CharClassMatcher {
-    /// The characters that `regex` matches by the class text, which is the name.
-    Codepoint { name: String, class: CompiledClass },
+    /// The characters that `regex` matches by the class text, which is the name (`CompiledClass::name`).
+    Codepoint(CompiledClass),
     /// The characters that end a line.
     Newline { unicode: bool },
 }
@@ -41,8 +41,7 @@ impl CharClassMatcher {
         ensures refused { IfErr result (IsClassRefusal unicode name.now casei) }
     {
         let class = CompiledClass::new(alloc, name, casei, unicode)?;
-        let name = String::from_str(alloc, name)?;
-        Ok(CharClassMatcher::Codepoint { name, class })
+        Ok(CharClassMatcher::Codepoint(class))
     }
 
     /// How many bytes the character at `ix` takes, if it is in the class.
@@ -68,7 +67,7 @@ impl CharClassMatcher {
         ensures { result ≡ class_test (class_of self.now) c }
     {
         match self {
-            CharClassMatcher::Codepoint { class, .. } => class.takes_ascii(c),
+            CharClassMatcher::Codepoint(class) => class.takes_ascii(c),
             CharClassMatcher::Newline { unicode } => is_newline(c as u32, *unicode),
         }
     }
@@ -78,7 +77,7 @@ impl CharClassMatcher {
         ensures refused { IfErr result (λ e. e ≡ Memory) }
     {
         match self {
-            CharClassMatcher::Codepoint { class, .. } => Ok(class.takes(alloc, c)?),
+            CharClassMatcher::Codepoint(class) => Ok(class.takes(alloc, c)?),
             CharClassMatcher::Newline { unicode } => Ok(is_newline(c as u32, *unicode)),
         }
     }

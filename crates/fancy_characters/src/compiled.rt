@@ -94,6 +94,13 @@ impl CompiledClass {
         })
     }
 
+    /// The text of the class, as it was handed in.
+    pub fn name(&self) -> &str
+        ensures { result.now ≡ self.now.inner }
+    {
+        self.inner.as_str()
+    }
+
     /// Whether the class holds this ASCII character.
     pub(crate) fn takes_ascii(&self, c: u8) -> bool
         requires { c < 128 }

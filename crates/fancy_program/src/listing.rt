@@ -102,7 +102,10 @@ impl Insn {
 /// Writes the class's text.
 fn write_class<W: fmt::Write>(class: &CharClassMatcher, f: &mut fmt::Formatter<W>) -> fmt::Result {
     match class {
-        CharClassMatcher::Codepoint { name, .. } => write!(f, "({name})"),
+        CharClassMatcher::Codepoint(class) => {
+            let name = class.name();
+            write!(f, "({name})")
+        }
         CharClassMatcher::Newline { .. } => write!(f, "(Newline)"),
     }
 }

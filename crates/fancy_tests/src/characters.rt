@@ -12,7 +12,7 @@ use std::alloc::{AllocError, Global};
 
 fn name_of(class: &CharClassMatcher) -> &str {
     match class {
-        CharClassMatcher::Codepoint { name, .. } => name.as_str(),
+        CharClassMatcher::Codepoint(class) => class.name(),
         CharClassMatcher::Newline { .. } => "",
     }
 }
