@@ -177,6 +177,6 @@ pub fn all(alloc: Global, request: &Request, text: &str, colours: bool) -> Resul
     };
     match found {
         Ok(found) => Ok(page(alloc, &found, text, colours)?),
-        Err(error) => Err(refusal(alloc, request.tree.as_str(), &error)),
+        Err(error) => Err(refusal(alloc, request.source.as_str(), &error)),
     }
 }

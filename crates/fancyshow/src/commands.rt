@@ -3,20 +3,20 @@
 use clap::{Arg, ArgAction, Command, value_parser};
 use std::alloc::{AllocError, Global};
 
-const ABOUT: &str = "Shows what a tree finds in a text, and what becomes of the tree";
+const ABOUT: &str = "Shows what a pattern finds in a text, and what becomes of the pattern";
 
 const AFTER: &str =
-    "A tree is written as docs/MEANING.md says, as (cat \"a\" (grp (alt \"b\" \"bc\"))). \
-Status 0: there is an answer, also that there is no match; 1: the tree or the search is refused; \
+    "A pattern is written as docs/PATTERNS.md says, as a(b|bc)d; with --tree a tree, as docs/MEANING.md says. \
+Status 0: there is an answer, also that there is no match; 1: the pattern or the search is refused; \
 2: the words or files ask nothing; 3: a write failed.";
 
-const WHY: &str = "Why there is no match: how much of the tree matches, and what does not follow";
+const WHY: &str = "Why there is no match: how much of the pattern matches, and what does not follow";
 
 const TRACE: &str = "Each instruction that a run executes, 1000 at most without --steps";
 
-const NODES: &str = "What is known of each node of the tree, or which node is refused";
+const NODES: &str = "What is known of each node of the tree that the pattern spells, or which node is refused";
 
-const PICTURE: &str = "The program of the tree as a picture, in SVG or for Graphviz";
+const PICTURE: &str = "The program of the pattern as a picture, in SVG or for Graphviz";
 
 const BATCH: &str = "Each line of a file as a command line of its own, in which ' quotes";
 
@@ -25,14 +25,14 @@ const WITH: &str = "What is written for a match: $1 is its group 1, $0 all of it
 /// What a part takes.
 #[derive(Clone, Copy, PartialEq, Eq)]
 enum Takes {
-    Tree,
-    /// A tree, and how it is drawn.
+    Pattern,
+    /// A pattern, and how it is drawn.
     Picture,
-    /// A tree and a text.
+    /// A pattern and a text.
     Text,
-    /// A tree, a text and what is written for matches.
+    /// A pattern, a text and what is written for matches.
     Template,
-    /// A tree, a text and the place where the search begins.
+    /// A pattern, a text and the place where the search begins.
     Place,
     /// A file of command lines.
     Lines,
@@ -42,7 +42,7 @@ impl Takes {
     /// It takes what the other one stands for.
     fn has(self, other: Takes) -> bool {
         match other {
-            Takes::Tree => self != Takes::Lines,
+            Takes::Pattern => self != Takes::Lines,
             Takes::Text => matches!(self, Takes::Text | Takes::Template | Takes::Place),
             _ => self == other,
         }
@@ -77,56 +77,68 @@ const PARTS: [(&str, Takes, &str); 10] = [
     ("trace", Takes::Place, TRACE),
     (
         "list",
-        Takes::Tree,
-        "The program of the tree, instruction by instruction",
+        Takes::Pattern,
+        "The program of the pattern, instruction by instruction",
     ),
-    ("tree", Takes::Tree, NODES),
+    ("tree", Takes::Pattern, NODES),
     ("picture", Takes::Picture, PICTURE),
     ("batch", Takes::Lines, BATCH),
 ];
 
 /// Each argument: its name, the parts that take it, what is written, and what it says.
-const ARGUMENTS: [(&str, Takes, Kind, &str); 18] = [
-    ("TREE", Takes::Tree, Kind::Word, "The tree"),
+const ARGUMENTS: [(&str, Takes, Kind, &str); 20] = [
+    ("PATTERN", Takes::Pattern, Kind::Word, "The pattern"),
+    (
+        "tree",
+        Takes::Pattern,
+        Kind::Flag,
+        "PATTERN is a tree, as (cat \"a\" (grp any))",
+    ),
+    (
+        "pattern-file",
+        Takes::Pattern,
+        Kind::File,
+        "Read the pattern from a file",
+    ),
     (
         "tree-file",
-        Takes::Tree,
+        Takes::Pattern,
         Kind::File,
         "Read the tree from a file, in which line ends separate too",
     ),
     (
         "compile-anchored",
-        Takes::Tree,
+        Takes::Pattern,
         Kind::Flag,
         "Compile for the first place alone",
     ),
     (
         "not-empty",
-        Takes::Tree,
+        Takes::Pattern,
         Kind::Flag,
         "A match has to take something",
     ),
     (
         "end-text",
-        Takes::Tree,
+        Takes::Pattern,
         Kind::Flag,
         "No empty match at the end of a text after a newline",
     ),
     (
         "ascii",
-        Takes::Tree,
+        Takes::Pattern,
         Kind::Flag,
         "Folding, word characters and classes go by ASCII",
     ),
     (
         "longest",
-        Takes::Tree,
+        Takes::Pattern,
         Kind::Flag,
         "Of the matches at the earliest start, the longest",
     ),
     (
         "max-prog",
-        Takes::Tree,
+        Takes::Pattern,
         Kind::Number,
         "At most so many instructions in the program",
     ),

@@ -1,38 +1,21 @@
 //! The first match and its groups.
 
-ghost use Rattle.std.specs.Prelude.{IfOk};
 ghost use Rattle.fancy_expr.specs.Sound.{IsWellFormedTree};
 
 use crate::excerpt::push_times;
 use crate::outcome::Trouble;
-use crate::refusals::{refusal, too_deep};
+use crate::refusals::refusal;
 use crate::request::Request;
+use crate::source::read;
 use fancy_characters::places::is_place;
-use fancy_command::command::MOST_DEPTH;
 use fancy_expr::expr::ExprTree;
 use fancy_matches::found::{Captures, Match};
 use fancy_matches::regexes::Regex;
-use fancy_notation::depth::depth;
-use fancy_notation::notation::read_tree;
 use std::alloc::{AllocError, Global};
 use std::collections::BTreeMap;
 
 /// How many characters of what a match takes are shown.
 const SHOWN: usize = 60;
-
-/// The tree that is asked about.
-pub fn read(alloc: Global, request: &Request) -> Result<ExprTree, Trouble>
-    ensures { IfOk result IsWellFormedTree }
-{
-    let text = request.tree.as_str();
-    if depth(text) > MOST_DEPTH {
-        return Err(too_deep(alloc, MOST_DEPTH)?);
-    }
-    match read_tree(alloc, text) {
-        Ok(tree) => Ok(tree),
-        Err(error) => Err(refusal(alloc, text, &error)),
-    }
-}
 
 /// The tree, compiled for searches.
 fn regex(alloc: Global, request: &Request, tree: &ExprTree) -> Result<Regex, Trouble>
@@ -44,7 +27,7 @@ fn regex(alloc: Global, request: &Request, tree: &ExprTree) -> Result<Regex, Tro
     }
     match Regex::new(alloc, tree, &options) {
         Ok(regex) => Ok(regex),
-        Err(error) => Err(refusal(alloc, request.tree.as_str(), &error)),
+        Err(error) => Err(refusal(alloc, request.source.as_str(), &error)),
     }
 }
 
@@ -129,7 +112,7 @@ pub fn captures<'t>(
     };
     match found {
         Ok(found) => Ok((found, groups)),
-        Err(error) => Err(refusal(alloc, request.tree.as_str(), &error)),
+        Err(error) => Err(refusal(alloc, request.source.as_str(), &error)),
     }
 }
 

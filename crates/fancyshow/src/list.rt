@@ -2,7 +2,7 @@
 
 ghost use Rattle.fancy_expr.specs.Sound.{IsWellFormedTree};
 
-use crate::find::read;
+use crate::source::read;
 use crate::outcome::Trouble;
 use crate::refusals::refusal;
 use crate::request::Request;
@@ -33,7 +33,7 @@ fn compile_or_say(alloc: Global, request: &Request, tree: &ExprTree) -> Result<P
 {
     match compile(alloc, request, tree) {
         Ok(prog) => Ok(prog),
-        Err(error) => Err(refusal(alloc, request.tree.as_str(), &error)),
+        Err(error) => Err(refusal(alloc, request.source.as_str(), &error)),
     }
 }
 

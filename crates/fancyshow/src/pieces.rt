@@ -36,7 +36,7 @@ pub fn replaced(
     match replaced {
         Ok(out) if out.as_str().ends_with('\n') => Ok(out),
         Ok(out) => Ok(format!(in alloc; "{out}\n")?),
-        Err(error) => Err(refusal(alloc, request.tree.as_str(), &error)),
+        Err(error) => Err(refusal(alloc, request.source.as_str(), &error)),
     }
 }
 
@@ -64,6 +64,6 @@ pub fn pieces(alloc: Global, request: &Request, text: &str) -> Result<String, Tr
     };
     match written {
         Ok(out) => Ok(out),
-        Err(error) => Err(refusal(alloc, request.tree.as_str(), &error)),
+        Err(error) => Err(refusal(alloc, request.source.as_str(), &error)),
     }
 }

@@ -4,6 +4,7 @@ use crate::excerpt::push_excerpt;
 use crate::outcome::Trouble;
 use crate::wants::wanted;
 use fancy_expr::error::{Error, RuntimeError};
+use fancy_pattern::error::PatternError;
 use std::alloc::{AllocError, Global};
 
 /// Where the tree cannot be read on, and what was wanted there.
@@ -42,6 +43,30 @@ fn explained(alloc: Global, tree: &str, error: &Error) -> Result<Trouble, Error>
 /// The trouble that an error of the engine is, for this text of a tree.
 pub fn refusal(alloc: Global, tree: &str, error: &Error) -> Trouble {
     match explained(alloc, tree, error) {
+        Ok(trouble) => trouble,
+        Err(_) => Trouble::Memory,
+    }
+}
+
+/// Where the pattern cannot be read on, and why.
+fn explained_pattern(
+    alloc: Global,
+    pattern: &str,
+    error: &PatternError,
+) -> Result<Trouble, AllocError> {
+    match error {
+        PatternError::Parse { at, kind } => {
+            let mut text = format!(in alloc; "the pattern cannot be read, {error} ({kind:?})")?;
+            push_excerpt(&mut text, pattern, *at)?;
+            Ok(Trouble::Refusal(text))
+        }
+        PatternError::Memory => Ok(Trouble::Memory),
+    }
+}
+
+/// The trouble that an error of the reader of patterns is, for this pattern.
+pub fn pattern_refusal(alloc: Global, pattern: &str, error: &PatternError) -> Trouble {
+    match explained_pattern(alloc, pattern, error) {
         Ok(trouble) => trouble,
         Err(_) => Trouble::Memory,
     }

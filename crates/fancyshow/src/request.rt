@@ -1,4 +1,4 @@
-//! What a part of the program is asked: a tree, a text and options, from words, files and standard input.
+//! What a part of the program is asked: a pattern or a tree, a text and options, from words, files and standard input.
 
 use crate::outcome::Trouble;
 use clap::ArgMatches;
@@ -7,10 +7,12 @@ use fancy_search::search::SearchOptions;
 use std::alloc::{AllocError, Global};
 use std::{fs, io};
 
-/// A tree and how it is analysed, compiled and searched for.
+/// A pattern or a tree, and how it is analysed, compiled and searched for.
 #[derive(Drop)]
 pub struct Request {
-    pub tree: String,
+    pub source: String,
+    /// The source is a tree, and no pattern.
+    pub is_tree: bool,
     pub arguments: Arguments,
 }
 
@@ -66,29 +68,65 @@ fn missing(alloc: Global, what: &str) -> Result<Trouble, AllocError> {
     Ok(Trouble::Words(String::from_str(alloc, what)?))
 }
 
-/// The tree, and the word that is left for the text: the first of two where the tree stands in a file.
-fn tree<'a>(
+/// The first word, which is the pattern or the tree.
+fn source<'a>(
     rt: &HostRuntime,
     matches: &ArgMatches<'a>,
+    second: Option<&'a str>,
 ) -> Result<(String, Option<&'a str>), Trouble> {
-    let (first, second) = (matches.get_str("TREE"), matches.get_str("TEXT"));
-    match (matches.get_str("tree-file"), first) {
-        (Some(_), _) if second.is_some() => {
-            Err(missing(
-                rt.alloc(),
-                "the tree is given twice, in a file and as a word",
-            )?)
-        }
-        (Some(path), text) => Ok((
-            on_one_line(rt.alloc(), read_file(rt, path)?.as_str())?,
-            text,
-        )),
-        (None, Some(tree)) => Ok((String::from_str(rt.alloc(), tree)?, second)),
-        (None, None) => Err(missing(
+    match matches.get_str("PATTERN") {
+        Some(word) => Ok((String::from_str(rt.alloc(), word)?, second)),
+        None => Err(missing(
             rt.alloc(),
-            "there is no tree: give TREE or --tree-file FILE",
+            "there is no pattern: give PATTERN, --pattern-file FILE or --tree-file FILE",
         )?),
     }
+}
+
+/// The source out of a file, and the word that is left for the text: the first, where there is no second.
+fn source_file<'a>(
+    rt: &HostRuntime,
+    matches: &ArgMatches<'a>,
+    second: Option<&'a str>,
+    path: &str,
+) -> Result<(String, Option<&'a str>), Trouble> {
+    match second {
+        Some(_) => Err(missing(
+            rt.alloc(),
+            "the pattern is given twice, in a file and as a word",
+        )?),
+        None => Ok((read_file(rt, path)?, matches.get_str("PATTERN"))),
+    }
+}
+
+/// The source as it is read: a tree on one line, a pattern without the line end of its file.
+fn prepared(alloc: Global, source: String, is_tree: bool) -> Result<String, AllocError> {
+    if is_tree {
+        on_one_line(alloc, source.as_str())
+    } else {
+        let pattern = source.as_str();
+        String::from_str(alloc, pattern.strip_suffix('\n').unwrap_or(pattern))
+    }
+}
+
+/// The request, and the word that is left for the text.
+fn request<'a>(
+    rt: &HostRuntime,
+    matches: &ArgMatches<'a>,
+) -> Result<(Request, Option<&'a str>), Trouble> {
+    let second = matches.get_str("TEXT");
+    let is_tree = matches.get_flag("tree") || matches.get_str("tree-file").is_some();
+    let file = matches.get_str("tree-file").or(matches.get_str("pattern-file"));
+    let (source, word) = match file {
+        Some(path) => source_file(rt, matches, second, path)?,
+        None => source(rt, matches, second)?,
+    };
+    let request = Request {
+        source: prepared(rt.alloc(), source, is_tree)?,
+        is_tree,
+        arguments: arguments(matches),
+    };
+    Ok((request, word))
 }
 
 fn text(rt: &HostRuntime, matches: &ArgMatches<'_>, word: Option<&str>) -> Result<String, Trouble> {
@@ -121,31 +159,23 @@ fn arguments(matches: &ArgMatches<'_>) -> Arguments {
     }
 }
 
-/// What is asked of a tree alone.
+/// What is asked of a pattern or a tree alone.
 pub fn tree_request(rt: &HostRuntime, matches: &ArgMatches<'_>) -> Result<Request, Trouble> {
-    let (tree, word) = tree(rt, matches)?;
-    if word.is_some() {
-        return Err(missing(
+    match request(rt, matches)? {
+        (request, None) => Ok(request),
+        (_, Some(_)) => Err(missing(
             rt.alloc(),
-            "the tree is given twice, in a file and as a word",
-        )?);
+            "the pattern is given twice, in a file and as a word",
+        )?),
     }
-    Ok(Request {
-        tree,
-        arguments: arguments(matches),
-    })
 }
 
-/// What is asked of a tree and a text, and the text.
+/// What is asked of a pattern or a tree and a text, and the text.
 pub fn text_request(
     rt: &HostRuntime,
     matches: &ArgMatches<'_>,
 ) -> Result<(Request, String), Trouble> {
-    let (tree, word) = tree(rt, matches)?;
+    let (request, word) = request(rt, matches)?;
     let text = text(rt, matches, word)?;
-    let request = Request {
-        tree,
-        arguments: arguments(matches),
-    };
     Ok((request, text))
 }

@@ -99,6 +99,6 @@ pub fn trace(alloc: Global, request: &Request, text: &str) -> Result<String, Tro
     match written {
         Ok(Some(written)) => Ok(written),
         Ok(None) => Err(no_place(alloc, options.pos)?),
-        Err(error) => Err(refusal(alloc, request.tree.as_str(), &error)),
+        Err(error) => Err(refusal(alloc, request.source.as_str(), &error)),
     }
 }

@@ -4,7 +4,7 @@ ghost use Rattle.fancy_expr.specs.Sound.{IsWellFormedTree};
 
 use crate::blame::{Whole, is_blamed};
 use crate::excerpt::push_times;
-use crate::find::read;
+use crate::source::read;
 use crate::list::compile;
 use crate::nodes::push_node;
 use crate::outcome::Trouble;
@@ -173,7 +173,7 @@ fn refused_page<'a>(
         Error::CompileError(refused) => {
             Ok(write_page(alloc, request, tree, info, Some(refused))?)
         }
-        _ => Err(refusal(alloc, request.tree.as_str(), error)),
+        _ => Err(refusal(alloc, request.source.as_str(), error)),
     }
 }
 

@@ -1,8 +1,9 @@
-//! How much of a tree matches where all of it does not: the longest beginning that does, and what does not follow.
+//! How much of a pattern or tree matches where all of it does not: the longest beginning that does, and what does not follow.
 
 use crate::excerpt::push_excerpt;
 use crate::find::{captures, push_match, push_taken};
 use crate::outcome::Trouble;
+use crate::prefixes::explain_pattern;
 use crate::refusals::refusal;
 use crate::request::Request;
 use crate::wants::Parts;
@@ -70,8 +71,8 @@ fn node<'t>(text: &'t str, placed: &[Placed], number: usize) -> &'t str {
     text.get(begin..end).unwrap_or("").trim_end()
 }
 
-/// Where a beginning of the tree matches first, if it is accepted and does.
-fn found(alloc: Global, request: &Request, text: &str) -> Result<Option<(usize, usize)>, Trouble> {
+/// Where a beginning matches first, if it is accepted and does.
+pub fn found(alloc: Global, request: &Request, text: &str) -> Result<Option<(usize, usize)>, Trouble> {
     match captures(alloc, request, text) {
         Ok((Some(captures), _)) => {
             let whole = captures.whole();
@@ -83,16 +84,18 @@ fn found(alloc: Global, request: &Request, text: &str) -> Result<Option<(usize, 
 }
 
 /// Writes the beginning that matches, where it does, and what does not follow there.
-fn report(
+pub fn report(
     alloc: Global,
     text: &str,
     (start, end): (usize, usize),
-    beginning: &str,
+    request: &Request,
     next: &str,
 ) -> Result<String, AllocError> {
     let taken = text.get(start..end).unwrap_or("");
+    let what = if request.is_tree { "tree" } else { "pattern" };
+    let beginning = request.source.as_str();
     let mut out = format!(in alloc;
-        "no match\nthis beginning of the tree matches:\n  {beginning}\nat {start}..{end}  "
+        "no match\nthis beginning of the {what} matches:\n  {beginning}\nat {start}..{end}  "
     )?;
     push_taken(&mut out, taken)?;
     write!(out, "\nand this does not follow:\n  {next}")?;
@@ -109,15 +112,16 @@ fn explain_cut(
     placed: &[Placed],
     cut: Cut,
 ) -> Result<Option<String>, Trouble> {
-    let tree = request.tree.as_str();
+    let tree = request.source.as_str();
     let shorter = Request {
-        tree: beginning(alloc, tree, placed, cut)?,
+        source: beginning(alloc, tree, placed, cut)?,
+        is_tree: true,
         arguments: request.arguments,
     };
     match found(alloc, &shorter, text)? {
         Some(span) => {
             let next = node(tree, placed, cut.tokens);
-            Ok(Some(report(alloc, text, span, shorter.tree.as_str(), next)?))
+            Ok(Some(report(alloc, text, span, &shorter, next)?))
         }
         None => Ok(None),
     }
@@ -140,8 +144,8 @@ fn explain_longest(
 }
 
 /// The longest beginning of the tree that matches, which has no match itself, and what does not follow.
-fn explain(alloc: Global, request: &Request, text: &str) -> Result<String, Trouble> {
-    let tree = request.tree.as_str();
+fn explain_tree(alloc: Global, request: &Request, text: &str) -> Result<String, Trouble> {
+    let tree = request.source.as_str();
     match tokens(alloc, tree) {
         Ok(placed) => {
             let cuts = cuts(alloc, &placed)?;
@@ -151,7 +155,15 @@ fn explain(alloc: Global, request: &Request, text: &str) -> Result<String, Troub
     }
 }
 
-/// Why a text has no match: the longest beginning of the tree that has one, and what does not follow there.
+fn explain(alloc: Global, request: &Request, text: &str) -> Result<String, Trouble> {
+    if request.is_tree {
+        explain_tree(alloc, request, text)
+    } else {
+        explain_pattern(alloc, request, text)
+    }
+}
+
+/// Why a text has no match: the longest beginning of the pattern or tree that has one, and what does not follow there.
 pub fn why(alloc: Global, request: &Request, text: &str) -> Result<String, Trouble> {
     match captures(alloc, request, text)? {
         (None, _) => explain(alloc, request, text),
