@@ -7,7 +7,7 @@ use Rattle.fancy_meaning.specs.FragmentStates.{visit_bound}
 use Rattle.fancy_nfa.specs.FirstWays.{AreEasy, first_seen}
 use Rattle.fancy_expr.specs.Walk.{within_of}
 use Rattle.fancy_plain.specs.declared.first_way.FirstWay.{FirstWay}
-use Rattle.fancy_plain.specs.declared.search.Memo.{Memo}
+use Rattle.fancy_backtrack.specs.declared.memo.Memo.{Memo}
 use Rattle.fancy_plain.specs.declared.one_pass.OnePass.{OnePass}
 use Rattle.fancy_plain.specs.declared.one_pass.OnePass.TheVariants as one_pass
 use Rattle.fancy_plain.specs.Ways.{IsMemoOf, IsSeenAs}

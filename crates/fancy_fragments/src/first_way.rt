@@ -3,14 +3,15 @@
 ghost use Rattle.std.specs.Prelude.{ℕ, Bool, List, false, IfOk, IfErr, IsTrue};
 ghost use Rattle.fancy_meaning.specs.Places.{is_place};
 ghost use Rattle.fancy_nfa.specs.NfaSearch.{Pair};
-ghost use Rattle.fancy_plain.specs.Searches.{HaveFailed, IsMemory};
+ghost use Rattle.fancy_backtrack.specs.Memos.{HaveFailed};
+ghost use Rattle.fancy_plain.specs.Searches.{IsMemory};
 ghost use Rattle.fancy_plain.specs.Ways.{CountsVisits, HasAscending};
 ghost use Rattle.fancy_fragments.specs.Fragments.{IsFirstWayOf, IsMemoFor};
 
 use crate::fragment::Fragment;
 use fancy_expr::error::Error;
 use fancy_plain::first_way::FirstWay;
-use fancy_plain::search::Memo;
+use fancy_backtrack::memo::Memo;
 use std::alloc::Global;
 
 /// The first way of the fragment from `ix`, a character boundary of the text. `Memory` where a request for memory was

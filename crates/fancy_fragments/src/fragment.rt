@@ -7,7 +7,7 @@ ghost use Rattle.fancy_expr.specs.Walk.{within_of};
 ghost use Rattle.fancy_info.specs.Infos.{info_tree};
 ghost use Rattle.fancy_plain.specs.OnePass.{IsOnePass};
 ghost use Rattle.fancy_plain.specs.Nfas.{HaveClasses, IsRefusedFor};
-ghost use Rattle.fancy_plain.specs.Searches.{HaveFailed};
+ghost use Rattle.fancy_backtrack.specs.Memos.{HaveFailed};
 ghost use Rattle.fancy_plain.specs.Ways.{HasNoWayAt, IsOfNodes};
 ghost use Rattle.fancy_fragments.specs.Nodes.{AreEasyNeighbours, BeginAt, IsLaidOut, fits_over, nodes_over, plain_tree};
 
@@ -19,7 +19,7 @@ use fancy_expr::walk::Within;
 use fancy_info::info::Info;
 use fancy_plain::nfa::Nfa;
 use fancy_plain::one_pass::OnePass;
-use fancy_plain::search::Memo;
+use fancy_backtrack::memo::Memo;
 use std::alloc::{AllocError, Global};
 use std::fmt;
 
@@ -92,7 +92,7 @@ impl Fragment {
         ensures memo { (text : List ℕ) → IsMemoFor text self.now result }
         ensures knows { HaveFailed result (λ pair. false) }
     {
-        Memo::new(alloc, &self.nfa, pos)
+        self.nfa.memo(alloc, pos)
     }
 
     /// Empties a memo of any fragment and any text for this one, and keeps its room.
@@ -100,7 +100,7 @@ impl Fragment {
         ensures memo { (text : List ℕ) → IsMemoFor text self.now memo.new }
         ensures knows { HaveFailed memo.new (λ pair. false) }
     {
-        memo.clear(&self.nfa, pos);
+        self.nfa.clear(memo, pos);
     }
 }
 

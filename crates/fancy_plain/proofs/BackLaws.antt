@@ -4,24 +4,25 @@ use Rattle.std.proofs.lemmas.List.{length-take}
 use Rattle.fancy_nfa.specs.NfaSearch as plain
 use Rattle.fancy_nfa.specs.FirstWays.{search_in}
 use Rattle.std.specs.declared.alloc.AllocError.{AllocError}
-use Rattle.fancy_plain.specs.declared.trail.Entry.{Entry}
-use Rattle.fancy_plain.specs.declared.trail.NfaConfig.{NfaConfig}
-use Rattle.fancy_plain.specs.declared.backtrack_stack.StackFrame.{StackFrame}
-use Rattle.fancy_plain.specs.declared.search.StepResult.{StepResult}
-use Rattle.fancy_plain.specs.declared.search.StepResult.TheVariants as step_result
-use Rattle.fancy_plain.specs.declared.search.Memo.{Memo}
+use Rattle.fancy_backtrack.specs.declared.trail.Entry.{Entry}
+use Rattle.fancy_backtrack.specs.declared.trail.NfaConfig.{NfaConfig}
+use Rattle.fancy_backtrack.specs.declared.backtrack_stack.StackFrame.{StackFrame}
+use Rattle.fancy_backtrack.specs.declared.memo.StepResult.{StepResult}
+use Rattle.fancy_backtrack.specs.declared.memo.StepResult.TheVariants as step_result
+use Rattle.fancy_backtrack.specs.declared.memo.Memo.{Memo}
 use Rattle.fancy_plain.specs.declared.search.Searcher.{Searcher}
-use Rattle.fancy_plain.specs.Paths.{IsConfig}
-use Rattle.fancy_plain.specs.Searches.{after_steps_of, leading_of, next_of, Advances, AreKept, ComesTo, EndsAs, GoesBack, HaveFailed, IsHere, IsSearch, Keeps, Leading, Leads}
-use Rattle.fancy_plain.specs.BacktrackStack.{choices_of}
+use Rattle.fancy_backtrack.specs.Paths.{IsConfig}
+use Rattle.fancy_plain.specs.Searches.{after_steps_of, continuation_of, next_of, Advances, ComesTo, EndsAs, GoesBack}
+use Rattle.fancy_backtrack.specs.Memos.{AreKept, HaveFailed, IsHere, IsSearch, Keeps, Continuation, Simulates}
+use Rattle.fancy_backtrack.specs.BacktrackStack.{choices_of}
 use Rattle.fancy_plain.specs.Runs.{GoesOn}
-use Rattle.fancy_plain.proofs.PathLaws.{agree_cut, kept_agree, config_agrees}
+use Rattle.fancy_backtrack.proofs.PathLaws.{agree_cut, kept_agree, config_agrees}
 
 -- some steps on it still goes back, and the memo stands for it
 abbrev pub IsBack : Searcher → Memo → plain.Next → Type 0
 IsBack searcher m next =
     (steps : ℕ) × ((f : plain.Search) ×
-    ((after_steps_of searcher steps next ≡ plain.TakesBack f) × IsSearch (leading_of searcher) m f))
+    ((after_steps_of searcher steps next ≡ plain.TakesBack f) × IsSearch (continuation_of searcher) m f))
 
 -- one step more
 pub one_more : (searcher : Searcher) (steps : ℕ) (n k : plain.Next) → after_steps_of searcher steps n ≡ k →
@@ -30,23 +31,23 @@ one_more searcher zero n k e = ap (next_of searcher) e
 one_more searcher (suc steps) n k e = one_more searcher steps (next_of searcher n) k e
 
 -- the last choice that is kept
-pub record IsLast (leading : Leading) (m : Memo) (c : StackFrame) (cs : List StackFrame) (f : plain.Search) : Type 0 where
+pub record IsLast (continuation : Continuation) (m : Memo) (c : StackFrame) (cs : List StackFrame) (f : plain.Search) : Type 0 where
   pub config : plain.NfaConfig
   pub rest : List plain.Frame
   pub within : c.path ≤ length m.trail.entries.items
   pub stands : IsConfig m.trail.entries.items c.path c.config config
-  pub keeps : Keeps c.is_untried (leading config) config rest f.frames
-  pub kept : AreKept leading m.trail.entries.items c.path cs rest
+  pub keeps : Keeps c.is_untried (continuation config) config rest f.frames
+  pub kept : AreKept continuation m.trail.entries.items c.path cs rest
 
-last_kept : (leading : Leading) (m : Memo) (c : StackFrame) (cs : List StackFrame) (f : plain.Search) → choices_of m.frames ≡ c ∷ cs →
-    IsSearch leading m f → IsLast leading m c cs f
-last_kept leading m c cs f e h =
-    let k = subst (λ l. AreKept leading m.trail.entries.items (length m.trail.entries.items) l f.frames) e h.frames in
+last_kept : (continuation : Continuation) (m : Memo) (c : StackFrame) (cs : List StackFrame) (f : plain.Search) → choices_of m.frames ≡ c ∷ cs →
+    IsSearch continuation m f → IsLast continuation m c cs f
+last_kept continuation m c cs f e h =
+    let k = subst (λ l. AreKept continuation m.trail.entries.items (length m.trail.entries.items) l f.frames) e h.frames in
     record { within = k.0; config = k.1.0; rest = k.1.1.0; stands = k.1.1.1.0; keeps = k.1.1.1.1; kept = k.1.1.1.2 }
 
-module _ (leading : Leading) (m cut : Memo) (c : StackFrame) (cs : List StackFrame) (f : plain.Search) (last : IsLast leading m c cs f)
+module _ (continuation : Continuation) (m cut : Memo) (c : StackFrame) (cs : List StackFrame) (f : plain.Search) (last : IsLast continuation m c cs f)
     (frames : choices_of cut.frames ≡ cs) (path : cut.trail.entries.items ≡ take c.path m.trail.entries.items)
-    (failed : cut.failed ≡ m.failed) (visits : cut.visits ≡ m.visits) (h : IsSearch leading m f) where
+    (failed : cut.failed ≡ m.failed) (visits : cut.visits ≡ m.visits) (h : IsSearch continuation m f) where
   abbrev es : List Entry
   es = m.trail.entries.items
 
@@ -60,44 +61,44 @@ module _ (leading : Leading) (m cut : Memo) (c : StackFrame) (cs : List StackFra
       (subst (λ l. IsConfig l c.path c.config last.config) (sym path)
       (config_agrees es (take c.path es) c.path c.config last.config (agree_cut c.path c.path es (omega arith)) last.stands))
 
-  search_cut : IsSearch leading cut (record f { frames = last.rest })
+  search_cut : IsSearch continuation cut (record f { frames = last.rest })
   search_cut = record {
     frames =
-        subst (λ l. AreKept leading cut.trail.entries.items (length cut.trail.entries.items) l last.rest) (sym frames)
-        (subst (λ n. AreKept leading cut.trail.entries.items n cs last.rest) (sym long)
-        (subst (λ l. AreKept leading l c.path cs last.rest) (sym path)
-        (kept_agree es (take c.path es) leading c.path cs last.rest (agree_cut c.path c.path es (omega arith)) last.kept)));
-    failed = λ p. ap (λ x. Rattle.fancy_plain.specs.FailedPairs.has_pair x (Rattle.fancy_plain.specs.FailedPairs.key_of p)) failed ∙ h.failed p;
+        subst (λ l. AreKept continuation cut.trail.entries.items (length cut.trail.entries.items) l last.rest) (sym frames)
+        (subst (λ n. AreKept continuation cut.trail.entries.items n cs last.rest) (sym long)
+        (subst (λ l. AreKept continuation l c.path cs last.rest) (sym path)
+        (kept_agree es (take c.path es) continuation c.path cs last.rest (agree_cut c.path c.path es (omega arith)) last.kept)));
+    failed = λ p. ap (λ x. Rattle.fancy_backtrack.specs.FailedPairs.has_pair x (Rattle.fancy_backtrack.specs.FailedPairs.key_of p)) failed ∙ h.failed p;
     visits = visits ∙ h.visits;
   }
 
 -- the last choice is taken off what is kept, and the path is cut to where it stands
-pub record Popped (leading : Leading) (cut : Memo) (c : StackFrame) (f : plain.Search) : Type 0 where
+pub record Popped (continuation : Continuation) (cut : Memo) (c : StackFrame) (f : plain.Search) : Type 0 where
   pub config : plain.NfaConfig
   pub rest : List plain.Frame
-  pub keeps : Keeps c.is_untried (leading config) config rest f.frames
-  pub search : IsSearch leading cut (record f { frames = rest })
+  pub keeps : Keeps c.is_untried (continuation config) config rest f.frames
+  pub search : IsSearch continuation cut (record f { frames = rest })
   pub here : IsHere cut c.config config
 
-pub popped : (leading : Leading) (m cut : Memo) (c : StackFrame) (f : plain.Search) → choices_of m.frames ≡ c ∷ choices_of cut.frames →
+pub popped : (continuation : Continuation) (m cut : Memo) (c : StackFrame) (f : plain.Search) → choices_of m.frames ≡ c ∷ choices_of cut.frames →
     cut.trail.entries.items ≡ take c.path m.trail.entries.items → cut.failed ≡ m.failed → cut.visits ≡ m.visits →
-    IsSearch leading m f → Popped leading cut c f
-popped leading m cut c f items path failed visits h =
+    IsSearch continuation m f → Popped continuation cut c f
+popped continuation m cut c f items path failed visits h =
     let cs = choices_of cut.frames in
-    let last = last_kept leading m c cs f items h in
+    let last = last_kept continuation m c cs f items h in
     record {
       config = last.config;
       rest = last.rest;
       keeps = last.keeps;
-      search = search_cut leading m cut c cs f last refl path failed visits h;
-      here = here_cut leading m cut c cs f last refl path failed visits h;
+      search = search_cut continuation m cut c cs f last refl path failed visits h;
+      here = here_cut continuation m cut c cs f last refl path failed visits h;
     }
 
 -- what the other way on answers is what going back answers
 pub goes_back : (searcher : Searcher) (next : plain.Next) (steps : ℕ) (s other : plain.NfaConfig) (f g : plain.Search)
     (result : Result StepResult AllocError) (m : Memo) → after_steps_of searcher steps next ≡ plain.TakesBack f →
     next_of searcher (plain.TakesBack f) ≡ plain.TakesUp other g → g.failed ≡ f.failed →
-    Leads (leading_of searcher) s f.failed (plain.TakesUp other g) result m → GoesBack searcher next result m
+    Simulates (continuation_of searcher) s f.failed (plain.TakesUp other g) result m → GoesBack searcher next result m
 goes_back searcher next steps s other f g (Ok (step_result.Found there)) m e up same (x, (is, h, stands)) = absurd (no_end is)
   where
     no_end : plain.TakesUp other g ≡ plain.Ends (Some s) x → ⊥
@@ -115,12 +116,12 @@ goes_back searcher next steps s other f g (Err error) m e up same failed = (
 )
 
 -- a pair is memoized, and nothing else changes
-pub search_memoized : (leading : Leading) (m new : Memo) (f : plain.Search) (p : plain.Pair) →
+pub search_memoized : (continuation : Continuation) (m new : Memo) (f : plain.Search) (p : plain.Pair) →
     new ≡ record m { numbers = new.numbers; failed = new.failed } → HaveFailed new (plain.with_failed p f).failed →
-    IsSearch leading m f → IsSearch leading new (plain.with_failed p f)
-search_memoized leading m new f p same failed h = record {
+    IsSearch continuation m f → IsSearch continuation new (plain.with_failed p f)
+search_memoized continuation m new f p same failed h = record {
   frames =
-      subst (λ (n : Memo). AreKept leading n.trail.entries.items (length n.trail.entries.items) (choices_of n.frames) f.frames) (sym same) h.frames;
+      subst (λ (n : Memo). AreKept continuation n.trail.entries.items (length n.trail.entries.items) (choices_of n.frames) f.frames) (sym same) h.frames;
   failed = failed;
   visits = ap (λ (n : Memo). n.visits) same ∙ h.visits;
 }
@@ -132,9 +133,9 @@ pub back_memoized : (searcher : Searcher) (next : plain.Next) (steps : ℕ) (f :
 back_memoized searcher next steps f s rest e keeps =
     one_more searcher steps next (plain.TakesBack f) e ∙ ap (λ l. plain.back_to l f) keeps
 
-pub none_kept : (leading : Leading) (entries : List Entry) (path : ℕ) (cs : List StackFrame) (frames : List plain.Frame) → cs ≡ [] →
-    AreKept leading entries path cs frames → frames ≡ []
-none_kept leading entries path cs frames e h = subst (λ l. AreKept leading entries path l frames) e h
+pub none_kept : (continuation : Continuation) (entries : List Entry) (path : ℕ) (cs : List StackFrame) (frames : List plain.Frame) → cs ≡ [] →
+    AreKept continuation entries path cs frames → frames ≡ []
+none_kept continuation entries path cs frames e h = subst (λ l. AreKept continuation entries path l frames) e h
 
 -- ---- from a step to the next
 
@@ -149,7 +150,7 @@ steps_then searcher (suc k) j n w e =
 
 -- one step alone
 pub comes_by : (searcher : Searcher) (s : plain.NfaConfig) (f : plain.Search) (result : Result StepResult AllocError) (m : Memo) →
-    Leads (leading_of searcher) s f.failed (next_of searcher (plain.TakesUp s f)) result m → ComesTo searcher (plain.TakesUp s f) result m
+    Simulates (continuation_of searcher) s f.failed (next_of searcher (plain.TakesUp s f)) result m → ComesTo searcher (plain.TakesUp s f) result m
 comes_by searcher s f (Ok (step_result.Found there)) m (g, (is, h, stands)) = (1, (g, (s, (is, h, stands))))
 comes_by searcher s f (Ok step_result.Lost) m (g, (is, h)) = (1, (g, (is, h)))
 comes_by searcher s f (Ok (step_result.Goes there)) m (g, (t, (is, h, stands))) = (1, (g, (t, (is, h, stands))))

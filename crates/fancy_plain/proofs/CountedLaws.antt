@@ -9,17 +9,17 @@ use Rattle.fancy_nfa.specs.NfaStates as states
 use Rattle.fancy_nfa.specs.NfaSearch as plain
 use Rattle.fancy_nfa.specs.NfaSearch.{is_last, next_count}
 use Rattle.fancy_plain.specs.declared.nfa_state.CharTest.{CharTest}
-use Rattle.fancy_plain.specs.declared.nfa_state.Loop as code
+use Rattle.fancy_backtrack.specs.declared.loops.Loop as code
 use Rattle.fancy_plain.specs.declared.nfa_state.NfaState.TheVariants as nfa_state
 use Rattle.fancy_plain.specs.declared.search.Searcher.{Searcher}
-use Rattle.fancy_plain.specs.declared.search.LoopChoice.TheVariants as loop_choice
+use Rattle.fancy_backtrack.specs.declared.loops.LoopChoice.TheVariants as loop_choice
 use Rattle.fancy_expr.specs.Views.{bound_of}
 use Rattle.fancy_plain.specs.CountedWays.{PassesMost, PassesSome}
-use Rattle.fancy_plain.specs.Runs.{IsBody, Refuses}
+use Rattle.fancy_plain.specs.Runs.{IsBody, Excludes}
 use Rattle.fancy_plain.specs.OnePass.{Loses, Walks, config_at}
-use Rattle.fancy_plain.specs.Views.{loop_of}
+use Rattle.fancy_backtrack.specs.Loops.{loop_of}
 use Rattle.fancy_plain.proofs.RunLaws.{fails_at_once, test_fails}
-use Rattle.fancy_plain.proofs.SearchLaws.{counter_loop_by}
+use Rattle.fancy_backtrack.proofs.MemoLaws.{counter_loop_by}
 use Rattle.fancy_plain.proofs.OnePassLaws.{Test, goes, joined, loses, loses_behind, onward, past_char_further, remains, tries_first, tries_memoized, tries_only, unsure}
 
 -- ---- how far the iterations are counted
@@ -171,7 +171,7 @@ module _ (searcher : Searcher) (bounds : code.Loop) (head after : ℕ) (test : C
       (counter_loop_by loop after (at_head c place) (counter c) [] place (counter c ∷ []) loop_choice.Out refl refl last)
 
   -- where no character passes
-  leaves : (c place : ℕ) → is_last loop.hi c ≡ false → nat_lt c loop.lo ≡ false → Refuses searcher test place →
+  leaves : (c place : ℕ) → is_last loop.hi c ≡ false → nat_lt c loop.lo ≡ false → Excludes searcher test place →
       Walks searcher true (at_head c place) (config_at after place)
   leaves c place goes enough refused =
       tries_memoized searcher (nfa_state.CounterLoop bounds after) (at_head c place) there (at_body (next_count loop.lo loop.hi c) place)
@@ -181,7 +181,7 @@ module _ (searcher : Searcher) (bounds : code.Loop) (head after : ℕ) (test : C
       (fails_at_once searcher (head + 1) place (test_fails searcher test (head + 1) place body.0 refused))
 
   -- where one had to
-  fails_short : (c place : ℕ) → is_last loop.hi c ≡ false → nat_lt c loop.lo ≡ true → Refuses searcher test place →
+  fails_short : (c place : ℕ) → is_last loop.hi c ≡ false → nat_lt c loop.lo ≡ true → Excludes searcher test place →
       Loses searcher (at_head c place)
   fails_short c place goes few refused =
       let into = at_body (next_count loop.lo loop.hi c) place in

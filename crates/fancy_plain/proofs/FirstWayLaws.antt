@@ -20,15 +20,16 @@ use Rattle.fancy_plain.specs.declared.first_way.FirstWay.{FirstWay}
 use Rattle.fancy_plain.specs.declared.first_way.Way.{Way}
 use Rattle.fancy_plain.specs.declared.nfa.Nfa.{Nfa}
 use Rattle.fancy_plain.specs.declared.nfa_state.NfaState as code
-use Rattle.fancy_plain.specs.FailedPairs.{has_pair, key_of}
-use Rattle.fancy_plain.specs.declared.trail.Entry.{Entry}
-use Rattle.fancy_plain.specs.declared.trail.NfaConfig.{NfaConfig}
-use Rattle.fancy_plain.specs.declared.search.Memo.{Memo}
+use Rattle.fancy_backtrack.specs.FailedPairs.{has_pair, key_of}
+use Rattle.fancy_backtrack.specs.declared.trail.Entry.{Entry}
+use Rattle.fancy_backtrack.specs.declared.trail.NfaConfig.{NfaConfig}
+use Rattle.fancy_backtrack.specs.declared.memo.Memo.{Memo}
 use Rattle.fancy_plain.specs.declared.search.Searcher.{Searcher}
 use Rattle.fancy_plain.specs.Nfas.{IsNfaOf}
-use Rattle.fancy_plain.specs.Paths.{closed_after}
-use Rattle.fancy_plain.specs.BacktrackStack.{choices_of}
-use Rattle.fancy_plain.specs.Searches.{AreKept, EndsAs, HaveFailed, IsHere, IsSearch, Leading, leading_of, saturated}
+use Rattle.fancy_backtrack.specs.Paths.{closed_after}
+use Rattle.fancy_backtrack.specs.BacktrackStack.{choices_of}
+use Rattle.fancy_backtrack.specs.Memos.{AreKept, HaveFailed, IsHere, IsSearch, Continuation, saturated}
+use Rattle.fancy_plain.specs.Searches.{EndsAs, continuation_of}
 use Rattle.fancy_plain.specs.FirstSets.{is_begun_by, may_begin}
 use Rattle.fancy_plain.specs.RequiredBytes.{AreRequired, lacks}
 use Rattle.fancy_plain.specs.Views.{state_of}
@@ -60,11 +61,11 @@ module _ (text : List ℕ) (unicode : Bool) (states : List NfaState) where
 
 -- ---- before the first state
 
-module _ (leading : Leading) (m : Memo) (failed : Pair → Bool) (place : ℕ) (path : m.trail.entries.items ≡ [])
+module _ (continuation : Continuation) (m : Memo) (failed : Pair → Bool) (place : ℕ) (path : m.trail.entries.items ≡ [])
     (frames : choices_of m.frames ≡ []) (visits : m.visits ≡ 0) (have : HaveFailed m failed) where
-  pub search_at_start : IsSearch leading m (plain.first_search failed)
+  pub search_at_start : IsSearch continuation m (plain.first_search failed)
   search_at_start = record {
-    frames = subst (λ backtrack_stack. AreKept leading m.trail.entries.items (length m.trail.entries.items) backtrack_stack [])
+    frames = subst (λ backtrack_stack. AreKept continuation m.trail.entries.items (length m.trail.entries.items) backtrack_stack [])
         (sym frames) refl;
     failed = have;
     visits = omega (arith, visits);
@@ -194,15 +195,15 @@ module _ (states : Bor (List code.NfaState)) (text : Bor (List ℕ)) (nfa : Nfa)
   -- the search answered this, from whatever the code stands for at its start
   abbrev Finds : Result (Option NfaConfig) AllocError → Memo → Type 0
   Finds r n =
-      (s : plain.NfaConfig) (f : Search) → IsSearch (leading_of searcher) m f →
+      (s : plain.NfaConfig) (f : Search) → IsSearch (continuation_of searcher) m f →
       IsHere m (record { at = 0; place = place; counters = 0; opened = 0 }) s → EndsAs searcher (TakesUp s f) r n
 
   ends : (r : Result (Option NfaConfig) AllocError) (n : Memo) → Finds r n →
       EndsAs searcher (TakesUp (plain.first_config place) (plain.first_search memo.0)) r n
   ends r n h =
       let have : HaveFailed m memo.0 = λ p. ap (λ x. has_pair x (key_of p)) failed ∙ memo.1.0 p in
-      h (plain.first_config place) (plain.first_search memo.0) (search_at_start (leading_of searcher) m memo.0 place path frames visits have)
-      (here_at_start (leading_of searcher) m memo.0 place path frames visits have)
+      h (plain.first_config place) (plain.first_search memo.0) (search_at_start (continuation_of searcher) m memo.0 place path frames visits have)
+      (here_at_start (continuation_of searcher) m memo.0 place path frames visits have)
 
   pub end_refused : (e : AllocError) (n : Memo) → Finds (Err e) n → IsMemoOf text.now nfa n
   end_refused e n h =
@@ -229,8 +230,8 @@ module _ (states : Bor (List code.NfaState)) (text : Bor (List ℕ)) (nfa : Nfa)
       let have : HaveFailed m known = λ p. ap (λ x. has_pair x (key_of p)) failed ∙ knows p in
       subst (λ ps. Ended text.now nfa.unicode ps known place there n) (ap (map state_of) same)
       (ended searcher known place there n
-      (h (plain.first_config place) (plain.first_search known) (search_at_start (leading_of searcher) m known place path frames visits have)
-      (here_at_start (leading_of searcher) m known place path frames visits have)))
+      (h (plain.first_config place) (plain.first_search known) (search_at_start (continuation_of searcher) m known place path frames visits have)
+      (here_at_start (continuation_of searcher) m known place path frames visits have)))
 
 pub counted_by : (text : List ℕ) (f : Nfa) (place : ℕ) (memo : Memo) (known : Pair → Bool) → HaveFailed memo known →
     (r : Result FirstWay Error) →

@@ -1,8 +1,4 @@
-pub mod PathLaws
 pub mod SearchLaws
-pub mod PairBitLaws
-pub mod FailedLaws
-pub mod PairKeys
 pub mod Nodes
 pub mod Laid
 pub mod Texts
@@ -10,7 +6,6 @@ pub mod Branches
 pub mod Built
 pub mod BackLaws
 pub mod RunLaws
-pub mod BacktrackStackLaws
 pub mod WayLaws
 pub mod FirstWayLaws
 pub mod ReadStates

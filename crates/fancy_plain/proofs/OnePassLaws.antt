@@ -14,7 +14,7 @@ use Rattle.fancy_nfa.specs.NfaStates as states
 use Rattle.fancy_nfa.specs.NfaSearch as plain
 use Rattle.fancy_nfa.specs.NfaSearch.{Ends, Fails, Goes, Lost, Other, Search, TakesBack, TakesUp, first_search, goes_to, pair_of, passes}
 use Rattle.fancy_nfa.specs.FirstWays.{first_seen, no_pairs, searched, seen_of}
-use Rattle.fancy_plain.specs.declared.trail.NfaConfig.{NfaConfig}
+use Rattle.fancy_backtrack.specs.declared.trail.NfaConfig.{NfaConfig}
 use Rattle.fancy_plain.specs.declared.nfa_state.CharTest.{CharTest}
 use Rattle.fancy_plain.specs.declared.nfa_state.NfaState.{NfaState}
 use Rattle.fancy_plain.specs.declared.nfa_state.NfaState.TheVariants as nfa_state

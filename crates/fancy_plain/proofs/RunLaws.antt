@@ -8,36 +8,40 @@ use Rattle.fancy_meaning.specs.Moves.{past_char}
 use Rattle.fancy_nfa.specs.NfaStates as states
 use Rattle.fancy_nfa.specs.NfaSearch as plain
 use Rattle.fancy_nfa.specs.NfaSearch.{Frame, Search, TakesUp, goes_to, pair_of, passes}
-use Rattle.fancy_plain.specs.declared.backtrack_stack.StackFrame.{StackFrame}
-use Rattle.fancy_plain.specs.declared.trail.Entry.{Entry}
-use Rattle.fancy_plain.specs.declared.trail.Trail.{Trail}
-use Rattle.fancy_plain.specs.declared.trail.NfaConfig.{NfaConfig}
-use Rattle.fancy_plain.specs.declared.trail.LoopCounter.{LoopCounter}
+use Rattle.fancy_backtrack.specs.declared.backtrack_stack.StackFrame.{StackFrame}
+use Rattle.fancy_backtrack.specs.declared.trail.Entry.{Entry}
+use Rattle.fancy_backtrack.specs.declared.trail.Trail.{Trail}
+use Rattle.fancy_backtrack.specs.declared.trail.NfaConfig.{NfaConfig}
+use Rattle.fancy_backtrack.specs.declared.trail.LoopCounter.{LoopCounter}
 use Rattle.fancy_plain.specs.declared.nfa_state.CharTest.{CharTest}
-use Rattle.fancy_plain.specs.declared.nfa_state.Loop as code
+use Rattle.fancy_backtrack.specs.declared.loops.Loop as code
 use Rattle.fancy_plain.specs.declared.nfa_state.NfaState.{NfaState}
 use Rattle.fancy_plain.specs.declared.nfa_state.NfaState.TheVariants as nfa_state
-use Rattle.fancy_plain.specs.declared.search.StepResult.{StepResult}
-use Rattle.fancy_plain.specs.declared.search.StepResult.TheVariants as step_result
-use Rattle.fancy_plain.specs.declared.search.Memo.{Memo}
+use Rattle.fancy_backtrack.specs.declared.memo.StepResult.{StepResult}
+use Rattle.fancy_backtrack.specs.declared.memo.StepResult.TheVariants as step_result
+use Rattle.fancy_backtrack.specs.declared.memo.Memo.{Memo}
 use Rattle.fancy_plain.specs.declared.search.Searcher.{Searcher}
 use Rattle.fancy_plain.specs.AsciiRuns.{AllPass}
-use Rattle.fancy_plain.specs.BacktrackStack.{choices_of, run_choices}
-use Rattle.fancy_plain.specs.Paths.{EndsCounters, HasCounters, IsConfig, counter_of}
-use Rattle.fancy_plain.specs.Runs.{CanPass, FailsAtOnce, FailsFrom, GoesOn, lost_visits, IsBody, IsLoopSplitOf, IsLostAt, IsRun, Passes, Refuses, Repeats, RunsOver, onward, run_frames, run_search}
-use Rattle.fancy_plain.specs.Searches.{AreKept, HaveFailed, IsHere, IsSearch, IsSearcher, Keeps, Leading, Leads, fails_of, after_steps_of, leading_of, next_of, saturated}
-use Rattle.fancy_plain.specs.Views.{IsReadBy, loop_of, state_of, test_of}
-use Rattle.fancy_plain.specs.FailedPairs.{has_pair, key_of}
+use Rattle.fancy_backtrack.specs.BacktrackStack.{choices_of, run_choices}
+use Rattle.fancy_backtrack.specs.Paths.{EndsCounters, HasCounters, IsConfig, counter_of}
+use Rattle.fancy_plain.specs.Runs.{CanPass, FailsAtOnce, FailsFrom, GoesOn, lost_visits, IsBody, IsLostAt, IsRun, Passes, Excludes, RunsOver}
+use Rattle.fancy_backtrack.specs.Memos.{IsLoopSplitOf, onward, run_frames, run_search, AreKept, HaveFailed, IsHere, IsSearch, Keeps, Continuation, Simulates, fails_of, saturated}
+use Rattle.fancy_backtrack.specs.Loops.{Repeats, loop_of}
+use Rattle.fancy_plain.specs.Searches.{IsSearcher, after_steps_of, continuation_of, next_of}
+use Rattle.fancy_plain.specs.Views.{IsReadBy, state_of, test_of}
+use Rattle.fancy_backtrack.specs.FailedPairs.{has_pair, key_of}
+use Rattle.fancy_backtrack.proofs.KeptRunLaws.{onward_configs}
 use Rattle.fancy_plain.proofs.BackLaws.{back_memoized, one_more, steps_then}
 use Rattle.fancy_plain.proofs.FirstSetLaws.{at_index, passes_alike, past_ascii, past_end}
-use Rattle.fancy_plain.proofs.SearchLaws.{here_by, here_past, inside, key_outside, steps_by, more_states, next_there, one_visit, same_tries}
+use Rattle.fancy_backtrack.proofs.MemoLaws.{here_by, here_past, inside, key_outside, more_states, one_visit, same_tries}
+use Rattle.fancy_plain.proofs.SearchLaws.{steps_by, next_there}
 
 -- ---- the heads of loops
 
 -- a loop that does not count
 pub loop_split_of : (searcher : Searcher) (here : NfaConfig) (first second : ℕ) →
     slice_get (searcher.states).now here.at ≡ Some (nfa_state.LoopSplit first second) →
-    (s : plain.NfaConfig) → here.at ≡ s.at → IsLoopSplitOf (leading_of searcher) first (goes_to second) s
+    (s : plain.NfaConfig) → here.at ≡ s.at → IsLoopSplitOf (continuation_of searcher) first (goes_to second) s
 loop_split_of searcher here first second head s at n = steps_by searcher (nfa_state.LoopSplit first second) here (onward n s) at head
 
 steps_on : (loop : states.Loop) (after : ℕ) (s : plain.NfaConfig) (t : plain.LoopCounter) (around : List plain.LoopCounter) →
@@ -67,11 +71,11 @@ steps_on loop after s t around greedy bound asks is =
 pub head_of : (searcher : Searcher) (here : NfaConfig) (loop : code.Loop) (after : ℕ) →
     slice_get (searcher.states).now here.at ≡ Some (nfa_state.CounterLoop loop after) →
     (s : plain.NfaConfig) → here.at ≡ s.at → Repeats (loop_of loop) s.counters →
-    (out : plain.NfaConfig → plain.NfaConfig) × IsLoopSplitOf (leading_of searcher) (here.at + 1) out s
+    (out : plain.NfaConfig → plain.NfaConfig) × IsLoopSplitOf (continuation_of searcher) (here.at + 1) out s
 head_of searcher here loop after head s at repeats = by_counters s.counters refl repeats
   where
     by_counters : (counters : List plain.LoopCounter) → s.counters ≡ counters → Repeats (loop_of loop) counters →
-        (out : plain.NfaConfig → plain.NfaConfig) × IsLoopSplitOf (leading_of searcher) (here.at + 1) out s
+        (out : plain.NfaConfig → plain.NfaConfig) × IsLoopSplitOf (continuation_of searcher) (here.at + 1) out s
     by_counters [] e h = absurd h
     by_counters (t ∷ around) e (greedy, bound, asks, is) = (
       λ x. record (goes_to after x) { counters = around },
@@ -88,7 +92,7 @@ head_of searcher here loop after head s at repeats = by_counters s.counters refl
 module _ (searcher : Searcher) (here : NfaConfig) (first : ℕ) (out : plain.NfaConfig → plain.NfaConfig) (test : CharTest)
     (body : slice_get (searcher.states).now first ≡ Some (nfa_state.Character test))
     (back : slice_get (searcher.states).now (first + 1) ≡ Some (nfa_state.Jump here.at))
-    (s : plain.NfaConfig) (at : here.at ≡ s.at) (loop_splits : IsLoopSplitOf (leading_of searcher) first out s)
+    (s : plain.NfaConfig) (at : here.at ≡ s.at) (loop_splits : IsLoopSplitOf (continuation_of searcher) first out s)
     (counted : plain.is_counted (slice_get (map state_of (searcher.states).now) here.at) ≡ true) where
   abbrev taken : Search → plain.NfaConfig → Search
   taken g t = record g {
@@ -118,14 +122,15 @@ module _ (searcher : Searcher) (here : NfaConfig) (first : ℕ) (out : plain.Nfa
   back_step t g e = next_there searcher (nfa_state.Jump here.at) (record here { at = first + 1 }) t (sym e) back g
 
   -- where no character passes, it goes on by the way out
-  pub body_fails : (f : Search) → f.failed (pair_of s) ≡ false → Refuses searcher test s.place →
-      (leading_of searcher s ≡ plain.Tries true (goes_to first s) (out s ∷ []))
+  pub body_fails : (f : Search) → f.failed (pair_of s) ≡ false → Excludes searcher test s.place →
+      (continuation_of searcher s ≡ plain.Tries true (goes_to first s) (out s ∷ []))
       × (after_steps_of searcher 3 (TakesUp s f)
       ≡ TakesUp (out s) (record f { frames = plain.Fails (pair_of s) ∷ f.frames; visits = f.visits + 2 }))
   body_fails f free none =
       let same : s.place + 0 ≡ s.place = omega arith in
-      let step_result : leading_of searcher s ≡ plain.Tries true (goes_to first s) (out s ∷ []) =
-      subst (λ i. leading_of searcher (record s { place = i }) ≡ plain.Tries true (goes_to first (record s { place = i })) (out (record s { place = i }) ∷ []))
+      let step_result : continuation_of searcher s ≡ plain.Tries true (goes_to first s) (out s ∷ []) =
+      subst (λ i. continuation_of searcher (record s { place = i })
+      ≡ plain.Tries true (goes_to first (record s { place = i })) (out (record s { place = i }) ∷ []))
       same (loop_splits 0) in
       let all = map state_of (searcher.states).now in
       let g = taken f s in
@@ -170,93 +175,6 @@ module _ (searcher : Searcher) (here : NfaConfig) (first : ℕ) (out : plain.Nfa
       let three = one_more searcher (suc (suc on.0)) (TakesUp s f) _ two ∙ back_step _ _ refl in
       (suc (suc (suc on.0)), three ∙ behind n f)
 
--- ---- what is kept
-
-onward_configs : (entries : List Entry) (path : ℕ) (here : NfaConfig) (s : plain.NfaConfig) (place n : ℕ) → place ≡ s.place + n →
-    IsConfig entries path here s → IsConfig entries path (record here { place = place }) (onward n s)
-onward_configs entries path here s place n e h = record {
-  at = h.at;
-  place = e;
-  counters_link = h.counters_link;
-  opened_link = h.opened_link;
-  counters = h.counters;
-  opened = h.opened;
-  spans = h.spans;
-}
-
-module _ (leading : Leading) (entries : List Entry) (here : NfaConfig) (s : plain.NfaConfig) (first : ℕ) (out : plain.NfaConfig → plain.NfaConfig)
-    (loop_splits : IsLoopSplitOf leading first out s) (stands : IsConfig entries (length entries) here s) (cs : List StackFrame) (frames : List Frame)
-    (kept : AreKept leading entries (length entries) cs frames) where
-  abbrev choice_at : ℕ → StackFrame
-  choice_at place = record { config = record here { place = place }; path = length entries; is_untried = true }
-
-  pub run_kept : (n place : ℕ) → place ≡ s.place + n →
-      AreKept leading entries (length entries) (run_choices n (choice_at place) ++ cs) (run_frames out (suc n) s frames)
-  run_kept zero place e = (
-    omega arith,
-    (
-      onward 0 s,
-      (
-        frames,
-        (
-          onward_configs entries (length entries) here s place 0 e stands,
-          (true, (goes_to first (onward 0 s), (out (onward 0 s), (loop_splits 0, refl)))),
-          kept,
-        ),
-      ),
-    ),
-  )
-  run_kept (suc n) place e = (
-    omega arith,
-    (
-      onward (suc n) s,
-      (
-        run_frames out (suc n) s frames,
-        (
-          onward_configs entries (length entries) here s place (suc n) e stands,
-          (true, (goes_to first (onward (suc n) s), (out (onward (suc n) s), (loop_splits (suc n), refl)))),
-          run_kept n (place - 1) (omega (arith, e)),
-        ),
-      ),
-    ),
-  )
-
--- the memo behind a run
-pub run_stands : (leading : Leading) (m new : Memo) (here on : NfaConfig) (s : plain.NfaConfig) (f : Search) (first : ℕ)
-    (out : plain.NfaConfig → plain.NfaConfig) (count place : ℕ) →
-    0 < count → place ≡ here.place + count - 1 → on ≡ record here { place = here.place + count } →
-    choices_of new.frames
-    ≡ run_choices (count - 1) (record { config = record here { place = place }; path = length m.trail.entries.items; is_untried = true })
-    ++ choices_of m.frames →
-    new ≡ record m { frames = new.frames; visits = new.visits } → new.visits ≡ saturated (m.visits + 2 * count) →
-    IsSearch leading m f → IsHere m here s → IsLoopSplitOf leading first out s →
-    IsSearch leading new (run_search out count s f) × IsHere new on (onward count s)
-run_stands leading m new here on s f first out zero place some at to items rest visits h stands loop_splits = absurd (omega (arith, some))
-run_stands leading m new here on s f first out (suc n) place some at to items rest visits h stands loop_splits =
-    let es = m.trail.entries.items in
-    let trail : new.trail ≡ m.trail = ap (λ (x : Memo). x.trail) rest in
-    let same : new.failed ≡ m.failed = ap (λ (x : Memo). x.failed) rest in
-    let kept = run_kept leading es here s first out loop_splits stands (choices_of m.frames) f.frames h.frames n place
-    (let p = stands.place in omega (arith, at, p)) in
-    let count : suc n - 1 ≡ n = omega arith in (
-      record {
-        frames =
-            subst (λ cs. AreKept leading new.trail.entries.items (length new.trail.entries.items) cs (run_frames out (suc n) s f.frames)) (sym items)
-            (subst (λ k. AreKept leading new.trail.entries.items (length new.trail.entries.items)
-            (run_choices k (record { config = record here { place = place }; path = length es; is_untried = true }) ++ choices_of m.frames)
-            (run_frames out (suc n) s f.frames)) (sym count)
-            (subst (λ (l : Trail). AreKept leading l.entries.items (length l.entries.items)
-            (run_choices n (record { config = record here { place = place }; path = length es; is_untried = true }) ++ choices_of m.frames)
-            (run_frames out (suc n) s f.frames)) (sym trail) kept));
-        failed = λ p. ap (λ x. has_pair x (key_of p)) same ∙ h.failed p;
-        visits = let v = h.visits in omega (arith, v, visits);
-      },
-      subst (λ x. IsHere new x (onward (suc n) s)) (sym to)
-          (subst (λ (l : Trail). IsConfig l.entries.items (length l.entries.items)
-          (record here { place = here.place + suc n }) (onward (suc n) s)) (sym trail)
-          (onward_configs es (length es) here s (here.place + suc n) (suc n) (ap (λ i. i + suc n) stands.place) stands)),
-    )
-
 -- ---- from a step to the next
 
 pub goes_on_then : (searcher : Searcher) (next : plain.Next) (k : ℕ) (f : Search) (s : plain.NfaConfig) (m : Memo) (there : NfaConfig) →
@@ -267,9 +185,10 @@ goes_on_then searcher next k f s m there e (j, (g, (t, (is, h, stands)))) =
 -- a run that was found is passed
 pub past_run : (searcher : Searcher) (m new : Memo) (test : CharTest) (here : NfaConfig) (count : ℕ) (r : Result NfaConfig AllocError) →
     RunsOver searcher m here test → IsRun searcher m test here count →
-    IfOk r (λ on. (leading : Leading) (f : Search) (s : plain.NfaConfig) (first : ℕ) (out : plain.NfaConfig → plain.NfaConfig) → IsSearch leading m f →
-    IsHere m here s → IsLoopSplitOf leading first out s → IsSearch leading new (run_search out count s f) × IsHere new on (onward count s)) →
-    IfOk r (λ on. (s : plain.NfaConfig) (f : Search) → IsSearch (leading_of searcher) m f → IsHere m here s → GoesOn searcher (TakesUp s f) new on)
+    IfOk r (λ on. (continuation : Continuation) (f : Search) (s : plain.NfaConfig)
+    (first : ℕ) (out : plain.NfaConfig → plain.NfaConfig) → IsSearch continuation m f →
+    IsHere m here s → IsLoopSplitOf continuation first out s → IsSearch continuation new (run_search out count s f) × IsHere new on (onward count s)) →
+    IfOk r (λ on. (s : plain.NfaConfig) (f : Search) → IsSearch (continuation_of searcher) m f → IsHere m here s → GoesOn searcher (TakesUp s f) new on)
 past_run searcher m new test here count (Err e) over run keeps = tt
 past_run searcher m new test here count (Ok on) over run keeps = λ s f h stands.
     let loop = over s stands in
@@ -277,7 +196,7 @@ past_run searcher m new test here count (Ok on) over run keeps = λ s f h stands
     let out = loop.1.0 in
     let loop_splits = loop.1.1.0 in
     let body = loop.1.1.2 in
-    let kept = keeps (leading_of searcher) f s first out h stands loop_splits in
+    let kept = keeps (continuation_of searcher) f s first out h stands loop_splits in
     let place = stands.place in
     let steps = run_on searcher here first out test body.0 body.1 s stands.at loop_splits loop.1.1.1 count f
     (λ k below.
@@ -300,10 +219,11 @@ runs_onward searcher m new here test count trail over = λ s stands.
     let loop = over began first_here in
     let first = loop.0 in
     let out = loop.1.0 in
-    let loop_splits : IsLoopSplitOf (leading_of searcher) first out s =
+    let loop_splits : IsLoopSplitOf (continuation_of searcher) first out s =
     λ n.
     let same : here.place + (count + n) ≡ s.place + n = let p = stands.place in omega (arith, p) in
-    subst (λ i. leading_of searcher (record s { place = i }) ≡ plain.Tries true (goes_to first (record s { place = i })) (out (record s { place = i }) ∷ []))
+    subst (λ i. continuation_of searcher (record s { place = i })
+    ≡ plain.Tries true (goes_to first (record s { place = i })) (out (record s { place = i }) ∷ []))
     same (loop.1.1.0 (count + n)) in
     (first, (out, (loop_splits, loop.1.1.1, loop.1.1.2)))
   where
@@ -403,29 +323,11 @@ blank_run bytes searcher m test here to e all ordered blank i from below =
     let h = all i from (omega (arith, ordered, below)) in
     may_pass_by bytes searcher m test here i e h.0 h.1 h.2 (λ s failed stands have. blank failed have (pair_of s))
 
--- ---- a pair that may have a way
-
-pub free_outside : (m : Memo) (here : NfaConfig) → here.counters ≡ 0 → has_pair m.failed (here.at ∷ here.place ∷ []) ≡ false →
-    (s : plain.NfaConfig) (failed : plain.Pair → Bool) → IsHere m here s → HaveFailed m failed → failed (pair_of s) ≡ false
-free_outside m here none free s failed stands have =
-    sym (have (pair_of s)) ∙ ap (has_pair m.failed) (sym (key_outside m here s stands none)) ∙ free
-
--- so it is inside one iteration
-pub free_inside : (m : Memo) (here : NfaConfig) (counter : LoopCounter) (outer : ℕ) (numbers : List ℕ) → outer ≡ 0 →
-    ((s : plain.NfaConfig) → here.at ≡ s.at → here.place ≡ s.place → counter_of counter ∷ [] ≡ s.counters → numbers ≡ key_of (pair_of s)) →
-    ((counters : List plain.LoopCounter) → HasCounters m.trail.entries.items here.counters counters →
-    EndsCounters m.trail.entries.items here.counters counters (Some (counter, outer))) →
-    has_pair m.failed numbers ≡ false →
-    (s : plain.NfaConfig) (failed : plain.Pair → Bool) → IsHere m here s → HaveFailed m failed → failed (pair_of s) ≡ false
-free_inside m here counter outer numbers none are ends free s failed stands have =
-    sym (have (pair_of s))
-    ∙ ap (has_pair m.failed) (sym (are s stands.at stands.place (inside m here counter outer s none stands (ends s.counters stands.counters)))) ∙ free
-
 -- ---- ways out of a loop that fail at once
 
 -- a test that no character passes
 pub test_fails : (searcher : Searcher) (test : CharTest) (at place : ℕ) → slice_get (searcher.states).now at ≡ Some (nfa_state.Character test) →
-    Refuses searcher test place → FailsAtOnce searcher at place
+    Excludes searcher test place → FailsAtOnce searcher at place
 test_fails searcher test at place there none s f e p =
     let here : NfaConfig = record { at = at; place = place; counters = 0; opened = 0 } in (
       1,
@@ -510,7 +412,7 @@ lost_counter_loop searcher at place loop after there fails = λ s one other is_m
 -- the last choice is at the head of a loop whose other way on fails: its pair is memoized
 pub back_lost : (searcher : Searcher) (next : plain.Next) (steps : ℕ) (f : Search) (here : NfaConfig) (s : plain.NfaConfig) (rest : List Frame) →
     after_steps_of searcher steps next ≡ plain.TakesBack f → here.at ≡ s.at → here.place ≡ s.place → IsLostAt searcher here.at here.place →
-    Keeps true (leading_of searcher s) s rest f.frames →
+    Keeps true (continuation_of searcher s) s rest f.frames →
     (k : ℕ) × (after_steps_of searcher k next
     ≡ plain.TakesBack (plain.with_failed (pair_of s) (record f { frames = rest; visits = f.visits + 1 })))
 back_lost searcher next steps f here s rest back at place lost (is_memoized, (one, (other, (step_result, frames)))) =
@@ -525,7 +427,7 @@ back_lost searcher next steps f here s rest back at place lost (is_memoized, (on
 -- the last choice has no way left: its pair is memoized
 pub back_gone : (searcher : Searcher) (next : plain.Next) (steps : ℕ) (f : Search) (here : NfaConfig) (s : plain.NfaConfig) (rest : List Frame) →
     after_steps_of searcher steps next ≡ plain.TakesBack f → here.at ≡ s.at → here.place ≡ s.place →
-    (untried : Bool) → (untried ≡ true → IsLostAt searcher here.at here.place) → Keeps untried (leading_of searcher s) s rest f.frames →
+    (untried : Bool) → (untried ≡ true → IsLostAt searcher here.at here.place) → Keeps untried (continuation_of searcher s) s rest f.frames →
     (k : ℕ) × (after_steps_of searcher k next
     ≡ plain.TakesBack (plain.with_failed (pair_of s) (record f { frames = rest; visits = f.visits + lost_visits untried })))
 back_gone searcher next steps f here s rest back at place true lost keeps = back_lost searcher next steps f here s rest back at place (lost refl) keeps
@@ -536,11 +438,11 @@ back_gone searcher next steps f here s rest back at place false lost keeps =
           ∙ ap (λ v. plain.TakesBack (plain.with_failed (pair_of s) (record f { frames = rest; visits = v }))) same,
     )
 
-pub refused_at_end : (searcher : Searcher) (test : CharTest) (place : ℕ) → slice_get (searcher.text).now place ≡ None → Refuses searcher test place
+pub refused_at_end : (searcher : Searcher) (test : CharTest) (place : ℕ) → slice_get (searcher.text).now place ≡ None → Excludes searcher test place
 refused_at_end searcher test place none = past_end (searcher.text).now (passes (searcher.text).now searcher.unicode (test_of test)) place none
 
 pub refused_by_test : (searcher : Searcher) (test : CharTest) (place b : ℕ) → slice_get (searcher.text).now place ≡ Some b → b < 128 → (takes : Bool) →
-    IsTrue (not takes) → takes ≡ passes [] searcher.unicode (test_of test) b → Refuses searcher test place
+    IsTrue (not takes) → takes ≡ passes [] searcher.unicode (test_of test) b → Excludes searcher test place
 refused_by_test searcher test place b here small true excludes e = absurd (true≢false (sym excludes))
 refused_by_test searcher test place b here small false excludes e =
     past_ascii (searcher.text).now (passes (searcher.text).now searcher.unicode (test_of test)) place b here small false
@@ -551,7 +453,7 @@ refused_by_test searcher test place b here small false excludes e =
 -- past a test that passes
 pub test_passed : (searcher : Searcher) (m counted : Memo) (on : NfaConfig) (test : CharTest) (t : plain.NfaConfig) (g : Search) →
     slice_get (searcher.states).now on.at ≡ Some (nfa_state.Character test) → Passes searcher test on.place →
-    counted ≡ record m { visits = saturated (m.visits + 1) } → IsSearch (leading_of searcher) m g → IsHere m on t →
+    counted ≡ record m { visits = saturated (m.visits + 1) } → IsSearch (continuation_of searcher) m g → IsHere m on t →
     GoesOn searcher (TakesUp t g) counted (record on { at = on.at + 1; place = on.place + 1 })
 test_passed searcher m counted on test t g there pass more h here =
     let past = past_char (searcher.text).now (passes (searcher.text).now searcher.unicode (test_of test)) in (
@@ -563,7 +465,7 @@ test_passed searcher m counted on test t g there pass more h here =
           (
             next_there searcher (nfa_state.Character test) on t here.at there g
                 ∙ ap (λ o. plain.next_by (plain.goes_past t o) (Some (states.Character (test_of test))) t g) (ap past (sym here.place) ∙ pass),
-            one_visit (leading_of searcher) m g h counted more,
+            one_visit (continuation_of searcher) m g h counted more,
             here_past counted on t (on.place + 1) (here_by m counted on t (ap (λ (x : Memo). x.trail) more) here),
           ),
         ),
@@ -581,15 +483,15 @@ pub record Left (searcher : Searcher) (counted : Memo) (here : NfaConfig) (s : p
   pub one : plain.NfaConfig
   pub other : plain.NfaConfig
   pub steps : ℕ
-  pub step_result : leading_of searcher s ≡ plain.Tries true one (other ∷ [])
+  pub step_result : continuation_of searcher s ≡ plain.Tries true one (other ∷ [])
   pub comes : after_steps_of searcher steps (TakesUp s f) ≡ out_of s other f
-  pub search : IsSearch (leading_of searcher) counted (record f { visits = f.visits + 2 })
+  pub search : IsSearch (continuation_of searcher) counted (record f { visits = f.visits + 2 })
   pub stands : IsHere counted here s
 
 pub body_left : (searcher : Searcher) (m counted : Memo) (here : NfaConfig) (test : CharTest) (s : plain.NfaConfig) (f : Search) →
-    RunsOver searcher m here test → Refuses searcher test here.place →
+    RunsOver searcher m here test → Excludes searcher test here.place →
     ((s : plain.NfaConfig) (failed : plain.Pair → Bool) → IsHere m here s → HaveFailed m failed → failed (pair_of s) ≡ false) →
-    counted ≡ record m { visits = saturated (m.visits + 2) } → IsSearch (leading_of searcher) m f → IsHere m here s →
+    counted ≡ record m { visits = saturated (m.visits + 2) } → IsSearch (continuation_of searcher) m f → IsHere m here s →
     Left searcher counted here s f
 body_left searcher m counted here test s f over none free more h stands =
     let loop = over s stands in
@@ -597,20 +499,20 @@ body_left searcher m counted here test s f over none free more h stands =
     let out = loop.1.0 in
     let body = loop.1.1.2 in
     let fails = body_fails searcher here first out test body.0 body.1 s stands.at loop.1.1.0 loop.1.1.1 f (free s f.failed stands h.failed)
-    (subst (λ i. Refuses searcher test i) stands.place none) in
+    (subst (λ i. Excludes searcher test i) stands.place none) in
     record {
       one = goes_to first s;
       other = out s;
       steps = 3;
       step_result = fails.0;
       comes = fails.1;
-      search = more_states (leading_of searcher) m f h counted 2 more;
+      search = more_states (continuation_of searcher) m f h counted 2 more;
       stands = here_by m counted here s (ap (λ (x : Memo). x.trail) more) stands;
     }
 
 -- where a state is taken up, a step leads there
 pub never_lost : (searcher : Searcher) (s other : plain.NfaConfig) (failed : plain.Pair → Bool) (g : Search) (l : StepResult) (m : Memo) →
-    ((x : NfaConfig) → l ≡ step_result.Goes x → ⊥) → Leads (leading_of searcher) s failed (TakesUp other g) (Ok l) m → ⊥
+    ((x : NfaConfig) → l ≡ step_result.Goes x → ⊥) → Simulates (continuation_of searcher) s failed (TakesUp other g) (Ok l) m → ⊥
 never_lost searcher s other failed g (step_result.Found there) m not (x, (is, h, stands)) = no_end is
   where
     no_end : TakesUp other g ≡ plain.Ends (Some s) x → ⊥
@@ -623,10 +525,10 @@ never_lost searcher s other failed g (step_result.Goes there) m not h = not ther
 
 -- past a run, and then out of the loop
 pub past_loop : (searcher : Searcher) (m between new : Memo) (here on : NfaConfig) (r : Result NfaConfig AllocError) →
-    ((s : plain.NfaConfig) (f : Search) → IsSearch (leading_of searcher) m f → IsHere m here s → GoesOn searcher (TakesUp s f) between on) →
-    IfOk r (λ out. (s : plain.NfaConfig) (f : Search) → IsSearch (leading_of searcher) between f → IsHere between on s →
+    ((s : plain.NfaConfig) (f : Search) → IsSearch (continuation_of searcher) m f → IsHere m here s → GoesOn searcher (TakesUp s f) between on) →
+    IfOk r (λ out. (s : plain.NfaConfig) (f : Search) → IsSearch (continuation_of searcher) between f → IsHere between on s →
     GoesOn searcher (TakesUp s f) new out) →
-    IfOk r (λ out. (s : plain.NfaConfig) (f : Search) → IsSearch (leading_of searcher) m f → IsHere m here s → GoesOn searcher (TakesUp s f) new out)
+    IfOk r (λ out. (s : plain.NfaConfig) (f : Search) → IsSearch (continuation_of searcher) m f → IsHere m here s → GoesOn searcher (TakesUp s f) new out)
 past_loop searcher m between new here on (Err e) first further = tt
 past_loop searcher m between new here on (Ok out) first further = λ s f h stands.
     let one = first s f h stands in
@@ -635,9 +537,9 @@ past_loop searcher m between new here on (Ok out) first further = λ s f h stand
 -- where memory is refused then
 pub past_loop_refused : (searcher : Searcher) (m between new : Memo) (here on : NfaConfig) (r : Result NfaConfig AllocError) →
     between.failed ≡ m.failed →
-    ((s : plain.NfaConfig) (f : Search) → IsSearch (leading_of searcher) m f → IsHere m here s → GoesOn searcher (TakesUp s f) between on) →
-    IfErr r (λ _. (s : plain.NfaConfig) (f : Search) → IsSearch (leading_of searcher) between f → IsHere between on s → HaveFailed new f.failed) →
-    IfErr r (λ _. (s : plain.NfaConfig) (f : Search) → IsSearch (leading_of searcher) m f → IsHere m here s → HaveFailed new f.failed)
+    ((s : plain.NfaConfig) (f : Search) → IsSearch (continuation_of searcher) m f → IsHere m here s → GoesOn searcher (TakesUp s f) between on) →
+    IfErr r (λ _. (s : plain.NfaConfig) (f : Search) → IsSearch (continuation_of searcher) between f → IsHere between on s → HaveFailed new f.failed) →
+    IfErr r (λ _. (s : plain.NfaConfig) (f : Search) → IsSearch (continuation_of searcher) m f → IsHere m here s → HaveFailed new f.failed)
 past_loop_refused searcher m between new here on (Ok out) same first further = tt
 past_loop_refused searcher m between new here on (Err e) same first further = λ s f h stands p.
     let one = first s f h stands in

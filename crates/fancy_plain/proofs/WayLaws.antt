@@ -13,10 +13,10 @@ use Rattle.std.specs.Ordering.{nat_cmp}
 use Rattle.fancy_plain.specs.Ways.{Ascends, listed, span_entry}
 use Rattle.fancy_meaning.specs.MatchState.{Span}
 use Rattle.fancy_nfa.specs.FirstWays.{spans_of}
-use Rattle.fancy_plain.specs.Paths.{closed_after}
-use Rattle.fancy_plain.specs.declared.trail.Entry.{Entry}
-use Rattle.fancy_plain.specs.declared.trail.Entry.TheVariants as entry
-use Rattle.fancy_plain.proofs.SearchLaws.{closed_append}
+use Rattle.fancy_backtrack.specs.Paths.{closed_after}
+use Rattle.fancy_backtrack.specs.declared.trail.Entry.{Entry}
+use Rattle.fancy_backtrack.specs.declared.trail.Entry.TheVariants as entry
+use Rattle.fancy_backtrack.proofs.MemoLaws.{closed_append}
 
 -- by the test of a map of numbers and by equality
 pub lookup_tied : (g : ℕ) (es : List (ℕ × Span)) → lookup (nat_eq g) es ≡ lookup (is_at (nat_cmp g)) es

@@ -6,7 +6,7 @@ use Rattle.fancy_plain.specs.declared.counted_ways.Passed.{Passed}
 use Rattle.fancy_plain.specs.declared.counted_ways.Passed.TheVariants as passed
 use Rattle.fancy_plain.specs.declared.nfa_state.CharTest.{CharTest}
 use Rattle.fancy_plain.specs.declared.search.Searcher.{Searcher}
-use Rattle.fancy_plain.specs.Runs.{Refuses}
+use Rattle.fancy_plain.specs.Runs.{Excludes}
 use Rattle.fancy_plain.specs.OnePass.{Loses, Walks, config_at}
 use Rattle.fancy_plain.specs.Views.{test_of}
 
@@ -20,7 +20,7 @@ PassesSome t test (suc n) from to =
 -- the characters that pass end there, or these are as many as may be, so many less than that
 abbrev pub PassesMost : Searcher → CharTest → (most : ℕ) → (from to left : ℕ) → Type 0
 PassesMost t test most from to left =
-    (left ≤ most) × PassesSome t test (most - left) from to × (0 < left → Refuses t test to)
+    (left ≤ most) × PassesSome t test (most - left) from to × (0 < left → Excludes t test to)
 
 -- what a search that knows of no pair comes to from the configuration
 abbrev pub ComesPast : Searcher → (from : NfaConfig) → Passed → Type 0

@@ -1,8 +1,4 @@
 pub mod Views
-pub mod Paths
-pub mod PairBits
-pub mod FailedPairs
-pub mod BacktrackStack
 pub mod Searches
 pub mod Runs
 pub mod Ways

@@ -2,11 +2,11 @@
 use Rattle.std.specs.Prelude.{◌≡◌, ℕ, Bool, List}
 use Rattle.fancy_meaning.specs.Instr.{CharClass, Codepoint, Newline}
 use Rattle.fancy_nfa.specs.NfaStates as plain
-use Rattle.fancy_expr.specs.Views.{assertion_of, bound_of}
+use Rattle.fancy_expr.specs.Views.{assertion_of}
 use Rattle.fancy_characters.specs.Classes.{class_of}
+use Rattle.fancy_backtrack.specs.Loops.{loop_of}
 use Rattle.fancy_plain.specs.declared.nfa_state.CharTest.{CharTest}
 use Rattle.fancy_plain.specs.declared.nfa_state.CharTest.TheVariants as test
-use Rattle.fancy_plain.specs.declared.nfa_state.Loop.{Loop}
 use Rattle.fancy_plain.specs.declared.nfa_state.NfaState.{NfaState}
 use Rattle.fancy_plain.specs.declared.nfa_state.NfaState.TheVariants as code
 
@@ -19,9 +19,6 @@ abbrev pub test_of : CharTest → plain.CharTest
 test_of (test.Any newline crlf) = plain.AnyChar newline crlf
 test_of (test.One c casei) = plain.OneChar c casei
 test_of (test.Class class) = class_test_of (class_of class.value)
-
-abbrev pub loop_of : Loop → plain.Loop
-loop_of l = record { lo = l.lo; hi = bound_of l.hi; greedy = l.greedy; asks_moved = l.asks_moved }
 
 abbrev pub state_of : NfaState → plain.NfaState
 state_of code.Match = plain.Match

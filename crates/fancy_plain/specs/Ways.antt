@@ -12,10 +12,10 @@ use Rattle.fancy_nfa.specs.FirstWays.{AreMemoized, Seen, first_seen, searched}
 use Rattle.fancy_plain.specs.declared.first_way.FirstWay.{FirstWay}
 use Rattle.fancy_plain.specs.declared.first_way.Way.{Way}
 use Rattle.fancy_plain.specs.declared.nfa.Nfa.{Nfa}
-use Rattle.fancy_plain.specs.declared.search.Memo.{Memo}
+use Rattle.fancy_backtrack.specs.declared.memo.Memo.{Memo}
 use Rattle.fancy_plain.specs.Views.{state_of}
 use Rattle.fancy_plain.specs.Nfas.{IsNfaOf}
-use Rattle.fancy_plain.specs.Searches.{HaveFailed, saturated}
+use Rattle.fancy_backtrack.specs.Memos.{HaveFailed, saturated}
 
 -- a group's number, the start and the end of its span
 abbrev pub span_entry : ℕ × ℕ × ℕ → ℕ × Span

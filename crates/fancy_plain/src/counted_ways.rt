@@ -8,8 +8,9 @@ ghost use Rattle.fancy_plain.specs.Searches.{IsSearcher};
 ghost use Rattle.fancy_plain.specs.OnePass.{config_at};
 ghost use Rattle.fancy_plain.specs.Views.{IsReadBy};
 
-use crate::nfa_state::{CharTest, Loop, NfaState};
+use crate::nfa_state::{CharTest, NfaState};
 use crate::search::Searcher;
+use fancy_backtrack::loops::Loop;
 use std::alloc::{AllocError, Global};
 
 /// What a loop comes to.

@@ -3,9 +3,11 @@
 ghost use Rattle.std.specs.Prelude.{◌≡◌, ◌&&◌, ℕ, ◌+◌, ◌<◌, [], true, false, map, slice_get, slice_index_or, Some, IfOk, IfSome};
 ghost use Rattle.fancy_nfa.specs.NfaSearch.{passes};
 ghost use Rattle.fancy_plain.specs.FirstSets.{may_begin, covers, is_over, is_short, steps_within, IsLevel, AreFirstSets};
-ghost use Rattle.fancy_plain.specs.Views.{loop_of, state_of, test_of, IsStateReadBy, IsReadBy};
+ghost use Rattle.fancy_backtrack.specs.Loops.{loop_of};
+ghost use Rattle.fancy_plain.specs.Views.{state_of, test_of, IsStateReadBy, IsReadBy};
 
-use crate::nfa_state::{CharTest, Loop, NfaState};
+use crate::nfa_state::{CharTest, NfaState};
+use fancy_backtrack::loops::Loop;
 use std::alloc::{AllocError, Global};
 
 /// At how many of a way's first places it is told which ASCII characters can stand there.
@@ -68,20 +70,18 @@ pub(crate) fn may_begin(levels: &[[bool; 128]], text: &[u8], ix: usize) -> bool
 // more than how many iterations were begun of the loop around that counts. It is 0 at a state that the search does not
 // come to.
 
-impl Loop {
-    /// No further iteration may be begun with this counter.
-    fn is_over_in(self, counter: u8) -> bool
-        ensures { result ≡ is_over (loop_of self) counter }
-    {
-        counter < ANY_COUNTER && counter as usize > self.hi
-    }
+/// No further iteration of the loop may be begun with this counter.
+fn is_over(bounds: Loop, counter: u8) -> bool
+    ensures { result ≡ is_over (loop_of bounds) counter }
+{
+    counter < ANY_COUNTER && counter as usize > bounds.hi
+}
 
-    /// A further one has to be begun with this counter, unless none may.
-    fn is_short_in(self, counter: u8) -> bool
-        ensures { result ≡ is_short (loop_of self) counter }
-    {
-        counter < ANY_COUNTER && counter as usize <= self.lo
-    }
+/// A further one has to be begun with this counter, unless none may.
+fn is_short(bounds: Loop, counter: u8) -> bool
+    ensures { result ≡ is_short (loop_of bounds) counter }
+{
+    counter < ANY_COUNTER && counter as usize <= bounds.lo
 }
 
 fn counter_at(reached: &[u8], at: usize) -> u8
@@ -151,9 +151,9 @@ fn add_next(nfa_state: &NfaState, at: usize, counter: u8, reached: &mut [u8]) ->
         NfaState::LoopSplit(first, second) => add_both(reached, at, (*first, *second), counter),
         NfaState::CounterBegin => add_step(reached, at, at + 1, 1),
         NfaState::CounterLoop { bounds, after } => {
-            if bounds.is_over_in(counter) {
+            if is_over(*bounds, counter) {
                 add_step(reached, at, *after, ANY_COUNTER)
-            } else if bounds.is_short_in(counter) {
+            } else if is_short(*bounds, counter) {
                 add_step(reached, at, at + 1, counter.saturating_add(1))
             } else {
                 add_both(reached, at, (at + 1, *after), ANY_COUNTER)
@@ -203,9 +203,9 @@ fn steps_on(nfa_state: &NfaState, at: usize, reached: &[u8], after: &[u8]) -> bo
         NfaState::LoopSplit(first, second) => covers_both(reached, *first, *second, counter),
         NfaState::CounterBegin => covers(reached, at + 1, 1),
         NfaState::CounterLoop { bounds, after } => {
-            if bounds.is_over_in(counter) {
+            if is_over(*bounds, counter) {
                 covers(reached, *after, ANY_COUNTER)
-            } else if bounds.is_short_in(counter) {
+            } else if is_short(*bounds, counter) {
                 covers(reached, at + 1, counter + 1)
             } else {
                 covers_both(reached, at + 1, *after, ANY_COUNTER)

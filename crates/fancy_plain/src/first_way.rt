@@ -4,13 +4,15 @@ ghost use Rattle.std.specs.Prelude.{◌≡◌, [], ℕ, Bool, false, IfOk, IfErr
 ghost use Rattle.fancy_meaning.specs.Places.{is_place};
 ghost use Rattle.fancy_nfa.specs.FirstWays.{spans_of};
 ghost use Rattle.fancy_nfa.specs.NfaSearch.{Pair};
-ghost use Rattle.fancy_plain.specs.Paths.{closed_after};
-ghost use Rattle.fancy_plain.specs.Searches.{HaveFailed, IsMemory};
+ghost use Rattle.fancy_backtrack.specs.Paths.{closed_after};
+ghost use Rattle.fancy_backtrack.specs.Memos.{HaveFailed};
+ghost use Rattle.fancy_plain.specs.Searches.{IsMemory};
 ghost use Rattle.fancy_plain.specs.Ways.{listed, Ascends, CountsVisits, HasAscending, IsFirstWay, IsMemoOf, IsOfNodes};
 
 use crate::nfa::Nfa;
-use crate::search::{Memo, Searcher};
-use crate::trail::{Entry, NfaConfig};
+use crate::search::Searcher;
+use fancy_backtrack::memo::Memo;
+use fancy_backtrack::trail::{Entry, NfaConfig};
 use fancy_expr::error::Error;
 use std::alloc::{AllocError, Global};
 use std::collections::BTreeMap;
@@ -42,7 +44,7 @@ pub fn first_way(alloc: Global, nfa: &Nfa, text: &str, ix: usize) -> Result<Firs
     ensures visits { IfOk result (CountsVisits text.now nfa.now (λ pair. false) ix) }
     ensures refused { IfErr result IsMemory }
 {
-    let mut memo = Memo::new(alloc, nfa, ix);
+    let mut memo = nfa.memo(alloc, ix);
     first_way_with(alloc, nfa, text, ix, &mut memo)
 }
 

@@ -8,10 +8,12 @@ ghost use Rattle.fancy_meaning.specs.Tree.{Delegate, Within};
 ghost use Rattle.fancy_nfa.specs.NfaCode.{branches, counted, in_sequence, one, one_of, optional, plus, preferring, repeated, star};
 ghost use Rattle.fancy_nfa.specs.NfaStates as plain;
 ghost use Rattle.fancy_plain.specs.Shapes.{branch_choice, form_of};
-ghost use Rattle.fancy_plain.specs.Views.{IsStateReadBy, loop_of, state_of};
+ghost use Rattle.fancy_plain.specs.Views.{IsStateReadBy, state_of};
+ghost use Rattle.fancy_backtrack.specs.Loops.{loop_of};
 ghost use Rattle.std.specs.Prelude.{Bool, IfOk, Some, length, chars, slice_index, slice_index_or, slice_set, ℕ, ◌+◌, ◌<◌, ◌≡◌};
 
-use crate::nfa_state::{CharTest, Loop, NfaState};
+use crate::nfa_state::{CharTest, NfaState};
+use fancy_backtrack::loops::Loop;
 use fancy_characters::classes::CharClassMatcher;
 use fancy_expr::error::Error;
 use fancy_expr::expr::{Assertion, Expr};

@@ -15,9 +15,10 @@ ghost use Rattle.std.proofs.Props.{props};
 use crate::first_sets::{first_sets, may_begin};
 use crate::layout::Layout;
 use crate::nfa_state::NfaState;
-use crate::pair_bits::PairBits;
 use crate::required_bytes::required_bytes;
 use crate::search::Searcher;
+use fancy_backtrack::memo::Memo;
+use fancy_backtrack::pair_bits::{Loops, PairBits};
 use fancy_expr::error::Error;
 use fancy_info::info::Info;
 use std::alloc::Global;
@@ -41,7 +42,8 @@ pub struct Nfa {
 
 impl Nfa {
     ghost use Rattle.fancy_plain.specs.Nfas.{AreFine, HaveClasses, IsNfaOf, IsRefusedFor};
-    ghost use Rattle.fancy_plain.specs.Ways.{HasNoWayAt};
+    ghost use Rattle.fancy_plain.specs.Ways.{HasNoWayAt, IsMemoOf};
+    ghost use Rattle.fancy_backtrack.specs.Memos.{HaveFailed};
 
     /// The NFA of neighbouring nodes of one analysed tree, none of them hard.
     ///
@@ -64,7 +66,7 @@ impl Nfa {
         layout.lay_each(infos)?;
         let mut states = layout.states;
         states.push(NfaState::Match)?;
-        let pair_bits = PairBits::of(&states);
+        let pair_bits = PairBits::of(states.len(), loops_of(&states));
         let first_sets = first_sets(alloc, &states, unicode)?;
         let required_bytes = required_bytes(&states, unicode);
         let searcher = Searcher {
@@ -81,6 +83,23 @@ impl Nfa {
             is_one_pass,
             required_bytes,
         })
+    }
+
+    /// What searches by this NFA in one text, from `pos` on, have memoized: nothing yet.
+    pub fn memo(&self, alloc: Global, pos: usize) -> Memo
+        ensures memo { (text : List ℕ) → IsMemoOf text self.now result }
+        ensures knows { HaveFailed result (λ pair. false) }
+    {
+        Memo::new(alloc, self.pair_bits, pos)
+    }
+
+    /// Empties a memo of any NFA and any text for this one, and keeps its room. It takes time that follows what was
+    /// memoized.
+    pub fn clear(&self, memo: &mut Memo, pos: usize)
+        ensures memo { (text : List ℕ) → IsMemoOf text self.now memo.new }
+        ensures knows { HaveFailed memo.new (λ pair. false) }
+    {
+        memo.clear(self.pair_bits, pos);
     }
 
     /// Whether a way can begin at `ix`, a character boundary of the text, by the character that stands there. There may
@@ -122,4 +141,35 @@ impl Nfa {
             Some(second) => byte < 128 && !second[byte as usize],
         }
     }
+}
+
+/// What the loops among these states ask for.
+fn loops_of(states: &[NfaState]) -> Loops {
+    let mut loops = Loops {
+        counts: 0,
+        stays: 1,
+        depth: 0,
+    };
+    let mut depth: usize = 0;
+    for nfa_state in states {
+        match nfa_state {
+            NfaState::CounterBegin => {
+                depth = depth.saturating_add(1);
+                loops.depth = loops.depth.max(depth);
+            }
+            NfaState::CounterLoop { bounds, .. } => {
+                loops.counts = loops.counts.max(bounds.counts());
+                if bounds.asks_moved {
+                    loops.stays = 2;
+                }
+            }
+            NfaState::Jump(to) => {
+                if let Some(NfaState::CounterLoop { .. }) = states.get(*to) {
+                    depth = depth.saturating_sub(1);
+                }
+            }
+            _ => {}
+        }
+    }
+    loops
 }

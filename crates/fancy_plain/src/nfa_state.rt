@@ -8,6 +8,7 @@ ghost use Rattle.fancy_characters.specs.Classes.{class_of};
 ghost use Rattle.fancy_nfa.specs.NfaSearch as plain;
 ghost use Rattle.fancy_plain.specs.Views.{IsReadBy, test_of};
 
+use fancy_backtrack::loops::Loop;
 use fancy_characters::classes::{CharClassMatcher, literal_takes};
 use fancy_characters::places::{len_utf8, past_any};
 use fancy_expr::expr::Assertion;
@@ -23,17 +24,6 @@ pub(crate) enum CharTest {
     One { c: char, casei: bool },
     /// One of a class.
     Class(Box<CharClassMatcher>),
-}
-
-/// A loop that counts its iterations, or asks whether one has moved.
-#[derive(Clone, Copy)]
-pub(crate) struct Loop {
-    pub(crate) lo: usize,
-    /// `usize::MAX` is no bound.
-    pub(crate) hi: usize,
-    pub(crate) greedy: bool,
-    /// An iteration begun at or past `lo` that moves nothing leaves the loop.
-    pub(crate) asks_moved: bool,
 }
 
 /// One state. Where nothing is said, the search goes on at the next one.

@@ -11,8 +11,9 @@ ghost use Rattle.fancy_plain.specs.Ways.{IsOfNodes};
 
 use crate::counted_ways::Passed;
 use crate::nfa::Nfa;
-use crate::nfa_state::{CharTest, Loop, NfaState};
+use crate::nfa_state::{CharTest, NfaState};
 use crate::search::Searcher;
+use fancy_backtrack::loops::Loop;
 use fancy_characters::look::holds;
 use std::alloc::{AllocError, Global};
 
@@ -295,7 +296,8 @@ impl Searcher<'_> {
 
 /// What a test that fails says, where no loop was passed before, or else where one was.
 fn without_a_way(is_sure: bool) -> OnePass
-    ensures { (searcher : searcher_view.Searcher) (place : ℕ) → (IsTrue is_sure → Finds searcher place None)
+    ensures { (searcher : searcher_view.Searcher) (place : ℕ) → (IsTrue is_sure
+        → Finds searcher place None)
         → EndsOnePass searcher place result }
 {
     if is_sure {

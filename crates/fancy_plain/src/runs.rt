@@ -4,12 +4,14 @@ ghost use Rattle.std.specs.Prelude.{◌≡◌, ◌≤◌, ◌+◌, IsTrue, IfErr
 ghost use Rattle.fancy_nfa.specs.NfaSearch as plain;
 ghost use Rattle.fancy_nfa.specs.NfaSearch.{Search, TakesUp};
 ghost use Rattle.fancy_plain.specs.Views.{IsReadBy};
-ghost use Rattle.fancy_plain.specs.Runs.{FailsAtOnce, GoesOn, IsBody, IsLostAt, IsRun, Refuses, RunsOver};
-ghost use Rattle.fancy_plain.specs.Searches.{HaveFailed, IsHere, IsSearch, IsSearcher, leading_of};
+ghost use Rattle.fancy_plain.specs.Runs.{FailsAtOnce, GoesOn, IsBody, IsLostAt, IsRun, Excludes, RunsOver};
+ghost use Rattle.fancy_backtrack.specs.Memos.{HaveFailed, IsHere, IsSearch};
+ghost use Rattle.fancy_plain.specs.Searches.{IsSearcher, continuation_of};
 
 use crate::nfa_state::{CharTest, NfaState, byte_at};
-use crate::search::{Memo, Searcher, StepResult};
-use crate::trail::NfaConfig;
+use crate::search::Searcher;
+use fancy_backtrack::memo::{Memo, StepResult};
+use fancy_backtrack::trail::NfaConfig;
 use std::alloc::AllocError;
 
 impl Searcher<'_> {
@@ -18,17 +20,17 @@ impl Searcher<'_> {
     pub(crate) fn past_loop(&self, m: &mut Memo, config: NfaConfig) -> Result<NfaConfig, AllocError>
         requires { IsSearcher self.now }
         ensures ok { IfOk result (λ on. (s : plain.NfaConfig) (f : Search)
-            → IsSearch (leading_of self.now) m.old f → IsHere m.old config s
+            → IsSearch (continuation_of self.now) m.old f → IsHere m.old config s
             → GoesOn self.now (TakesUp s f) m.new on) }
         ensures failed { IfErr result (λ _. (s : plain.NfaConfig) (f : Search)
-            → IsSearch (leading_of self.now) m.old f → IsHere m.old config s
+            → IsSearch (continuation_of self.now) m.old f → IsHere m.old config s
             → HaveFailed m.new f.failed) }
     {
         let Some(test) = self.body_test(m, config) else {
             return Ok(config);
         };
         let on = self.past_run(m, test, config)?;
-        if !self.is_refused(test, on.place) {
+        if !self.is_excluded(test, on.place) {
             return Ok(on);
         }
         self.past_body(m, test, on)
@@ -46,7 +48,7 @@ impl Searcher<'_> {
         requires runs { RunsOver self.now m.old config test.now }
         requires read { IsReadBy self.now.unicode test.now }
         ensures ok { IfOk result (λ on. (s : plain.NfaConfig) (f : Search)
-            → IsSearch (leading_of self.now) m.old f → IsHere m.old config s
+            → IsSearch (continuation_of self.now) m.old f → IsHere m.old config s
             → GoesOn self.now (TakesUp s f) m.new on) }
         ensures runs { IfOk result (λ on. RunsOver self.now m.new on test.now) }
         ensures failed { m.new.failed ≡ m.old.failed }
@@ -69,12 +71,12 @@ impl Searcher<'_> {
     ) -> Result<NfaConfig, AllocError>
         requires searcher { IsSearcher self.now }
         requires runs { RunsOver self.now m.old config test.now }
-        requires refused { Refuses self.now test.now config.place }
+        requires refused { Excludes self.now test.now config.place }
         ensures ok { IfOk result (λ on. (s : plain.NfaConfig) (f : Search)
-            → IsSearch (leading_of self.now) m.old f → IsHere m.old config s
+            → IsSearch (continuation_of self.now) m.old f → IsHere m.old config s
             → GoesOn self.now (TakesUp s f) m.new on) }
         ensures failed { IfErr result (λ _. (s : plain.NfaConfig) (f : Search)
-            → IsSearch (leading_of self.now) m.old f → IsHere m.old config s
+            → IsSearch (continuation_of self.now) m.old f → IsHere m.old config s
             → HaveFailed m.new f.failed) }
     {
         if m.may_have_failed(config) || self.is_lost(config) {
@@ -171,16 +173,16 @@ impl Searcher<'_> {
             next += 1;
         }
         match self.states.get(next) {
-            Some(NfaState::Character(test)) => self.is_refused(test, place),
+            Some(NfaState::Character(test)) => self.is_excluded(test, place),
             _ => false,
         }
     }
 
     /// There is no character here, or it is of ASCII and fails the test.
     #[inline(always)]
-    fn is_refused(&self, test: &CharTest, place: usize) -> bool
+    fn is_excluded(&self, test: &CharTest, place: usize) -> bool
         requires { IsReadBy self.now.unicode test.now }
-        ensures { IsTrue result → Refuses self.now test.now place }
+        ensures { IsTrue result → Excludes self.now test.now place }
     {
         match byte_at(self.text.as_bytes(), place) {
             None => true,

@@ -4,12 +4,14 @@ ghost use Rattle.std.specs.Prelude.{◌≡◌, ◌<◌, length, IsTrue};
 ghost use Rattle.fancy_nfa.specs.NfaSearch as plain;
 ghost use Rattle.fancy_nfa.specs.NfaSearch.{Search, TakesUp};
 ghost use Rattle.fancy_plain.specs.Runs.{GoesOn, Passes};
-ghost use Rattle.fancy_plain.specs.Searches.{IsHere, IsSearch, IsSearcher, leading_of};
+ghost use Rattle.fancy_backtrack.specs.Memos.{IsHere, IsSearch};
+ghost use Rattle.fancy_plain.specs.Searches.{IsSearcher, continuation_of};
 ghost use Rattle.fancy_plain.specs.Views.{IsReadBy};
 
 use crate::nfa_state::{CharTest, NfaState};
-use crate::search::{Memo, Searcher};
-use crate::trail::NfaConfig;
+use crate::search::Searcher;
+use fancy_backtrack::memo::Memo;
+use fancy_backtrack::trail::NfaConfig;
 
 impl Searcher<'_> {
     /// Past the tests from here on that characters of ASCII pass, and past jumps between them.
@@ -17,7 +19,7 @@ impl Searcher<'_> {
     pub(crate) fn past_tests(&self, m: &mut Memo, config: NfaConfig) -> NfaConfig
         requires { IsSearcher self.now }
         ensures on { (s : plain.NfaConfig) (f : Search)
-            → IsSearch (leading_of self.now) m.old f → IsHere m.old config s
+            → IsSearch (continuation_of self.now) m.old f → IsHere m.old config s
             → GoesOn self.now (TakesUp s f) m.new result }
         ensures failed { m.new.failed ≡ m.old.failed }
     {
@@ -41,7 +43,7 @@ impl Searcher<'_> {
     #[inline(always)]
     fn past_jump(&self, m: &Memo, config: NfaConfig) -> NfaConfig
         ensures on { (s : plain.NfaConfig) (f : Search)
-            → IsSearch (leading_of self.now) m.now f → IsHere m.now config s
+            → IsSearch (continuation_of self.now) m.now f → IsHere m.now config s
             → GoesOn self.now (TakesUp s f) m.now result }
         ensures place { result.place ≡ config.place }
     {

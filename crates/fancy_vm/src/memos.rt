@@ -11,7 +11,7 @@ use fancy_expr::error::Error;
 use fancy_fragments::first_way::first_way_with;
 use fancy_fragments::fragment::Fragment;
 use fancy_plain::first_way::FirstWay;
-use fancy_plain::search::Memo;
+use fancy_backtrack::memo::Memo;
 use std::alloc::{AllocError, Global};
 
 /// A memo, in a box since it goes to a search and back, and the run that wrote it.

@@ -1,6 +1,6 @@
 use Rattle.std.proofs.Common.{slice_get, Some, None, refl, sym, ap, ◌∙◌, subst, arith, map, [], ◌<◌, length}
 use Rattle.fancy_nfa.specs.FirstWays.{spans_of}
-use Rattle.fancy_plain.specs.Paths.{closed_after}
+use Rattle.fancy_backtrack.specs.Paths.{closed_after}
 use Rattle.fancy_plain.specs.Views.{state_of}
 use Rattle.fancy_meaning.specs.Premises.{IsText}
 use Rattle.fancy_meaning.specs.Numbers.{usize_max}

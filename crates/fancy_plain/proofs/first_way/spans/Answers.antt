@@ -2,7 +2,7 @@ use Rattle.std.proofs.Common.{◌+◌, [], ℕ, sym, ap, ◌∙◌, subst, arith
 use Rattle.std.specs.Global.{Vec}
 use Rattle.std.proofs.lemmas.List.{take_all}
 use Rattle.fancy_nfa.specs.FirstWays.{spans_of}
-use Rattle.fancy_plain.specs.Paths.{closed_after}
+use Rattle.fancy_backtrack.specs.Paths.{closed_after}
 use Rattle.fancy_plain.specs.Ways.{listed}
 use Rattle.fancy_plain.proofs.WayLaws.{AreBelow, Rise, ascends_by, below_more, closed_put, rise_more, spans_stay}
 use Rattle.fancy_plain.proofs.first_way.spans.Goals as goal

@@ -1,6 +1,6 @@
 use Rattle.std.proofs.Common.{◌≡◌, ℕ, [], take}
 use Rattle.fancy_nfa.specs.FirstWays.{spans_of}
-use Rattle.fancy_plain.specs.Paths.{closed_after}
+use Rattle.fancy_backtrack.specs.Paths.{closed_after}
 use Rattle.fancy_plain.specs.Ways.{listed}
 use Rattle.fancy_plain.proofs.WayLaws.{AreBelow, Rise}
 use Rattle.fancy_plain.proofs.first_way.spans.Given as goal

@@ -4,7 +4,7 @@ use Rattle.std.specs.BTreeMap as tree
 use Rattle.std.specs.Map.{lookup}
 use Rattle.std.specs.Ordering.{nat_cmp}
 use Rattle.fancy_nfa.specs.FirstWays.{spans_of}
-use Rattle.fancy_plain.specs.Paths.{closed_after}
+use Rattle.fancy_backtrack.specs.Paths.{closed_after}
 use Rattle.fancy_plain.specs.Ways.{span_entry}
 use Rattle.fancy_plain.proofs.WayLaws.{lookup_tied, spans_put, spans_stay}
 use Rattle.std.proofs.lemmas.List.{map-append}

@@ -2,7 +2,7 @@ use Rattle.std.proofs.Common.{◌≡◌, ◌++◌, ℕ, [], map, take}
 use Rattle.std.specs.BTreeMap as tree
 use Rattle.std.specs.Ordering.{nat_cmp}
 use Rattle.fancy_nfa.specs.FirstWays.{spans_of}
-use Rattle.fancy_plain.specs.Paths.{closed_after}
+use Rattle.fancy_backtrack.specs.Paths.{closed_after}
 use Rattle.fancy_plain.specs.Ways.{span_entry}
 use Rattle.fancy_plain.proofs.first_way.spans_by_map.Given as goal
 

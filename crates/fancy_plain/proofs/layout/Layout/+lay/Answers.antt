@@ -11,7 +11,8 @@ use Rattle.fancy_expr.specs.Views.{bound_of}
 use Rattle.fancy_nfa.specs.NfaStates as plain
 use Rattle.fancy_nfa.specs.NfaCode.{NfaCode, ◌>>◌, one, around, headed, preferring, laid, each_laid, in_sequence, branches, one_of, repeated, star, plus}
 use Rattle.fancy_plain.specs.ClassTexts.{texts_of, texts_in, AreClasses}
-use Rattle.fancy_plain.specs.Views.{state_of, loop_of}
+use Rattle.fancy_plain.specs.Views.{state_of}
+use Rattle.fancy_backtrack.specs.Loops.{loop_of}
 use Rattle.fancy_plain.specs.Shapes.{form_of, branch_choice, group_code, with_jumps}
 use Rattle.fancy_plain.specs.Layouts.{Replaces, Lays, states_in}
 use Rattle.fancy_plain.specs.Neighbours.{IsEasy, trees_of}

@@ -15,8 +15,8 @@ groups-preserved c = λ fails.
     (slice_get_read states (length states) c.groups.next c.in-Some-Close.field-0.now refl
     (ltb-true c.groups.next (length states) (sym found.0)) found.1 ∙ ap Some c.in-Some-Close.field-0-is) fails)
 
-pub is_refused-requires : goal.is_refused-requires
-is_refused-requires c =
+pub is_excluded-requires : goal.is_excluded-requires
+is_excluded-requires c =
     let searcher = c.args.self.now in
     let states = searcher.states.now in
     let found = c.in-Some-Character.ensures.lookup in
@@ -33,4 +33,4 @@ returns-in-Some-Character c = λ excludes.
     c.groups.invariant
     (test_fails searcher c.in-Some-Character.test c.groups.next c.args.place
     (slice_get_read states (length states) c.groups.next c.in-Some-Character.field-0.now refl
-    (ltb-true c.groups.next (length states) (sym found.0)) found.1 ∙ ap Some c.in-Some-Character.field-0-is) (c.is_refused.ensures excludes))
+    (ltb-true c.groups.next (length states) (sym found.0)) found.1 ∙ ap Some c.in-Some-Character.field-0-is) (c.is_excluded.ensures excludes))

@@ -1,13 +1,15 @@
 use Rattle.std.proofs.Common.{refl, sym, ap, ap₂, ◌∙◌, subst, ◌∷◌, [], Some}
 use Rattle.fancy_nfa.specs.NfaSearch as plain
 use Rattle.fancy_nfa.specs.NfaSearch.{Next, Search, TakesBack, TakesUp, pair_of}
-use Rattle.fancy_plain.specs.Views.{loop_of}
-use Rattle.fancy_plain.specs.Searches.{IsHere, fails_before, leading_of, Leads}
+use Rattle.fancy_backtrack.specs.Loops.{loop_of}
+use Rattle.fancy_backtrack.specs.Memos.{IsHere, fails_before, Simulates}
+use Rattle.fancy_plain.specs.Searches.{continuation_of}
 use Rattle.fancy_plain.specs.declared.nfa_state.NfaState.TheVariants as nfa_state
-use Rattle.fancy_plain.specs.declared.search.Memo.{Memo}
-use Rattle.fancy_plain.specs.declared.trail.NfaConfig.{NfaConfig}
+use Rattle.fancy_backtrack.specs.declared.memo.Memo.{Memo}
+use Rattle.fancy_backtrack.specs.declared.trail.NfaConfig.{NfaConfig}
 use Rattle.std.proofs.lemmas.Result.{err_from_is_err_and}
-use Rattle.fancy_plain.proofs.SearchLaws.{failed_by, counter_loop_fees, here_at, here_by, steps_by, same_tries, tries_another}
+use Rattle.fancy_backtrack.proofs.MemoLaws.{failed_by, counter_loop_fees, here_at, here_by, same_tries}
+use Rattle.fancy_plain.proofs.SearchLaws.{steps_by, tries_another}
 use Rattle.fancy_plain.proofs.search.Searcher.other_from.Goals as goal
 
 -- src/search.rt:543:5
@@ -23,7 +25,7 @@ returns-in_ok-keep-in-LoopSplit c = λ s first other is_memoized f rest h here e
         there,
         (
           ap₂ (λ n o. TakesUp o (record f { frames = fails_before n s rest })) same.0 same.1,
-          c.in_ok-keep-in-LoopSplit.ensures.ok (leading_of searcher) (record f { frames = rest }) s (plain.Fails (pair_of s) ∷ rest) h here refl,
+          c.in_ok-keep-in-LoopSplit.ensures.ok (continuation_of searcher) (record f { frames = rest }) s (plain.Fails (pair_of s) ∷ rest) h here refl,
           subst (λ (x : NfaConfig). IsHere c.keep.new.self x there) (sym c.goes_to-in-LoopSplit.ensures)
               (here_at c.keep.new.self c.args.config s c.in-LoopSplit.second c.in-LoopSplit.second refl
               (here_by c.args.m.now c.keep.new.self c.args.config s (ap (λ (m : Memo). m.trail) c.keep.ensures.rest) here)),
@@ -38,10 +40,10 @@ returns-in_ok-keep-in-CounterLoop c = λ s first other is_memoized f rest h here
     let by = steps_by searcher (nfa_state.CounterLoop c.in-CounterLoop.bounds c.in-CounterLoop.after) c.args.config s here.at
     (c.requires ∙ ap Some c.in-CounterLoop.is) in
     let memoized = counter_loop_fees (loop_of c.in-CounterLoop.bounds) c.in-CounterLoop.after s first other s.counters is_memoized (sym by ∙ e) in
-    subst (λ n. Leads (leading_of searcher) s f.failed (TakesUp other (record f { frames = fails_before n s rest }))
+    subst (λ n. Simulates (continuation_of searcher) s f.failed (TakesUp other (record f { frames = fails_before n s rest }))
     c.other_counter.result c.other_counter.new.self) (sym memoized)
-    (c.other_counter.ensures (leading_of searcher) s first other (record f { frames = plain.Fails (pair_of s) ∷ rest })
-    (c.in_ok-keep-in-CounterLoop.ensures.ok (leading_of searcher) (record f { frames = rest }) s (plain.Fails (pair_of s) ∷ rest) h here refl)
+    (c.other_counter.ensures (continuation_of searcher) s first other (record f { frames = plain.Fails (pair_of s) ∷ rest })
+    (c.in_ok-keep-in-CounterLoop.ensures.ok (continuation_of searcher) (record f { frames = rest }) s (plain.Fails (pair_of s) ∷ rest) h here refl)
     (here_by c.args.m.now c.keep-in-CounterLoop.new.self c.args.config s (ap (λ (m : Memo). m.trail) c.keep-in-CounterLoop.ensures.rest) here)
     (sym by ∙ e ∙ ap (λ n. plain.Tries n first (other ∷ [])) memoized))
 

@@ -2,10 +2,11 @@ use Rattle.std.proofs.Common.{Some, length, refl, sym, ap, ◌∙◌, subst}
 use Rattle.std.proofs.lemmas.Bool.{ltb-true}
 use Rattle.std.proofs.lemmas.Option.{slice_get_read}
 use Rattle.fancy_nfa.specs.NfaSearch as plain
-use Rattle.fancy_plain.specs.declared.trail.NfaConfig.{NfaConfig}
+use Rattle.fancy_backtrack.specs.declared.trail.NfaConfig.{NfaConfig}
 use Rattle.fancy_plain.specs.declared.nfa_state.NfaState.TheVariants as nfa_state
-use Rattle.fancy_plain.specs.Searches.{IsHere}
-use Rattle.fancy_plain.proofs.SearchLaws.{here_at, next_there}
+use Rattle.fancy_backtrack.specs.Memos.{IsHere}
+use Rattle.fancy_backtrack.proofs.MemoLaws.{here_at}
+use Rattle.fancy_plain.proofs.SearchLaws.{next_there}
 use Rattle.fancy_plain.proofs.search.Searcher.past_jump.Goals as goal
 
 pub returns-in-Some-Jump-clause-on : goal.returns-in-Some-Jump-clause-on

@@ -1,5 +1,5 @@
 use Rattle.std.proofs.Common.{ap}
-use Rattle.fancy_plain.specs.declared.search.Memo.{Memo}
+use Rattle.fancy_backtrack.specs.declared.memo.Memo.{Memo}
 use Rattle.fancy_plain.proofs.RunLaws.{past_run, run_over}
 use Rattle.fancy_plain.proofs.search.Searcher.past_run.Goals as goal
 

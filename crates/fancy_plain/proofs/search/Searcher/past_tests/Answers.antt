@@ -2,8 +2,8 @@ use Rattle.std.proofs.Common.{Some, length, refl, sym, ap, ◌∙◌, ◌+◌, s
 use Rattle.std.proofs.lemmas.Bool.{ltb-true}
 use Rattle.std.proofs.lemmas.Option.{slice_get_read}
 use Rattle.fancy_nfa.specs.NfaSearch.{TakesUp}
-use Rattle.fancy_plain.specs.declared.trail.NfaConfig.{NfaConfig}
-use Rattle.fancy_plain.specs.declared.search.Memo.{Memo}
+use Rattle.fancy_backtrack.specs.declared.trail.NfaConfig.{NfaConfig}
+use Rattle.fancy_backtrack.specs.declared.memo.Memo.{Memo}
 use Rattle.fancy_plain.specs.Views.{IsStateReadBy}
 use Rattle.fancy_plain.proofs.RunLaws.{goes_on_then, test_passed}
 use Rattle.fancy_plain.proofs.search.Searcher.past_tests.Goals as goal

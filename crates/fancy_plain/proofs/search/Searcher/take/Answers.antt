@@ -3,11 +3,12 @@ use Rattle.fancy_nfa.specs.NfaSearch as plain
 use Rattle.fancy_nfa.specs.NfaStates as states
 use Rattle.fancy_nfa.specs.NfaSearch.{Next, Search, TakesBack, TakesUp, pair_of}
 use Rattle.fancy_plain.specs.Views.{test_of}
-use Rattle.fancy_plain.specs.Searches.{HaveFailed, leading_of}
+use Rattle.fancy_backtrack.specs.Memos.{HaveFailed}
+use Rattle.fancy_plain.specs.Searches.{continuation_of}
 use Rattle.std.proofs.lemmas.Result.{err_from_is_err_and}
 use Rattle.fancy_meaning.specs.Moves.{past_char}
-use Rattle.fancy_plain.specs.declared.search.Memo.{Memo}
-use Rattle.fancy_plain.proofs.SearchLaws.{here_by, here_past, one_visit}
+use Rattle.fancy_backtrack.specs.declared.memo.Memo.{Memo}
+use Rattle.fancy_backtrack.proofs.MemoLaws.{here_by, here_past, one_visit}
 use Rattle.fancy_plain.proofs.search.Searcher.take.Goals as goal
 
 -- src/search.rt:502:15
@@ -30,7 +31,7 @@ returns-in-Some c = λ s f h here.
         (
           ap (λ o. plain.next_by (plain.goes_past s o) (Some (states.Character test)) s f)
               (ap past (sym here.place) ∙ sym c.in_ok-place.ensures.ok ∙ c.in-Some.is),
-          one_visit (leading_of searcher) c.args.m.now f h c.count.new.self c.count.ensures,
+          one_visit (continuation_of searcher) c.args.m.now f h c.count.new.self c.count.ensures,
           here_past c.count.new.self c.args.config s c.in-Some.place
               (here_by c.args.m.now c.count.new.self c.args.config s (ap (λ (m : Memo). m.trail) c.count.ensures) here),
         ),
@@ -48,6 +49,6 @@ returns-in-None c = λ s f h here.
       (
         ap (λ o. plain.next_by (plain.goes_past s o) (Some (states.Character test)) s f)
             (ap past (sym here.place) ∙ sym c.in_ok-place.ensures.ok ∙ c.in-None.is),
-        one_visit (leading_of searcher) c.args.m.now f h c.count.new.self c.count.ensures,
+        one_visit (continuation_of searcher) c.args.m.now f h c.count.new.self c.count.ensures,
       ),
     )

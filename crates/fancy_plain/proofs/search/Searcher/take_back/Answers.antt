@@ -1,16 +1,17 @@
 use Rattle.std.proofs.Common.{◌≡◌, ◌+◌, true≢false, refl, sym, ap, ◌∙◌, subst, arith, suc, true, length}
 use Rattle.fancy_nfa.specs.NfaSearch as plain
 use Rattle.fancy_nfa.specs.NfaSearch.{Next, Search, TakesBack, TakesUp, pair_of}
-use Rattle.fancy_plain.specs.Searches.{AreKept, IsSearch, fails_before, leading_of, Keeps}
+use Rattle.fancy_backtrack.specs.Memos.{AreKept, IsSearch, fails_before, Keeps}
+use Rattle.fancy_plain.specs.Searches.{continuation_of}
 use Rattle.std.proofs.lemmas.Result.{err_from_is_err_and}
-use Rattle.fancy_plain.specs.declared.search.Memo.{Memo}
-use Rattle.fancy_plain.specs.BacktrackStack.{choices_of}
-use Rattle.fancy_plain.specs.FailedPairs.{has_pair, key_of}
+use Rattle.fancy_backtrack.specs.declared.memo.Memo.{Memo}
+use Rattle.fancy_backtrack.specs.BacktrackStack.{choices_of}
+use Rattle.fancy_backtrack.specs.FailedPairs.{has_pair, key_of}
 use Rattle.fancy_plain.specs.Runs.{IsLostAt, lost_visits}
 use Rattle.fancy_plain.proofs.BackLaws.{goes_back, none_kept, one_more, popped, search_memoized}
 use Rattle.fancy_nfa.specs.FirstWays.{search_in}
 use Rattle.fancy_plain.proofs.RunLaws.{back_gone}
-use Rattle.fancy_plain.proofs.SearchLaws.{here_by, more_states}
+use Rattle.fancy_backtrack.proofs.MemoLaws.{here_by, more_states}
 use Rattle.fancy_plain.proofs.search.Searcher.take_back.Goals as goal
 use Rattle.fancy_plain.proofs.search.Searcher.take_back.Goals.{else-choice-via-then-choice+else-not-is_lost, else-choice-via-else-choice}
 
@@ -22,18 +23,20 @@ pub frames-smaller : goal.frames-smaller
 frames-smaller c =
     let same = ap (λ (m : Memo). length (choices_of m.frames)) c.add_failed.ensures.rest in
     let counted = ap (λ (m : Memo). length (choices_of m.frames)) c.count_more.ensures in
-    let shorter = ap length c.in-Some.ensures in
+    let shorter = ap length c.in-Some.ensures.choices in
     omega (arith, same, counted, shorter)
 
 pub frames-preserved : goal.frames-preserved
 frames-preserved c = λ f h.
     let searcher = c.args.self.now in
-    let leading = leading_of searcher in
+    let continuation = continuation_of searcher in
     let back = c.frames.invariant f h in
     let g = back.1.0 in
     let choice = c.in-Some.choice in
-    let cut : Memo = record c.frames.m { frames = c.pop.new.self; trail = c.truncate.new.self } in
-    let last = popped leading c.frames.m cut choice g c.in-Some.ensures c.truncate.ensures refl refl back.1.1.1 in
+    let cut = c.pop.new.self in
+    let same = c.pop.ensures.rest in
+    let last = popped continuation c.frames.m cut choice g c.in-Some.ensures.choices c.in-Some.ensures.path
+    (ap (λ (m : Memo). m.failed) same) (ap (λ (m : Memo). m.visits) same) back.1.1.1 in
     let lost : choice.is_untried ≡ true → IsLostAt searcher choice.config.at choice.config.place =
     elim c.else-choice.branch [
       | else-choice-via-then-choice+else-not-is_lost w ↦ λ _. w.is_lost.ensures w.if-not-is_lost.false
@@ -45,15 +48,15 @@ frames-preserved c = λ f h.
     let left : Search = record g { frames = last.rest } in
     let counted = c.count_more.new.self in
     let here = here_by cut counted choice.config last.config (ap (λ (m : Memo). m.trail) c.count_more.ensures) last.here in
-    let more = subst (λ k. IsSearch leading counted (record left { visits = g.visits + k })) c.lost_visits.ensures
-    (more_states leading cut left last.search counted c.lost_visits.result c.count_more.ensures) in
+    let more = subst (λ k. IsSearch continuation counted (record left { visits = g.visits + k })) c.lost_visits.ensures
+    (more_states continuation cut left last.search counted c.lost_visits.result c.count_more.ensures) in
     let memoized = c.in_ok-add_failed.ensures.ok last.config (record left { visits = g.visits + n }) here more.failed in (
       gone.0,
       (
         plain.with_failed (pair_of last.config) (record left { visits = g.visits + n }),
         (
           gone.1,
-          search_memoized leading counted c.add_failed.new.self (record left { visits = g.visits + n }) (pair_of last.config)
+          search_memoized continuation counted c.add_failed.new.self (record left { visits = g.visits + n }) (pair_of last.config)
               c.add_failed.ensures.rest memoized more,
         ),
       ),
@@ -62,11 +65,13 @@ frames-preserved c = λ f h.
 pub returns-in_err-add_failed : goal.returns-in_err-add_failed
 returns-in_err-add_failed c = λ f h.
     let searcher = c.args.self.now in
-    let leading = leading_of searcher in
+    let continuation = continuation_of searcher in
     let back = c.frames.invariant f h in
     let g = back.1.0 in
-    let cut : Memo = record c.frames.m { frames = c.pop.new.self; trail = c.truncate.new.self } in
-    let last = popped leading c.frames.m cut c.in-Some.choice g c.in-Some.ensures c.truncate.ensures refl refl back.1.1.1 in
+    let cut = c.pop.new.self in
+    let same = c.pop.ensures.rest in
+    let last = popped continuation c.frames.m cut c.in-Some.choice g c.in-Some.ensures.choices c.in-Some.ensures.path
+    (ap (λ (m : Memo). m.failed) same) (ap (λ (m : Memo). m.visits) same) back.1.1.1 in
     let p = err_from_is_err_and c.from_residual.result c.from_residual.ensures.1 in
     rw p.1 (
       back.0,
@@ -79,12 +84,14 @@ returns-in_err-add_failed c = λ f h.
 pub returns-then-not-is_lost : goal.returns-then-not-is_lost
 returns-then-not-is_lost c = λ f h.
     let searcher = c.args.self.now in
-    let leading = leading_of searcher in
+    let continuation = continuation_of searcher in
     let back = c.frames.invariant f h in
     let g = back.1.0 in
-    let cut : Memo = record c.frames.m { frames = c.pop.new.self; trail = c.truncate.new.self } in
-    let last = popped leading c.frames.m cut c.in-Some.choice g c.in-Some.ensures c.truncate.ensures refl refl back.1.1.1 in
-    let keeps = subst (λ b. Keeps b (leading last.config) last.config last.rest g.frames) {y = true} c.if-choice.true last.keeps in
+    let cut = c.pop.new.self in
+    let same = c.pop.ensures.rest in
+    let last = popped continuation c.frames.m cut c.in-Some.choice g c.in-Some.ensures.choices c.in-Some.ensures.path
+    (ap (λ (m : Memo). m.failed) same) (ap (λ (m : Memo). m.visits) same) back.1.1.1 in
+    let keeps = subst (λ b. Keeps b (continuation last.config) last.config last.rest g.frames) {y = true} c.if-choice.true last.keeps in
     let is_memoized = keeps.0 in
     let other = keeps.1.1.0 in
     goes_back searcher (TakesBack f) back.0 last.config other g
@@ -98,8 +105,10 @@ returns c = λ f h.
     let back = c.frames.invariant f h in
     let g = back.1.0 in
     let k = back.1.1.1 in
-    let no = c.in_default.ensures in
-    let none = none_kept (leading_of searcher) c.frames.m.trail.entries.items (length c.frames.m.trail.entries.items)
+    let no = c.in_default.ensures.choices in
+    let left = c.pop.new.self in
+    let same = c.pop.ensures.rest in
+    let none = none_kept (continuation_of searcher) c.frames.m.trail.entries.items (length c.frames.m.trail.entries.items)
     (choices_of c.frames.m.frames) g.frames no.0 k.frames in (
       suc back.0,
       (
@@ -108,10 +117,10 @@ returns c = λ f h.
           one_more searcher back.0 (TakesBack f) (TakesBack g) back.1.1.0 ∙ ap (λ l. plain.back_to l g) none,
           record {
             frames =
-                subst (λ l. AreKept (leading_of searcher) c.frames.m.trail.entries.items (length c.frames.m.trail.entries.items) l g.frames)
-                (no.0 ∙ sym no.1) k.frames;
-            failed = k.failed;
-            visits = k.visits;
+                subst (λ l. AreKept (continuation_of searcher) left.trail.entries.items (length left.trail.entries.items) l g.frames)
+                (sym no.1) none;
+            failed = λ p. ap (λ (m : Memo). has_pair m.failed (key_of p)) same ∙ k.failed p;
+            visits = ap (λ (m : Memo). m.visits) same ∙ k.visits;
           },
         ),
       ),

@@ -1,7 +1,8 @@
 use Rattle.std.proofs.Common.{sym, ◌≤◌, length, refl}
 use Rattle.std.proofs.lemmas.Bool.{ltb-false}
-use Rattle.fancy_plain.specs.Searches.{leading_of}
-use Rattle.fancy_plain.proofs.SearchLaws.{lost_past, no_tries}
+use Rattle.fancy_plain.specs.Searches.{continuation_of}
+use Rattle.fancy_plain.proofs.SearchLaws.{lost_past}
+use Rattle.fancy_backtrack.proofs.MemoLaws.{no_tries}
 use Rattle.std.proofs.lemmas.Bool.{ltb-true}
 use Rattle.std.proofs.lemmas.Option.{slice_get_read}
 use Rattle.fancy_plain.proofs.search.Searcher.take_other.Goals as goal
@@ -11,7 +12,7 @@ returns-in-None c = λ s first other is_memoized f rest h here e.
     let searcher = c.args.self.now in
     let past : length searcher.states.now ≤ c.args.config.at =
     ltb-false c.args.config.at (length searcher.states.now) (sym c.in-None.ensures.lookup.0) in
-    absurd (no_tries (leading_of searcher s) is_memoized first other (lost_past searcher c.args.config s here.at past) e)
+    absurd (no_tries (continuation_of searcher s) is_memoized first other (lost_past searcher c.args.config s here.at past) e)
 
 pub returns-in-Some : goal.returns-in-Some
 returns-in-Some c = c.other_from.ensures

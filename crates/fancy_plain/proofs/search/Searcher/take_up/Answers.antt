@@ -1,7 +1,8 @@
 use Rattle.std.proofs.Common.{sym, ◌≤◌, ◌+◌, length, refl}
-use Rattle.fancy_plain.specs.Searches.{leading_of}
+use Rattle.fancy_plain.specs.Searches.{continuation_of}
 use Rattle.std.proofs.lemmas.Bool.{ltb-false}
-use Rattle.fancy_plain.proofs.SearchLaws.{nothing_there, one_visit}
+use Rattle.fancy_plain.proofs.SearchLaws.{nothing_there}
+use Rattle.fancy_backtrack.proofs.MemoLaws.{one_visit}
 use Rattle.std.proofs.lemmas.Bool.{ltb-true}
 use Rattle.std.proofs.lemmas.Option.{slice_get_read}
 use Rattle.fancy_plain.proofs.search.Searcher.take_up.Goals as goal
@@ -16,7 +17,7 @@ returns-in-None c = λ s f h here.
         record f { visits = f.visits + 1 },
         (
           nothing_there searcher c.args.config s f here.at past,
-          one_visit (leading_of searcher) c.args.m.now f h c.count.new.self c.count.ensures,
+          one_visit (continuation_of searcher) c.args.m.now f h c.count.new.self c.count.ensures,
         ),
       ),
     )

@@ -1,7 +1,7 @@
 use Rattle.std.proofs.Common.{◌∙◌, ap, slice_get}
 use Rattle.std.proofs.lemmas.Result.{err_from_is_err_and}
 use Rattle.fancy_nfa.specs.NfaSearch.{TakesUp}
-use Rattle.fancy_plain.specs.Searches.{leading_of}
+use Rattle.fancy_plain.specs.Searches.{continuation_of}
 use Rattle.fancy_plain.specs.declared.nfa_state.NfaState.TheVariants as nfa_state
 use Rattle.fancy_plain.proofs.BackLaws.{comes_by, comes_further}
 use Rattle.fancy_plain.proofs.SearchLaws.{at_step, steps_by}
@@ -28,4 +28,4 @@ returns c = λ s f h here.
     comes_further searcher came.0 (TakesUp s f) (TakesUp t g) c.loop_split.result c.loop_split.new.self came.1.1.1.0
     (comes_by searcher t g c.loop_split.result c.loop_split.new.self
     (at_step searcher p on t g stands.at there c.loop_split.result c.loop_split.new.self
-    (c.loop_split.ensures (leading_of searcher) t c.requires.at.0 g came.1.1.1.1 stands (steps_by searcher p on t stands.at there))))
+    (c.loop_split.ensures (continuation_of searcher) t c.requires.at.0 g came.1.1.1.1 stands (steps_by searcher p on t stands.at there))))

@@ -1,19 +1,21 @@
 use Rattle.std.proofs.Common.{refl, sym, ap, ◌∙◌, subst, ◌≤◌, ◌+◌, ◌∷◌, Some, None, false, length}
 use Rattle.fancy_nfa.specs.NfaSearch as plain
 use Rattle.fancy_nfa.specs.NfaSearch.{Next, Search, TakesBack, TakesUp, pair_of}
-use Rattle.fancy_plain.specs.Paths.{HasCounters}
+use Rattle.fancy_backtrack.specs.Paths.{HasCounters}
 use Rattle.fancy_plain.specs.Views.{state_of}
-use Rattle.fancy_plain.specs.Searches.{IsHere, leading_of}
+use Rattle.fancy_backtrack.specs.Memos.{IsHere}
+use Rattle.fancy_plain.specs.Searches.{continuation_of}
 use Rattle.std.proofs.lemmas.Bool.{cond-true, cond-false}
 use Rattle.fancy_meaning.specs.Assertions.{holds}
 use Rattle.fancy_expr.specs.Views.{assertion_of}
 use Rattle.fancy_plain.specs.declared.nfa_state.NfaState.TheVariants as nfa_state
-use Rattle.fancy_plain.specs.declared.trail.Trail.{Trail}
-use Rattle.fancy_plain.specs.declared.trail.NfaConfig.{NfaConfig}
-use Rattle.fancy_plain.specs.declared.search.Memo.{Memo}
+use Rattle.fancy_backtrack.specs.declared.trail.Trail.{Trail}
+use Rattle.fancy_backtrack.specs.declared.trail.NfaConfig.{NfaConfig}
+use Rattle.fancy_backtrack.specs.declared.memo.Memo.{Memo}
 use Rattle.std.proofs.lemmas.Result.{err_from_is_err_and}
 use Rattle.fancy_plain.proofs.BackLaws.{comes_by}
-use Rattle.fancy_plain.proofs.SearchLaws.{at_step, at_state, failed_by, here_at, here_by, steps_by, next_there, one_visit}
+use Rattle.fancy_plain.proofs.SearchLaws.{at_step, at_state, steps_by, next_there}
+use Rattle.fancy_backtrack.proofs.MemoLaws.{failed_by, here_at, here_by, one_visit}
 use Rattle.fancy_plain.proofs.search.Searcher.take_up_state.Goals as goal
 
 -- src/search.rt:443:5
@@ -45,7 +47,7 @@ returns-in-BranchSplit c = λ s f h here.
     let there = c.requires.at ∙ ap Some c.in-BranchSplit.is in
     let other = plain.goes_to c.in-BranchSplit.field-1 s in
     comes_by c.args.self.now s f c.choose.result c.choose.new.self (at_state searcher p c.args.config s f here.at there c.choose.result c.choose.new.self
-    (c.choose.ensures (leading_of searcher) s f (plain.Other other ∷ f.frames) h here
+    (c.choose.ensures (continuation_of searcher) s f (plain.Other other ∷ f.frames) h here
     (false, (plain.goes_to c.in-BranchSplit.first s, (other, (steps_by searcher p c.args.config s here.at there, refl))))))
 
 -- src/search.rt:443:5
@@ -55,7 +57,7 @@ returns-in-Close c = λ s f h here.
     let p = nfa_state.Close c.in-Close.group in
     comes_by c.args.self.now s f c.close.result c.close.new.self (at_state searcher p c.args.config s f here.at
     (c.requires.at ∙ ap Some c.in-Close.is) c.close.result c.close.new.self
-    (c.close.ensures (leading_of searcher) s f h here))
+    (c.close.ensures (continuation_of searcher) s f h here))
 
 -- src/search.rt:443:5
 pub returns-in-Join : goal.returns-in-Join
@@ -63,7 +65,7 @@ returns-in-Join c = λ s f h here.
     let searcher = c.args.self.now in
     let there = c.requires.at ∙ ap Some c.in-Join.is in
     comes_by c.args.self.now s f c.join.result c.join.new.self (at_step searcher nfa_state.Join c.args.config s f here.at there c.join.result c.join.new.self
-    (c.join.ensures (leading_of searcher) s f h here (steps_by searcher nfa_state.Join c.args.config s here.at there)))
+    (c.join.ensures (continuation_of searcher) s f h here (steps_by searcher nfa_state.Join c.args.config s here.at there)))
 
 -- src/search.rt:443:5
 pub returns-in-Split : goal.returns-in-Split
@@ -74,8 +76,8 @@ returns-in-Split c = λ s f h here.
     let other = plain.goes_to c.in-Split.field-1 s in
     comes_by c.args.self.now s f c.choose-in-Split.result c.choose-in-Split.new.self
     (at_state searcher p c.args.config s f here.at there c.choose-in-Split.result c.choose-in-Split.new.self
-    (c.choose-in-Split.ensures (leading_of searcher) s (record f { visits = f.visits + 1 }) (plain.Other other ∷ f.frames)
-    (one_visit (leading_of searcher) c.args.m.now f h c.count.new.self c.count.ensures)
+    (c.choose-in-Split.ensures (continuation_of searcher) s (record f { visits = f.visits + 1 }) (plain.Other other ∷ f.frames)
+    (one_visit (continuation_of searcher) c.args.m.now f h c.count.new.self c.count.ensures)
     (here_by c.args.m.now c.count.new.self c.args.config s (ap (λ (m : Memo). m.trail) c.count.ensures) here)
     (false, (plain.goes_to c.in-Split.first s, (other, (steps_by searcher p c.args.config s here.at there, refl))))))
 
@@ -85,8 +87,8 @@ returns-in-Open c = λ s f h here.
     let searcher = c.args.self.now in
     comes_by c.args.self.now s f c.open.result c.open.new.self (at_state searcher nfa_state.Open c.args.config s f here.at
     (c.requires.at ∙ ap Some c.in-Open.is) c.open.result c.open.new.self
-    (c.open.ensures (leading_of searcher) s (record f { visits = f.visits + 1 })
-    (one_visit (leading_of searcher) c.args.m.now f h c.count-in-Open.new.self c.count-in-Open.ensures)
+    (c.open.ensures (continuation_of searcher) s (record f { visits = f.visits + 1 })
+    (one_visit (continuation_of searcher) c.args.m.now f h c.count-in-Open.new.self c.count-in-Open.ensures)
     (here_by c.args.m.now c.count-in-Open.new.self c.args.config s (ap (λ (m : Memo). m.trail) c.count-in-Open.ensures) here)))
 
 -- src/search.rt:443:5
@@ -103,8 +105,8 @@ returns-in_ok-next-in-CounterBegin c = λ s f h here.
           record (plain.forward s) { counters = first ∷ s.counters },
           (
             next_there searcher nfa_state.CounterBegin c.args.config s here.at (c.requires.at ∙ ap Some c.in-CounterBegin.is) f,
-            c.in_ok-next-in-CounterBegin.ensures.search (leading_of searcher) (record f { visits = f.visits + 1 })
-                (one_visit (leading_of searcher) c.args.m.now f h m c.count-in-CounterBegin.ensures),
+            c.in_ok-next-in-CounterBegin.ensures.search (continuation_of searcher) (record f { visits = f.visits + 1 })
+                (one_visit (continuation_of searcher) c.args.m.now f h m c.count-in-CounterBegin.ensures),
             c.in_ok-next-in-CounterBegin.ensures.here s s.counters (here_by c.args.m.now m c.args.config s trail here)
                 (subst (λ (l : Trail). c.args.config.counters ≤ length l.entries.items) (sym trail) here.counters_link)
                 (subst (λ (l : Trail). HasCounters l.entries.items c.args.config.counters s.counters) (sym trail) here.counters),
@@ -129,7 +131,7 @@ returns-then-holds c = λ s f h here.
           (
             next_there searcher p c.args.config s here.at (c.requires.at ∙ ap Some c.in-Holds.is) f
                 ∙ ap (λ l. plain.next_by l (Some (state_of p)) s f) (cond-true _ _ _ yes_here),
-            one_visit (leading_of searcher) c.args.m.now f h m c.count-in-Holds.ensures,
+            one_visit (continuation_of searcher) c.args.m.now f h m c.count-in-Holds.ensures,
             subst (λ (x : NfaConfig). IsHere m x (plain.forward s)) (sym c.forward.ensures)
                 (here_at m c.args.config s (c.args.config.at + 1) (s.at + 1) (ap (λ n. n + 1) here.at)
                 (here_by c.args.m.now m c.args.config s (ap (λ (n : Memo). n.trail) c.count-in-Holds.ensures) here)),
@@ -151,7 +153,7 @@ returns-else-holds c = λ s f h here.
         (
           next_there searcher p c.args.config s here.at (c.requires.at ∙ ap Some c.in-Holds.is) f
               ∙ ap (λ l. plain.next_by l (Some (state_of p)) s f) (cond-false _ _ _ not_here),
-          one_visit (leading_of searcher) c.args.m.now f h c.count-in-Holds.new.self c.count-in-Holds.ensures,
+          one_visit (continuation_of searcher) c.args.m.now f h c.count-in-Holds.new.self c.count-in-Holds.ensures,
         ),
       ),
     )
@@ -167,7 +169,7 @@ returns-in-Match c = λ s f h here.
           s,
           ((
             next_there searcher nfa_state.Match c.args.config s here.at (c.requires.at ∙ ap Some c.in-Match.is) f,
-            one_visit (leading_of searcher) c.args.m.now f h c.count-in-Match.new.self c.count-in-Match.ensures,
+            one_visit (continuation_of searcher) c.args.m.now f h c.count-in-Match.new.self c.count-in-Match.ensures,
             here_by c.args.m.now c.count-in-Match.new.self c.args.config s (ap (λ (m : Memo). m.trail) c.count-in-Match.ensures) here,
           )
               ),

@@ -1,6 +1,6 @@
 use Rattle.std.proofs.Common.{Box, Global, Some, ap, refl, subst, sym, ◌∙◌}
 use Rattle.fancy_fragments.specs.Fragments.{IsMemoFor}
-use Rattle.fancy_plain.specs.declared.search.Memo.{Memo}
+use Rattle.fancy_backtrack.specs.declared.memo.Memo.{Memo}
 use Rattle.fancy_vm.proofs.MemosLaws.{memos_left}
 use Rattle.fancy_vm.proofs.memos.Memos.memo_for.Goals as goal
 use Rattle.fancy_vm.proofs.memos.Memos.memo_for.Goals.{then-run-self, else-run-self}

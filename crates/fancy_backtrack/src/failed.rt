@@ -1,0 +1,153 @@
+//! The pairs of a state and a place that have no way.
+
+ghost use Rattle.std.specs.Prelude.{◌≡◌, ◌≤◌, ◌<◌, ◌+◌, ◌-◌, ◌++◌, ℕ, ◌∷◌, [], ◌||◌, ◌==◌, false, length, replicate, List, IsTrue, OnOk, OnErr};
+ghost use Rattle.fancy_backtrack.specs.FailedPairs.{same_numbers, bit_is_set, has_pair};
+
+use crate::pair_bits::PairBits;
+use std::alloc::{AllocError, Global};
+use std::collections::HashSet;
+
+/// How many times the lists that a search memoized their room may be, once it is over.
+const SPARE: usize = 16;
+
+/// Pairs that have no way. Where states and counts are few a pair is a bit; any other is a list of its numbers.
+#[derive(Drop)]
+pub(crate) struct Failed {
+    /// Which bit a pair has.
+    pair_bits: PairBits,
+    /// The place of the first bits.
+    base: usize,
+    bits: Vec<u64>,
+    /// The state, the place, and of each loop around the count and whether it is to move and has not.
+    lists: HashSet<Vec<usize>>,
+}
+
+impl Failed {
+    /// No pairs of a fragment whose pairs have these bits, in a search from `base` on.
+    pub(crate) fn new(alloc: Global, pair_bits: PairBits, base: usize) -> Failed
+        ensures { (k : List ℕ) → has_pair result k ≡ false }
+    {
+        Failed {
+            pair_bits,
+            base,
+            bits: Vec::new(alloc),
+            lists: HashSet::new(alloc),
+        }
+    }
+
+    /// As `new` for another search, with the room of this one.
+    pub(crate) fn clear(&mut self, pair_bits: PairBits, base: usize)
+        ensures { (k : List ℕ) → has_pair self.new k ≡ false }
+    {
+        self.pair_bits = pair_bits;
+        self.base = base;
+        self.bits.clear();
+        let used = self.lists.len();
+        if used > 0 {
+            self.lists.clear();
+            self.lists.shrink_to(used.saturating_mul(SPARE));
+        }
+    }
+
+    /// No pair was added.
+    #[inline(always)]
+    pub(crate) fn is_empty(&self) -> bool
+        ensures { IsTrue result → (k : List ℕ) → has_pair self.now k ≡ false }
+    {
+        self.bits.is_empty() && self.lists.is_empty()
+    }
+
+    /// Whether a pair with these numbers is among them.
+    pub(crate) fn has(&self, pair: &[usize]) -> bool
+        ensures { result ≡ has_pair self.now pair.now }
+    {
+        match self.pair_bits.bit(self.base, pair) {
+            Some(bit) => has_bit(&self.bits, bit),
+            None => self.lists.contains(pair),
+        }
+    }
+
+    /// Whether this pair, which is outside all loops that count, is among them.
+    #[inline(always)]
+    pub(crate) fn has_outside(&self, at: usize, place: usize) -> bool
+        ensures { result ≡ has_pair self.now (at ∷ place ∷ []) }
+    {
+        match self.pair_bits.bit_outside(self.base, at, place) {
+            Some(bit) => has_bit(&self.bits, bit),
+            None => self.has(&[at, place]),
+        }
+    }
+
+    /// One more.
+    #[inline(never)]
+    pub(crate) fn add(&mut self, alloc: Global, pair: &[usize]) -> Result<(), AllocError>
+        ensures ok { OnOk result ((k : List ℕ) → has_pair self.new k
+            ≡ (same_numbers k pair.now || has_pair self.old k)) }
+        ensures err { OnErr result ((k : List ℕ) → has_pair self.new k ≡ has_pair self.old k) }
+    {
+        match self.pair_bits.bit(self.base, pair) {
+            Some(bit) => set_bit(&mut self.bits, bit),
+            None => {
+                let pair = Vec::from_slice(alloc, pair)?;
+                self.lists.insert(pair)?;
+                Ok(())
+            }
+        }
+    }
+
+    /// One more, outside all loops that count.
+    #[inline(always)]
+    pub(crate) fn add_outside(
+        &mut self,
+        alloc: Global,
+        at: usize,
+        place: usize,
+    ) -> Result<(), AllocError>
+        ensures ok { OnOk result ((k : List ℕ) → has_pair self.new k
+            ≡ (same_numbers k (at ∷ place ∷ []) || has_pair self.old k)) }
+        ensures err { OnErr result ((k : List ℕ) → has_pair self.new k ≡ has_pair self.old k) }
+    {
+        match self.pair_bits.bit_outside(self.base, at, place) {
+            Some(bit) => set_bit(&mut self.bits, bit),
+            None => self.add(alloc, &[at, place]),
+        }
+    }
+}
+
+#[inline(always)]
+fn has_bit(bits: &[u64], bit: usize) -> bool
+    ensures { result ≡ bit_is_set bits.now bit }
+{
+    match bits.get(bit / 64) {
+        Some(word) => word >> (bit % 64) & 1 == 1,
+        None => false,
+    }
+}
+
+#[inline(always)]
+fn set_bit(bits: &mut Vec<u64>, bit: usize) -> Result<(), AllocError>
+    ensures ok { OnOk result ((n : ℕ) → bit_is_set bits.new.items n
+        ≡ (n == bit || bit_is_set bits.old.items n)) }
+    ensures err { OnErr result (bits.new.items ≡ bits.old.items) }
+{
+    let word = bit / 64;
+    if bits.len() <= word {
+        grow(bits, word)?;
+    }
+    bits[word] |= 1 << (bit % 64);
+    Ok(())
+}
+
+/// Makes room for this word.
+#[cold]
+#[inline(never)]
+fn grow(bits: &mut Vec<u64>, word: usize) -> Result<(), AllocError>
+    requires small { length bits.old.items ≤ word }
+    requires fits { word < usize.MAX }
+    ensures items { OnOk result (bits.new.items
+        ≡ bits.old.items ++ replicate (word + 1 - length bits.old.items) 0) }
+    ensures len { OnOk result (length bits.new.items ≡ word + 1) }
+    ensures err { OnErr result (bits.new.items ≡ bits.old.items) }
+{
+    bits.resize(word + 1, 0)
+}

@@ -1,0 +1,10 @@
+//! The state of a backtracking search by an NFA: the path to where it stands, what it tries later, and the pairs of a
+//! state and a place that have no way.
+#![tactic(auto)]
+
+pub mod backtrack_stack;
+mod failed;
+pub mod loops;
+pub mod memo;
+pub mod pair_bits;
+pub mod trail;

@@ -1,5 +1,0 @@
-use Rattle.fancy_plain.proofs.FailedLaws.{none_memoized}
-use Rattle.fancy_plain.proofs.failed.Failed.new.Goals as goal
-
-pub returns : goal.returns
-returns c = none_memoized _ c.new.ensures.items c.new-2.ensures.empty

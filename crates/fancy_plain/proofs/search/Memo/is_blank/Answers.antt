@@ -1,6 +1,0 @@
-use Rattle.std.proofs.Common.{sym, ◌∙◌}
-use Rattle.fancy_plain.specs.FailedPairs.{key_of}
-use Rattle.fancy_plain.proofs.search.Memo.is_blank.Goals as goal
-
-pub returns : goal.returns
-returns c is failed have p = sym (have p) ∙ c.is_empty.ensures is (key_of p)
