@@ -1,20 +1,22 @@
 -- What the reader's calls answer is spelled.
-use Rattle.std.proofs.Common.{◌≡◌, ℕ, ◌-◌, ◌<◌, ◌≤◌, Bool, true, false, not, cond, List, [], ◌∷◌, ◌++◌, length, drop, map, filter, Option, Some, None, option_map, is_some, encode_utf8, encode_utf8_all, string_bytes, refl, sym, ap, ◌∙◌, subst, arith, append-nil, append_assoc, length-drop}
+use Rattle.std.proofs.Common.{◌≡◌, ℕ, ◌-◌, ◌<◌, ◌≤◌, Bool, true, false, not, cond, List, [], ◌∷◌, ◌++◌, length, drop, map, filter, Option, Some, None, Result, Ok, Err, IfOk, option_map, is_some, encode_utf8, encode_utf8_all, string_bytes, refl, sym, ap, ◌∙◌, subst, arith, append-nil, append_assoc, length-drop}
 use Rattle.std.proofs.lemmas.Bool.{true≢false}
 use Rattle.std.proofs.lemmas.List.{map-append, take_all}
 use Rattle.fancy_meaning.specs.Tree as tree
 use Rattle.fancy_meaning.specs.Tree.{Tree}
 use Rattle.fancy_expr.specs.declared.expr.Expr.{Expr}
 use Rattle.fancy_expr.specs.Views.{tree_of}
+use Rattle.fancy_pattern.specs.declared.failure.Failure.{Failure}
 use Rattle.fancy_pattern.specs.declared.reader.Reader.{Reader}
 use Rattle.fancy_pattern.specs.declared.tokens.Placed.{Placed as Code}
 use Rattle.fancy_pattern.specs.declared.tokens.Quantifier.{Quantifier}
 use Rattle.fancy_pattern.specs.declared.tokens.Suffix.{Suffix}
-use Rattle.fancy_pattern.specs.Tokens.{Token, Placed, Opening}
+use Rattle.fancy_pattern.specs.declared.tokens.Enclosing.{Enclosing}
+use Rattle.fancy_pattern.specs.Tokens.{Reference, Token, Placed, Opening, Around, Group, AbsentBar, If, IfPattern, IfLook}
 use Rattle.fancy_pattern.specs.PatternViews.{placed_of}
-use Rattle.fancy_pattern.specs.Grammar.{Names, Takes, first_gives, gives_some, is_at, is_branch_end, is_empty, is_repeatable, bar, closing, quantifier, suffix, class_text, class_close, class_of, branch_of, joined, alternated, suffixed, SpellsSuffix, no_suffix, a_suffix, SpellsClass, class_end, class_piece, SpellsAtom, SpellsPiece, plain, quantified, SpellsPieces, no_piece, piece, SpellsBranch, branch, SpellsBars, no_bar, barred, SpellsAlternatives, branches}
+use Rattle.fancy_pattern.specs.Grammar.{Names, Takes, first_gives, gives_some, is_at, is_branch_end, is_empty, is_repeatable, bar, closing, quantifier, suffix, class_text, class_close, class_of, branch_of, joined, alternated, suffixed, SpellsSuffix, no_suffix, a_suffix, SpellsClass, class_end, class_piece, class_open, opening, node_of, reference, enclosed, SpellsAtom, node, class, opened, SpellsOpened, around, group, stopper, expression, asked, if_group, if_pattern, if_look, SpellsBodies, one_body, two_bodies, SpellsPiece, plain, quantified, SpellsPieces, no_piece, piece, SpellsBranch, branch, SpellsBars, no_bar, barred, SpellsAlternatives, branches}
 use Rattle.fancy_pattern.proofs.MadeNodes.{text_added, one_char}
-use Rattle.fancy_pattern.specs.Reading.{point_of, Skips, Quantifies, alone, by, some_of}
+use Rattle.fancy_pattern.specs.Reading.{point_of, Skips, ReadsTree, ReadsLast, ReadsClass, SpellsLast, Quantifies, alone, by, some_of}
 
 pub skipped : (old new : Reader) → 0 < length old.rest.now → new.rest.now ≡ drop 1 old.rest.now → Skips old new
 skipped old new h rest = let p = front old.rest.now new.rest.now h rest in record { first = p.0; tokens = p.1 }
@@ -54,10 +56,81 @@ pub branch_spelled : (names : Names) (x y : List Placed) (es : List Tree) (made 
     made ≡ filter (λ e. not (is_empty e)) es → r ≡ joined made → SpellsBranch names x y r
 branch_spelled names x y es made r s are is = subst (SpellsBranch names x y) (sym (is ∙ ap joined are)) (branch s)
 
+pub one_given : (e : Expr) (none given : List Expr) → none ≡ [] → given ≡ none ++ e ∷ [] → map tree_of given ≡ tree_of e ∷ []
+one_given e none given nothing is = ap (map tree_of) (is ∙ ap (λ l. l ++ e ∷ []) nothing)
+
 pub alternatives_spelled : (names : Names) (x y z : List Placed) (e : Tree) (es given made : List Tree) (r : Tree) → SpellsBranch names x y e →
     SpellsBars names y z es → given ≡ e ∷ [] → made ≡ given ++ es → r ≡ alternated made → SpellsAlternatives names x z r
 alternatives_spelled names x y z e es given made r s more one are is =
     subst (SpellsAlternatives names x z) (sym (is ∙ ap alternated (are ∙ ap (λ l. l ++ es) one))) (branches s more)
+
+-- ---- atoms
+
+pub atom_opened : (names : Names) (old mid new : Reader) (o : Opening) (r : Result Expr Failure) → first_gives opening (point_of old) ≡ Some o → Skips old mid →
+    ReadsTree (SpellsOpened names o) mid new r → ReadsTree (SpellsAtom names) old new r
+atom_opened names old mid new o (Ok e) is s h = opened (takes_next opening o old mid is s) h
+atom_opened names old mid new o (Err f) is s h = tt
+
+pub atom_class : (names : Names) (old mid new : Reader) (casei : Bool) (r : Result Expr Failure) → first_gives class_open (point_of old) ≡ Some casei →
+    Skips old mid → ReadsClass casei mid new r → ReadsTree (SpellsAtom names) old new r
+atom_class names old mid new casei (Ok e) is s h =
+    subst (SpellsAtom names (point_of old) (point_of new)) (sym h.2) (class (takes_next class_open casei old mid is s) h.1)
+atom_class names old mid new casei (Err f) is s h = tt
+
+pub atom_node : (names : Names) (old new : Reader) (r : Result Expr Failure) →
+    IfOk r (λ e. Takes (node_of names) (point_of old) (tree_of e) (point_of new)) → ReadsTree (SpellsAtom names) old new r
+atom_node names old new (Ok e) h = node h
+atom_node names old new (Err f) h = tt
+
+pub piece_read : (names : Names) (atom : Tree) (old mid new : Reader) (r : Result Expr Failure) → SpellsAtom names (point_of old) (point_of mid) atom →
+    IfOk r (λ e. Quantifies atom (point_of mid) (point_of new) (tree_of e)) → ReadsTree (SpellsPiece names) old new r
+piece_read names atom old mid new (Ok e) a h = piece_spelled names atom (tree_of e) (point_of old) (point_of mid) (point_of new) a h
+piece_read names atom old mid new (Err f) a h = tt
+
+-- ---- groups
+
+pub around_spelled : (names : Names) (f : Enclosing) (x z : List Placed) (e r : Tree) → SpellsLast names x z e → r ≡ enclosed f e →
+    SpellsOpened names (Around f) x z r
+around_spelled names f x z e r h is = subst (SpellsOpened names (Around f) x z) (sym is) (around h.1 h.2)
+
+pub group_spelled : (names : Names) (number : ℕ) (name : Option (List ℕ)) (x z : List Placed) (e r : Tree) → SpellsLast names x z e → r ≡ tree.Group 0 e →
+    SpellsOpened names (Group number name) x z r
+group_spelled names number name x z e r h is = subst (SpellsOpened names (Group number name) x z) (sym is) (group h.1 h.2)
+
+pub stopper_spelled : (names : Names) (x y z : List Placed) (e r : Tree) → SpellsBranch names x y e → Takes closing y tt z → r ≡ tree.AbsentStopper e →
+    SpellsOpened names AbsentBar x z r
+stopper_spelled names x y z e r b c is = subst (SpellsOpened names AbsentBar x z) (sym is) (stopper b c)
+
+pub expression_spelled : (names : Names) (x y z v : List Placed) (a e r : Tree) → SpellsBranch names x y a → Takes bar y tt z → SpellsLast names z v e →
+    r ≡ tree.AbsentExpression a e → SpellsOpened names AbsentBar x v r
+expression_spelled names x y z v a e r b t h is = subst (SpellsOpened names AbsentBar x v) (sym is) (expression b t h.1 h.2)
+
+pub one_body_spelled : (names : Names) (c : Tree) (x y z : List Placed) (t r : Tree) → SpellsBranch names x y t → Takes closing y tt z →
+    r ≡ tree.Conditional c t tree.Empty → SpellsBodies names c x z r
+one_body_spelled names c x y z t r b k is = subst (SpellsBodies names c x z) (sym is) (one_body b k)
+
+pub two_bodies_spelled : (names : Names) (c : Tree) (x y z v : List Placed) (t f r : Tree) → SpellsBranch names x y t → Takes bar y tt z →
+    SpellsLast names z v f → r ≡ tree.Conditional c t f → SpellsBodies names c x v r
+two_bodies_spelled names c x y z v t f r b k h is = subst (SpellsBodies names c x v) (sym is) (two_bodies b k h.1 h.2)
+
+-- ---- conditions
+
+pub if_group_read : (names : Names) (q : Reference) (c : Tree) (old new : Reader) (r : Result Expr Failure) → Some c ≡ reference names q →
+    false ≡ is_at closing (point_of old) → ReadsTree (SpellsBodies names c) old new r → ReadsTree (SpellsOpened names (If q)) old new r
+if_group_read names q c old new (Ok e) is on h = if_group (sym is) (sym on) h
+if_group_read names q c old new (Err f) is on h = tt
+
+pub if_pattern_read : (names : Names) (c : Tree) (old mid new : Reader) (r : Result Expr Failure) → SpellsLast names (point_of old) (point_of mid) c →
+    ReadsTree (SpellsBodies names c) mid new r → ReadsTree (SpellsOpened names IfPattern) old new r
+if_pattern_read names c old mid new (Ok e) s h = if_pattern s.1 s.2 h
+if_pattern_read names c old mid new (Err f) s h = tt
+
+pub if_look_read : (names : Names) (l : tree.Look) (c k : Tree) (old mid new : Reader) (r : Result Expr Failure) →
+    SpellsLast names (point_of old) (point_of mid) c → k ≡ tree.LookAround l c → ReadsTree (SpellsBodies names k) mid new r →
+    ReadsTree (SpellsOpened names (IfLook l)) old new r
+if_look_read names l c k old mid new (Ok e) s is h =
+    if_look s.1 s.2 (subst (λ b. SpellsBodies names b (point_of mid) (point_of new) (tree_of e)) is h)
+if_look_read names l c k old mid new (Err f) s is h = tt
 
 -- ---- loops
 

@@ -215,7 +215,9 @@ impl<'a> Reader<'a> {
     /// Branches between bars.
     #[cycle(reading)]
     pub fn read_alternatives(&mut self, names: &GroupNames) -> Result<Expr, Failure>
-        ensures { IfOk result (λ e. length self.new.rest.now
+        ensures spells { ReadsTree (SpellsAlternatives (pairs_in names.now.pairs))
+            self.old self.new result }
+        ensures shorter { IfOk result (λ e. length self.new.rest.now
             ≤ length self.old.rest.now) }
     {
         let first = self.read_branch(names)?;
@@ -228,7 +230,9 @@ impl<'a> Reader<'a> {
     /// Further branches, each after a bar, behind those given.
     #[cycle(reading)]
     fn read_bars(&mut self, names: &GroupNames, given: Vec<Expr>) -> Result<Vec<Expr>, Failure>
-        ensures { IfOk result (λ e. length self.new.rest.now
+        ensures spells { ReadsBars (pairs_in names.now.pairs) given.items
+            self.old self.new result }
+        ensures shorter { IfOk result (λ e. length self.new.rest.now
             ≤ length self.old.rest.now) }
     {
         let mut branches = given;
@@ -242,7 +246,9 @@ impl<'a> Reader<'a> {
     /// The pieces up to a bar, a closing parenthesis or the end, as one node.
     #[cycle(reading)]
     fn read_branch(&mut self, names: &GroupNames) -> Result<Expr, Failure>
-        ensures { IfOk result (λ e. length self.new.rest.now
+        ensures spells { ReadsTree (SpellsBranch (pairs_in names.now.pairs))
+            self.old self.new result }
+        ensures shorter { IfOk result (λ e. length self.new.rest.now
             ≤ length self.old.rest.now) }
     {
         let pieces = self.read_pieces(names)?;
@@ -252,7 +258,8 @@ impl<'a> Reader<'a> {
     /// The pieces up to a bar, a closing parenthesis or the end; those that are nothing are left out.
     #[cycle(reading)]
     fn read_pieces(&mut self, names: &GroupNames) -> Result<Vec<Expr>, Failure>
-        ensures { IfOk result (λ e. length self.new.rest.now
+        ensures spells { ReadsPieces (pairs_in names.now.pairs) self.old self.new result }
+        ensures shorter { IfOk result (λ e. length self.new.rest.now
             ≤ length self.old.rest.now) }
     {
         let mut pieces = Vec::new(self.alloc);
@@ -266,7 +273,9 @@ impl<'a> Reader<'a> {
     /// An atom, and its quantifier where it has one.
     #[cycle(reading)]
     fn read_piece(&mut self, names: &GroupNames) -> Result<Expr, Failure>
-        ensures { IfOk result (λ e. length self.new.rest.now + 1
+        ensures spells { ReadsTree (SpellsPiece (pairs_in names.now.pairs))
+            self.old self.new result }
+        ensures shorter { IfOk result (λ e. length self.new.rest.now + 1
             ≤ length self.old.rest.now) }
     {
         let atom = self.read_atom(names)?;
@@ -352,7 +361,9 @@ impl<'a> Reader<'a> {
 
     #[cycle(reading)]
     fn read_atom(&mut self, names: &GroupNames) -> Result<Expr, Failure>
-        ensures { IfOk result (λ e. length self.new.rest.now + 1
+        ensures spells { ReadsTree (SpellsAtom (pairs_in names.now.pairs))
+            self.old self.new result }
+        ensures shorter { IfOk result (λ e. length self.new.rest.now + 1
             ≤ length self.old.rest.now) }
     {
         if let Some(opening) = self.next_opening() {
@@ -427,7 +438,10 @@ impl<'a> Reader<'a> {
     /// What follows an opening token, up to its closing parenthesis.
     #[cycle(reading)]
     fn read_opened(&mut self, names: &GroupNames, opening: Opening<'a>) -> Result<Expr, Failure>
-        ensures { IfOk result (λ e. length self.new.rest.now
+        ensures spells { ReadsTree
+            (SpellsOpened (pairs_in names.now.pairs) (opening_of opening.entry))
+            self.old self.new result }
+        ensures shorter { IfOk result (λ e. length self.new.rest.now
             ≤ length self.old.rest.now) }
     {
         match opening {
@@ -456,7 +470,8 @@ impl<'a> Reader<'a> {
     /// Alternatives, and the closing parenthesis behind them.
     #[cycle(reading)]
     fn read_last(&mut self, names: &GroupNames) -> Result<Expr, Failure>
-        ensures { IfOk result (λ e. length self.new.rest.now
+        ensures spells { ReadsLast (pairs_in names.now.pairs) self.old self.new result }
+        ensures shorter { IfOk result (λ e. length self.new.rest.now
             ≤ length self.old.rest.now) }
     {
         let body = self.read_alternatives(names)?;
@@ -467,7 +482,9 @@ impl<'a> Reader<'a> {
     /// What follows `(?~|`.
     #[cycle(reading)]
     fn read_absent(&mut self, names: &GroupNames) -> Result<Expr, Failure>
-        ensures { IfOk result (λ e. length self.new.rest.now
+        ensures spells { ReadsTree (SpellsOpened (pairs_in names.now.pairs) AbsentBar)
+            self.old self.new result }
+        ensures shorter { IfOk result (λ e. length self.new.rest.now
             ≤ length self.old.rest.now) }
     {
         let absent = self.read_branch(names)?;
@@ -483,7 +500,10 @@ impl<'a> Reader<'a> {
     /// A conditional that asks for a group; without branches the condition alone.
     #[cycle(reading)]
     fn read_if(&mut self, names: &GroupNames, found: Reference<'a>) -> Result<Expr, Failure>
-        ensures { IfOk result (λ e. length self.new.rest.now
+        ensures spells { ReadsTree
+            (SpellsOpened (pairs_in names.now.pairs) (If (reference_of found.entry)))
+            self.old self.new result }
+        ensures shorter { IfOk result (λ e. length self.new.rest.now
             ≤ length self.old.rest.now) }
     {
         let condition = reference(self.alloc, names, found, self.place())?;
@@ -497,7 +517,10 @@ impl<'a> Reader<'a> {
     /// The branches of a conditional, up to its closing parenthesis.
     #[cycle(reading)]
     fn read_bodies(&mut self, names: &GroupNames, condition: Expr) -> Result<Expr, Failure>
-        ensures { IfOk result (λ e. length self.new.rest.now
+        ensures spells { ReadsTree
+            (SpellsBodies (pairs_in names.now.pairs) (tree_of condition))
+            self.old self.new result }
+        ensures shorter { IfOk result (λ e. length self.new.rest.now
             ≤ length self.old.rest.now) }
     {
         let true_branch = self.read_branch(names)?;

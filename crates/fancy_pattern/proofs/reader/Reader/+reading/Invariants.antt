@@ -1,4 +1,6 @@
-use Rattle.std.proofs.Common.{◌+◌, ◌*◌, ◌≤◌, length}
+use Rattle.std.proofs.Common.{◌+◌, ◌*◌, length}
+use Rattle.fancy_pattern.specs.Naming.{pairs_in}
+use Rattle.fancy_pattern.proofs.Points.{PiecesRead, BarsRead}
 use Rattle.fancy_pattern.proofs.reader.Reader.+reading.Given as goal
 
 abbrev pub decreases-read_alternatives : goal.decreases-read_alternatives
@@ -35,13 +37,13 @@ abbrev pub decreases-read_bodies : goal.decreases-read_bodies
 decreases-read_bodies l = 12 * length l.self.now.rest.now + 8
 
 abbrev pub invariant-read_pieces-loop-self : goal.invariant-read_pieces-loop-self
-invariant-read_pieces-loop-self l = length l.self.rest.now ≤ length l.fn.self.rest.now
+invariant-read_pieces-loop-self l = PiecesRead (pairs_in l.names.pairs) l.fn.self l.self l.pieces.items
 
 abbrev pub decreases-read_pieces-loop-self : goal.decreases-read_pieces-loop-self
 decreases-read_pieces-loop-self l = length l.self.rest.now
 
 abbrev pub invariant-read_bars-loop-self : goal.invariant-read_bars-loop-self
-invariant-read_bars-loop-self l = length l.self.rest.now ≤ length l.fn.self.rest.now
+invariant-read_bars-loop-self l = BarsRead (pairs_in l.names.pairs) l.fn.self l.self l.fn.given.items l.branches.items
 
 abbrev pub decreases-read_bars-loop-self : goal.decreases-read_bars-loop-self
 decreases-read_bars-loop-self l = length l.self.rest.now

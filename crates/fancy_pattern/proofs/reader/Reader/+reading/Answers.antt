@@ -1,0 +1,152 @@
+use Rattle.std.proofs.Common.{sym, map, option_map, ◌∙◌, subst, arith}
+use Rattle.fancy_expr.specs.Views.{tree_of, look_of}
+use Rattle.fancy_pattern.specs.Grammar.{bar, closing, SpellsOpened, asked}
+use Rattle.fancy_pattern.specs.Naming.{pairs_in}
+use Rattle.fancy_pattern.specs.PatternViews.{opening_of, reference_of}
+use Rattle.fancy_pattern.specs.Reading.{point_of, ReadsTree}
+use Rattle.fancy_pattern.proofs.Points as points
+use Rattle.fancy_pattern.proofs.reader.Reader.+reading.Goals as goal
+
+-- ---- absent expressions
+
+pub read_absent-returns-then-is_at_bar-clause-spells : goal.read_absent-returns-then-is_at_bar-clause-spells
+read_absent-returns-then-is_at_bar-clause-spells t c =
+    points.expression_spelled (pairs_in c.args.names.now.pairs) (point_of c.args.self.now) (point_of c.read_branch.new.self) (point_of c.skip.new.self)
+    (point_of c.read_last.new.self) (tree_of c.in_ok-absent.absent) (tree_of c.in_ok-exp.exp) _ c.in_ok-absent.ensures.spells
+    (points.takes_at bar c.read_branch.new.self c.skip.new.self (sym c.is_at_bar.ensures.value ∙ c.if-is_at_bar.true) c.skip.ensures.skips)
+    c.in_ok-exp.ensures.spells c.in_ok-absent_expression.ensures
+
+pub read_absent-returns-clause-spells : goal.read_absent-returns-clause-spells
+read_absent-returns-clause-spells t c =
+    points.stopper_spelled (pairs_in c.args.names.now.pairs) (point_of c.args.self.now) (point_of c.read_branch.new.self) (point_of c.read_close.new.self)
+    (tree_of c.in_ok-absent.absent) _ c.in_ok-absent.ensures.spells c.in_ok-read_close.ensures.takes c.in_ok-stopper.ensures
+
+-- ---- alternatives
+
+pub read_alternatives-returns-clause-spells : goal.read_alternatives-returns-clause-spells
+read_alternatives-returns-clause-spells t c =
+    let s = c.in_ok-branches.ensures.spells in
+    points.alternatives_spelled (pairs_in c.args.names.now.pairs) (point_of c.args.self.now) (point_of c.read_branch.new.self) (point_of c.read_bars.new.self)
+    (tree_of c.in_ok-first.first) s.0 (map tree_of c.push.new.self.items) (map tree_of c.in_ok-branches.branches.items) _ c.in_ok-first.ensures.spells s.1
+    (points.one_given c.in_ok-first.first c.new-branches.result.items c.push.new.self.items c.new-branches.ensures.items c.in_ok-push.ensures.items) s.2 c.alternated.ensures
+
+pub read_bars-loop-self-init : goal.read_bars-loop-self-init
+read_bars-loop-self-init t c = points.bars_begin (pairs_in c.args.names.now.pairs) c.args.self.now c.args.given.items
+
+pub read_bars-loop-self-preserved : goal.read_bars-loop-self-preserved
+read_bars-loop-self-preserved t c =
+    points.bars_next (pairs_in c.args.names.now.pairs) c.args.self.now c.loop-self.self c.skip.new.self c.read_branch.new.self c.args.given.items
+    c.loop-self.branches.items c.push.new.self.items c.in_ok-read_branch.field-0 c.loop-self.invariant
+    (points.takes_at bar c.loop-self.self c.skip.new.self (sym c.is_at_bar.ensures.value ∙ c.loop-self-test.true) c.skip.ensures.skips)
+    c.in_ok-read_branch.ensures.spells c.in_ok-push.ensures.items
+    (let a = c.skip.ensures.shorter in let b = c.in_ok-read_branch.ensures.shorter in omega (arith, a, b))
+
+pub read_bars-returns-clause-spells : goal.read_bars-returns-clause-spells
+read_bars-returns-clause-spells t c =
+    points.bars_done (pairs_in c.args.names.now.pairs) c.args.self.now c.loop-self.self c.args.given.items c.loop-self.branches.items c.loop-self.invariant
+    (sym c.is_at_bar.ensures.value ∙ c.loop-self-test.false)
+
+pub read_branch-returns-clause-spells : goal.read_branch-returns-clause-spells
+read_branch-returns-clause-spells t c =
+    let s = c.in_ok-pieces.ensures.spells in
+    points.branch_spelled (pairs_in c.args.names.now.pairs) (point_of c.args.self.now) (point_of c.read_pieces.new.self) s.0
+    (map tree_of c.in_ok-pieces.pieces.items) _ s.1 s.2 c.joined.ensures
+
+-- ---- pieces
+
+pub read_pieces-loop-self-init : goal.read_pieces-loop-self-init
+read_pieces-loop-self-init t c = points.pieces_begin (pairs_in c.args.names.now.pairs) c.args.self.now _ c.new-pieces.ensures.items
+
+pub read_pieces-loop-self-preserved : goal.read_pieces-loop-self-preserved
+read_pieces-loop-self-preserved t c =
+    points.pieces_next (pairs_in c.args.names.now.pairs) c.args.self.now c.loop-self.self c.read_piece.new.self c.loop-self.pieces.items
+    c.push_some.new.pieces.items (tree_of c.in_ok-piece.piece) c.loop-self.invariant (sym c.is_branch_end.ensures ∙ c.loop-self-test.true)
+    c.in_ok-piece.ensures.spells c.in_ok-push_some.ensures (let a = c.in_ok-piece.ensures.shorter in omega (arith, a))
+
+pub read_pieces-returns-clause-spells : goal.read_pieces-returns-clause-spells
+read_pieces-returns-clause-spells t c =
+    points.pieces_done (pairs_in c.args.names.now.pairs) c.args.self.now c.loop-self.self c.loop-self.pieces.items c.loop-self.invariant
+    (sym c.is_branch_end.ensures ∙ c.loop-self-test.false)
+
+pub read_piece-returns-clause-spells : goal.read_piece-returns-clause-spells
+read_piece-returns-clause-spells t c =
+    points.piece_read (pairs_in c.args.names.now.pairs) (tree_of c.in_ok-atom.atom) c.args.self.now c.read_atom.new.self c.read_quantifier.new.self
+    c.read_quantifier.result c.in_ok-atom.ensures.spells c.read_quantifier.ensures.spells
+
+-- ---- atoms
+
+pub read_atom-returns-in-Some-clause-spells : goal.read_atom-returns-in-Some-clause-spells
+read_atom-returns-in-Some-clause-spells t c =
+    points.atom_opened (pairs_in c.args.names.now.pairs) c.args.self.now c.skip.new.self c.read_opened.new.self (opening_of c.in-Some.opening)
+    c.read_opened.result (sym c.in-Some.ensures.value) c.skip.ensures.skips c.read_opened.ensures.spells
+
+pub read_atom-returns-in-Some-next_class-clause-spells : goal.read_atom-returns-in-Some-next_class-clause-spells
+read_atom-returns-in-Some-next_class-clause-spells t c =
+    points.atom_class (pairs_in c.args.names.now.pairs) c.args.self.now c.skip-in-Some-next_class.new.self c.read_class.new.self
+    c.in-Some-next_class.casei c.read_class.result (sym c.in-Some-next_class.ensures.value) c.skip-in-Some-next_class.ensures.skips c.read_class.ensures.spells
+
+pub read_atom-returns-clause-spells : goal.read_atom-returns-clause-spells
+read_atom-returns-clause-spells t c =
+    points.atom_node (pairs_in c.args.names.now.pairs) c.args.self.now c.read_node.new.self c.read_node.result c.read_node.ensures.takes
+
+-- ---- conditionals
+
+pub read_bodies-returns-then-is_at_bar-clause-spells : goal.read_bodies-returns-then-is_at_bar-clause-spells
+read_bodies-returns-then-is_at_bar-clause-spells t c =
+    points.two_bodies_spelled (pairs_in c.args.names.now.pairs) (tree_of c.args.condition) (point_of c.args.self.now) (point_of c.read_branch.new.self)
+    (point_of c.skip.new.self) (point_of c.read_last.new.self) (tree_of c.in_ok-true_branch.true_branch) (tree_of c.in_ok-false_branch.false_branch) _
+    c.in_ok-true_branch.ensures.spells
+    (points.takes_at bar c.read_branch.new.self c.skip.new.self (sym c.is_at_bar.ensures.value ∙ c.if-is_at_bar.true) c.skip.ensures.skips)
+    c.in_ok-false_branch.ensures.spells c.in_ok-conditional.ensures
+
+pub read_bodies-returns-clause-spells : goal.read_bodies-returns-clause-spells
+read_bodies-returns-clause-spells t c =
+    points.one_body_spelled (pairs_in c.args.names.now.pairs) (tree_of c.args.condition) (point_of c.args.self.now) (point_of c.read_branch.new.self)
+    (point_of c.read_close.new.self) (tree_of c.in_ok-true_branch.true_branch) _ c.in_ok-true_branch.ensures.spells c.in_ok-read_close.ensures.takes
+    c.in_ok-conditional-2.ensures
+
+pub read_if-returns-then-is_at_close-clause-spells : goal.read_if-returns-then-is_at_close-clause-spells
+read_if-returns-then-is_at_close-clause-spells t c =
+    asked (sym c.in_ok-condition.ensures)
+    (points.takes_at closing c.args.self.now c.skip.new.self (sym c.is_at_close.ensures.value ∙ c.if-is_at_close.true) c.skip.ensures.skips)
+
+pub read_if-returns-clause-spells : goal.read_if-returns-clause-spells
+read_if-returns-clause-spells t c =
+    points.if_group_read (pairs_in c.args.names.now.pairs) (reference_of c.args.found) (tree_of c.in_ok-condition.condition) c.args.self.now
+    c.read_bodies.new.self c.read_bodies.result c.in_ok-condition.ensures (sym c.if-is_at_close.false ∙ c.is_at_close.ensures.value)
+    c.read_bodies.ensures.spells
+
+-- ---- groups
+
+pub read_opened-returns-in_ok-enclosed-in-Enclosing-clause-spells : goal.read_opened-returns-in_ok-enclosed-in-Enclosing-clause-spells
+read_opened-returns-in_ok-enclosed-in-Enclosing-clause-spells t c =
+    subst (λ o. SpellsOpened (pairs_in c.args.names.now.pairs) (opening_of o) (point_of c.args.self.now) (point_of c.read_last.new.self)
+    (tree_of c.in_ok-enclosed-in-Enclosing.field-0))
+    (sym c.in-Enclosing.is)
+    (points.around_spelled (pairs_in c.args.names.now.pairs) c.in-Enclosing.enclosing (point_of c.args.self.now) (point_of c.read_last.new.self)
+    (tree_of c.in_ok-body-in-Enclosing.body) _ c.in_ok-body-in-Enclosing.ensures.spells c.in_ok-enclosed-in-Enclosing.ensures)
+
+pub read_opened-returns-in_ok-group-in-Group-clause-spells : goal.read_opened-returns-in_ok-group-in-Group-clause-spells
+read_opened-returns-in_ok-group-in-Group-clause-spells t c =
+    subst (λ o. SpellsOpened (pairs_in c.args.names.now.pairs) (opening_of o) (point_of c.args.self.now) (point_of c.read_last-in-Group.new.self)
+    (tree_of c.in_ok-group-in-Group.field-0))
+    (sym c.in-Group.is)
+    (points.group_spelled (pairs_in c.args.names.now.pairs) c.in-Group.number (option_map (λ n. n.now) c.in-Group.name) (point_of c.args.self.now)
+    (point_of c.read_last-in-Group.new.self) (tree_of c.in_ok-body-in-Group.body) _ c.in_ok-body-in-Group.ensures.spells c.in_ok-group-in-Group.ensures)
+
+pub read_opened-returns-in_ok-condition-in-IfPattern-clause-spells : goal.read_opened-returns-in_ok-condition-in-IfPattern-clause-spells
+read_opened-returns-in_ok-condition-in-IfPattern-clause-spells t c =
+    subst (λ o. ReadsTree (SpellsOpened (pairs_in c.args.names.now.pairs) (opening_of o)) c.args.self.now c.read_bodies.new.self c.read_bodies.result)
+    (sym c.in-IfPattern.is)
+    (points.if_pattern_read (pairs_in c.args.names.now.pairs) (tree_of c.in_ok-condition-in-IfPattern.condition) c.args.self.now
+    c.read_last-in-IfPattern.new.self c.read_bodies.new.self c.read_bodies.result c.in_ok-condition-in-IfPattern.ensures.spells
+    c.read_bodies.ensures.spells)
+
+pub read_opened-returns-in_ok-condition-in-IfLook-clause-spells : goal.read_opened-returns-in_ok-condition-in-IfLook-clause-spells
+read_opened-returns-in_ok-condition-in-IfLook-clause-spells t c =
+    subst (λ o. ReadsTree (SpellsOpened (pairs_in c.args.names.now.pairs) (opening_of o)) c.args.self.now c.read_bodies-in-IfLook.new.self
+    c.read_bodies-in-IfLook.result)
+    (sym c.in-IfLook.is)
+    (points.if_look_read (pairs_in c.args.names.now.pairs) (look_of c.in-IfLook.look) (tree_of c.in_ok-body-in-IfLook.body)
+    (tree_of c.in_ok-condition-in-IfLook.condition) c.args.self.now c.read_last-in-IfLook.new.self c.read_bodies-in-IfLook.new.self
+    c.read_bodies-in-IfLook.result c.in_ok-body-in-IfLook.ensures.spells c.in_ok-condition-in-IfLook.ensures c.read_bodies-in-IfLook.ensures.spells)
