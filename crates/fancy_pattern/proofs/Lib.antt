@@ -4,3 +4,4 @@ pub mod Lexed
 pub mod NamedGroups
 pub mod MadeNodes
 pub mod Points
+pub mod Escaping

@@ -3,6 +3,7 @@ pub mod Flags
 pub mod Numbers
 pub mod Tokens
 pub mod Names
+pub mod Escape
 pub mod Escapes
 pub mod Quantifiers
 pub mod Groups

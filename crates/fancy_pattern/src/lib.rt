@@ -5,6 +5,7 @@ mod characters;
 mod class_text;
 mod classes;
 pub mod error;
+pub mod escape;
 mod escapes;
 mod failure;
 pub mod flags;

@@ -1,0 +1,43 @@
+//! `escape`: a text as a pattern that spells it.
+
+ghost use Rattle.std.specs.Prelude.{◌≡◌, ◌++◌, IfOk, OnOk, chars, encode_utf8_all, string_bytes};
+ghost use Rattle.fancy_pattern.specs.Escape.{escaped, escaped_char, is_special};
+
+use crate::characters::Test;
+use std::alloc::{AllocError, Global};
+
+/// Whether a character has a meaning of its own in a pattern, or under `x`.
+fn is_special(c: char) -> bool
+    ensures { result ≡ is_special c }
+{
+    match c {
+        '\\' | '.' | '+' | '*' | '?' | '(' | ')' | '|' => true,
+        '[' | ']' | '{' | '}' | '^' | '$' | '#' => true,
+        _ => Test::Blank.passes(c),
+    }
+}
+
+/// Adds a character, with a backslash before one that has a meaning of its own.
+fn push_escaped(out: &mut String, c: char) -> Result<(), AllocError>
+    ensures { OnOk result (string_bytes out.new
+        ≡ string_bytes out.old ++ encode_utf8_all (escaped_char c)) }
+{
+    if is_special(c) {
+        out.push('\\')?;
+    }
+    out.push(c)
+}
+
+/// A pattern that spells the literals of the text, whatever flags hold.
+///
+/// A backslash stands before each of `\.+*?()|[]{}^$#` and before space, tab, LF and CR. The answer is new text in
+/// UTF-8. Want of memory is the only error.
+pub fn escape(alloc: Global, text: &str) -> Result<String, AllocError>
+    ensures { IfOk result (λ s. string_bytes s ≡ encode_utf8_all (escaped (chars text.now))) }
+{
+    let mut out = String::new(alloc);
+    for c in text.chars() {
+        push_escaped(&mut out, c)?;
+    }
+    Ok(out)
+}
