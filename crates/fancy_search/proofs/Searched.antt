@@ -123,7 +123,7 @@ module _ (i : Input) (compiled : Compiled) (text : List ℕ) (o : RunOptions) (f
   pub accepted_input : IsAccepted i (instructions_of i)
   accepted_input = accepted_of i compiled from implicit
 
-  accepted : IsAccepted i (length prog.body)
+  pub accepted : IsAccepted i (length prog.body)
   accepted = subst (λ (p : plain_program.Prog). IsAccepted i (length p.body)) (sym from.program) accepted_input
 
   -- a run of the tree's program answers as is promised

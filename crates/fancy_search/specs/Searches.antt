@@ -1,5 +1,5 @@
 -- The promise filled in for a search of the code: its input, its program, its reply, and what it was compiled from.
-use Rattle.std.specs.Prelude.{◌≡◌, ◌≤◌, ◌*◌, ℕ, Bool, IsFalse, true, ◌&&◌, ◌||◌, not, List, Option, length, Result, Ok, Err}
+use Rattle.std.specs.Prelude.{◌≡◌, ℕ, Bool, true, ◌&&◌, ◌||◌, not, List, Option, length, Result, Ok, Err}
 use Rattle.std.specs.declared.vec.Vec.{Vec}
 use Rattle.std.specs.declared.alloc.Global.{Global}
 use Rattle.fancy_meaning.specs.Options as plain
@@ -7,13 +7,11 @@ use Rattle.fancy_meaning.specs.Places.{is_place}
 use Rattle.fancy_meaning.specs.Config.{Outcome, BacktrackLimitExceeded, StackOverflow, StepLimitExceeded}
 use Rattle.fancy_meaning.specs.Instr as plain_program
 use Rattle.fancy_meaning.specs.Machine as machine
-use Rattle.fancy_meaning.specs.Hard.{is_root_hard}
 use Rattle.fancy_meaning.specs.WellFormed.{IsWellFormed}
 use Rattle.fancy_meaning.specs.AnalysisRefusals.{CompileError, AnalysisRefuses}
 use Rattle.fancy_meaning.specs.CompileRefusals.{CompileRefuses}
 use Rattle.fancy_meaning.specs.Layout.{layout}
 use Rattle.fancy_meaning.specs.Premises.{Input, plan}
-use Rattle.fancy_meaning.specs.Theorems.{tried}
 use Rattle.fancy_meaning.specs.Promise.{Limit, Backtracks, Branches, Instructions, Reply, Found, Refused, Passed, OutOfMemory, IsRefused, Promise}
 use Rattle.fancy_expr.specs.declared.error.Error.{Error}
 use Rattle.fancy_expr.specs.declared.error.Error.TheVariants as error
@@ -23,6 +21,7 @@ use Rattle.fancy_expr.specs.declared.expr.ExprTree.{ExprTree}
 use Rattle.fancy_expr.specs.Views.{parsed_of}
 use Rattle.fancy_info.specs.declared.context.AnalyzeContext.{AnalyzeContext}
 use Rattle.fancy_info.specs.Infos.{analysis_options_of}
+use Rattle.fancy_vm.specs.Bounds.{IfLimit, MayPass}
 use Rattle.fancy_vm.specs.Means.{numbers_of}
 use Rattle.fancy_program.specs.declared.insn.Prog.{Prog}
 use Rattle.fancy_program.specs.Programs.{prog_of}
@@ -91,18 +90,9 @@ module _ (i : Input) where
   Promises text o (Err (error.TreeFault at)) = ⊥
   Promises text o (Err error.NestLimitExceeded) = ⊥
 
-  -- one backtrack and eight instructions for each start that may be tried are more than the limit, and no number of
-  -- branches is
-  abbrev pub IsBelowBound : List ℕ → plain.RunOptions → Limit → Type 0
-  IsBelowBound text o Backtracks = ¬ (tried i text o ≤ o.backtrack_limit)
-  IsBelowBound text o Branches = ⊥
-  IsBelowBound text o Instructions = ¬ (8 * tried i text o ≤ o.step_limit)
-
   -- where the whole tree is easy, a limit is answered only if it is below its bound
   abbrev pub Bounds : List ℕ → plain.RunOptions → Result (Option (Vec ℕ Global)) Error → Type 0
-  Bounds text o (Err (error.RuntimeError e)) =
-      IsFalse (is_root_hard (plan i).analysis) → IsBelowBound text o (limit_of e)
-  Bounds text o result = Unit {0}
+  Bounds text o result = IfLimit result (MayPass i text o)
 
   -- the tree is refused with the error, or memory was
   abbrev pub IsRefusedAs : Error → Type 0

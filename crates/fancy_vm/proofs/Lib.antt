@@ -7,6 +7,7 @@ pub mod SteppersLaws
 pub mod LookBehindCacheLaws
 pub mod TrailingNewlinesLaws
 pub mod MeaningLaws
+pub mod BoundsLaws
 pub mod MemosLaws
 pub mod PairsLaws
 pub mod SingleDelegateLaws

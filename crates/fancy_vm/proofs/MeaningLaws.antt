@@ -48,7 +48,7 @@ module _ (program : Prog) (text : List ℕ) (o : RunOptions) (utf8 : IsUtf8 text
   abbrev task : Task
   task = record { program = program; text = text; options = o }
 
-  may_run : (i : Input) → run_fits task ≡ true → IsProgramOf i program → IsFit i text o
+  pub may_run : (i : Input) → run_fits task ≡ true → IsProgramOf i program → IsFit i text o
   may_run i fits is = record {
     is_text = record { utf8 = utf8; fits = small };
     pos = run_place task fits;

@@ -8,6 +8,7 @@ pub mod TrailingNewlines
 pub mod LookBehindCaches
 pub mod Outcomes
 pub mod Means
+pub mod Bounds
 pub mod Steppers
 pub mod StepperSteps
 pub mod Founds

@@ -5,6 +5,7 @@ ghost use Rattle.fancy_meaning.specs.Config as config;
 ghost use Rattle.fancy_meaning.specs.Places.{is_place};
 ghost use Rattle.fancy_meaning.specs.Machine as machine;
 ghost use Rattle.fancy_meaning.specs.Fits.{run_fits};
+ghost use Rattle.fancy_vm.specs.Bounds.{IfLimit, RunMayPass};
 ghost use Rattle.fancy_vm.specs.Memos.{AreMemosOf};
 ghost use Rattle.fancy_vm.specs.Means.{IsMeaning, IsMeaningPair, answer_in, numbers_of};
 ghost use Rattle.fancy_vm.specs.Outcomes.{RunEnds, RunAnswers, RunAnswersPair, config_of, held_match, plain_task};
@@ -115,7 +116,8 @@ impl Scratch {
 /// `leftmost_longest` asks for it.
 ///
 /// A `RuntimeError` tells which limit was passed, and `Memory` that a request for memory was refused. The scratch may
-/// be used again after either.
+/// be used again after either. Where the whole tree is easy, limits of one backtrack and eight instructions for each
+/// start are never passed.
 pub fn run(
     alloc: Global,
     prog: &Prog,
@@ -127,6 +129,8 @@ pub fn run(
     ensures machine { RunAnswers (machine.run (task_of prog.now text.now options.now)) result }
     ensures headline { IfOk result (λ found.
         IsMeaning (prog_of prog.now) text.now (options_of options.now) (numbers_of found)) }
+    ensures bounds { IfLimit result
+        (RunMayPass (prog_of prog.now) text.now (options_of options.now)) }
 {
     let mut numbers = Vec::new(alloc);
     if !run_into(alloc, prog, text, options, scratch, &mut numbers)? {
@@ -151,6 +155,8 @@ pub fn run_into(
         (answer_in result numbers.new) }
     ensures headline { IfOk (answer_in result numbers.new) (λ found.
         IsMeaning (prog_of prog.now) text.now (options_of options.now) (numbers_of found)) }
+    ensures bounds { IfLimit (answer_in result numbers.new)
+        (RunMayPass (prog_of prog.now) text.now (options_of options.now)) }
 {
     let task = Task {
         prog,
@@ -180,6 +186,8 @@ pub fn run_spans(
     ensures machine { RunAnswersPair (machine.run (task_of prog.now text.now options.now)) result }
     ensures headline { IfOk result
         (IsMeaningPair (prog_of prog.now) text.now (options_of options.now)) }
+    ensures bounds { IfLimit result
+        (RunMayPass (prog_of prog.now) text.now (options_of options.now)) }
 {
     let task = Task {
         prog,
@@ -205,6 +213,7 @@ pub fn run_default(
     ensures machine { RunAnswers (machine.run (default_task prog.now text.now pos)) result }
     ensures headline { IfOk result
         (λ found. IsMeaning (prog_of prog.now) text.now (default_at pos) (numbers_of found)) }
+    ensures bounds { IfLimit result (RunMayPass (prog_of prog.now) text.now (default_at pos)) }
 {
     let mut scratch = Scratch::new(alloc);
     run(alloc, prog, text, &RunOptions::from_pos(pos), &mut scratch)

@@ -5,6 +5,7 @@ use Rattle.fancy_vm.specs.Means.{answer_in}
 use Rattle.fancy_program.specs.Programs.{prog_of}
 use Rattle.fancy_vm.specs.Tasks.{options_of, task_of}
 use Rattle.fancy_vm.specs.Founds.{IsFound}
+use Rattle.fancy_vm.proofs.BoundsLaws.{run_bounds}
 use Rattle.fancy_vm.proofs.MeaningLaws.{run_means}
 use Rattle.fancy_vm.proofs.runs.run_into.Goals as goal
 
@@ -27,4 +28,10 @@ pub returns-in-Unknown-clause-headline : goal.returns-in-Unknown-clause-headline
 returns-in-Unknown-clause-headline c =
     let small : length c.args.text.now < usize_max = omega arith in
     run_means (prog_of c.args.prog.now) c.args.text.now (options_of c.args.options.now) c.utf8.text small
+    (answer_in c.answer.result c.answer.new.numbers) c.requires c.answer.ensures
+
+pub returns-in-Unknown-clause-bounds : goal.returns-in-Unknown-clause-bounds
+returns-in-Unknown-clause-bounds c =
+    let small : length c.args.text.now < usize_max = omega arith in
+    run_bounds (prog_of c.args.prog.now) c.args.text.now (options_of c.args.options.now) c.utf8.text small
     (answer_in c.answer.result c.answer.new.numbers) c.requires c.answer.ensures

@@ -3,6 +3,7 @@ use Rattle.fancy_meaning.specs.Numbers.{usize_max}
 use Rattle.fancy_program.specs.Programs.{prog_of}
 use Rattle.fancy_vm.specs.Tasks.{options_of, task_of}
 use Rattle.fancy_vm.specs.Founds.{IsFound}
+use Rattle.fancy_vm.proofs.BoundsLaws.{run_bounds_pair}
 use Rattle.fancy_vm.proofs.MeaningLaws.{run_means_pair}
 use Rattle.fancy_vm.proofs.SingleDelegateLaws.{found_pair}
 use Rattle.fancy_vm.proofs.runs.run_spans.Goals as goal
@@ -31,4 +32,10 @@ pub returns-in-Unknown-clause-headline : goal.returns-in-Unknown-clause-headline
 returns-in-Unknown-clause-headline c =
     let small : length c.args.text.now < usize_max = omega arith in
     run_means_pair (prog_of c.args.prog.now) c.args.text.now (options_of c.args.options.now) c.utf8.text small c.answer_pair.result c.requires
+    c.answer_pair.ensures
+
+pub returns-in-Unknown-clause-bounds : goal.returns-in-Unknown-clause-bounds
+returns-in-Unknown-clause-bounds c =
+    let small : length c.args.text.now < usize_max = omega arith in
+    run_bounds_pair (prog_of c.args.prog.now) c.args.text.now (options_of c.args.options.now) c.utf8.text small c.answer_pair.result c.requires
     c.answer_pair.ensures

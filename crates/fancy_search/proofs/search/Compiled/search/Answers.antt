@@ -1,6 +1,4 @@
-use Rattle.std.proofs.Common.{◌<◌, length, arith}
-use Rattle.fancy_meaning.specs.Numbers.{usize_max}
-use Rattle.fancy_search.proofs.Bounded.{run_bounds}
+use Rattle.fancy_search.proofs.Bounded.{search_may_pass}
 use Rattle.fancy_search.proofs.Searched.{run_promises}
 use Rattle.fancy_search.proofs.search.Compiled.search.Goals as goal
 
@@ -10,5 +8,4 @@ returns-clause-promise c i from =
 
 pub returns-clause-bounds : goal.returns-clause-bounds
 returns-clause-bounds c i from =
-    let small : length c.args.text.now < usize_max = omega arith in
-    run_bounds i c.args.self.now c.args.text.now c.args.options.now from c.requires c.utf8.text small c.run.result c.run.ensures.machine
+    search_may_pass i c.args.self.now c.args.text.now c.args.options.now from c.requires c.run.result c.run.ensures.bounds

@@ -1,7 +1,5 @@
-use Rattle.std.proofs.Common.{◌<◌, length, arith}
-use Rattle.fancy_meaning.specs.Numbers.{usize_max}
 use Rattle.fancy_vm.specs.Means.{answer_in}
-use Rattle.fancy_search.proofs.Bounded.{run_bounds}
+use Rattle.fancy_search.proofs.Bounded.{search_may_pass}
 use Rattle.fancy_search.proofs.Searched.{run_promises}
 use Rattle.fancy_search.proofs.search.Compiled.search_into.Goals as goal
 
@@ -12,6 +10,5 @@ returns-clause-promise c i from =
 
 pub returns-clause-bounds : goal.returns-clause-bounds
 returns-clause-bounds c i from =
-    let small : length c.args.text.now < usize_max = omega arith in
-    run_bounds i c.args.self.now c.args.text.now c.args.options.now from c.requires c.utf8.text small (answer_in c.run_into.result c.run_into.new.numbers)
-    c.run_into.ensures.machine
+    search_may_pass i c.args.self.now c.args.text.now c.args.options.now from c.requires (answer_in c.run_into.result c.run_into.new.numbers)
+    c.run_into.ensures.bounds
