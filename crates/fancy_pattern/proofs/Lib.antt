@@ -5,3 +5,6 @@ pub mod NamedGroups
 pub mod MadeNodes
 pub mod Points
 pub mod Escaping
+pub mod TokenTests
+pub mod Surveys
+pub mod Spelled

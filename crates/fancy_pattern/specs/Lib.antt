@@ -15,3 +15,5 @@ pub mod LexerViews
 pub mod Naming
 pub mod Grammar
 pub mod Reading
+pub mod Described
+pub mod Spelling

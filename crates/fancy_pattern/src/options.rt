@@ -1,5 +1,8 @@
 //! The options with which a pattern is read.
 
+ghost use Rattle.std.specs.Prelude.{◌≡◌};
+ghost use Rattle.fancy_pattern.specs.Spelling.{flags_of};
+
 use crate::flags::Flags;
 
 /// How a pattern is read. The first six are the flags with which it begins.
@@ -42,7 +45,9 @@ impl Default for ParseOptions {
 
 impl ParseOptions {
     /// The flags with which the pattern begins.
-    pub(crate) fn flags(self, named_only: bool) -> Flags {
+    pub(crate) fn flags(self, named_only: bool) -> Flags
+        ensures { result ≡ flags_of self named_only }
+    {
         Flags {
             casei: self.case_insensitive,
             multi_line: self.multi_line,

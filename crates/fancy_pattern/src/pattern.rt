@@ -1,5 +1,12 @@
 //! `parse_tree`: lexer, reader and survey, one after the other.
 
+ghost use Rattle.std.specs.Prelude.{◌≡◌, [], map, chars, IfOk};
+ghost use Rattle.std.specs.List.{list_any, count_by};
+ghost use Rattle.fancy_pattern.specs.Described.{by_number, names_number, asks_number, is_group, opens_group, first_past, up_to, IsDescribed};
+ghost use Rattle.fancy_pattern.specs.Naming.{pairs_in, named_in};
+ghost use Rattle.fancy_pattern.specs.PatternViews.{placed_of, token_of, opening_of, target_of};
+ghost use Rattle.fancy_pattern.specs.Spelling.{opens_named, has_name, ignores, HasTokens, IsTreeOf};
+
 use crate::characters::byte_count;
 use crate::error::{Fault, PatternError};
 use crate::failure::Failure;
@@ -8,7 +15,7 @@ use crate::lexer::Lexer;
 use crate::options::ParseOptions;
 use crate::reader::Reader;
 use crate::survey::Survey;
-use crate::tokens::{Opening, Placed, Reference, Target, Token};
+use crate::tokens::{Opening, Placed, Target, Token};
 use fancy_expr::expr::{Expr, ExprTree};
 use std::alloc::{AllocError, Global};
 use std::collections::BTreeSet;
@@ -21,13 +28,21 @@ pub fn parse_tree(
     alloc: Global,
     pattern: &str,
     options: ParseOptions,
-) -> Result<ExprTree, PatternError> {
-    let chars: Vec<char> = pattern.chars().collect(alloc)?;
+) -> Result<ExprTree, PatternError>
+    ensures { IfOk result (IsTreeOf options (chars pattern.now)) }
+{
+    let chars = chars_of(alloc, pattern)?;
     match tree_of_chars(alloc, &chars, options) {
         Ok(tree) => Ok(tree),
         Err(Failure::Fault(fault)) => Err(placed_fault(&chars, fault)),
         Err(Failure::Memory) => Err(PatternError::Memory),
     }
+}
+
+fn chars_of(alloc: Global, pattern: &str) -> Result<Vec<char>, AllocError>
+    ensures { IfOk result (λ v. v.items ≡ chars pattern.now) }
+{
+    pattern.chars().collect(alloc)
 }
 
 /// The fault with the byte where it is.
@@ -39,34 +54,62 @@ fn placed_fault(chars: &[char], fault: Fault) -> PatternError {
     }
 }
 
+/// Whether plain groups capture nothing.
+fn ignores(options: ParseOptions, tokens: &[Placed<'_>]) -> bool
+    ensures { result ≡ ignores options (map placed_of tokens.now) }
+{
+    options.ignore_numbered_groups_when_named_groups_exist && has_names(tokens)
+}
+
 /// The tokens of a pattern, and whether plain groups capture nothing.
 fn tokens<'a>(
     alloc: Global,
     chars: &'a [char],
     options: ParseOptions,
-) -> Result<(Vec<Placed<'a>>, bool), AllocError> {
+) -> Result<(Vec<Placed<'a>>, bool), AllocError>
+    ensures { IfOk result (λ p. HasTokens options chars.now p.1 (map placed_of p.0.items)) }
+{
     let tokens = Lexer::tokens(alloc, options.flags(false), chars)?;
-    if options.ignore_numbered_groups_when_named_groups_exist && has_names(&tokens) {
+    if ignores(options, &tokens) {
         Ok((Lexer::tokens(alloc, options.flags(true), chars)?, true))
     } else {
         Ok((tokens, false))
     }
 }
 
-fn has_names(tokens: &[Placed<'_>]) -> bool {
+fn has_name(opening: Opening<'_>) -> bool
+    ensures { result ≡ has_name (opening_of opening.entry) }
+{
+    match opening {
+        Opening::Group { name, .. } => name.is_some(),
+        _ => false,
+    }
+}
+
+fn opens_named(token: Token<'_>) -> bool
+    ensures { result ≡ opens_named (token_of token.entry) }
+{
+    match token {
+        Token::Open(opening) => has_name(opening),
+        _ => false,
+    }
+}
+
+/// Whether a group has a name.
+fn has_names(tokens: &[Placed<'_>]) -> bool
+    ensures { result ≡ list_any (λ p. opens_named p.token) (map placed_of tokens.now) }
+{
     for placed in tokens {
-        if let Token::Open(Opening::Group { name: Some(_), .. }) = placed.token {
+        if opens_named(placed.token) {
             return true;
         }
     }
     false
 }
 
-fn tree_of_chars(
-    alloc: Global,
-    chars: &[char],
-    options: ParseOptions,
-) -> Result<ExprTree, Failure> {
+fn tree_of_chars(alloc: Global, chars: &[char], options: ParseOptions) -> Result<ExprTree, Failure>
+    ensures { IfOk result (IsTreeOf options chars.now) }
+{
     let (placed, ignored) = tokens(alloc, chars, options)?;
     let names = GroupNames::of(alloc, &placed)?;
     let mut reader = Reader {
@@ -78,34 +121,75 @@ fn tree_of_chars(
     Ok(described(alloc, expr, names, &placed, ignored)?)
 }
 
+fn is_group(opening: Opening<'_>) -> bool
+    ensures { result ≡ is_group (opening_of opening.entry) }
+{
+    match opening {
+        Opening::Group { .. } => true,
+        _ => false,
+    }
+}
+
+fn opens_group(token: Token<'_>) -> bool
+    ensures { result ≡ opens_group (token_of token.entry) }
+{
+    match token {
+        Token::Open(opening) => is_group(opening),
+        _ => false,
+    }
+}
+
 /// How many groups these tokens open.
-fn group_count(tokens: &[Placed<'_>]) -> usize {
+fn group_count(tokens: &[Placed<'_>]) -> usize
+    ensures { result ≡ count_by (λ p. opens_group p.token) (map placed_of tokens.now) }
+{
     let mut count: usize = 0;
     for placed in tokens {
-        if let Token::Open(Opening::Group { .. }) = placed.token {
-            count = count.saturating_add(1);
+        if opens_group(placed.token) {
+            count += 1;
         }
     }
     count
 }
 
-/// Whether one of these tokens names a group by its number.
-fn has_numbers(tokens: &[Placed<'_>]) -> bool {
-    for placed in tokens {
-        match placed.token {
-            Token::Refer(reference) if is_by_number(reference) => return true,
-            Token::Open(Opening::If(reference)) if is_by_number(reference) => return true,
-            _ => {}
-        }
-    }
-    false
-}
-
-fn is_by_number(reference: Reference<'_>) -> bool {
-    match reference.target {
+fn is_by_number(target: Target<'_>) -> bool
+    ensures { result ≡ by_number (target_of target.entry) }
+{
+    match target {
         Target::Name(_) => false,
         _ => true,
     }
+}
+
+fn asks_number(opening: Opening<'_>) -> bool
+    ensures { result ≡ asks_number (opening_of opening.entry) }
+{
+    match opening {
+        Opening::If(reference) => is_by_number(reference.target),
+        _ => false,
+    }
+}
+
+fn names_number(token: Token<'_>) -> bool
+    ensures { result ≡ names_number (token_of token.entry) }
+{
+    match token {
+        Token::Refer(reference) => is_by_number(reference.target),
+        Token::Open(opening) => asks_number(opening),
+        _ => false,
+    }
+}
+
+/// Whether one of these tokens names a group by its number.
+fn has_numbers(tokens: &[Placed<'_>]) -> bool
+    ensures { result ≡ list_any (λ p. names_number p.token) (map placed_of tokens.now) }
+{
+    for placed in tokens {
+        if names_number(placed.token) {
+            return true;
+        }
+    }
+    false
 }
 
 /// The tree with what its nodes name.
@@ -115,7 +199,11 @@ fn described(
     names: GroupNames,
     tokens: &[Placed<'_>],
     ignored: bool,
-) -> Result<ExprTree, AllocError> {
+) -> Result<ExprTree, AllocError>
+    requires { pairs_in names.pairs ≡ named_in (map placed_of tokens.now) }
+    ensures same { IfOk result (λ tree. tree.expr ≡ expr) }
+    ensures describes { IfOk result (IsDescribed ignored (map placed_of tokens.now)) }
+{
     let total_groups = group_count(tokens);
     let mut survey = Survey {
         references: Vec::new(alloc),
@@ -136,11 +224,9 @@ fn described(
 }
 
 /// The references up to the number of groups.
-fn within(
-    alloc: Global,
-    references: &[usize],
-    groups: usize,
-) -> Result<BTreeSet<usize>, AllocError> {
+fn within(alloc: Global, references: &[usize], groups: usize) -> Result<BTreeSet<usize>, AllocError>
+    ensures { IfOk result (λ set. set.keys ≡ up_to groups [] references.now) }
+{
     let mut backrefs = BTreeSet::new(alloc);
     for group in references {
         if *group <= groups {
@@ -151,7 +237,9 @@ fn within(
 }
 
 /// The first reference past the number of groups.
-fn first_past(references: &[usize], groups: usize) -> Option<usize> {
+fn first_past(references: &[usize], groups: usize) -> Option<usize>
+    ensures { result ≡ first_past groups references.now }
+{
     for group in references {
         if *group > groups {
             return Some(*group);
