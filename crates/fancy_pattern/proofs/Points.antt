@@ -1,7 +1,7 @@
 -- What the reader's calls answer is spelled.
-use Rattle.std.proofs.Common.{◌≡◌, ℕ, ◌-◌, ◌<◌, ◌≤◌, Bool, true, false, not, cond, List, [], ◌∷◌, ◌++◌, length, drop, map, filter, Option, Some, None, Result, Ok, Err, IfOk, option_map, is_some, encode_utf8, encode_utf8_all, string_bytes, refl, sym, ap, ◌∙◌, subst, arith, append-nil, append_assoc, length-drop}
+use Rattle.std.proofs.Common.{◌≡◌, ℕ, ◌<◌, ◌≤◌, Bool, true, false, not, cond, List, [], ◌∷◌, ◌++◌, length, drop, map, filter, Option, Some, None, Result, Ok, Err, IfOk, encode_utf8, encode_utf8_all, refl, sym, ap, ◌∙◌, subst, arith, append-nil, append_assoc}
 use Rattle.std.proofs.lemmas.Bool.{true≢false}
-use Rattle.std.proofs.lemmas.List.{map-append, take_all}
+use Rattle.std.proofs.lemmas.List.{map-append}
 use Rattle.fancy_meaning.specs.Tree as tree
 use Rattle.fancy_meaning.specs.Tree.{Tree}
 use Rattle.fancy_expr.specs.declared.expr.Expr.{Expr}
@@ -14,9 +14,9 @@ use Rattle.fancy_pattern.specs.declared.tokens.Suffix.{Suffix}
 use Rattle.fancy_pattern.specs.declared.tokens.Enclosing.{Enclosing}
 use Rattle.fancy_pattern.specs.Tokens.{Reference, Token, Placed, Opening, Around, Group, AbsentBar, If, IfPattern, IfLook}
 use Rattle.fancy_pattern.specs.PatternViews.{placed_of}
-use Rattle.fancy_pattern.specs.Grammar.{Names, Takes, first_gives, gives_some, is_at, is_branch_end, is_empty, is_repeatable, bar, closing, quantifier, suffix, class_text, class_close, class_of, branch_of, joined, alternated, suffixed, SpellsSuffix, no_suffix, a_suffix, SpellsClass, class_end, class_piece, class_open, opening, node_of, reference, enclosed, SpellsAtom, node, class, opened, SpellsOpened, around, group, stopper, expression, asked, if_group, if_pattern, if_look, SpellsBodies, one_body, two_bodies, SpellsPiece, plain, quantified, SpellsPieces, no_piece, piece, SpellsBranch, branch, SpellsBars, no_bar, barred, SpellsAlternatives, branches}
+use Rattle.fancy_pattern.specs.Grammar.{Names, Takes, first_gives, gives_some, is_at, is_branch_end, is_empty, is_repeatable, bar, closing, quantifier, class_text, class_close, class_of, joined, alternated, suffixed, SpellsSuffix, SpellsClass, class_end, class_piece, class_open, opening, node_of, reference, enclosed, SpellsAtom, node, class, opened, SpellsOpened, around, group, stopper, expression, if_group, if_pattern, if_look, SpellsBodies, one_body, two_bodies, SpellsPiece, plain, quantified, SpellsPieces, no_piece, piece, SpellsBranch, branch, SpellsBars, no_bar, barred, SpellsAlternatives, branches}
 use Rattle.fancy_pattern.proofs.MadeNodes.{text_added, one_char}
-use Rattle.fancy_pattern.specs.Reading.{point_of, Skips, ReadsTree, ReadsLast, ReadsClass, SpellsLast, Quantifies, alone, by, some_of}
+use Rattle.fancy_pattern.specs.Reading.{point_of, Skips, ReadsTree, ReadsClass, SpellsLast, Quantifies, alone, by, some_of}
 
 pub skipped : (old new : Reader) → 0 < length old.rest.now → new.rest.now ≡ drop 1 old.rest.now → Skips old new
 skipped old new h rest = let p = front old.rest.now new.rest.now h rest in record { first = p.0; tokens = p.1 }

@@ -1,5 +1,5 @@
 -- What the parser answers is what the pattern spells.
-use Rattle.std.proofs.Common.{◌≡◌, ℕ, Bool, true, false, List, [], ◌∷◌, length, map, refl, sym, ap, ◌∙◌, subst, arith}
+use Rattle.std.proofs.Common.{◌≡◌, Bool, true, false, List, [], ◌∷◌, length, map, refl, sym, ap, ◌∙◌, subst, arith}
 use Rattle.fancy_meaning.specs.Tree.{Tree}
 use Rattle.fancy_expr.specs.declared.expr.Expr.{Expr}
 use Rattle.fancy_expr.specs.declared.expr.ExprTree.{ExprTree}
@@ -16,7 +16,7 @@ use Rattle.fancy_pattern.specs.Grammar.{Names, SpellsAlternatives}
 use Rattle.fancy_pattern.specs.PatternViews.{placed_of}
 use Rattle.fancy_pattern.specs.Reading.{point_of}
 use Rattle.fancy_pattern.specs.Described.{IsDescribed}
-use Rattle.fancy_pattern.specs.Spelling.{flags_of, ignores, HasTokens, every_group, named_groups, IsSpelled, Spells, IsTreeOf}
+use Rattle.fancy_pattern.specs.Spelling.{flags_of, ignores, HasTokens, every_group, named_groups, IsSpelled, IsTreeOf}
 
 pub every_token : (options : ParseOptions) (text : Text) (f : Flags) (b : Bool) (ts us : List Placed) → f ≡ flags_of options false →
     Lexes (at_start f) text ts → b ≡ ignores options us → us ≡ ts → b ≡ false → HasTokens options text false ts

@@ -1,5 +1,5 @@
 -- The contracts of the reader's calls: what each reads.
-use Rattle.std.specs.Prelude.{◌≡◌, ℕ, Bool, true, false, not, List, [], ◌∷◌, ◌++◌, map, filter, IfOk, Option, Some, None, if◌then◌else◌, Vec, Result}
+use Rattle.std.specs.Prelude.{◌≡◌, ℕ, Bool, true, false, not, List, [], ◌∷◌, ◌++◌, map, filter, IfOk, Option, Some, if◌then◌else◌, Vec, Result}
 use Rattle.std.specs.declared.alloc.Global.{Global}
 use Rattle.fancy_meaning.specs.Tree.{Tree}
 use Rattle.fancy_expr.specs.Views.{tree_of}

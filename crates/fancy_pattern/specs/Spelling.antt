@@ -7,7 +7,7 @@ use Rattle.fancy_expr.specs.Views.{tree_of}
 use Rattle.fancy_pattern.specs.declared.flags.Flags.{Flags}
 use Rattle.fancy_pattern.specs.declared.options.ParseOptions.{ParseOptions}
 use Rattle.fancy_pattern.specs.Texts.{Text}
-use Rattle.fancy_pattern.specs.Tokens.{Opening, Around, Group, AbsentBar, If, IfPattern, IfLook, Token, Node, Refer, FlagsItem, Open, Bar, Close, Quantified, ClassOpen, ClassText, ClassClose, Broken, Placed}
+use Rattle.fancy_pattern.specs.Tokens.{Opening, Group, Token, Open, Placed}
 use Rattle.fancy_pattern.specs.Lexing.{Lexes, at_start}
 use Rattle.fancy_pattern.specs.Naming.{named_in}
 use Rattle.fancy_pattern.specs.Grammar.{SpellsAlternatives}

@@ -1,4 +1,4 @@
-use Rattle.std.proofs.Common.{map, ap, sym, ◌∙◌}
+use Rattle.std.proofs.Common.{map, ap, ◌∙◌}
 use Rattle.fancy_expr.specs.Views.{tree_of}
 use Rattle.fancy_pattern.specs.declared.reader.Reader.{Reader}
 use Rattle.fancy_pattern.specs.Naming.{pairs_in, named_in}

@@ -1,4 +1,4 @@
-use Rattle.std.proofs.Common.{sym, ◌∙◌}
+use Rattle.std.proofs.Common.{sym}
 use Rattle.fancy_pattern.specs.Grammar.{closing}
 use Rattle.fancy_pattern.proofs.Points.{takes_at}
 use Rattle.fancy_pattern.proofs.reader.Reader.read_close.Goals as goal
