@@ -8,3 +8,4 @@ pub mod Escaping
 pub mod TokenTests
 pub mod Surveys
 pub mod Spelled
+pub mod EscapedTokens

@@ -1,12 +1,20 @@
--- What a text is escaped to: a pattern that spells it.
-use Rattle.std.specs.Prelude.{ℕ, Bool, ◌||◌, List, [], ◌∷◌, ◌++◌, if◌then◌else◌, ◌==◌}
-use Rattle.fancy_pattern.specs.Texts.{Text, is_blank}
+-- What a text is escaped to: a pattern that spells it, whatever flags hold.
+use Rattle.std.specs.Prelude.{ℕ, Bool, List, [], ◌∷◌, ◌++◌, map, if◌then◌else◌, ◌==◌, codes}
+use Rattle.std.specs.List.{list_any}
+use Rattle.fancy_meaning.specs.Tree as tree
+use Rattle.fancy_meaning.specs.Tree.{Tree}
+use Rattle.fancy_pattern.specs.declared.flags.Flags.{Flags}
+use Rattle.fancy_pattern.specs.Texts.{Text}
+use Rattle.fancy_pattern.specs.Tokens.{Placed}
+use Rattle.fancy_pattern.specs.Lexing.{Lexes, at_start}
+use Rattle.fancy_pattern.specs.Grammar.{Names, SpellsAlternatives, joined}
 
--- a character with a meaning of its own: \ . + * ? ( ) | [ ] { } ^ $, and under `x` blanks and #
+-- the characters with a meaning of their own, or under `x`
+abbrev pub specials : Text
+specials = codes "\\.+*?()|[]{}^$#\t\n\r "
+
 abbrev pub is_special : ℕ → Bool
-is_special c =
-    c == 92 || c == 46 || c == 43 || c == 42 || c == 63 || c == 40 || c == 41 || c == 124 || c == 91 || c == 93
-    || c == 123 || c == 125 || c == 94 || c == 36 || c == 35 || is_blank c
+is_special c = list_any (λ k. c == k) specials
 
 -- a character, with a backslash before one that has a meaning of its own
 abbrev pub escaped_char : ℕ → Text
@@ -15,3 +23,14 @@ escaped_char c = if is_special c then 92 ∷ c ∷ [] else c ∷ []
 abbrev pub escaped : Text → Text
 escaped [] = []
 escaped (c ∷ cs) = escaped_char c ++ escaped cs
+
+-- the characters of a text, each as a literal
+abbrev pub literals : Bool → Text → List Tree
+literals casei cs = map (λ c. tree.Literal c casei) cs
+
+-- in whatever flags, and whatever groups have names, a pattern spells the literals of a text
+abbrev pub SpellsText : Text → Text → Type 0
+SpellsText pattern cs =
+    (f : Flags)
+    → (ts : List Placed) × Lexes (at_start f) pattern ts
+    × ((names : Names) → SpellsAlternatives names ts [] (joined (literals f.casei cs)))

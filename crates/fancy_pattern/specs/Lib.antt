@@ -3,7 +3,6 @@ pub mod Flags
 pub mod Numbers
 pub mod Tokens
 pub mod Names
-pub mod Escape
 pub mod Escapes
 pub mod Quantifiers
 pub mod Groups
@@ -17,3 +16,4 @@ pub mod Grammar
 pub mod Reading
 pub mod Described
 pub mod Spelling
+pub mod Escape

@@ -1,7 +1,7 @@
 //! `escape`: a text as a pattern that spells it.
 
 ghost use Rattle.std.specs.Prelude.{◌≡◌, ◌++◌, IfOk, OnOk, chars, encode_utf8_all, string_bytes};
-ghost use Rattle.fancy_pattern.specs.Escape.{escaped, escaped_char, is_special};
+ghost use Rattle.fancy_pattern.specs.Escape.{SpellsText, escaped, escaped_char, is_special};
 
 use crate::characters::Test;
 use std::alloc::{AllocError, Global};
@@ -33,7 +33,9 @@ fn push_escaped(out: &mut String, c: char) -> Result<(), AllocError>
 /// A backslash stands before each of `\.+*?()|[]{}^$#` and before space, tab, LF and CR. The answer is new text in
 /// UTF-8. Want of memory is the only error.
 pub fn escape(alloc: Global, text: &str) -> Result<String, AllocError>
-    ensures { IfOk result (λ s. string_bytes s ≡ encode_utf8_all (escaped (chars text.now))) }
+    ensures value { IfOk result (λ s. string_bytes s
+        ≡ encode_utf8_all (escaped (chars text.now))) }
+    ensures spells { IfOk result (λ s. SpellsText (escaped (chars text.now)) (chars text.now)) }
 {
     let mut out = String::new(alloc);
     for c in text.chars() {

@@ -3,14 +3,16 @@ use Rattle.std.proofs.lemmas.Iterator.{YieldsList-from_chars}
 use Rattle.std.proofs.lemmas.Iterator.Consumers.{YieldsList-end}
 use Rattle.fancy_pattern.specs.Escape.{escaped}
 use Rattle.fancy_pattern.proofs.Escaping.{escaped_on, map-same}
+use Rattle.fancy_pattern.proofs.EscapedTokens.{spells_text}
 use Rattle.fancy_pattern.proofs.escape.escape.Goals as goal
 
 pub returns : goal.returns
 returns c =
     let t = YieldsList-end
-    (YieldsList-from_chars c.args.text.now c.utf8.text cc) c.loop-c.yielded _ c.loop-c.yielded_by _ _ c.in-None.is c.next.ensures.steps in (
-      c.loop-c.invariant ∙ ap (λ cs. encode_utf8_all (escaped cs)) (sym (map-same _) ∙ t.0)
-    )
+    (YieldsList-from_chars c.args.text.now c.utf8.text cc) c.loop-c.yielded _ c.loop-c.yielded_by _ _ c.in-None.is c.next.ensures.steps in record {
+      value = c.loop-c.invariant ∙ ap (λ cs. encode_utf8_all (escaped cs)) (sym (map-same _) ∙ t.0);
+      spells = spells_text _;
+    }
 
 pub loop-c-preserved : goal.loop-c-preserved
 loop-c-preserved c =
