@@ -7,11 +7,11 @@ use Rattle.fancy_meaning.specs.Numbers.{usize_max}
 use Rattle.fancy_meaning.specs.Options as plain
 use Rattle.fancy_meaning.specs.Premises.{Input, IsText, plan}
 use Rattle.fancy_expr.specs.declared.error.Error.{Error}
-use Rattle.fancy_vm.specs.Tasks.{options_of as run_options_of}
 use Rattle.fancy_matches.specs.Listing.{ComesTo, Standing, at_start, left, stays}
-use Rattle.fancy_matches.specs.Regexes.{Counts, GivesMatch, IsRegexOf, IsSame, Iteration}
+use Rattle.fancy_matches.specs.Regexes.{Counts, GivesMatch, IsNoLimitWhereEasy, IsRegexOf, IsSame, Iteration, options_in}
 use Rattle.fancy_matches.specs.declared.found.Match.{Match}
 use Rattle.fancy_matches.specs.declared.regexes.Regex.{Regex}
+use Rattle.fancy_matches.proofs.Easy.{easy_of_same}
 use Rattle.fancy_matches.proofs.Lists.{all_most, comes_left, comes_more}
 use Rattle.fancy_matches.proofs.Stepping.{of_same, same_twice}
 
@@ -24,7 +24,7 @@ pub record Counted (i : Input) (text : List ℕ) (o : plain.RunOptions) (count :
 pub record HasCounted (r : Regex) (text : List ℕ) (count : ℕ) (s : Iteration) : Type 0 where
   pub same : IsSame r s.regex.now
   pub within : s.text ≡ text
-  pub so_far : (i : Input) (o : plain.RunOptions) → IsRegexOf i o r → Counted i text o count s.standing
+  pub so_far : (i : Input) (o : plain.RunOptions) → IsRegexOf i text o r → Counted i text o count s.standing
 
 pub none_counted : (r : Regex) (text : List ℕ) (s : Iteration) → s.regex.now ≡ r → s.text ≡ text → s.standing ≡ at_start →
     HasCounted r text 0 s
@@ -36,15 +36,16 @@ none_counted r text s is within first = record {
 
 module _ (r : Regex) (text : List ℕ) (is : IsText text) (count : ℕ) (s t : Iteration) (so_far : HasCounted r text count s)
     (item : Option (Result Match Error))
-    (gives : (i : Input) (o : plain.RunOptions) → IsRegexOf i o s.regex.now → GivesMatch i s.text o s.standing item t.standing) where
-  gives_so : (x : Option (Result Match Error)) → item ≡ x → (i : Input) (o : plain.RunOptions) → IsRegexOf i o r →
+    (gives : (i : Input) (o : plain.RunOptions) → IsRegexOf i s.text o s.regex.now → GivesMatch i s.text o s.standing item t.standing) where
+  gives_so : (x : Option (Result Match Error)) → item ≡ x → (i : Input) (o : plain.RunOptions) → IsRegexOf i text o r →
       GivesMatch i text o s.standing x t.standing
   gives_so x was i o h =
       subst (λ y. GivesMatch i text o s.standing y t.standing) was
-      (subst (λ u. GivesMatch i u o s.standing item t.standing) so_far.within (gives i o (of_same r s.regex.now i o so_far.same h)))
+      (subst (λ u. GivesMatch i u o s.standing item t.standing) so_far.within
+      (gives i o (subst (λ u. IsRegexOf i u o s.regex.now) (sym so_far.within) (of_same r s.regex.now i text o so_far.same h))))
 
   module _ (m : Match) (was : item ≡ Some (Ok m)) where
-    next : (i : Input) (o : plain.RunOptions) → IsRegexOf i o r → Counted i text o (suc count) t.standing
+    next : (i : Input) (o : plain.RunOptions) → IsRegexOf i text o r → Counted i text o (suc count) t.standing
     next i o h =
         let before = so_far.so_far i o h in
         let one = gives_so (Some (Ok m)) was i o h in
@@ -65,21 +66,21 @@ module _ (r : Regex) (text : List ℕ) (is : IsText text) (count : ℕ) (s t : I
     pub fits : suc count ≤ usize_max
     fits =
         ∥∥₁_elim r.source le_prop (λ of.
-        let o = run_options_of r.options in
+        let o = options_in r text in
         let h = next of.0 o (record { compiled = of.1; options = refl }) in
         let all = ap (λ (xs : List (List ℕ)). length xs) (comes_left (plan of.0) text o is h.comes) in
         let most = all_most (plan of.0) text o is in
         let small = is.fits in
         omega (arith, all, most, small, h.counts, length-append h.gone (left (plan of.0) text o t.standing)))
 
-  pub all_counted : item ≡ None → (i : Input) (o : plain.RunOptions) → IsRegexOf i o r → Counts i text o (Ok count)
+  pub all_counted : item ≡ None → (i : Input) (o : plain.RunOptions) → IsRegexOf i text o r → Counts i text o (Ok count)
   all_counted was i o h =
       let before = so_far.so_far i o h in
       sym before.counts
       ∙ ap (λ (xs : List (List ℕ)). length xs)
       (sym (comes_left (plan i) text o is before.comes ∙ ap (λ rest. before.gone ++ rest) (gives_so None was i o h).0 ∙ append-nil before.gone))
 
-  pub count_fails : (e : Error) → item ≡ Some (Err e) → (i : Input) (o : plain.RunOptions) → IsRegexOf i o r → Counts i text o (Err e)
+  pub count_fails : (e : Error) → item ≡ Some (Err e) → (i : Input) (o : plain.RunOptions) → IsRegexOf i text o r → Counts i text o (Err e)
   count_fails e was i o h =
       let before = so_far.so_far i o h in
       let fails = (gives_so (Some (Err e)) was i o h).0 in
@@ -89,3 +90,6 @@ module _ (r : Regex) (text : List ℕ) (is : IsText text) (count : ℕ) (s t : I
         comes = comes_more (plan i) text o before.comes fails.comes;
         fails = fails.fails;
       }
+
+  pub count_easy : (e : Error) → IsNoLimitWhereEasy s.regex.now s.text e → IsNoLimitWhereEasy r text e
+  count_easy e h = easy_of_same r s.regex.now text e so_far.same (subst (λ u. IsNoLimitWhereEasy s.regex.now u e) so_far.within h)

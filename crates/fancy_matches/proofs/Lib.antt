@@ -2,3 +2,4 @@ pub mod Lists
 pub mod Searching
 pub mod Stepping
 pub mod Counting
+pub mod Easy

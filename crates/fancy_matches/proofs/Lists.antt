@@ -90,7 +90,7 @@ len_utf8_some text i j e =
     let p = past_char_tells text (any_takes true false) i j e in
     let one = len_utf8_bounds p.char in omega (arith, p.to, one)
 
-further_on : (text : List ℕ) (i : ℕ) → i < further text i
+pub further_on : (text : List ℕ) (i : ℕ) → i < further text i
 further_on text i = go (past_char text (any_takes true false) i) (λ j e. len_utf8_some text i j e)
   where
     go : (o : Option ℕ) → ((j : ℕ) → o ≡ Some j → i < j) → i < option_map_or (λ j. j) o (suc i)
@@ -258,7 +258,7 @@ module _ (p : Plan) (text : List ℕ) (o : RunOptions) (is : IsText text) where
 
 -- ---- the matches of a list lie apart
 
-ends_before_next : (text : List ℕ) (s : Standing) (span : Span) → span.1 ≤ next_pos text s span
+pub ends_before_next : (text : List ℕ) (s : Standing) (span : Span) → span.1 ≤ next_pos text s span
 ends_before_next text s (start, end) =
     cond_both (nat_lt (max s.pos start) end) end (further text end) (λ i. end ≤ i)
     (λ e. omega arith) (λ e. let f = further_on text end in omega (arith, f))

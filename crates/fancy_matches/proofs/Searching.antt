@@ -27,7 +27,7 @@ use Rattle.fancy_search.specs.Searches.{Bounds, HasSource, IsCompiledFrom, Promi
 use Rattle.fancy_search.proofs.Bounded.{run_bounds}
 use Rattle.fancy_search.proofs.Searched.{accepted_input, run_promises}
 use Rattle.fancy_program.proofs.FitsLaws.{run_place}
-use Rattle.fancy_matches.specs.Listing.{AreSpans, begun_at}
+use Rattle.fancy_matches.specs.Listing.{AreSpans, begun_at, options_for}
 use Rattle.fancy_matches.specs.Regexes.{shown_match, with_numbers, with_span}
 use Rattle.fancy_matches.specs.declared.found.Match.{Match}
 use Rattle.fancy_matches.proofs.Lists.{AreNumbers, answer_sound, numbers_found, spans_of_pairs}
@@ -41,10 +41,17 @@ fits_at prog base o text fits at empty longest =
     let rest = (and_parts (is_place [] base.pos) _ fits).1 in
     and_from (is_place text o.pos) _ at (rw (empty, longest) rest)
 
-pub fits_begun : (prog : Prog) (base o : RunOptions) (text : List ℕ) (pos : ℕ) → run_fits (task_of prog [] base) ≡ true →
-    is_place text pos ≡ true → run_options_of o ≡ begun_at (run_options_of base) pos → run_fits (task_of prog text o) ≡ true
-fits_begun prog base o text pos fits at is =
+pub fits_begun : (prog : Prog) (base o : RunOptions) (asked : Option ℕ) (text : List ℕ) (pos : ℕ) → run_fits (task_of prog [] base) ≡ true →
+    is_place text pos ≡ true → run_options_of o ≡ begun_at (options_for (run_options_of base) asked text) pos →
+    run_fits (task_of prog text o) ≡ true
+fits_begun prog base o asked text pos fits at is =
     fits_at prog base o text fits (subst (λ p. is_place text p ≡ true) (sym (ap (λ q. q.pos) is)) at)
+    (ap (λ q. q.not_empty) is) (ap (λ q. q.leftmost_longest) is)
+
+pub fits_listed : (prog : Prog) (base o : RunOptions) (asked : Option ℕ) (text : List ℕ) → run_fits (task_of prog [] base) ≡ true →
+    run_options_of o ≡ options_for (run_options_of base) asked text → run_fits (task_of prog [] o) ≡ true
+fits_listed prog base o asked text fits is =
+    fits_at prog base o [] fits (subst (λ p. is_place [] p ≡ true) (sym (ap (λ q. q.pos) is)) (run_place (task_of prog [] base) fits))
     (ap (λ q. q.not_empty) is) (ap (λ q. q.leftmost_longest) is)
 
 pair_error : (r : Outcome) (e : Error) → RunAnswersPair r (Err e) → RunAnswers r (Err e)

@@ -16,11 +16,13 @@ use Rattle.fancy_search.specs.Searches.{HasSource, IsCompiledFrom, program}
 use Rattle.fancy_search.specs.declared.search.Compiled.{Compiled}
 use Rattle.fancy_expr.specs.declared.error.Error.{Error}
 use Rattle.fancy_laws.proofs.Moves.{is_place_parts}
-use Rattle.fancy_matches.specs.Listing.{ComesTo, Standing, after, by_match, ended, is_listed, options_at, past_match, stays}
-use Rattle.fancy_matches.specs.Regexes.{ComesBy, GivesBy, IsRegexOf, IsSame, Shows, StepsBy, left_of, numbers_in, shown_captures, shown_match, span_of, with_numbers, with_span}
+use Rattle.fancy_matches.specs.Listing.{ComesTo, Standing, after, by_match, ended, is_listed, options_at, options_for, past_match, stays}
+use Rattle.fancy_matches.specs.Regexes.{ComesBy, GivesBy, IsNoLimitWhereEasy, IsRegexOf, IsSame, Shows, StepsBy, left_of, numbers_in, options_in, shown_captures, shown_match, span_of, with_numbers, with_span}
 use Rattle.fancy_matches.specs.declared.found.Captures.{Captures}
 use Rattle.fancy_matches.specs.declared.found.Match.{Match}
+use Rattle.fancy_matches.specs.declared.options.RegexOptions.{RegexOptions}
 use Rattle.fancy_matches.specs.declared.regexes.Regex.{Regex}
+use Rattle.fancy_matches.proofs.Easy.{easy_error}
 use Rattle.fancy_matches.proofs.Lists.{comes_left, comes_more, comes_on, ended_at, finds_none, is_found, no_place_ends}
 use Rattle.fancy_matches.proofs.Searching.{fits_at}
 
@@ -153,33 +155,33 @@ none_at_end show seen c text is o from to goes no_place i of =
 
 -- ---- a step of a regex
 
-pub of_same : (r s : Regex) (i : Input) (o : plain.RunOptions) → IsSame r s → IsRegexOf i o r → IsRegexOf i o s
-of_same r s i o same h = record {
+pub of_same : (r s : Regex) (i : Input) (text : List ℕ) (o : plain.RunOptions) → IsSame r s → IsRegexOf i text o r → IsRegexOf i text o s
+of_same r s i text o same h = record {
   compiled = subst (IsCompiledFrom i) (sym same.0) h.compiled;
-  options = ap run_options_of same.1 ∙ h.options;
+  options = ap (λ (a : RegexOptions). options_for (run_options_of a.run) a.backtrack_limit text) same.1 ∙ h.options;
 }
 
 pub same_twice : (r s t : Regex) → IsSame r s → IsSame s t → IsSame r t
 same_twice r s t a b = (b.0 ∙ a.0, b.1 ∙ a.1)
 
 -- what its searches for the next match came to
-module _ {A B : Type 0} (show : A → B) (seen : List ℕ → B) (r : Regex) (text : List ℕ) (is : IsText text) (from to : Standing)
-    (result : Result (Option A) Error)
-    (steps : (i : Input) → IsCompiledFrom i r.compiled → StepsBy i text (run_options_of r.options) show seen from result to) where
-  steps_so : (x : Result (Option A) Error) → result ≡ x → (i : Input) (o : plain.RunOptions) → IsRegexOf i o r →
+module _ {A B : Type 0} (show : A → B) (seen : List ℕ → B) (r : Regex) (text : List ℕ) (is : IsText text) (here : plain.RunOptions)
+    (asked : here ≡ options_in r text) (from to : Standing) (result : Result (Option A) Error)
+    (steps : (i : Input) → IsCompiledFrom i r.compiled → StepsBy i text here show seen from result to) where
+  steps_so : (x : Result (Option A) Error) → result ≡ x → (i : Input) (o : plain.RunOptions) → IsRegexOf i text o r →
       StepsBy i text o show seen from x to
   steps_so x was i o h =
-      subst (λ q. StepsBy i text q show seen from x to) h.options
-      (subst (λ y. StepsBy i text (run_options_of r.options) show seen from y to) was (steps i h.compiled))
+      subst (λ q. StepsBy i text q show seen from x to) (asked ∙ h.options)
+      (subst (λ y. StepsBy i text here show seen from y to) was (steps i h.compiled))
 
-  pub gives_none : result ≡ Ok None → (i : Input) (o : plain.RunOptions) → IsRegexOf i o r → GivesBy i text o show seen from None to
+  pub gives_none : result ≡ Ok None → (i : Input) (o : plain.RunOptions) → IsRegexOf i text o r → GivesBy i text o show seen from None to
   gives_none was i o h = steps_so (Ok None) was i o h
 
-  pub gives_some : (x : A) → result ≡ Ok (Some x) → (i : Input) (o : plain.RunOptions) → IsRegexOf i o r →
+  pub gives_some : (x : A) → result ≡ Ok (Some x) → (i : Input) (o : plain.RunOptions) → IsRegexOf i text o r →
       GivesBy i text o show seen from (Some (Ok x)) to
   gives_some x was i o h = steps_so (Ok (Some x)) was i o h
 
-  pub gives_error : (e : Error) → result ≡ Err e → (i : Input) (o : plain.RunOptions) → IsRegexOf i o r →
+  pub gives_error : (e : Error) → result ≡ Err e → (i : Input) (o : plain.RunOptions) → IsRegexOf i text o r →
       GivesBy i text o show seen from (Some (Err e)) (ended to)
   gives_error e was i o h =
       let s = steps_so (Err e) was i o h in
@@ -188,7 +190,12 @@ module _ {A B : Type 0} (show : A → B) (seen : List ℕ → B) (r : Regex) (te
   pub error_within : HasSource r.compiled → (e : Error) → result ≡ Err e → from.pos ≤ length text
   error_within source e was =
       ∥∥₁_elim source le_prop (λ of.
-      let s = steps_so (Err e) was of.0 (run_options_of r.options) (record { compiled = of.1; options = refl }) in
-      let on = comes_on (plan of.0) text (run_options_of r.options) is s.0 in
+      let s = steps_so (Err e) was of.0 (options_in r text) (record { compiled = of.1; options = refl }) in
+      let on = comes_on (plan of.0) text (options_in r text) is s.0 in
       let within = (is_place_parts text to.pos (s.1).place).0 in
       omega (arith, on, within))
+
+  pub easy_step : (e : Error) → result ≡ Err e → IsNoLimitWhereEasy r text e
+  easy_step e was =
+      easy_error r text (options_at here to) (ap (λ o. o.backtrack_limit) asked) (ap (λ o. o.step_limit) asked) e
+      (λ i of. (subst (λ x. StepsBy i text here show seen from x to) was (steps i of)).1.bounds)

@@ -1,5 +1,5 @@
 -- The list of all matches of a text: one search after the other, each from where the one before left off.
-use Rattle.std.specs.Prelude.{◌≡◌, ℕ, zero, suc, ◌-◌, ◌≤◌, ◌<◌, Bool, true, false, ◌&&◌, not, List, [], ◌∷◌, ◌++◌, length, max, map, Option, Some, None, nat_le, nat_lt, ◌==◌, if◌then◌else◌, slice_range, slice_index_or, ◌+◌, ◌*◌}
+use Rattle.std.specs.Prelude.{◌≡◌, ℕ, zero, suc, ◌-◌, ◌≤◌, ◌<◌, Bool, true, false, ◌&&◌, not, List, [], ◌∷◌, ◌++◌, length, max, min, map, Option, Some, None, nat_le, nat_lt, ◌==◌, if◌then◌else◌, slice_range, slice_index_or, ◌+◌, ◌*◌}
 use Rattle.std.specs.Option.{option_map_or}
 use Rattle.regex_hir.specs.Text.{is_none_or, is_some_and}
 use Rattle.fancy_meaning.specs.Answer.{answer, search_of}
@@ -28,6 +28,24 @@ begun_at o pos = record {
   not_empty = o.not_empty;
   leftmost_longest = o.leftmost_longest;
   backtrack_limit = o.backtrack_limit;
+  step_limit = o.step_limit;
+}
+
+-- How often a search of this text may fall back to a branch: so often as was asked, or else 1,000,000 times, and once more
+-- for each byte of the text and for its end, which is at least once for each start that it may have.
+abbrev pub backtracks_for : Option ℕ → List ℕ → ℕ
+backtracks_for None text = min usize_max (length text + 1_000_001)
+backtracks_for (Some limit) text = limit
+
+-- the options of the searches of this text, by those of all texts and the limit of backtracks that was asked
+abbrev pub options_for : RunOptions → Option ℕ → List ℕ → RunOptions
+options_for o asked text = record {
+  pos = o.pos;
+  anchored = o.anchored;
+  continued = o.continued;
+  not_empty = o.not_empty;
+  leftmost_longest = o.leftmost_longest;
+  backtrack_limit = backtracks_for asked text;
   step_limit = o.step_limit;
 }
 

@@ -1,16 +1,18 @@
 -- What clauses see of a regex, of what it finds, and of its lists.
-use Rattle.std.specs.Prelude.{◌≡◌, ◌≤◌, ℕ, Bool, true, List, [], ◌∷◌, length, Option, Some, None, Result, Ok, Err, is_some, option_map}
+use Rattle.std.specs.Prelude.{◌≡◌, ◌≤◌, ◌<◌, ◌-◌, ◌^◌, ℕ, Bool, true, IfErr, IfSome, IsFalse, List, [], ◌∷◌, length, Option, Some, None, Result, Ok, Err, is_some, option_map}
 use Rattle.std.specs.Borrow.{MutBor}
 use Rattle.fancy_meaning.specs.Answer.{answer, search_of}
+use Rattle.fancy_meaning.specs.Hard.{is_root_hard}
 use Rattle.fancy_meaning.specs.MatchState.{Span}
 use Rattle.fancy_meaning.specs.Options as plain
 use Rattle.fancy_meaning.specs.Places.{is_place}
 use Rattle.fancy_meaning.specs.Premises.{Input, plan, IsAccepted}
 use Rattle.fancy_expr.specs.declared.error.Error.{Error}
+use Rattle.fancy_expr.specs.declared.error.Error.TheVariants as error
 use Rattle.fancy_vm.specs.Outcomes.{first_pair}
 use Rattle.fancy_vm.specs.Tasks.{options_of as run_options_of}
 use Rattle.fancy_search.specs.Searches.{Bounds, IsCompiledFrom, Promises, instructions_of}
-use Rattle.fancy_matches.specs.Listing.{ComesTo, Standing, all_matches, at_start, left, options_at}
+use Rattle.fancy_matches.specs.Listing.{AreApart, ComesTo, Standing, all_matches, all_spans, at_start, left, options_at, options_for}
 use Rattle.fancy_matches.specs.declared.found.Captures.{Captures}
 use Rattle.fancy_matches.specs.declared.found.Match.{Match}
 use Rattle.fancy_matches.specs.declared.iterators.CaptureMatches.{CaptureMatches}
@@ -80,10 +82,20 @@ EndsOn text pos found = (found.0 ≡ text) × (pos ≤ found.1.1)
 
 -- ---- a regex
 
--- it was compiled from the tree, and its searches have these options but where they begin
-pub record IsRegexOf (i : Input) (o : plain.RunOptions) (r : Regex) : Type 0 where
+-- the options of its searches of this text but where they begin
+abbrev pub options_in : Regex → List ℕ → plain.RunOptions
+options_in r text = options_for (run_options_of r.options.run) r.options.backtrack_limit text
+
+-- it was compiled from the tree, and its searches of this text have these options but where they begin
+pub record IsRegexOf (i : Input) (text : List ℕ) (o : plain.RunOptions) (r : Regex) : Type 0 where
   pub compiled : IsCompiledFrom i r.compiled
-  pub options : run_options_of r.options ≡ o
+  pub options : options_in r text ≡ o
+
+-- it was compiled from the tree, with these options and the limit of backtracks that was asked
+pub record IsMadeBy (i : Input) (o : plain.RunOptions) (asked : Option ℕ) (r : Regex) : Type 0 where
+  pub compiled : IsCompiledFrom i r.compiled
+  pub options : run_options_of r.options.run ≡ o
+  pub backtracks : r.options.backtrack_limit ≡ asked
 
 -- of the same tree, with the same options
 abbrev pub IsSame : Regex → Regex → Type 0
@@ -93,6 +105,23 @@ IsSame r s = (s.compiled ≡ r.compiled) × (s.options ≡ r.options)
 pub record IsSameLoan (r s : MutBor Regex) : Type 0 where
   pub same : IsSame r.now s.now
   pub name : s.ghost_name ≡ r.ghost_name
+
+-- ---- where no limit was asked
+
+-- no limit of backtracks was asked, and as many instructions as can be counted are allowed
+abbrev pub HasNoLimits : Regex → Type 0
+HasNoLimits r = (r.options.backtrack_limit ≡ None) × (r.options.run.step_limit ≡ 2 ^ 64 - 1)
+
+-- it tells of no limit that was passed
+abbrev pub IsNoLimit : Error → Type 0
+IsNoLimit (error.RuntimeError limit) = ⊥
+IsNoLimit e = Unit {0}
+
+-- Where no limit was asked and the whole tree is easy, no limit is passed in a text of fewer than 2 ^ 60 bytes.
+abbrev pub IsNoLimitWhereEasy : Regex → List ℕ → Error → Type 0
+IsNoLimitWhereEasy r text e =
+    (i : Input) → IsCompiledFrom i r.compiled → IsFalse (is_root_hard (plan i).analysis) → HasNoLimits r →
+    length text < 2 ^ 60 → IsNoLimit e
 
 -- ---- lists
 
@@ -167,19 +196,25 @@ pub record Begins (r : MutBor Regex) (text : List ℕ) (s : Iteration) : Type 0 
   pub within : s.text ≡ text
   pub first : s.standing ≡ at_start
 
+-- The matches of the text lie between places, they do not overlap, and each ends past the one before.
+abbrev pub AreAllApart : Regex → List ℕ → Type 0
+AreAllApart r text = (i : Input) (o : plain.RunOptions) → IsRegexOf i text o r → AreApart text None (all_spans (plan i) text o)
+
 -- so a call of the iterator steps, whatever its regex was compiled from, and text and regex stay
-pub record Goes (Gives : Input → List ℕ → plain.RunOptions → Standing → Standing → Type 0) (s t : Iteration) : Type 0 where
-  pub gives : (i : Input) (o : plain.RunOptions) → IsRegexOf i o s.regex.now → Gives i s.text o s.standing t.standing
+pub record Goes {A : Type 0} (Gives : Input → List ℕ → plain.RunOptions → Standing → Standing → Type 0)
+    (s : Iteration) (item : Option (Result A Error)) (t : Iteration) : Type 0 where
+  pub gives : (i : Input) (o : plain.RunOptions) → IsRegexOf i s.text o s.regex.now → Gives i s.text o s.standing t.standing
+  pub easy : IfSome item (λ found. IfErr found (IsNoLimitWhereEasy s.regex.now s.text))
   pub within : t.text ≡ s.text
   pub regex : IsSameLoan s.regex t.regex
 
 abbrev pub NextCaptures : CaptureMatches → Option (Result Captures Error) → CaptureMatches → Type 0
 NextCaptures s item t =
-    Goes (λ i text o from to. GivesCaptures i text o from item to) (captures_iteration s) (captures_iteration t)
+    Goes (λ i text o from to. GivesCaptures i text o from item to) (captures_iteration s) item (captures_iteration t)
 
 abbrev pub NextMatch : Matches → Option (Result Match Error) → Matches → Type 0
 NextMatch s item t =
-    Goes (λ i text o from to. GivesMatch i text o from item to) (matches_iteration s) (matches_iteration t)
+    Goes (λ i text o from to. GivesMatch i text o from item to) (matches_iteration s) item (matches_iteration t)
 
 -- ---- a count of all matches
 

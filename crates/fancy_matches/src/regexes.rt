@@ -1,6 +1,6 @@
 //! `Regex`: a tree that is compiled, with the memory of its searches.
 
-ghost use Rattle.std.specs.Prelude.{◌≡◌, ◌-◌, ◌<◌, [], IfSome, IsTrue, MatchResult, length, suc};
+ghost use Rattle.std.specs.Prelude.{◌≡◌, ◌-◌, ◌<◌, [], IfErr, IfSome, IsTrue, MatchResult, length, suc};
 ghost use Rattle.fancy_meaning.specs.Fits.{run_fits};
 ghost use Rattle.fancy_meaning.specs.Options as plain;
 ghost use Rattle.fancy_meaning.specs.Places as places;
@@ -12,6 +12,7 @@ ghost use Rattle.fancy_matches.specs.Listing as list;
 
 use crate::found::{Captures, Match};
 use crate::iterators::{CaptureMatches, Matches};
+use crate::options::RegexOptions;
 use crate::searches::{find_captures, find_match, next_captures, next_match};
 use crate::standing::Standing;
 use fancy_expr::error::Error;
@@ -25,45 +26,57 @@ use std::alloc::Global;
 pub struct Regex {
     alloc: Global,
     compiled: Compiled,
-    options: RunOptions,
+    options: RegexOptions,
     scratch: Scratch,
-    ghost fits: { IsTrue (run_fits (task_of (program compiled) [] options)) },
+    ghost fits: { IsTrue (run_fits (task_of (program compiled) [] options.run)) },
     ghost source: { HasSource compiled },
 }
 
 impl Regex {
-    ghost use Rattle.fancy_matches.specs.Regexes.{Begins, FindsCaptures, FindsMatch, FindsWhether, GivesCaptures, GivesMatch, IsRegexOf, IsSame, captures_iteration, matches_iteration, standing_of};
+    ghost use Rattle.fancy_matches.specs.Regexes.{AreAllApart, Begins, FindsCaptures, FindsMatch, FindsWhether, GivesCaptures, GivesMatch, IsMadeBy, IsNoLimitWhereEasy, IsRegexOf, IsSame, captures_iteration, matches_iteration, options_in, standing_of};
 
     /// Analyses and compiles the tree, which has passed `is_well_formed`. The options fit a text that is empty, so they
     /// begin at 0; where a search begins, and whether it is continued, each search sets for itself.
     ///
+    /// How often a search may fall back to a branch is `backtrack_limit`, and the options do not say it. None is
+    /// 1,000,000 times, and once more for each start that the text may have, so that a search for an easy tree never
+    /// stops at it.
+    ///
     /// A tree is refused as `Error::CompileError`. Want of memory is `Error::Memory`.
-    pub fn new(alloc: Global, tree: &ExprTree, options: &SearchOptions) -> Result<Regex, Error>
+    pub fn new(
+        alloc: Global,
+        tree: &ExprTree,
+        options: &SearchOptions,
+        backtrack_limit: Option<usize>,
+    ) -> Result<Regex, Error>
         requires well_formed { IsWellFormedTree tree.now }
         requires fits { IsTrue (search_fits options.now []) }
         ensures { MatchResult
             result
-            (IsRegexOf
+            (IsMadeBy
             (input_of tree.now options.now.analysis options.now.compilation)
-            (run_options_of options.now.run))
+            (run_options_of options.now.run) backtrack_limit)
             (IsRefusedAs (input_of tree.now options.now.analysis options.now.compilation)) }
     {
         let compiled = Compiled::new(alloc, tree, options.analysis, options.compilation)?;
         Ok(Regex {
             alloc,
             compiled,
-            options: options.run,
+            options: RegexOptions {
+                run: options.run,
+                backtrack_limit,
+            },
             scratch: Scratch::new(alloc),
         })
     }
 
-    /// The options of a search from this place on.
-    fn begun_at(&self, pos: usize) -> RunOptions
-        ensures { run_options_of result ≡ list.begun_at (run_options_of self.now.options) pos }
+    /// The options of a search of the text from this place on.
+    fn begun_at(&self, text: &str, pos: usize) -> RunOptions
+        ensures { run_options_of result ≡ list.begun_at (options_in self.now text.now) pos }
     {
         RunOptions {
             pos,
-            ..self.options
+            ..self.options.for_text(text)
         }
     }
 
@@ -76,11 +89,12 @@ impl Regex {
         requires { IsTrue (places.is_place text.now pos) }
         ensures promise { (i : Input)
             → (o : plain.RunOptions)
-            → IsRegexOf i o self.old
+            → IsRegexOf i text.now o self.old
             → FindsCaptures i text.now (list.begun_at o pos) result }
+        ensures easy { IfErr result (IsNoLimitWhereEasy self.old text.now) }
         ensures same { IsSame self.old self.new }
     {
-        let options = self.begun_at(pos);
+        let options = self.begun_at(text, pos);
         find_captures(
             self.alloc,
             &self.compiled,
@@ -94,8 +108,9 @@ impl Regex {
     pub fn captures<'t>(&mut self, text: &'t str) -> Result<Option<Captures<'t>>, Error>
         ensures promise { (i : Input)
             → (o : plain.RunOptions)
-            → IsRegexOf i o self.old
+            → IsRegexOf i text.now o self.old
             → FindsCaptures i text.now (list.begun_at o 0) result }
+        ensures easy { IfErr result (IsNoLimitWhereEasy self.old text.now) }
         ensures same { IsSame self.old self.new }
     {
         self.captures_from(text, 0)
@@ -106,11 +121,12 @@ impl Regex {
         requires { IsTrue (places.is_place text.now pos) }
         ensures promise { (i : Input)
             → (o : plain.RunOptions)
-            → IsRegexOf i o self.old
+            → IsRegexOf i text.now o self.old
             → FindsMatch i text.now (list.begun_at o pos) result }
+        ensures easy { IfErr result (IsNoLimitWhereEasy self.old text.now) }
         ensures same { IsSame self.old self.new }
     {
-        let options = self.begun_at(pos);
+        let options = self.begun_at(text, pos);
         find_match(
             self.alloc,
             &self.compiled,
@@ -124,8 +140,9 @@ impl Regex {
     pub fn find<'t>(&mut self, text: &'t str) -> Result<Option<Match<'t>>, Error>
         ensures promise { (i : Input)
             → (o : plain.RunOptions)
-            → IsRegexOf i o self.old
+            → IsRegexOf i text.now o self.old
             → FindsMatch i text.now (list.begun_at o 0) result }
+        ensures easy { IfErr result (IsNoLimitWhereEasy self.old text.now) }
         ensures same { IsSame self.old self.new }
     {
         self.find_from(text, 0)
@@ -135,8 +152,9 @@ impl Regex {
     pub fn is_match(&mut self, text: &str) -> Result<bool, Error>
         ensures promise { (i : Input)
             → (o : plain.RunOptions)
-            → IsRegexOf i o self.old
+            → IsRegexOf i text.now o self.old
             → FindsWhether i text.now (list.begun_at o 0) result }
+        ensures easy { IfErr result (IsNoLimitWhereEasy self.old text.now) }
         ensures same { IsSame self.old self.new }
     {
         match self.find(text) {
@@ -154,19 +172,21 @@ impl Regex {
     ) -> Option<Result<Captures<'t>, Error>>
         ensures list { (i : Input)
             → (o : plain.RunOptions)
-            → IsRegexOf i o self.old
+            → IsRegexOf i text.now o self.old
             → GivesCaptures i text.now o (standing_of standing.old) result (standing_of standing.new) }
         ensures further { IfSome
             result
             (λ item. suc (length text.now) - standing.new.pos
             < suc (length text.now) - standing.old.pos) }
+        ensures easy { IfSome result (λ item. IfErr item (IsNoLimitWhereEasy self.old text.now)) }
         ensures same { IsSame self.old self.new }
     {
+        let options = self.options.for_text(text);
         match next_captures(
             self.alloc,
             &self.compiled,
             text,
-            &self.options,
+            &options,
             standing,
             &mut self.scratch,
         ) {
@@ -188,19 +208,21 @@ impl Regex {
     ) -> Option<Result<Match<'t>, Error>>
         ensures list { (i : Input)
             → (o : plain.RunOptions)
-            → IsRegexOf i o self.old
+            → IsRegexOf i text.now o self.old
             → GivesMatch i text.now o (standing_of standing.old) result (standing_of standing.new) }
         ensures further { IfSome
             result
             (λ item. suc (length text.now) - standing.new.pos
             < suc (length text.now) - standing.old.pos) }
+        ensures easy { IfSome result (λ item. IfErr item (IsNoLimitWhereEasy self.old text.now)) }
         ensures same { IsSame self.old self.new }
     {
+        let options = self.options.for_text(text);
         match next_match(
             self.alloc,
             &self.compiled,
             text,
-            &self.options,
+            &options,
             standing,
             &mut self.scratch,
         ) {
@@ -213,9 +235,10 @@ impl Regex {
         }
     }
 
-    /// All matches, one after the other, each with its groups. The regex is the caller's again once the iterator is gone.
+    /// All matches, one after the other, each with its groups. They do not overlap. The regex is the caller's again once the iterator is gone.
     pub fn captures_iter<'r, 't>(&'r mut self, text: &'t str) -> CaptureMatches<'r, 't>
-        ensures { Begins self.entry text.now (captures_iteration result) }
+        ensures begins { Begins self.entry text.now (captures_iteration result) }
+        ensures apart { AreAllApart self.old text.now }
     {
         CaptureMatches {
             regex: self,
@@ -224,9 +247,11 @@ impl Regex {
         }
     }
 
-    /// All matches, one after the other, without their groups. The regex is the caller's again once the iterator is gone.
+    /// All matches, one after the other, without their groups. They do not overlap. The regex is the caller's again once
+    /// the iterator is gone.
     pub fn find_iter<'r, 't>(&'r mut self, text: &'t str) -> Matches<'r, 't>
-        ensures { Begins self.entry text.now (matches_iteration result) }
+        ensures begins { Begins self.entry text.now (matches_iteration result) }
+        ensures apart { AreAllApart self.old text.now }
     {
         Matches {
             regex: self,

@@ -10,9 +10,8 @@ use Rattle.fancy_meaning.specs.Premises.{Input, IsText, plan}
 use Rattle.fancy_expr.specs.declared.error.Error.{Error}
 use Rattle.fancy_search.specs.Searches.{IsCompiledFrom}
 use Rattle.fancy_vm.specs.Outcomes.{first_pair}
-use Rattle.fancy_vm.specs.Tasks.{options_of as run_options_of}
 use Rattle.fancy_matches.specs.Listing.{AreApart, ComesTo, Standing, all_matches}
-use Rattle.fancy_matches.specs.Regexes.{FailsBy, GivesCaptures, IsRegexOf, captures_text, left_of, numbers_in, standing_of}
+use Rattle.fancy_matches.specs.Regexes.{FailsBy, GivesCaptures, IsRegexOf, captures_text, left_of, numbers_in, options_in, standing_of}
 use Rattle.fancy_matches.specs.declared.found.Captures.{Captures}
 use Rattle.fancy_matches.specs.declared.regexes.Regex.{Regex}
 use Rattle.fancy_matches.proofs.Lists.{matches_apart}
@@ -47,52 +46,52 @@ take_limit-cons (Some (suc n)) m ms some = ap (λ k. m ∷ take k ms) (omega ari
 
 -- what a search answered where the text was gone through so far
 module _ (r : Regex) (s : Cuts) (ahead : IsAhead r s) (found : Option (Result Captures Error)) (t : Standing)
-    (list : (i : Input) (o : plain.RunOptions) → IsRegexOf i o r → GivesCaptures i s.text.now o (standing_of s.standing) found t) where
+    (list : (i : Input) (o : plain.RunOptions) → IsRegexOf i s.text.now o r → GivesCaptures i s.text.now o (standing_of s.standing) found t) where
   abbrev text : List ℕ
   text = s.text.now
 
   module _ (c : Captures) (is : found ≡ Some (Ok c)) where
-    steps : (i : Input) (o : plain.RunOptions) → IsRegexOf i o r → GivesCaptures i text o (standing_of s.standing) (Some (Ok c)) t
+    steps : (i : Input) (o : plain.RunOptions) → IsRegexOf i text o r → GivesCaptures i text o (standing_of s.standing) (Some (Ok c)) t
     steps i o h = subst (λ x. GivesCaptures i text o (standing_of s.standing) x t) is (list i o h)
 
-    numbers_are : (i : Input) (o : plain.RunOptions) (h : IsRegexOf i o r) → (steps i o h).numbers ≡ numbers_in c
+    numbers_are : (i : Input) (o : plain.RunOptions) (h : IsRegexOf i text o r) → (steps i o h).numbers ≡ numbers_in c
     numbers_are i o h = sym (ap (λ (p : List ℕ × List ℕ). p.1) (steps i o h).shows)
 
-    pub next_comes : (i : Input) (o : plain.RunOptions) → IsRegexOf i o r →
+    pub next_comes : (i : Input) (o : plain.RunOptions) → IsRegexOf i text o r →
         ComesTo (plan i) text o (standing_of s.standing) (numbers_in c ∷ []) t
     next_comes i o h =
         subst (λ m. ComesTo (plan i) text o (standing_of s.standing) (m ∷ []) t) (numbers_are i o h) (steps i o h).comes
 
-    pub next_is : (i : Input) (o : plain.RunOptions) → IsRegexOf i o r →
+    pub next_is : (i : Input) (o : plain.RunOptions) → IsRegexOf i text o r →
         left_of i text o (standing_of s.standing) ≡ numbers_in c ∷ left_of i text o t
     next_is i o h = (steps i o h).left ∙ ap (λ m. m ∷ left_of i text o t) (numbers_are i o h)
 
-    pub next_text : (i : Input) (o : plain.RunOptions) → IsRegexOf i o r → captures_text c ≡ text
+    pub next_text : (i : Input) (o : plain.RunOptions) → IsRegexOf i text o r → captures_text c ≡ text
     next_text i o h = ap (λ (p : List ℕ × List ℕ). p.0) (steps i o h).shows
 
-    parts : (i : Input) (o : plain.RunOptions) → IsRegexOf i o r →
+    parts : (i : Input) (o : plain.RunOptions) → IsRegexOf i text o r →
         AreAhead text s.from (first_pair (numbers_in c) ∷ map first_pair (left_of i text o t))
     parts i o h = subst (λ ms. AreAhead text s.from (map first_pair ms)) (next_is i o h) (ahead.spans i o h)
 
-    pub rest_ahead : (i : Input) (o : plain.RunOptions) → IsRegexOf i o r →
+    pub rest_ahead : (i : Input) (o : plain.RunOptions) → IsRegexOf i text o r →
         AreAhead text (first_pair (numbers_in c)).1 (map first_pair (left_of i text o t))
     rest_ahead i o h = (parts i o h).1.1
 
-    of_source : (i : Input) → IsCompiledFrom i r.compiled → IsRegexOf i (run_options_of r.options) r
+    of_source : (i : Input) → IsCompiledFrom i r.compiled → IsRegexOf i text (options_in r text) r
     of_source i compiled = record { compiled = compiled; options = refl }
 
     pub next_begins : s.from ≤ (first_pair (numbers_in c)).0
-    next_begins = ∥∥₁_elim r.source le_prop (λ i. (parts i.0 (run_options_of r.options) (of_source i.0 i.1)).0)
+    next_begins = ∥∥₁_elim r.source le_prop (λ i. (parts i.0 (options_in r text) (of_source i.0 i.1)).0)
 
     pub next_starts_at_place : is_place text (first_pair (numbers_in c)).0 ≡ true
     next_starts_at_place =
-        ∥∥₁_elim r.source (Prim.hlevel props) (λ i. (parts i.0 (run_options_of r.options) (of_source i.0 i.1)).1.0.from)
+        ∥∥₁_elim r.source (Prim.hlevel props) (λ i. (parts i.0 (options_in r text) (of_source i.0 i.1)).1.0.from)
 
     pub next_ends_at_place : is_place text (first_pair (numbers_in c)).1 ≡ true
     next_ends_at_place =
-        ∥∥₁_elim r.source (Prim.hlevel props) (λ i. (parts i.0 (run_options_of r.options) (of_source i.0 i.1)).1.0.to)
+        ∥∥₁_elim r.source (Prim.hlevel props) (λ i. (parts i.0 (options_in r text) (of_source i.0 i.1)).1.0.to)
 
-  module _ (e : Error) (is : found ≡ Some (Err e)) (i : Input) (o : plain.RunOptions) (of : IsRegexOf i o r) where
+  module _ (e : Error) (is : found ≡ Some (Err e)) (i : Input) (o : plain.RunOptions) (of : IsRegexOf i text o r) where
     failed : FailsBy i text o (standing_of s.standing) e × (left_of i text o t ≡ [])
     failed = subst (λ x. GivesCaptures i text o (standing_of s.standing) x t) is (list i o of)
 

@@ -44,7 +44,7 @@ pub record GoesOn (r q : Regex) (text : List ℕ) (most : Option ℕ) (replaceme
   pub same : IsSame r q
   pub within : s.text.now ≡ text
   pub ahead : IsAhead q s
-  pub done : (i : Input) (o : plain.RunOptions) → IsRegexOf i o r → IsDone i o text most replacement s out is_same
+  pub done : (i : Input) (o : plain.RunOptions) → IsRegexOf i text o r → IsDone i o text most replacement s out is_same
 
 less_none : (most : Option ℕ) → most ≡ option_map (λ n. n - 0) most
 less_none None = refl
@@ -171,8 +171,9 @@ module _ (r q p : Regex) (text : List ℕ) (most : Option ℕ) (write : List ℕ
   to : t.text.now ≡ text
   to = next.within ∙ so_far.within
 
-  steps : (x : Result (Option Cut) Error) → found ≡ x → (i : Input) (o : plain.RunOptions) → IsRegexOf i o r → StepsToCut i o s x t
-  steps x is i o of = subst (λ y. StepsToCut i o s y t) is (next.steps i o (of_same r q i o so_far.same of))
+  steps : (x : Result (Option Cut) Error) → found ≡ x → (i : Input) (o : plain.RunOptions) → IsRegexOf i text o r → StepsToCut i o s x t
+  steps x is i o of = subst (λ y. StepsToCut i o s y t) is
+      (next.steps i o (subst (λ u. IsRegexOf i u o q) (sym so_far.within) (of_same r q i text o so_far.same of)))
 
   -- a match, and what is written for it
   pub goes_on : (c : Cut) → found ≡ Ok (Some c) → IsAhead p t → (new : List ℕ) →
@@ -184,11 +185,11 @@ module _ (r q p : Regex) (text : List ℕ) (most : Option ℕ) (write : List ℕ
     done = λ i o of. further i o text most write s t c out is_same so_far.within to (steps _ is i o of) (so_far.done i o of) new e;
   }
 
-  pub next_fails : (e : Error) → found ≡ Err e → (i : Input) (o : plain.RunOptions) → IsRegexOf i o r → FailsAfter i o text most e
+  pub next_fails : (e : Error) → found ≡ Err e → (i : Input) (o : plain.RunOptions) → IsRegexOf i text o r → FailsAfter i o text most e
   next_fails e is i o of = fails_after i o text most (write text) s out is_same e so_far.within (steps _ is i o of) (so_far.done i o of)
 
   -- no match is left
-  module _ (is : found ≡ Ok None) (i : Input) (o : plain.RunOptions) (of : IsRegexOf i o r) where
+  module _ (is : found ≡ Ok None) (i : Input) (o : plain.RunOptions) (of : IsRegexOf i text o r) where
     pub same_text : is_same ≡ true → text ≡ rewrite (write text) text (to_replace i o text most)
     same_text same =
         rewrite-none text (write text) _

@@ -47,10 +47,10 @@ KeepsBefore i o text new =
 -- the regex so.
 pub record IsReplacement (r : Regex) (text : List ℕ) (limit : Option ℕ) (write : List ℕ → List ℕ → List ℕ)
     (result : Result (CowStr Global) Error) (q : Regex) : Type 0 where
-  pub promise : (i : Input) (o : plain.RunOptions) → IsRegexOf i o r → Replaces i o text limit write result
-  pub before : (i : Input) (o : plain.RunOptions) → IsRegexOf i o r →
+  pub promise : (i : Input) (o : plain.RunOptions) → IsRegexOf i text o r → Replaces i o text limit write result
+  pub before : (i : Input) (o : plain.RunOptions) → IsRegexOf i text o r →
       IfOk result (λ v. KeepsBefore i o text (cow_str_bytes v))
   -- each match in its own place leaves the text as it was
-  pub itself : (i : Input) (o : plain.RunOptions) → IsRegexOf i o r → WritesMatch write text →
+  pub itself : (i : Input) (o : plain.RunOptions) → IsRegexOf i text o r → WritesMatch write text →
       IfOk result (λ v. cow_str_bytes v ≡ text)
   pub same : IsSame r q

@@ -41,7 +41,7 @@ module _ (i : Input) (o : plain.RunOptions) where
 
 -- so it steps, whatever its regex was compiled from, and text and regex stay
 pub record NextPiece {P : Type 0} (shown : P → List ℕ) (s : Split) (item : Option (Result P Error)) (t : Split) : Type 0 where
-  pub steps : (i : Input) (o : plain.RunOptions) → IsRegexOf i o (split_regex s).now → StepsToPiece i o shown s item t
+  pub steps : (i : Input) (o : plain.RunOptions) → IsRegexOf i s.cuts.text.now o (split_regex s).now → StepsToPiece i o shown s item t
   pub within : t.cuts.text.now ≡ s.cuts.text.now
   pub regex : IsSameLoan (split_regex s) (split_regex t)
 
@@ -52,7 +52,7 @@ CanGoOn s = IsAhead s.regex.now s.cuts
 -- it holds this regex, over this text, before the first match, and all these pieces are left
 pub record HasPieces (r : MutBor Regex) (text : List ℕ) (all : Input → plain.RunOptions → List (List ℕ)) (s : Split) :
     Type 0 where
-  pub pieces : (i : Input) (o : plain.RunOptions) → IsRegexOf i o r.now → pieces_left i o s ≡ all i o
+  pub pieces : (i : Input) (o : plain.RunOptions) → IsRegexOf i text o r.now → pieces_left i o s ≡ all i o
   pub regex : (split_regex s).now ≡ r.now
   pub name : (split_regex s).ghost_name ≡ r.ghost_name
   pub within : s.cuts.text.now ≡ text
@@ -70,10 +70,10 @@ most_pieces text limit i o = at_most_pieces text limit (all_matches (plan i) tex
 -- these pieces and the matches in turn are the text
 abbrev pub PiecesAndMatchesJoin : Regex → List ℕ → Type 0
 PiecesAndMatchesJoin r text =
-    (i : Input) (o : plain.RunOptions) → IsRegexOf i o r → PiecesJoin text (all_spans (plan i) text o)
+    (i : Input) (o : plain.RunOptions) → IsRegexOf i text o r → PiecesJoin text (all_spans (plan i) text o)
 
 -- and at most so many of them, with the matches between them
 abbrev pub MostPiecesJoin : Regex → List ℕ → ℕ → Type 0
 MostPiecesJoin r text limit =
-    (i : Input) (o : plain.RunOptions) → IsRegexOf i o r → 0 < limit →
+    (i : Input) (o : plain.RunOptions) → IsRegexOf i text o r → 0 < limit →
     in_turn (most_pieces text limit i o) (map (part text) (take (limit - 1) (all_spans (plan i) text o))) ≡ text

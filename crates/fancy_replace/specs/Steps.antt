@@ -65,12 +65,12 @@ IsFurther s found t = Unit {0}
 -- what is left to a regex lies ahead
 pub record IsAhead (r : Regex) (s : Cuts) : Type 0 where
   pub place : IsAtPlace s
-  pub spans : (i : Input) (o : plain.RunOptions) → IsRegexOf i o r →
+  pub spans : (i : Input) (o : plain.RunOptions) → IsRegexOf i s.text.now o r →
       AreAhead s.text.now s.from (map first_pair (all_left i o s))
 
 -- the next match is found by this regex, and text and regex stay
 pub record NextCut (r : Regex) (s : Cuts) (found : Result (Option Cut) Error) (q : Regex) (t : Cuts) : Type 0 where
-  pub steps : (i : Input) (o : plain.RunOptions) → IsRegexOf i o r → StepsToCut i o s found t
+  pub steps : (i : Input) (o : plain.RunOptions) → IsRegexOf i s.text.now o r → StepsToCut i o s found t
   pub within : t.text.now ≡ s.text.now
   pub same : IsSame r q
   pub further : IsFurther s found t

@@ -1,21 +1,30 @@
--- Which of many trees matches first.
-use Rattle.std.specs.Prelude.{◌≡◌, ℕ, suc, nat_lt, List, [], ◌∷◌, map, Option, Some, None, option_map, Result, Ok, Err, if◌then◌else◌}
+-- Which of many trees matches first, and which passed a limit.
+use Rattle.std.specs.Prelude.{◌≡◌, ◌-◌, ◌^◌, ℕ, suc, nat_lt, IsFalse, List, [], ◌∷◌, Option, Some, None, option_map, Result, Ok, Err, if◌then◌else◌}
 use Rattle.fancy_meaning.specs.Answer.{answer, search_of}
+use Rattle.fancy_meaning.specs.Hard.{is_root_hard}
 use Rattle.fancy_meaning.specs.Options as plain
 use Rattle.fancy_meaning.specs.Premises.{Input, plan, IsAccepted}
 use Rattle.fancy_expr.specs.declared.error.Error.{Error}
+use Rattle.fancy_expr.specs.declared.error.Error.TheVariants as error
+use Rattle.fancy_expr.specs.declared.error.RuntimeError.{RuntimeError}
 use Rattle.fancy_vm.specs.Outcomes.{first_pair}
 use Rattle.fancy_search.specs.Searches.{Bounds, Promises, instructions_of}
-use Rattle.fancy_matches.specs.Listing.{begun_at}
-use Rattle.fancy_matches.specs.Regexes.{IsRegexOf, numbers_in, captures_text}
+use Rattle.fancy_matches.specs.Listing.{backtracks_for, begun_at}
+use Rattle.fancy_matches.specs.Regexes.{IsNoLimit, IsRegexOf, numbers_in, captures_text}
 use Rattle.fancy_matches.specs.declared.regexes.Regex.{Regex}
 use Rattle.fancy_scanner.specs.declared.scanner.Scan.{Scan}
+use Rattle.fancy_scanner.specs.declared.scanner.ScanMatch.{ScanMatch}
 use Rattle.fancy_scanner.specs.declared.scanner.Scanner.{Scanner}
+use Rattle.fancy_scanner.specs.declared.scanner.Stopped.{Stopped}
 
 -- a tree with how it was compiled, and how it is searched for
 pub record Rule : Type 0 where
   pub input : Input
   pub options : plain.RunOptions
+
+-- what the search for a rule came to: its answer, or the limit that it passed
+abbrev pub Reply : Type 0
+Reply = Result (Option (List ℕ)) RuntimeError
 
 -- ---- the first of many matches
 
@@ -31,52 +40,91 @@ abbrev pub earlier : RuleMatch → Option RuleMatch → RuleMatch
 earlier found None = found
 earlier found (Some other) = if nat_lt (start_of other) (start_of found) then other else found
 
--- the match that begins first, of equals that of the first rule, where the rules are numbered from n on
-abbrev pub earliest : ℕ → List (Option (List ℕ)) → Option RuleMatch
+-- Of the rules that answered the match that begins first, of equals that of the first rule, where the rules are numbered
+-- from n on.
+abbrev pub earliest : ℕ → List Reply → Option RuleMatch
 earliest n [] = None
-earliest n (None ∷ answers) = earliest (suc n) answers
-earliest n (Some numbers ∷ answers) = Some (earlier (n, numbers) (earliest (suc n) answers))
+earliest n (Ok None ∷ replies) = earliest (suc n) replies
+earliest n (Ok (Some numbers) ∷ replies) = Some (earlier (n, numbers) (earliest (suc n) replies))
+earliest n (Err limit ∷ replies) = earliest (suc n) replies
+
+-- the first rule that passed a limit, with the limit
+abbrev pub first_stopped : ℕ → List Reply → Option (ℕ × RuntimeError)
+first_stopped n [] = None
+first_stopped n (Ok found ∷ replies) = first_stopped (suc n) replies
+first_stopped n (Err limit ∷ replies) = Some (n, limit)
 
 -- ---- the answer
 
--- what a search for the rule answers from this place on
-abbrev pub answer_from : List ℕ → ℕ → Rule → Option (List ℕ)
-answer_from text pos r = answer (search_of (plan r.input) text (begun_at r.options pos))
-
--- what is shown of a match: its rule's number with start and end of each group, and the text
-abbrev pub rule_match : Scan → RuleMatch
+-- a match with its rule's number and start and end of each group, and its text
+abbrev pub rule_match : ScanMatch → RuleMatch
 rule_match s = (s.index, numbers_in s.captures)
 
-abbrev pub scan_view : Scan → List ℕ × RuleMatch
-scan_view s = (captures_text s.captures, rule_match s)
+abbrev pub match_view : ScanMatch → List ℕ × RuleMatch
+match_view s = (captures_text s.captures, rule_match s)
 
 abbrev pub in_text : List ℕ → RuleMatch → List ℕ × RuleMatch
 in_text text found = (text, found)
 
--- each tree is accepted
-abbrev pub AreAccepted : List Rule → Type 0
-AreAccepted [] = Unit {0}
-AreAccepted (r ∷ rules) = IsAccepted r.input (instructions_of r.input) × AreAccepted rules
+abbrev pub stopped_view : Stopped → ℕ × RuntimeError
+stopped_view s = (s.index, s.limit)
 
--- the search for one of the rules answers this error, as is promised, and a limit only below its bound
-pub data FailsForOne (text : List ℕ) (pos : ℕ) (e : Error) : List Rule → Type 0 where
-  here : {r : Rule} {rules : List Rule} → Promises r.input text (begun_at r.options pos) (Err e) →
-      Bounds r.input text (begun_at r.options pos) (Err e) → FailsForOne text pos e (r ∷ rules)
-  later : {r : Rule} {rules : List Rule} → FailsForOne text pos e rules → FailsForOne text pos e (r ∷ rules)
+module _ (text : List ℕ) (pos : ℕ) where
+  -- what a search for the rule answers from this place on
+  abbrev pub answer_from : Rule → Option (List ℕ)
+  answer_from r = answer (search_of (plan r.input) text (begun_at r.options pos))
 
-abbrev pub Scans : List Rule → (text : List ℕ) (pos : ℕ) → Result (Option Scan) Error → Type 0
-Scans rules text pos (Ok found) =
-    AreAccepted rules × (option_map scan_view found ≡ option_map (in_text text) (earliest 0 (map (answer_from text pos) rules)))
-Scans rules text pos (Err e) = FailsForOne text pos e rules
+  -- the search for the rule answers this error, as is promised, and a limit only below its bound
+  abbrev pub MayFail : Rule → Error → Type 0
+  MayFail r e =
+      Promises r.input text (begun_at r.options pos) (Err e) × Bounds r.input text (begun_at r.options pos) (Err e)
+
+  -- it replies so: its tree is accepted, and this is the answer; or it passes the limit
+  abbrev pub Replies : Rule → Reply → Type 0
+  Replies r (Ok found) = IsAccepted r.input (instructions_of r.input) × (found ≡ answer_from r)
+  Replies r (Err limit) = MayFail r (error.RuntimeError limit)
+
+  -- each of the rules does
+  abbrev pub EachReplies : List Rule → List Reply → Type 0
+  EachReplies [] [] = Unit {0}
+  EachReplies [] (reply ∷ replies) = ⊥
+  EachReplies (r ∷ rules) [] = ⊥
+  EachReplies (r ∷ rules) (reply ∷ replies) = Replies r reply × EachReplies rules replies
+
+  -- one of them answers this error
+  pub data FailsForOne (e : Error) : List Rule → Type 0 where
+    here : {r : Rule} {rules : List Rule} → MayFail r e → FailsForOne e (r ∷ rules)
+    later : {r : Rule} {rules : List Rule} → FailsForOne e rules → FailsForOne e (r ∷ rules)
+
+  -- Each rule replied, and this tells the match that begins first, and the first rule that passed a limit; or the search
+  -- for one of them answers this error, which is no limit.
+  abbrev pub Scans : List Rule → Result Scan Error → Type 0
+  Scans rules (Ok scan) =
+      (replies : List Reply) × EachReplies rules replies
+      × (option_map match_view scan.found ≡ option_map (in_text text) (earliest 0 replies))
+      × (option_map stopped_view scan.stopped ≡ first_stopped 0 replies)
+  Scans rules (Err e) = FailsForOne e rules × IsNoLimit e
+
+-- ---- where no limit was asked
+
+-- the whole tree of the rule is easy, and no limit was asked of its searches of this text
+pub record IsEasy (text : List ℕ) (r : Rule) : Type 0 where
+  pub tree : IsFalse (is_root_hard (plan r.input).analysis)
+  pub backtracks : (r.options).backtrack_limit ≡ backtracks_for None text
+  pub steps : (r.options).step_limit ≡ 2 ^ 64 - 1
+
+abbrev pub AreEasy : List ℕ → List Rule → Type 0
+AreEasy text [] = Unit {0}
+AreEasy text (r ∷ rules) = IsEasy text r × AreEasy text rules
 
 -- ---- a scanner
 
--- they were compiled from the trees of these rules, one by one
-abbrev pub AreRegexesOf : List Rule → List Regex → Type 0
-AreRegexesOf [] [] = Unit {0}
-AreRegexesOf [] (x ∷ xs) = ⊥
-AreRegexesOf (r ∷ rules) [] = ⊥
-AreRegexesOf (r ∷ rules) (x ∷ xs) = IsRegexOf r.input r.options x × AreRegexesOf rules xs
+-- they were compiled from the trees of these rules, one by one, and their searches of this text have these options
+abbrev pub AreRegexesOf : List Rule → List ℕ → List Regex → Type 0
+AreRegexesOf [] text [] = Unit {0}
+AreRegexesOf [] text (x ∷ xs) = ⊥
+AreRegexesOf (r ∷ rules) text [] = ⊥
+AreRegexesOf (r ∷ rules) text (x ∷ xs) = IsRegexOf r.input text r.options x × AreRegexesOf rules text xs
 
-abbrev pub IsScannerOf : List Rule → Scanner → Type 0
-IsScannerOf rules s = AreRegexesOf rules s.regexes.items
+abbrev pub IsScannerOf : List Rule → List ℕ → Scanner → Type 0
+IsScannerOf rules text s = AreRegexesOf rules text s.regexes.items

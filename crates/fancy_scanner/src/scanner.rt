@@ -1,27 +1,46 @@
 //! Trees that are searched for together.
 
-ghost use Rattle.std.specs.Prelude.{◌≡◌, ◌++◌, ◌∷◌, [], ℕ, IfErr, IsTrue, List, OnOk, Option, option_map};
+ghost use Rattle.std.specs.Prelude.{◌≡◌, ◌++◌, ◌∷◌, ◌<◌, ◌^◌, [], ℕ, IfErr, IfOk, IsTrue, List, MatchOption, None, OnOk, Option, length, option_map};
 ghost use Rattle.fancy_meaning.specs.Options as plain;
 ghost use Rattle.fancy_meaning.specs.Places as places;
 ghost use Rattle.fancy_meaning.specs.Premises.{Input};
-ghost use Rattle.fancy_matches.specs.Regexes.{IsRegexOf, captures_text};
+ghost use Rattle.fancy_expr.specs.declared.error.Error.TheVariants as errors;
+ghost use Rattle.fancy_matches.specs.Regexes.{IsNoLimit, IsRegexOf, captures_text};
 ghost use Rattle.fancy_scanner.specs.Scanning as scanning;
-ghost use Rattle.fancy_scanner.specs.Scanning.{IsScannerOf, RuleMatch, Rule, Scans, in_text, rule_match, scan_view, start_of};
+ghost use Rattle.fancy_scanner.specs.Scanning.{AreEasy, IsScannerOf, RuleMatch, Rule, Scans, in_text, match_view, rule_match, start_of};
 
-use fancy_expr::error::Error;
+use fancy_expr::error::{Error, RuntimeError};
 use fancy_matches::found::Captures;
 use fancy_matches::regexes::Regex;
 use std::alloc::{AllocError, Global};
 
 /// A match of one of the trees.
 #[derive(Drop)]
-pub struct Scan<'t> {
+pub struct ScanMatch<'t> {
     /// Which tree it is of: how many were added before it.
     pub index: usize,
     pub captures: Captures<'t>,
 }
 
-impl Scan<'_> {
+/// A tree whose search passed a limit: whether it has a match is not known.
+#[derive(Clone, Copy, Debug, Drop)]
+pub struct Stopped {
+    /// Which tree it is: how many were added before it.
+    pub index: usize,
+    pub limit: RuntimeError,
+}
+
+/// What the searches for all trees came to.
+#[derive(Drop)]
+pub struct Scan<'t> {
+    /// The match that begins first, of the first matches of the trees that answered; of several that begin there that of
+    /// the tree that was added first.
+    pub found: Option<ScanMatch<'t>>,
+    /// The first tree whose search passed a limit, if there is one.
+    pub stopped: Option<Stopped>,
+}
+
+impl ScanMatch<'_> {
     /// Where the match begins, in bytes of the text.
     fn start(&self) -> usize
         ensures { result ≡ start_of (rule_match self.now) }
@@ -39,7 +58,7 @@ pub struct Scanner {
 impl Scanner {
     /// No tree yet, and no memory.
     pub fn new(alloc: Global) -> Scanner
-        ensures { IsScannerOf [] result }
+        ensures { (text : List ℕ) → IsScannerOf [] text result }
     {
         Scanner {
             regexes: Vec::new(alloc),
@@ -48,11 +67,12 @@ impl Scanner {
 
     /// One more tree, after the others. The only error is want of memory, which leaves the scanner as it was.
     pub fn add(&mut self, regex: Regex) -> Result<(), AllocError>
-        ensures ok { OnOk result ((rules : List Rule) (i : Input) (o : plain.RunOptions)
-            → IsScannerOf rules self.old → IsRegexOf i o regex
-            → IsScannerOf (rules ++ record { input = i; options = o } ∷ []) self.new) }
-        ensures err { IfErr result (λ _. (rules : List Rule)
-            → IsScannerOf rules self.old → IsScannerOf rules self.new) }
+        ensures ok { OnOk result ((text : List ℕ) (rules : List Rule) (i : Input)
+            (o : plain.RunOptions)
+            → IsScannerOf rules text self.old → IsRegexOf i text o regex
+            → IsScannerOf (rules ++ record { input = i; options = o } ∷ []) text self.new) }
+        ensures err { IfErr result (λ _. (text : List ℕ) (rules : List Rule)
+            → IsScannerOf rules text self.old → IsScannerOf rules text self.new) }
     {
         self.regexes.push(regex)?;
         Ok(())
@@ -61,33 +81,57 @@ impl Scanner {
     /// The match that begins first, of the first matches of all trees from this place on, a byte of the text; of several
     /// that begin there that of the tree that was added first.
     ///
-    /// A limit that the search of a tree passes is answered by its name, whatever the other trees match; want of memory is
-    /// `Error::Memory`. Each tree is searched for once, as far as the text goes.
-    pub fn find_from<'t>(&mut self, text: &'t str, pos: usize) -> Result<Option<Scan<'t>>, Error>
+    /// A tree whose search passes a limit does not hide the matches of the others: the first such tree is told beside
+    /// them. Want of memory is `Error::Memory`. Each tree is searched for once, as far as the text goes.
+    pub fn find_from<'t>(&mut self, text: &'t str, pos: usize) -> Result<Scan<'t>, Error>
         requires { IsTrue (places.is_place text.now pos) }
         ensures promise { (rules : List Rule)
-            → IsScannerOf rules self.old → Scans rules text.now pos result }
-        ensures same { (rules : List Rule)
-            → IsScannerOf rules self.old → IsScannerOf rules self.new }
+            → IsScannerOf rules text.now self.old → Scans text.now pos rules result }
+        ensures easy { (rules : List Rule)
+            → IsScannerOf rules text.now self.old → AreEasy text.now rules
+            → length text.now < 2 ^ 60 → IfOk result (λ scan. scan.stopped ≡ None) }
+        ensures same { (t : List ℕ) (rules : List Rule)
+            → IsScannerOf rules t self.old → IsScannerOf rules t self.new }
     {
-        let mut first = None;
+        let mut found = None;
+        let mut stopped = None;
         let mut index = self.regexes.len();
         'trees: while index > 0 {
             index -= 1;
-            if let Some(captures) = self.regexes[index].captures_from(text, pos)? {
-                first = Some(earlier(Scan { index, captures }, first));
+            match self.regexes[index].captures_from(text, pos) {
+                Ok(None) => {}
+                Ok(Some(captures)) => found = Some(earlier(ScanMatch { index, captures }, found)),
+                Err(error) => match limit_of(&error) {
+                    Some(limit) => stopped = Some(Stopped { index, limit }),
+                    None => return Err(error),
+                },
             }
         }
-        Ok(first)
+        Ok(Scan { found, stopped })
+    }
+}
+
+/// The limit that was passed, if the error is one.
+fn limit_of(error: &Error) -> Option<RuntimeError>
+    ensures { MatchOption
+        result
+        (IsNoLimit error.now)
+        (λ limit. error.now ≡ errors.RuntimeError limit) }
+{
+    match error {
+        Error::RuntimeError(limit) => Some(*limit),
+        Error::Memory => None,
+        Error::CompileError(_) => None,
+        Error::TreeFault { .. } => None,
     }
 }
 
 /// Of two matches the one that begins first, and of equals the first one.
-fn earlier<'t>(scan: Scan<'t>, later: Option<Scan<'t>>) -> Scan<'t>
+fn earlier<'t>(scan: ScanMatch<'t>, later: Option<ScanMatch<'t>>) -> ScanMatch<'t>
     ensures { (text : List ℕ) (found : Option RuleMatch)
         → captures_text scan.entry.captures ≡ text
-        → option_map scan_view later.entry ≡ option_map (in_text text) found
-        → scan_view result ≡ in_text text (scanning.earlier (rule_match scan.entry) found) }
+        → option_map match_view later.entry ≡ option_map (in_text text) found
+        → match_view result ≡ in_text text (scanning.earlier (rule_match scan.entry) found) }
 {
     match later {
         Some(other) => {

@@ -6,7 +6,6 @@ use fancy_matches::regexes::Regex;
 use fancy_regex_engine::arguments::read_arguments;
 use fancy_regex_engine::error::Error;
 use fancy_regex_engine::expr::read_tree;
-use fancy_regex_engine::search::SearchOptions;
 use fancy_replace::split::{split, splitn};
 use fancy_tables::columns::{number, split as columns, with_line_ends, words_of, written_out};
 use fancy_tables::lists::{close, push_group, push_none, push_span};
@@ -15,25 +14,18 @@ use std::alloc::{AllocError, Global};
 /// The most groups that are printed.
 const MOST_GROUPS: usize = 10;
 
-/// The options that the words ask for; none where they ask nothing that fits.
-fn options(alloc: Global, words: &str) -> Result<Option<SearchOptions>, AllocError> {
-    let words = words_of(alloc, words)?;
-    match read_arguments(&words) {
-        Some(arguments) => Ok(Some(arguments.options())),
-        None => Ok(None),
-    }
-}
-
 /// The regex of a tree by these words.
 pub fn regex(alloc: Global, tree: &str, words: &str) -> Result<Regex, Error> {
-    let Some(options) = options(alloc, words)? else {
+    let words = words_of(alloc, words)?;
+    let Some(arguments) = read_arguments(&words) else {
         return Err(Error::TreeFault { at: 0 });
     };
+    let options = arguments.options();
     if !options.fits("") {
         return Err(Error::TreeFault { at: 0 });
     }
     let tree = read_tree(alloc, tree)?;
-    Regex::new(alloc, &tree, &options)
+    Regex::new(alloc, &tree, &options, arguments.backtracks)
 }
 
 /// A match with its groups that are set on the line, and alone among the spans.

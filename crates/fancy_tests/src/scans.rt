@@ -3,10 +3,10 @@
 use crate::lists::regex;
 use fancy_characters::places::is_place;
 use fancy_regex_engine::error::Error;
-use fancy_scanner::scanner::Scanner;
+use fancy_scanner::scanner::{Scanner, Stopped};
 use fancy_tables::columns::{split as columns, with_line_ends};
-use fancy_tables::lists::{past, push_none, push_numbered};
-use std::alloc::Global;
+use fancy_tables::lists::{past, push_comma, push_none, push_numbered};
+use std::alloc::{AllocError, Global};
 
 /// Adds the trees with ` ; ` between them.
 fn add_trees(scanner: &mut Scanner, alloc: Global, trees: &str) -> Result<(), Error> {
@@ -16,8 +16,15 @@ fn add_trees(scanner: &mut Scanner, alloc: Global, trees: &str) -> Result<(), Er
     Ok(())
 }
 
-/// The match from here on, if this is a place of the text, with the number of its tree; answers where the scan goes on,
-/// which is past every text where there is none.
+/// A limit that a tree passed, with the number of the tree.
+fn push_stopped(line: &mut String, stopped: &Stopped) -> Result<(), AllocError> {
+    let (index, limit) = (stopped.index, stopped.limit);
+    push_comma(line)?;
+    write!(line, "{index}:{limit:?}")
+}
+
+/// The match from here on, if this is a place of the text, with the number of its tree, behind a limit that a tree passed;
+/// answers where the scan goes on, which is past every text where there is none.
 fn push_next(
     line: &mut String,
     scanner: &mut Scanner,
@@ -27,11 +34,15 @@ fn push_next(
     if !is_place(text.as_bytes(), pos) {
         return Ok(pos.saturating_add(1));
     }
-    let Some(scan) = scanner.find_from(text, pos)? else {
+    let scan = scanner.find_from(text, pos)?;
+    if let Some(stopped) = &scan.stopped {
+        push_stopped(line, stopped)?;
+    }
+    let Some(first) = scan.found else {
         return Ok(usize::MAX);
     };
-    let found = scan.captures.whole();
-    push_numbered(line, scan.index, found.start(), found.end())?;
+    let found = first.captures.whole();
+    push_numbered(line, first.index, found.start(), found.end())?;
     Ok(past(found.start(), found.end()))
 }
 

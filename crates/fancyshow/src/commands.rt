@@ -165,7 +165,7 @@ const ARGUMENTS: [(&str, Takes, Kind, &str); 20] = [
         "backtracks",
         Takes::Text,
         Kind::Number,
-        "At most so many backtracks [1000000 if left out]",
+        "At most so many backtracks [if left out 1000000, and one more for each start]",
     ),
     (
         "steps",

@@ -25,7 +25,7 @@ fn regex(alloc: Global, request: &Request, tree: &ExprTree) -> Result<Regex, Tro
     if !options.fits("") {
         return Err(Trouble::Words(String::from_str(alloc, "these options do not fit together")?));
     }
-    match Regex::new(alloc, tree, &options) {
+    match Regex::new(alloc, tree, &options, request.arguments.backtracks) {
         Ok(regex) => Ok(regex),
         Err(error) => Err(refusal(alloc, request.source.as_str(), &error)),
     }

@@ -1,13 +1,13 @@
-use Rattle.std.proofs.Common.{◌<◌, ◌+◌, length, Some, refl, ap, ◌∙◌, arith}
+use Rattle.std.proofs.Common.{◌<◌, ◌+◌, length, IfErr, IfSome, Some, refl, ap, ◌∙◌, subst, arith}
 use Rattle.std.proofs.lemmas.Result.{err_from_is_err_and}
 use Rattle.fancy_meaning.specs.Numbers.{usize_max}
-use Rattle.fancy_matches.specs.Regexes.{matches_iteration}
-use Rattle.fancy_matches.proofs.Counting.{all_counted, count_fails, fits, goes_on, none_counted}
+use Rattle.fancy_matches.specs.Regexes.{IsNoLimitWhereEasy, matches_iteration}
+use Rattle.fancy_matches.proofs.Counting.{all_counted, count_easy, count_fails, fits, goes_on, none_counted}
 use Rattle.fancy_matches.proofs.count.count_matches.Goals as goal
 
 pub matches-init : goal.matches-init
 matches-init c =
-    let begins = c.find_iter-matches.ensures in (
+    let begins = c.find_iter-matches.ensures.begins in (
       none_counted c.args.regex.now c.args.text.now (matches_iteration c.find_iter-matches.result) begins.regex begins.within begins.first,
       refl,
     )
@@ -21,6 +21,17 @@ returns-in_err-found-clause-count c i o h =
     (count_fails c.args.regex.now text (record { utf8 = c.utf8.text; fits = small }) c.matches.count (matches_iteration c.matches.matches)
     (matches_iteration c.next.new.self) c.matches.invariant.0 c.next.result c.next.ensures.steps.gives c.in_err-found.field-0.0
     (c.in-Some.is ∙ ap Some c.in_err-found.was) i o h)
+
+pub returns-in_err-found-clause-easy : goal.returns-in_err-found-clause-easy
+returns-in_err-found-clause-easy c =
+    let text = c.args.text.now in
+    let small : length text < usize_max = omega arith in
+    let p = err_from_is_err_and c.from_residual.result c.from_residual.ensures.1 in
+    rw (p.1, p.2)
+    (count_easy c.args.regex.now text (record { utf8 = c.utf8.text; fits = small }) c.matches.count (matches_iteration c.matches.matches)
+    (matches_iteration c.next.new.self) c.matches.invariant.0 c.next.result c.next.ensures.steps.gives c.in_err-found.field-0.0
+    (subst (λ x. IfSome x (λ y. IfErr y (IsNoLimitWhereEasy c.matches.matches.regex.now c.matches.matches.text.now)))
+    (c.in-Some.is ∙ ap Some c.in_err-found.was) c.next.ensures.steps.easy))
 
 pub overflow_add-count : goal.overflow_add-count
 overflow_add-count c =

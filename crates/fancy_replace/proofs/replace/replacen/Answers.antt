@@ -63,7 +63,7 @@ returns g c =
     let write = g.R.Replacer.replacement_text c.args.replacement.now in
     let small : length text < usize_max = omega arith in
     let is : IsText text = record { utf8 = c.utf8.text; fits = small } in
-    let value = λ (i : Input) (o : plain.RunOptions) (h : IsRegexOf i o c.args.regex.now).
+    let value = λ (i : Input) (o : plain.RunOptions) (h : IsRegexOf i text o c.args.regex.now).
     new_text c.args.regex.now l.regex c.next.new.regex text limit write l.cuts c.next.new.self (string_bytes l.out) l.is_same l.invariant
     c.next.result c.next.ensures.next was i o h (string_bytes c.push_str.new.self) c.rest.result.now c.in_ok-push_str.ensures.bytes
     c.rest.ensures in

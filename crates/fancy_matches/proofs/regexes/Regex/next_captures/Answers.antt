@@ -1,21 +1,28 @@
 use Rattle.std.proofs.Common.{◌<◌, length, Some, Ok, Err, ap, ◌∙◌, sym, subst, arith}
 use Rattle.fancy_meaning.specs.Numbers.{usize_max}
+use Rattle.fancy_search.specs.Searches.{program}
+use Rattle.fancy_vm.specs.Tasks.{options_of as run_options_of}
 use Rattle.fancy_matches.specs.Regexes.{GivesBy, shown_captures, with_numbers, standing_of}
-use Rattle.fancy_matches.proofs.Stepping.{error_within, gives_error, gives_none, gives_some}
+use Rattle.fancy_matches.proofs.Searching.{fits_listed}
+use Rattle.fancy_matches.proofs.Stepping.{easy_step, error_within, gives_error, gives_none, gives_some}
 use Rattle.fancy_matches.proofs.regexes.Regex.next_captures.Goals as goal
 
 pub returns-in-Ok-None-clause-list : goal.returns-in-Ok-None-clause-list
 returns-in-Ok-None-clause-list c =
     let text = c.args.text.now in
     let small : length text < usize_max = omega arith in
-    gives_none shown_captures (with_numbers text) c.args.self.now text (record { utf8 = c.utf8.text; fits = small }) (standing_of c.args.standing.now)
+    gives_none shown_captures (with_numbers text) c.args.self.now text (record { utf8 = c.utf8.text; fits = small })
+    (run_options_of c.for_text-options.result) c.for_text-options.ensures
+    (standing_of c.args.standing.now)
     (standing_of c.next_captures.new.standing) c.next_captures.result c.next_captures.ensures.steps (c.in-Ok-None.is ∙ ap Ok c.in-Ok-None.field-0-is)
 
 pub returns-in-Ok-Some-clause-list : goal.returns-in-Ok-Some-clause-list
 returns-in-Ok-Some-clause-list c =
     let text = c.args.text.now in
     let small : length text < usize_max = omega arith in
-    gives_some shown_captures (with_numbers text) c.args.self.now text (record { utf8 = c.utf8.text; fits = small }) (standing_of c.args.standing.now)
+    gives_some shown_captures (with_numbers text) c.args.self.now text (record { utf8 = c.utf8.text; fits = small })
+    (run_options_of c.for_text-options.result) c.for_text-options.ensures
+    (standing_of c.args.standing.now)
     (standing_of c.next_captures.new.standing) c.next_captures.result c.next_captures.ensures.steps c.in-Ok-Some.captures
     (c.in-Ok-Some.is ∙ ap Ok c.in-Ok-Some.field-0-is)
 
@@ -25,7 +32,8 @@ returns-in-Err-clause-list c i o h =
     let small : length text < usize_max = omega arith in
     let from = standing_of c.args.standing.now in
     subst (GivesBy i text o shown_captures (with_numbers text) from (Some (Err c.in-Err.error))) (sym c.end.ensures)
-    (gives_error shown_captures (with_numbers text) c.args.self.now text (record { utf8 = c.utf8.text; fits = small }) from
+    (gives_error shown_captures (with_numbers text) c.args.self.now text (record { utf8 = c.utf8.text; fits = small })
+    (run_options_of c.for_text-options.result) c.for_text-options.ensures from
     (standing_of c.next_captures.new.standing) c.next_captures.result c.next_captures.ensures.steps c.in-Err.error c.in-Err.is i o h)
 
 pub returns-in-Err-clause-further : goal.returns-in-Err-clause-further
@@ -33,7 +41,23 @@ returns-in-Err-clause-further c =
     let regex = c.args.self.now in
     let text = c.args.text.now in
     let small : length text < usize_max = omega arith in
-    let within = error_within shown_captures (with_numbers text) regex text (record { utf8 = c.utf8.text; fits = small }) (standing_of c.args.standing.now)
+    let within = error_within shown_captures (with_numbers text) regex text (record { utf8 = c.utf8.text; fits = small })
+    (run_options_of c.for_text-options.result) c.for_text-options.ensures
+    (standing_of c.args.standing.now)
     (standing_of c.next_captures.new.standing) c.next_captures.result c.next_captures.ensures.steps regex.source c.in-Err.error c.in-Err.is in
     let ends = ap (λ s. s.pos) c.end.ensures in
     omega (arith, within, ends, small)
+
+pub returns-in-Err-clause-easy : goal.returns-in-Err-clause-easy
+returns-in-Err-clause-easy c =
+    let text = c.args.text.now in
+    let small : length text < usize_max = omega arith in
+    easy_step shown_captures (with_numbers text) c.args.self.now text (record { utf8 = c.utf8.text; fits = small })
+    (run_options_of c.for_text-options.result) c.for_text-options.ensures (standing_of c.args.standing.now)
+    (standing_of c.next_captures.new.standing) c.next_captures.result c.next_captures.ensures.steps c.in-Err.error c.in-Err.is
+
+pub next_captures-requires-clause-fits : goal.next_captures-requires-clause-fits
+next_captures-requires-clause-fits c =
+    let regex = c.args.self.now in
+    fits_listed (program regex.compiled) regex.options.run c.for_text-options.result regex.options.backtrack_limit c.args.text.now regex.fits
+    c.for_text-options.ensures

@@ -51,7 +51,8 @@ returns-in-Some-Err-clause-ahead c =
       place = c.requires.place;
       spans = λ i o h.
           none_ahead r c.args.self.now c.requires c.next_captures.result (standing_of c.next_captures.new.standing) c.next_captures.ensures.list
-          c.in-Some-Err.error was i o (of_same c.next_captures.new.self r i o (sym c.next_captures.ensures.same.0, sym c.next_captures.ensures.same.1) h);
+          c.in-Some-Err.error was i o
+          (of_same c.next_captures.new.self r i c.args.self.now.text.now o (sym c.next_captures.ensures.same.0, sym c.next_captures.ensures.same.1) h);
     }
 
 pub returns-in-Some-Ok-clause-next : goal.returns-in-Some-Ok-clause-next
@@ -90,5 +91,5 @@ returns-in-Some-Ok-clause-ahead c =
       spans = λ i o h.
           subst (λ n. AreAhead s.text.now n (map first_pair (left_of i s.text.now o to))) (sym ends)
           (rest_ahead r s c.requires c.next_captures.result to c.next_captures.ensures.list c.in-Some-Ok.captures was i o
-          (of_same c.next_captures.new.self r i o (sym c.next_captures.ensures.same.0, sym c.next_captures.ensures.same.1) h));
+          (of_same c.next_captures.new.self r i c.args.self.now.text.now o (sym c.next_captures.ensures.same.0, sym c.next_captures.ensures.same.1) h));
     }

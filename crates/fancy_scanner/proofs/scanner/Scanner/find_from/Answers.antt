@@ -1,8 +1,8 @@
-use Rattle.std.proofs.Common.{◌≡◌, ◌-◌, length, Ok, ◌∙◌, subst, arith}
-use Rattle.std.proofs.lemmas.Result.{err_from_is_err_and}
+use Rattle.std.proofs.Common.{◌≡◌, ◌-◌, length, Ok, Err, refl, ap, ◌∙◌, subst, arith}
 use Rattle.fancy_matches.specs.Listing.{begun_at}
 use Rattle.fancy_matches.specs.Regexes.{FindsCaptures}
-use Rattle.fancy_scanner.proofs.Rules.{IsFirstFrom, back_past_none, back_past_some, scan_of_none, fails_at, rule_at, same_put, tree_before}
+use Rattle.fancy_scanner.specs.Scanning.{MayFail}
+use Rattle.fancy_scanner.proofs.Rules.{IsScanFrom, back_past_limit, back_past_none, back_past_some, easy_never_stops, fails_at, rule_at, same_put, scan_of_none, tree_before}
 use Rattle.fancy_scanner.proofs.scanner.Scanner.find_from.Goals as goal
 
 pub trees-init : goal.trees-init
@@ -11,40 +11,55 @@ trees-init c =
     let all : c.len-index.result ≡ length v.items = c.len-index.ensures ∙ v.ok.0 in
     record {
       within = omega (arith, all);
-      same = λ rules h. h;
+      same = λ t rules h. h;
       scanned = λ rules h. scan_of_none c.args.text.now c.args.pos rules v.items c.len-index.result h all;
     }
 
 pub index_mut-requires : goal.index_mut-requires
 index_mut-requires c = omega (arith, c.trees.invariant.within, c.trees-test.true, c.trees.self.regexes.ok.0)
 
-pub returns-in_err-captures-clause-promise : goal.returns-in_err-captures-clause-promise
-returns-in_err-captures-clause-promise c = λ rules h.
+pub returns-in-None-clause-promise : goal.returns-in-None-clause-promise
+returns-in-None-clause-promise c = λ rules h.
     let i = c.trees.invariant in
+    let text = c.args.text.now in
+    let pos = c.args.pos in
     let k = c.trees.index - 1 in
-    let at = rule_at rules c.trees.self.regexes.items k c.index_mut.result.now (i.same rules h) (omega (arith, i.within, c.trees-test.true))
-    c.index_mut.ensures.value in
-    let p = err_from_is_err_and c.from_residual.result c.from_residual.ensures.1 in
-    rw (p.1, p.2)
-    (fails_at c.args.text.now c.args.pos c.in_err-captures.field-0.0 rules k c.index_mut.result.now at
-    (c.in_err-captures.ensures.promise (at.rule).input (at.rule).options at.of))
+    let x = c.index_mut.result.now in
+    let at = rule_at text rules c.trees.self.regexes.items k x (i.same text rules h) (omega (arith, i.within, c.trees-test.true)) c.index_mut.ensures.value in (
+      fails_at text pos c.in-Err.error rules k x at
+          (subst (FindsCaptures (at.rule).input text (begun_at (at.rule).options pos)) c.in-Err.is
+          (c.captures_from.ensures.promise (at.rule).input (at.rule).options at.of)),
+      c.in-None.ensures,
+    )
 
-pub returns-in_err-captures-clause-same : goal.returns-in_err-captures-clause-same
-returns-in_err-captures-clause-same c = λ rules h.
-    same_put rules c.trees.self.regexes.items (c.trees.index - 1) c.index_mut.result.now c.captures_from.new.self (c.trees.invariant.same rules h)
+pub returns-in-None-clause-same : goal.returns-in-None-clause-same
+returns-in-None-clause-same c = λ t rules h.
+    same_put t rules c.trees.self.regexes.items (c.trees.index - 1) c.index_mut.result.now c.captures_from.new.self (c.trees.invariant.same t rules h)
     c.index_mut.ensures.value c.captures_from.ensures.same
 
-pub trees-preserved-in-Some : goal.trees-preserved-in-Some
-trees-preserved-in-Some c =
+pub trees-preserved-in-Ok-None : goal.trees-preserved-in-Ok-None
+trees-preserved-in-Ok-None c =
     let text = c.args.text.now in
     let pos = c.args.pos in
     let x = c.index_mut.result.now in
-    tree_before text pos c.args.self.now.regexes.items c.trees.self.regexes.items c.trees.index c.trees.first _ x c.captures_from.new.self
-    c.trees.invariant c.trees-test.true c.index_mut.ensures.value c.captures_from.ensures.same
+    tree_before text pos c.args.self.now.regexes.items c.trees.self.regexes.items c.trees.index c.trees.found _ c.trees.stopped _ x
+    c.captures_from.new.self c.trees.invariant c.trees-test.true c.index_mut.ensures.value c.captures_from.ensures.same
     (λ rules at scanned.
-    back_past_some text pos rules (c.trees.index - 1) x at c.trees.first scanned c.in-Some.captures c.earlier.result
-    (subst (λ found. FindsCaptures (at.rule).input text (begun_at (at.rule).options pos) (Ok found)) c.in-Some.is
-    (c.in_ok-captures.ensures.promise (at.rule).input (at.rule).options at.of))
+    back_past_none text pos rules (c.trees.index - 1) x at c.trees.found c.trees.stopped scanned
+    (subst (FindsCaptures (at.rule).input text (begun_at (at.rule).options pos)) (c.in-Ok-None.is ∙ ap Ok c.in-Ok-None.field-0-is)
+    (c.captures_from.ensures.promise (at.rule).input (at.rule).options at.of)))
+
+pub trees-preserved-in-Ok-Some : goal.trees-preserved-in-Ok-Some
+trees-preserved-in-Ok-Some c =
+    let text = c.args.text.now in
+    let pos = c.args.pos in
+    let x = c.index_mut.result.now in
+    tree_before text pos c.args.self.now.regexes.items c.trees.self.regexes.items c.trees.index c.trees.found _ c.trees.stopped _ x
+    c.captures_from.new.self c.trees.invariant c.trees-test.true c.index_mut.ensures.value c.captures_from.ensures.same
+    (λ rules at scanned.
+    back_past_some text pos rules (c.trees.index - 1) x at c.trees.found c.trees.stopped scanned c.in-Ok-Some.captures c.earlier.result
+    (subst (FindsCaptures (at.rule).input text (begun_at (at.rule).options pos)) (c.in-Ok-Some.is ∙ ap Ok c.in-Ok-Some.field-0-is)
+    (c.captures_from.ensures.promise (at.rule).input (at.rule).options at.of))
     (λ found within before. c.earlier.ensures text found within before))
 
 pub trees-preserved : goal.trees-preserved
@@ -52,18 +67,25 @@ trees-preserved c =
     let text = c.args.text.now in
     let pos = c.args.pos in
     let x = c.index_mut.result.now in
-    tree_before text pos c.args.self.now.regexes.items c.trees.self.regexes.items c.trees.index c.trees.first _ x c.captures_from.new.self
-    c.trees.invariant c.trees-test.true c.index_mut.ensures.value c.captures_from.ensures.same
+    tree_before text pos c.args.self.now.regexes.items c.trees.self.regexes.items c.trees.index c.trees.found _ c.trees.stopped _ x
+    c.captures_from.new.self c.trees.invariant c.trees-test.true c.index_mut.ensures.value c.captures_from.ensures.same
     (λ rules at scanned.
-    back_past_none text pos rules (c.trees.index - 1) x at c.trees.first scanned
-    (subst (λ found. FindsCaptures (at.rule).input text (begun_at (at.rule).options pos) (Ok found)) c.in_default.is
-    (c.in_ok-captures.ensures.promise (at.rule).input (at.rule).options at.of)))
+    back_past_limit text pos rules (c.trees.index - 1) x at c.trees.found c.trees.stopped scanned c.in-Some.limit _
+    (subst (MayFail text pos at.rule) c.in-Some.ensures
+    (subst (FindsCaptures (at.rule).input text (begun_at (at.rule).options pos)) c.in-Err.is
+    (c.captures_from.ensures.promise (at.rule).input (at.rule).options at.of))) refl)
 
 pub returns-clause-promise : goal.returns-clause-promise
 returns-clause-promise c = λ rules h.
     let none : c.trees.index ≡ 0 = omega (arith, c.trees-test.false) in
-    let all = subst (λ n. IsFirstFrom c.args.text.now c.args.pos rules n c.trees.first) none (c.trees.invariant.scanned rules h) in
-    (all.accepted, all.first)
+    let all = subst (λ n. IsScanFrom c.args.text.now c.args.pos rules n c.trees.found c.trees.stopped) none (c.trees.invariant.scanned rules h) in
+    (all.replies, all.each, all.first, all.stops)
+
+pub returns-clause-easy : goal.returns-clause-easy
+returns-clause-easy c = λ rules h easy small.
+    let none : c.trees.index ≡ 0 = omega (arith, c.trees-test.false) in
+    easy_never_stops c.args.text.now c.args.pos rules c.trees.found c.trees.stopped small easy
+    (subst (λ n. IsScanFrom c.args.text.now c.args.pos rules n c.trees.found c.trees.stopped) none (c.trees.invariant.scanned rules h))
 
 pub returns-clause-same : goal.returns-clause-same
-returns-clause-same c = λ rules h. c.trees.invariant.same rules h
+returns-clause-same c = λ t rules h. c.trees.invariant.same t rules h

@@ -3,4 +3,4 @@ use Rattle.fancy_scanner.specs.Scanning.{AreRegexesOf}
 use Rattle.fancy_scanner.proofs.scanner.Scanner.new.Goals as goal
 
 pub returns : goal.returns
-returns c = subst (AreRegexesOf []) (sym c.new.ensures.items) tt
+returns c = λ text. subst (AreRegexesOf [] text) (sym c.new.ensures.items) tt

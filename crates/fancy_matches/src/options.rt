@@ -1,0 +1,42 @@
+//! How the searches of a regex are made.
+
+ghost use Rattle.std.specs.Prelude.{◌≡◌};
+ghost use Rattle.fancy_vm.specs.Tasks.{options_of as run_options_of};
+ghost use Rattle.fancy_matches.specs.Listing as list;
+
+use fancy_vm::vm::RunOptions;
+
+/// How the searches of a regex are made.
+#[derive(Clone, Copy, Debug)]
+pub struct RegexOptions {
+    /// The options of all searches but where each begins, whether it is continued, and how often it may fall back to a
+    /// branch.
+    pub run: RunOptions,
+    /// How often a search may fall back to a branch. None is 1,000,000 times, and once more for each byte of the text
+    /// and for its end: a start that fails is one such time, and a text has no more starts than that.
+    pub backtrack_limit: Option<usize>,
+}
+
+impl RegexOptions {
+    /// How often a search of this text may fall back to a branch.
+    fn backtracks_for(&self, text: &str) -> usize
+        ensures { result ≡ list.backtracks_for self.now.backtrack_limit text.now }
+    {
+        match self.backtrack_limit {
+            Some(limit) => limit,
+            None => text.len().saturating_add(1_000_001),
+        }
+    }
+
+    /// The options of the searches of this text, but where each begins and whether it is continued.
+    pub fn for_text(&self, text: &str) -> RunOptions
+        ensures { run_options_of result
+            ≡ list.options_for
+            (run_options_of self.now.run) self.now.backtrack_limit text.now }
+    {
+        RunOptions {
+            backtrack_limit: self.backtracks_for(text),
+            ..self.run
+        }
+    }
+}
