@@ -1,11 +1,5 @@
 -- The choices at many iterations of a loop, and pairs that may have a way.
-use Rattle.std.proofs.Common.{◌≡◌, ◌≤◌, ◌<◌, ◌+◌, ◌-◌, ◌*◌, ◌++◌, ℕ, zero, suc, Bool, true, false, List, [], ◌∷◌, Option, Some, None, IsTrue, map, min, nat_lt, not, option_map, if◌then◌else◌, true≢false, Result, Ok, Err, IfErr, IfOk, IfSome, ⊎_elim, length, slice_get, slice_index_or, refl, sym, ap, ap₂, ◌∙◌, subst, arith}
-use Rattle.std.proofs.lemmas.Bool.{cases_lt, cond-false}
-use Rattle.std.proofs.lemmas.Bool.Decides.{nat_tests}
-use Rattle.std.proofs.lemmas.Option.{none-some, slice_get-map}
-use Rattle.std.specs.declared.alloc.AllocError.{AllocError}
-use Rattle.fancy_meaning.specs.Moves.{past_char}
-use Rattle.fancy_nfa.specs.NfaStates as states
+use Rattle.std.proofs.Common.{◌≡◌, ◌<◌, ◌+◌, ◌-◌, ◌*◌, ◌++◌, ℕ, zero, suc, Bool, true, false, List, [], ◌∷◌, Some, length, refl, sym, ap, ◌∙◌, subst, arith}
 use Rattle.fancy_nfa.specs.NfaSearch as plain
 use Rattle.fancy_nfa.specs.NfaSearch.{Frame, Search, TakesUp, goes_to, pair_of, passes}
 use Rattle.fancy_backtrack.specs.declared.backtrack_stack.StackFrame.{StackFrame}
@@ -13,16 +7,12 @@ use Rattle.fancy_backtrack.specs.declared.trail.Entry.{Entry}
 use Rattle.fancy_backtrack.specs.declared.trail.Trail.{Trail}
 use Rattle.fancy_backtrack.specs.declared.trail.NfaConfig.{NfaConfig}
 use Rattle.fancy_backtrack.specs.declared.trail.LoopCounter.{LoopCounter}
-use Rattle.fancy_backtrack.specs.declared.loops.Loop as code
-use Rattle.fancy_backtrack.specs.declared.memo.StepResult.{StepResult}
-use Rattle.fancy_backtrack.specs.declared.memo.StepResult.TheVariants as step_result
 use Rattle.fancy_backtrack.specs.declared.memo.Memo.{Memo}
 use Rattle.fancy_backtrack.specs.BacktrackStack.{choices_of, run_choices}
 use Rattle.fancy_backtrack.specs.Paths.{EndsCounters, HasCounters, IsConfig, counter_of}
-use Rattle.fancy_backtrack.specs.Memos.{IsLoopSplitOf, onward, run_frames, run_search, AreKept, HaveFailed, IsHere, IsSearch, Keeps, Continuation, Simulates, fails_of, saturated}
-use Rattle.fancy_backtrack.specs.Loops.{Repeats, loop_of}
+use Rattle.fancy_backtrack.specs.Memos.{IsLoopSplitOf, onward, run_frames, run_search, AreKept, HaveFailed, IsHere, IsSearch, Continuation, saturated}
 use Rattle.fancy_backtrack.specs.FailedPairs.{has_pair, key_of}
-use Rattle.fancy_backtrack.proofs.MemoLaws.{here_by, here_past, inside, key_outside, more_states, one_visit, same_tries}
+use Rattle.fancy_backtrack.proofs.MemoLaws.{inside, key_outside}
 
 -- ---- what is kept
 

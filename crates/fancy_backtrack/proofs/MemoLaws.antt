@@ -1,8 +1,7 @@
 -- What is kept of a search and of a configuration when the path grows or is cut.
-use Rattle.std.proofs.Common.{◌≡◌, ◌≤◌, ◌+◌, ◌∷◌, ◌++◌, [], ℕ, min, List, Bool, true, false, Option, Some, None, Result, Ok, option_map, map, length, take, slice_get, refl, sym, ap, ap₂, ◌∙◌, ◌||◌, subst, arith, nat_lt, if◌then◌else◌, length-append, OnOk, IfOk, Err}
+use Rattle.std.proofs.Common.{◌≡◌, ◌≤◌, ◌+◌, ◌∷◌, ◌++◌, [], ℕ, List, Bool, true, false, Option, Some, None, Result, Ok, map, length, take, slice_get, refl, sym, ap, ap₂, ◌∙◌, ◌||◌, subst, arith, nat_lt, if◌then◌else◌, length-append, OnOk, IfOk, Err}
 use Rattle.std.proofs.lemmas.List.{take_all}
 use Rattle.fancy_nfa.specs.NfaSearch as plain
-use Rattle.std.proofs.lemmas.Option.{slice_get-map, slice_get_past}
 use Rattle.std.proofs.lemmas.Bool.{cond-true, cond-false}
 use Rattle.fancy_nfa.specs.NfaStates.{Loop, Close}
 use Rattle.fancy_nfa.specs.NfaStates as states
@@ -13,14 +12,11 @@ use Rattle.fancy_backtrack.specs.Memos.{HaveFailed, IsHere, IsSearch, saturated,
 use Rattle.fancy_backtrack.specs.Loops.{ChoosesBy}
 use Rattle.fancy_backtrack.specs.declared.loops.LoopChoice.{LoopChoice}
 use Rattle.fancy_backtrack.specs.declared.loops.LoopChoice.TheVariants as loop_choice
-use Rattle.fancy_backtrack.specs.declared.loops.Loop as code
 use Rattle.fancy_backtrack.specs.declared.trail.Entry.{Entry}
 use Rattle.fancy_backtrack.specs.declared.trail.Entry.TheVariants as entry
 use Rattle.fancy_backtrack.specs.declared.trail.Trail.{Trail}
 use Rattle.fancy_backtrack.specs.declared.trail.LoopCounter.{LoopCounter}
 use Rattle.fancy_backtrack.specs.declared.trail.NfaConfig.{NfaConfig}
-use Rattle.std.specs.declared.alloc.AllocError.{AllocError}
-use Rattle.fancy_backtrack.specs.declared.memo.StepResult.{StepResult}
 use Rattle.fancy_backtrack.specs.declared.memo.Memo.{Memo}
 use Rattle.fancy_backtrack.specs.FailedPairs.{has_pair, key_of, same_numbers, counter_numbers}
 use Rattle.fancy_backtrack.specs.declared.failed.Failed.{Failed}

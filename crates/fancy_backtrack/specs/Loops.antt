@@ -1,5 +1,5 @@
 -- Loops whose iterations are counted, and which ways on the definition finds at the head of one.
-use Rattle.std.specs.Prelude.{◌≡◌, ℕ, true, false, List, [], ◌∷◌, Option, None, nat_lt}
+use Rattle.std.specs.Prelude.{◌≡◌, ℕ, true, false, List, [], ◌∷◌, None, nat_lt}
 use Rattle.fancy_nfa.specs.NfaStates as states
 use Rattle.fancy_nfa.specs.NfaSearch as plain
 use Rattle.fancy_nfa.specs.NfaSearch.{LoopCounter}

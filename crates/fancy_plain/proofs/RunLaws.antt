@@ -8,11 +8,9 @@ use Rattle.fancy_meaning.specs.Moves.{past_char}
 use Rattle.fancy_nfa.specs.NfaStates as states
 use Rattle.fancy_nfa.specs.NfaSearch as plain
 use Rattle.fancy_nfa.specs.NfaSearch.{Frame, Search, TakesUp, goes_to, pair_of, passes}
-use Rattle.fancy_backtrack.specs.declared.backtrack_stack.StackFrame.{StackFrame}
 use Rattle.fancy_backtrack.specs.declared.trail.Entry.{Entry}
 use Rattle.fancy_backtrack.specs.declared.trail.Trail.{Trail}
 use Rattle.fancy_backtrack.specs.declared.trail.NfaConfig.{NfaConfig}
-use Rattle.fancy_backtrack.specs.declared.trail.LoopCounter.{LoopCounter}
 use Rattle.fancy_plain.specs.declared.nfa_state.CharTest.{CharTest}
 use Rattle.fancy_backtrack.specs.declared.loops.Loop as code
 use Rattle.fancy_plain.specs.declared.nfa_state.NfaState.{NfaState}
@@ -22,10 +20,9 @@ use Rattle.fancy_backtrack.specs.declared.memo.StepResult.TheVariants as step_re
 use Rattle.fancy_backtrack.specs.declared.memo.Memo.{Memo}
 use Rattle.fancy_plain.specs.declared.search.Searcher.{Searcher}
 use Rattle.fancy_plain.specs.AsciiRuns.{AllPass}
-use Rattle.fancy_backtrack.specs.BacktrackStack.{choices_of, run_choices}
-use Rattle.fancy_backtrack.specs.Paths.{EndsCounters, HasCounters, IsConfig, counter_of}
+use Rattle.fancy_backtrack.specs.Paths.{IsConfig}
 use Rattle.fancy_plain.specs.Runs.{CanPass, FailsAtOnce, FailsFrom, GoesOn, lost_visits, IsBody, IsLostAt, IsRun, Passes, Excludes, RunsOver}
-use Rattle.fancy_backtrack.specs.Memos.{IsLoopSplitOf, onward, run_frames, run_search, AreKept, HaveFailed, IsHere, IsSearch, Keeps, Continuation, Simulates, fails_of, saturated}
+use Rattle.fancy_backtrack.specs.Memos.{IsLoopSplitOf, onward, run_search, HaveFailed, IsHere, IsSearch, Keeps, Continuation, Simulates, fails_of, saturated}
 use Rattle.fancy_backtrack.specs.Loops.{Repeats, loop_of}
 use Rattle.fancy_plain.specs.Searches.{IsSearcher, after_steps_of, continuation_of, next_of}
 use Rattle.fancy_plain.specs.Views.{IsReadBy, state_of, test_of}
@@ -33,7 +30,7 @@ use Rattle.fancy_backtrack.specs.FailedPairs.{has_pair, key_of}
 use Rattle.fancy_backtrack.proofs.KeptRunLaws.{onward_configs}
 use Rattle.fancy_plain.proofs.BackLaws.{back_memoized, one_more, steps_then}
 use Rattle.fancy_plain.proofs.FirstSetLaws.{at_index, passes_alike, past_ascii, past_end}
-use Rattle.fancy_backtrack.proofs.MemoLaws.{here_by, here_past, inside, key_outside, more_states, one_visit, same_tries}
+use Rattle.fancy_backtrack.proofs.MemoLaws.{here_by, here_past, more_states, one_visit, same_tries}
 use Rattle.fancy_plain.proofs.SearchLaws.{steps_by, next_there}
 
 -- ---- the heads of loops

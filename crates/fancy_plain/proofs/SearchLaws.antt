@@ -1,32 +1,18 @@
 -- A step of the search, by the state that is there.
-use Rattle.std.proofs.Common.{◌≡◌, ◌≤◌, ◌+◌, ◌∷◌, ◌++◌, [], ℕ, min, List, Bool, true, false, Option, Some, None, Result, Ok, option_map, map, length, take, slice_get, refl, sym, ap, ap₂, ◌∙◌, ◌||◌, subst, arith, nat_lt, if◌then◌else◌, length-append, OnOk, IfOk, Err}
-use Rattle.std.proofs.lemmas.List.{take_all}
+use Rattle.std.proofs.Common.{◌≡◌, ◌≤◌, ◌+◌, ◌∷◌, [], ℕ, List, Bool, true, false, Option, Some, None, Result, option_map, map, length, slice_get, refl, sym, ap, ◌∙◌, subst, arith, if◌then◌else◌}
 use Rattle.fancy_nfa.specs.NfaSearch as plain
 use Rattle.std.proofs.lemmas.Option.{slice_get-map, slice_get_past}
-use Rattle.std.proofs.lemmas.Bool.{cond-true, cond-false}
-use Rattle.fancy_nfa.specs.NfaStates.{Loop, Close}
-use Rattle.fancy_nfa.specs.NfaStates as states
-use Rattle.fancy_backtrack.specs.declared.memo.StepResult.TheVariants as step_result
-use Rattle.fancy_backtrack.specs.Paths.{HasCounters, HasOpened, EndsOpened, EndsCounters, IsCounter, IsOpened, IsConfig, closed_after, counter_of}
-use Rattle.fancy_backtrack.specs.BacktrackStack.{choices_of}
-use Rattle.fancy_backtrack.specs.Memos.{HaveFailed, IsHere, IsSearch, saturated, Continuation, Simulates}
-use Rattle.fancy_backtrack.specs.Loops.{ChoosesBy}
+use Rattle.fancy_backtrack.specs.Memos.{Simulates}
 use Rattle.fancy_plain.specs.Searches.{continuation_of, next_of}
 use Rattle.fancy_plain.specs.Views.{state_of}
 use Rattle.fancy_plain.specs.declared.nfa_state.NfaState.{NfaState}
 use Rattle.fancy_plain.specs.declared.nfa_state.NfaState.TheVariants as nfa_state
 use Rattle.fancy_backtrack.specs.declared.loops.Loop as code
 use Rattle.fancy_plain.specs.declared.search.Searcher.{Searcher}
-use Rattle.fancy_backtrack.specs.declared.trail.Entry.{Entry}
-use Rattle.fancy_backtrack.specs.declared.trail.Entry.TheVariants as entry
-use Rattle.fancy_backtrack.specs.declared.trail.LoopCounter.{LoopCounter}
 use Rattle.fancy_backtrack.specs.declared.trail.NfaConfig.{NfaConfig}
 use Rattle.std.specs.declared.alloc.AllocError.{AllocError}
 use Rattle.fancy_backtrack.specs.declared.memo.StepResult.{StepResult}
 use Rattle.fancy_backtrack.specs.declared.memo.Memo.{Memo}
-use Rattle.fancy_backtrack.specs.FailedPairs.{has_pair, key_of, same_numbers, counter_numbers}
-use Rattle.fancy_backtrack.proofs.PairKeys.{same_keys_turned}
-use Rattle.fancy_backtrack.proofs.PathLaws.{agree_more, kept_agree, kept_longer, opened_agree, counters_agree}
 
 module _ (searcher : Searcher) (p : NfaState) (s : NfaConfig) (t : plain.NfaConfig) (at : s.at ≡ t.at)
     (there : slice_get (searcher.states).now s.at ≡ Some p) where

@@ -1,9 +1,8 @@
 -- A loop over one character, many iterations at once.
-use Rattle.std.specs.Prelude.{◌≡◌, ◌≤◌, ◌<◌, ◌+◌, ◌*◌, ℕ, zero, suc, Bool, true, false, List, [], ◌∷◌, Some, None, map, slice_get}
+use Rattle.std.specs.Prelude.{◌≡◌, ◌≤◌, ◌<◌, ◌+◌, ℕ, Bool, true, false, List, [], ◌∷◌, Some, None, map, slice_get}
 use Rattle.fancy_meaning.specs.Moves.{past_char}
 use Rattle.fancy_nfa.specs.NfaSearch as plain
 use Rattle.fancy_nfa.specs.NfaSearch.{Frame, Other, Fails, Next, Pair, Search, TakesBack, TakesUp, LoopCounter, goes_to, is_counted, pair_of, passes}
-use Rattle.fancy_nfa.specs.NfaStates.{Loop}
 use Rattle.fancy_backtrack.specs.declared.trail.NfaConfig.{NfaConfig}
 use Rattle.fancy_plain.specs.declared.nfa_state.NfaState.{NfaState}
 use Rattle.fancy_plain.specs.declared.nfa_state.CharTest.{CharTest}

@@ -1,5 +1,5 @@
 -- How the search of the code stands for the search of the definition.
-use Rattle.std.specs.Prelude.{◌≡◌, ℕ, List, map, slice_get, Option, Some, None, Result, Ok, Err}
+use Rattle.std.specs.Prelude.{◌≡◌, ℕ, map, slice_get, Option, Some, None, Result, Ok, Err}
 use Rattle.fancy_nfa.specs.NfaSearch as plain
 use Rattle.fancy_nfa.specs.NfaSearch.{Search, Next, TakesUp, TakesBack, Ends, after_steps}
 use Rattle.fancy_nfa.specs.FirstWays.{search_in}
