@@ -6,11 +6,13 @@ use Rattle.fancy_meaning.specs.Numbers.{usize_max}
 use Rattle.fancy_meaning.specs.Options as plain
 use Rattle.fancy_meaning.specs.Places.{is_place, places_from, range_from}
 use Rattle.fancy_meaning.specs.Premises.{Input, plan}
-use Rattle.fancy_meaning.specs.Promise.{Limit, Backtracks, Branches, Instructions}
 use Rattle.fancy_meaning.specs.Theorems.{tried}
 use Rattle.fancy_expr.specs.declared.error.Error.{Error}
 use Rattle.fancy_expr.specs.declared.error.Error.TheVariants as error
-use Rattle.fancy_search.specs.Searches.{Bounds, IsBelowBound, IsCompiledFrom, limit_of}
+use Rattle.fancy_expr.specs.declared.error.RuntimeError.{RuntimeError}
+use Rattle.fancy_expr.specs.declared.error.RuntimeError.TheVariants as limit
+use Rattle.fancy_vm.specs.Bounds.{IsBelowBound}
+use Rattle.fancy_search.specs.Searches.{Bounds, IsCompiledFrom}
 use Rattle.fancy_matches.specs.Listing.{Standing, backtracks_for, options_at}
 use Rattle.fancy_matches.specs.Regexes.{FailsAt, HasNoLimits, IsNoLimit, IsNoLimitWhereEasy, IsSame, PromisesSo, StepsBy, options_in}
 use Rattle.fancy_matches.specs.declared.options.RegexOptions.{RegexOptions}
@@ -54,19 +56,20 @@ module _ (i : Input) (text : List ℕ) (o : plain.RunOptions) (small : length te
   few_tried : tried i text o ≤ suc (length text)
   few_tried = few_starts (search_of (plan i) text o)
 
-  not_below : (l : Limit) → ¬ IsBelowBound i text o l
-  not_below Backtracks below =
+  not_below : (l : RuntimeError) → ¬ IsBelowBound i text o l
+  not_below limit.BacktrackLimitExceeded below =
       let few = few_tried in
       let enough : o.backtrack_limit ≡ min usize_max (length text + 1_000_001) = backtracks in
       below (omega (arith, few, enough, small))
-  not_below Branches below = below
-  not_below Instructions below = let few = few_tried in below (omega (arith, few, steps, small))
+  not_below limit.StackOverflow below = below
+  not_below limit.StepLimitExceeded below = let few = few_tried in below (omega (arith, few, steps, small))
 
   pub no_limit : (e : Error) → IsFalse (is_root_hard (plan i).analysis) → Bounds i text o (Err e) → IsNoLimit e
-  no_limit (error.RuntimeError l) easy bounds = not_below (limit_of l) (bounds easy)
+  no_limit (error.RuntimeError l) easy bounds = not_below l (bounds easy)
   no_limit error.Memory easy bounds = tt
   no_limit (error.CompileError e) easy bounds = tt
   no_limit (error.TreeFault at) easy bounds = tt
+  no_limit error.NestLimitExceeded easy bounds = tt
 
 -- ---- a search of a regex
 

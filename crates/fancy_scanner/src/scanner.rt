@@ -123,6 +123,7 @@ fn limit_of(error: &Error) -> Option<RuntimeError>
         Error::Memory => None,
         Error::CompileError(_) => None,
         Error::TreeFault { .. } => None,
+        Error::NestLimitExceeded => None,
     }
 }
 
