@@ -1,11 +1,12 @@
 -- The nodes below a node, child by child.
-use Rattle.std.proofs.Common.{◌≡◌, ℕ, zero, suc, ◌+◌, ◌<◌, ◌≤◌, Bool, false, ◌||◌, List, [], ◌∷◌, ◌++◌, length, take, get_or, slice_index_or, All, Contains, refl, sym, ap, ◌∙◌, subst, arith, append_assoc, append-nil}
+use Rattle.std.proofs.Common.{◌≡◌, ℕ, zero, suc, ◌+◌, ◌<◌, ◌≤◌, Bool, true, false, ◌||◌, if◌then◌else◌, Option, Some, None, List, [], ◌∷◌, ◌++◌, length, take, get_or, slice_index_or, All, Contains, refl, sym, ap, ◌∙◌, subst, arith, append_assoc, append-nil}
 use Rattle.std.specs.List.{list_any}
+use Rattle.std.proofs.lemmas.Option.{none-some}
 use Rattle.std.proofs.lemmas.List.{take_more, take_all}
 use Rattle.std.proofs.lemmas.List.Folds.{list_any-append}
 use Rattle.std.proofs.lemmas.List.Elements.{Contains-append_left, Contains-append_right, All-append, All-contains, All-contains_itself}
 use Rattle.fancy_expr.specs.declared.expr.Expr.{Expr}
-use Rattle.fancy_expr.specs.Exprs.{below, exprs, exprs_of_each}
+use Rattle.fancy_expr.specs.Exprs.{below, exprs, exprs_of_each, first_with}
 use Rattle.fancy_expr.proofs.Exprs.{exprs-below}
 
 -- one more child
@@ -57,6 +58,50 @@ pub contained_below : (e child x : Expr) (i : ℕ) → i < length (below e) → 
 contained_below e child x i h at there =
     subst (λ l. Contains l x) (sym (exprs-below e))
     (Contains-append_right (e ∷ []) (exprs_of_each (below e)) x (contained_in_each (below e) i child x h at there))
+
+-- ---- the first node
+
+true_not_false : true ≡ false → ⊥
+true_not_false h = cc
+
+neither_of : (a b : Bool) → (a || b) ≡ false → (a ≡ false) × (b ≡ false)
+neither_of false b h = (refl, h)
+neither_of true b h = absurd (true_not_false h)
+
+module _ (test : Expr → Bool) where
+  pub first_itself : (e : Expr) → test e ≡ true → first_with test (exprs e) ≡ Some e
+  first_itself e here =
+      ap (first_with test) (exprs-below e) ∙ ap (λ b. if b then Some e else first_with test (exprs_of_each (below e))) here
+
+  first_behind : (xs ys : List Expr) → list_any test xs ≡ false → first_with test (xs ++ ys) ≡ first_with test ys
+  first_behind [] ys none = refl
+  first_behind (x ∷ xs) ys none =
+      let both = neither_of (test x) (list_any test xs) none in
+      ap (λ b. if b then Some x else first_with test (xs ++ ys)) both.0 ∙ first_behind xs ys both.1
+
+  first_in_front : (xs ys : List Expr) (x : Expr) → first_with test xs ≡ Some x → first_with test (xs ++ ys) ≡ Some x
+  first_in_front [] ys x found = absurd (none-some x found)
+  first_in_front (y ∷ xs) ys x found =
+      elim (test y) as (λ b. (if b then Some y else first_with test xs) ≡ Some x → (if b then Some y else first_with test (xs ++ ys)) ≡ Some x) [
+        | true ↦ λ h. h
+        | false ↦ λ h. first_in_front xs ys x h
+      ] found
+
+  first_in_each : (es : List Expr) (i : ℕ) (e x : Expr) → i < length es → e ≡ get_or es i e →
+      list_any test (exprs_of_each (take i es)) ≡ false → first_with test (exprs e) ≡ Some x → first_with test (exprs_of_each es) ≡ Some x
+  first_in_each [] i e x h at before found = absurd (omega arith)
+  first_in_each (y ∷ es) zero e x h at before found =
+      first_in_front (exprs y) (exprs_of_each es) x (subst (λ z. first_with test (exprs z) ≡ Some x) at found)
+  first_in_each (y ∷ es) (suc i) e x h at before found =
+      let both = neither_of _ _ (sym (list_any-append test (exprs y) (exprs_of_each (take i es))) ∙ before) in
+      first_behind (exprs y) (exprs_of_each es) both.0 ∙ first_in_each es i e x (omega arith) at both.1 found
+
+  pub first_below : (e child x : Expr) (i : ℕ) → i < length (below e) → child ≡ get_or (below e) i child → test e ≡ false →
+      list_any test (exprs_of_each (take i (below e))) ≡ false → first_with test (exprs child) ≡ Some x → first_with test (exprs e) ≡ Some x
+  first_below e child x i h at here before found =
+      ap (first_with test) (exprs-below e)
+      ∙ ap (λ b. if b then Some e else first_with test (exprs_of_each (below e))) here
+      ∙ first_in_each (below e) i child x h at before found
 
 -- ---- what holds of all nodes
 

@@ -1,5 +1,5 @@
 -- The nodes of an `Expr`, and those directly below one.
-use Rattle.std.specs.Prelude.{List, [], ◌∷◌, ◌++◌}
+use Rattle.std.specs.Prelude.{Bool, List, [], ◌∷◌, ◌++◌, Option, Some, None, if◌then◌else◌}
 use Rattle.fancy_expr.specs.declared.expr.Expr.{Expr, Row_of-Expr, end_of-Expr, more_of-Expr}
 use Rattle.fancy_expr.specs.declared.expr.Expr.TheVariants.{Literal, Concat', Alt', Group', LookAround', Repeat', AtomicGroup', Conditional', DefineGroup'}
 use Rattle.fancy_expr.specs.declared.expr.Expr.TheVariants as code
@@ -56,3 +56,8 @@ abbrev mutual
 abbrev pub exprs_of_each : List Expr → List Expr
 exprs_of_each [] = []
 exprs_of_each (e ∷ es) = exprs e ++ exprs_of_each es
+
+-- the first of these nodes that passes the test
+abbrev pub first_with : (Expr → Bool) → List Expr → Option Expr
+first_with test [] = None
+first_with test (e ∷ es) = if test e then Some e else first_with test es

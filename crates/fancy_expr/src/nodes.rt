@@ -1,12 +1,12 @@
 //! Questions about the nodes of a tree: whether some node is such, and which is the first, in one walk.
 
-ghost use Rattle.std.specs.Prelude.{◌≡◌, MatchOption, false, true, Contains};
+ghost use Rattle.std.specs.Prelude.{◌≡◌, MatchOption, Some, false, true, Contains};
 ghost use Rattle.std.specs.List.{list_any};
 ghost use Rattle.fancy_meaning.specs.Tree as plain;
 ghost use Rattle.fancy_meaning.specs.WellFormed.{refers, is_call, is_any_call};
 ghost use Rattle.fancy_meaning.specs.AnalysisRefusals.{is_lazy};
 ghost use Rattle.fancy_expr.specs.Views.{tree_of, unresolved_of};
-ghost use Rattle.fancy_expr.specs.Exprs.{exprs};
+ghost use Rattle.fancy_expr.specs.Exprs.{exprs, first_with};
 ghost use Rattle.fancy_expr.specs.Questions.{asks, is_unlisted, is_refused};
 
 use crate::expr::{AstNode, Expr};
@@ -123,12 +123,14 @@ fn is_refused(expr: &Expr, first: usize, last: usize) -> bool
     }
 }
 
-/// The first node that is so, of a node and those below it.
+/// The first node that is so, of a node and those below it, each before what stands below it.
 pub fn find_node<'a>(expr: &'a Expr, question: Question) -> Option<&'a Expr>
     ensures { MatchOption
         result
         (list_any (asks question.entry) (exprs expr.now) ≡ false)
-        (λ found. (asks question.entry found.now ≡ true) × Contains (exprs expr.now) found.now) }
+        (λ found. (asks question.entry found.now ≡ true)
+        × Contains (exprs expr.now) found.now
+        × (first_with (asks question.entry) (exprs expr.now) ≡ Some found.now)) }
 {
     if asks(question, expr) {
         return Some(expr);
