@@ -5,7 +5,7 @@ use fancy_matches::found::Captures;
 use fancy_matches::regexes::Regex;
 use fancy_regex_engine::arguments::read_arguments;
 use fancy_regex_engine::error::Error;
-use fancy_regex_engine::expr::read_tree;
+use fancy_regex_engine::expr::{ExprTree, is_well_formed, read_tree};
 use fancy_replace::split::{split, splitn};
 use fancy_tables::columns::{number, split as columns, with_line_ends, words_of, written_out};
 use fancy_tables::lists::{close, push_group, push_none, push_span};
@@ -15,17 +15,22 @@ use std::alloc::{AllocError, Global};
 const MOST_GROUPS: usize = 10;
 
 /// The regex of a tree by these words.
-pub fn regex(alloc: Global, tree: &str, words: &str) -> Result<Regex, Error> {
+pub fn regex_of(alloc: Global, tree: &ExprTree, words: &str) -> Result<Regex, Error> {
     let words = words_of(alloc, words)?;
     let Some(arguments) = read_arguments(&words) else {
         return Err(Error::TreeFault { at: 0 });
     };
     let options = arguments.options();
-    if !options.fits("") {
+    if !options.fits("") || !is_well_formed(tree) {
         return Err(Error::TreeFault { at: 0 });
     }
+    Regex::new(alloc, tree, &options, arguments.backtracks)
+}
+
+/// The regex of a tree in the notation by these words.
+pub fn regex(alloc: Global, tree: &str, words: &str) -> Result<Regex, Error> {
     let tree = read_tree(alloc, tree)?;
-    Regex::new(alloc, &tree, &options, arguments.backtracks)
+    regex_of(alloc, &tree, words)
 }
 
 /// A match with its groups that are set on the line, and alone among the spans.
@@ -67,6 +72,19 @@ fn push_all_matches(spans: &mut String, regex: &mut Regex, text: &str) -> Result
 }
 
 /// The matches with their groups, where both iterators agree on where they are.
+pub fn push_found(
+    line: &mut String,
+    alloc: Global,
+    regex: &mut Regex,
+    text: &str,
+) -> Result<(), Error> {
+    let (mut spans, mut others) = (String::new(alloc), String::new(alloc));
+    push_all_captures(line, &mut spans, regex, text)?;
+    push_all_matches(&mut others, regex, text)?;
+    Ok(close(line, spans.as_str(), others.as_str())?)
+}
+
+/// The same in the text of a column.
 fn push_matches(
     line: &mut String,
     alloc: Global,
@@ -74,10 +92,7 @@ fn push_matches(
     text: &str,
 ) -> Result<(), Error> {
     let text = with_line_ends(alloc, written_out(alloc, text)?.as_str())?;
-    let (mut spans, mut others) = (String::new(alloc), String::new(alloc));
-    push_all_captures(line, &mut spans, regex, text.as_str())?;
-    push_all_matches(&mut others, regex, text.as_str())?;
-    Ok(close(line, spans.as_str(), others.as_str())?)
+    push_found(line, alloc, regex, text.as_str())
 }
 
 /// TEXT, how many at most: the pieces.

@@ -18,6 +18,7 @@ mod rows;
 mod scans;
 mod searches;
 mod states;
+mod syntax;
 mod trees;
 
 use fancy_regex_engine::vm::Scratch;
@@ -44,7 +45,7 @@ impl Table for Engine {
     }
 }
 
-const TABLES: [&str; 38] = [
+const TABLES: [&str; 47] = [
     "searches/example",
     "searches/answers",
     "searches/everyday",
@@ -83,6 +84,15 @@ const TABLES: [&str; 38] = [
     "lists/splits",
     "lists/replacements",
     "lists/scans",
+    "syntax/spelled",
+    "syntax/refused",
+    "syntax/own_spelled",
+    "syntax/own_refused",
+    "syntax/analysed",
+    "syntax/found",
+    "syntax/returned",
+    "syntax/escaped",
+    "syntax/escaped_trees",
 ];
 
 fn main(rt: HostRuntime) -> io::Result<()> {

@@ -1,6 +1,8 @@
 //! What stands in the place of a row's last column.
 
-use crate::{characters, fragments, layouts, lists, programs, scans, searches, states, trees};
+use crate::{
+    characters, fragments, layouts, lists, programs, scans, searches, states, syntax, trees,
+};
 use fancy_regex_engine::error::Error;
 use fancy_regex_engine::vm::Scratch;
 use fancy_tables::columns::number;
@@ -37,6 +39,7 @@ pub fn push_outcome(
         Some(("trees", table)) => trees::push_tree(line, alloc, table, key),
         Some(("fragments", table)) => fragments::push_fragment(line, alloc, table, key),
         Some(("lists", "scans")) => scans::push_scans(line, alloc, key),
+        Some(("syntax", table)) => syntax::push_pattern(line, alloc, table, key),
         Some(("lists", table)) => lists::push_list(line, alloc, table, key),
         _ => Ok(()),
     }
