@@ -1,5 +1,5 @@
 -- A text that is escaped spells its literals.
-use Rattle.std.proofs.Common.{◌≡◌, ℕ, ◌+◌, Bool, true, false, not, ◌||◌, List, [], ◌∷◌, ◌++◌, filter, length, Option, Some, None, Ok, Err, if◌then◌else◌, ◌==◌, nat_lt, refl, sym, ap, ◌∙◌, subst, arith}
+use Rattle.std.proofs.Common.{◌≡◌, ℕ, ◌+◌, Bool, true, false, not, ◌&&◌, ◌||◌, List, [], ◌∷◌, ◌++◌, filter, length, Option, Some, None, Ok, Err, if◌then◌else◌, ◌==◌, nat_lt, refl, sym, ap, ◌∙◌, subst, arith}
 use Rattle.std.specs.List.{list_any}
 use Rattle.std.proofs.lemmas.Bool.{true≢false}
 use Rattle.std.proofs.lemmas.Bool.Decides.{eqb_tells}
@@ -17,6 +17,8 @@ use Rattle.fancy_pattern.specs.Items.{Found, found_at, outside_at, item_at, brac
 use Rattle.fancy_pattern.specs.Lexing.{at_start, Lexes, ended, token}
 use Rattle.fancy_pattern.specs.Grammar.{Names, SpellsAtom, SpellsPiece, SpellsPieces, SpellsBranch, SpellsBars, SpellsAlternatives, Takes, node_of, quantifier, is_at, is_empty, joined, branch_of}
 use Rattle.fancy_pattern.specs.Grammar as rule
+use Rattle.fancy_pattern.specs.Naming.{named_in}
+use Rattle.fancy_pattern.specs.Spelling.{every_group, flags_of, opens_named}
 use Rattle.fancy_pattern.specs.Escape.{specials, is_special, escaped, literals, SpellsText}
 
 -- ---- one of a few characters, or none of them
@@ -159,10 +161,21 @@ pub all_stay : (casei : Bool) (cs : List ℕ) → filter (λ e. not (is_empty e)
 all_stay casei [] = refl
 all_stay casei (c ∷ cs) = ap (λ l. tree.Literal c casei ∷ l) (all_stay casei cs)
 
+pub none_named : (f : Flags) (cs : List ℕ) → list_any (λ p. opens_named p.token) (literal_tokens f cs) ≡ false
+none_named f [] = refl
+none_named f (c ∷ cs) = none_named f cs
+
+pub not_both : (a b : Bool) → b ≡ false → (a && b) ≡ false
+not_both true b e = e
+not_both false b e = refl
+
 pub spells_text : (cs : List ℕ) → SpellsText (escaped cs) cs
-spells_text cs f = (
-  literal_tokens f cs,
-  lexes_literals f cs,
-  λ names. subst (SpellsAlternatives names (literal_tokens f cs) []) (ap joined (all_stay f.casei cs))
-      (rule.branches (rule.branch (pieces_of names f cs)) (rule.no_bar refl)),
-)
+spells_text cs o =
+    let f = flags_of o false in
+    let ts = literal_tokens f cs in record {
+      ignored = false;
+      tokens = ts;
+      lexed = every_group (lexes_literals f cs) (not_both o.ignore_numbered_groups_when_named_groups_exist _ (none_named f cs));
+      spelled = subst (SpellsAlternatives (named_in ts) ts []) (ap joined (all_stay f.casei cs))
+          (rule.branches (rule.branch (pieces_of (named_in ts) f cs)) (rule.no_bar refl));
+    }

@@ -3,11 +3,10 @@ use Rattle.std.specs.Prelude.{ℕ, Bool, List, [], ◌∷◌, ◌++◌, map, if�
 use Rattle.std.specs.List.{list_any}
 use Rattle.fancy_meaning.specs.Tree as tree
 use Rattle.fancy_meaning.specs.Tree.{Tree}
-use Rattle.fancy_pattern.specs.declared.flags.Flags.{Flags}
+use Rattle.fancy_pattern.specs.declared.options.ParseOptions.{ParseOptions}
 use Rattle.fancy_pattern.specs.Texts.{Text}
-use Rattle.fancy_pattern.specs.Tokens.{Placed}
-use Rattle.fancy_pattern.specs.Lexing.{Lexes, at_start}
-use Rattle.fancy_pattern.specs.Grammar.{Names, SpellsAlternatives, joined}
+use Rattle.fancy_pattern.specs.Grammar.{joined}
+use Rattle.fancy_pattern.specs.Spelling.{Spells}
 
 -- the characters with a meaning of their own, or under `x`
 abbrev pub specials : Text
@@ -28,9 +27,6 @@ escaped (c ∷ cs) = escaped_char c ++ escaped cs
 abbrev pub literals : Bool → Text → List Tree
 literals casei cs = map (λ c. tree.Literal c casei) cs
 
--- in whatever flags, and whatever groups have names, a pattern spells the literals of a text
+-- with whatever options, a pattern spells the literals of a text
 abbrev pub SpellsText : Text → Text → Type 0
-SpellsText pattern cs =
-    (f : Flags)
-    → (ts : List Placed) × Lexes (at_start f) pattern ts
-    × ((names : Names) → SpellsAlternatives names ts [] (joined (literals f.casei cs)))
+SpellsText pattern cs = (o : ParseOptions) → Spells o pattern (joined (literals o.case_insensitive cs))
