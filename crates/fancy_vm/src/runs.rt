@@ -8,7 +8,7 @@ ghost use Rattle.fancy_meaning.specs.Fits.{run_fits};
 ghost use Rattle.fancy_vm.specs.Bounds.{IfLimit, RunMayPass};
 ghost use Rattle.fancy_vm.specs.Memos.{AreMemosOf};
 ghost use Rattle.fancy_vm.specs.Means.{IsMeaning, IsMeaningPair, answer_in, numbers_of};
-ghost use Rattle.fancy_vm.specs.Outcomes.{RunEnds, RunAnswers, RunAnswersPair, config_of, held_match, plain_task};
+ghost use Rattle.fancy_vm.specs.Outcomes.{RunEnds, RunAnswers, RunAnswersPair, config_of, ending, held_match, plain_task};
 ghost use Rattle.fancy_vm.specs.Ready.{AreFresh, IsReady};
 ghost use Rattle.fancy_state.specs.Held.{first_held};
 ghost use Rattle.fancy_state.specs.Refused.{IsMemory};
@@ -384,7 +384,20 @@ impl Machine<'_> {
             (machine.run (plain_task self.old.task))
             (answer_in result numbers.new) }
     {
-        if !self.run(memos)? {
+        let by_slots = self.run(memos)?;
+        self.write_ending(by_slots, numbers)
+    }
+
+    /// Writes the numbers of a run that ends here over these: of the slots, or else of the match that is held, if one
+    /// is. Tells whether there is a match.
+    pub(crate) fn write_ending(
+        &self,
+        by_slots: bool,
+        numbers: &mut Vec<usize>,
+    ) -> Result<bool, Error>
+        ensures { RunAnswers (ending by_slots self.now) (answer_in result numbers.new) }
+    {
+        if !by_slots {
             return Ok(self.longest.copy_numbers(numbers)?);
         }
         self.copy_numbers(numbers)?;

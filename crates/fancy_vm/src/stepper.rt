@@ -153,16 +153,12 @@ impl<'a> Stepper<'a> {
 }
 
 impl Machine<'_> {
-    /// The numbers of a run that ends here: those of the slots, or else of the match that is held, or none.
+    /// As `write_ending`, with a vector of its own.
     fn ending(&self, by_slots: bool) -> Result<Option<Vec<usize>>, Error>
         ensures { RunAnswers (ending by_slots self.now) result }
     {
         let mut numbers = Vec::new(self.task.alloc);
-        if by_slots {
-            self.copy_numbers(&mut numbers)?;
-            return Ok(Some(numbers));
-        }
-        if !self.longest.copy_numbers(&mut numbers)? {
+        if !self.write_ending(by_slots, &mut numbers)? {
             return Ok(None);
         }
         Ok(Some(numbers))
