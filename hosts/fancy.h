@@ -103,7 +103,8 @@ struct fancy_options fancy_default_options(void);
  * What reads, compiles and frees a tree recurses over it, so a tree in which more than max_depth parentheses are open at
  * one place is refused before it is read. The default is for a stack of 2 MB; on one of 512 kB set it to 60, and with a
  * greater one more levels may be asked for, as docs/MEANING.md says. A call is written out where it stands, so calls nest
- * deeper than the text: more nodes in one another than max_nesting are refused as FANCY_MEMORY; on 512 kB set it to 250. */
+ * deeper than the text: more nodes in one another than max_nesting are FANCY_NEST_LIMIT_EXCEEDED, which comes for nothing
+ * else. On 512 kB set it to 250. */
 struct fancy_outcome fancy_compile(const uint8_t *tree, size_t tree_length, const struct fancy_options *options,
                                    struct fancy_program *program);
 

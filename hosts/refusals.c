@@ -55,6 +55,14 @@ int main(void)
     compile("a tree without an end", "(grp (grp");
     compile("a tree of just so many levels", "(cat (grp \"a\") \"(((\")");
     options = fancy_default_options();
+    options.max_nesting = 3;
+    compile("as many nodes in one another as may be", "(cat (grp \"a\") any)");
+    compile("a node more in one another", "(cat (grp (grp \"a\")) any)");
+    options.max_nesting = 61;
+    compile("a group that calls itself, in 61 nodes", "(grp (alt (cat \"a\" (call 1)) \"b\"))");
+    options.max_nesting = 60;
+    compile("the same where 60 may be", "(grp (alt (cat \"a\" (call 1)) \"b\"))");
+    options = fancy_default_options();
     compile("an end without a tree", ")");
     find("a search after a refusal", "a");
     compile("a tree", "(cat (grp \"a\") (grp any))");

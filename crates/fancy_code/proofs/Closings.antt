@@ -34,7 +34,7 @@ module _ (p : Site) (es : List Tree) (s u : Draft) (pre below : List Instr) (y i
   pub wrote_later : (length u.instrs ≡ length s.instrs + length pre + 1 + length below → i ≡ j) → Adds p (with_instr y) es s u
       → Adds p (with_instr j) es s (with_patch u place i)
   wrote_later known h =
-      adds_to p (with_instr y) (with_instr j) es es s u (with_patch u place i)
+      adds_to p p (with_instr y) (with_instr j) es es s u (with_patch u place i)
       (omega (arith, length-append pre (y ∷ below), length-append pre (j ∷ below)))
       (λ e. record {
         instrs = ap (λ l. slice_set l place i) e.instrs ∙ set_later ∙ ap (λ k. s.instrs ++ (pre ++ k ∷ below))

@@ -26,7 +26,7 @@ use Rattle.fancy_plain.specs.ClassTexts.{HasClass, AreClasses, texts_of, texts_i
 use Rattle.fancy_plain.specs.Neighbours.{IsEasy, trees_of}
 use Rattle.fancy_plain.specs.Nfas.{AreFine, HaveClasses, IsRefusedFor}
 use Rattle.fancy_code.specs.Sites.{Site}
-use Rattle.fancy_code.specs.Faults.{IsBelow, itself, below, through, Rejects, MayReject, rejected, too_big, refused, out_of_range, AreCompilable, HasRejected}
+use Rattle.fancy_code.specs.Faults.{IsBelow, itself, below, through, Rejects, MayReject, rejected, too_big, refused, out_of_range, refused_as, StayWithin, AreCompilable, HasRejected}
 use Rattle.fancy_code.specs.Drafts.{Draft, Breaks, Writes}
 use Rattle.fancy_code.proofs.Collected.{each_literal_of}
 use Rattle.fancy_code.proofs.Writing.{adds_to}
@@ -49,7 +49,7 @@ module _ (a : Analysis) where
   loop_easy lo (Some zero) greedy e c h i = elim i [ ]
   loop_easy lo (Some (suc n)) greedy e c h i = only_easy e c h i
 
-  easy_part : (e c : Tree) → easy.IsEasy a e → IsAmong c (written_parts e) → easy.IsEasy a c
+  pub easy_part : (e c : Tree) → easy.IsEasy a e → IsAmong c (written_parts e) → easy.IsEasy a c
   easy_part (Concat es) c h i = among_easy es c (easy_concat a es h) i
   easy_part (Alt es) c h i = among_easy es c (easy_alt a es h) i
   easy_part (Group g e) c h i = only_easy e c (easy_group a g e h).1 i
@@ -65,7 +65,7 @@ module _ (a : Analysis) where
 -- ---- easy nodes whose class texts are classes
 
 module _ (p : Site) where
-  not_rejected : (e : Tree) → easy.IsEasy p.analysis e → AreClasses p.unicode (texts_of e) → (x : refusal.CompileError) → ¬ Rejects p e x
+  not_rejected : (e : Tree) → easy.IsEasy p.analysis e → AreClasses p.unicode (texts_of e) → (x : refusal.CompileError) → ¬ Rejects p.plan e x
   not_rejected (Delegate inner casei) h g x (refused (absent_other i n)) = true≢false (sym i)
   not_rejected (Delegate inner casei) h g x (refused (no_class i)) = true≢false (sym (g inner casei classes.itself) ∙ i)
   not_rejected (Delegate inner casei) h g x (out_of_range i) = true≢false (sym i)
@@ -81,23 +81,25 @@ module _ (p : Site) where
   not_rejected e h g x r = cc
 
   none_rejected : {calls : Depths} {d e : Tree} → IsBelow p.analysis.tree calls d e → easy.IsEasy p.analysis d → AreClasses p.unicode (texts_of d)
-      → (x : refusal.CompileError) → ¬ Rejects p e x
+      → (x : refusal.CompileError) → ¬ Rejects p.plan e x
   none_rejected {e = e} itself h g x r = not_rejected e h g x r
   none_rejected (below {d = d} {c = c} i b) h g x r =
       none_rejected b (easy_part p.analysis d c h i) (λ inner casei t. g inner casei (classes.below i t)) x r
   none_rejected (through lt at b) h g x r = true≢false h
 
-  all_compilable : (is : List Info) → Each (IsEasy p.analysis) is → HaveClasses p.unicode is → AreCompilable p (map info_tree is)
-  all_compilable [] h g = tt
-  all_compilable (i ∷ is) h g = (
-    λ d b x r. none_rejected b h.0.easy (λ inner casei t. g inner casei (info_tree i, (here, t))) x r,
-    all_compilable is h.1 (λ inner casei t. g inner casei (t.0, (there t.1.0, t.1.1))),
+  all_compilable : (is : List Info) → Each (IsEasy p.analysis) is → HaveClasses p.unicode is → StayWithin p (map info_tree is)
+      → AreCompilable p (map info_tree is)
+  all_compilable [] h g room = tt
+  all_compilable (i ∷ is) h g room = (
+    (λ d b x r. none_rejected b h.0.easy (λ inner casei t. g inner casei (info_tree i, (here, t))) x r, room.0),
+    all_compilable is h.1 (λ inner casei t. g inner casei (t.0, (there t.1.0, t.1.1))) room.1,
   )
 
   -- what is written is that of easy nodes
-  pub wrote_easy : (is : List Info) → Each (IsEasy p.analysis) is → HaveClasses p.unicode is → (k : Code) (s t : Draft) → Writes p k [] s t
-      → Writes p k (map info_tree is) s t
-  wrote_easy is h g k s t w = adds_to p _ _ [] (map info_tree is) s t t (omega arith) (λ x. x) (λ a. all_compilable is h g) (λ x r. absurd r) w refl refl
+  pub wrote_easy : (is : List Info) → Each (IsEasy p.analysis) is → HaveClasses p.unicode is → StayWithin p (map info_tree is) → (k : Code) (s t : Draft)
+      → Writes p k [] s t → Writes p k (map info_tree is) s t
+  wrote_easy is h g room k s t w =
+      adds_to p p _ _ [] (map info_tree is) s t t (omega arith) (λ x. x) (λ a. all_compilable is h g room) (λ x r. absurd r) w refl refl
 
   -- ---- a class text that is refused
 
@@ -106,23 +108,23 @@ module _ (p : Site) where
   class_below e (classes.below {c = c} i h) = below i (class_below c h)
 
   class_rejected : (inner : List ℕ) (casei : Bool) (es : List Tree) (e : Tree) → IsAmong e (trees es) → HasClass inner casei e
-      → (x : refusal.CompileError) → MayReject p (Delegate inner casei) x → HasRejected p es x
+      → (x : refusal.CompileError) → MayReject p.plan (Delegate inner casei) x → HasRejected p es (refused_as x)
   class_rejected inner casei [] e i h x r = elim i [ ]
   class_rejected inner casei (d ∷ es) e here h x r = inl (record { node = Delegate inner casei; is_below = class_below e h; rejects = r })
   class_rejected inner casei (d ∷ es) e (there i) h x r = inr (class_rejected inner casei es e i h x r)
 
   module _ (a : Laid) (es : List Tree) (s : Draft) where
-    class_breaks : (inner : List ℕ) (casei : Bool) → ((x : refusal.CompileError) → MayReject p (Delegate inner casei) x → HasRejected p es x)
+    class_breaks : (inner : List ℕ) (casei : Bool) → ((x : refusal.CompileError) → MayReject p.plan (Delegate inner casei) x → HasRejected p es (refused_as x))
         → (x : Error) → IsClassRefusal p.unicode inner casei x → Breaks p a es s x
     class_breaks inner casei g error.Memory h = tt
     class_breaks inner casei g (error.CompileError (code.InnerError text)) h =
-        inr (subst (λ l. HasRejected p es (refusal.InnerError l)) (sym h.0) (g (refusal.InnerError inner) (rejected (refused (no_class h.1)))))
+        inr (subst (λ l. HasRejected p es (refused_as (refusal.InnerError l))) (sym h.0) (g (refusal.InnerError inner) (rejected (refused (no_class h.1)))))
     class_breaks inner casei g (error.CompileError (code.ClassTooBig text)) h =
-        inr (subst (λ l. HasRejected p es (refusal.ClassTooBig l)) (sym h.0) (g (refusal.ClassTooBig inner) too_big))
+        inr (subst (λ l. HasRejected p es (refused_as (refusal.ClassTooBig l))) (sym h.0) (g (refusal.ClassTooBig inner) too_big))
     class_breaks inner casei g (error.CompileError x) h = absurd h
     class_breaks inner casei g (error.RuntimeError x) h = h
     class_breaks inner casei g (error.TreeFault at) h = h
-    class_breaks inner casei g error.NestLimitExceeded h = h
+    class_breaks inner casei g error.NestLimitExceeded h = absurd h
 
   -- why easy nodes are not written
   pub refused_easy : (is : List Info) (a : Laid) (s : Draft) (x : Error) → IsRefusedFor p.unicode is x → Breaks p a (map info_tree is) s x

@@ -16,7 +16,7 @@ module _ (p : Site) (es : List Tree) (s : Draft) (y : Instr) where
     pub wrote_head : Adds p (record { instrs = y ∷ below.instrs; fresh = below.fresh }) es s u
         → Adds p (record { instrs = head below ∷ below.instrs; fresh = below.fresh }) es s (with_patch u (length s.instrs) i)
     wrote_head h =
-        adds_to p (record { instrs = y ∷ below.instrs; fresh = below.fresh }) _ es es s u _ (omega arith)
+        adds_to p p (record { instrs = y ∷ below.instrs; fresh = below.fresh }) _ es es s u _ (omega arith)
         (λ e. record {
           instrs = ap (λ l. slice_set l (length s.instrs) i) e.instrs ∙ set-append_seam s.instrs y below.instrs i
               ∙ ap (λ k. s.instrs ++ k ∷ below.instrs) (known e);

@@ -12,6 +12,7 @@ use Rattle.fancy_plain.specs.Neighbours.{IsEasy}
 use Rattle.fancy_program.specs.Insns.{insn_of}
 use Rattle.fancy_program.specs.declared.insn.Insn.{Insn}
 use Rattle.fancy_code.specs.Drafts.{Draft, Writes}
+use Rattle.fancy_code.specs.Faults.{StayWithin}
 use Rattle.fancy_code.specs.Neighbours.{IsMadeOf}
 use Rattle.fancy_code.specs.Sites.{Site}
 
@@ -29,10 +30,10 @@ code_of None = nothing
 abbrev pub IsInsnOf : Bool → List Info → Code → Result (Option Insn) Error → Type 0
 IsInsnOf unicode is code = IsMadeOf unicode is (λ i. code_of i ≡ code)
 
--- neighbouring easy nodes as one instruction
+-- neighbouring easy nodes for which there is room, as one instruction
 abbrev pub WritesBatch : (unicode : Bool) → List Info → Draft → Draft → Type 0
 WritesBatch unicode is s t =
-    (p : Site) → p.unicode ≡ unicode → Each (IsEasy p.analysis) is →
+    (p : Site) → p.unicode ≡ unicode → Each (IsEasy p.analysis) is → StayWithin p (map info_tree is) →
     Writes p (batch p.unicode (map info_tree is)) (map info_tree is) s t
 
 abbrev pub easy_repeater : Bool → Tree → Instr
@@ -40,8 +41,8 @@ easy_repeater unicode e =
     let es = e ∷ [] in
     Instr.AbsentRepeater (pattern_of unicode es) (fragment unicode es) (group_range es)
 
--- the instruction of an absent repeater of an easy node
+-- the instruction of an absent repeater of an easy node for which there is room
 abbrev pub WritesRepeater : (unicode : Bool) → Info → Draft → Draft → Type 0
 WritesRepeater unicode i s t =
-    (p : Site) → p.unicode ≡ unicode → IsEasy p.analysis i →
+    (p : Site) → p.unicode ≡ unicode → IsEasy p.analysis i → StayWithin p (info_tree i ∷ []) →
     Writes p (one (easy_repeater p.unicode (info_tree i))) (info_tree i ∷ []) s t

@@ -14,7 +14,7 @@ use Rattle.fancy_expr.specs.declared.error.Error.{Error}
 use Rattle.fancy_expr.specs.declared.error.Error.TheVariants as error
 use Rattle.fancy_code.specs.declared.writer.CodeWriter.{CodeWriter}
 use Rattle.fancy_expr.specs.Errors.{error_of}
-use Rattle.fancy_code.specs.Faults.{AreCompilable, HasRejected}
+use Rattle.fancy_code.specs.Faults.{AreCompilable, HasRejected, refused_as, too_deep}
 
 -- the program so far
 pub record Draft : Type 0 where
@@ -47,15 +47,16 @@ pub record Extends (a : Laid) (s t : Draft) : Type 0 where
   pub instrs : t.instrs ≡ s.instrs ++ a.instrs
   pub fresh : t.fresh ≡ a.fresh
 
--- Why these instructions, which write these nodes out, were not all added: the limit, a node, or memory.
+-- Why these instructions, which write these nodes out, were not all added: the limit of instructions, a node, how deep
+-- they nest, or memory.
 abbrev pub Breaks : Site → Laid → List Tree → Draft → Error → Type 0
 Breaks p a es s error.Memory = Unit {0}
 Breaks p a es s (error.CompileError x) =
     ((error_of x ≡ plain.PatternTooComplex) × IsOver s.limit (length s.instrs + length a.instrs)) ⊎ HasRejected p es
-    (error_of x)
+    (refused_as (error_of x))
 Breaks p a es s (error.RuntimeError x) = ⊥
 Breaks p a es s (error.TreeFault at) = ⊥
-Breaks p a es s error.NestLimitExceeded = ⊥
+Breaks p a es s error.NestLimitExceeded = HasRejected p es too_deep
 
 -- from one fault to another
 abbrev pub Turns : Site → Laid → List Tree → Draft → Draft → Option Error → Option Error → Type 0

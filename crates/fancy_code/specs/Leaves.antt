@@ -6,18 +6,20 @@ use Rattle.fancy_meaning.specs.Code.{Code}
 use Rattle.fancy_expr.specs.declared.expr.Expr.{Expr}
 use Rattle.fancy_info.specs.Infos.{node_over}
 use Rattle.fancy_code.specs.Drafts.{Draft, Writes, written_code}
-use Rattle.fancy_code.specs.Sites.{Site}
+use Rattle.fancy_code.specs.Sites.{Site, HasRoom}
 
 -- the node, which is written by itself
 abbrev pub WritesTree : Tree → Draft → Draft → Type 0
 WritesTree e s t =
     (p : Site) (call : ℕ → Bool → Code) (at_start in_hard : Bool)
+    → HasRoom p
     → Writes p (written_code p call e at_start in_hard) (e ∷ []) s t
 
 -- the same, by a plan with this option
 abbrev pub WritesTreeBy : (unicode : Bool) → Tree → Draft → Draft → Type 0
 WritesTreeBy unicode e s t =
     (p : Site) (call : ℕ → Bool → Code) (at_start in_hard : Bool)
+    → HasRoom p
     → p.unicode ≡ unicode
     → Writes p (written_code p call e at_start in_hard) (e ∷ []) s t
 
@@ -25,6 +27,7 @@ WritesTreeBy unicode e s t =
 abbrev pub WritesLeaf : (unicode : Bool) → Expr → Bool → Draft → Draft → Type 0
 WritesLeaf unicode e at_start s t =
     (p : Site) (call : ℕ → Bool → Code) (in_hard : Bool) (start : ℕ) (w : plain.Within) (es : Trees)
+    → HasRoom p
     → p.unicode ≡ unicode
     → Writes p (written_code p call (node_over e start w es) at_start in_hard) (node_over e start w es ∷ []) s t
 

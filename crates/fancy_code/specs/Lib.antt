@@ -1,4 +1,5 @@
 pub mod Kinds
+pub mod Nesting
 pub mod Sites
 pub mod Faults
 pub mod Drafts

@@ -1,6 +1,6 @@
 //! A program in the making.
 
-ghost use Rattle.std.specs.Prelude.{◌≡◌, ◌+◌, ◌-◌, ◌≤◌, ◌^◌, List, None, length, [], nat_lt, true, false};
+ghost use Rattle.std.specs.Prelude.{◌≡◌, ◌+◌, ◌≤◌, ◌^◌, List, None, length, [], true, false};
 ghost use Rattle.std.specs.Option.{ForSome};
 
 use crate::classes::SharedClasses;
@@ -18,10 +18,6 @@ pub struct CodeWriter {
     /// The most instructions.
     pub limit: Option<usize>,
     pub fault: Option<Error>,
-    /// How many nodes stand in one another where the next is written.
-    pub nesting: usize,
-    /// The most that may.
-    pub max_nesting: usize,
     pub classes: SharedClasses,
     pub delegates: SharedDelegates,
     ghost within: { ForSome limit (λ most. length code.items ≤ most) },
@@ -34,11 +30,11 @@ impl CodeWriter {
     ghost use Rattle.fancy_meaning.specs.Tree.{Tree};
     ghost use Rattle.fancy_code.specs.Sites.{Site};
     ghost use Rattle.fancy_expr.specs.Errors.{error_of};
-    ghost use Rattle.fancy_code.specs.Faults.{HasRejected};
+    ghost use Rattle.fancy_code.specs.Faults.{HasRejected, refused_as};
     ghost use Rattle.fancy_code.specs.Drafts.{Adds, Breaks, IsOver, Writes, draft_of, one_over_slot, with_patch};
 
-    /// Nothing yet: slots are taken from `fresh` on, at most `limit` instructions are written, and at most `max_nesting` nodes in one another.
-    pub fn new(alloc: Global, fresh: usize, limit: Option<usize>, max_nesting: usize) -> CodeWriter
+    /// Nothing yet: slots are taken from `fresh` on, and at most `limit` instructions are written.
+    pub fn new(alloc: Global, fresh: usize, limit: Option<usize>) -> CodeWriter
         requires { fresh ≤ 2 ^ 62 }
         ensures { draft_of result ≡ record { instrs = []; fresh = fresh; limit = limit; fault = None } }
     {
@@ -47,8 +43,6 @@ impl CodeWriter {
             fresh,
             limit,
             fault: None,
-            nesting: 0,
-            max_nesting,
             classes: SharedClasses::new(alloc),
             delegates: SharedDelegates::new(alloc),
         }
@@ -109,34 +103,10 @@ impl CodeWriter {
     /// Nothing more is written, since a node is refused.
     pub fn refuse(&mut self, error: CompileError)
         ensures { (p : Site) (a : Laid) (es : List Tree)
-            → HasRejected p es (error_of error)
+            → HasRejected p es (refused_as (error_of error))
             → Adds p a es (draft_of self.old) (draft_of self.new) }
     {
         self.fail(Error::CompileError(error));
-    }
-
-    /// A node within those that are being written; false where that is one too many, and nothing more is written for want of memory.
-    pub fn enter(&mut self) -> bool
-        ensures told { result ≡ nat_lt self.old.nesting self.old.max_nesting }
-        ensures entered { result ≡ true
-            → self.new ≡ record self.old { nesting = self.old.nesting + 1 } }
-        ensures refused { result ≡ false
-            → (p : Site) (a : Laid) (es : List Tree)
-            → Adds p a es (draft_of self.old) (draft_of self.new) }
-    {
-        if self.nesting >= self.max_nesting {
-            self.fail(Error::Memory);
-            return false;
-        }
-        self.nesting += 1;
-        true
-    }
-
-    /// The node that was entered last is written.
-    pub fn leave(&mut self)
-        ensures { self.new ≡ record self.old { nesting = self.old.nesting - 1 } }
-    {
-        self.nesting = self.nesting.saturating_sub(1);
     }
 
     /// Writes over an instruction.

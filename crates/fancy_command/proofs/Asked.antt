@@ -21,7 +21,7 @@ use Rattle.fancy_command.specs.Arguments as line
 use Rattle.fancy_command.specs.Arguments.{Text, Question, arguments_of, question_of}
 use Rattle.fancy_command.specs.Commands.{AnswersTo, searched, IsRead}
 use Rattle.fancy_search.proofs.Searched.{place_of}
-use Rattle.fancy_search.specs.Searches.{Promises, input_of, options_fit, search_fits}
+use Rattle.fancy_search.specs.Searches.{PromisesWithin, input_of, options_fit, search_fits}
 
 boundary_of : (text : List ℕ) (i : ℕ) → is_place text i ≡ true → IsCharBoundary text i
 boundary_of text i e = let p = and_parts _ _ e in IsCharBoundary-of_test text i (leb-true _ _ p.0) p.1
@@ -72,9 +72,10 @@ options_are_fit a text o as_analysed as_compiled as_run at =
 -- what the search answers is what the words ask for
 pub answers_by : (q : Question) (t : ExprTree) (o : SearchOptions) (answer : Result (Option (Vec ℕ Global)) Error) → IsRead q.tree t →
     o.analysis ≡ line.analysis q.arguments → o.compilation ≡ line.compilation q.arguments → run_options_of o.run ≡ line.running q.arguments →
-    Promises (input_of t o.analysis o.compilation) q.text (run_options_of o.run) answer → AnswersTo q answer
+    PromisesWithin (input_of t o.analysis o.compilation) o.compilation.max_nesting q.text (run_options_of o.run) answer → AnswersTo q answer
 answers_by q t o answer read as_analysed as_compiled as_run h =
     searched {t = t} read
-    (subst (λ (x : plain.RunOptions). Promises (input_of t (line.analysis q.arguments) (line.compilation q.arguments)) q.text x answer) as_run
-    (subst (λ (x : CompileOptions). Promises (input_of t (line.analysis q.arguments) x) q.text (run_options_of o.run) answer) as_compiled
-    (subst (λ (x : AnalyzeContext). Promises (input_of t x o.compilation) q.text (run_options_of o.run) answer) as_analysed h)))
+    (subst (λ (x : plain.RunOptions). PromisesWithin (input_of t (line.analysis q.arguments) (line.compilation q.arguments)) (Some line.most_nesting) q.text x answer)
+    as_run
+    (subst (λ (x : CompileOptions). PromisesWithin (input_of t (line.analysis q.arguments) x) x.max_nesting q.text (run_options_of o.run) answer) as_compiled
+    (subst (λ (x : AnalyzeContext). PromisesWithin (input_of t x o.compilation) o.compilation.max_nesting q.text (run_options_of o.run) answer) as_analysed h)))

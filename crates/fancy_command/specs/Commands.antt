@@ -15,9 +15,9 @@ use Rattle.fancy_expr.specs.Sound.{IsWellFormedTree}
 use Rattle.fancy_expr.specs.Views.{tree_of}
 use Rattle.fancy_command.specs.declared.command.Question.{Question}
 use Rattle.fancy_command.specs.Arguments as line
-use Rattle.fancy_command.specs.Arguments.{Text, question_of, analysis, compilation, running}
+use Rattle.fancy_command.specs.Arguments.{Text, question_of, analysis, compilation, running, most_nesting}
 use Rattle.fancy_command.specs.Printing.{answer_line, depth_line, error_line, usage_line}
-use Rattle.fancy_search.specs.Searches.{Promises, input_of}
+use Rattle.fancy_search.specs.Searches.{PromisesWithin, input_of}
 use Rattle.fancy_command.specs.Writing.{Writes}
 
 abbrev pub asked : Question → line.Question
@@ -35,7 +35,8 @@ IsFaultOf text e = IsFault (length text) (tokens_of text) e
 pub data AnswersTo (q : line.Question) : Result (Option (Vec ℕ Global)) Error → Type 0 where
   unread : {e : Error} → IsFaultOf q.tree e → AnswersTo q (Err e)
   searched : {answer : Result (Option (Vec ℕ Global)) Error} {t : ExprTree} → IsRead q.tree t →
-      Promises (input_of t (analysis q.arguments) (compilation q.arguments)) q.text (running q.arguments) answer →
+      PromisesWithin (input_of t (analysis q.arguments) (compilation q.arguments)) (Some most_nesting) q.text
+      (running q.arguments) answer →
       AnswersTo q answer
 
 -- the line of the answer, or why there is none

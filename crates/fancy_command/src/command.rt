@@ -91,7 +91,8 @@ fn report<O: Write>(alloc: Global, error: &Error, out: &mut O) -> u8
 ///
 /// The answer is written on `out` with status 0: start and end of each group in bytes of TEXT, or `none`. A refusal
 /// is written there by its name with status 1; a TREE that nests deeper than `MOST_DEPTH` is not read, and its refusal
-/// is `RecursionExceeded`. An invalid command line, or a place inside a character of TEXT, gives a line on `err` with
+/// is `RecursionExceeded`; one of which more than 4,000 nodes are written out in one another, as calls are where they
+/// stand, is `NestLimitExceeded`. An invalid command line, or a place inside a character of TEXT, gives a line on `err` with
 /// status 2, and TREE is not read. Where a write fails, the status is 3, and no more is written: what was
 /// written before it is a part of the line from its start.
 pub fn command<O: Write, E: Write>(alloc: Global, args: &[String], out: &mut O, err: &mut E) -> u8

@@ -21,7 +21,7 @@ use Rattle.fancy_expr.specs.declared.error.Error.TheVariants as error
 use Rattle.fancy_code.specs.Kinds.{is_out_of_range}
 use Rattle.fancy_code.specs.Faults as faults
 use Rattle.fancy_expr.specs.Errors.{error_of}
-use Rattle.fancy_code.specs.Faults.{MayReject, rejected, IsBelow, itself, below, through, Rejects, refused, out_of_range, IsCompilable}
+use Rattle.fancy_code.specs.Faults.{MayReject, rejected, IsBelow, itself, below, through, Rejects, refused, out_of_range, RefusesNone, IsCompilable}
 use Rattle.fancy_code.specs.Drafts.{Draft, IsOver, Extends, Breaks, Turns, Writes, is_easy}
 use Rattle.fancy_compile.specs.Compiled.{refuses, too_big, Refuses, MayAnswer, Compiles}
 
@@ -78,7 +78,7 @@ module _ (p : Plan) where
   abbrev pub AllInRange : Type 0
   AllInRange = (e : Tree) → IsWritten whole e → ¬ (is_out_of_range e ≡ true)
 
-  refused_at : AllInRange → (e : Tree) (x : refusal.CompileError) → IsWritten whole e → MayReject (top p) e x → MayAnswer p x
+  refused_at : AllInRange → (e : Tree) (x : refusal.CompileError) → IsWritten whole e → MayReject p e x → MayAnswer p x
   refused_at ranged e x w (rejected (refused r)) = refuses (refused_node w r)
   refused_at ranged e x w (rejected (out_of_range h)) = absurd (ranged e w h)
   refused_at ranged e x w (faults.too_big {casei = casei}) = too_big (casei, w)
@@ -88,45 +88,46 @@ module _ (p : Plan) where
   refused_over None same h = absurd h
   refused_over (Some most) same h = too_long same (omega (arith, h, ap length body_is))
 
-  pub refused_breaks : AllInRange → (s : Draft) → s.limit ≡ p.max_prog_size → s.instrs ≡ [] → (x : Error) → Breaks (top p) whole_code (whole ∷ []) s x
-      → Compiles p (Err x)
-  refused_breaks ranged s limit empty error.Memory h = h
-  refused_breaks ranged s limit empty (error.CompileError x) (inl h) =
+  pub refused_breaks : (most : Option ℕ) → AllInRange → (s : Draft) → s.limit ≡ p.max_prog_size → s.instrs ≡ [] → (x : Error)
+      → Breaks (top p most) whole_code (whole ∷ []) s x → Compiles p most (Err x)
+  refused_breaks most ranged s limit empty error.Memory h = h
+  refused_breaks most ranged s limit empty (error.CompileError x) (inl h) =
       let count : length s.instrs + length whole_code.instrs ≡ length whole_code.instrs = omega (arith, ap length empty) in
       let over = subst (λ n. IsOver p.max_prog_size n) count (subst (λ l. IsOver l (length s.instrs + length whole_code.instrs)) limit h.1) in
       subst (MayAnswer p) (sym h.0) (refuses (refused_over p.max_prog_size refl over))
-  refused_breaks ranged s limit empty (error.CompileError x) (inr (inl h)) = refused_at ranged h.node (error_of x)
+  refused_breaks most ranged s limit empty (error.CompileError x) (inr (inl h)) = refused_at ranged h.node (error_of x)
       (written_below no_calls whole h.node root h.is_below) h.rejects
-  refused_breaks ranged s limit empty (error.CompileError x) (inr (inr h)) = absurd h
-  refused_breaks ranged s limit empty (error.RuntimeError x) h = h
-  refused_breaks ranged s limit empty (error.TreeFault at) h = h
-  refused_breaks ranged s limit empty error.NestLimitExceeded h = h
+  refused_breaks most ranged s limit empty (error.CompileError x) (inr (inr h)) = absurd h
+  refused_breaks most ranged s limit empty (error.RuntimeError x) h = h
+  refused_breaks most ranged s limit empty (error.TreeFault at) h = h
+  refused_breaks most ranged s limit empty error.NestLimitExceeded (inl h) = h
+  refused_breaks most ranged s limit empty error.NestLimitExceeded (inr h) = absurd h
 
   -- ---- no case holds
 
   small_enough : (most : ℕ) → p.max_prog_size ≡ Some most → ForSome p.max_prog_size (λ n. length whole_code.instrs ≤ n) → length whole_code.instrs ≤ most
   small_enough most same h = h most same
 
-  pub none_refused : IsCompilable (top p) whole → ForSome p.max_prog_size (λ n. length whole_code.instrs ≤ n) → p.bytes_mode ≡ plain.Unicode
+  pub none_refused : (most : Option ℕ) → RefusesNone (top p most) whole → ForSome p.max_prog_size (λ n. length whole_code.instrs ≤ n) → p.bytes_mode ≡ plain.Unicode
       → (x : refusal.CompileError) → ¬ Refuses p x
-  none_refused ok small mode x (refused_node {e = e} w r) = ok e (below_written e w) x (refused r)
-  none_refused ok small mode x (too_long {most = most} same long) = absurd (omega (arith, long, ap length body_is, small_enough most same small))
-  none_refused ok small mode x (bytes_mode h) = h mode
+  none_refused top_most ok small mode x (refused_node {e = e} w r) = ok e (below_written e w) x (refused r)
+  none_refused top_most ok small mode x (too_long {most = most} same long) = absurd (omega (arith, long, ap length body_is, small_enough most same small))
+  none_refused top_most ok small mode x (bytes_mode h) = h mode
 
   -- ---- from the writing
 
   abbrev pub start : ℕ → Draft
   start fresh = record { instrs = []; fresh = fresh; limit = p.max_prog_size; fault = None }
 
-  pub error_may_answer : AllInRange → (t : Draft) (x : Error) → Writes (top p) (program_code p (is_easy p.analysis)) (whole ∷ []) (start (first_fresh p)) t
-      → t.fault ≡ Some x → Compiles p (Err x)
-  error_may_answer ranged t x h is = refused_breaks ranged (start (first_fresh p)) refl refl x
-      (subst (Turns (top p) whole_code (whole ∷ []) (start (first_fresh p)) t None) is h.turns)
+  pub error_may_answer : (most : Option ℕ) → AllInRange → (t : Draft) (x : Error)
+      → Writes (top p most) (program_code p (is_easy p.analysis)) (whole ∷ []) (start (first_fresh p)) t → t.fault ≡ Some x → Compiles p most (Err x)
+  error_may_answer most ranged t x h is = refused_breaks most ranged (start (first_fresh p)) refl refl x
+      (subst (Turns (top p most) whole_code (whole ∷ []) (start (first_fresh p)) t None) is h.turns)
 
-  pub written : (t : Draft) → Writes (top p) (program_code p (is_easy p.analysis)) (whole ∷ []) (start (first_fresh p)) t → t.fault ≡ None
-      → Extends whole_code (start (first_fresh p)) t × IsCompilable (top p) whole
-  written t h is =
-      let done = subst (Turns (top p) whole_code (whole ∷ []) (start (first_fresh p)) t None) is h.turns in
+  pub written : (most : Option ℕ) (t : Draft) → Writes (top p most) (program_code p (is_easy p.analysis)) (whole ∷ []) (start (first_fresh p)) t
+      → t.fault ≡ None → Extends whole_code (start (first_fresh p)) t × IsCompilable (top p most) whole
+  written most t h is =
+      let done = subst (Turns (top p most) whole_code (whole ∷ []) (start (first_fresh p)) t None) is h.turns in
       (done.0, done.1.0)
 
   -- ---- the program

@@ -64,10 +64,10 @@ module _ (a : Analysed) (i : Info) (o : CompileOptions) (m : MayCompile a i o) w
 
     -- the writing begins as the layout does
     pub writing_from_start : (fresh : ℕ) (t : Draft) → fresh ≡ fresh_by explicit total
-        → Writes (top p) (program_code p (is_easy p.analysis)) (whole ∷ [])
-        (record { instrs = []; fresh = fresh; limit = o.max_prog_size; fault = None }) t → IsWritingOf p t
+        → Writes (top p o.max_nesting) (program_code p (is_easy p.analysis)) (whole ∷ [])
+        (record { instrs = []; fresh = fresh; limit = o.max_prog_size; fault = None }) t → IsWritingOf p o.max_nesting t
     writing_from_start fresh t at h =
-        subst (λ n. Writes (top p) (program_code p (is_easy p.analysis)) (whole ∷ [])
+        subst (λ n. Writes (top p o.max_nesting) (program_code p (is_easy p.analysis)) (whole ∷ [])
         (record { instrs = []; fresh = n; limit = o.max_prog_size; fault = None }) t) (at ∙ fresh_is) h
 
     -- the parts are those of the layout

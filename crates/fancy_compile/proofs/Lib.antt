@@ -12,6 +12,8 @@ pub mod Lookbehinds
 pub mod AbsentLaws
 pub mod OpenDepths
 pub mod CallLaws
+pub mod Rooms
+pub mod NestLaws
 pub mod Called
 pub mod Compiled
 pub mod Roots

@@ -6,7 +6,7 @@ use Rattle.fancy_meaning.specs.AnalysisRefusals as refusal
 use Rattle.fancy_meaning.specs.CompileRefusals.{IsAmong, here, there, is_behind, branches_of, IsVariableLookbehind, absent_other, variable_lookbehind}
 use Rattle.fancy_meaning.specs.Code.{Code, in_turn, branches}
 use Rattle.fancy_meaning.specs.Options.{Analysis}
-use Rattle.fancy_code.specs.Sites.{Site}
+use Rattle.fancy_code.specs.Sites.{Site, HasRoom, within_node}
 use Rattle.fancy_meaning.specs.Sizes.{Size, size}
 use Rattle.fancy_expr.specs.declared.expr.Absent.{Absent}
 use Rattle.fancy_expr.specs.declared.expr.Absent.TheVariants as code_absent
@@ -19,7 +19,7 @@ use Rattle.fancy_expr.specs.Each.{Each}
 use Rattle.fancy_info.proofs.Unfolded.{tree_out}
 use Rattle.fancy_code.specs.declared.around.Around.TheVariants as around
 use Rattle.fancy_code.specs.Arounds.{around_code, behind, behind_kind, not_behind}
-use Rattle.fancy_code.specs.Faults.{Rejects, refused, out_of_range, HasRejected}
+use Rattle.fancy_code.specs.Faults.{Rejects, refused, out_of_range, refused_as, HasRejected}
 use Rattle.fancy_code.specs.Drafts.{Draft, Writes, written_code, node_code}
 use Rattle.fancy_compile.specs.AnalysedNodes.{is_alt, has_const_branches, IsKnown}
 use Rattle.fancy_compile.specs.Nodes.{look_behind, codes_of_branches, codes_of_none}
@@ -106,7 +106,7 @@ module _ (a : Analysis) where
 -- ---- what is written
 
 module _ (p : Site) where
-  behind_fine : (look : Look) (e : Tree) → ¬ IsVariableLookbehind p.plan look e → (x : refusal.CompileError) → ¬ Rejects p (LookAround look e) x
+  behind_fine : (look : Look) (e : Tree) → ¬ IsVariableLookbehind p.plan look e → (x : refusal.CompileError) → ¬ Rejects p.plan (LookAround look e) x
   behind_fine look e h x (refused (absent_other i n)) = true≢false (sym i)
   behind_fine look e h x (refused (variable_lookbehind v)) = h v
   behind_fine look e h x (out_of_range i) = true≢false (sym i)
@@ -117,7 +117,7 @@ module _ (p : Site) where
 
   pub variable_refused : (negative : Bool) (e : Tree) → (size p.analysis.tree e).is_const ≡ false
       → Failing (λ b. (size p.analysis.tree b).is_const) (branches_of e)
-      → HasRejected p (LookAround (look_behind negative) e ∷ []) refusal.VariableLookBehindRequiresFeature
+      → HasRejected p (LookAround (look_behind negative) e ∷ []) (refused_as refusal.VariableLookBehindRequiresFeature)
   variable_refused negative e varies f =
       rejected_here p (LookAround (look_behind negative) e) refusal.VariableLookBehindRequiresFeature
       (refused (variable_lookbehind (record {
@@ -128,7 +128,7 @@ module _ (p : Site) where
         branch_varies = λ c. true≢false (sym c ∙ f.fails);
       })))
 
-  module _ (call : ℕ → Bool → Code) (at_start in_hard : Bool) (s t : Draft) where
+  module _ (room : HasRoom p) (call : ℕ → Bool → Code) (at_start in_hard : Bool) (s t : Draft) where
     abbrev Wrote : Look → Tree → Type 0
     Wrote look e = Writes p (written_code p call (LookAround look e) at_start in_hard) (LookAround look e ∷ []) s t
 
@@ -136,14 +136,14 @@ module _ (p : Site) where
     constant_fine look e h = (behind_fine look e (λ v. v.body_varies h), refl)
 
     pub wrote_behind : (negative : Bool) (e : Tree) (n : ℕ) → (size p.analysis.tree e).is_const ≡ true → n ≡ (size p.analysis.tree e).least
-        → Writes p (around_code (around.Look (behind_kind negative n)) (node_code p call e false false)) (e ∷ []) s t → Wrote (look_behind negative) e
+        → Writes (within_node p) (around_code (around.Look (behind_kind negative n)) (node_code p call e false false)) (e ∷ []) s t → Wrote (look_behind negative) e
     wrote_behind true e n const is h =
-        wrote_node p _ (LookAround LookBehindNeg e) s t (constant_fine LookBehindNeg e const)
-        (subst (λ k. Writes p k (e ∷ []) s t) (ap (λ m. around_code (not_behind m) (node_code p call e false false)) is
+        wrote_node p room _ (LookAround LookBehindNeg e) s t (constant_fine LookBehindNeg e const)
+        (subst (λ k. Writes (within_node p) k (e ∷ []) s t) (ap (λ m. around_code (not_behind m) (node_code p call e false false)) is
         ∙ sym (not_behind_by p call at_start in_hard e const)) h)
     wrote_behind false e n const is h =
-        wrote_node p _ (LookAround LookBehind e) s t (constant_fine LookBehind e const)
-        (subst (λ k. Writes p k (e ∷ []) s t) (ap (λ m. around_code (behind m) (node_code p call e false false)) is
+        wrote_node p room _ (LookAround LookBehind e) s t (constant_fine LookBehind e const)
+        (subst (λ k. Writes (within_node p) k (e ∷ []) s t) (ap (λ m. around_code (behind m) (node_code p call e false false)) is
         ∙ sym (behind_by p call at_start in_hard e const)) h)
 
     -- over branches
@@ -151,25 +151,26 @@ module _ (p : Site) where
     branches_fine look es all =
         (behind_fine look (Alt (trees es)) (λ v. v.branch_varies (among_all (λ b. (size p.analysis.tree b).is_const) es all v.branch v.is_branch)), refl)
 
-    -- the alternation itself is not refused
-    as_branches : (es : List Tree) (k : Code) → Writes p k es s t → Writes p k (Alt (trees es) ∷ []) s t
-    as_branches es k h = wrote_node p _ (Alt (trees es)) s t (safe_fine p (Alt (trees es)) refl refl)
-        (subst (λ ds. Writes p k ds s t) (sym (children_trees es)) h)
+    -- there is room for the alternation, which is not refused itself
+    as_branches : HasRoom (within_node p) → (es : List Tree) (k : Code) → Writes (within_node (within_node p)) k es s t
+        → Writes (within_node p) k (Alt (trees es) ∷ []) s t
+    as_branches again es k h = wrote_node (within_node p) again _ (Alt (trees es)) s t (safe_fine (within_node p) (Alt (trees es)) refl refl)
+        (subst (λ ds. Writes (within_node (within_node p)) k ds s t) (sym (children_trees es)) h)
 
-    pub wrote_behind_branches : (e : Tree) (es : List Tree) → e ≡ Alt (trees es) → (size p.analysis.tree e).is_const ≡ false → AllConst p call es
-        → Writes p (branches (codes_of_branches p call true false es)) es s t → Wrote LookBehind e
-    wrote_behind_branches e es is varies all h =
+    pub wrote_behind_branches : HasRoom (within_node p) → (e : Tree) (es : List Tree) → e ≡ Alt (trees es) → (size p.analysis.tree e).is_const ≡ false → AllConst p call es
+        → Writes (within_node (within_node p)) (branches (codes_of_branches p call true false es)) es s t → Wrote LookBehind e
+    wrote_behind_branches again e es is varies all h =
         subst (λ d. Wrote LookBehind d) (sym is)
-        (wrote_node p _ (LookAround LookBehind (Alt (trees es))) s t (branches_fine LookBehind es all)
-        (subst (λ k. Writes p k (Alt (trees es) ∷ []) s t)
+        (wrote_node p room _ (LookAround LookBehind (Alt (trees es))) s t (branches_fine LookBehind es all)
+        (subst (λ k. Writes (within_node p) k (Alt (trees es) ∷ []) s t)
         (sym (behind_alt_by p call at_start in_hard es (ap (λ d. (size p.analysis.tree d).is_const) (sym is) ∙ varies) all))
-        (as_branches es (branches (codes_of_branches p call true false es)) h)))
+        (as_branches again es (branches (codes_of_branches p call true false es)) h)))
 
-    pub wrote_none_behind : (e : Tree) (es : List Tree) → e ≡ Alt (trees es) → (size p.analysis.tree e).is_const ≡ false → AllConst p call es
-        → Writes p (in_turn (codes_of_none p call es)) es s t → Wrote LookBehindNeg e
-    wrote_none_behind e es is varies all h =
+    pub wrote_none_behind : HasRoom (within_node p) → (e : Tree) (es : List Tree) → e ≡ Alt (trees es) → (size p.analysis.tree e).is_const ≡ false → AllConst p call es
+        → Writes (within_node (within_node p)) (in_turn (codes_of_none p call es)) es s t → Wrote LookBehindNeg e
+    wrote_none_behind again e es is varies all h =
         subst (λ d. Wrote LookBehindNeg d) (sym is)
-        (wrote_node p _ (LookAround LookBehindNeg (Alt (trees es))) s t (branches_fine LookBehindNeg es all)
-        (subst (λ k. Writes p k (Alt (trees es) ∷ []) s t)
+        (wrote_node p room _ (LookAround LookBehindNeg (Alt (trees es))) s t (branches_fine LookBehindNeg es all)
+        (subst (λ k. Writes (within_node p) k (Alt (trees es) ∷ []) s t)
         (sym (not_behind_alt_by p call at_start in_hard es (ap (λ d. (size p.analysis.tree d).is_const) (sym is) ∙ varies) all))
-        (as_branches es (in_turn (codes_of_none p call es)) h)))
+        (as_branches again es (in_turn (codes_of_none p call es)) h)))

@@ -6,7 +6,7 @@ use Rattle.fancy_meaning.specs.Code.{Code}
 use Rattle.fancy_meaning.specs.Constructs.{LoopForm, Never, AtMostOnce, Counted, loop_form, repeat_code}
 use Rattle.fancy_meaning.specs.Layout.{is_at_most_once}
 use Rattle.fancy_meaning.specs.Sizes.{size}
-use Rattle.fancy_code.specs.Sites.{Site}
+use Rattle.fancy_code.specs.Sites.{Site, HasRoom, within_node}
 use Rattle.fancy_expr.specs.Views.{bound_of}
 use Rattle.fancy_code.specs.declared.loops.LoopKind.{LoopKind}
 use Rattle.fancy_code.specs.declared.loops.LoopKind.TheVariants as kind
@@ -79,7 +79,7 @@ counted_open (suc (suc m)) h g = refl
 
 -- ---- the node
 
-module _ (p : Site) (call : ℕ → Bool → Code) (at_start in_hard : Bool) (lo : ℕ) (greedy : Bool) (e : Tree) (s t : Draft) where
+module _ (p : Site) (room : HasRoom p) (call : ℕ → Bool → Code) (at_start in_hard : Bool) (lo : ℕ) (greedy : Bool) (e : Tree) (s t : Draft) where
   abbrev form : Option ℕ → LoopForm
   form hi = loop_form lo hi ((size p.analysis.tree e).least == 0)
 
@@ -90,19 +90,19 @@ module _ (p : Site) (call : ℕ → Bool → Code) (at_start in_hard : Bool) (lo
   Wrote hi = Writes p (written_code p call (Repeat lo hi greedy e) at_start in_hard) (Repeat lo hi greedy e ∷ []) s t
 
   pub wrote_repeat : (hi : Option ℕ) (k : LoopKind) → kind_form k ≡ form hi
-      → Writes p (repeat_code greedy (body (kind_form k)) (kind_form k)) (e ∷ []) s t → Wrote hi
+      → Writes (within_node p) (repeat_code greedy (body (kind_form k)) (kind_form k)) (e ∷ []) s t → Wrote hi
   wrote_repeat (Some zero) k is h = clash (kind_form k) (sym is) (kind_enters k)
   wrote_repeat (Some (suc n)) k is h =
-      wrote_node p _ (Repeat lo (Some (suc n)) greedy e) s t (safe_fine p (Repeat lo (Some (suc n)) greedy e) refl refl)
-      (subst (λ f. Writes p (repeat_code greedy (body f) f) (e ∷ []) s t) is h)
+      wrote_node p room _ (Repeat lo (Some (suc n)) greedy e) s t (safe_fine p (Repeat lo (Some (suc n)) greedy e) refl refl)
+      (subst (λ f. Writes (within_node p) (repeat_code greedy (body f) f) (e ∷ []) s t) is h)
   wrote_repeat None k is h =
-      wrote_node p _ (Repeat lo None greedy e) s t (safe_fine p (Repeat lo None greedy e) refl refl)
-      (subst (λ f. Writes p (repeat_code greedy (body f) f) (e ∷ []) s t) is h)
+      wrote_node p room _ (Repeat lo None greedy e) s t (safe_fine p (Repeat lo None greedy e) refl refl)
+      (subst (λ f. Writes (within_node p) (repeat_code greedy (body f) f) (e ∷ []) s t) is h)
 
 -- a loop that is never entered
-pub wrote_never : (p : Site) (call : ℕ → Bool → Code) (at_start in_hard : Bool) (lo : ℕ) (greedy : Bool) (e : Tree) (s : Draft) (hi : Option ℕ)
+pub wrote_never : (p : Site) (room : HasRoom p) (call : ℕ → Bool → Code) (at_start in_hard : Bool) (lo : ℕ) (greedy : Bool) (e : Tree) (s : Draft) (hi : Option ℕ)
     → Never ≡ loop_form lo hi ((size p.analysis.tree e).least == 0) → Writes p (written_code p call (Repeat lo hi greedy e) at_start in_hard)
     (Repeat lo hi greedy e ∷ []) s s
-wrote_never p call at_start in_hard lo greedy e s hi is =
+wrote_never p room call at_start in_hard lo greedy e s hi is =
     subst (λ b. Writes p (written_code p call (Repeat lo b greedy e) at_start in_hard) (Repeat lo b greedy e ∷ []) s s) (sym (never_is lo hi _ is))
-    (wrote_node p _ (Repeat lo (Some 0) greedy e) s s (safe_fine p (Repeat lo (Some 0) greedy e) refl refl) (wrote_nothing p s))
+    (wrote_node p room _ (Repeat lo (Some 0) greedy e) s s (safe_fine p (Repeat lo (Some 0) greedy e) refl refl) (wrote_nothing (within_node p) s))

@@ -7,7 +7,7 @@ use Rattle.fancy_meaning.specs.Batches.{batch}
 use Rattle.fancy_meaning.specs.Instr.{Instr}
 use Rattle.fancy_meaning.specs.Code.{Code, nothing, one, ◌>>◌, in_turn, branch, branches}
 use Rattle.fancy_meaning.specs.Marks.{takes_nothing}
-use Rattle.fancy_code.specs.Sites.{Site}
+use Rattle.fancy_code.specs.Sites.{Site, HasRoom, within_node}
 use Rattle.fancy_meaning.specs.Sizes.{Size, size}
 use Rattle.fancy_info.specs.declared.info.Info.{Info}
 use Rattle.fancy_info.specs.Infos.{info_tree, info_hard, info_size, IsAnalysed}
@@ -148,16 +148,16 @@ module _ (p : Site) (call : ℕ → Bool → Code) where
         (subst (λ x. LeftInTurn x (middle_of in_hard is) t u) first_is (subst (λ l. LeftInTurn first l t u) middle_is b))
         (subst (λ l. Batches l u v) back_is c))))
 
-  module _ (es : List Tree) (at_start in_hard : Bool) (s t : Draft) where
-    pub wrote_concat : Writes p (written_code p call (Concat (trees es)) at_start in_hard) es s t
+  module _ (room : HasRoom p) (es : List Tree) (at_start in_hard : Bool) (s t : Draft) where
+    pub wrote_concat : Writes (within_node p) (written_code p call (Concat (trees es)) at_start in_hard) es s t
         → Writes p (written_code p call (Concat (trees es)) at_start in_hard) (Concat (trees es) ∷ []) s t
     wrote_concat h =
-        wrote_node p _ (Concat (trees es)) s t (safe_fine p (Concat (trees es)) refl refl)
-        (subst (λ ds. Writes p (written_code p call (Concat (trees es)) at_start in_hard) ds s t) (sym (children_trees es)) h)
+        wrote_node p room _ (Concat (trees es)) s t (safe_fine p (Concat (trees es)) refl refl)
+        (subst (λ ds. Writes (within_node p) (written_code p call (Concat (trees es)) at_start in_hard) ds s t) (sym (children_trees es)) h)
 
-    pub wrote_alt : Writes p (branches (codes_of_branches p call false in_hard es)) es s t
+    pub wrote_alt : Writes (within_node p) (branches (codes_of_branches p call false in_hard es)) es s t
         → Writes p (written_code p call (Alt (trees es)) at_start in_hard) (Alt (trees es) ∷ []) s t
     wrote_alt h =
         subst (λ k. Writes p k (Alt (trees es) ∷ []) s t) (sym (alt_by p call at_start in_hard es))
-        (wrote_node p _ (Alt (trees es)) s t (safe_fine p (Alt (trees es)) refl refl)
-        (subst (λ ds. Writes p (branches (codes_of_branches p call false in_hard es)) ds s t) (sym (children_trees es)) h))
+        (wrote_node p room _ (Alt (trees es)) s t (safe_fine p (Alt (trees es)) refl refl)
+        (subst (λ ds. Writes (within_node p) (branches (codes_of_branches p call false in_hard es)) ds s t) (sym (children_trees es)) h))

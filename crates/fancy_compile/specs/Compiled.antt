@@ -1,5 +1,5 @@
 -- What compiling answers.
-use Rattle.std.specs.Prelude.{◌≡◌, ℕ, List, ◌≤◌, true, [], ◌∷◌, length, None, Result, Ok, Err}
+use Rattle.std.specs.Prelude.{◌≡◌, ℕ, List, ◌≤◌, true, [], ◌∷◌, length, Option, None, Result, Ok, Err}
 use Rattle.std.specs.Option.{ForSome}
 use Rattle.fancy_meaning.specs.Options as plain
 use Rattle.fancy_meaning.specs.Options.{Analysis, Plan}
@@ -18,7 +18,9 @@ use Rattle.fancy_compile.specs.declared.options.BytesMode.{BytesMode}
 use Rattle.fancy_compile.specs.declared.options.BytesMode.TheVariants as code
 use Rattle.fancy_compile.specs.declared.options.CompileOptions.{CompileOptions}
 use Rattle.fancy_code.specs.Drafts.{Draft, Writes, is_easy}
+use Rattle.fancy_code.specs.Nesting.{NestsOver}
 use Rattle.fancy_code.specs.Sites.{top}
+use Rattle.fancy_meaning.specs.OpenCalls.{no_calls}
 use Rattle.fancy_expr.specs.Errors.{error_of}
 
 abbrev pub mode_of : BytesMode → plain.BytesMode
@@ -59,21 +61,28 @@ module _ (p : Plan) where
     refuses : {x : refusal.CompileError} → Refuses x → MayAnswer x
     too_big : {inner : List ℕ} → MayBeTooBig p inner → MayAnswer (refusal.ClassTooBig inner)
 
+-- compiled where at most so many nodes may stand in one another
+module _ (p : Plan) (max_nesting : Option ℕ) where
+  -- more do, where they are written out
+  abbrev pub IsNestedOver : Type 0
+  IsNestedOver = NestsOver p.analysis.tree no_calls max_nesting p.analysis.tree
+
   pub record IsCompiled (prog : Prog) : Type 0 where
     pub layout : prog_of prog ≡ layout p
-    pub small : ForSome p.max_prog_size (λ most. program_size ≤ most)
-    pub not_refused : (x : refusal.CompileError) → ¬ Refuses x
+    pub within : ¬ IsNestedOver
+    pub small : ForSome p.max_prog_size (λ most. program_size p ≤ most)
+    pub not_refused : (x : refusal.CompileError) → ¬ Refuses p x
 
   abbrev pub Compiles : Result Prog Error → Type 0
   Compiles (Ok prog) = IsCompiled prog
-  Compiles (Err (error.CompileError x)) = MayAnswer (error_of x)
+  Compiles (Err (error.CompileError x)) = MayAnswer p (error_of x)
   Compiles (Err error.Memory) = Unit {0}
   Compiles (Err (error.RuntimeError x)) = ⊥
   Compiles (Err (error.TreeFault at)) = ⊥
-  Compiles (Err error.NestLimitExceeded) = ⊥
+  Compiles (Err error.NestLimitExceeded) = IsNestedOver
 
   -- the whole program was written, from nothing
   abbrev pub IsWritingOf : Draft → Type 0
   IsWritingOf t =
-      Writes (top p) (program_code p (is_easy p.analysis)) (p.analysis.tree ∷ [])
+      Writes (top p max_nesting) (program_code p (is_easy p.analysis)) (p.analysis.tree ∷ [])
       (record { instrs = []; fresh = first_fresh p; limit = p.max_prog_size; fault = None }) t

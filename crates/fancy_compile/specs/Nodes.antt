@@ -1,5 +1,5 @@
 -- What writing a node does.
-use Rattle.std.specs.Prelude.{◌≡◌, ℕ, ◌+◌, ◌*◌, ◌≤◌, Bool, true, false, not, ◌&&◌, nat_eq, List, [], ◌∷◌, map, length, Option, slice_index_or, nat_lt}
+use Rattle.std.specs.Prelude.{◌≡◌, ℕ, ◌+◌, ◌-◌, ◌*◌, ◌≤◌, Bool, true, false, not, ◌&&◌, nat_eq, List, [], ◌∷◌, map, length, Option, option_map, slice_index_or, nat_lt}
 use Rattle.std.specs.List.{list_any}
 use Rattle.fancy_meaning.specs.Tree as plain
 use Rattle.fancy_meaning.specs.Tree.{Tree, Trees, trees}
@@ -12,11 +12,13 @@ use Rattle.fancy_meaning.specs.Constructs.{conditional_code, negative_look_code}
 use Rattle.fancy_meaning.specs.Marks.{takes_nothing, marked_groups}
 use Rattle.fancy_meaning.specs.Layout.{called_code}
 use Rattle.fancy_meaning.specs.Nodes.{groups}
+use Rattle.fancy_meaning.specs.Batches.{batch}
+use Rattle.fancy_plain.specs.Neighbours.{IsEasy}
 use Rattle.fancy_plain.specs.Nfas.{AreFine}
 use Rattle.fancy_meaning.specs.OpenCalls.{Depths, free_calls}
 use Rattle.fancy_meaning.specs.Sizes.{size}
 use Rattle.fancy_meaning.specs.Options.{Analysis}
-use Rattle.fancy_code.specs.Sites.{Site}
+use Rattle.fancy_code.specs.Sites.{Site, HasRoom, within_node}
 use Rattle.fancy_info.specs.declared.info.Info.{Info}
 use Rattle.fancy_info.specs.Infos.{info_tree, info_hard, AreInTurn, IsAnalysed}
 use Rattle.fancy_info.specs.NodeCounts.{node_count, node_counts}
@@ -65,21 +67,27 @@ pub record AreWhole (scope : Scope) (is : List Info) : Type 0 where
   pub first : ℕ
   pub in_turn : AreInTurn within first is
 
--- the plan, the open calls, and the code of calls, of a scope
+-- the plan, the open calls, the room, and the code of calls, of a scope
 pub record IsScopeAt (p : Site) (call : ℕ → Bool → Code) (scope : Scope) : Type 0 where
   pub unicode : p.unicode ≡ scope.unicode
   pub of_tree : IsScopeOf p.analysis scope
   pub depths : p.depths ≡ depths_of scope.calls
+  pub room : p.room ≡ scope.room
   -- so many more calls may be opened, at least
   pub budget : ℕ
   pub enough : free_calls p.analysis.tree p.depths ≤ budget
   pub calls : call ≡ called_code p.plan (is_easy p.analysis) budget p.depths
 
--- the node is written out
+-- the scope of what stands in a node
+abbrev pub below_node : Scope → Scope
+below_node scope = record scope { room = option_map (λ n. n - 1) scope.room }
+
+-- the node is written out, by the scope of what stands in it
 abbrev pub WritesOut : Scope → Info → (at_start in_hard : Bool) → Draft → Draft → Type 0
 WritesOut scope i at_start in_hard s t =
     (p : Site) (call : ℕ → Bool → Code)
-    → IsScopeAt p call scope
+    → HasRoom p
+    → IsScopeAt (within_node p) call scope
     → IsKnown p.analysis i
     → Writes p (written_code p call (info_tree i) at_start in_hard) (info_tree i ∷ []) s t
 
@@ -92,6 +100,15 @@ WritesNode scope i at_start in_hard s t =
     → Writes p (code_in p call (not (info_hard i)) (info_tree i) at_start in_hard) (info_tree i ∷ []) s t
 
 -- ---- neighbours and branches
+
+-- neighbouring easy nodes are one instruction, where there is room for them
+abbrev pub WritesBatchIn : Scope → List Info → Draft → Draft → Type 0
+WritesBatchIn scope is s t =
+    (p : Site)
+    → p.unicode ≡ scope.unicode
+    → p.room ≡ scope.room
+    → Each (IsEasy p.analysis) is
+    → Writes p (batch p.unicode (map info_tree is)) (map info_tree is) s t
 
 -- the codes of neighbours, each in a hard context
 abbrev pub codes_in_turn : Site → (ℕ → Bool → Code) → (at_start : Bool) → List Tree → List Code
@@ -174,11 +191,12 @@ WritesConditional scope c d e in_hard s t =
     s
     t
 
--- a node over one other, which is made so
+-- a node over one other, which is made so, by the scope of what stands in it
 abbrev pub WritesParent : (Tree → Tree) → Scope → Info → (in_hard : Bool) → Draft → Draft → Type 0
 WritesParent made scope i in_hard s t =
     (p : Site) (call : ℕ → Bool → Code) (at_start : Bool)
-    → IsScopeAt p call scope
+    → HasRoom p
+    → IsScopeAt (within_node p) call scope
     → IsAnalysed p.analysis i
     → Writes p (written_code p call (made (info_tree i)) at_start in_hard) (made (info_tree i) ∷ []) s t
 
@@ -213,7 +231,8 @@ WritesAbsent scope i s t = (in_hard : Bool) → WritesParent plain.AbsentRepeate
 abbrev pub WritesCall : Scope → ℕ → (in_hard : Bool) → Draft → Draft → Type 0
 WritesCall scope g in_hard s t =
     (p : Site) (call : ℕ → Bool → Code) (at_start : Bool)
-    → IsScopeAt p call scope
+    → HasRoom p
+    → IsScopeAt (within_node p) call scope
     → Writes p (written_code p call (plain.SubroutineCall g) at_start in_hard) (plain.SubroutineCall g ∷ []) s t
 
 -- ---- how far there is to go

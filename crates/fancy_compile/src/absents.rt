@@ -2,6 +2,7 @@
 
 ghost use Rattle.fancy_code.specs.Drafts.{draft_of};
 ghost use Rattle.fancy_compile.specs.Nodes.{IsWhole, WritesAbsent, WritesOver, is_repeater, step_past};
+ghost use Rattle.fancy_info.specs.Infos.{info_hard};
 ghost use Rattle.std.specs.Prelude.{false, ◌≡◌};
 
 use crate::below::is_refused_body;
@@ -10,10 +11,11 @@ use fancy_code::around::Around;
 use fancy_code::looks::LookKind;
 use fancy_code::loops::LoopKind;
 use fancy_code::writer::CodeWriter;
-use fancy_expr::error::CompileError;
+use fancy_expr::error::{CompileError, Error};
 use fancy_expr::expr::Absent;
 use fancy_info::info::Info;
 use fancy_program::insn::Insn;
+use std::slice;
 
 pub fn is_repeater(absent: &Absent) -> bool
     ensures { result ≡ is_repeater absent.now }
@@ -32,7 +34,7 @@ impl<'t, 'i, 'a, 'o> Scope<'t, 'i, 'a, 'o> {
         ensures { WritesAbsent self.now body.now (draft_of writer.old) (draft_of writer.new) }
     {
         if !body.hard() {
-            writer.emit_repeater(self.alloc, body, self.unicode);
+            self.emit_easy_absent(writer, body);
             return;
         }
         if is_refused_body(body) {
@@ -47,6 +49,19 @@ impl<'t, 'i, 'a, 'o> Scope<'t, 'i, 'a, 'o> {
         writer.begin(rounds);
         self.emit_step_past(writer, body);
         writer.end(rounds, start);
+    }
+
+    /// The same of an easy node, where there is room for it.
+    fn emit_easy_absent(&self, writer: &mut CodeWriter, body: &Info)
+        requires whole { IsWhole self.now body.now }
+        requires easy { info_hard body.now ≡ false }
+        ensures { WritesAbsent self.now body.now (draft_of writer.old) (draft_of writer.new) }
+    {
+        if self.nest_too_deep(slice::from_ref(body)) {
+            writer.fail(Error::NestLimitExceeded);
+            return;
+        }
+        writer.emit_repeater(self.alloc, body, self.unicode);
     }
 
     /// One character where the node has no way here, and nothing where it has one.

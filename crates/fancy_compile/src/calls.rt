@@ -75,6 +75,7 @@ impl<'t, 'i, 'a, 'o> Scope<'t, 'i, 'a, 'o> {
             root: self.root,
             groups: self.groups,
             calls: Some(&call),
+            room: self.room,
         };
         if group == 0 {
             inner.emit(writer, self.root, true, in_hard);

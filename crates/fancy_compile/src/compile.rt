@@ -108,7 +108,7 @@ impl<'t, 'i, 'a, 'o> Scope<'t, 'i, 'a, 'o> {
             → p.anchored ≡ anchored
             → p.end_text ≡ end_text
             → IsScopeOf p.analysis self.now
-            → Writes (top p) (program_code p (is_easy p.analysis)) (p.analysis.tree ∷ [])
+            → Writes (top p self.now.room) (program_code p (is_easy p.analysis)) (p.analysis.tree ∷ [])
             (draft_of writer.old) (draft_of writer.new) }
     {
         let explicit = self.root.explicit_capture_group_0();
@@ -126,12 +126,12 @@ fn finish(writer: CodeWriter, info: &Info, options: CompileOptions) -> Result<Pr
     requires { (a : Analysed)
         × MayCompile a info.now options
         × ((plan_with a options).bytes_mode ≡ plain.Unicode)
-        × IsWritingOf (plan_with a options) (draft_of writer) }
+        × IsWritingOf (plan_with a options) options.max_nesting (draft_of writer) }
     ensures { (a : Analysed)
         → MayCompile a info.now options
         → (plan_with a options).bytes_mode ≡ plain.Unicode
-        → IsWritingOf (plan_with a options) (draft_of writer)
-        → Compiles (plan_with a options) result }
+        → IsWritingOf (plan_with a options) options.max_nesting (draft_of writer)
+        → Compiles (plan_with a options) options.max_nesting result }
 {
     let CodeWriter {
         code,
@@ -164,12 +164,13 @@ fn finish(writer: CodeWriter, info: &Info, options: CompileOptions) -> Result<Pr
 /// absent part but a repeater, and one in the hard body of a repeater; as `VariableLookBehindRequiresFeature` a look-behind of no constant
 /// size; as `SubroutineCallTargetNotFound` a call of a group that is not there; as `InnerError` or `ClassTooBig` a class text that `regex`
 /// refuses. `FeatureNotYetSupported` is also any bytes mode but `Unicode`, and `PatternTooComplex` an instruction more than `max_prog_size`.
-/// Want of memory is `Error::Memory`, and so are more nodes in one another than `max_nesting`: what is written out recurses over them.
+/// More nodes in one another than `max_nesting` are `Error::NestLimitExceeded`: the parts of a node that are written out stand in it, and what
+/// a call names stands in the call, as long as fewer than 19 calls of the group are open. Want of memory is `Error::Memory`.
 pub fn compile(alloc: Global, info: &Info, options: CompileOptions) -> Result<Prog, Error>
     requires { (a : Analysed) × MayCompile a info.now options }
     ensures { (a : Analysed)
         → MayCompile a info.now options
-        → Compiles (plan_with a options) result }
+        → Compiles (plan_with a options) options.max_nesting result }
 {
     if !is_unicode(options.bytes_mode) {
         return Err(Error::CompileError(CompileError::FeatureNotYetSupported));
@@ -183,10 +184,10 @@ pub fn compile(alloc: Global, info: &Info, options: CompileOptions) -> Result<Pr
         root: info,
         groups: &groups,
         calls: None,
+        room: options.max_nesting,
     };
     let fresh = first_fresh(total_groups(info), explicit_group_0, end_text);
-    let max_nesting = options.max_nesting.unwrap_or(usize::MAX);
-    let mut writer = CodeWriter::new(alloc, fresh, options.max_prog_size, max_nesting);
+    let mut writer = CodeWriter::new(alloc, fresh, options.max_prog_size);
     scope.emit_program(&mut writer, options.anchored, end_text);
     finish(writer, info, options)
 }

@@ -32,9 +32,9 @@ impl<'t, 'i, 'a, 'o> Scope<'t, 'i, 'a, 'o> {
             (draft_of writer.old) (draft_of writer.new) }
     {
         let (front, middle, back) = in_three(infos, in_hard);
-        writer.emit_batch(self.alloc, front, self.unicode);
+        self.emit_batch(writer, front);
         self.emit_in_turn(writer, middle, is_first_behind(at_start, front));
-        writer.emit_batch(self.alloc, back, self.unicode);
+        self.emit_batch(writer, back);
     }
 
     /// Nodes, one after the other, each in a hard context.

@@ -15,6 +15,7 @@ mod group_table;
 mod look_behinds;
 mod looks;
 mod loops;
+mod nesting;
 mod nodes;
 pub mod options;
 mod scope;

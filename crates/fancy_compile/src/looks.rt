@@ -11,7 +11,7 @@ use crate::scope::Scope;
 use fancy_code::around::Around;
 use fancy_code::looks::LookKind;
 use fancy_code::writer::CodeWriter;
-use fancy_expr::error::CompileError;
+use fancy_expr::error::{CompileError, Error};
 use fancy_expr::expr::LookAround;
 use fancy_info::info::Info;
 
@@ -70,10 +70,15 @@ impl<'t, 'i, 'a, 'o> Scope<'t, 'i, 'a, 'o> {
             writer.refuse(CompileError::VariableLookBehindRequiresFeature);
             return;
         }
+        if !self.has_room() {
+            writer.fail(Error::NestLimitExceeded);
+            return;
+        }
+        let inner = self.within_node();
         if negative {
-            self.emit_none_behind(writer, body.children());
+            inner.emit_none_behind(writer, body.children());
         } else {
-            self.emit_branches(writer, body.children(), true, false);
+            inner.emit_branches(writer, body.children(), true, false);
         }
     }
 

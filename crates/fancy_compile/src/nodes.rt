@@ -8,7 +8,7 @@ use crate::analysed_nodes::{child, is_batch, is_body_hard};
 use crate::scope::Scope;
 use fancy_code::around::Around;
 use fancy_code::writer::CodeWriter;
-use fancy_expr::error::CompileError;
+use fancy_expr::error::{CompileError, Error};
 use fancy_expr::expr::Expr;
 use fancy_info::info::Info;
 use std::slice;
@@ -22,14 +22,18 @@ impl<'t, 'i, 'a, 'o> Scope<'t, 'i, 'a, 'o> {
             (draft_of writer.old) (draft_of writer.new) }
     {
         if is_batch(info, in_hard) {
-            writer.emit_batch(self.alloc, slice::from_ref(info), self.unicode);
-        } else if writer.enter() {
-            self.emit_node(writer, info, at_start, in_hard);
-            writer.leave();
+            self.emit_batch(writer, slice::from_ref(info));
+            return;
         }
+        if !self.has_room() {
+            writer.fail(Error::NestLimitExceeded);
+            return;
+        }
+        let inner = self.within_node();
+        inner.emit_node(writer, info, at_start, in_hard);
     }
 
-    /// A node that is written out.
+    /// A node that is written out, by the scope of what stands in it.
     #[cycle(emit)]
     pub fn emit_node(&self, writer: &mut CodeWriter, info: &Info, at_start: bool, in_hard: bool)
         requires { IsWhole self.now info.now }

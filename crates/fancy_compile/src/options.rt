@@ -24,7 +24,7 @@ pub struct CompileOptions {
     pub unicode: bool,
     /// The most instructions; without it there is no bound.
     pub max_prog_size: Option<usize>,
-    /// The most nodes that are written out in one another, calls with them; without it there is no bound but the stack.
+    /// The most nodes that are written out in one another, calls with them: more are refused. Without it there is no bound but the stack.
     pub max_nesting: Option<usize>,
 }
 

@@ -16,7 +16,7 @@ use Rattle.fancy_compile.specs.declared.options.CompileOptions.{CompileOptions}
 use Rattle.fancy_program.specs.Programs.{prog_of}
 use Rattle.fancy_vm.specs.Tasks.{options_of as run_options_of}
 use Rattle.fancy_search.specs.declared.search.Compiled.{Compiled}
-use Rattle.fancy_search.specs.Searches.{Bounds, IsCompiledFrom, IsRefusedAs, Promises, input_of, program}
+use Rattle.fancy_search.specs.Searches.{Bounds, IsCompiledFrom, IsNestedOver, IsRefusedAs, Promises, input_of, program}
 use Rattle.fancy_host.specs.declared.options.FancyOptions.{FancyOptions}
 use Rattle.fancy_host.specs.declared.searches.Searcher.{Searcher}
 use Rattle.fancy_host.specs.declared.outcome.FancyOutcome.{FancyOutcome}
@@ -47,9 +47,15 @@ module _ (c : Compiled) (text : List ℕ) (o : FancyOptions) (r : plain.RunOptio
 
 -- a tree with the options that a host asks for
 module _ (t : ExprTree) (o : FancyOptions) (a : AnalyzeContext) (k : CompileOptions) (as_analysed : a ≡ analysis o) (as_compiled : k ≡ compilation o) where
-  pub refused_by : (e : Error) → IsRefusedAs (input_of t a k) e → IsRefusedAs (asked_of t o) e
+  pub refused_by : (e : Error) → IsRefusedAs (input_of t a k) k.max_nesting e → IsRefusedAs (asked_of t o) (Some o.max_nesting) e
   refused_by e h =
-      subst (λ x. IsRefusedAs (input_of t (analysis o) x) e) as_compiled (subst (λ x. IsRefusedAs (input_of t x k) e) as_analysed h)
+      subst (λ (x : CompileOptions). IsRefusedAs (input_of t (analysis o) x) x.max_nesting e) as_compiled
+      (subst (λ x. IsRefusedAs (input_of t x k) k.max_nesting e) as_analysed h)
+
+  pub within_by : ¬ IsNestedOver (input_of t a k) k.max_nesting → ¬ IsNestedOver (asked_of t o) (Some o.max_nesting)
+  within_by h =
+      subst (λ (x : CompileOptions). ¬ IsNestedOver (input_of t (analysis o) x) x.max_nesting) as_compiled
+      (subst (λ x. ¬ IsNestedOver (input_of t x k) k.max_nesting) as_analysed h)
 
   pub compiled_by : (c : Compiled) → IsCompiledFrom (input_of t a k) c → IsCompiledFrom (asked_of t o) c
   compiled_by c h =

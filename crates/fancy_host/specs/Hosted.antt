@@ -26,7 +26,7 @@ use Rattle.fancy_search.specs.declared.request.Request.{Request}
 use Rattle.fancy_search.specs.Requests as asked
 use Rattle.fancy_program.specs.Programs.{prog_of}
 use Rattle.fancy_search.specs.declared.search.Compiled.{Compiled}
-use Rattle.fancy_search.specs.Searches.{Bounds, IsCompiledFrom, IsRefusedAs, Promises, input_of, program}
+use Rattle.fancy_search.specs.Searches.{Bounds, IsCompiledFrom, IsNestedOver, IsRefusedAs, Promises, input_of, program}
 use Rattle.fancy_host.specs.declared.options.FancyOptions.{FancyOptions}
 use Rattle.fancy_host.specs.declared.outcome.FancyOutcome.{FancyOutcome}
 use Rattle.fancy_host.specs.declared.searches.Searcher.{Searcher}
@@ -150,11 +150,13 @@ pub record IsMadeFrom (text : List ℕ) (o : FancyOptions) (s : Searcher) : Type
   pub tree : ExprTree
   pub read : IsRead text tree
   pub from : IsCompiledFrom (asked_of tree o) s.compiled
+  pub within : ¬ IsNestedOver (asked_of tree o) (Some o.max_nesting)
 
 -- the text spells no tree, the tree that it spells is refused, or memory was
 pub data FailsToCompile (text : List ℕ) (o : FancyOptions) : Error → Type 0 where
   unread : {e : Error} → IsFault (length text) (tokens_of text) e → FailsToCompile text o e
-  refused : {t : ExprTree} {e : Error} → IsRead text t → IsRefusedAs (asked_of t o) e → FailsToCompile text o e
+  refused : {t : ExprTree} {e : Error} → IsRead text t → IsRefusedAs (asked_of t o) (Some o.max_nesting) e
+      → FailsToCompile text o e
   without_memory : FailsToCompile text o error.Memory
 
 -- what a program holds after a tree was to be compiled, and the outcome

@@ -25,8 +25,8 @@ use std::mem::replace;
 use std::str::from_utf8;
 
 /// The options of a search unless said otherwise: from the text's start, no flag, 1,000,000 backtracks, as many
-/// instructions as can be counted, a program of at most 100,000 instructions, and a tree of at most 250 levels, for
-/// which a stack of 2 MB was enough where nothing is called.
+/// instructions as can be counted, a program of at most 100,000 instructions, a tree of at most 250 levels, and at most
+/// 1,000 nodes written out in one another, for which a stack of 2 MB was enough.
 #[unsafe(no_mangle)]
 pub extern "C" fn fancy_default_options() -> FancyOptions
     ensures { result ≡ default_options }
@@ -35,7 +35,8 @@ pub extern "C" fn fancy_default_options() -> FancyOptions
 }
 
 /// Compiles the tree that a text spells. What the program held before is freed; it holds the tree if the code is
-/// `FANCY_OK`, and nothing otherwise. A tree that nests deeper than `max_depth` is refused before it is read.
+/// `FANCY_OK`, and nothing otherwise. A tree that nests deeper than `max_depth` is refused before it is read, and one
+/// whose nodes are written out in one another deeper than `max_nesting` while it is compiled.
 #[unsafe(no_mangle)]
 pub extern "C" fn fancy_compile(
     alloc: Global,

@@ -16,7 +16,8 @@ pub struct FancyOptions {
     pub pos: usize,
     /// How many instructions a program may have.
     pub max_prog_size: usize,
-    /// How many nodes may be written out in one another, calls with them: said to the compiler.
+    /// How many nodes may be written out in one another, calls with them: said to the compiler, which refuses more as
+    /// `FANCY_NEST_LIMIT_EXCEEDED`.
     pub max_nesting: usize,
     /// How deep a tree may nest, in parentheses: what the stack of the calling thread allows.
     pub max_depth: usize,

@@ -42,7 +42,8 @@ impl Regex {
     /// 1,000,000 times, and once more for each start that the text may have, so that a search for an easy tree never
     /// stops at it.
     ///
-    /// A tree is refused as `Error::CompileError`. Want of memory is `Error::Memory`.
+    /// A tree is refused as `Error::CompileError`, and as `Error::NestLimitExceeded` where it nests deeper than
+    /// `compilation.max_nesting` where it is written out. Want of memory is `Error::Memory`.
     pub fn new(
         alloc: Global,
         tree: &ExprTree,
@@ -56,7 +57,9 @@ impl Regex {
             (IsMadeBy
             (input_of tree.now options.now.analysis options.now.compilation)
             (run_options_of options.now.run) backtrack_limit)
-            (IsRefusedAs (input_of tree.now options.now.analysis options.now.compilation)) }
+            (IsRefusedAs
+            (input_of tree.now options.now.analysis options.now.compilation)
+            options.now.compilation.max_nesting) }
     {
         let compiled = Compiled::new(alloc, tree, options.analysis, options.compilation)?;
         Ok(Regex {

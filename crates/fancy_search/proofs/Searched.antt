@@ -38,7 +38,7 @@ use Rattle.fancy_compile.specs.Compiled.{Compiles, MayAnswer, MayCompile, plan_w
 use Rattle.fancy_search.specs.declared.search.Compiled.{Compiled}
 use Rattle.fancy_search.specs.Searches as searches
 use Rattle.fancy_search.specs.declared.search.SearchOptions.{SearchOptions}
-use Rattle.fancy_search.specs.Searches.{IsCompiledFrom, Promises, input_of, limit_of, program, program_of, instructions_of, options_fit, search_fits}
+use Rattle.fancy_search.specs.Searches.{IsCompiledFrom, Promises, PromisesWithin, input_of, limit_of, program, program_of, instructions_of, options_fit, search_fits}
 
 -- where a character begins or the text ends, the test for a place says yes
 pub place_of : (text : List ℕ) (i : ℕ) → IsCharBoundary text i → is_place text i ≡ true
@@ -66,19 +66,19 @@ module _ (t : ExprTree) (context : AnalyzeContext) (o : CompileOptions) (ok : Is
   may_compile i h = record { root = h.root; accepted = h.accepted; end_text = same_end_text }
 
   -- the refusal of the analysis
-  pub analysis_refused : (e : Error) → IsRefusedAs (parsed_of t) (analysis_options_of context) e → searches.IsRefusedAs input e
+  pub analysis_refused : (e : Error) → IsRefusedAs (parsed_of t) (analysis_options_of context) e → searches.IsRefusedAs input o.max_nesting e
   analysis_refused (error.CompileError e) h = by_analysis h
   analysis_refused (error.RuntimeError e) h = h
   analysis_refused error.Memory h = h
   analysis_refused (error.TreeFault at) h = h
-  analysis_refused error.NestLimitExceeded h = h
+  analysis_refused error.NestLimitExceeded h = absurd h
 
   may_answer : {e : _} → MayAnswer (plan input) e → IsRefused input (instructions_of input) e
   may_answer (refuses h) = by_compiler h
   may_answer (too_big h) = by_regex h
 
   -- the refusal of the compiler
-  pub compiler_refused : (e : Error) → Compiles (plan_with analysed o) (Err e) → searches.IsRefusedAs input e
+  pub compiler_refused : (e : Error) → Compiles (plan_with analysed o) o.max_nesting (Err e) → searches.IsRefusedAs input o.max_nesting e
   compiler_refused (error.CompileError e) h = may_answer h
   compiler_refused (error.RuntimeError e) h = h
   compiler_refused error.Memory h = h
@@ -86,7 +86,7 @@ module _ (t : ExprTree) (context : AnalyzeContext) (o : CompileOptions) (ok : Is
   compiler_refused error.NestLimitExceeded h = h
 
   pub compiled_from : (i : Info) (prog : Prog) → IsAnalysisOf t (analysis_options_of context) i →
-      Compiles (plan_with analysed o) (Ok prog) → IsCompiledFrom input (record { prog = prog })
+      Compiles (plan_with analysed o) o.max_nesting (Ok prog) → IsCompiledFrom input (record { prog = prog })
   compiled_from i prog h compiled = record {
     well_formed = ok.0;
     same_end_text = same_end_text;
@@ -141,13 +141,23 @@ module _ (i : Input) (compiled : Compiled) (text : List ℕ) (o : RunOptions) (f
   run_promises (Err error.NestLimitExceeded) answers means = absurd answers
 
 -- a refusal is one that is promised
-pub refusal_promises : (i : Input) (text : List ℕ) (o : RunOptions) (e : Error) → searches.IsRefusedAs i e →
-    Promises i text (run_options_of o) (Err e)
-refusal_promises i text o (error.CompileError e) h = h
-refusal_promises i text o (error.RuntimeError e) h = absurd h
-refusal_promises i text o error.Memory h = tt
-refusal_promises i text o (error.TreeFault at) h = absurd h
-refusal_promises i text o error.NestLimitExceeded h = absurd h
+pub refusal_promises : (i : Input) (most : Option ℕ) (text : List ℕ) (o : RunOptions) (e : Error) → searches.IsRefusedAs i most e →
+    PromisesWithin i most text (run_options_of o) (Err e)
+refusal_promises i most text o (error.CompileError e) h = h
+refusal_promises i most text o (error.RuntimeError e) h = absurd h
+refusal_promises i most text o error.Memory h = tt
+refusal_promises i most text o (error.TreeFault at) h = absurd h
+refusal_promises i most text o error.NestLimitExceeded h = h
+
+-- what was compiled is no more refused for how it nests
+pub promised_within : (i : Input) (most : Option ℕ) (text : List ℕ) (o : RunOptions) (r : Result (Option (Vec ℕ Global)) Error) →
+    Promises i text (run_options_of o) r → PromisesWithin i most text (run_options_of o) r
+promised_within i most text o (Ok found) h = h
+promised_within i most text o (Err (error.CompileError e)) h = h
+promised_within i most text o (Err (error.RuntimeError e)) h = h
+promised_within i most text o (Err error.Memory) h = h
+promised_within i most text o (Err (error.TreeFault at)) h = h
+promised_within i most text o (Err error.NestLimitExceeded) h = absurd h
 
 -- what fits the search
 pub record FitsSearch (s : SearchOptions) (text : List ℕ) : Type 0 where

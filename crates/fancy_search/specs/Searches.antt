@@ -26,7 +26,7 @@ use Rattle.fancy_vm.specs.Means.{numbers_of}
 use Rattle.fancy_program.specs.declared.insn.Prog.{Prog}
 use Rattle.fancy_program.specs.Programs.{prog_of}
 use Rattle.fancy_compile.specs.declared.options.CompileOptions.{CompileOptions}
-use Rattle.fancy_compile.specs.Compiled.{compile_options_of}
+use Rattle.fancy_compile.specs.Compiled.{compile_options_of, IsNestedOver as plan_nests_over}
 use Rattle.fancy_expr.specs.Errors.{error_of}
 use Rattle.fancy_search.specs.declared.search.Compiled.{Compiled}
 use Rattle.fancy_search.specs.declared.search.SearchOptions.{SearchOptions}
@@ -90,17 +90,26 @@ module _ (i : Input) where
   Promises text o (Err (error.TreeFault at)) = ⊥
   Promises text o (Err error.NestLimitExceeded) = ⊥
 
+  -- more nodes of the tree stand in one another, where they are written out, than the limit allows
+  abbrev pub IsNestedOver : Option ℕ → Type 0
+  IsNestedOver max_nesting = plan_nests_over (plan i) max_nesting
+
+  -- a search that compiles the tree first, with this limit of nesting, answers as is promised
+  abbrev pub PromisesWithin : Option ℕ → List ℕ → plain.RunOptions → Result (Option (Vec ℕ Global)) Error → Type 0
+  PromisesWithin max_nesting text o (Err error.NestLimitExceeded) = IsNestedOver max_nesting
+  PromisesWithin max_nesting text o result = Promises text o result
+
   -- where the whole tree is easy, a limit is answered only if it is below its bound
   abbrev pub Bounds : List ℕ → plain.RunOptions → Result (Option (Vec ℕ Global)) Error → Type 0
   Bounds text o result = IfLimit result (MayPass i text o)
 
-  -- the tree is refused with the error, or memory was
-  abbrev pub IsRefusedAs : Error → Type 0
-  IsRefusedAs (error.CompileError e) = IsRefused i (instructions_of i) (error_of e)
-  IsRefusedAs (error.RuntimeError e) = ⊥
-  IsRefusedAs error.Memory = Unit {0}
-  IsRefusedAs (error.TreeFault at) = ⊥
-  IsRefusedAs error.NestLimitExceeded = ⊥
+  -- the tree is refused with the error, with this limit of nesting, or memory was
+  abbrev pub IsRefusedAs : Option ℕ → Error → Type 0
+  IsRefusedAs max_nesting (error.CompileError e) = IsRefused i (instructions_of i) (error_of e)
+  IsRefusedAs max_nesting (error.RuntimeError e) = ⊥
+  IsRefusedAs max_nesting error.Memory = Unit {0}
+  IsRefusedAs max_nesting (error.TreeFault at) = ⊥
+  IsRefusedAs max_nesting error.NestLimitExceeded = IsNestedOver max_nesting
 
   -- What was compiled is the program of the tree, which is well-formed, and no case to refuse it holds, whether group 0 is
   -- implicit or explicit.

@@ -31,7 +31,7 @@ pub struct Request {
     pub longest: bool,
     /// How many instructions a program may have.
     pub max_prog_size: Option<usize>,
-    /// How many nodes may be written out in one another, calls with them.
+    /// How many nodes may be written out in one another, calls with them; without it there is no bound but the stack.
     pub max_nesting: Option<usize>,
     /// How often a search may fall back to a branch.
     pub backtrack_limit: usize,

@@ -1,6 +1,6 @@
 //! `search`, `SearchOptions`, and `Compiled`, a tree that is compiled once and searched for many times.
 
-ghost use Rattle.std.specs.Prelude.{◌≡◌, ℕ, List, None, IsTrue, IsUtf8, MatchResult, false, true};
+ghost use Rattle.std.specs.Prelude.{◌≡◌, ℕ, List, None, IfOk, IsTrue, IsUtf8, MatchResult, false, true};
 ghost use Rattle.fancy_meaning.specs.Fits.{run_fits};
 ghost use Rattle.fancy_meaning.specs.Options as plain;
 ghost use Rattle.fancy_meaning.specs.Premises.{Input};
@@ -9,7 +9,7 @@ ghost use Rattle.fancy_compile.specs.Compiled.{compile_options_of};
 ghost use Rattle.fancy_expr.specs.Sound.{IsWellFormedTree};
 ghost use Rattle.fancy_vm.specs.Means.{answer_in};
 ghost use Rattle.fancy_vm.specs.Tasks.{default_at, options_of as run_options_of, task_of};
-ghost use Rattle.fancy_search.specs.Searches.{Bounds, IsCompiledFrom, IsRefusedAs, Promises, input_of, program, search_fits};
+ghost use Rattle.fancy_search.specs.Searches.{Bounds, IsCompiledFrom, IsNestedOver, IsRefusedAs, Promises, PromisesWithin, input_of, program, search_fits};
 ghost use Rattle.fancy_search.specs.Searches as searches;
 
 use fancy_analysis::analyze::{AnalyzeContext, analyze};
@@ -93,8 +93,9 @@ pub struct Compiled {
 impl Compiled {
     /// Analyses and compiles the tree.
     ///
-    /// A tree is refused as `Error::CompileError` where a case of `analyze` or `compile` holds. Want of memory is
-    /// `Error::Memory`.
+    /// A tree is refused as `Error::CompileError` where a case of `analyze` or `compile` holds, and as
+    /// `Error::NestLimitExceeded` where more of its nodes are written out in one another than `options.max_nesting`.
+    /// Want of memory is `Error::Memory`.
     pub fn new(
         alloc: Global,
         tree: &ExprTree,
@@ -103,10 +104,12 @@ impl Compiled {
     ) -> Result<Compiled, Error>
         requires well_formed { IsWellFormedTree tree.now }
         requires fits { IsTrue (searches.options_fit context options) }
-        ensures { MatchResult
+        ensures made { MatchResult
             result
             (λ compiled. IsCompiledFrom (input_of tree.now context options) compiled)
-            (λ error. IsRefusedAs (input_of tree.now context options) error) }
+            (λ error. IsRefusedAs (input_of tree.now context options) options.max_nesting error) }
+        ensures within { IfOk result (λ _.
+            ¬ IsNestedOver (input_of tree.now context options) options.max_nesting) }
     {
         let info = analyze(alloc, tree, context)?;
         let prog = compile(alloc, &info, options)?;
@@ -186,9 +189,11 @@ impl Compiled {
 /// start that has one, and with `run.leftmost_longest` the longest one there, the first among equals.
 ///
 /// `tree` has passed `is_well_formed`, and the options `SearchOptions::fits`. A tree is refused as
-/// `Error::CompileError` where a case of `analyze` or `compile` holds; a `RuntimeError` tells which limit was passed,
-/// and `Memory` that a request for memory was refused. The scratch may be used again after any of them. Where the whole
-/// tree is easy, limits of one backtrack and eight instructions for each start are never passed.
+/// `Error::CompileError` where a case of `analyze` or `compile` holds, and as `Error::NestLimitExceeded` where more of
+/// its nodes are written out in one another than `compilation.max_nesting`: never without that limit. A `RuntimeError`
+/// tells which limit the search passed, and `Memory` that a request for memory was refused. The scratch may be used
+/// again after any of them. Where the whole tree is easy, limits of one backtrack and eight instructions for each start
+/// are never passed.
 pub fn search(
     alloc: Global,
     tree: &ExprTree,
@@ -198,8 +203,9 @@ pub fn search(
 ) -> Result<Option<Vec<usize>>, Error>
     requires well_formed { IsWellFormedTree tree.now }
     requires fits { IsTrue (search_fits options.now text.now) }
-    ensures promise { Promises
+    ensures promise { PromisesWithin
         (input_of tree.now options.now.analysis options.now.compilation)
+        options.now.compilation.max_nesting
         text.now
         (run_options_of options.now.run)
         result }

@@ -19,7 +19,7 @@ pub has_sought-requires : goal.has_sought-requires
 has_sought-requires c = (analysis c.requires.0, root_known c.requires.0 c.args.info.now (c.requires.1).root)
 
 pub returns-in-Some : goal.returns-in-Some
-returns-in-Some c = λ a m mode h. error_may_answer (plan_with a c.args.options) (all_in_range a (few_groups a c.args.info.now m.root) m.accepted)
+returns-in-Some c = λ a m mode h. error_may_answer (plan_with a c.args.options) c.args.options.max_nesting (all_in_range a (few_groups a c.args.info.now m.root) m.accepted)
     (draft_of c.args.writer) c.in-Some.error h c.in-Some.is
 
 pub new-requires : goal.new-requires
@@ -27,7 +27,7 @@ new-requires c =
     let a = c.requires.0 in
     let m = c.requires.1 in
     let p = plan_with a c.args.options in
-    let w = written p (draft_of c.args.writer) c.requires.3 c.in-None.is in
+    let w = written p c.args.options.max_nesting (draft_of c.args.writer) c.requires.3 c.in-None.is in
     let same = finish_compiles a c.args.info.now c.args.options m c.explicit_capture_group_0.result c.total_groups.result c.explicit_capture_group_0.ensures
     (c.total_groups.ensures.value a m.root)
     c.find_not_empty.result c.leftmost_longest.result c.has_sought.result c.find_not_empty.ensures c.leftmost_longest.ensures c.has_sought.ensures
@@ -39,7 +39,7 @@ pub returns : goal.returns
 returns c = λ a m mode h.
     let p = plan_with a c.args.options in
     let t = draft_of c.args.writer in
-    let w = written p t h c.in-None.is in
+    let w = written p c.args.options.max_nesting t h c.in-None.is in
     let same = finish_compiles a c.args.info.now c.args.options m c.explicit_capture_group_0.result c.total_groups.result c.explicit_capture_group_0.ensures
     (c.total_groups.ensures.value a m.root)
     c.find_not_empty.result c.leftmost_longest.result c.has_sought.result c.find_not_empty.ensures c.leftmost_longest.ensures c.has_sought.ensures
@@ -48,6 +48,7 @@ returns c = λ a m mode h.
     λ most is. omega (arith, c.args.writer.within most (h.limit ∙ is), length-map c.args.writer.code.items insn_of, ap length (w.0).instrs) in
     record {
       layout = c.new.ensures.prog ∙ same;
+      within = w.1.1;
       small = λ most is. omega (arith, small most is, ap length (body_is p));
-      not_refused = none_refused p w.1 small mode;
+      not_refused = none_refused p c.args.options.max_nesting w.1.0 small mode;
     }

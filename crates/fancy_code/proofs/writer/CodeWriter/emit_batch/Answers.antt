@@ -11,24 +11,24 @@ use Rattle.fancy_code.proofs.Writing.{wrote_nothing}
 use Rattle.fancy_code.proofs.writer.CodeWriter.emit_batch.Goals as goal
 
 pub returns-in-Ok-Some : goal.returns-in-Ok-Some
-returns-in-Ok-Some c = λ p u each.
+returns-in-Ok-Some c = λ p u each room.
     let is = c.args.infos.now in
     let s = draft_of c.args.self.now in
     let t = draft_of c.push.new.self in
     let code = ap code_of (sym c.in-Ok-Some.field-0-is) ∙ c.in-Ok-Some.ensures.value ∙ ap (λ b. batch b (map info_tree is)) (sym u) in
     subst (λ k. Writes p k (map info_tree is) s t) code
-    (wrote_easy p is each (subst (λ b. HaveClasses b is) (sym u) c.in-Ok-Some.ensures.classes) (one (insn_of c.in-Ok-Some.insn)) s t (c.push.ensures.writes p))
+    (wrote_easy p is each (subst (λ b. HaveClasses b is) (sym u) c.in-Ok-Some.ensures.classes) room (one (insn_of c.in-Ok-Some.insn)) s t (c.push.ensures.writes p))
 
 pub returns-in-Ok-None : goal.returns-in-Ok-None
-returns-in-Ok-None c = λ p u each.
+returns-in-Ok-None c = λ p u each room.
     let is = c.args.infos.now in
     let s = draft_of c.args.self.now in
     let code = ap code_of (sym c.in-Ok-None.field-0-is) ∙ c.in-Ok-None.ensures.value ∙ ap (λ b. batch b (map info_tree is)) (sym u) in
     subst (λ k. Writes p k (map info_tree is) s s) code
-    (wrote_easy p is each (subst (λ b. HaveClasses b is) (sym u) c.in-Ok-None.ensures.classes) nothing s s (wrote_nothing p s))
+    (wrote_easy p is each (subst (λ b. HaveClasses b is) (sym u) c.in-Ok-None.ensures.classes) room nothing s s (wrote_nothing p s))
 
 pub returns-in-Err : goal.returns-in-Err
-returns-in-Err c = λ p u each.
+returns-in-Err c = λ p u each room.
     let is = c.args.infos.now in
     let s = draft_of c.args.self.now in
     let a = batch p.unicode (map info_tree is) (length s.instrs) s.fresh in

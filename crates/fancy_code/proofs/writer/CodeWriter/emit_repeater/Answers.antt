@@ -9,17 +9,17 @@ use Rattle.fancy_code.proofs.EasyClasses.{wrote_easy, refused_easy}
 use Rattle.fancy_code.proofs.writer.CodeWriter.emit_repeater.Goals as goal
 
 pub returns-in-Ok : goal.returns-in-Ok
-returns-in-Ok c = λ p u easy.
+returns-in-Ok c = λ p u easy room.
     let is = c.args.body.now ∷ [] in
     let es = info_tree c.args.body.now ∷ [] in
     let s = draft_of c.args.self.now in
     let t = draft_of c.push.new.self in
     let code = c.in-Ok.ensures.value ∙ ap (λ b. easy_repeater b (info_tree c.args.body.now)) (sym u) in
     subst (λ i. Writes p (one i) es s t) code
-    (wrote_easy p is (easy, tt) (subst (λ b. HaveClasses b is) (sym u) c.in-Ok.ensures.classes) (one (insn_of c.in-Ok.insn)) s t (c.push.ensures.writes p))
+    (wrote_easy p is (easy, tt) (subst (λ b. HaveClasses b is) (sym u) c.in-Ok.ensures.classes) room (one (insn_of c.in-Ok.insn)) s t (c.push.ensures.writes p))
 
 pub returns-in-Err : goal.returns-in-Err
-returns-in-Err c = λ p u easy.
+returns-in-Err c = λ p u easy room.
     let is = c.args.body.now ∷ [] in
     let es = info_tree c.args.body.now ∷ [] in
     let s = draft_of c.args.self.now in

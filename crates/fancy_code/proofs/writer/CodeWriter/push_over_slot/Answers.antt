@@ -6,7 +6,7 @@ use Rattle.fancy_code.proofs.Writing.{adds_to, extended_length}
 use Rattle.fancy_code.proofs.writer.CodeWriter.push_over_slot.Goals as goal
 
 pub returns : goal.returns
-returns c = λ p. adds_to p _ _ [] [] (draft_of c.args.self.now) (draft_of c.push.new.self) _ (omega arith)
+returns c = λ p. adds_to p p _ _ [] [] (draft_of c.args.self.now) (draft_of c.push.new.self) _ (omega arith)
     (λ e. record {
       instrs = e.instrs;
       fresh = omega (

@@ -15,10 +15,11 @@ use Rattle.fancy_expr.specs.Each.{Each}
 use Rattle.fancy_info.proofs.Unfolded.{tree_out}
 use Rattle.fancy_code.specs.Drafts.{draft_of, with_patch, with_jumps, Adds, Writes, code_in, written_code, node_code}
 use Rattle.fancy_meaning.specs.AnalysisRefusals as refusal
+use Rattle.fancy_meaning.specs.CompileRefusals.{here}
 use Rattle.fancy_meaning.specs.Sizes.{Size}
-use Rattle.fancy_code.specs.Faults.{HasRejected}
+use Rattle.fancy_code.specs.Faults.{refused_as, HasRejected}
 use Rattle.fancy_info.specs.NodeCounts.{node_counts}
-use Rattle.fancy_compile.specs.Nodes.{AreWhole, branch_over, look_behind, step_past}
+use Rattle.fancy_compile.specs.Nodes.{AreWhole, IsScopeAt, IsWhole, branch_over, look_behind, step_past, work}
 use Rattle.fancy_compile.specs.AnalysedNodes.{back_start, front_count, rest_of}
 use Rattle.std.specs.List.{list_all, list_any}
 use Rattle.std.proofs.lemmas.Bool.{and_parts, cond-true, cond-false}
@@ -35,9 +36,10 @@ use Rattle.fancy_code.specs.declared.around.Around.TheVariants as around
 use Rattle.fancy_code.specs.Arounds.{around_code, form_of, kind_form, behind, not_ahead, not_behind}
 use Rattle.fancy_meaning.specs.OpenCalls.{call_depth}
 use Rattle.fancy_compile.specs.OpenDepths.{depths_of}
-use Rattle.fancy_code.specs.Sites.{under_call}
+use Rattle.fancy_code.specs.Sites.{under_call, within_node}
 use Rattle.fancy_compile.proofs.Called.{zero_target, in_range, no_target, some_target, found_body, found_target, found_tree, found_facts, found_starts}
 use Rattle.fancy_compile.proofs.CallLaws.{missing_refused, wrote_full, code_of_zero, code_of_group, same_tree, lighter, inner_code, inner_u, root_by, wrote_body, wrote_called}
+use Rattle.fancy_compile.proofs.Rooms.{all_within, at_within, deep_part, no_room, room_at, whole_within}
 use Rattle.fancy_code.proofs.Alone.{wrote_assertion}
 use Rattle.fancy_compile.proofs.LoopForms.{wrote_repeat, wrote_never}
 use Rattle.fancy_compile.proofs.Lookbehinds.{const_branches, varying_branch, variable_refused, wrote_behind, wrote_behind_branches, wrote_none_behind}
@@ -60,29 +62,35 @@ emit-returns-then-is_batch t c = λ p call u known.
     let i = c.args.info.now in
     let e = info_tree i in
     let s = draft_of c.args.writer.now in
-    let z = draft_of c.emit_batch.new.self in
+    let z = draft_of c.emit_batch.new.writer in
     let batched = sym c.is_batch.ensures ∙ c.if-is_batch.true in
     let easy = not_true (info_hard i) (and_parts (not (info_hard i)) (not c.args.in_hard) batched).0 in
     let alone = c.from_ref.ensures.value in
     subst (λ k. Writes p k (e ∷ []) s z) (sym (cond-true (not (info_hard i) && not c.args.in_hard) _ _ batched))
     (subst (λ l. Writes p (batch p.unicode (map info_tree l)) (map info_tree l) s z) alone
-    (c.emit_batch.ensures p u.unicode (subst (Each (IsEasy p.analysis)) (sym alone) (easy_known p.analysis i known easy, tt))))
+    (c.emit_batch.ensures p u.unicode u.room (subst (Each (IsEasy p.analysis)) (sym alone) (easy_known p.analysis i known easy, tt))))
 
-pub emit-returns-else-enter : goal.emit-returns-else-enter
-emit-returns-else-enter t c = λ p call u known. c.enter.ensures.refused c.if-enter.false p _ _
+pub emit-returns-then-not-has_room : goal.emit-returns-then-not-has_room
+emit-returns-then-not-has_room t c = λ p call u known. c.fail.ensures p _ _ (no_room p _ (u.room ∙ c.has_room.ensures.no c.if-not-has_room.true))
 
-pub emit-returns-then-enter : goal.emit-returns-then-enter
-emit-returns-then-enter t c = λ p call u known.
-    let e = info_tree c.args.info.now in
+pub emit-emit_node-requires : goal.emit-emit_node-requires
+emit-emit_node-requires t c =
+    let i = c.args.info.now in (
+      omega (arith, ap work c.within_node-inner.ensures),
+      subst (λ x. IsWhole x i) (sym c.within_node-inner.ensures) (whole_within c.args.self.now i c.requires),
+    )
+
+pub emit-returns : goal.emit-returns
+emit-returns t c = λ p call u known.
+    let i = c.args.info.now in
+    let e = info_tree i in
+    let scope = c.args.self.now in
     let s = draft_of c.args.writer.now in
     let z = draft_of c.emit_node.new.writer in
     let out = sym c.is_batch.ensures ∙ c.if-is_batch.false in
-    let entered : draft_of c.enter.new.self ≡ s = ap draft_of (c.enter.ensures.entered c.if-enter.true) in
-    let left : draft_of c.leave.new.self ≡ z = ap draft_of c.leave.ensures in
-    let k = written_code p call e c.args.at_start c.args.in_hard in
-    subst (λ k. Writes p k (e ∷ []) s (draft_of c.leave.new.self)) (sym (cond-false (not (info_hard c.args.info.now) && not c.args.in_hard) _ _ out))
-    (subst (λ d. Writes p k (e ∷ []) s d) (sym left)
-    (subst (λ d. Writes p k (e ∷ []) d z) entered (c.emit_node.ensures p call u known)))
+    let room = room_at scope p call u (c.has_room.ensures.yes c.if-not-has_room.false) in
+    let inner = subst (IsScopeAt (within_node p) call) (sym c.within_node-inner.ensures) (at_within scope p call u) in
+    subst (λ k. Writes p k (e ∷ []) s z) (sym (cond-false (not (info_hard i) && not c.args.in_hard) _ _ out)) (c.emit_node.ensures p call room inner known)
 
 -- ---- concatenations
 
@@ -115,10 +123,10 @@ emit_concat-returns t c = λ p call u each.
     let rest = each_drop (IsAnalysed p.analysis) (front_count is) is each in
     let first = c.is_first_behind.ensures ∙ ap (λ l. c.args.at_start && list_all (λ i. (info_size i).most == 0) l) h.front in
     wrote_three p call c.args.at_start in_hard is each _ _ _ c.is_first_behind.result _ _ _ _ h.front h.middle h.back first
-    (c.emit_batch.ensures p u.unicode (subst (Each (IsEasy p.analysis)) (sym h.front) (front_each p.analysis is each)))
+    (c.emit_batch.ensures p u.unicode u.room (subst (Each (IsEasy p.analysis)) (sym h.front) (front_each p.analysis is each)))
     (c.emit_in_turn.ensures p call u
     (subst (Each (IsAnalysed p.analysis)) (sym h.middle) (each_take (IsAnalysed p.analysis) (back_start in_hard (rest_of is)) (rest_of is) rest)))
-    (c.emit_batch-2.ensures p u.unicode (subst (Each (IsEasy p.analysis)) (sym h.back) (back_each in_hard p.analysis (rest_of is) rest)))
+    (c.emit_batch-2.ensures p u.unicode u.room (subst (Each (IsEasy p.analysis)) (sym h.back) (back_each in_hard p.analysis (rest_of is) rest)))
 
 pub emit_node-emit_concat-requires : goal.emit_node-emit_concat-requires
 emit_node-emit_concat-requires t c = (
@@ -163,23 +171,26 @@ emit_node-emit_around-requires-in-AtomicGroup t c =
     )
 
 pub emit_node-returns-in-Concat : goal.emit_node-returns-in-Concat
-emit_node-returns-in-Concat t c = λ p call u known.
+emit_node-returns-in-Concat t c = λ p call room u known.
+    let q = within_node p in
     let at = sym c.expr-expr.ensures ∙ c.in-Concat.is in
     let tree = tree_by c.args.info.now _ c.children.result.now at (sym c.children.ensures) in
     written_as p call c.args.at_start c.args.in_hard _ _ _ _ tree
-    (wrote_concat p call (map info_tree c.children.result.now) c.args.at_start c.args.in_hard _ _
-    (c.emit_concat.ensures p call u (subst (Each (IsAnalysed p.analysis)) (sym c.children.ensures) known.children)))
+    (wrote_concat p call room (map info_tree c.children.result.now) c.args.at_start c.args.in_hard _ _
+    (c.emit_concat.ensures q call u (subst (Each (IsAnalysed p.analysis)) (sym c.children.ensures) known.children)))
 
 pub emit_node-returns-in-Alt : goal.emit_node-returns-in-Alt
-emit_node-returns-in-Alt t c = λ p call u known.
+emit_node-returns-in-Alt t c = λ p call room u known.
+    let q = within_node p in
     let at = sym c.expr-expr.ensures ∙ c.in-Alt.is in
     let tree = tree_by c.args.info.now _ c.children-in-Alt.result.now at (sym c.children-in-Alt.ensures) in
     written_as p call c.args.at_start c.args.in_hard _ _ _ _ tree
-    (wrote_alt p call (map info_tree c.children-in-Alt.result.now) c.args.at_start c.args.in_hard _ _
-    (c.emit_branches.ensures p call u (subst (Each (IsAnalysed p.analysis)) (sym c.children-in-Alt.ensures) known.children)))
+    (wrote_alt p call room (map info_tree c.children-in-Alt.result.now) c.args.at_start c.args.in_hard _ _
+    (c.emit_branches.ensures q call u (subst (Each (IsAnalysed p.analysis)) (sym c.children-in-Alt.ensures) known.children)))
 
 pub emit_node-returns-in-Group : goal.emit_node-returns-in-Group
-emit_node-returns-in-Group t c = λ p call u known.
+emit_node-returns-in-Group t c = λ p call room u known.
+    let q = within_node p in
     let at = sym c.expr-expr.ensures ∙ c.in-Group.is in
     let i = c.args.info.now in
     let body = c.child.result.now in
@@ -191,14 +202,15 @@ emit_node-returns-in-Group t c = λ p call u known.
     let is_inside = c.is_body_hard-is_hard.ensures
     ∙ ap (λ b. c.args.in_hard || b) (read_known p.analysis i known ∙ ap (is_read_group p.analysis.tree) tree) in
     let code : ℕ → Bool → Code = λ m b. group_code m (node_code p call (info_tree body) c.args.at_start b) in
-    let wrote = c.emit_around.ensures p call u (analysed_only c.args.self.now i body _ at c.requires refl c.child.ensures p.analysis known) in
+    let wrote = c.emit_around.ensures q call u (analysed_only c.args.self.now i body _ at c.requires refl c.child.ensures p.analysis known) in
     written_as p call c.args.at_start c.args.in_hard _ _ _ _ tree
-    (wrote_node p _ (plain.Group n (info_tree body)) s t (safe_fine p (plain.Group n (info_tree body)) refl refl)
-    (subst (λ b. Writes p (code n b) (info_tree body ∷ []) s t) is_inside
-    (subst (λ m. Writes p (code m c.is_body_hard-is_hard.result) (info_tree body ∷ []) s t) c.start_group.ensures wrote)))
+    (wrote_node p room _ (plain.Group n (info_tree body)) s t (safe_fine p (plain.Group n (info_tree body)) refl refl)
+    (subst (λ b. Writes q (code n b) (info_tree body ∷ []) s t) is_inside
+    (subst (λ m. Writes q (code m c.is_body_hard-is_hard.result) (info_tree body ∷ []) s t) c.start_group.ensures wrote)))
 
 pub emit_node-returns-in-AtomicGroup : goal.emit_node-returns-in-AtomicGroup
-emit_node-returns-in-AtomicGroup t c = λ p call u known.
+emit_node-returns-in-AtomicGroup t c = λ p call room u known.
+    let q = within_node p in
     let at = sym c.expr-expr.ensures ∙ c.in-AtomicGroup.is in
     let body = c.child-in-AtomicGroup.result.now in
     let tree = tree_by c.args.info.now _ (body ∷ []) at (only_child c.args.self.now c.args.info.now body _ at c.requires refl c.child-in-AtomicGroup.ensures)
@@ -206,8 +218,8 @@ emit_node-returns-in-AtomicGroup t c = λ p call u known.
     let s = draft_of c.args.writer.now in
     let t = draft_of c.emit_around-in-AtomicGroup.new.writer in
     written_as p call c.args.at_start c.args.in_hard _ _ _ _ tree
-    (wrote_node p _ (plain.AtomicGroup (info_tree body)) s t (safe_fine p (plain.AtomicGroup (info_tree body)) refl refl)
-    (c.emit_around-in-AtomicGroup.ensures p call u
+    (wrote_node p room _ (plain.AtomicGroup (info_tree body)) s t (safe_fine p (plain.AtomicGroup (info_tree body)) refl refl)
+    (c.emit_around-in-AtomicGroup.ensures q call u
     (analysed_only c.args.self.now c.args.info.now body _ at c.requires refl c.child-in-AtomicGroup.ensures p.analysis known)))
 
 pub emit_node-child-requires-in-LookAround : goal.emit_node-child-requires-in-LookAround
@@ -226,16 +238,17 @@ emit_node-emit_look-requires t c =
     )
 
 pub emit_node-returns-in-LookAround : goal.emit_node-returns-in-LookAround
-emit_node-returns-in-LookAround t c = λ p call u known.
+emit_node-returns-in-LookAround t c = λ p call room u known.
     let at = sym c.expr-expr.ensures ∙ c.in-LookAround.is in
     let body = c.child-in-LookAround.result.now in
     let tree = tree_by c.args.info.now _ (body ∷ []) at (only_child c.args.self.now c.args.info.now body _ at c.requires refl c.child-in-LookAround.ensures) in
     written_as p call c.args.at_start c.args.in_hard _ _ _ _ tree
-    (c.emit_look.ensures c.args.in_hard p call c.args.at_start u
+    (c.emit_look.ensures c.args.in_hard p call c.args.at_start room u
     (analysed_only c.args.self.now c.args.info.now body _ at c.requires refl c.child-in-LookAround.ensures p.analysis known))
 
 pub emit_node-returns-in-Conditional : goal.emit_node-returns-in-Conditional
-emit_node-returns-in-Conditional t c = λ p call u known.
+emit_node-returns-in-Conditional t c = λ p call room u known.
+    let q = within_node p in
     let tree = tree_by c.args.info.now _ _ (sym c.expr-expr.ensures ∙ c.in-Conditional.is)
     (three_children c.args.self.now c.args.info.now c.child-first.result.now c.child-second.result.now
     c.child-third.result.now _ (sym c.expr-expr.ensures ∙ c.in-Conditional.is) c.requires refl c.child-first.ensures
@@ -246,7 +259,7 @@ emit_node-returns-in-Conditional t c = λ p call u known.
     let e = plain.Conditional (info_tree c.child-first.result.now) (info_tree c.child-second.result.now)
     (info_tree c.child-third.result.now) in
     written_as p call c.args.at_start c.args.in_hard _ _ _ _ tree
-    (wrote_node p _ e _ _ (safe_fine p e refl refl) (c.emit_conditional.ensures p call u each.0 each.1.0 each.1.1))
+    (wrote_node p room _ e _ _ (safe_fine p e refl refl) (c.emit_conditional.ensures q call u each.0 each.1.0 each.1.1))
 
 pub emit_node-emit_conditional-requires : goal.emit_node-emit_conditional-requires
 emit_node-emit_conditional-requires t c =
@@ -294,11 +307,11 @@ emit_conditional-returns t c = λ p call u first second third.
     (subst (λ d. Writes p (branch a b) (es ++ ds) (draft_of c.push.new.self) d) done both)
 
 pub emit_node-returns-in_default : goal.emit_node-returns-in_default
-emit_node-returns-in_default t c = λ p call u known.
+emit_node-returns-in_default t c = λ p call room u known.
     let tree = tree_out c.args.info.now ∙ ap (λ x. node_over x (out-Info c.args.info.now).start_group (info_within c.args.info.now)
     (trees (map info_tree (info_children c.args.info.now)))) (sym c.expr-expr.ensures) in
     written_as p call c.args.at_start c.args.in_hard _ _ _ _ tree
-    (c.emit_leaf.ensures p call c.args.in_hard _ _ _ u.unicode)
+    (c.emit_leaf.ensures p call c.args.in_hard _ _ _ room u.unicode)
 
 pub emit_in_turn-emit-requires : goal.emit_in_turn-emit-requires
 emit_in_turn-emit-requires t c =
@@ -403,32 +416,32 @@ emit_node-emit_repeat-requires t c =
     )
 
 pub emit_node-returns-in-Repeat : goal.emit_node-returns-in-Repeat
-emit_node-returns-in-Repeat t c = λ p call u known.
+emit_node-returns-in-Repeat t c = λ p call room u known.
     let at = sym c.expr-expr.ensures ∙ c.in-Repeat.is in
     let body = c.child-in-Repeat.result.now in
     let tree = tree_by c.args.info.now _ (body ∷ []) at (only_child c.args.self.now c.args.info.now body _ at c.requires refl c.child-in-Repeat.ensures) in
     written_as p call c.args.at_start c.args.in_hard _ _ _ _ tree
-    (c.emit_repeat.ensures p call c.args.at_start u
+    (c.emit_repeat.ensures p call c.args.at_start room u
     (analysed_only c.args.self.now c.args.info.now body _ at c.requires refl c.child-in-Repeat.ensures p.analysis known))
 
 pub emit_repeat-returns-in-Some : goal.emit_repeat-returns-in-Some
-emit_repeat-returns-in-Some t c = λ p call at_start u known.
+emit_repeat-returns-in-Some t c = λ p call at_start room u known.
     let e = info_tree c.args.body.now in
     let size = size_known c.args.body.now p.analysis (known_child p.analysis c.args.body.now known) in
     let empty = ap (λ n. n == 0) (c.min_size.ensures ∙ ap (λ (z : Size). z.least) size) in
     let form = kind_form c.in-Some.kind in
-    wrote_repeat p call at_start c.args.in_hard c.args.lo c.args.greedy e _ _ (bound_of c.args.hi) c.in-Some.kind
+    wrote_repeat p room call at_start c.args.in_hard c.args.lo c.args.greedy e _ _ (bound_of c.args.hi) c.in-Some.kind
     (ap form_of (sym c.in-Some.is) ∙ c.loop_kind.ensures ∙ ap (loop_form c.args.lo (bound_of c.args.hi)) empty)
-    (subst (λ b. Writes p (repeat_code c.args.greedy (node_code p call e false b) form) (e ∷ []) (draft_of c.args.writer.now)
+    (subst (λ b. Writes (within_node p) (repeat_code c.args.greedy (node_code p call e false b) form) (e ∷ []) (draft_of c.args.writer.now)
     (draft_of c.emit_around.new.writer))
-    c.is_body_hard.ensures (c.emit_around.ensures p call u known))
+    c.is_body_hard.ensures (c.emit_around.ensures (within_node p) call u known))
 
 pub emit_repeat-returns-in-None : goal.emit_repeat-returns-in-None
-emit_repeat-returns-in-None t c = λ p call at_start u known.
+emit_repeat-returns-in-None t c = λ p call at_start room u known.
     let e = info_tree c.args.body.now in
     let size = size_known c.args.body.now p.analysis (known_child p.analysis c.args.body.now known) in
     let empty = ap (λ n. n == 0) (c.min_size.ensures ∙ ap (λ (z : Size). z.least) size) in
-    wrote_never p call at_start c.args.in_hard c.args.lo c.args.greedy e _ (bound_of c.args.hi)
+    wrote_never p room call at_start c.args.in_hard c.args.lo c.args.greedy e _ (bound_of c.args.hi)
     (ap form_of (sym c.in-None.is) ∙ c.loop_kind.ensures ∙ ap (loop_form c.args.lo (bound_of c.args.hi)) empty)
 
 pub emit_around-returns : goal.emit_around-returns
@@ -455,95 +468,111 @@ emit_branch-returns-else-behind t c = λ p call u known.
     (wrote_child p call x known false c.args.in_hard _ _ (c.emit.ensures p call u (known_child p.analysis x known)))
 
 pub emit_look-returns-in-LookAhead : goal.emit_look-returns-in-LookAhead
-emit_look-returns-in-LookAhead t c = λ in_hard p call at_start u known.
+emit_look-returns-in-LookAhead t c = λ in_hard p call at_start room u known.
     let e = info_tree c.args.body.now in
     let s = draft_of c.args.writer.now in
     let z = draft_of c.emit_around.new.writer in
     written_as p call at_start in_hard _ _ _ _ (ap (λ l. plain.LookAround (look_of l) e) c.in-LookAhead.is)
     (subst (λ k. Writes p k (plain.LookAround plain.LookAhead e ∷ []) s z) (sym (ahead_by p call at_start in_hard e))
-    (wrote_node p _ (plain.LookAround plain.LookAhead e) s z (safe_fine p (plain.LookAround plain.LookAhead e) refl refl)
-    (c.emit_around.ensures p call u known)))
+    (wrote_node p room _ (plain.LookAround plain.LookAhead e) s z (safe_fine p (plain.LookAround plain.LookAhead e) refl refl)
+    (c.emit_around.ensures (within_node p) call u known)))
 
 pub emit_look-returns-in-LookAheadNeg : goal.emit_look-returns-in-LookAheadNeg
-emit_look-returns-in-LookAheadNeg t c = λ in_hard p call at_start u known.
+emit_look-returns-in-LookAheadNeg t c = λ in_hard p call at_start room u known.
     let e = info_tree c.args.body.now in
     let s = draft_of c.args.writer.now in
     let z = draft_of c.emit_around-in-LookAheadNeg.new.writer in
     written_as p call at_start in_hard _ _ _ _ (ap (λ l. plain.LookAround (look_of l) e) c.in-LookAheadNeg.is)
     (subst (λ k. Writes p k (plain.LookAround plain.LookAheadNeg e ∷ []) s z) (sym (negative_by p call at_start in_hard e))
-    (wrote_node p _ (plain.LookAround plain.LookAheadNeg e) s z (safe_fine p (plain.LookAround plain.LookAheadNeg e) refl refl)
-    (c.emit_around-in-LookAheadNeg.ensures p call u known)))
+    (wrote_node p room _ (plain.LookAround plain.LookAheadNeg e) s z (safe_fine p (plain.LookAround plain.LookAheadNeg e) refl refl)
+    (c.emit_around-in-LookAheadNeg.ensures (within_node p) call u known)))
 
 pub emit_look-returns-in-LookBehind : goal.emit_look-returns-in-LookBehind
-emit_look-returns-in-LookBehind t c = λ in_hard p call at_start u known.
+emit_look-returns-in-LookBehind t c = λ in_hard p call at_start room u known.
     let e = info_tree c.args.body.now in
     written_as p call at_start in_hard _ _ _ _ (ap (λ l. plain.LookAround (look_of l) e) c.in-LookBehind.is)
-    (c.emit_behind.ensures in_hard p call at_start u known)
+    (c.emit_behind.ensures in_hard p call at_start room u known)
 
 pub emit_look-returns-in-LookBehindNeg : goal.emit_look-returns-in-LookBehindNeg
-emit_look-returns-in-LookBehindNeg t c = λ in_hard p call at_start u known.
+emit_look-returns-in-LookBehindNeg t c = λ in_hard p call at_start room u known.
     let e = info_tree c.args.body.now in
     written_as p call at_start in_hard _ _ _ _ (ap (λ l. plain.LookAround (look_of l) e) c.in-LookBehindNeg.is)
-    (c.emit_behind-in-LookBehindNeg.ensures in_hard p call at_start u known)
+    (c.emit_behind-in-LookBehindNeg.ensures in_hard p call at_start room u known)
 
 -- ---- lookbehinds
 
 pub emit_behind-returns-then-const_size : goal.emit_behind-returns-then-const_size
-emit_behind-returns-then-const_size t c = λ in_hard p call at_start u known.
+emit_behind-returns-then-const_size t c = λ in_hard p call at_start room u known.
     let e = info_tree c.args.body.now in
     let size = size_known c.args.body.now p.analysis (known_child p.analysis c.args.body.now known) in
     let const = ap (λ (z : Size). z.is_const) (sym size) ∙ sym c.const_size.ensures ∙ c.if-const_size.true in
     let least = c.min_size.ensures ∙ ap (λ (z : Size). z.least) size in
-    wrote_behind p call at_start in_hard _ _ c.args.negative e c.min_size.result const least
-    (subst (λ k. Writes p (around_code (around.Look k) (node_code p call e false false)) (e ∷ []) (draft_of c.args.writer.now)
+    wrote_behind p room call at_start in_hard _ _ c.args.negative e c.min_size.result const least
+    (subst (λ k. Writes (within_node p) (around_code (around.Look k) (node_code p call e false false)) (e ∷ []) (draft_of c.args.writer.now)
     (draft_of c.emit_around.new.writer))
-    c.behind_kind-kind.ensures (c.emit_around.ensures p call u known))
+    c.behind_kind-kind.ensures (c.emit_around.ensures (within_node p) call u known))
 
 pub emit_behind-returns-then-not-has_const_branches : goal.emit_behind-returns-then-not-has_const_branches
-emit_behind-returns-then-not-has_const_branches t c = λ in_hard p call at_start u known.
+emit_behind-returns-then-not-has_const_branches t c = λ in_hard p call at_start room u known.
     let body = c.args.body.now in
     let found = known_child p.analysis body known in
     let varies = ap (λ (z : Size). z.is_const) (sym (size_known body p.analysis found)) ∙ sym c.const_size.ensures ∙ c.if-const_size.false in
     c.refuse.ensures p _ _ (variable_refused p c.args.negative (info_tree body) varies
     (varying_branch p.analysis body found (sym c.has_const_branches.ensures ∙ c.if-not-has_const_branches.true) varies))
 
+pub emit_behind-returns-then-not-has_room : goal.emit_behind-returns-then-not-has_room
+emit_behind-returns-then-not-has_room t c = λ in_hard p call at_start room u known.
+    let q = within_node p in
+    let e = info_tree c.args.body.now in
+    c.fail.ensures p _ _ (deep_part p _ e here (no_room q e (u.room ∙ c.has_room.ensures.no c.if-not-has_room.true)))
+
 pub emit_behind-emit_none_behind-requires : goal.emit_behind-emit_none_behind-requires
 emit_behind-emit_none_behind-requires t c = (
-  omega (arith, node_count-below c.args.body.now, ap node_counts c.children.ensures),
-  subst (AreWhole c.args.self.now) (sym c.children.ensures) (whole_below c.args.self.now c.args.body.now c.requires),
+  omega (arith, node_count-below c.args.body.now, ap node_counts c.children.ensures, ap work c.within_node-inner.ensures),
+  subst (λ x. AreWhole x c.children.result.now) (sym c.within_node-inner.ensures)
+      (all_within c.args.self.now _ (subst (AreWhole c.args.self.now) (sym c.children.ensures) (whole_below c.args.self.now c.args.body.now c.requires))),
 )
 
 pub emit_behind-returns-then-negative : goal.emit_behind-returns-then-negative
-emit_behind-returns-then-negative t c = λ in_hard p call at_start u known.
+emit_behind-returns-then-negative t c = λ in_hard p call at_start room u known.
     let body = c.args.body.now in
     let found = known_child p.analysis body known in
     let e = info_tree body in
     let varies = ap (λ (z : Size). z.is_const) (sym (size_known body p.analysis found)) ∙ sym c.const_size.ensures ∙ c.if-const_size.false in
     let branched = const_branches p.analysis body found (sym c.has_const_branches.ensures ∙ c.if-not-has_const_branches.false) in
     let each = subst (Each (IsAnalysed p.analysis)) (sym c.children.ensures) found.children in
+    let q = within_node p in
+    let scope = c.args.self.now in
+    let again = room_at scope q call u (c.has_room.ensures.yes c.if-not-has_room.false) in
+    let v = subst (IsScopeAt (within_node q) call) (sym c.within_node-inner.ensures) (at_within scope q call u) in
     let z = draft_of c.emit_none_behind.new.writer in
     written_as p call at_start in_hard _ _ _ _ (ap (λ b. plain.LookAround (look_behind b) e) c.if-negative.true)
-    (wrote_none_behind p call at_start in_hard _ z e (map info_tree (info_children body)) branched.0 varies branched.1
-    (subst (λ l. LeftNone p call l (draft_of c.args.writer.now) z) c.children.ensures (c.emit_none_behind.ensures p call u each)))
+    (wrote_none_behind p room call at_start in_hard _ z again e (map info_tree (info_children body)) branched.0 varies branched.1
+    (subst (λ l. LeftNone (within_node q) call l (draft_of c.args.writer.now) z) c.children.ensures (c.emit_none_behind.ensures (within_node q) call v each)))
 
 pub emit_behind-emit_branches-requires : goal.emit_behind-emit_branches-requires
 emit_behind-emit_branches-requires t c = (
-  omega (arith, node_count-below c.args.body.now, ap node_counts c.children-else-negative.ensures),
-  subst (AreWhole c.args.self.now) (sym c.children-else-negative.ensures) (whole_below c.args.self.now c.args.body.now c.requires),
+  omega (arith, node_count-below c.args.body.now, ap node_counts c.children-else-negative.ensures, ap work c.within_node-inner.ensures),
+  subst (λ x. AreWhole x c.children-else-negative.result.now) (sym c.within_node-inner.ensures)
+      (all_within c.args.self.now _ (subst (AreWhole c.args.self.now) (sym c.children-else-negative.ensures) (whole_below c.args.self.now c.args.body.now c.requires))),
 )
 
 pub emit_behind-returns-else-negative : goal.emit_behind-returns-else-negative
-emit_behind-returns-else-negative t c = λ in_hard p call at_start u known.
+emit_behind-returns-else-negative t c = λ in_hard p call at_start room u known.
     let body = c.args.body.now in
     let found = known_child p.analysis body known in
     let e = info_tree body in
     let varies = ap (λ (z : Size). z.is_const) (sym (size_known body p.analysis found)) ∙ sym c.const_size.ensures ∙ c.if-const_size.false in
     let branched = const_branches p.analysis body found (sym c.has_const_branches.ensures ∙ c.if-not-has_const_branches.false) in
     let each = subst (Each (IsAnalysed p.analysis)) (sym c.children-else-negative.ensures) found.children in
+    let q = within_node p in
+    let scope = c.args.self.now in
+    let again = room_at scope q call u (c.has_room.ensures.yes c.if-not-has_room.false) in
+    let v = subst (IsScopeAt (within_node q) call) (sym c.within_node-inner.ensures) (at_within scope q call u) in
     let z = draft_of c.emit_branches.new.writer in
     written_as p call at_start in_hard _ _ _ _ (ap (λ b. plain.LookAround (look_behind b) e) c.if-negative.false)
-    (wrote_behind_branches p call at_start in_hard _ z e (map info_tree (info_children body)) branched.0 varies branched.1
-    (subst (λ l. LeftBranches p call true false l (draft_of c.args.writer.now) z) c.children-else-negative.ensures (c.emit_branches.ensures p call u each)))
+    (wrote_behind_branches p room call at_start in_hard _ z again e (map info_tree (info_children body)) branched.0 varies branched.1
+    (subst (λ l. LeftBranches (within_node q) call true false l (draft_of c.args.writer.now) z) c.children-else-negative.ensures (c.emit_branches.ensures (within_node q) call v each)))
 
 pub emit_none_behind-emit_around-requires : goal.emit_none_behind-emit_around-requires
 emit_none_behind-emit_around-requires t c =
@@ -585,7 +614,7 @@ emit_node-emit_absent-requires t c =
     )
 
 pub emit_node-returns-then-is_repeater : goal.emit_node-returns-then-is_repeater
-emit_node-returns-then-is_repeater t c = λ p call u known.
+emit_node-returns-then-is_repeater t c = λ p call room u known.
     let at = sym c.expr-expr.ensures ∙ c.in-Absent.is in
     let is = sym c.is_repeater.ensures ∙ c.if-is_repeater.true in
     let one = repeater_below c.in-Absent.absent is in
@@ -593,27 +622,23 @@ emit_node-returns-then-is_repeater t c = λ p call u known.
     let only = only_child c.args.self.now c.args.info.now body _ at c.requires one c.child-then-is_repeater.ensures in
     let tree = tree_by c.args.info.now _ (body ∷ []) at only ∙ repeater_over c.in-Absent.absent (info_tree body) is in
     written_as p call c.args.at_start c.args.in_hard _ _ _ _ tree
-    (c.emit_absent.ensures c.args.in_hard p call c.args.at_start u
+    (c.emit_absent.ensures c.args.in_hard p call c.args.at_start room u
     (analysed_only c.args.self.now c.args.info.now body _ at c.requires one c.child-then-is_repeater.ensures p.analysis known))
 
 pub emit_node-returns-else-is_repeater : goal.emit_node-returns-else-is_repeater
-emit_node-returns-else-is_repeater t c = λ p call u known.
+emit_node-returns-else-is_repeater t c = λ p call room u known.
     let tree = tree_by c.args.info.now _ _ (sym c.expr-expr.ensures ∙ c.in-Absent.is) refl in
-    c.refuse.ensures p _ _ (subst (λ e. HasRejected p (e ∷ []) refusal.FeatureNotYetSupported) (sym tree)
+    c.refuse.ensures p _ _ (subst (λ e. HasRejected p (e ∷ []) (refused_as refusal.FeatureNotYetSupported)) (sym tree)
     (not_repeater p _ _ (sym c.is_repeater.ensures ∙ c.if-is_repeater.false)))
 
-pub emit_absent-emit_repeater-requires : goal.emit_absent-emit_repeater-requires
-emit_absent-emit_repeater-requires t c = easy_alone c.args.self.now c.args.body.now c.requires (sym c.hard.ensures ∙ c.if-not-hard.true)
+pub emit_absent-emit_easy_absent-requires : goal.emit_absent-emit_easy_absent-requires
+emit_absent-emit_easy_absent-requires t c = record { whole = c.requires; easy = sym c.hard.ensures ∙ c.if-not-hard.true }
 
 pub emit_absent-returns-then-not-hard : goal.emit_absent-returns-then-not-hard
-emit_absent-returns-then-not-hard t c = λ in_hard p call at_start u known.
-    let body = c.args.body.now in
-    let easy = sym (hard_child p.analysis body known) ∙ sym c.hard.ensures ∙ c.if-not-hard.true in
-    wrote_repeater p (info_tree body) call at_start in_hard _ _ easy
-    (c.emit_repeater.ensures p u.unicode (record { analysed = known; easy = easy }))
+emit_absent-returns-then-not-hard t c = c.emit_easy_absent.ensures
 
 pub emit_absent-returns-then-is_refused_body : goal.emit_absent-returns-then-is_refused_body
-emit_absent-returns-then-is_refused_body t c = λ in_hard p call at_start u known.
+emit_absent-returns-then-is_refused_body t c = λ in_hard p call at_start room u known.
     let e = info_tree c.args.body.now in
     let hard = hard_child p.analysis c.args.body.now known in
     let is = ap (λ b. b && list_any is_absent (nodes e)) (sym hard) ∙ sym c.is_refused_body.ensures ∙ c.if-is_refused_body.true in
@@ -623,13 +648,14 @@ pub emit_absent-is_refused_body-requires : goal.emit_absent-is_refused_body-requ
 emit_absent-is_refused_body-requires t c = (c.requires.analysis, c.requires.known)
 
 pub emit_absent-returns : goal.emit_absent-returns
-emit_absent-returns t c = λ in_hard p call at_start u known.
+emit_absent-returns t c = λ in_hard p call at_start room u known.
+    let q = within_node p in
     let e = info_tree c.args.body.now in
     let hard = hard_child p.analysis c.args.body.now known in
     let is = ap (λ b. b && list_any is_absent (nodes e)) (sym hard) ∙ sym c.is_refused_body.ensures ∙ c.if-is_refused_body.false in
     let inner = step_past (node_code p call e false false) in
-    wrote_absent p e call at_start in_hard _ _ (sym hard ∙ sym c.hard.ensures ∙ c.if-not-hard.false) is
-    (c.end.ensures p inner (e ∷ []) _ _ c.start-start.ensures (c.begin.ensures p) (c.emit_step_past.ensures p call u known))
+    wrote_absent p e room call at_start in_hard _ _ (sym hard ∙ sym c.hard.ensures ∙ c.if-not-hard.false) is
+    (c.end.ensures q inner (e ∷ []) _ _ c.start-start.ensures (c.begin.ensures q) (c.emit_step_past.ensures q call u known))
 
 pub emit_step_past-returns : goal.emit_step_past-returns
 emit_step_past-returns t c = λ p call u known.
@@ -661,22 +687,22 @@ pub emit_node-emit_call-requires : goal.emit_node-emit_call-requires
 emit_node-emit_call-requires t c = (omega (arith, node_count-below c.args.info.now), (c.requires.analysis, c.requires.of_tree))
 
 pub emit_node-returns-in-SubroutineCall : goal.emit_node-returns-in-SubroutineCall
-emit_node-returns-in-SubroutineCall t c = λ p call u known.
+emit_node-returns-in-SubroutineCall t c = λ p call room u known.
     let tree = tree_by c.args.info.now _ _ (sym c.expr-expr.ensures ∙ c.in-SubroutineCall.is) refl in
     written_as p call c.args.at_start c.args.in_hard _ _ _ _ tree
-    (c.emit_call.ensures p call c.args.at_start u)
+    (c.emit_call.ensures p call c.args.at_start room u)
 
 pub emit_call-returns-then-not-has_target : goal.emit_call-returns-then-not-has_target
-emit_call-returns-then-not-has_target t c = λ p call at_start u.
+emit_call-returns-then-not-has_target t c = λ p call at_start room u.
     let missing = no_target p.analysis c.args.self.now u.of_tree c.args.group (sym c.has_target.ensures ∙ c.if-not-has_target.true) in
     c.refuse.ensures p _ _ (missing_refused p c.args.group missing)
 
 pub emit_call-returns-then-depth-ge-CALL_DEPTH : goal.emit_call-returns-then-depth-ge-CALL_DEPTH
-emit_call-returns-then-depth-ge-CALL_DEPTH t c = λ p call at_start u.
+emit_call-returns-then-depth-ge-CALL_DEPTH t c = λ p call at_start room u.
     let found = some_target p.analysis c.args.self.now u.of_tree c.args.group (sym c.has_target.ensures ∙ c.if-not-has_target.false) in
     let full : call_depth ≤ p.depths c.args.group = omega (arith, c.open_calls-depth.ensures, ap (λ d. d c.args.group) u.depths, c.if-depth-ge-CALL_DEPTH.true)
     in
-    wrote_full p c.args.group found.0 found.1 call u.budget at_start c.args.in_hard _ _ u.calls full (c.push.ensures.writes p)
+    wrote_full p room c.args.group found.0 found.1 call u.budget at_start c.args.in_hard _ _ u.calls full (c.push.ensures.writes p)
 
 pub emit_call-emit-requires : goal.emit_call-emit-requires
 emit_call-emit-requires t c =
@@ -692,20 +718,20 @@ emit_call-emit-requires t c =
     )
 
 pub emit_call-returns-then-group-eq0 : goal.emit_call-returns-then-group-eq0
-emit_call-returns-then-group-eq0 t c = λ p call at_start u.
+emit_call-returns-then-group-eq0 t c = λ p call at_start room u.
     let scope = c.args.self.now in
     let g = c.args.group in
     let whole = p.analysis.tree in
     let free : p.depths g < call_depth = omega (arith, c.open_calls-depth.ensures, ap (λ d. d g) u.depths, c.if-depth-ge-CALL_DEPTH.false) in
     let deeper = ap (λ n. n + 1) c.open_calls-depth.ensures in
     let at = zero_target p.analysis scope u.of_tree g c.if-group-eq0.true in
-    let inner = inner_code p call scope u g whole at free in
+    let inner = inner_code p room call scope u g whole at free in
     let hard = info_hard scope.root.now in
     let s = draft_of c.args.writer.now in
     let z = draft_of c.emit.new.writer in
-    let q = under_call g p in
-    let wrote = c.emit.ensures q inner (inner_u p call scope u g whole at free (c.open_calls-depth.result + 1) deeper _) (u.of_tree).root in
-    wrote_called p call scope u g whole at free at_start c.args.in_hard s z
+    let q = under_call g (within_node p) in
+    let wrote = c.emit.ensures q inner (inner_u p room call scope u g whole at free (c.open_calls-depth.result + 1) deeper _) (u.of_tree).root in
+    wrote_called p room call scope u g whole at free at_start c.args.in_hard s z
     (subst (λ k. Adds q (k (length s.instrs) s.fresh) (whole ∷ []) s z) (sym (code_of_zero p c.args.in_hard inner whole g c.if-group-eq0.true))
     (subst (λ b. Writes q (code_in q inner b whole true c.args.in_hard) (whole ∷ []) s z) (root_by p.plan hard (u.of_tree).hard)
     (subst (λ e. Writes q (code_in q inner (not hard) e true c.args.in_hard) (e ∷ []) s z) (u.of_tree).tree wrote)))
@@ -731,7 +757,7 @@ emit_call-emit_node-requires t c =
     )
 
 pub emit_call-returns : goal.emit_call-returns
-emit_call-returns t c = λ p call at_start u.
+emit_call-returns t c = λ p call at_start room u.
     let scope = c.args.self.now in
     let g = c.args.group in
     let free : p.depths g < call_depth = omega (arith, c.open_calls-depth.ensures, ap (λ d. d g) u.depths, c.if-depth-ge-CALL_DEPTH.false) in
@@ -745,20 +771,22 @@ emit_call-returns t c = λ p call at_start u.
     let marked = c.is_marked-at_start.result in
     let starts = c.is_marked-at_start.ensures ∙ ap (λ l. slice_index_or l (g - scope.groups.now.first) false) c.deref.ensures.value
     ∙ found_starts p.analysis scope u.of_tree g b range.0 range.1 c.node.ensures in
-    let inner = inner_code p call scope u g body at free in
+    let inner = inner_code p room call scope u g body at free in
     let s = draft_of c.args.writer.now in
     let z = draft_of c.emit_node.new.writer in
     let q = under_call g p in
-    let wrote = c.emit_node.ensures q inner (inner_u p call scope u g body at free (c.open_calls-depth.result + 1) deeper _) facts.0 in
-    wrote_called p call scope u g body at free at_start c.args.in_hard s z
-    (subst (λ k. Adds q (k (length s.instrs) s.fresh) (body ∷ []) s z)
+    let wrote = c.emit_node.ensures q inner room (inner_u p room call scope u g body at free (c.open_calls-depth.result + 1) deeper _) facts.0 in
+    wrote_called p room call scope u g body at free at_start c.args.in_hard s z
+    (subst (λ k. Adds (within_node q) (k (length s.instrs) s.fresh) (body ∷ []) s z)
     (sym (code_of_group p c.args.in_hard inner body g marked c.if-group-eq0.false starts))
-    (wrote_body q g body (written_code q inner (plain.Group g body) marked c.args.in_hard) s z
+    (wrote_body q room g body (written_code q inner (plain.Group g body) marked c.args.in_hard) s z
     (subst (λ e. Writes q (written_code q inner e marked c.args.in_hard) (e ∷ []) s z) tree wrote)))
 
 pub emit_node-returns-in-Assertion : goal.emit_node-returns-in-Assertion
-emit_node-returns-in-Assertion t c = λ p call u known.
+emit_node-returns-in-Assertion t c = λ p call room u known.
+    let q = within_node p in
     let i = c.args.info.now in
     let tree = tree_by i _ _ (sym c.expr-expr.ensures ∙ c.in-Assertion.is) refl in
     written_as p call c.args.at_start c.args.in_hard _ _ _ _ tree
-    (wrote_assertion p call c.args.at_start c.args.in_hard _ _ (info_within i) _ c.in_look_around.result c.in_look_around.ensures (c.emit_assertion.ensures p))
+    (wrote_assertion p call c.args.at_start c.args.in_hard _ _ (info_within i) _ c.in_look_around.result room c.in_look_around.ensures
+    (c.emit_assertion.ensures q))

@@ -24,7 +24,7 @@ emit-requires c = record {
 
 pub returns : goal.returns
 returns c = λ p unicode anchored end_text of_tree.
-    let q : Site = top p in
+    let q : Site = top p c.args.self.now.room in
     let whole = p.analysis.tree in
     let call = called_code p (is_easy p.analysis) (free_calls whole no_calls) no_calls in
     let root : Code = code_in q call (is_root_easy p (is_easy p.analysis)) whole true false in
@@ -38,6 +38,7 @@ returns c = λ p unicode anchored end_text of_tree.
       unicode = unicode;
       of_tree = of_tree;
       depths = ap depths_of (sym c.requires.begins);
+      room = refl;
       budget = free_calls whole no_calls;
       enough = omega arith;
       calls = refl;

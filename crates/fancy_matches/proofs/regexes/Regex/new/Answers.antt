@@ -6,7 +6,7 @@ use Rattle.fancy_matches.proofs.regexes.Regex.new.Goals as goal
 pub invariant_of-result : goal.invariant_of-result
 invariant_of-result c =
     let options = c.args.options.now in
-    let from = c.in_ok-compiled.ensures in record {
+    let from = c.in_ok-compiled.ensures.made in record {
       fits = may_run options c.args.tree.now c.in_ok-compiled.compiled [] c.requires.fits from;
       source = ∣ (input_of c.args.tree.now options.analysis options.compilation, from) ∣₁;
     }
