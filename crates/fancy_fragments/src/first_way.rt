@@ -9,9 +9,9 @@ ghost use Rattle.fancy_plain.specs.Ways.{CountsVisits, HasAscending};
 ghost use Rattle.fancy_fragments.specs.Fragments.{IsFirstWayOf, IsMemoFor};
 
 use crate::fragment::Fragment;
+use fancy_backtrack::memo::Memo;
 use fancy_expr::error::Error;
 use fancy_plain::first_way::FirstWay;
-use fancy_backtrack::memo::Memo;
 use std::alloc::Global;
 
 /// The first way of the fragment from `ix`, a character boundary of the text. `Memory` where a request for memory was

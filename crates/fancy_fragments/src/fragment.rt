@@ -13,13 +13,13 @@ ghost use Rattle.fancy_fragments.specs.Nodes.{AreEasyNeighbours, BeginAt, IsLaid
 
 use crate::copies::copy_of;
 use crate::settable::settable_above;
+use fancy_backtrack::memo::Memo;
 use fancy_expr::error::Error;
 use fancy_expr::expr::Expr;
 use fancy_expr::walk::Within;
 use fancy_info::info::Info;
 use fancy_plain::nfa::Nfa;
 use fancy_plain::one_pass::OnePass;
-use fancy_backtrack::memo::Memo;
 use std::alloc::{AllocError, Global};
 use std::fmt;
 

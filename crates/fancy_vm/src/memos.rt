@@ -7,11 +7,11 @@ ghost use Rattle.fancy_plain.specs.Ways.{HasAscending};
 ghost use Rattle.fancy_vm.specs.MemoRuns.{AddsNoMemo, AreOfRuns};
 
 use crate::machine::Task;
+use fancy_backtrack::memo::Memo;
 use fancy_expr::error::Error;
 use fancy_fragments::first_way::first_way_with;
 use fancy_fragments::fragment::Fragment;
 use fancy_plain::first_way::FirstWay;
-use fancy_backtrack::memo::Memo;
 use std::alloc::{AllocError, Global};
 
 /// A memo, in a box since it goes to a search and back, and the run that wrote it.

@@ -10,11 +10,13 @@ const AFTER: &str =
 Status 0: there is an answer, also that there is no match; 1: the pattern or the search is refused; \
 2: the words or files ask nothing; 3: a write failed.";
 
-const WHY: &str = "Why there is no match: how much of the pattern matches, and what does not follow";
+const WHY: &str =
+    "Why there is no match: how much of the pattern matches, and what does not follow";
 
 const TRACE: &str = "Each instruction that a run executes, 1000 at most without --steps";
 
-const NODES: &str = "What is known of each node of the tree that the pattern spells, or which node is refused";
+const NODES: &str =
+    "What is known of each node of the tree that the pattern spells, or which node is refused";
 
 const PICTURE: &str = "The program of the pattern as a picture, in SVG or for Graphviz";
 

@@ -2,10 +2,10 @@
 
 ghost use Rattle.fancy_expr.specs.Sound.{IsWellFormedTree};
 
-use crate::source::read;
 use crate::outcome::Trouble;
 use crate::refusals::refusal;
 use crate::request::Request;
+use crate::source::read;
 use fancy_compile::compile::CompileOptions;
 use fancy_expr::error::Error;
 use fancy_expr::expr::ExprTree;

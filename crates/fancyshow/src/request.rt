@@ -116,7 +116,9 @@ fn request<'a>(
 ) -> Result<(Request, Option<&'a str>), Trouble> {
     let second = matches.get_str("TEXT");
     let is_tree = matches.get_flag("tree") || matches.get_str("tree-file").is_some();
-    let file = matches.get_str("tree-file").or(matches.get_str("pattern-file"));
+    let file = matches
+        .get_str("tree-file")
+        .or(matches.get_str("pattern-file"));
     let (source, word) = match file {
         Some(path) => source_file(rt, matches, second, path)?,
         None => source(rt, matches, second)?,

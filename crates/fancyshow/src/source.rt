@@ -59,6 +59,9 @@ fn accepted(alloc: Global, tree: ExprTree) -> Result<ExprTree, Trouble>
     if is_well_formed(&tree) {
         Ok(tree)
     } else {
-        Err(Trouble::Refusal(String::from_str(alloc, "the pattern spells no tree that can be searched for")?))
+        Err(Trouble::Refusal(String::from_str(
+            alloc,
+            "the pattern spells no tree that can be searched for",
+        )?))
     }
 }

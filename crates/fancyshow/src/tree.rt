@@ -4,12 +4,12 @@ ghost use Rattle.fancy_expr.specs.Sound.{IsWellFormedTree};
 
 use crate::blame::{Whole, is_blamed};
 use crate::excerpt::push_times;
-use crate::source::read;
 use crate::list::compile;
 use crate::nodes::push_node;
 use crate::outcome::Trouble;
 use crate::refusals::refusal;
 use crate::request::Request;
+use crate::source::read;
 use fancy_analysis::analyze::analyze;
 use fancy_command::command::MOST_DEPTH;
 use fancy_expr::error::{CompileError, Error};

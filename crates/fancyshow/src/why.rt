@@ -72,7 +72,11 @@ fn node<'t>(text: &'t str, placed: &[Placed], number: usize) -> &'t str {
 }
 
 /// Where a beginning matches first, if it is accepted and does.
-pub fn found(alloc: Global, request: &Request, text: &str) -> Result<Option<(usize, usize)>, Trouble> {
+pub fn found(
+    alloc: Global,
+    request: &Request,
+    text: &str,
+) -> Result<Option<(usize, usize)>, Trouble> {
     match captures(alloc, request, text) {
         Ok((Some(captures), _)) => {
             let whole = captures.whole();

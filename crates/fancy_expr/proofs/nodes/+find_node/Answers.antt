@@ -16,10 +16,11 @@ returns-then-asks t c =
 pub returns-in-Some : goal.returns-in-Some
 returns-in-Some t c =
     let e = c.args.expr.now in
-    let child = c.part.result.now in
-    (c.in-Some.ensures.0,
-    contained_below e child _ c.loop-i.i (omega arith) c.part.ensures c.in-Some.ensures.1,
-    first_below (asks c.args.question) e child _ c.loop-i.i (omega arith) c.part.ensures (sym c.asks.ensures ∙ c.if-asks.false) c.loop-i.invariant c.in-Some.ensures.2)
+    let child = c.part.result.now in (
+      c.in-Some.ensures.0,
+      contained_below e child _ c.loop-i.i (omega arith) c.part.ensures c.in-Some.ensures.1,
+      first_below (asks c.args.question) e child _ c.loop-i.i (omega arith) c.part.ensures (sym c.asks.ensures ∙ c.if-asks.false) c.loop-i.invariant c.in-Some.ensures.2,
+    )
 
 pub loop-i-preserved : goal.loop-i-preserved
 loop-i-preserved t c = none_more _ (below c.args.expr.now) c.loop-i.i c.part.result.now (omega arith) c.part.ensures c.loop-i.invariant c.in_default.ensures
