@@ -9,3 +9,9 @@ pub mod TokenTests
 pub mod Surveys
 pub mod Spelled
 pub mod EscapedTokens
+pub mod Lengths
+pub mod OneSpelling
+pub mod Splits
+pub mod Moved
+pub mod Rows
+pub mod WhereStuck

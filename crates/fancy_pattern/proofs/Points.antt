@@ -16,6 +16,7 @@ use Rattle.fancy_pattern.specs.Tokens.{Reference, Token, Placed, Opening, Around
 use Rattle.fancy_pattern.specs.PatternViews.{placed_of}
 use Rattle.fancy_pattern.specs.Grammar.{Names, Takes, first_gives, gives_some, is_at, is_branch_end, is_empty, is_repeatable, bar, closing, quantifier, class_text, class_close, class_of, joined, alternated, suffixed, SpellsSuffix, SpellsClass, class_end, class_piece, class_open, opening, node_of, reference, enclosed, SpellsAtom, node, class, opened, SpellsOpened, around, group, stopper, expression, if_group, if_pattern, if_look, SpellsBodies, one_body, two_bodies, SpellsPiece, plain, quantified, SpellsPieces, no_piece, piece, SpellsBranch, branch, SpellsBars, no_bar, barred, SpellsAlternatives, branches}
 use Rattle.fancy_pattern.proofs.MadeNodes.{text_added, one_char}
+use Rattle.fancy_pattern.proofs.Rows.{Row, none_read, row_more, BarRow, none_barred, bar_row_more, TextRow, none_text, text_row_more}
 use Rattle.fancy_pattern.specs.Reading.{point_of, Skips, ReadsTree, ReadsClass, SpellsLast, Quantifies, alone, by, some_of}
 
 pub skipped : (old new : Reader) → 0 < length old.rest.now → new.rest.now ≡ drop 1 old.rest.now → Skips old new
@@ -138,11 +139,12 @@ if_look_read names l c k old mid new (Err f) s is h = tt
 pub record PiecesRead (names : Names) (start now : Reader) (made : List Expr) : Type 0 where
   pub so_far : List Tree
   pub are : map tree_of made ≡ filter (λ e. not (is_empty e)) so_far
+  pub row : Row names (point_of start) (point_of now) so_far
   pub spelled : (z : List Placed) (more : List Tree) → SpellsPieces names (point_of now) z more → SpellsPieces names (point_of start) z (so_far ++ more)
   pub shorter : length now.rest.now ≤ length start.rest.now
 
 pub pieces_begin : (names : Names) (r : Reader) (made : List Expr) → made ≡ [] → PiecesRead names r r made
-pieces_begin names r made none = record { so_far = []; are = ap (map tree_of) none; spelled = λ z more s. s; shorter = omega arith }
+pieces_begin names r made none = record { so_far = []; are = ap (map tree_of) none; row = none_read; spelled = λ z more s. s; shorter = omega arith }
 
 filtered : (es : List Tree) (e : Tree) → filter (λ x. not (is_empty x)) (es ++ e ∷ []) ≡ filter (λ x. not (is_empty x)) es ++ some_of e
 filtered [] e = by_test (is_empty e)
@@ -165,6 +167,7 @@ pub pieces_next : (names : Names) (start old new : Reader) (made more_made : Lis
 pieces_next names start old new made more_made e r on s are shorter = record {
   so_far = r.so_far ++ e ∷ [];
   are = are ∙ ap (λ l. l ++ some_of e) r.are ∙ sym (filtered r.so_far e);
+  row = row_more r.row on s;
   spelled = λ z more t. subst (SpellsPieces names (point_of start) z) (sym (append_assoc r.so_far (e ∷ []) more)) (r.spelled z (e ∷ more) (piece on s t));
   shorter = let a = r.shorter in omega (arith, a, shorter);
 }
@@ -181,11 +184,12 @@ pieces_done names start now made r at_end = (
 pub record BarsRead (names : Names) (start now : Reader) (given made : List Expr) : Type 0 where
   pub so_far : List Tree
   pub are : map tree_of made ≡ map tree_of given ++ so_far
+  pub row : BarRow names (point_of start) (point_of now) so_far
   pub spelled : (z : List Placed) (more : List Tree) → SpellsBars names (point_of now) z more → SpellsBars names (point_of start) z (so_far ++ more)
   pub shorter : length now.rest.now ≤ length start.rest.now
 
 pub bars_begin : (names : Names) (r : Reader) (given : List Expr) → BarsRead names r r given given
-bars_begin names r given = record { so_far = []; are = sym (append-nil (map tree_of given)); spelled = λ z more s. s; shorter = omega arith }
+bars_begin names r given = record { so_far = []; are = sym (append-nil (map tree_of given)); row = none_barred; spelled = λ z more s. s; shorter = omega arith }
 
 pub bars_next : (names : Names) (start old mid new : Reader) (given made more_made : List Expr) (e : Expr) → BarsRead names start old given made →
     Takes bar (point_of old) tt (point_of mid) → SpellsBranch names (point_of mid) (point_of new) (tree_of e) → more_made ≡ made ++ e ∷ [] →
@@ -198,6 +202,7 @@ bars_next names start old mid new given made more_made e r t s are shorter = rec
       ∙ map-append tree_of made (e ∷ [])
       ∙ ap (λ l. l ++ tree_of e ∷ []) r.are
       ∙ append_assoc (map tree_of given) r.so_far (tree_of e ∷ []);
+  row = bar_row_more r.row t s;
   spelled = λ z more u.
       subst (SpellsBars names (point_of start) z) (sym (append_assoc r.so_far (tree_of e ∷ []) more)) (r.spelled z (tree_of e ∷ more) (barred t s u));
   shorter = let a = r.shorter in omega (arith, a, shorter);
@@ -215,6 +220,8 @@ bars_done names start now given made r at_end = (
 pub record ClassRead (start now : Reader) (text : List ℕ) : Type 0 where
   pub so_far : List ℕ
   pub is : text ≡ [] ++ encode_utf8_all (91 ∷ so_far)
+  pub texts : List ℕ
+  pub row : TextRow (point_of start) (point_of now) texts
   pub spelled : (z : List Placed) (more : List ℕ) → SpellsClass (point_of now) z more → SpellsClass (point_of start) z (so_far ++ more)
   pub shorter : length now.rest.now ≤ length start.rest.now
 
@@ -222,6 +229,8 @@ pub class_begin : (r : Reader) (old new : List ℕ) → old ≡ [] → new ≡ o
 class_begin r old new none is = record {
   so_far = [];
   is = one_char [] new 91 (is ∙ ap (λ l. l ++ encode_utf8 91) none);
+  texts = [];
+  row = none_text;
   spelled = λ z more s. s;
   shorter = omega arith;
 }
@@ -231,6 +240,8 @@ pub class_next : (start old new : Reader) (text more_text added : List ℕ) → 
 class_next start old new text more_text added r t is shorter = record {
   so_far = r.so_far ++ added;
   is = text_added [] (91 ∷ r.so_far) added text more_text r.is is;
+  texts = (text_row_more r.row t).0;
+  row = (text_row_more r.row t).1;
   spelled = λ z more s. subst (SpellsClass (point_of start) z) (sym (append_assoc r.so_far added more)) (r.spelled z (added ++ more) (class_piece t s));
   shorter = let a = r.shorter in omega (arith, a, shorter);
 }

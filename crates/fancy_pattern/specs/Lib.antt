@@ -17,3 +17,5 @@ pub mod Reading
 pub mod Described
 pub mod Spelling
 pub mod Escape
+pub mod Faults
+pub mod Stuck

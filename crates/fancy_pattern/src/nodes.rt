@@ -1,6 +1,6 @@
 //! The nodes of the tree that is made.
 
-ghost use Rattle.std.specs.Prelude.{◌≡◌, ◌++◌, ◌∷◌, [], map, reverse, not, filter, false, IfOk, OnOk, encode_utf8_all, string_bytes, Some, if◌then◌else◌};
+ghost use Rattle.std.specs.Prelude.{◌≡◌, ◌++◌, ◌∷◌, [], map, reverse, not, filter, false, IfOk, IfErr, OnOk, encode_utf8_all, string_bytes, Some, if◌then◌else◌};
 ghost use Rattle.fancy_meaning.specs.Tree as tree;
 ghost use Rattle.fancy_meaning.specs.Tree.{trees};
 ghost use Rattle.fancy_expr.specs.Views.{tree_of, look_of};
@@ -9,6 +9,7 @@ ghost use Rattle.fancy_pattern.specs.Grammar as grammar;
 ghost use Rattle.fancy_pattern.specs.Naming.{pairs_in};
 ghost use Rattle.fancy_pattern.specs.Grammar.{is_repeatable, lo_of, hi_of, named, unresolved};
 ghost use Rattle.fancy_pattern.specs.declared.tokens.Naming.TheVariants as naming;
+ghost use Rattle.fancy_pattern.specs.Stuck.{NoNode, NoAtom};
 ghost use Rattle.fancy_pattern.specs.PatternViews.{leaf_of, hex_class, token_of, reference_of};
 
 use crate::class_text::push_escape;
@@ -159,8 +160,11 @@ fn by_groups(
     name: &[char],
     place: usize,
 ) -> Result<Expr, Failure>
-    ensures { IfOk result (λ e. Some (tree_of e)
+    ensures made { IfOk result (λ e. Some (tree_of e)
         ≡ grammar.by_groups reference.entry.naming reference.entry.level groups.now) }
+    ensures fails { IfErr result (NoNode
+        (grammar.by_groups reference.entry.naming reference.entry.level groups.now)
+        reference.entry.left) }
 {
     match groups {
         [] => Ok(unresolved(
@@ -175,8 +179,11 @@ fn by_groups(
 
 /// The nodes for several groups, the last first.
 fn several(alloc: Global, reference: Reference<'_>, groups: &[usize]) -> Result<Expr, Failure>
-    ensures { IfOk result (λ e. Some (tree_of e)
+    ensures made { IfOk result (λ e. Some (tree_of e)
         ≡ grammar.several reference.entry.naming reference.entry.level groups.now) }
+    ensures fails { IfErr result (NoNode
+        (grammar.several reference.entry.naming reference.entry.level groups.now)
+        reference.entry.left) }
 {
     match reference.naming {
         Naming::Call => Err(Failure::Fault(Fault {
@@ -195,8 +202,11 @@ pub(crate) fn reference(
     reference: Reference<'_>,
     place: usize,
 ) -> Result<Expr, Failure>
-    ensures { IfOk result (λ e. Some (tree_of e)
+    ensures made { IfOk result (λ e. Some (tree_of e)
         ≡ grammar.reference (pairs_in names.now.pairs) (reference_of reference.entry)) }
+    ensures fails { IfErr result (NoNode
+        (grammar.reference (pairs_in names.now.pairs) (reference_of reference.entry))
+        reference.entry.left) }
 {
     match reference.target {
         Target::Name(name) => {
@@ -386,8 +396,10 @@ pub(crate) fn node(
     token: Token<'_>,
     place: usize,
 ) -> Result<Option<Expr>, Failure>
-    ensures { IfOk result (λ found. option_map tree_of found
+    ensures made { IfOk result (λ found. option_map tree_of found
         ≡ grammar.node_of (pairs_in names.now.pairs) (token_of token.entry)) }
+    ensures fails { IfErr result (NoAtom
+        (pairs_in names.now.pairs) (token_of token.entry)) }
 {
     match token {
         Token::Leaf(found) => Ok(Some(leaf(alloc, found)?)),

@@ -1,13 +1,16 @@
 //! The reader by recursive descent: from tokens to an `Expr`.
 
-ghost use Rattle.std.specs.Prelude.{◌≡◌, ◌+◌, ◌<◌, ◌≤◌, ◌++◌, true, length, map, IfOk, IfSome, Some};
+ghost use Rattle.std.specs.Prelude.{◌≡◌, ◌+◌, ◌<◌, ◌≤◌, ◌++◌, true, false, length, map, IfOk, IfErr, IfSome, Some};
 ghost use Rattle.std.specs.Option.{option_map};
 ghost use Rattle.fancy_expr.specs.Views.{tree_of};
-ghost use Rattle.fancy_pattern.specs.Grammar.{is_at, is_branch_end, bar, closing, quantifier as quantifier_of, suffix, suffix_of, opening, class_open, class_text, class_close, gives_some, first_gives, node_of, Takes, reference, SpellsSuffix, SpellsAtom, SpellsOpened, SpellsBodies, SpellsPiece, SpellsBranch, SpellsAlternatives};
+ghost use Rattle.fancy_pattern.specs.Grammar.{Names, is_at, is_branch_end, bar, closing, quantifier as quantifier_of, suffix, suffix_of, opening, class_open, class_text, class_close, gives_some, first_gives, node_of, Takes, reference, SpellsClass, SpellsSuffix, SpellsAtom, SpellsOpened, SpellsBodies, SpellsPiece, SpellsPieces, SpellsBranch, SpellsBars, SpellsAlternatives};
+ghost use Rattle.fancy_pattern.specs.Faults.{Tells};
+ghost use Rattle.fancy_pattern.specs.Stuck.{is_end, is_calm, anything, Fails, FailsOpened, IsMisfit};
 ghost use Rattle.fancy_pattern.specs.Naming.{pairs_in};
 ghost use Rattle.fancy_pattern.specs.PatternViews.{token_of, opening_of, reference_of, piece_text};
-ghost use Rattle.fancy_pattern.specs.Reading.{point_of, next_token, Skips, ReadsTree, ReadsLast, ReadsClass, ReadsPieces, ReadsBars, Quantifies, some_of};
+ghost use Rattle.fancy_pattern.specs.Reading.{point_of, next_token, Skips, ReadsTree, ReadsLast, SpellsLast, ReadsClass, ReadsPieces, ReadsBars, Quantifies, some_of};
 ghost use Rattle.fancy_pattern.specs.Tokens.{AbsentBar, If};
+ghost use Rattle.fancy_pattern.specs.declared.failure.Failure.TheVariants.{Memory};
 
 use crate::class_text::push_piece;
 use crate::error::{ErrorKind, Fault};
@@ -111,7 +114,9 @@ fn suffix_of(quantifier: Quantifier) -> Option<Suffix>
 }
 
 /// The kind of the fault where this token cannot stand.
-fn kind_of(token: Token<'_>, kind: ErrorKind) -> ErrorKind {
+fn kind_of(token: Token<'_>, kind: ErrorKind) -> ErrorKind
+    ensures { Tells (token_of token.entry) result }
+{
     match token {
         Token::Broken(found) => found,
         _ => kind,
@@ -130,7 +135,9 @@ impl<'a> Reader<'a> {
     }
 
     /// The next token cannot stand here; at the end a parenthesis is not closed.
-    fn misfit(&self, kind: ErrorKind) -> Failure {
+    fn misfit(&self, kind: ErrorKind) -> Failure
+        ensures { IsMisfit (point_of self.now) result }
+    {
         match self.rest.first() {
             Some(placed) => Failure::Fault(Fault {
                 left: placed.left,
@@ -191,6 +198,8 @@ impl<'a> Reader<'a> {
     fn read_close(&mut self) -> Result<(), Failure>
         ensures takes { IfOk result (λ u. Takes closing (point_of self.old) tt
             (point_of self.new)) }
+        ensures fails { IfErr result (λ e. (is_at closing (point_of self.old) ≡ false)
+            × IsMisfit (point_of self.old) e) }
         ensures shorter { IfOk result (λ u. length self.new.rest.now + 1
             ≡ length self.old.rest.now) }
     {
@@ -203,7 +212,9 @@ impl<'a> Reader<'a> {
 
     /// No token is left.
     pub fn read_end(&self) -> Result<(), Failure>
-        ensures { IfOk result (λ u. length self.now.rest.now ≡ 0) }
+        ensures done { IfOk result (λ u. length self.now.rest.now ≡ 0) }
+        ensures left { IfErr result (λ e. (0 < length self.now.rest.now)
+            × IsMisfit (point_of self.now) e) }
     {
         if self.rest.is_empty() {
             Ok(())
@@ -217,6 +228,8 @@ impl<'a> Reader<'a> {
     pub fn read_alternatives(&mut self, names: &GroupNames) -> Result<Expr, Failure>
         ensures spells { ReadsTree (SpellsAlternatives (pairs_in names.now.pairs))
             self.old self.new result }
+        ensures fails { IfErr result (Fails (pairs_in names.now.pairs) anything
+            (SpellsAlternatives (pairs_in names.now.pairs)) (point_of self.old)) }
         ensures shorter { IfOk result (λ e. length self.new.rest.now
             ≤ length self.old.rest.now) }
     {
@@ -232,6 +245,8 @@ impl<'a> Reader<'a> {
     fn read_bars(&mut self, names: &GroupNames, given: Vec<Expr>) -> Result<Vec<Expr>, Failure>
         ensures spells { ReadsBars (pairs_in names.now.pairs) given.items
             self.old self.new result }
+        ensures fails { IfErr result (Fails (pairs_in names.now.pairs) is_end
+            (SpellsBars (pairs_in names.now.pairs)) (point_of self.old)) }
         ensures shorter { IfOk result (λ e. length self.new.rest.now
             ≤ length self.old.rest.now) }
     {
@@ -248,6 +263,8 @@ impl<'a> Reader<'a> {
     fn read_branch(&mut self, names: &GroupNames) -> Result<Expr, Failure>
         ensures spells { ReadsTree (SpellsBranch (pairs_in names.now.pairs))
             self.old self.new result }
+        ensures fails { IfErr result (Fails (pairs_in names.now.pairs) anything
+            (SpellsBranch (pairs_in names.now.pairs)) (point_of self.old)) }
         ensures shorter { IfOk result (λ e. length self.new.rest.now
             ≤ length self.old.rest.now) }
     {
@@ -259,6 +276,8 @@ impl<'a> Reader<'a> {
     #[cycle(reading)]
     fn read_pieces(&mut self, names: &GroupNames) -> Result<Vec<Expr>, Failure>
         ensures spells { ReadsPieces (pairs_in names.now.pairs) self.old self.new result }
+        ensures fails { IfErr result (Fails (pairs_in names.now.pairs) anything
+            (SpellsPieces (pairs_in names.now.pairs)) (point_of self.old)) }
         ensures shorter { IfOk result (λ e. length self.new.rest.now
             ≤ length self.old.rest.now) }
     {
@@ -275,6 +294,8 @@ impl<'a> Reader<'a> {
     fn read_piece(&mut self, names: &GroupNames) -> Result<Expr, Failure>
         ensures spells { ReadsTree (SpellsPiece (pairs_in names.now.pairs))
             self.old self.new result }
+        ensures fails { IfErr result (Fails (pairs_in names.now.pairs) is_calm
+            (SpellsPiece (pairs_in names.now.pairs)) (point_of self.old)) }
         ensures shorter { IfOk result (λ e. length self.new.rest.now + 1
             ≤ length self.old.rest.now) }
     {
@@ -293,6 +314,8 @@ impl<'a> Reader<'a> {
     fn read_quantifier(&mut self, atom: Expr) -> Result<Expr, Failure>
         ensures spells { IfOk result (λ e. Quantifies (tree_of atom) (point_of self.old)
             (point_of self.new) (tree_of e)) }
+        ensures fails { (names : Names) → IfErr result (Fails names is_calm
+            (Quantifies (tree_of atom)) (point_of self.old)) }
         ensures shorter { IfOk result (λ e. length self.new.rest.now
             ≤ length self.old.rest.now) }
     {
@@ -313,6 +336,8 @@ impl<'a> Reader<'a> {
         requires there { first_gives quantifier_of (point_of self.old) ≡ Some (quantifier, greedy) }
         ensures spells { IfOk result (λ e. Quantifies (tree_of atom) (point_of self.old)
             (point_of self.new) (tree_of e)) }
+        ensures fails { (names : Names) → IfErr result (Fails names is_calm
+            (Quantifies (tree_of atom)) (point_of self.old)) }
         ensures shorter { IfOk result (λ e. length self.new.rest.now
             ≤ length self.old.rest.now) }
     {
@@ -363,6 +388,8 @@ impl<'a> Reader<'a> {
     fn read_atom(&mut self, names: &GroupNames) -> Result<Expr, Failure>
         ensures spells { ReadsTree (SpellsAtom (pairs_in names.now.pairs))
             self.old self.new result }
+        ensures fails { IfErr result (Fails (pairs_in names.now.pairs) is_calm
+            (SpellsAtom (pairs_in names.now.pairs)) (point_of self.old)) }
         ensures shorter { IfOk result (λ e. length self.new.rest.now + 1
             ≤ length self.old.rest.now) }
     {
@@ -381,6 +408,8 @@ impl<'a> Reader<'a> {
     fn read_node(&mut self, names: &GroupNames) -> Result<Expr, Failure>
         ensures takes { IfOk result (λ e. Takes (node_of (pairs_in names.now.pairs))
             (point_of self.old) (tree_of e) (point_of self.new)) }
+        ensures fails { IfErr result (Fails (pairs_in names.now.pairs) is_calm
+            (λ x y e. Takes (node_of (pairs_in names.now.pairs)) x e y) (point_of self.old)) }
         ensures shorter { IfOk result (λ e. length self.new.rest.now + 1
             ≤ length self.old.rest.now) }
     {
@@ -418,6 +447,8 @@ impl<'a> Reader<'a> {
     /// The rest of a class.
     fn read_class(&mut self, casei: bool) -> Result<Expr, Failure>
         ensures spells { ReadsClass casei self.old self.new result }
+        ensures fails { (names : Names) → IfErr result (Fails names anything
+            SpellsClass (point_of self.old)) }
         ensures shorter { IfOk result (λ e. length self.new.rest.now
             ≤ length self.old.rest.now) }
     {
@@ -441,6 +472,8 @@ impl<'a> Reader<'a> {
         ensures spells { ReadsTree
             (SpellsOpened (pairs_in names.now.pairs) (opening_of opening.entry))
             self.old self.new result }
+        ensures fails { IfErr result (FailsOpened (pairs_in names.now.pairs)
+            (opening_of opening.entry) (point_of self.old)) }
         ensures shorter { IfOk result (λ e. length self.new.rest.now
             ≤ length self.old.rest.now) }
     {
@@ -471,6 +504,8 @@ impl<'a> Reader<'a> {
     #[cycle(reading)]
     fn read_last(&mut self, names: &GroupNames) -> Result<Expr, Failure>
         ensures spells { ReadsLast (pairs_in names.now.pairs) self.old self.new result }
+        ensures fails { IfErr result (Fails (pairs_in names.now.pairs) anything
+            (SpellsLast (pairs_in names.now.pairs)) (point_of self.old)) }
         ensures shorter { IfOk result (λ e. length self.new.rest.now
             ≤ length self.old.rest.now) }
     {
@@ -484,6 +519,8 @@ impl<'a> Reader<'a> {
     fn read_absent(&mut self, names: &GroupNames) -> Result<Expr, Failure>
         ensures spells { ReadsTree (SpellsOpened (pairs_in names.now.pairs) AbsentBar)
             self.old self.new result }
+        ensures fails { IfErr result (FailsOpened (pairs_in names.now.pairs)
+            AbsentBar (point_of self.old)) }
         ensures shorter { IfOk result (λ e. length self.new.rest.now
             ≤ length self.old.rest.now) }
     {
@@ -503,6 +540,8 @@ impl<'a> Reader<'a> {
         ensures spells { ReadsTree
             (SpellsOpened (pairs_in names.now.pairs) (If (reference_of found.entry)))
             self.old self.new result }
+        ensures fails { IfErr result (FailsOpened (pairs_in names.now.pairs)
+            (If (reference_of found.entry)) (point_of self.old)) }
         ensures shorter { IfOk result (λ e. length self.new.rest.now
             ≤ length self.old.rest.now) }
     {
@@ -520,6 +559,8 @@ impl<'a> Reader<'a> {
         ensures spells { ReadsTree
             (SpellsBodies (pairs_in names.now.pairs) (tree_of condition))
             self.old self.new result }
+        ensures fails { IfErr result (Fails (pairs_in names.now.pairs) anything
+            (SpellsBodies (pairs_in names.now.pairs) (tree_of condition)) (point_of self.old)) }
         ensures shorter { IfOk result (λ e. length self.new.rest.now
             ≤ length self.old.rest.now) }
     {
@@ -536,7 +577,8 @@ impl<'a> Reader<'a> {
 
 /// Adds a piece that is something.
 fn push_some(pieces: &mut Vec<Expr>, piece: Expr) -> Result<(), Failure>
-    ensures { IfOk result (λ u. map tree_of pieces.new.items
+    ensures fails { IfErr result (λ e. e ≡ Memory) }
+    ensures pushed { IfOk result (λ u. map tree_of pieces.new.items
         ≡ map tree_of pieces.old.items
         ++ some_of (tree_of piece)) }
 {

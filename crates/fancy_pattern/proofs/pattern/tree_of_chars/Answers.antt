@@ -14,5 +14,5 @@ returns c =
     c.in_ok-placed.ensures
     (spelled_whole (pairs_in c.in_ok-names.names.pairs) ts start c.read_alternatives.new.self (tree_of c.in_ok-expr.expr)
     (c.in_ok-names.ensures ∙ ap (λ l. named_in (map placed_of l)) c.deref.ensures.value) (ap (map placed_of) c.deref-2.ensures.value)
-    c.in_ok-expr.ensures.spells c.in_ok-read_end.ensures)
+    c.in_ok-expr.ensures.spells c.in_ok-read_end.ensures.done)
     c.in_ok-described.ensures.same (ap (map placed_of) c.deref-3.ensures.value) c.in_ok-described.ensures.describes

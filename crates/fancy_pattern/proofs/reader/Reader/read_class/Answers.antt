@@ -1,7 +1,9 @@
-use Rattle.std.proofs.Common.{string_bytes, sym, arith}
+use Rattle.std.proofs.Common.{string_bytes, sym, ◌∙◌, arith}
 use Rattle.fancy_pattern.specs.Grammar.{class_text, class_close}
 use Rattle.fancy_pattern.specs.PatternViews.{piece_text}
 use Rattle.fancy_pattern.proofs.Points.{class_begin, class_next, class_done, takes_next, takes_at}
+use Rattle.fancy_pattern.specs.Reading.{point_of}
+use Rattle.fancy_pattern.proofs.WhereStuck.{class_fails}
 use Rattle.fancy_pattern.proofs.reader.Reader.read_class.Goals as goal
 
 pub loop-piece-init : goal.loop-piece-init
@@ -22,3 +24,8 @@ returns-clause-spells c =
     c.loop-piece.invariant
     (takes_at class_close c.loop-piece.self c.skip-2.new.self (sym c.if-not-is_at_class_close.ensures.value) c.skip-2.ensures.skips)
     c.in_ok-push-2.ensures.bytes
+
+pub returns-then-not-is_at_class_close-clause-fails : goal.returns-then-not-is_at_class_close-clause-fails
+returns-then-not-is_at_class_close-clause-fails c = λ names.
+    class_fails (point_of c.args.self.now) (point_of c.loop-piece.self) c.loop-piece.invariant.texts names c.misfit.result c.loop-piece.invariant.row
+    (sym c.in_default.ensures.value) (sym c.is_at_class_close.ensures.value ∙ c.if-not-is_at_class_close.true) c.misfit.ensures

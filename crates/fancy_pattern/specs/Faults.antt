@@ -1,0 +1,49 @@
+-- Where a fault is: the first token, or the end, that no pattern goes on with. The names are those of the whole pattern.
+use Rattle.std.specs.Prelude.{◌≡◌, ℕ, List, [], ◌∷◌, ◌++◌, Option, Some, None}
+use Rattle.fancy_meaning.specs.Tree.{Tree}
+use Rattle.fancy_pattern.specs.declared.error.ErrorKind.{ErrorKind}
+use Rattle.fancy_pattern.specs.declared.error.ErrorKind.TheVariants.{InvalidGroupNameBackref}
+use Rattle.fancy_pattern.specs.declared.error.Fault.{Fault}
+use Rattle.fancy_pattern.specs.Tokens.{Reference, Opening, Around, Group, AbsentBar, If, IfPattern, IfLook, Token, Node, Refer, FlagsItem, Open, Bar, Close, Quantified, ClassOpen, ClassText, ClassClose, Broken, Placed}
+use Rattle.fancy_pattern.specs.Grammar.{Names, first_gives, reference, SpellsAlternatives}
+
+-- what cannot be read says why
+abbrev pub Tells : Token → ErrorKind → Type 0
+Tells (Broken found) kind = kind ≡ found
+Tells t kind = Unit {0}
+
+-- the fault is where the next token begins, or at the end
+abbrev pub MisfitAt : Fault → List Placed → Type 0
+MisfitAt f [] = f.left ≡ 0
+MisfitAt f (p ∷ ps) = (f.left ≡ p.left) × Tells p.token f.kind
+
+abbrev pub asked_by : Opening → Option Reference
+asked_by (If r) = Some r
+asked_by o = None
+
+-- what names a group
+abbrev pub referring : Token → Option Reference
+referring (Refer r) = Some r
+referring (Open o) = asked_by o
+referring t = None
+
+-- the fault is at the next token, or at the name in it where several groups have that name, so it cannot be called
+pub data IsPlace (names : Names) (f : Fault) (x : List Placed) : Type 0 where
+  at_token : MisfitAt f x → IsPlace names f x
+  at_name : (r : Reference) → first_gives referring x ≡ Some r → reference names r ≡ None →
+      f ≡ record { left = r.left; kind = InvalidGroupNameBackref } →
+      IsPlace names f x
+
+-- a pattern begins with these tokens
+abbrev pub CanBegin : Names → List Placed → Type 0
+CanBegin names ts = (more : List Placed) × (e : Tree) × SpellsAlternatives names (ts ++ more) [] e
+
+-- the first token that cannot stand there, or the end of a pattern that ends too early
+pub data IsFaultAt (names : Names) (ts : List Placed) (f : Fault) : Type 0 where
+  stray : (before after : List Placed) (p : Placed) →
+      ts ≡ before ++ p ∷ after →
+      IsPlace names f (p ∷ after) →
+      CanBegin names before →
+      (CanBegin names (before ++ p ∷ []) → ⊥) →
+      IsFaultAt names ts f
+  early : f.left ≡ 0 → CanBegin names ts → ((e : Tree) → SpellsAlternatives names ts [] e → ⊥) → IsFaultAt names ts f
