@@ -15,3 +15,5 @@ pub mod Splits
 pub mod Moved
 pub mod Rows
 pub mod WhereStuck
+pub mod OnePattern
+pub mod FaultPlaces
