@@ -22,7 +22,7 @@
 extern "C" {
 #endif
 
-/* A group that is not set, and a detail that an outcome does not have. */
+/* A group that is not set, a detail that an outcome does not have, and a limit of backtracks that is not given. */
 #define FANCY_UNSET SIZE_MAX
 
 enum fancy_code {
@@ -61,13 +61,16 @@ struct fancy_program {
 
 #define FANCY_NOTHING {false, 0, NULL}
 
-/* The options of the compiler and of a search. Begin with fancy_default_options(). */
+/* The options of the compiler and of a search. Begin with fancy_default_options().
+ *
+ * With backtrack_limit left at FANCY_UNSET a search may fall back 1,000,000 times, and once more for each byte of the text
+ * and for its end. A start that fails is one such time, so a search for a tree that is easy never stops at that. */
 struct fancy_options {
     size_t pos;             /* where the search begins, a byte of the text: for fancy_find; 0 */
     size_t max_prog_size;   /* how many instructions a program may have; 100,000 */
     size_t max_nesting;     /* how many nodes may be written out in one another, calls with them; 1,000, for a stack of 2 MB */
     size_t max_depth;       /* how deep a tree may nest, in parentheses; 250, for a stack of 2 MB: see fancy_compile */
-    size_t backtrack_limit; /* how often a search may fall back to a branch; 1,000,000 */
+    size_t backtrack_limit; /* how often a search may fall back to a branch; FANCY_UNSET: see above */
     uint64_t step_limit;    /* how many instructions a search may execute; UINT64_MAX */
     bool compile_anchored;  /* only the first start is tried: for fancy_compile */
     bool anchored;          /* the same, for fancy_find */

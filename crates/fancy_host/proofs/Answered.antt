@@ -29,13 +29,13 @@ pub none_there : {X : Type 0} → (m : Option X) (b : Bool) → is_some m ≡ b 
 none_there None b is not = refl
 none_there (Some x) b is not = absurd (true≢false (subst (λ c. true ≡ c) not is))
 
-module _ (c : Compiled) (text : List ℕ) (o : FancyOptions) (r : plain.RunOptions) (same : r ≡ running o) where
+module _ (c : Compiled) (text : List ℕ) (o : FancyOptions) (r : plain.RunOptions) (same : r ≡ running o text) where
   pub unfit_by : run_fits (record { program = prog_of (program c); text = text; options = r }) ≡ false →
-      IsFalse (run_fits (record { program = prog_of (program c); text = text; options = running o }))
+      IsFalse (run_fits (record { program = prog_of (program c); text = text; options = running o text }))
   unfit_by h = subst (λ x. run_fits (record { program = prog_of (program c); text = text; options = x }) ≡ false) same h
 
   pub fits_by : run_fits (record { program = prog_of (program c); text = text; options = r }) ≡ true →
-      IsTrue (run_fits (record { program = prog_of (program c); text = text; options = running o }))
+      IsTrue (run_fits (record { program = prog_of (program c); text = text; options = running o text }))
   fits_by h = subst (λ x. run_fits (record { program = prog_of (program c); text = text; options = x }) ≡ true) same h
 
   -- what is promised of the options of a run is promised of those of a host
@@ -104,7 +104,7 @@ module _ (text : List ℕ) (o : FancyOptions) (outcome : FancyOutcome) where
         subst (λ m. FindsFirst text o old m new outcome) (sym there)
         (found utf8 (subst (λ t. Answers s t o old new outcome) same (subst (λ x. Answers x read o old new outcome) is h)))
 
-    pub unfit_answers : (s : Searcher) (r : plain.RunOptions) → r ≡ running o →
+    pub unfit_answers : (s : Searcher) (r : plain.RunOptions) → r ≡ running o text →
         run_fits (record { program = prog_of (program s.compiled); text = text; options = r }) ≡ false → outcome ≡ coded unfit →
         Answers s text o old old outcome
     unfit_answers s r same h is =

@@ -22,6 +22,7 @@ use Rattle.fancy_expr.specs.Sound.{IsWellFormedTree}
 use Rattle.fancy_expr.specs.Views as views
 use Rattle.fancy_info.specs.declared.context.AnalyzeContext.{AnalyzeContext}
 use Rattle.fancy_compile.specs.declared.options.CompileOptions.{CompileOptions}
+use Rattle.fancy_matches.specs.Listing.{options_for}
 use Rattle.fancy_search.specs.declared.request.Request.{Request}
 use Rattle.fancy_search.specs.Requests as asked
 use Rattle.fancy_program.specs.Programs.{prog_of}
@@ -40,7 +41,7 @@ default_options = record {
   max_prog_size = 100_000;
   max_nesting = 1_000;
   max_depth = 250;
-  backtrack_limit = 1_000_000;
+  backtrack_limit = usize_max;
   step_limit = 2 ^ 64 - 1;
   compile_anchored = false;
   anchored = false;
@@ -74,8 +75,13 @@ analysis o = asked.analysis (request o)
 abbrev pub compilation : FancyOptions → CompileOptions
 compilation o = asked.compilation (request o)
 
-abbrev pub running : FancyOptions → plain.RunOptions
-running o = asked.running (request o)
+-- the limit of backtracks, if the host gives one
+abbrev pub given_backtracks : FancyOptions → Option ℕ
+given_backtracks o = if o.backtrack_limit == usize_max then None else Some o.backtrack_limit
+
+-- how the program of the tree is run on this text
+abbrev pub running : FancyOptions → List ℕ → plain.RunOptions
+running o text = options_for (asked.running (request o)) (given_backtracks o) text
 
 -- ---- outcomes
 
@@ -170,13 +176,13 @@ pub data Compiles (text : List ℕ) (o : FancyOptions) : Option Searcher → Fan
 -- the answer of a search is promised, and within its bounds
 abbrev pub IsPromised : Compiled → List ℕ → FancyOptions → Result (Option (Vec ℕ Global)) Error → Type 0
 IsPromised c text o answer =
-    (i : Input) → IsCompiledFrom i c → Promises i text (running o) answer × Bounds i text (running o) answer
+    (i : Input) → IsCompiledFrom i c → Promises i text (running o text) answer × Bounds i text (running o text) answer
 
 -- what a search writes, and its outcome: it is unfit exactly where the options do not fit the program and the text
 pub data Answers (s : Searcher) (text : List ℕ) (o : FancyOptions) (old : List ℕ) : List ℕ → FancyOutcome → Type 0 where
-  does_not_fit : IsFalse (run_fits (record { program = prog_of (program s.compiled); text = text; options = running o })) →
+  does_not_fit : IsFalse (run_fits (record { program = prog_of (program s.compiled); text = text; options = running o text })) →
       Answers s text o old old (coded unfit)
-  answered : IsTrue (run_fits (record { program = prog_of (program s.compiled); text = text; options = running o })) →
+  answered : IsTrue (run_fits (record { program = prog_of (program s.compiled); text = text; options = running o text })) →
       (answer : Result (Option (Vec ℕ Global)) Error) → IsPromised s.compiled text o answer →
       Answers s text o old (written answer old) (outcome_of text answer)
 

@@ -24,9 +24,9 @@ use Rattle.fancy_host.specs.Hosted.{coded, failure, not_utf8, over, running, wit
 abbrev pub standing_of : FancyStanding → Standing
 standing_of s = record { pos = s.pos; last = if s.has_last then Some s.last else None }
 
--- the options of all its searches but where they begin
-abbrev pub listing : FancyOptions → RunOptions
-listing o = begun_at (running o) 0
+-- the options of all its searches of this text but where they begin
+abbrev pub listing : FancyOptions → List ℕ → RunOptions
+listing o text = begun_at (running o text) 0
 
 -- start and end of each span
 abbrev pub numbers_of : List Span → List ℕ
@@ -77,11 +77,11 @@ module _ (c : Compiled) (text : List ℕ) (o : RunOptions) where
 -- not fit the program
 pub data Lists (s : Searcher) (text : List ℕ) (o : FancyOptions) (from : FancyStanding) (old : List ℕ) :
     FancyStanding → List ℕ → FancyOutcome → Type 0 where
-  does_not_fit : IsFalse (run_fits (record { program = prog_of (program s.compiled); text = []; options = listing o })) →
+  does_not_fit : IsFalse (run_fits (record { program = prog_of (program s.compiled); text = []; options = listing o text })) →
       Lists s text o from old from old (coded unfit)
   listed : {to : FancyStanding} {new : List ℕ} {outcome : FancyOutcome} →
-      IsTrue (run_fits (record { program = prog_of (program s.compiled); text = []; options = listing o })) →
-      Writes s.compiled text (listing o) (standing_of from) old (standing_of to) new outcome →
+      IsTrue (run_fits (record { program = prog_of (program s.compiled); text = []; options = listing o text })) →
+      Writes s.compiled text (listing o text) (standing_of from) old (standing_of to) new outcome →
       Lists s text o from old to new outcome
 
 -- what is listed by a program that may hold no tree, in bytes that may be no text

@@ -24,9 +24,12 @@ use std::alloc::Global;
 use std::mem::replace;
 use std::str::from_utf8;
 
-/// The options of a search unless said otherwise: from the text's start, no flag, 1,000,000 backtracks, as many
+/// The options of a search unless said otherwise: from the text's start, no flag, no limit of backtracks given, as many
 /// instructions as can be counted, a program of at most 100,000 instructions, a tree of at most 250 levels, and at most
 /// 1,000 nodes written out in one another, for which a stack of 2 MB was enough.
+///
+/// Where no limit of backtracks is given, a search may fall back to a branch 1,000,000 times, and once more for each byte
+/// of the text and for its end: a search for an easy tree never stops at that.
 #[unsafe(no_mangle)]
 pub extern "C" fn fancy_default_options() -> FancyOptions
     ensures { result ≡ default_options }

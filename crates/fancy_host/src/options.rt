@@ -5,6 +5,7 @@ ghost use Rattle.fancy_vm.specs.Tasks.{options_of as run_options_of};
 ghost use Rattle.fancy_host.specs.Hosted as hosted;
 ghost use Rattle.fancy_host.specs.Lists as lists;
 
+use fancy_matches::options::RegexOptions;
 use fancy_search::request::Request;
 use fancy_vm::vm::RunOptions;
 
@@ -21,7 +22,7 @@ pub struct FancyOptions {
     pub max_nesting: usize,
     /// How deep a tree may nest, in parentheses: what the stack of the calling thread allows.
     pub max_depth: usize,
-    /// How often a search may fall back to a branch.
+    /// How often a search may fall back to a branch; `usize::MAX` where the host gives no limit.
     pub backtrack_limit: usize,
     /// How many instructions a search may execute.
     pub step_limit: u64,
@@ -50,7 +51,7 @@ impl Default for FancyOptions {
             max_prog_size: 100_000,
             max_nesting: 1_000,
             max_depth: 250,
-            backtrack_limit: 1_000_000,
+            backtrack_limit: usize::MAX,
             step_limit: u64::MAX,
             compile_anchored: false,
             anchored: false,
@@ -84,20 +85,38 @@ impl FancyOptions {
         }
     }
 
-    /// How the program of the tree is run.
-    pub fn running(&self) -> RunOptions
-        ensures { run_options_of result ≡ hosted.running self.now }
+    /// The limit of backtracks, if the host gives one.
+    fn backtracks(&self) -> Option<usize>
+        ensures { result ≡ hosted.given_backtracks self.now }
     {
-        self.request().running()
+        if self.backtrack_limit == usize::MAX {
+            None
+        } else {
+            Some(self.backtrack_limit)
+        }
     }
 
-    /// How all its matches are searched for: the list says itself where a search begins and whether it is continued.
-    pub fn listing(&self) -> RunOptions
-        ensures { run_options_of result ≡ lists.listing self.now }
+    /// How the program of the tree is run on this text.
+    pub fn running(&self, text: &str) -> RunOptions
+        ensures { run_options_of result ≡ hosted.running self.now text.now }
+    {
+        let run = self.request().running();
+        let backtrack_limit = self.backtracks();
+        let options = RegexOptions {
+            run,
+            backtrack_limit,
+        };
+        options.for_text(text)
+    }
+
+    /// How all its matches in this text are searched for: the list says itself where a search begins and whether it is
+    /// continued.
+    pub fn listing(&self, text: &str) -> RunOptions
+        ensures { run_options_of result ≡ lists.listing self.now text.now }
     {
         RunOptions {
             pos: 0,
-            ..self.running()
+            ..self.running(text)
         }
     }
 }

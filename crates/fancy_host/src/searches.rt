@@ -66,7 +66,7 @@ impl Searcher {
         ensures finds { Answers self.old text.now options.now spans.old spans.new result }
         ensures keeps { self.new.compiled ≡ self.old.compiled }
     {
-        let running = options.running();
+        let running = options.running(text);
         if !self.compiled.fits(text, &running) {
             return FancyOutcome::unfit();
         }
@@ -140,7 +140,7 @@ impl Searcher {
             result }
         ensures keeps { self.new.compiled ≡ self.old.compiled }
     {
-        let listing = options.listing();
+        let listing = options.listing(text);
         if !self.compiled.fits("", &listing) {
             return FancyOutcome::unfit();
         }

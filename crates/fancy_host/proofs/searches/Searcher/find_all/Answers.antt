@@ -34,7 +34,7 @@ returns-clause-lists c =
     let fits = sym c.fits.ensures ∙ c.if-not-fits.false in
     listed
     (subst (λ r. run_fits (record { program = prog_of (program s.compiled); text = []; options = r }) ≡ true) c.listing-listing.ensures fits)
-    (subst (λ t. Writes s.compiled text (listing o) (standing_of c.args.standing.now) old t new outcome) (sym c.of.ensures)
-    (subst (λ from. Writes s.compiled text (listing o) from old to new outcome) c.standing-list.ensures
+    (subst (λ t. Writes s.compiled text (listing o text) (standing_of c.args.standing.now) old t new outcome) (sym c.of.ensures)
+    (subst (λ from. Writes s.compiled text (listing o text) from old to new outcome) c.standing-list.ensures
     (subst (λ r. Writes s.compiled text r (matches.standing_of c.standing-list.result) old to new outcome) c.listing-listing.ensures
     c.write_spans-outcome.ensures.writes)))
