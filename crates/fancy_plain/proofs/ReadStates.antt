@@ -23,7 +23,7 @@ read_at P (y ∷ l) (suc i) x h at = read_at P l i x h.1 at
 known_class : (unicode : Bool) (m : CharClassMatcher) →
     ∥ ((inner : List ℕ) × ((casei : Bool) × (class_of m ≡ Codepoint inner casei unicode))) ∥₁ →
     (inner : List ℕ) × ((casei : Bool) × (class_of m ≡ Codepoint inner casei unicode))
-known_class unicode (matcher.Codepoint name class) h =
+known_class unicode (matcher.Codepoint class) h =
     let same : class.unicode ≡ unicode = ∥∥₁_elim h (Bool-set _ _) (λ r. let e = r.1.1 in cc) in
     (class.inner, (class.casei, ap (Codepoint class.inner class.casei) same))
 known_class unicode (matcher.Newline u) h = absurd (∥∥₁_elim h (λ x y. elim x [ ]) (λ r. let e = r.1.1 in cc))
