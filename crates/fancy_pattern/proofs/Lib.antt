@@ -17,3 +17,4 @@ pub mod Rows
 pub mod WhereStuck
 pub mod OnePattern
 pub mod FaultPlaces
+pub mod Told

@@ -1,9 +1,14 @@
 -- What a pattern spells: its tokens, the tree of all of them, and what comes with it.
-use Rattle.std.specs.Prelude.{◌≡◌, Bool, true, false, ◌&&◌, is_some, List, []}
+use Rattle.std.specs.Prelude.{◌≡◌, ℕ, ◌-◌, Bool, true, false, ◌&&◌, is_some, List, [], length, take, encode_utf8_all}
 use Rattle.std.specs.List.{list_any}
 use Rattle.fancy_meaning.specs.Tree.{Tree}
 use Rattle.fancy_expr.specs.declared.expr.ExprTree.{ExprTree}
 use Rattle.fancy_expr.specs.Views.{tree_of}
+use Rattle.fancy_pattern.specs.declared.error.Fault.{Fault}
+use Rattle.fancy_pattern.specs.declared.error.PatternError.{PatternError}
+use Rattle.fancy_pattern.specs.declared.error.PatternError.TheVariants.{Parse, Memory}
+use Rattle.fancy_pattern.specs.declared.failure.Failure.{Failure}
+use Rattle.fancy_pattern.specs.declared.failure.Failure.TheVariants as failure
 use Rattle.fancy_pattern.specs.declared.flags.Flags.{Flags}
 use Rattle.fancy_pattern.specs.declared.options.ParseOptions.{ParseOptions}
 use Rattle.fancy_pattern.specs.Texts.{Text}
@@ -11,6 +16,7 @@ use Rattle.fancy_pattern.specs.Tokens.{Opening, Group, Token, Open, Placed}
 use Rattle.fancy_pattern.specs.Lexing.{Lexes, at_start}
 use Rattle.fancy_pattern.specs.Naming.{named_in}
 use Rattle.fancy_pattern.specs.Grammar.{SpellsAlternatives}
+use Rattle.fancy_pattern.specs.Faults.{IsFaultAt}
 use Rattle.fancy_pattern.specs.Described.{IsDescribed}
 
 -- the flags with which a pattern begins
@@ -67,3 +73,26 @@ pub record Spells (options : ParseOptions) (text : Text) (e : Tree) : Type 0 whe
 pub record IsTreeOf (options : ParseOptions) (text : Text) (t : ExprTree) : Type 0 where
   pub spells : Spells options text (tree_of t.expr)
   pub described : IsDescribed spells.ignored spells.tokens t
+
+-- ---- what has no tree
+
+-- a fault of a pattern, by how many characters begin where it is
+pub record HasFault (options : ParseOptions) (text : Text) (f : Fault) : Type 0 where
+  pub ignored : Bool
+  pub tokens : List Placed
+  pub lexed : HasTokens options text ignored tokens
+  pub fault : IsFaultAt (named_in tokens) tokens f
+
+abbrev pub PatternFails : ParseOptions → Text → Failure → Type 0
+PatternFails options text (failure.Fault f) = HasFault options text f
+PatternFails options text failure.Memory = Unit {0}
+
+-- the byte where the last `left` characters of a text begin
+abbrev pub byte_at : Text → ℕ → ℕ
+byte_at text left = length (encode_utf8_all (take (length text - left) text))
+
+-- why a pattern has no tree: the byte of a fault and its kind, or want of memory
+abbrev pub IsError : ParseOptions → Text → PatternError → Type 0
+IsError options text (Parse at kind) =
+    (left : ℕ) × HasFault options text (record { left = left; kind = kind }) × (at ≡ byte_at text left)
+IsError options text Memory = Unit {0}

@@ -1,6 +1,6 @@
 //! The characters of a pattern, read from the front.
 
-ghost use Rattle.std.specs.Prelude.{◌≡◌, ◌+◌, ◌≤◌, length, option_map, take, drop, IfSome};
+ghost use Rattle.std.specs.Prelude.{◌≡◌, ◌+◌, ◌<◌, ◌≤◌, ◌^◌, length, option_map, take, drop, encode_utf8_all, IfSome};
 ghost use Rattle.std.specs.List.{take_while, prefix_len};
 ghost use Rattle.fancy_pattern.specs.Texts.{uncons, past_word, past_run, passes, comment_end, gap_at, blank_at};
 
@@ -135,7 +135,10 @@ fn past_blank(text: &[char], ignore_whitespace: bool) -> Option<&[char]>
 }
 
 /// How many bytes these characters have.
-pub(crate) fn byte_count(text: &[char]) -> usize {
+pub(crate) fn byte_count(text: &[char]) -> usize
+    ensures { length (encode_utf8_all text.now) < 2 ^ 64
+        → result ≡ length (encode_utf8_all text.now) }
+{
     let mut count: usize = 0;
     for c in text {
         count = count.saturating_add(c.len_utf8());

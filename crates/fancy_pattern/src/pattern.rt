@@ -1,11 +1,15 @@
 //! `parse_tree`: lexer, reader and survey, one after the other.
 
-ghost use Rattle.std.specs.Prelude.{◌≡◌, [], map, chars, IfOk};
+ghost use Rattle.std.specs.Prelude.{◌≡◌, ◌<◌, ◌^◌, [], length, map, chars, encode_utf8_all, IfOk, IfErr, MatchResult};
 ghost use Rattle.std.specs.List.{list_any, count_by};
+ghost use Rattle.fancy_meaning.specs.Tree.{Tree};
+ghost use Rattle.fancy_expr.specs.Views.{tree_of};
 ghost use Rattle.fancy_pattern.specs.Described.{by_number, names_number, asks_number, is_group, opens_group, first_past, up_to, IsDescribed};
 ghost use Rattle.fancy_pattern.specs.Naming.{pairs_in, named_in};
 ghost use Rattle.fancy_pattern.specs.PatternViews.{placed_of, token_of, opening_of, target_of};
-ghost use Rattle.fancy_pattern.specs.Spelling.{opens_named, has_name, ignores, HasTokens, IsTreeOf};
+ghost use Rattle.fancy_pattern.specs.Spelling.{opens_named, has_name, ignores, byte_at, HasTokens, Spells, IsTreeOf, PatternFails, IsError};
+ghost use Rattle.fancy_pattern.specs.declared.error.PatternError.TheVariants.{Parse, Memory};
+ghost use Rattle.fancy_pattern.specs.declared.options.ParseOptions.{ParseOptions};
 
 use crate::characters::byte_count;
 use crate::error::{Fault, PatternError};
@@ -22,20 +26,24 @@ use std::collections::BTreeSet;
 
 /// The tree that a pattern spells, and what comes with it.
 ///
-/// Where the pattern spells none, `PatternError::Parse` has the byte of the fault and its kind. Want of memory is
-/// `PatternError::Memory`.
+/// Where the pattern spells none, `PatternError::Parse` has the byte of the first character that cannot stand where it
+/// stands, or the pattern's length where more is needed, and the kind of the fault. A name that cannot be called, since
+/// several groups have it, is told by the byte where the name begins. Want of memory is `PatternError::Memory`.
 pub fn parse_tree(
     alloc: Global,
     pattern: &str,
     options: ParseOptions,
 ) -> Result<ExprTree, PatternError>
-    ensures { IfOk result (IsTreeOf options (chars pattern.now)) }
+    ensures answer { MatchResult result (IsTreeOf options (chars pattern.now))
+        (IsError options (chars pattern.now)) }
+    ensures reads { (e : Tree)
+        → Spells options (chars pattern.now) e
+        → MatchResult result (λ tree. tree_of tree.expr ≡ e) (λ error. error ≡ Memory) }
 {
     let chars = chars_of(alloc, pattern)?;
     match tree_of_chars(alloc, &chars, options) {
         Ok(tree) => Ok(tree),
-        Err(Failure::Fault(fault)) => Err(placed_fault(&chars, fault)),
-        Err(Failure::Memory) => Err(PatternError::Memory),
+        Err(failure) => Err(told(&chars, failure)),
     }
 }
 
@@ -45,8 +53,24 @@ fn chars_of(alloc: Global, pattern: &str) -> Result<Vec<char>, AllocError>
     pattern.chars().collect(alloc)
 }
 
+/// The failure of a pattern as its user is told it.
+fn told(chars: &[char], failure: Failure) -> PatternError
+    requires { length (encode_utf8_all chars.now) < 2 ^ 64 }
+    ensures { (options : ParseOptions)
+        → PatternFails options chars.now failure
+        → IsError options chars.now result }
+{
+    match failure {
+        Failure::Fault(fault) => placed_fault(chars, fault),
+        Failure::Memory => PatternError::Memory,
+    }
+}
+
 /// The fault with the byte where it is.
-fn placed_fault(chars: &[char], fault: Fault) -> PatternError {
+fn placed_fault(chars: &[char], fault: Fault) -> PatternError
+    requires { length (encode_utf8_all chars.now) < 2 ^ 64 }
+    ensures { result ≡ Parse (byte_at chars.now fault.left) fault.kind }
+{
     let passed = &chars[..chars.len().saturating_sub(fault.left)];
     PatternError::Parse {
         at: byte_count(passed),
@@ -108,7 +132,8 @@ fn has_names(tokens: &[Placed<'_>]) -> bool
 }
 
 fn tree_of_chars(alloc: Global, chars: &[char], options: ParseOptions) -> Result<ExprTree, Failure>
-    ensures { IfOk result (IsTreeOf options chars.now) }
+    ensures made { IfOk result (IsTreeOf options chars.now) }
+    ensures fails { IfErr result (PatternFails options chars.now) }
 {
     let (placed, ignored) = tokens(alloc, chars, options)?;
     let names = GroupNames::of(alloc, &placed)?;
