@@ -1,11 +1,11 @@
 -- Where the reader is stuck is the place of a fault.
-use Rattle.std.proofs.Common.{◌≡◌, ℕ, ◌<◌, ◌≤◌, Bool, List, [], ◌∷◌, ◌++◌, length, Option, Some, None, refl, sym, ap, ◌∙◌, subst, arith, append_assoc, append-nil}
+use Rattle.std.proofs.Common.{◌≡◌, ◌<◌, List, [], ◌∷◌, ◌++◌, length, refl, sym, ap, ◌∙◌, subst, arith, append_assoc, append-nil}
 use Rattle.fancy_meaning.specs.Tree.{Tree}
 use Rattle.fancy_pattern.specs.declared.error.Fault.{Fault}
 use Rattle.fancy_pattern.specs.Tokens.{Placed}
 use Rattle.fancy_pattern.specs.Grammar.{Names, SpellsAlternatives}
 use Rattle.fancy_pattern.specs.Faults.{MisfitAt, IsPlace, at_token, at_name, CanBegin, IsFaultAt, stray, early}
-use Rattle.fancy_pattern.specs.Stuck.{Within, Alike, SameFirst, both_ended, same_token, Stuck, anything, is_end}
+use Rattle.fancy_pattern.specs.Stuck.{Alike, SameFirst, both_ended, same_token, Stuck, anything, is_end}
 use Rattle.fancy_pattern.proofs.Splits as splits
 use Rattle.fancy_pattern.proofs.OneSpelling.{one_alternatives}
 use Rattle.fancy_pattern.proofs.Moved.{Meets, by_same, by_start, follows_of, alike_append, alike_end, alternatives_moved}

@@ -1,5 +1,5 @@
 -- A pattern has one row of tokens, and spells one tree.
-use Rattle.std.proofs.Common.{◌≡◌, ℕ, ◌+◌, ◌<◌, ◌≤◌, Bool, true, false, List, [], ◌∷◌, ◌++◌, length, Option, Some, None, Result, Ok, Err, refl, sym, ap, ◌∙◌, subst, arith, length-append}
+use Rattle.std.proofs.Common.{◌≡◌, ℕ, Bool, List, [], ◌∷◌, ◌++◌, length, Some, None, Result, Ok, Err, refl, sym, ap, ◌∙◌, subst, arith, length-append}
 use Rattle.std.proofs.lemmas.Bool.{true≢false}
 use Rattle.std.proofs.lemmas.List.{same_from_push}
 use Rattle.fancy_meaning.specs.Tree.{Tree}
@@ -8,12 +8,12 @@ use Rattle.fancy_pattern.specs.declared.flags.Flags.{Flags}
 use Rattle.fancy_pattern.specs.declared.items.Lexing.{Lexing}
 use Rattle.fancy_pattern.specs.declared.options.ParseOptions.{ParseOptions}
 use Rattle.fancy_pattern.specs.Texts.{Text, gap_at}
-use Rattle.fancy_pattern.specs.Tokens.{Opening, Token, Node, Refer, FlagsItem, Open, Bar, Close, Quantified, ClassOpen, ClassText, ClassClose, Broken, Placed, placed, broken}
-use Rattle.fancy_pattern.specs.Items.{Found, found_at}
-use Rattle.fancy_pattern.specs.Lexing.{State, at_start, around_it, levels, most_nested, IsAtToken, GoesBy, Lexes, ended, gap, token, unread, misplaced}
+use Rattle.fancy_pattern.specs.Tokens.{Token, Open, Close, Placed, placed, broken}
+use Rattle.fancy_pattern.specs.Items.{Found}
+use Rattle.fancy_pattern.specs.Lexing.{State, IsAtToken, GoesBy, Lexes, ended, gap, token, unread, misplaced}
 use Rattle.fancy_pattern.specs.Grammar.{SpellsAlternatives}
 use Rattle.fancy_pattern.specs.Naming.{named_in}
-use Rattle.fancy_pattern.specs.Spelling.{flags_of, ignores, HasTokens, every_group, named_groups, IsSpelled, Spells}
+use Rattle.fancy_pattern.specs.Spelling.{ignores, HasTokens, every_group, named_groups, Spells}
 use Rattle.fancy_pattern.proofs.OneSpelling.{one_alternatives}
 
 no_gap_left : (x : Bool) → gap_at x [] ≡ None

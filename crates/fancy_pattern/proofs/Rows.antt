@@ -1,10 +1,10 @@
 -- The pieces, the branches and the class texts that were read, up to a place where more may follow.
-use Rattle.std.proofs.Common.{◌≡◌, ℕ, ◌+◌, ◌≤◌, Bool, true, false, List, [], ◌∷◌, ◌++◌, length, refl, sym, ap, ◌∙◌, subst, arith}
+use Rattle.std.proofs.Common.{◌≡◌, ℕ, ◌≤◌, false, List, [], ◌∷◌, ◌++◌, length, refl, sym, ap, ◌∙◌, subst, arith}
 use Rattle.std.proofs.lemmas.Bool.{true≢false}
 use Rattle.fancy_meaning.specs.Tree.{Tree}
-use Rattle.fancy_pattern.specs.Tokens.{Token, Placed}
+use Rattle.fancy_pattern.specs.Tokens.{Placed}
 use Rattle.fancy_pattern.specs.Stuck.{Within, whole, Alike}
-use Rattle.fancy_pattern.specs.Grammar.{Names, Takes, is_at, is_branch_end, bar, class_text, class_close, SpellsClass, class_end, class_piece, SpellsSuffix, no_suffix, a_suffix, SpellsAtom, node, class, opened, SpellsOpened, around, group, stopper, expression, asked, if_group, if_pattern, if_look, SpellsBodies, one_body, two_bodies, SpellsPiece, plain, quantified, SpellsPieces, no_piece, piece, SpellsBranch, branch, SpellsBars, no_bar, barred, SpellsAlternatives, branches}
+use Rattle.fancy_pattern.specs.Grammar.{Names, Takes, is_branch_end, bar, class_text, SpellsClass, class_end, class_piece, SpellsPiece, SpellsPieces, no_piece, piece, SpellsBranch, SpellsBars, no_bar, barred}
 use Rattle.fancy_pattern.proofs.Lengths as lengths
 use Rattle.fancy_pattern.proofs.Splits as splits
 use Rattle.fancy_pattern.proofs.OneSpelling.{one_token, one_piece, one_branch, there_or_not, clash, text_or_end}

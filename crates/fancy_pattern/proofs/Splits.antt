@@ -1,5 +1,5 @@
 -- What is left behind what is spelled is what is left of it.
-use Rattle.std.proofs.Common.{◌≡◌, ℕ, ◌+◌, ◌≤◌, List, [], ◌∷◌, ◌++◌, length, Option, refl, sym, ap, subst, arith}
+use Rattle.std.proofs.Common.{◌≡◌, ℕ, ◌≤◌, List, [], ◌∷◌, ◌++◌, length, Option, refl, sym, ap, subst, arith}
 use Rattle.fancy_meaning.specs.Tree.{Tree}
 use Rattle.fancy_pattern.specs.declared.tokens.Suffix.{Suffix}
 use Rattle.fancy_pattern.specs.Tokens.{Opening, Token, Placed}

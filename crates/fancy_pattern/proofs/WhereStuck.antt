@@ -1,25 +1,23 @@
 -- Where the reader is stuck in a part, it is stuck in the whole.
-use Rattle.std.proofs.Common.{◌≡◌, ℕ, ◌+◌, ◌≤◌, Bool, true, false, not, List, [], ◌∷◌, ◌++◌, length, Option, Some, None, Result, Ok, Err, refl, sym, ap, ◌∙◌, subst, arith, append_assoc}
+use Rattle.std.proofs.Common.{◌≡◌, ℕ, ◌≤◌, Bool, true, false, not, List, [], ◌∷◌, ◌++◌, length, Option, Some, None, Result, Ok, Err, refl, sym, ap, ◌∙◌, subst, arith, append_assoc}
 use Rattle.std.specs.Prelude.{IfErr}
 use Rattle.std.proofs.lemmas.Bool.{true≢false}
 use Rattle.fancy_expr.specs.declared.expr.Expr.{Expr}
 use Rattle.fancy_meaning.specs.Tree as tree
 use Rattle.fancy_meaning.specs.Tree.{Tree}
-use Rattle.fancy_pattern.specs.declared.error.ErrorKind.TheVariants.{InvalidGroupNameBackref}
 use Rattle.fancy_pattern.specs.declared.error.Fault.{Fault}
 use Rattle.fancy_pattern.specs.declared.failure.Failure.{Failure}
 use Rattle.fancy_pattern.specs.declared.failure.Failure.TheVariants as failure
 use Rattle.fancy_pattern.specs.declared.tokens.Enclosing.{Enclosing}
-use Rattle.fancy_pattern.specs.declared.tokens.Quantifier.{Quantifier}
-use Rattle.fancy_pattern.specs.Tokens.{Reference, Opening, Around, Group, AbsentBar, If, IfPattern, IfLook, Token, Node, Refer, FlagsItem, Open, Bar, Close, Quantified, ClassOpen, ClassText, ClassClose, Broken, Placed, placed}
-use Rattle.fancy_pattern.specs.Grammar.{Names, Takes, first_gives, is_at, gives_some, is_branch_end, is_repeatable, bar, closing, suffix, quantifier, opening, node_of, class_open, class_text, class_close, reference, suffixed, alternated, SpellsClass, class_end, class_piece, SpellsSuffix, no_suffix, a_suffix, SpellsAtom, node, class, opened, SpellsOpened, around, group, stopper, expression, asked, if_group, if_pattern, if_look, SpellsBodies, one_body, two_bodies, SpellsPiece, plain, quantified, SpellsPieces, no_piece, piece, SpellsBranch, branch, SpellsBars, no_bar, barred, SpellsAlternatives, branches}
+use Rattle.fancy_pattern.specs.Tokens.{Reference, Opening, Around, Group, AbsentBar, If, IfPattern, IfLook, Token, Node, Refer, FlagsItem, Open, Close, ClassOpen, ClassClose, Placed, placed}
+use Rattle.fancy_pattern.specs.Grammar.{Names, Takes, first_gives, is_at, gives_some, is_branch_end, is_repeatable, bar, closing, quantifier, opening, node_of, class_open, class_text, class_close, reference, suffixed, alternated, SpellsClass, class_end, class_piece, SpellsAtom, node, class, opened, SpellsOpened, around, group, stopper, expression, asked, if_group, if_pattern, if_look, SpellsBodies, one_body, two_bodies, SpellsPiece, plain, quantified, SpellsPieces, no_piece, piece, SpellsBranch, branch, SpellsBars, no_bar, barred, SpellsAlternatives, branches}
 use Rattle.fancy_pattern.specs.Faults.{MisfitAt, IsPlace, at_token, at_name, asked_by, referring}
-use Rattle.fancy_pattern.specs.Stuck.{Within, whole, past, NoNode, Alike, here, there, SameFirst, both_ended, same_token, is_end, is_calm, anything, Stuck, Fails, IsMisfit, NoAtom, OpenedFault, behind, unnamed, FailsOpened}
+use Rattle.fancy_pattern.specs.Stuck.{Within, whole, NoNode, Alike, SameFirst, both_ended, same_token, is_end, is_calm, anything, Stuck, Fails, IsMisfit, NoAtom, behind, unnamed, FailsOpened}
 use Rattle.fancy_pattern.specs.Reading.{SpellsLast, Quantifies, alone, by}
 use Rattle.fancy_pattern.proofs.Lengths as lengths
 use Rattle.fancy_pattern.proofs.Splits as splits
-use Rattle.fancy_pattern.proofs.OneSpelling.{one_token, there as is_there, there_or_not, node_or_class, node_or_open, class_or_open, some_same, clash, close_or_bar, text_or_end, of_condition, of_opening, one_class, one_atom, one_opened, one_bodies, one_piece, one_branch, one_alternatives}
-use Rattle.fancy_pattern.proofs.Moved.{Calm, Follows, Meets, by_same, by_start, calm_of, follows_of, ended, alike_end, alike_first, Moved, OneToken, token_moved, atom_moved, branch_moved, alternatives_moved}
+use Rattle.fancy_pattern.proofs.OneSpelling.{one_token, there_or_not, node_or_class, node_or_open, class_or_open, some_same, clash, close_or_bar, of_condition, of_opening, one_atom, one_branch, one_alternatives}
+use Rattle.fancy_pattern.proofs.Moved.{Meets, by_same, by_start, calm_of, follows_of, ended, alike_end, alike_first, Moved, OneToken, token_moved, atom_moved, branch_moved, alternatives_moved}
 use Rattle.fancy_pattern.proofs.Rows.{Row, row_within, row_moved, row_rest, row_then, BarRow, bar_row_within, bar_row_moved, bar_row_rest, bar_row_then, TextRow, text_row_within, text_row_moved, text_row_rest, text_row_then}
 
 -- ---- a part and the whole

@@ -1,10 +1,10 @@
 -- Where a fault is: the first token, or the end, that no pattern goes on with. The names are those of the whole pattern.
-use Rattle.std.specs.Prelude.{◌≡◌, ℕ, List, [], ◌∷◌, ◌++◌, Option, Some, None}
+use Rattle.std.specs.Prelude.{◌≡◌, List, [], ◌∷◌, ◌++◌, Option, Some, None}
 use Rattle.fancy_meaning.specs.Tree.{Tree}
 use Rattle.fancy_pattern.specs.declared.error.ErrorKind.{ErrorKind}
 use Rattle.fancy_pattern.specs.declared.error.ErrorKind.TheVariants.{InvalidGroupNameBackref}
 use Rattle.fancy_pattern.specs.declared.error.Fault.{Fault}
-use Rattle.fancy_pattern.specs.Tokens.{Reference, Opening, Around, Group, AbsentBar, If, IfPattern, IfLook, Token, Node, Refer, FlagsItem, Open, Bar, Close, Quantified, ClassOpen, ClassText, ClassClose, Broken, Placed}
+use Rattle.fancy_pattern.specs.Tokens.{Reference, Opening, If, Token, Refer, Open, Broken, Placed}
 use Rattle.fancy_pattern.specs.Grammar.{Names, first_gives, reference, SpellsAlternatives}
 
 -- what cannot be read says why

@@ -1,13 +1,12 @@
 -- Where a call of the reader is stuck: at a token that cannot stand there, whatever follows it.
-use Rattle.std.specs.Prelude.{◌≡◌, ℕ, Bool, true, false, not, List, [], ◌∷◌, ◌++◌, length, Option, Some, None}
+use Rattle.std.specs.Prelude.{◌≡◌, ℕ, Bool, true, not, List, [], ◌∷◌, ◌++◌, length, Option, None}
 use Rattle.fancy_meaning.specs.Tree.{Tree}
-use Rattle.fancy_pattern.specs.declared.error.ErrorKind.{ErrorKind}
 use Rattle.fancy_pattern.specs.declared.error.ErrorKind.TheVariants.{InvalidGroupNameBackref}
 use Rattle.fancy_pattern.specs.declared.error.Fault.{Fault}
 use Rattle.fancy_pattern.specs.declared.failure.Failure.{Failure}
 use Rattle.fancy_pattern.specs.declared.failure.Failure.TheVariants as failure
-use Rattle.fancy_pattern.specs.Tokens.{Reference, Opening, Around, Group, AbsentBar, If, IfPattern, IfLook, Token, Node, Refer, FlagsItem, Open, Bar, Close, Quantified, ClassOpen, ClassText, ClassClose, Broken, Placed}
-use Rattle.fancy_pattern.specs.Grammar.{Names, first_gives, is_at, gives_some, quantifier, closing, reference, SpellsOpened}
+use Rattle.fancy_pattern.specs.Tokens.{Reference, Opening, If, Token, Refer, Placed}
+use Rattle.fancy_pattern.specs.Grammar.{Names, is_at, gives_some, quantifier, closing, reference, SpellsOpened}
 use Rattle.fancy_pattern.specs.Faults.{MisfitAt, IsPlace}
 
 -- y is what is left of x
