@@ -18,3 +18,6 @@ pub mod WhereStuck
 pub mod OnePattern
 pub mod FaultPlaces
 pub mod Told
+pub mod FoundTokens
+pub mod Counting
+pub mod DescribedTrees
