@@ -106,7 +106,7 @@ no_group e h = ap length h
 
 node_count : (names : Names) (t : Token) (e : Tree) → FineToken t → node_of names t ≡ Some e → count (nodes e) ≡ 0
 unfolding count
-node_count names (Node d) e fine is = same_tree d e (no_group d fine) is
+node_count names (Node d) e fine is = same_tree d e (no_group d fine.0) is
 node_count names (Refer r) e fine is = reference_count names r e is
 node_count names FlagsItem e fine is = same_tree tree.Empty e refl is
 node_count names t e fine is = absurd (cc)

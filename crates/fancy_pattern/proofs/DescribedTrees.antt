@@ -140,8 +140,8 @@ past P groups (g ∷ gs) h = by_size (ltb groups g) refl (past P groups gs h.1)
 -- ---- tokens
 
 all_fine : {options : ParseOptions} {text : Text} {ignored : Bool} {ts : List Placed} → HasTokens options text ignored ts → Each (λ p. FineToken p.token) ts
-all_fine (every_group l h) = tokens_fine l
-all_fine (named_groups l h m) = tokens_fine m
+all_fine (every_group l h) = tokens_fine l (omega arith)
+all_fine (named_groups l h m) = tokens_fine m (omega arith)
 
 few_opened : {options : ParseOptions} {text : Text} {ignored : Bool} {ts : List Placed} → HasTokens options text ignored ts → opened_in ts ≤ most_groups
 few_opened (every_group l h) = let k = groups_few l (omega arith) in omega (arith, k)

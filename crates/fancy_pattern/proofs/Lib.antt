@@ -21,3 +21,4 @@ pub mod Told
 pub mod FoundTokens
 pub mod Counting
 pub mod DescribedTrees
+pub mod FineNodes
