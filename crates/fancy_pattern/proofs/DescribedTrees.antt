@@ -1,30 +1,40 @@
 -- What comes with a tree that a pattern spells says of it what is so.
-use Rattle.std.proofs.Common.{◌≡◌, ℕ, zero, suc, ◌+◌, ◌<◌, ◌≤◌, Bool, true, false, ◌||◌, nat_eq, cond, List, [], ◌∷◌, ◌++◌, length, filter_map, All, Contains, Some, IfSome, slice_index_or, refl, sym, ap, ◌∙◌, subst, arith, ltb, leb, ltb-true, le-leb}
+use Rattle.std.proofs.Common.{◌≡◌, ℕ, zero, suc, ◌+◌, ◌<◌, ◌≤◌, Bool, true, false, ◌||◌, nat_eq, cond, List, [], ◌∷◌, ◌++◌, length, map, string_bytes, IsUtf8, filter_map, All, Contains, Some, IfSome, slice_index_or, refl, sym, ap, ◌∙◌, subst, arith, ltb, leb, ltb-true, le-leb}
 use Rattle.std.specs.List.{list_any}
 use Rattle.std.specs.declared.cmp.Ordering.{Ordering}
 use Rattle.std.specs.declared.cmp.Ordering.TheVariants.{Less, Equal, Greater}
 use Rattle.std.specs.Ordering.{match_ordering, nat_cmp}
 use Rattle.std.specs.BTreeSet.{insert_key}
 use Rattle.std.proofs.lemmas.Bool.{eqb-true, eq-eqb, or_left, or_right, true≢false}
+use Rattle.std.proofs.lemmas.Str.{IsUtf8-string_bytes}
 use Rattle.std.proofs.lemmas.Map.Lookups.{exact_unsigned}
 use Rattle.std.proofs.lemmas.Map.Views.{All-insert_key, Contains-from_any}
 use Rattle.std.proofs.lemmas.List.Folds.{list_any-append}
 use Rattle.std.proofs.lemmas.List.Elements.{filter_map-append, All-contains}
 use Rattle.fancy_meaning.specs.Tree.{Tree, Backref, BackrefWithLevel, SubroutineCall}
 use Rattle.fancy_meaning.specs.Nodes.{nodes, group_count}
-use Rattle.fancy_meaning.specs.WellFormed.{Has, refers, is_call, is_any_call, most_groups}
+use Rattle.fancy_meaning.specs.WellFormed.{IsFine, Has, refers, is_call, is_any_call, most_groups}
 use Rattle.fancy_expr.specs.declared.expr.ExprTree.{ExprTree}
-use Rattle.fancy_expr.specs.Views.{tree_of}
+use Rattle.fancy_expr.specs.Views.{tree_of, absent_of}
 use Rattle.fancy_expr.specs.Each.{Each}
-use Rattle.fancy_expr.specs.Sound.{AllSound, IsWellFormedTree}
-use Rattle.fancy_expr.proofs.SoundNodes.{nodes_fine, all_one_char}
+use Rattle.fancy_expr.specs.Sound.{IsOneChar, IsSoundNode, AllSound, IsWellFormedTree}
+use Rattle.fancy_expr.specs.Exprs.{exprs}
+use Rattle.fancy_expr.proofs.Exprs.{nodes-exprs}
+use Rattle.fancy_expr.specs.declared.expr.Expr.{Expr}
+use Rattle.fancy_expr.specs.declared.expr.Expr.TheVariants as code
+use Rattle.fancy_expr.specs.declared.expr.Absent.{Absent}
+use Rattle.fancy_expr.specs.declared.expr.Absent.TheVariants as code_absent
+use Rattle.fancy_meaning.specs.Tree as plain
+use Rattle.fancy_pattern.specs.Reading.{OneCharEach}
+use Rattle.fancy_pattern.proofs.FineNodes.{spelled_fine}
+use Rattle.fancy_expr.proofs.SoundNodes.{nodes_fine, all_one_char, sound_literal}
 use Rattle.fancy_pattern.specs.declared.options.ParseOptions.{ParseOptions}
 use Rattle.fancy_pattern.specs.Texts.{Text}
 use Rattle.fancy_pattern.specs.Tokens.{Placed}
 use Rattle.fancy_pattern.specs.Naming.{named_in}
 use Rattle.fancy_pattern.specs.Described.{referred_to, references, first_past, up_to, IsDescribed}
 use Rattle.fancy_pattern.specs.Spelling.{HasTokens, every_group, named_groups, IsTreeOf}
-use Rattle.fancy_pattern.proofs.FoundTokens.{FineToken, opened_in, opened-counted, tokens_fine, groups_few}
+use Rattle.fancy_pattern.proofs.FoundTokens.{FineBut, FineToken, opened_in, opened-counted, tokens_fine, groups_few}
 use Rattle.fancy_pattern.proofs.Counting.{spelled_groups}
 
 -- ---- calls
@@ -176,3 +186,37 @@ well_formed_if_sound options text t is sound =
       },
       all_one_char t.expr sound,
     )
+
+-- ---- nodes
+
+each_all : {X : Type 0} (P : X → Type 0) (xs : List X) → Each P xs → All P xs
+each_all P [] h k d lt = absurd (omega arith)
+each_all P (x ∷ xs) h zero d lt = h.0
+each_all P (x ∷ xs) h (suc k) d lt = each_all P xs h.1 k d (omega arith)
+
+fine_class : (bytes : List ℕ) (casei : Bool) → IsUtf8 bytes → FineBut (plain.Delegate bytes casei) → IsFine (plain.Delegate bytes casei)
+fine_class [] casei u h = h
+fine_class (b ∷ bs) casei u h = u
+
+fine_absent : (a : Absent) → IsFine (absent_of a)
+fine_absent (code_absent.Repeater' b e) = tt
+fine_absent (code_absent.Expression' b a c e) = tt
+fine_absent (code_absent.Stopper' b e) = tt
+fine_absent code_absent.Clear = tt
+
+fine_expr : (x : Expr) → FineBut (tree_of x) → IsOneChar x → IsFine (tree_of x)
+fine_expr (code.Literal val casei) h one = ((sound_literal (code.Literal val casei) val casei 1 refl (sym one)).0 refl).fine
+fine_expr (code.Delegate inner casei) h one = fine_class (string_bytes inner) casei (IsUtf8-string_bytes inner) h
+fine_expr (code.Absent a) h one = fine_absent a
+fine_expr x h one = h
+
+sound_each : (xs : List Expr) → Each FineBut (map tree_of xs) → Each IsOneChar xs → Each IsSoundNode xs
+sound_each [] h k = tt
+sound_each (x ∷ xs) h k = (record { fine = fine_expr x h.0 k.0; one_char = k.0 }, sound_each xs h.1 k.1)
+
+-- a tree whose literals are one character each may be handed in where a pattern spells it
+pub well_formed : (options : ParseOptions) (text : Text) (t : ExprTree) → IsTreeOf options text t → OneCharEach t.expr → IsWellFormedTree t
+well_formed options text t is chars =
+    let fine = spelled_fine is.spells.tokens (tree_of t.expr) is.spells.spelled (all_fine is.spells.lexed) in
+    well_formed_if_sound options text t is
+    (each_all IsSoundNode (exprs t.expr) (sound_each (exprs t.expr) (subst (Each FineBut) (sym (nodes-exprs t.expr)) fine) chars))

@@ -3,6 +3,7 @@ pub mod Numerals
 pub mod Lexed
 pub mod NamedGroups
 pub mod MadeNodes
+pub mod OneChars
 pub mod Points
 pub mod Escaping
 pub mod TokenTests

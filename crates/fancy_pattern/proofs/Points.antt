@@ -16,8 +16,10 @@ use Rattle.fancy_pattern.specs.Tokens.{Reference, Token, Placed, Opening, Around
 use Rattle.fancy_pattern.specs.PatternViews.{placed_of}
 use Rattle.fancy_pattern.specs.Grammar.{Names, Takes, first_gives, gives_some, is_at, is_branch_end, is_empty, is_repeatable, bar, closing, quantifier, class_text, class_close, class_of, joined, alternated, suffixed, SpellsSuffix, SpellsClass, class_end, class_piece, class_open, opening, node_of, reference, enclosed, SpellsAtom, node, class, opened, SpellsOpened, around, group, stopper, expression, if_group, if_pattern, if_look, SpellsBodies, one_body, two_bodies, SpellsPiece, plain, quantified, SpellsPieces, no_piece, piece, SpellsBranch, branch, SpellsBars, no_bar, barred, SpellsAlternatives, branches}
 use Rattle.fancy_pattern.proofs.MadeNodes.{text_added, one_char}
+use Rattle.fancy_expr.specs.Each.{Each}
+use Rattle.fancy_pattern.proofs.OneChars.{no_parts, with_part}
 use Rattle.fancy_pattern.proofs.Rows.{Row, none_read, row_more, BarRow, none_barred, bar_row_more, TextRow, none_text, text_row_more}
-use Rattle.fancy_pattern.specs.Reading.{point_of, Skips, ReadsTree, ReadsClass, SpellsLast, Quantifies, alone, by, some_of}
+use Rattle.fancy_pattern.specs.Reading.{OneCharEach, point_of, Skips, ReadsTree, ReadsClass, SpellsLast, Quantifies, alone, by, some_of}
 
 pub skipped : (old new : Reader) → 0 < length old.rest.now → new.rest.now ≡ drop 1 old.rest.now → Skips old new
 skipped old new h rest = let p = front old.rest.now new.rest.now h rest in record { first = p.0; tokens = p.1 }
@@ -140,11 +142,12 @@ pub record PiecesRead (names : Names) (start now : Reader) (made : List Expr) : 
   pub so_far : List Tree
   pub are : map tree_of made ≡ filter (λ e. not (is_empty e)) so_far
   pub row : Row names (point_of start) (point_of now) so_far
+  pub one_char : Each OneCharEach made
   pub spelled : (z : List Placed) (more : List Tree) → SpellsPieces names (point_of now) z more → SpellsPieces names (point_of start) z (so_far ++ more)
   pub shorter : length now.rest.now ≤ length start.rest.now
 
 pub pieces_begin : (names : Names) (r : Reader) (made : List Expr) → made ≡ [] → PiecesRead names r r made
-pieces_begin names r made none = record { so_far = []; are = ap (map tree_of) none; row = none_read; spelled = λ z more s. s; shorter = omega arith }
+pieces_begin names r made none = record { so_far = []; are = ap (map tree_of) none; row = none_read; one_char = no_parts made none; spelled = λ z more s. s; shorter = omega arith }
 
 filtered : (es : List Tree) (e : Tree) → filter (λ x. not (is_empty x)) (es ++ e ∷ []) ≡ filter (λ x. not (is_empty x)) es ++ some_of e
 filtered [] e = by_test (is_empty e)
@@ -162,12 +165,13 @@ filtered (x ∷ es) e = by_test (not (is_empty x)) (filtered es e)
 
 pub pieces_next : (names : Names) (start old new : Reader) (made more_made : List Expr) (e : Tree) → PiecesRead names start old made →
     is_branch_end (point_of old) ≡ false → SpellsPiece names (point_of old) (point_of new) e → map tree_of more_made ≡ map tree_of made ++ some_of e →
-    length new.rest.now ≤ length old.rest.now →
+    length new.rest.now ≤ length old.rest.now → Each OneCharEach more_made →
     PiecesRead names start new more_made
-pieces_next names start old new made more_made e r on s are shorter = record {
+pieces_next names start old new made more_made e r on s are shorter chars = record {
   so_far = r.so_far ++ e ∷ [];
   are = are ∙ ap (λ l. l ++ some_of e) r.are ∙ sym (filtered r.so_far e);
   row = row_more r.row on s;
+  one_char = chars;
   spelled = λ z more t. subst (SpellsPieces names (point_of start) z) (sym (append_assoc r.so_far (e ∷ []) more)) (r.spelled z (e ∷ more) (piece on s t));
   shorter = let a = r.shorter in omega (arith, a, shorter);
 }
@@ -185,17 +189,18 @@ pub record BarsRead (names : Names) (start now : Reader) (given made : List Expr
   pub so_far : List Tree
   pub are : map tree_of made ≡ map tree_of given ++ so_far
   pub row : BarRow names (point_of start) (point_of now) so_far
+  pub one_char : Each OneCharEach given → Each OneCharEach made
   pub spelled : (z : List Placed) (more : List Tree) → SpellsBars names (point_of now) z more → SpellsBars names (point_of start) z (so_far ++ more)
   pub shorter : length now.rest.now ≤ length start.rest.now
 
 pub bars_begin : (names : Names) (r : Reader) (given : List Expr) → BarsRead names r r given given
-bars_begin names r given = record { so_far = []; are = sym (append-nil (map tree_of given)); row = none_barred; spelled = λ z more s. s; shorter = omega arith }
+bars_begin names r given = record { so_far = []; are = sym (append-nil (map tree_of given)); row = none_barred; one_char = λ h. h; spelled = λ z more s. s; shorter = omega arith }
 
 pub bars_next : (names : Names) (start old mid new : Reader) (given made more_made : List Expr) (e : Expr) → BarsRead names start old given made →
     Takes bar (point_of old) tt (point_of mid) → SpellsBranch names (point_of mid) (point_of new) (tree_of e) → more_made ≡ made ++ e ∷ [] →
-    length new.rest.now ≤ length old.rest.now →
+    length new.rest.now ≤ length old.rest.now → OneCharEach e →
     BarsRead names start new given more_made
-bars_next names start old mid new given made more_made e r t s are shorter = record {
+bars_next names start old mid new given made more_made e r t s are shorter chars = record {
   so_far = r.so_far ++ tree_of e ∷ [];
   are =
       ap (map tree_of) are
@@ -203,6 +208,7 @@ bars_next names start old mid new given made more_made e r t s are shorter = rec
       ∙ ap (λ l. l ++ tree_of e ∷ []) r.are
       ∙ append_assoc (map tree_of given) r.so_far (tree_of e ∷ []);
   row = bar_row_more r.row t s;
+  one_char = λ h. with_part made more_made e are chars (r.one_char h);
   spelled = λ z more u.
       subst (SpellsBars names (point_of start) z) (sym (append_assoc r.so_far (tree_of e ∷ []) more)) (r.spelled z (tree_of e ∷ more) (barred t s u));
   shorter = let a = r.shorter in omega (arith, a, shorter);

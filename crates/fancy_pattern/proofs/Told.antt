@@ -6,6 +6,7 @@ use Rattle.std.proofs.lemmas.List.{at_drop_more, length-map}
 use Rattle.std.proofs.lemmas.Str.{length-encode, encodes-chars}
 use Rattle.fancy_meaning.specs.Tree.{Tree}
 use Rattle.fancy_expr.specs.declared.expr.ExprTree.{ExprTree}
+use Rattle.fancy_expr.specs.Sound.{IsWellFormedTree}
 use Rattle.fancy_expr.specs.Views.{tree_of}
 use Rattle.fancy_pattern.specs.declared.error.Fault.{Fault}
 use Rattle.fancy_pattern.specs.declared.error.PatternError.{PatternError}
@@ -86,9 +87,9 @@ told_fault options text f r is h = subst (IsError options text) (sym is) (f.left
 
 -- ---- what is spelled is read
 
-pub reads_of : (options : ParseOptions) (text : Text) (r : Result ExprTree PatternError) → MatchResult r (IsTreeOf options text) (IsError options text) →
+pub reads_of : (options : ParseOptions) (text : Text) (r : Result ExprTree PatternError) → MatchResult r (λ t. IsTreeOf options text t × IsWellFormedTree t) (IsError options text) →
     (e : Tree) → Spells options text e → MatchResult r (λ t. tree_of t.expr ≡ e) (λ error. error ≡ Memory)
-reads_of options text (Ok t) h e s = one_tree options text (tree_of t.expr) e h.spells s
+reads_of options text (Ok t) h e s = one_tree options text (tree_of t.expr) e h.0.spells s
 reads_of options text (Err (Parse at kind)) h e s =
     let f = h.1 in
     let same : f.tokens ≡ s.tokens = (tokens_once f.lexed s.lexed).1 in

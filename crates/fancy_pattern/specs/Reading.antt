@@ -2,6 +2,9 @@
 use Rattle.std.specs.Prelude.{◌≡◌, ℕ, Bool, true, false, not, List, [], ◌∷◌, ◌++◌, map, filter, IfOk, Option, Some, if◌then◌else◌, Vec, Result}
 use Rattle.std.specs.declared.alloc.Global.{Global}
 use Rattle.fancy_meaning.specs.Tree.{Tree}
+use Rattle.fancy_expr.specs.Each.{Each}
+use Rattle.fancy_expr.specs.Exprs.{exprs}
+use Rattle.fancy_expr.specs.Sound.{IsOneChar}
 use Rattle.fancy_expr.specs.Views.{tree_of}
 use Rattle.fancy_expr.specs.declared.expr.Expr.{Expr}
 use Rattle.fancy_pattern.specs.declared.failure.Failure.{Failure}
@@ -18,6 +21,10 @@ point_of r = map placed_of r.rest.now
 
 abbrev pub next_token : List Placed → Option Token
 next_token ps = first_gives (λ t. Some t) ps
+
+-- each literal is one character
+abbrev pub OneCharEach : Expr → Type 0
+OneCharEach e = Each IsOneChar (exprs e)
 
 -- one token was passed
 pub record Skips (old new : Reader) : Type 0 where

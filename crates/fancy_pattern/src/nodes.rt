@@ -1,6 +1,6 @@
 //! The nodes of the tree that is made.
 
-ghost use Rattle.std.specs.Prelude.{◌≡◌, ◌++◌, ◌∷◌, [], map, reverse, not, filter, false, IfOk, IfErr, OnOk, encode_utf8_all, string_bytes, Some, if◌then◌else◌};
+ghost use Rattle.std.specs.Prelude.{◌≡◌, ◌++◌, ◌∷◌, [], map, reverse, not, filter, false, IfOk, IfErr, IfSome, OnOk, encode_utf8_all, string_bytes, Some, if◌then◌else◌};
 ghost use Rattle.fancy_meaning.specs.Tree as tree;
 ghost use Rattle.fancy_meaning.specs.Tree.{trees};
 ghost use Rattle.fancy_expr.specs.Views.{tree_of, look_of};
@@ -9,6 +9,8 @@ ghost use Rattle.fancy_pattern.specs.Grammar as grammar;
 ghost use Rattle.fancy_pattern.specs.Naming.{pairs_in};
 ghost use Rattle.fancy_pattern.specs.Grammar.{is_repeatable, lo_of, hi_of, named, unresolved};
 ghost use Rattle.fancy_pattern.specs.declared.tokens.Naming.TheVariants as naming;
+ghost use Rattle.fancy_expr.specs.Each.{Each};
+ghost use Rattle.fancy_pattern.specs.Reading.{OneCharEach};
 ghost use Rattle.fancy_pattern.specs.Stuck.{NoNode, NoAtom};
 ghost use Rattle.fancy_pattern.specs.PatternViews.{leaf_of, hex_class, token_of, reference_of};
 
@@ -23,7 +25,8 @@ use std::alloc::{AllocError, Global};
 
 /// The node of an atom without text.
 pub(crate) fn leaf(alloc: Global, leaf: Leaf) -> Result<Expr, AllocError>
-    ensures { IfOk result (λ e. tree_of e ≡ leaf_of leaf) }
+    ensures made { IfOk result (λ e. tree_of e ≡ leaf_of leaf) }
+    ensures one_char { IfOk result OneCharEach }
 {
     match leaf {
         Leaf::Any { newline, crlf } => Ok(Expr::Any { newline, crlf }),
@@ -39,7 +42,8 @@ pub(crate) fn leaf(alloc: Global, leaf: Leaf) -> Result<Expr, AllocError>
 }
 
 fn literal(alloc: Global, c: char, casei: bool) -> Result<Expr, AllocError>
-    ensures { IfOk result (λ e. tree_of e ≡ tree.Literal c casei) }
+    ensures made { IfOk result (λ e. tree_of e ≡ tree.Literal c casei) }
+    ensures one_char { IfOk result OneCharEach }
 {
     let mut val = String::new(alloc);
     val.push(c)?;
@@ -264,7 +268,8 @@ pub(crate) fn repeated(
     quantifier: Quantifier,
     greedy: bool,
 ) -> Result<Expr, AllocError>
-    ensures { IfOk result (λ r. tree_of r ≡ grammar.repeated quantifier greedy (tree_of e)) }
+    ensures made { IfOk result (λ r. tree_of r ≡ grammar.repeated quantifier greedy (tree_of e)) }
+    ensures one_char { OneCharEach e → IfOk result OneCharEach }
 {
     let (lo, hi) = bounds(quantifier);
     Ok(Expr::Repeat {
@@ -276,31 +281,36 @@ pub(crate) fn repeated(
 }
 
 pub(crate) fn atomic(alloc: Global, e: Expr) -> Result<Expr, AllocError>
-    ensures { IfOk result (λ r. tree_of r ≡ tree.AtomicGroup (tree_of e)) }
+    ensures made { IfOk result (λ r. tree_of r ≡ tree.AtomicGroup (tree_of e)) }
+    ensures one_char { OneCharEach e → IfOk result OneCharEach }
 {
     Ok(Expr::AtomicGroup(Box::new(alloc, e)?))
 }
 
 pub(crate) fn group(alloc: Global, e: Expr) -> Result<Expr, AllocError>
-    ensures { IfOk result (λ r. tree_of r ≡ tree.Group 0 (tree_of e)) }
+    ensures made { IfOk result (λ r. tree_of r ≡ tree.Group 0 (tree_of e)) }
+    ensures one_char { OneCharEach e → IfOk result OneCharEach }
 {
     Ok(Expr::Group(Box::new(alloc, e)?))
 }
 
 pub(crate) fn look_around(alloc: Global, look: LookAround, e: Expr) -> Result<Expr, AllocError>
-    ensures { IfOk result (λ r. tree_of r ≡ tree.LookAround (look_of look) (tree_of e)) }
+    ensures made { IfOk result (λ r. tree_of r ≡ tree.LookAround (look_of look) (tree_of e)) }
+    ensures one_char { OneCharEach e → IfOk result OneCharEach }
 {
     Ok(Expr::LookAround(Box::new(alloc, e)?, look))
 }
 
 pub(crate) fn stopper(alloc: Global, e: Expr) -> Result<Expr, AllocError>
-    ensures { IfOk result (λ r. tree_of r ≡ tree.AbsentStopper (tree_of e)) }
+    ensures made { IfOk result (λ r. tree_of r ≡ tree.AbsentStopper (tree_of e)) }
+    ensures one_char { OneCharEach e → IfOk result OneCharEach }
 {
     Ok(Expr::Absent(Absent::Stopper(Box::new(alloc, e)?)))
 }
 
 pub(crate) fn absent_expression(alloc: Global, absent: Expr, exp: Expr) -> Result<Expr, AllocError>
-    ensures { IfOk result (λ r. tree_of r ≡ tree.AbsentExpression (tree_of absent) (tree_of exp)) }
+    ensures made { IfOk result (λ r. tree_of r ≡ tree.AbsentExpression (tree_of absent) (tree_of exp)) }
+    ensures one_char { OneCharEach absent → OneCharEach exp → IfOk result OneCharEach }
 {
     let absent = Box::new(alloc, absent)?;
     let exp = Box::new(alloc, exp)?;
@@ -309,7 +319,8 @@ pub(crate) fn absent_expression(alloc: Global, absent: Expr, exp: Expr) -> Resul
 
 /// What stands around a node, as its opening says.
 pub(crate) fn enclosed(alloc: Global, enclosing: Enclosing, e: Expr) -> Result<Expr, AllocError>
-    ensures { IfOk result (λ r. tree_of r ≡ grammar.enclosed enclosing (tree_of e)) }
+    ensures made { IfOk result (λ r. tree_of r ≡ grammar.enclosed enclosing (tree_of e)) }
+    ensures one_char { OneCharEach e → IfOk result OneCharEach }
 {
     match enclosing {
         Enclosing::Plain => Ok(e),
@@ -328,8 +339,12 @@ pub(crate) fn conditional(
     true_branch: Expr,
     false_branch: Expr,
 ) -> Result<Expr, AllocError>
-    ensures { IfOk result (λ r. tree_of r
+    ensures made { IfOk result (λ r. tree_of r
         ≡ tree.Conditional (tree_of condition) (tree_of true_branch) (tree_of false_branch)) }
+    ensures one_char { OneCharEach condition
+        → OneCharEach true_branch
+        → OneCharEach false_branch
+        → IfOk result OneCharEach }
 {
     let condition = Box::new(alloc, condition)?;
     let true_branch = Box::new(alloc, true_branch)?;
@@ -343,7 +358,8 @@ pub(crate) fn conditional(
 
 /// No piece is nothing, one is itself, more are a sequence.
 pub(crate) fn joined(pieces: Vec<Expr>) -> Expr
-    ensures { tree_of result ≡ grammar.joined (map tree_of pieces.items) }
+    ensures made { tree_of result ≡ grammar.joined (map tree_of pieces.items) }
+    ensures one_char { Each OneCharEach pieces.items → OneCharEach result }
 {
     let mut pieces = pieces;
     if pieces.len() > 1 {
@@ -357,7 +373,8 @@ pub(crate) fn joined(pieces: Vec<Expr>) -> Expr
 
 /// One branch is itself, more are alternatives.
 pub(crate) fn alternated(branches: Vec<Expr>) -> Expr
-    ensures { tree_of result ≡ grammar.alternated (map tree_of branches.items) }
+    ensures made { tree_of result ≡ grammar.alternated (map tree_of branches.items) }
+    ensures one_char { Each OneCharEach branches.items → OneCharEach result }
 {
     let mut branches = branches;
     if branches.len() > 1 {
@@ -377,7 +394,8 @@ pub(crate) fn suffixed(
     greedy: bool,
     suffix: Option<Suffix>,
 ) -> Result<Expr, AllocError>
-    ensures { IfOk result (λ r. tree_of r ≡ grammar.suffixed quantifier greedy suffix (tree_of e)) }
+    ensures made { IfOk result (λ r. tree_of r ≡ grammar.suffixed quantifier greedy suffix (tree_of e)) }
+    ensures one_char { OneCharEach e → IfOk result OneCharEach }
 {
     match suffix {
         None => repeated(alloc, e, quantifier, greedy),
@@ -398,6 +416,7 @@ pub(crate) fn node(
 ) -> Result<Option<Expr>, Failure>
     ensures made { IfOk result (λ found. option_map tree_of found
         ≡ grammar.node_of (pairs_in names.now.pairs) (token_of token.entry)) }
+    ensures one_char { IfOk result (λ found. IfSome found OneCharEach) }
     ensures fails { IfErr result (NoAtom
         (pairs_in names.now.pairs) (token_of token.entry)) }
 {

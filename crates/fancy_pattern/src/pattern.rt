@@ -3,6 +3,7 @@
 ghost use Rattle.std.specs.Prelude.{◌≡◌, ◌<◌, ◌^◌, [], length, map, chars, encode_utf8_all, IfOk, IfErr, MatchResult};
 ghost use Rattle.std.specs.List.{list_any, count_by};
 ghost use Rattle.fancy_meaning.specs.Tree.{Tree};
+ghost use Rattle.fancy_expr.specs.Sound.{IsWellFormedTree};
 ghost use Rattle.fancy_expr.specs.Views.{tree_of};
 ghost use Rattle.fancy_pattern.specs.Described.{by_number, names_number, asks_number, is_group, opens_group, first_past, up_to, IsDescribed};
 ghost use Rattle.fancy_pattern.specs.Naming.{pairs_in, named_in};
@@ -24,7 +25,7 @@ use fancy_expr::expr::{Expr, ExprTree};
 use std::alloc::{AllocError, Global};
 use std::collections::BTreeSet;
 
-/// The tree that a pattern spells, and what comes with it.
+/// The tree that a pattern spells, and what comes with it. The tree passes `is_well_formed`.
 ///
 /// Where the pattern spells none, `PatternError::Parse` has the byte of the first character that cannot stand where it
 /// stands, or the pattern's length where more is needed, and the kind of the fault. A name that cannot be called, since
@@ -34,7 +35,8 @@ pub fn parse_tree(
     pattern: &str,
     options: ParseOptions,
 ) -> Result<ExprTree, PatternError>
-    ensures answer { MatchResult result (IsTreeOf options (chars pattern.now))
+    ensures answer { MatchResult result
+        (λ tree. IsTreeOf options (chars pattern.now) tree × IsWellFormedTree tree)
         (IsError options (chars pattern.now)) }
     ensures reads { (e : Tree)
         → Spells options (chars pattern.now) e
@@ -132,7 +134,8 @@ fn has_names(tokens: &[Placed<'_>]) -> bool
 }
 
 fn tree_of_chars(alloc: Global, chars: &[char], options: ParseOptions) -> Result<ExprTree, Failure>
-    ensures made { IfOk result (IsTreeOf options chars.now) }
+    ensures made { IfOk result (λ tree. IsTreeOf options chars.now tree
+        × IsWellFormedTree tree) }
     ensures fails { IfErr result (PatternFails options chars.now) }
 {
     let (placed, ignored) = tokens(alloc, chars, options)?;

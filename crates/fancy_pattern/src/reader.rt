@@ -2,13 +2,14 @@
 
 ghost use Rattle.std.specs.Prelude.{◌≡◌, ◌+◌, ◌<◌, ◌≤◌, ◌++◌, true, false, length, map, IfOk, IfErr, IfSome, Some};
 ghost use Rattle.std.specs.Option.{option_map};
+ghost use Rattle.fancy_expr.specs.Each.{Each};
 ghost use Rattle.fancy_expr.specs.Views.{tree_of};
 ghost use Rattle.fancy_pattern.specs.Grammar.{Names, is_at, is_branch_end, bar, closing, quantifier as quantifier_of, suffix, suffix_of, opening, class_open, class_text, class_close, gives_some, first_gives, node_of, Takes, reference, SpellsClass, SpellsSuffix, SpellsAtom, SpellsOpened, SpellsBodies, SpellsPiece, SpellsPieces, SpellsBranch, SpellsBars, SpellsAlternatives};
 ghost use Rattle.fancy_pattern.specs.Faults.{Tells};
 ghost use Rattle.fancy_pattern.specs.Stuck.{is_end, is_calm, anything, Fails, FailsOpened, IsMisfit};
 ghost use Rattle.fancy_pattern.specs.Naming.{pairs_in};
 ghost use Rattle.fancy_pattern.specs.PatternViews.{token_of, opening_of, reference_of, piece_text};
-ghost use Rattle.fancy_pattern.specs.Reading.{point_of, next_token, Skips, ReadsTree, ReadsLast, SpellsLast, ReadsClass, ReadsPieces, ReadsBars, Quantifies, some_of};
+ghost use Rattle.fancy_pattern.specs.Reading.{OneCharEach, point_of, next_token, Skips, ReadsTree, ReadsLast, SpellsLast, ReadsClass, ReadsPieces, ReadsBars, Quantifies, some_of};
 ghost use Rattle.fancy_pattern.specs.Tokens.{AbsentBar, If};
 ghost use Rattle.fancy_pattern.specs.declared.failure.Failure.TheVariants.{Memory};
 
@@ -230,6 +231,7 @@ impl<'a> Reader<'a> {
             self.old self.new result }
         ensures fails { IfErr result (Fails (pairs_in names.now.pairs) anything
             (SpellsAlternatives (pairs_in names.now.pairs)) (point_of self.old)) }
+        ensures one_char { IfOk result OneCharEach }
         ensures shorter { IfOk result (λ e. length self.new.rest.now
             ≤ length self.old.rest.now) }
     {
@@ -247,6 +249,8 @@ impl<'a> Reader<'a> {
             self.old self.new result }
         ensures fails { IfErr result (Fails (pairs_in names.now.pairs) is_end
             (SpellsBars (pairs_in names.now.pairs)) (point_of self.old)) }
+        ensures one_char { Each OneCharEach given.items
+            → IfOk result (λ v. Each OneCharEach v.items) }
         ensures shorter { IfOk result (λ e. length self.new.rest.now
             ≤ length self.old.rest.now) }
     {
@@ -265,6 +269,7 @@ impl<'a> Reader<'a> {
             self.old self.new result }
         ensures fails { IfErr result (Fails (pairs_in names.now.pairs) anything
             (SpellsBranch (pairs_in names.now.pairs)) (point_of self.old)) }
+        ensures one_char { IfOk result OneCharEach }
         ensures shorter { IfOk result (λ e. length self.new.rest.now
             ≤ length self.old.rest.now) }
     {
@@ -278,6 +283,7 @@ impl<'a> Reader<'a> {
         ensures spells { ReadsPieces (pairs_in names.now.pairs) self.old self.new result }
         ensures fails { IfErr result (Fails (pairs_in names.now.pairs) anything
             (SpellsPieces (pairs_in names.now.pairs)) (point_of self.old)) }
+        ensures one_char { IfOk result (λ v. Each OneCharEach v.items) }
         ensures shorter { IfOk result (λ e. length self.new.rest.now
             ≤ length self.old.rest.now) }
     {
@@ -296,6 +302,7 @@ impl<'a> Reader<'a> {
             self.old self.new result }
         ensures fails { IfErr result (Fails (pairs_in names.now.pairs) is_calm
             (SpellsPiece (pairs_in names.now.pairs)) (point_of self.old)) }
+        ensures one_char { IfOk result OneCharEach }
         ensures shorter { IfOk result (λ e. length self.new.rest.now + 1
             ≤ length self.old.rest.now) }
     {
@@ -316,6 +323,7 @@ impl<'a> Reader<'a> {
             (point_of self.new) (tree_of e)) }
         ensures fails { (names : Names) → IfErr result (Fails names is_calm
             (Quantifies (tree_of atom)) (point_of self.old)) }
+        ensures one_char { OneCharEach atom → IfOk result OneCharEach }
         ensures shorter { IfOk result (λ e. length self.new.rest.now
             ≤ length self.old.rest.now) }
     {
@@ -338,6 +346,7 @@ impl<'a> Reader<'a> {
             (point_of self.new) (tree_of e)) }
         ensures fails { (names : Names) → IfErr result (Fails names is_calm
             (Quantifies (tree_of atom)) (point_of self.old)) }
+        ensures one_char { OneCharEach atom → IfOk result OneCharEach }
         ensures shorter { IfOk result (λ e. length self.new.rest.now
             ≤ length self.old.rest.now) }
     {
@@ -390,6 +399,7 @@ impl<'a> Reader<'a> {
             self.old self.new result }
         ensures fails { IfErr result (Fails (pairs_in names.now.pairs) is_calm
             (SpellsAtom (pairs_in names.now.pairs)) (point_of self.old)) }
+        ensures one_char { IfOk result OneCharEach }
         ensures shorter { IfOk result (λ e. length self.new.rest.now + 1
             ≤ length self.old.rest.now) }
     {
@@ -410,6 +420,7 @@ impl<'a> Reader<'a> {
             (point_of self.old) (tree_of e) (point_of self.new)) }
         ensures fails { IfErr result (Fails (pairs_in names.now.pairs) is_calm
             (λ x y e. Takes (node_of (pairs_in names.now.pairs)) x e y) (point_of self.old)) }
+        ensures one_char { IfOk result OneCharEach }
         ensures shorter { IfOk result (λ e. length self.new.rest.now + 1
             ≤ length self.old.rest.now) }
     {
@@ -449,6 +460,7 @@ impl<'a> Reader<'a> {
         ensures spells { ReadsClass casei self.old self.new result }
         ensures fails { (names : Names) → IfErr result (Fails names anything
             SpellsClass (point_of self.old)) }
+        ensures one_char { IfOk result OneCharEach }
         ensures shorter { IfOk result (λ e. length self.new.rest.now
             ≤ length self.old.rest.now) }
     {
@@ -474,6 +486,7 @@ impl<'a> Reader<'a> {
             self.old self.new result }
         ensures fails { IfErr result (FailsOpened (pairs_in names.now.pairs)
             (opening_of opening.entry) (point_of self.old)) }
+        ensures one_char { IfOk result OneCharEach }
         ensures shorter { IfOk result (λ e. length self.new.rest.now
             ≤ length self.old.rest.now) }
     {
@@ -506,6 +519,7 @@ impl<'a> Reader<'a> {
         ensures spells { ReadsLast (pairs_in names.now.pairs) self.old self.new result }
         ensures fails { IfErr result (Fails (pairs_in names.now.pairs) anything
             (SpellsLast (pairs_in names.now.pairs)) (point_of self.old)) }
+        ensures one_char { IfOk result OneCharEach }
         ensures shorter { IfOk result (λ e. length self.new.rest.now
             ≤ length self.old.rest.now) }
     {
@@ -521,6 +535,7 @@ impl<'a> Reader<'a> {
             self.old self.new result }
         ensures fails { IfErr result (FailsOpened (pairs_in names.now.pairs)
             AbsentBar (point_of self.old)) }
+        ensures one_char { IfOk result OneCharEach }
         ensures shorter { IfOk result (λ e. length self.new.rest.now
             ≤ length self.old.rest.now) }
     {
@@ -542,6 +557,7 @@ impl<'a> Reader<'a> {
             self.old self.new result }
         ensures fails { IfErr result (FailsOpened (pairs_in names.now.pairs)
             (If (reference_of found.entry)) (point_of self.old)) }
+        ensures one_char { IfOk result OneCharEach }
         ensures shorter { IfOk result (λ e. length self.new.rest.now
             ≤ length self.old.rest.now) }
     {
@@ -561,6 +577,7 @@ impl<'a> Reader<'a> {
             self.old self.new result }
         ensures fails { IfErr result (Fails (pairs_in names.now.pairs) anything
             (SpellsBodies (pairs_in names.now.pairs) (tree_of condition)) (point_of self.old)) }
+        ensures one_char { OneCharEach condition → IfOk result OneCharEach }
         ensures shorter { IfOk result (λ e. length self.new.rest.now
             ≤ length self.old.rest.now) }
     {
@@ -578,6 +595,9 @@ impl<'a> Reader<'a> {
 /// Adds a piece that is something.
 fn push_some(pieces: &mut Vec<Expr>, piece: Expr) -> Result<(), Failure>
     ensures fails { IfErr result (λ e. e ≡ Memory) }
+    ensures one_char { Each OneCharEach pieces.old.items
+        → OneCharEach piece
+        → IfOk result (λ u. Each OneCharEach pieces.new.items) }
     ensures pushed { IfOk result (λ u. map tree_of pieces.new.items
         ≡ map tree_of pieces.old.items
         ++ some_of (tree_of piece)) }

@@ -1,4 +1,5 @@
 use Rattle.std.proofs.Common.{subst, sym, ◌∙◌, arith, chars, Ok, Err}
+use Rattle.fancy_expr.specs.Sound.{IsWellFormedTree}
 use Rattle.fancy_pattern.specs.Spelling.{IsTreeOf, IsError, PatternFails}
 use Rattle.fancy_pattern.proofs.Told.{pattern_fits, reads_of}
 use Rattle.fancy_pattern.proofs.pattern.parse_tree.Goals as goal
@@ -9,7 +10,7 @@ told-requires c =
 
 pub returns-in-Ok-clause-answer : goal.returns-in-Ok-clause-answer
 returns-in-Ok-clause-answer c =
-    subst (λ text. IsTreeOf c.args.options text c.in-Ok.tree) (c.deref.ensures.value ∙ c.in_ok-chars.ensures) c.in-Ok.ensures.made
+    subst (λ text. IsTreeOf c.args.options text c.in-Ok.tree × IsWellFormedTree c.in-Ok.tree) (c.deref.ensures.value ∙ c.in_ok-chars.ensures) c.in-Ok.ensures.made
 
 pub returns-in-Ok-clause-reads : goal.returns-in-Ok-clause-reads
 returns-in-Ok-clause-reads c = reads_of c.args.options (chars c.args.pattern.now) (Ok c.in-Ok.tree) (returns-in-Ok-clause-answer c)

@@ -6,6 +6,7 @@ use Rattle.fancy_pattern.specs.Naming.{pairs_in}
 use Rattle.fancy_pattern.specs.PatternViews.{opening_of, reference_of}
 use Rattle.fancy_pattern.specs.Reading.{point_of, ReadsTree}
 use Rattle.fancy_pattern.specs.Tokens.{Around, Group, IfPattern, IfLook}
+use Rattle.fancy_pattern.proofs.OneChars.{one_part, reference_chars}
 use Rattle.fancy_pattern.proofs.Points as points
 use Rattle.fancy_pattern.proofs.WhereStuck as stuck
 use Rattle.fancy_pattern.proofs.reader.Reader.+reading.Goals as goal
@@ -17,12 +18,12 @@ read_absent-returns-then-is_at_bar-clause-spells t c =
     points.expression_spelled (pairs_in c.args.names.now.pairs) (point_of c.args.self.now) (point_of c.read_branch.new.self) (point_of c.skip.new.self)
     (point_of c.read_last.new.self) (tree_of c.in_ok-absent.absent) (tree_of c.in_ok-exp.exp) _ c.in_ok-absent.ensures.spells
     (points.takes_at bar c.read_branch.new.self c.skip.new.self (sym c.is_at_bar.ensures.value ∙ c.if-is_at_bar.true) c.skip.ensures.skips)
-    c.in_ok-exp.ensures.spells c.in_ok-absent_expression.ensures
+    c.in_ok-exp.ensures.spells c.in_ok-absent_expression.ensures.made
 
 pub read_absent-returns-clause-spells : goal.read_absent-returns-clause-spells
 read_absent-returns-clause-spells t c =
     points.stopper_spelled (pairs_in c.args.names.now.pairs) (point_of c.args.self.now) (point_of c.read_branch.new.self) (point_of c.read_close.new.self)
-    (tree_of c.in_ok-absent.absent) _ c.in_ok-absent.ensures.spells c.in_ok-read_close.ensures.takes c.in_ok-stopper.ensures
+    (tree_of c.in_ok-absent.absent) _ c.in_ok-absent.ensures.spells c.in_ok-read_close.ensures.takes c.in_ok-stopper.ensures.made
 
 -- ---- alternatives
 
@@ -31,7 +32,7 @@ read_alternatives-returns-clause-spells t c =
     let s = c.in_ok-branches.ensures.spells in
     points.alternatives_spelled (pairs_in c.args.names.now.pairs) (point_of c.args.self.now) (point_of c.read_branch.new.self) (point_of c.read_bars.new.self)
     (tree_of c.in_ok-first.first) s.0 (map tree_of c.push.new.self.items) (map tree_of c.in_ok-branches.branches.items) _ c.in_ok-first.ensures.spells s.1
-    (points.one_given c.in_ok-first.first c.new-branches.result.items c.push.new.self.items c.new-branches.ensures.items c.in_ok-push.ensures.items) s.2 c.alternated.ensures
+    (points.one_given c.in_ok-first.first c.new-branches.result.items c.push.new.self.items c.new-branches.ensures.items c.in_ok-push.ensures.items) s.2 c.alternated.ensures.made
 
 pub read_bars-loop-self-init : goal.read_bars-loop-self-init
 read_bars-loop-self-init t c = points.bars_begin (pairs_in c.args.names.now.pairs) c.args.self.now c.args.given.items
@@ -42,7 +43,7 @@ read_bars-loop-self-preserved t c =
     c.loop-self.branches.items c.push.new.self.items c.in_ok-read_branch.field-0 c.loop-self.invariant
     (points.takes_at bar c.loop-self.self c.skip.new.self (sym c.is_at_bar.ensures.value ∙ c.loop-self-test.true) c.skip.ensures.skips)
     c.in_ok-read_branch.ensures.spells c.in_ok-push.ensures.items
-    (let a = c.skip.ensures.shorter in let b = c.in_ok-read_branch.ensures.shorter in omega (arith, a, b))
+    (let a = c.skip.ensures.shorter in let b = c.in_ok-read_branch.ensures.shorter in omega (arith, a, b)) c.in_ok-read_branch.ensures.one_char
 
 pub read_bars-returns-clause-spells : goal.read_bars-returns-clause-spells
 read_bars-returns-clause-spells t c =
@@ -53,7 +54,7 @@ pub read_branch-returns-clause-spells : goal.read_branch-returns-clause-spells
 read_branch-returns-clause-spells t c =
     let s = c.in_ok-pieces.ensures.spells in
     points.branch_spelled (pairs_in c.args.names.now.pairs) (point_of c.args.self.now) (point_of c.read_pieces.new.self) s.0
-    (map tree_of c.in_ok-pieces.pieces.items) _ s.1 s.2 c.joined.ensures
+    (map tree_of c.in_ok-pieces.pieces.items) _ s.1 s.2 c.joined.ensures.made
 
 -- ---- pieces
 
@@ -65,6 +66,7 @@ read_pieces-loop-self-preserved t c =
     points.pieces_next (pairs_in c.args.names.now.pairs) c.args.self.now c.loop-self.self c.read_piece.new.self c.loop-self.pieces.items
     c.push_some.new.pieces.items (tree_of c.in_ok-piece.piece) c.loop-self.invariant (sym c.is_branch_end.ensures ∙ c.loop-self-test.true)
     c.in_ok-piece.ensures.spells c.in_ok-push_some.ensures.pushed (let a = c.in_ok-piece.ensures.shorter in omega (arith, a))
+    (c.in_ok-push_some.ensures.one_char c.loop-self.invariant.one_char c.in_ok-piece.ensures.one_char)
 
 pub read_pieces-returns-clause-spells : goal.read_pieces-returns-clause-spells
 read_pieces-returns-clause-spells t c =
@@ -100,13 +102,13 @@ read_bodies-returns-then-is_at_bar-clause-spells t c =
     (point_of c.skip.new.self) (point_of c.read_last.new.self) (tree_of c.in_ok-true_branch.true_branch) (tree_of c.in_ok-false_branch.false_branch) _
     c.in_ok-true_branch.ensures.spells
     (points.takes_at bar c.read_branch.new.self c.skip.new.self (sym c.is_at_bar.ensures.value ∙ c.if-is_at_bar.true) c.skip.ensures.skips)
-    c.in_ok-false_branch.ensures.spells c.in_ok-conditional.ensures
+    c.in_ok-false_branch.ensures.spells c.in_ok-conditional.ensures.made
 
 pub read_bodies-returns-clause-spells : goal.read_bodies-returns-clause-spells
 read_bodies-returns-clause-spells t c =
     points.one_body_spelled (pairs_in c.args.names.now.pairs) (tree_of c.args.condition) (point_of c.args.self.now) (point_of c.read_branch.new.self)
     (point_of c.read_close.new.self) (tree_of c.in_ok-true_branch.true_branch) _ c.in_ok-true_branch.ensures.spells c.in_ok-read_close.ensures.takes
-    c.in_ok-conditional-2.ensures
+    c.in_ok-conditional-2.ensures.made
 
 pub read_if-returns-then-is_at_close-clause-spells : goal.read_if-returns-then-is_at_close-clause-spells
 read_if-returns-then-is_at_close-clause-spells t c =
@@ -127,7 +129,7 @@ read_opened-returns-in_ok-enclosed-in-Enclosing-clause-spells t c =
     (tree_of c.in_ok-enclosed-in-Enclosing.field-0))
     (sym c.in-Enclosing.is)
     (points.around_spelled (pairs_in c.args.names.now.pairs) c.in-Enclosing.enclosing (point_of c.args.self.now) (point_of c.read_last.new.self)
-    (tree_of c.in_ok-body-in-Enclosing.body) _ c.in_ok-body-in-Enclosing.ensures.spells c.in_ok-enclosed-in-Enclosing.ensures)
+    (tree_of c.in_ok-body-in-Enclosing.body) _ c.in_ok-body-in-Enclosing.ensures.spells c.in_ok-enclosed-in-Enclosing.ensures.made)
 
 pub read_opened-returns-in_ok-group-in-Group-clause-spells : goal.read_opened-returns-in_ok-group-in-Group-clause-spells
 read_opened-returns-in_ok-group-in-Group-clause-spells t c =
@@ -135,7 +137,7 @@ read_opened-returns-in_ok-group-in-Group-clause-spells t c =
     (tree_of c.in_ok-group-in-Group.field-0))
     (sym c.in-Group.is)
     (points.group_spelled (pairs_in c.args.names.now.pairs) c.in-Group.number (option_map (λ n. n.now) c.in-Group.name) (point_of c.args.self.now)
-    (point_of c.read_last-in-Group.new.self) (tree_of c.in_ok-body-in-Group.body) _ c.in_ok-body-in-Group.ensures.spells c.in_ok-group-in-Group.ensures)
+    (point_of c.read_last-in-Group.new.self) (tree_of c.in_ok-body-in-Group.body) _ c.in_ok-body-in-Group.ensures.spells c.in_ok-group-in-Group.ensures.made)
 
 pub read_opened-returns-in_ok-condition-in-IfPattern-clause-spells : goal.read_opened-returns-in_ok-condition-in-IfPattern-clause-spells
 read_opened-returns-in_ok-condition-in-IfPattern-clause-spells t c =
@@ -152,7 +154,7 @@ read_opened-returns-in_ok-condition-in-IfLook-clause-spells t c =
     (sym c.in-IfLook.is)
     (points.if_look_read (pairs_in c.args.names.now.pairs) (look_of c.in-IfLook.look) (tree_of c.in_ok-body-in-IfLook.body)
     (tree_of c.in_ok-condition-in-IfLook.condition) c.args.self.now c.read_last-in-IfLook.new.self c.read_bodies-in-IfLook.new.self
-    c.read_bodies-in-IfLook.result c.in_ok-body-in-IfLook.ensures.spells c.in_ok-condition-in-IfLook.ensures c.read_bodies-in-IfLook.ensures.spells)
+    c.read_bodies-in-IfLook.result c.in_ok-body-in-IfLook.ensures.spells c.in_ok-condition-in-IfLook.ensures.made c.read_bodies-in-IfLook.ensures.spells)
 
 -- ---- where they fail
 
@@ -292,7 +294,7 @@ pub read_opened-returns-in_ok-condition-in-IfLook-clause-fails : goal.read_opene
 read_opened-returns-in_ok-condition-in-IfLook-clause-fails t c =
     stuck.look_fails (pairs_in c.args.names.now.pairs) (look_of c.in-IfLook.look) (tree_of c.in_ok-body-in-IfLook.body)
     (tree_of c.in_ok-condition-in-IfLook.condition) (point_of c.args.self.now) (point_of c.read_last-in-IfLook.new.self) (opening_of c.args.opening) c.read_bodies-in-IfLook.result
-    (ap opening_of c.in-IfLook.is) c.in_ok-body-in-IfLook.ensures.spells c.in_ok-condition-in-IfLook.ensures c.read_bodies-in-IfLook.ensures.fails
+    (ap opening_of c.in-IfLook.is) c.in_ok-body-in-IfLook.ensures.spells c.in_ok-condition-in-IfLook.ensures.made c.read_bodies-in-IfLook.ensures.fails
 
 pub read_piece-returns-in_err-atom-clause-fails : goal.read_piece-returns-in_err-atom-clause-fails
 read_piece-returns-in_err-atom-clause-fails t c =
@@ -309,3 +311,24 @@ read_pieces-returns-in_err-piece-clause-fails t c =
     let p = err_from_is_err_and c.from_residual.result c.from_residual.ensures.1 in
     rw (p.1, p.2) (stuck.pieces_fail (pairs_in c.args.names.now.pairs) (point_of c.args.self.now) (point_of c.loop-self.self) c.loop-self.invariant.so_far _ c.loop-self.invariant.row
     (sym c.is_branch_end.ensures ∙ c.loop-self-test.true) c.in_err-piece.ensures.fails)
+
+-- ---- literals of one character
+
+pub read_alternatives-returns-clause-one_char : goal.read_alternatives-returns-clause-one_char
+read_alternatives-returns-clause-one_char t c =
+    c.alternated.ensures.one_char
+    (c.in_ok-branches.ensures.one_char
+    (one_part c.new-branches.result.items c.push.new.self.items c.in_ok-first.first c.new-branches.ensures.items c.in_ok-push.ensures.items
+    c.in_ok-first.ensures.one_char))
+
+pub read_bars-returns-clause-one_char : goal.read_bars-returns-clause-one_char
+read_bars-returns-clause-one_char t c = c.loop-self.invariant.one_char
+
+pub read_if-returns-then-is_at_close-clause-one_char : goal.read_if-returns-then-is_at_close-clause-one_char
+read_if-returns-then-is_at_close-clause-one_char t c =
+    reference_chars (pairs_in c.args.names.now.pairs) (reference_of c.args.found) c.in_ok-condition.condition c.in_ok-condition.ensures.made
+
+pub read_if-returns-clause-one_char : goal.read_if-returns-clause-one_char
+read_if-returns-clause-one_char t c =
+    c.read_bodies.ensures.one_char
+    (reference_chars (pairs_in c.args.names.now.pairs) (reference_of c.args.found) c.in_ok-condition.condition c.in_ok-condition.ensures.made)

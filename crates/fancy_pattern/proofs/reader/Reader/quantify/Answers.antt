@@ -12,7 +12,7 @@ returns-clause-spells c =
     (point_of c.take_suffix-suffix.new.self)
     c.args.quantifier c.args.greedy c.take_suffix-suffix.result (sym c.if-not-is_repeatable.ensures)
     (takes_next quantifier (c.args.quantifier, c.args.greedy) c.args.self.now c.skip.new.self c.requires.there c.skip.ensures.skips)
-    c.take_suffix-suffix.ensures.spells c.in_ok-suffixed.ensures
+    c.take_suffix-suffix.ensures.spells c.in_ok-suffixed.ensures.made
 
 pub returns-then-not-is_repeatable-clause-fails : goal.returns-then-not-is_repeatable-clause-fails
 returns-then-not-is_repeatable-clause-fails c = λ names.
