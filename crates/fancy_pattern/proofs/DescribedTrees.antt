@@ -1,5 +1,5 @@
 -- What comes with a tree that a pattern spells says of it what is so.
-use Rattle.std.proofs.Common.{◌≡◌, ℕ, zero, suc, ◌+◌, ◌<◌, ◌≤◌, Bool, true, false, ◌||◌, nat_eq, cond, List, [], ◌∷◌, ◌++◌, length, map, string_bytes, IsUtf8, filter_map, All, Contains, Some, IfSome, slice_index_or, refl, sym, ap, ◌∙◌, subst, arith, ltb, leb, ltb-true, le-leb}
+use Rattle.std.proofs.Common.{◌≡◌, ℕ, zero, suc, ◌<◌, ◌≤◌, Bool, true, false, ◌||◌, nat_eq, cond, List, [], ◌∷◌, length, map, string_bytes, IsUtf8, filter_map, All, Contains, Some, IfSome, slice_index_or, refl, sym, ap, ◌∙◌, subst, arith, ltb, leb, ltb-true, le-leb}
 use Rattle.std.specs.List.{list_any}
 use Rattle.std.specs.declared.cmp.Ordering.{Ordering}
 use Rattle.std.specs.declared.cmp.Ordering.TheVariants.{Less, Equal, Greater}
@@ -12,7 +12,7 @@ use Rattle.std.proofs.lemmas.Map.Views.{All-insert_key, Contains-from_any}
 use Rattle.std.proofs.lemmas.List.Folds.{list_any-append}
 use Rattle.std.proofs.lemmas.List.Elements.{filter_map-append, All-contains}
 use Rattle.fancy_meaning.specs.Tree.{Tree, Backref, BackrefWithLevel, SubroutineCall}
-use Rattle.fancy_meaning.specs.Nodes.{nodes, group_count}
+use Rattle.fancy_meaning.specs.Nodes.{nodes}
 use Rattle.fancy_meaning.specs.WellFormed.{IsFine, Has, refers, is_call, is_any_call, most_groups}
 use Rattle.fancy_expr.specs.declared.expr.ExprTree.{ExprTree}
 use Rattle.fancy_expr.specs.Views.{tree_of, absent_of}
@@ -32,7 +32,7 @@ use Rattle.fancy_pattern.specs.declared.options.ParseOptions.{ParseOptions}
 use Rattle.fancy_pattern.specs.Texts.{Text}
 use Rattle.fancy_pattern.specs.Tokens.{Placed}
 use Rattle.fancy_pattern.specs.Naming.{named_in}
-use Rattle.fancy_pattern.specs.Described.{referred_to, references, first_past, up_to, IsDescribed}
+use Rattle.fancy_pattern.specs.Described.{referred_to, references, first_past, up_to}
 use Rattle.fancy_pattern.specs.Spelling.{HasTokens, every_group, named_groups, IsTreeOf}
 use Rattle.fancy_pattern.proofs.FoundTokens.{FineBut, FineToken, opened_in, opened-counted, tokens_fine, groups_few}
 use Rattle.fancy_pattern.proofs.Counting.{spelled_groups}
@@ -69,7 +69,8 @@ unfolding mem
 others_kept [] g h there = absurd (true≢false (sym there))
 others_kept (k ∷ keys) g h there = by_order (nat_cmp g k) (others_kept keys g h)
   where
-    behind : (b : Bool) → (list_any (nat_eq h) keys ≡ true → list_any (nat_eq h) (insert_key nat_cmp keys g) ≡ true) → (b || list_any (nat_eq h) keys) ≡ true →
+    behind : (b : Bool) → (list_any (nat_eq h) keys ≡ true → list_any (nat_eq h) (insert_key nat_cmp keys g) ≡ true) → (b || list_any
+        (nat_eq h) keys) ≡ true →
         (b || list_any (nat_eq h) (insert_key nat_cmp keys g)) ≡ true
     behind true below t = refl
     behind false below t = below t
@@ -91,7 +92,8 @@ kept_up groups keys (g ∷ gs) h there = kept_up groups (cond (leb g groups) (in
 reached : (groups : ℕ) (keys gs : List ℕ) (h : ℕ) → mem h gs ≡ true → h ≤ groups → mem h (up_to groups keys gs) ≡ true
 unfolding mem
 reached groups keys [] h there le = absurd (true≢false (sym there))
-reached groups keys (g ∷ gs) h there le = by_same (nat_eq h g) refl (λ t. reached groups (cond (leb g groups) (insert_key nat_cmp keys g) keys) gs h t le) there
+reached groups keys (g ∷ gs) h there le = by_same (nat_eq h g) refl (λ t. reached groups (cond (leb g groups)
+    (insert_key nat_cmp keys g) keys) gs h t le) there
   where
     by_same : (b : Bool) → nat_eq h g ≡ b → (list_any (nat_eq h) gs ≡ true → mem h (up_to groups keys (g ∷ gs)) ≡ true) →
         (b || list_any (nat_eq h) gs) ≡ true → mem h (up_to groups keys (g ∷ gs)) ≡ true
@@ -174,7 +176,8 @@ well_formed_if_sound options text t is sound =
         calls = λ h. d.calls ∙ some_call whole h;
         no_calls = λ h. d.calls ∙ h;
         backrefs = λ g casei there le.
-            subst (λ keys. Contains keys g) (sym d.backrefs) (Contains-from_any (λ x y. eqb-true x y) g (up_to t.total_groups [] (references (tree_of t.expr)))
+            subst (λ keys. Contains keys g) (sym d.backrefs) (Contains-from_any (λ x y. eqb-true x y) g (up_to t.total_groups [] (references
+            (tree_of t.expr)))
             (reached t.total_groups [] (references (tree_of t.expr)) g (reference_there whole g casei there.0 (Backref g casei) there.1 there.2) le));
         only_references = λ g there.
             All-contains (λ g. list_any (refers g) whole ≡ true) (up_to t.total_groups [] (references (tree_of t.expr))) g

@@ -1,5 +1,5 @@
 -- What is spelled is fine, but for what its texts are.
-use Rattle.std.proofs.Common.{◌≡◌, ℕ, ℤ, ◌+◌, ◌<◌, Bool, true, false, not, cond, List, [], ◌∷◌, ◌++◌, length, map, reverse, filter, encode_utf8_all, Option, Some, None, IfSome, refl, sym, ap, ◌∙◌, subst, arith, append-nil}
+use Rattle.std.proofs.Common.{◌≡◌, ℕ, ℤ, ◌<◌, Bool, true, false, not, cond, List, [], ◌∷◌, ◌++◌, length, map, reverse, filter, encode_utf8_all, Option, Some, None, IfSome, refl, sym, subst, arith, append-nil}
 use Rattle.std.specs.Prelude.{FitsSigned}
 use Rattle.std.specs.Int.{w64}
 use Rattle.std.specs.Str.{bytes_eq}
@@ -18,10 +18,10 @@ use Rattle.fancy_pattern.specs.declared.tokens.Naming.TheVariants as naming
 use Rattle.fancy_pattern.specs.declared.tokens.Quantifier.{Quantifier}
 use Rattle.fancy_pattern.specs.declared.tokens.Suffix.{Suffix}
 use Rattle.fancy_pattern.specs.declared.tokens.Suffix.TheVariants.{Turned, Possessive}
-use Rattle.fancy_pattern.specs.Tokens.{Target, Name, Number, Nowhere, Reference, Opening, Around, Group, AbsentBar, If, IfPattern, IfLook, Token, Node, Refer, FlagsItem, Open, Bar, Close, Quantified, ClassOpen, ClassText, ClassClose, Broken, Placed}
-use Rattle.fancy_pattern.specs.Naming.{numbers_of, named_in, named_of, named_by, named_opening}
+use Rattle.fancy_pattern.specs.Tokens.{Target, Name, Number, Nowhere, Reference, Opening, Group, Token, Node, Refer, FlagsItem, Open, Quantified, Placed}
+use Rattle.fancy_pattern.specs.Naming.{numbers_of, named_in, named_of, named_opening}
 use Rattle.fancy_pattern.specs.Stuck.{Within, whole, past}
-use Rattle.fancy_pattern.specs.Grammar.{Names, Takes, named, unresolved, several, by_groups, by_target, reference, node_of, opening, bar, closing, class_open, class_of, quantifier, suffix, suffixed, enclosed, is_empty, joined, branch_of, alternated, SpellsClass, class_end, class_piece, SpellsSuffix, no_suffix, a_suffix, SpellsAtom, node, class, opened, SpellsOpened, around, group, stopper, expression, asked, if_group, if_pattern, if_look, SpellsBodies, one_body, two_bodies, SpellsPiece, plain, quantified, SpellsPieces, no_piece, piece, SpellsBranch, branch, SpellsBars, no_bar, barred, SpellsAlternatives, branches}
+use Rattle.fancy_pattern.specs.Grammar.{Names, Takes, named, unresolved, several, by_groups, by_target, reference, node_of, opening, class_of, quantifier, suffixed, enclosed, is_empty, joined, alternated, SpellsAtom, node, class, opened, SpellsOpened, around, group, stopper, expression, asked, if_group, if_pattern, if_look, SpellsBodies, one_body, two_bodies, SpellsPiece, plain, quantified, SpellsPieces, no_piece, piece, SpellsBranch, branch, SpellsBars, no_bar, barred, SpellsAlternatives, branches}
 use Rattle.fancy_pattern.proofs.Splits as splits
 use Rattle.fancy_pattern.proofs.FoundTokens.{FineToken, FineTarget, FineOpening, FineReference, FineCounts, FineBut}
 
@@ -49,7 +49,11 @@ numbers_fine (p ∷ ps) name h = by_test (bytes_eq name p.0) (numbers_fine ps na
     by_test true k = (h.0, k)
     by_test false k = k
 
-opening_names : (o : Opening) → FineOpening o → (o' : Option (List ℕ × ℕ)) → named_opening o ≡ o' → NamesFine (elim o' [ Some p ↦ (encode_utf8_all p.0, p.1) ∷ [] | None ↦ [] ])
+opening_names : (o : Opening) → FineOpening o → (o' : Option (List ℕ × ℕ)) → named_opening o ≡ o' → NamesFine (elim o' [
+  | Some p ↦
+      (encode_utf8_all p.0, p.1) ∷ []
+  | None ↦ []
+])
 opening_names o h None e = tt
 opening_names (Group number None) h (Some p) e = absurd (cc)
 opening_names (Group number (Some name)) h (Some p) e = let same : (name, number) ≡ p = cc in (subst (λ q. IsUsize q.1) same h, tt)
@@ -104,7 +108,8 @@ several_fine naming.Exists level g gs e h k is =
     same_fine _ e (alt_fine naming.Exists level (reverse (g ∷ gs)) (some_reversed g gs) (each_reverse (g ∷ gs) h) k) is
 several_fine naming.Call level g gs e h k is = absurd (cc)
 
-by_groups_fine : (n : Naming) (level : Option ℤ) (gs : List ℕ) (e : Tree) → Each IsUsize gs → IfSome level (FitsSigned w64) → by_groups n level gs ≡ Some e → AllFine e
+by_groups_fine : (n : Naming) (level : Option ℤ) (gs : List ℕ) (e : Tree) → Each IsUsize gs → IfSome level (FitsSigned w64) → by_groups n level gs ≡ Some e →
+    AllFine e
 by_groups_fine n level [] e h k is = same_fine _ e (unresolved_fine n) is
 by_groups_fine n level (g ∷ []) e h k is = same_fine _ e (named_fine n level g h.0 k) is
 by_groups_fine n level (g ∷ d ∷ gs) e h k is = several_fine n level g (d ∷ gs) e h k is
@@ -188,7 +193,8 @@ mutual
   atom_fine (class {casei = k} {text = text} t c) all fine = class_fine text k
   atom_fine (opened {o = o} t s) all fine = opened_fine s all (opening_fine t.first.token o (first_fine t fine) t.is) (within (splits.takes t) fine)
 
-  opened_fine : {names : Names} {o : Opening} {x y : List Placed} {e : Tree} → SpellsOpened names o x y e → NamesFine names → FineOpening o → Fine x → AllFine e
+  opened_fine : {names : Names} {o : Opening} {x y : List Placed} {e : Tree} → SpellsOpened names o x y e → NamesFine names → FineOpening o → Fine x →
+      AllFine e
   opened_fine (around {f = f} {e = e} a c) all o fine = enclosed_fine f e (alternatives_fine a all fine)
   opened_fine (group a c) all o fine = (tt, alternatives_fine a all fine)
   opened_fine (stopper b c) all o fine = (tt, branch_fine b all fine)

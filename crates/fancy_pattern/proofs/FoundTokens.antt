@@ -1,5 +1,5 @@
 -- The tokens of a pattern open groups only where they say so, and their counts are in order.
-use Rattle.std.proofs.Common.{◌≡◌, ℕ, ◌+◌, ◌-◌, ◌^◌, ◌<◌, ◌≤◌, Bool, true, false, not, cond, ◌&&◌, ◌||◌, List, [], ◌∷◌, ◌++◌, length, take, filter_map, codes, Option, Some, None, IfSome, Result, Ok, Err, refl, sym, ap, ◌∙◌, subst, arith, eqb, ltb, leb, ltb-true, leb-true}
+use Rattle.std.proofs.Common.{◌≡◌, ℕ, ◌+◌, ◌-◌, ◌^◌, ◌<◌, ◌≤◌, Bool, true, false, not, cond, ◌&&◌, ◌||◌, List, [], ◌∷◌, length, filter_map, codes, Option, Some, None, IfSome, Result, Ok, Err, refl, sym, ap, ◌∙◌, subst, arith, eqb, ltb, leb, ltb-true, leb-true}
 use Rattle.std.specs.Prelude.{ℤ, option_and_then, FitsSigned, pos, neg_ℤ}
 use Rattle.std.specs.Int.{w64}
 use borrow.Author.Differences.{fits_in, neg_is}
@@ -22,9 +22,9 @@ use Rattle.fancy_pattern.specs.declared.flags.Flags.{Flags}
 use Rattle.fancy_pattern.specs.declared.items.Lexing.{Lexing}
 use Rattle.fancy_pattern.specs.declared.tokens.Naming.{Naming}
 use Rattle.fancy_pattern.specs.declared.tokens.Quantifier.{Quantifier}
-use Rattle.fancy_pattern.specs.declared.tokens.Quantifier.TheVariants.{Star, Plus, Question, Counts}
+use Rattle.fancy_pattern.specs.declared.tokens.Quantifier.TheVariants.{Counts}
 use Rattle.fancy_pattern.specs.Texts.{Text, Read, fault_at, ◌>>=◌, past_word, past_run}
-use Rattle.fancy_pattern.specs.Tokens.{Target, Name, Number, Nowhere, Reference, If, Group, Opening, Placed, Token, Node, Refer, FlagsItem, Open, Bar, Close, Quantified, ClassOpen, ClassText, ClassClose, Broken, Item, item}
+use Rattle.fancy_pattern.specs.Tokens.{Target, Number, Nowhere, Reference, If, Group, Opening, Placed, Token, Node, Refer, Open, Close, Quantified, Item, item}
 use Rattle.fancy_pattern.specs.Numbers.{number_of, level_of, signed}
 use Rattle.fancy_pattern.specs.Quantifiers.{Written, is_empty, count_of, lo_of, hi_of, counts_of, counts_at, written_at}
 use Rattle.std.specs.Char.{is_ascii_digit, is_ascii_alphanumeric}
@@ -147,7 +147,8 @@ ReadNumber n = IsUsize n.0
 
 number_gives : (text : Text) → Gives ReadNumber (number_at text)
 unfolding number_at ReadNumber
-number_gives text = either (Gives ReadNumber) (eqb (length (take_while is_ascii_digit text)) 0) _ _ tt (by_number (number_of 10 (take_while is_ascii_digit text)) refl)
+number_gives text = either (Gives ReadNumber) (eqb (length (take_while is_ascii_digit text)) 0) _ _ tt (by_number (number_of 10
+    (take_while is_ascii_digit text)) refl)
   where
     by_number : (o : Option ℕ) → number_of 10 (take_while is_ascii_digit text) ≡ o → Gives ReadNumber (elim o [
       | None ↦ Err (fault_at InvalidBackref text)
@@ -346,10 +347,22 @@ own_fine : (casei : Bool) (c : ℕ) → HasTree (own_escape casei c)
 own_fine casei c = either HasTree (is_ascii_alphanumeric c) _ _ tt (refl, (tt, tt))
 
 literal_fine : (f : Flags) (c : ℕ) → HasTree (literal_escape f c)
-literal_fine f c = either HasTree (eqb c 97) _ _ (refl, (tt, tt)) (either HasTree (eqb c 101) _ _ (refl, (tt, tt)) (either HasTree (eqb c 102) _ _ (refl, (tt, tt)) (either HasTree (eqb c 110) _ _ (refl, (tt, tt)) (either HasTree (eqb c 114) _ _ (refl, (tt, tt)) (either HasTree (eqb c 116) _ _ (refl, (tt, tt)) (either HasTree (eqb c 118) _ _ (refl, (tt, tt)) (own_fine f.casei c)))))))
+literal_fine f c = either HasTree (eqb c 97) _ _ (refl, (tt, tt)) (either HasTree (eqb c 101) _ _ (refl, (tt, tt)) (either HasTree (eqb c 102) _ _ (
+  refl,
+  (tt, tt),
+) (either HasTree (eqb c 110) _ _ (refl, (tt, tt)) (either HasTree (eqb c 114) _ _ (refl, (tt, tt)) (either HasTree (eqb c 116) _ _ (
+  refl,
+  (tt, tt),
+) (either HasTree (eqb c 118) _ _ (refl, (tt, tt)) (own_fine f.casei c)))))))
 
 leaf_fine : (f : Flags) (c : ℕ) → HasTree (leaf_escape f c)
-leaf_fine f c = either HasTree (eqb c 65) _ _ (refl, (tt, tt)) (either HasTree (eqb c 122) _ _ (refl, (tt, tt)) (either HasTree (eqb c 90) _ _ (refl, (tt, tt)) (either HasTree (eqb c 66) _ _ (refl, (tt, tt)) (either HasTree (eqb c 60) _ _ (refl, (tt, tt)) (either HasTree (eqb c 62) _ _ (refl, (tt, tt)) (either HasTree (eqb c 71) _ _ (refl, (tt, tt)) (either HasTree (eqb c 75) _ _ (refl, (tt, tt)) (either HasTree (eqb c 82) _ _ (refl, (tt, tt)) (either HasTree (eqb c 79) _ _ (refl, (tt, tt)) (either HasTree (eqb c 78) _ _ (refl, (tt, tt)) (either HasTree (eqb c 104) _ _ (refl, (tt, tt)) (either HasTree (eqb c 72) _ _ (refl, (tt, tt)) (literal_fine f c)))))))))))))
+leaf_fine f c = either HasTree (eqb c 65) _ _ (refl, (tt, tt)) (either HasTree (eqb c 122) _ _ (refl, (tt, tt)) (either HasTree (eqb c 90) _ _ (
+  refl,
+  (tt, tt),
+) (either HasTree (eqb c 66) _ _ (refl, (tt, tt)) (either HasTree (eqb c 60) _ _ (refl, (tt, tt)) (either HasTree (eqb c 62) _ _ (refl, (tt, tt))
+    (either HasTree (eqb c 71) _ _ (refl, (tt, tt)) (either HasTree (eqb c 75) _ _ (refl, (tt, tt)) (either HasTree (eqb c 82) _ _ (refl, (tt, tt))
+    (either HasTree (eqb c 79) _ _ (refl, (tt, tt)) (either HasTree (eqb c 78) _ _ (refl, (tt, tt)) (either HasTree (eqb c 104) _ _ (refl, (tt, tt))
+    (either HasTree (eqb c 72) _ _ (refl, (tt, tt)) (literal_fine f c)))))))))))))
 
 numbered_fine : (f : Flags) (text : Text) → HasToken (numbered_at f text)
 unfolding numbered_at ReadNumber
@@ -358,7 +371,8 @@ numbered_fine f text = given_token (number_at text) _ (number_gives text) (λ n 
 other_escape_fine : (f : Flags) (c : ℕ) (text after : Text) → HasToken (other_escape_at f c text after)
 unfolding other_escape_at encode
 other_escape_fine f c text after =
-    either HasToken (is_set c) _ _ (refl, (tt, tt)) (either HasToken (is_ascii_digit c) _ _ (numbered_fine f text) (by_leaf (leaf_escape f c) (leaf_fine f c)))
+    either HasToken (is_set c) _ _ (refl, (tt, tt)) (either HasToken (is_ascii_digit c) _ _ (numbered_fine f text) (by_leaf (leaf_escape f c)
+    (leaf_fine f c)))
   where
     by_leaf : (o : Option Tree) → HasTree o → HasToken (elim o [ Some e ↦ Ok (Node e, after) | None ↦ Err (fault_at InvalidEscape text) ])
     by_leaf (Some e) h = h
@@ -380,7 +394,10 @@ escape_fine : (f : Flags) (opened : ℕ) (text : Text) → opened ≤ most_group
 unfolding escape_at
 escape_fine f opened [] h = tt
 escape_fine f opened (c ∷ cs) h =
-    either HasToken (eqb c 120) _ _ (code_fine f 2 cs) (either HasToken (eqb c 117) _ _ (code_fine f 4 cs) (either HasToken (eqb c 85) _ _ (code_fine f 8 cs) (either HasToken (eqb c 112) _ _ (set_fine f c cs) (either HasToken (eqb c 80) _ _ (set_fine f c cs) (either HasToken (eqb c 98) _ _ (refl, (tt, tt)) (either HasToken (eqb c 107) _ _ (refer_fine opened (naming.Backref f.casei) cs h) (either HasToken (eqb c 103) _ _ (refer_fine opened naming.Call cs h) (other_escape_fine f c (c ∷ cs) cs))))))))
+    either HasToken (eqb c 120) _ _ (code_fine f 2 cs) (either HasToken (eqb c 117) _ _ (code_fine f 4 cs) (either HasToken (eqb c 85) _ _ (code_fine f 8 cs)
+    (either HasToken (eqb c 112) _ _ (set_fine f c cs) (either HasToken (eqb c 80) _ _ (set_fine f c cs) (either HasToken (eqb c 98) _ _ (refl, (tt, tt))
+    (either HasToken (eqb c 107) _ _ (refer_fine opened (naming.Backref f.casei) cs h) (either HasToken (eqb c 103) _ _
+    (refer_fine opened naming.Call cs h) (other_escape_fine f c (c ∷ cs) cs))))))))
 
 named_group_fine : (f : Flags) (opened close : ℕ) (text : Text) → opened ≤ most_groups → HasItem (named_group_at f opened close text)
 unfolding named_group_at
@@ -404,7 +421,8 @@ HasPair p = FineToken p.0.token
 
 absent_fine : (f : Flags) (text : Text) → HasPair (absent_at f text)
 unfolding absent_at
-absent_fine f text = found HasPair (past_word (codes "|)") text) _ _ (λ rest. (refl, (tt, tt))) (found HasPair (past_word (codes "|") text) _ _ (λ rest. tt) tt)
+absent_fine f text = found HasPair (past_word (codes "|)") text) _ _ (λ rest. (refl, (tt, tt))) (found HasPair (past_word (codes "|") text) _ _
+    (λ rest. tt) tt)
 
 angle_fine : (f : Flags) (opened : ℕ) (text : Text) → opened ≤ most_groups → HasItem (angle_at f opened text)
 unfolding angle_at
@@ -415,7 +433,8 @@ python_fine : (f : Flags) (opened : ℕ) (text : Text) → opened ≤ most_group
 unfolding python_at
 python_fine f opened [] h = tt
 python_fine f opened (c ∷ cs) h =
-    either HasItem (eqb c 60) _ _ (named_group_fine f opened 62 cs h) (either HasItem (eqb c 61) _ _ (call_fine f (naming.Backref f.casei) cs) (either HasItem (eqb c 62) _ _ (call_fine f naming.Call cs) tt))
+    either HasItem (eqb c 60) _ _ (named_group_fine f opened 62 cs h) (either HasItem (eqb c 61) _ _ (call_fine f (naming.Backref f.casei) cs)
+    (either HasItem (eqb c 62) _ _ (call_fine f naming.Call cs) tt))
 
 flags_fine : (f : Flags) (text : Text) → HasItem (flags_item_at f text)
 unfolding flags_item_at
@@ -446,7 +465,8 @@ HasLevel None = Unit {0}
 condition_level : (text : Text) → HasLevel (condition_number_at text)
 unfolding condition_number_at ReadLevel
 condition_level text =
-    either HasLevel (eqb (length (take_while is_ascii_digit text)) 0) _ _ tt (by_level (level_at (past_run is_ascii_digit text)) (level_gives (past_run is_ascii_digit text)))
+    either HasLevel (eqb (length (take_while is_ascii_digit text)) 0) _ _ tt (by_level (level_at (past_run is_ascii_digit text)) (level_gives
+    (past_run is_ascii_digit text)))
   where
     by_rest : (o : Option Text) (l : Option ℤ) → IfSome l (FitsSigned w64) →
         HasLevel (option_and_then (λ rest. Some ((take_while is_ascii_digit text, l), rest)) o)
@@ -486,7 +506,11 @@ condition_fine f opened text h =
 other_question_fine : (f : Flags) (opened c : ℕ) (text after : Text) → opened ≤ most_groups → HasItem (other_question_at f opened c text after)
 unfolding other_question_at
 other_question_fine f opened c text after h =
-    either HasItem (eqb c 126) _ _ (absent_fine f after) (either HasItem (eqb c 60) _ _ (angle_fine f opened after h) (either HasItem (eqb c 39) _ _ (named_group_fine f opened 39 after h) (either HasItem (eqb c 80) _ _ (python_fine f opened after h) (either HasItem (eqb c 38) _ _ (call_fine f naming.Call after) (either HasItem (eqb c 40) _ _ (condition_fine f opened after h) (either HasItem (eqb c 35) _ _ tt (either HasItem (eqb c 45) _ _ (minus_fine f opened text after h) (either HasItem (eqb c 43) _ _ (numbered_call_fine f opened text h) (either HasItem (is_ascii_digit c) _ _ (numbered_call_fine f opened text h) (flags_fine f text))))))))))
+    either HasItem (eqb c 126) _ _ (absent_fine f after) (either HasItem (eqb c 60) _ _ (angle_fine f opened after h) (either HasItem (eqb c 39) _ _
+    (named_group_fine f opened 39 after h) (either HasItem (eqb c 80) _ _ (python_fine f opened after h) (either HasItem (eqb c 38) _ _
+    (call_fine f naming.Call after) (either HasItem (eqb c 40) _ _ (condition_fine f opened after h) (either HasItem (eqb c 35) _ _ tt (either HasItem
+    (eqb c 45) _ _ (minus_fine f opened text after h) (either HasItem (eqb c 43) _ _ (numbered_call_fine f opened text h) (either HasItem
+    (is_ascii_digit c) _ _ (numbered_call_fine f opened text h) (flags_fine f text))))))))))
 
 question_fine : (f : Flags) (opened : ℕ) (text : Text) → opened ≤ most_groups → HasItem (question_at f opened text)
 unfolding question_at
@@ -499,11 +523,16 @@ plain_fine f opened h = either FineOpening f.named_only _ _ tt (most_fits opened
 opening_fine : (f : Flags) (opened : ℕ) (text : Text) → opened ≤ most_groups → HasItem (opening_at f opened text)
 unfolding opening_at
 opening_fine f opened [] h = plain_fine f opened h
-opening_fine f opened (c ∷ cs) h = either HasItem (eqb c 63) _ _ (question_fine f opened cs h) (either HasItem (eqb c 42) _ _ (verb_fine f cs) (plain_fine f opened h))
+opening_fine f opened (c ∷ cs) h = either HasItem (eqb c 63) _ _ (question_fine f opened cs h) (either HasItem (eqb c 42) _ _ (verb_fine f cs)
+    (plain_fine f opened h))
 
 sign_fine : (f : Flags) (c : ℕ) → HasOption (sign_token f c)
 sign_fine f c =
-    either HasOption (eqb c 46) _ _ (either LeafTree f.dot_all (tree.Any true false) (tree.Any false f.crlf) (refl, (tt, tt)) (refl, (tt, tt))) (either HasOption (eqb c 94) _ _ (by_start f.multi_line) (either HasOption (eqb c 36) _ _ (either LeafTree f.multi_line (tree.Assert tree.NoLook (tree.EndLine f.crlf)) (tree.Assert tree.NoLook tree.EndText) (refl, (tt, tt)) (refl, (tt, tt))) (either HasOption (eqb c 124) _ _ tt (either HasOption (eqb c 41) _ _ tt (either HasOption (eqb c 42) _ _ (omega arith, tt) (either HasOption (eqb c 43) _ _ (omega arith, tt) (either HasOption (eqb c 63) _ _ (omega arith, (omega arith, omega arith)) (either HasOption (eqb c 91) _ _ tt tt))))))))
+    either HasOption (eqb c 46) _ _ (either LeafTree f.dot_all (tree.Any true false) (tree.Any false f.crlf) (refl, (tt, tt)) (refl, (tt, tt)))
+    (either HasOption (eqb c 94) _ _ (by_start f.multi_line) (either HasOption (eqb c 36) _ _ (either LeafTree f.multi_line (tree.Assert tree.NoLook
+    (tree.EndLine f.crlf)) (tree.Assert tree.NoLook tree.EndText) (refl, (tt, tt)) (refl, (tt, tt))) (either HasOption (eqb c 124) _ _ tt
+    (either HasOption (eqb c 41) _ _ tt (either HasOption (eqb c 42) _ _ (omega arith, tt) (either HasOption (eqb c 43) _ _ (omega arith, tt)
+    (either HasOption (eqb c 63) _ _ (omega arith, (omega arith, omega arith)) (either HasOption (eqb c 91) _ _ tt tt))))))))
   where
     by_start : (b : Bool) → LeafTree (cond (not b) (tree.Assert tree.NoLook tree.StartText)
         (cond f.oniguruma (tree.Assert tree.NoLook (tree.StartLineOniguruma f.crlf)) (tree.Assert tree.NoLook (tree.StartLine f.crlf))))
@@ -525,7 +554,8 @@ item_fine f opened (c ∷ cs) h = by_sign (sign_token f c) (sign_fine f c)
     others : HasItem (cond (eqb c 40) (opening_at f opened cs) (cond (eqb c 92) (escape_at f opened cs >>= λ t. Ok (item f t.0, t.1))
         (cond (eqb c 123) (brace_at f (c ∷ cs) cs >>= λ t. Ok (item f t.0, t.1)) (Ok (item f (Node (tree.Literal c f.casei)), cs)))))
     others =
-        either HasItem (eqb c 40) _ _ (opening_fine f opened cs h) (either HasItem (eqb c 92) _ _ (as_item f (escape_at f opened cs) (escape_fine f opened cs h)) (either HasItem (eqb c 123) _ _ (as_item f (brace_at f (c ∷ cs) cs) (brace_fine f (c ∷ cs) cs)) (refl, (tt, tt))))
+        either HasItem (eqb c 40) _ _ (opening_fine f opened cs h) (either HasItem (eqb c 92) _ _ (as_item f (escape_at f opened cs)
+        (escape_fine f opened cs h)) (either HasItem (eqb c 123) _ _ (as_item f (brace_at f (c ∷ cs) cs) (brace_fine f (c ∷ cs) cs)) (refl, (tt, tt))))
 
     by_sign : (o : Option Token) → HasOption o → HasItem (elim o [
       | Some t ↦ Ok (item f t, cs)
@@ -599,7 +629,8 @@ class_item_fine : (place : ClassPlace) (text : Text) → HasClass (class_item_at
 unfolding class_item_at
 class_item_fine place [] = tt
 class_item_fine place (c ∷ cs) =
-    either HasClass (eqb c 92) _ _ (escaped_fine place (class_escape_at cs)) (either HasClass (eqb c 91) _ _ (tt, refl) (either HasClass (eqb c 93) _ _ (bracket_fine place) (either HasClass (eqb c 94) _ _ (tt, refl) ((tt, refl)))))
+    either HasClass (eqb c 92) _ _ (escaped_fine place (class_escape_at cs)) (either HasClass (eqb c 91) _ _ (tt, refl) (either HasClass (eqb c 93) _ _
+    (bracket_fine place) (either HasClass (eqb c 94) _ _ (tt, refl) ((tt, refl)))))
 
 within_fine : (now : Lexing) (text : Text) → now.opened ≤ most_groups → HasFound now (within_at now text)
 unfolding within_at
@@ -646,7 +677,8 @@ opened_in (p ∷ ps) = opened_by p.token + opened_in ps
 
 pub opened-counted : (ts : List Placed) → opened_in ts ≡ count_by (λ p. opens_group p.token) ts
 unfolding opened_in
-opened-counted ts = is_count_by opened_in (λ p. opens_group p.token) refl (λ p ps. by_test (opens_group p.token) (opened_in ps) (sym (opened_once p.token))) ts
+opened-counted ts = is_count_by opened_in (λ p. opens_group p.token) refl (λ p ps. by_test (opens_group p.token) (opened_in ps) (sym
+    (opened_once p.token))) ts
   where
     by_test : (b : Bool) (n : ℕ) {k : ℕ} → k ≡ cond b 1 0 → k + n ≡ cond b (1 + n) n
     by_test true n e = omega (arith, e)

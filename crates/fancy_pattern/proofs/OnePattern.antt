@@ -60,7 +60,8 @@ fault_same : {f g : Fault} {r : Result (Found × Text) Fault} → r ≡ Err f �
 fault_same {f} {g} p q = let e : ◌≡◌ {A = Result (Found × Text) Fault} (Err f) (Err g) = sym p ∙ q in cc
 
 -- a token is no gap, and nothing is no token
-gap_or_token : {G : Type 0} {s : State} {text after : Text} → s.now.class.depth ≡ 0 → gap_at s.now.flags.ignore_whitespace text ≡ Some after → IsAtToken s text → G
+gap_or_token : {G : Type 0} {s : State} {text after : Text} → s.now.class.depth ≡ 0 → gap_at s.now.flags.ignore_whitespace text ≡ Some after →
+    IsAtToken s text → G
 gap_or_token outside is at = let e = sym (at.no_gap outside) ∙ is in absurd (cc)
 
 ended_or_token : {G : Type 0} {s : State} → s.now.class.depth ≡ 0 → IsAtToken s [] → G

@@ -47,7 +47,8 @@ not_there o e = ap gives_some e
 
 -- ---- pieces
 
-pub by_quantifier : (e r : Tree) (x y z : List Placed) (q : Quantifier) (g : Bool) (s : Option Suffix) → is_repeatable e ≡ true → Takes quantifier x (q, g) y →
+pub by_quantifier : (e r : Tree) (x y z : List Placed) (q : Quantifier) (g : Bool) (s : Option Suffix) → is_repeatable e ≡ true → Takes quantifier x
+    (q, g) y →
     SpellsSuffix y z s → r ≡ suffixed q g s e → Quantifies e x z r
 by_quantifier e r x y z q g s may t more is = subst (Quantifies e x z) (sym is) (by may t more)
 
@@ -69,7 +70,8 @@ alternatives_spelled names x y z e es given made r s more one are is =
 
 -- ---- atoms
 
-pub atom_opened : (names : Names) (old mid new : Reader) (o : Opening) (r : Result Expr Failure) → first_gives opening (point_of old) ≡ Some o → Skips old mid →
+pub atom_opened : (names : Names) (old mid new : Reader) (o : Opening) (r : Result Expr Failure) → first_gives opening (point_of old) ≡ Some o →
+    Skips old mid →
     ReadsTree (SpellsOpened names o) mid new r → ReadsTree (SpellsAtom names) old new r
 atom_opened names old mid new o (Ok e) is s h = opened (takes_next opening o old mid is s) h
 atom_opened names old mid new o (Err f) is s h = tt
@@ -147,7 +149,14 @@ pub record PiecesRead (names : Names) (start now : Reader) (made : List Expr) : 
   pub shorter : length now.rest.now ≤ length start.rest.now
 
 pub pieces_begin : (names : Names) (r : Reader) (made : List Expr) → made ≡ [] → PiecesRead names r r made
-pieces_begin names r made none = record { so_far = []; are = ap (map tree_of) none; row = none_read; one_char = no_parts made none; spelled = λ z more s. s; shorter = omega arith }
+pieces_begin names r made none = record {
+  so_far = [];
+  are = ap (map tree_of) none;
+  row = none_read;
+  one_char = no_parts made none;
+  spelled = λ z more s. s;
+  shorter = omega arith;
+}
 
 filtered : (es : List Tree) (e : Tree) → filter (λ x. not (is_empty x)) (es ++ e ∷ []) ≡ filter (λ x. not (is_empty x)) es ++ some_of e
 filtered [] e = by_test (is_empty e)
@@ -194,7 +203,14 @@ pub record BarsRead (names : Names) (start now : Reader) (given made : List Expr
   pub shorter : length now.rest.now ≤ length start.rest.now
 
 pub bars_begin : (names : Names) (r : Reader) (given : List Expr) → BarsRead names r r given given
-bars_begin names r given = record { so_far = []; are = sym (append-nil (map tree_of given)); row = none_barred; one_char = λ h. h; spelled = λ z more s. s; shorter = omega arith }
+bars_begin names r given = record {
+  so_far = [];
+  are = sym (append-nil (map tree_of given));
+  row = none_barred;
+  one_char = λ h. h;
+  spelled = λ z more s. s;
+  shorter = omega arith;
+}
 
 pub bars_next : (names : Names) (start old mid new : Reader) (given made more_made : List Expr) (e : Expr) → BarsRead names start old given made →
     Takes bar (point_of old) tt (point_of mid) → SpellsBranch names (point_of mid) (point_of new) (tree_of e) → more_made ≡ made ++ e ∷ [] →
@@ -252,7 +268,8 @@ class_next start old new text more_text added r t is shorter = record {
   shorter = let a = r.shorter in omega (arith, a, shorter);
 }
 
-pub class_done : (start old new : Reader) (text whole : List ℕ) (casei : Bool) → ClassRead start old text → Takes class_close (point_of old) tt (point_of new) →
+pub class_done : (start old new : Reader) (text whole : List ℕ) (casei : Bool) → ClassRead start old text → Takes class_close (point_of old) tt
+    (point_of new) →
     whole ≡ text ++ encode_utf8 93 →
     (t : List ℕ) × SpellsClass (point_of start) (point_of new) t × (tree.Delegate whole casei ≡ class_of t casei)
 class_done start old new text whole casei r t is = (

@@ -87,7 +87,8 @@ told_fault options text f r is h = subst (IsError options text) (sym is) (f.left
 
 -- ---- what is spelled is read
 
-pub reads_of : (options : ParseOptions) (text : Text) (r : Result ExprTree PatternError) → MatchResult r (λ t. IsTreeOf options text t × IsWellFormedTree t) (IsError options text) →
+pub reads_of : (options : ParseOptions) (text : Text) (r : Result ExprTree PatternError) → MatchResult r (λ t. IsTreeOf options text t × IsWellFormedTree t)
+    (IsError options text) →
     (e : Tree) → Spells options text e → MatchResult r (λ t. tree_of t.expr ≡ e) (λ error. error ≡ Memory)
 reads_of options text (Ok t) h e s = one_tree options text (tree_of t.expr) e h.0.spells s
 reads_of options text (Err (Parse at kind)) h e s =

@@ -485,7 +485,8 @@ absent_halves names = record {
   parts = parts_of;
 }
   where
-    parts_of : {x z : List Placed} {w : Tree} → SpellsOpened names AbsentBar x z w → (y : List Placed) × (t : Tree) × SpellsBranch names x y t × Tail names y z
+    parts_of : {x z : List Placed} {w : Tree} → SpellsOpened names AbsentBar x z w → (y : List Placed) ×
+        (t : Tree) × SpellsBranch names x y t × Tail names y z
     parts_of (stopper b k) = (_, _, b, closes k)
     parts_of (expression {e = e} b k a c) = (_, _, b, splits_off k (_, a, c))
 
@@ -533,7 +534,8 @@ pub around_of_last : (names : Names) (g : Enclosing) (x : List Placed) (e : Fail
     FailsOpened names (Around g) x e
 around_of_last names g x (failure.Fault f) s = behind (stuck_first [] (λ z end. end) part_of (λ x' z u end l. (_, around l.1 l.2)) s)
   where
-    part_of : (x' z : List Placed) (w : Tree) → SameFirst x x' → SpellsOpened names (Around g) x' z w → (y : List Placed) × (u : Tree) × SpellsLast names x' y u
+    part_of : (x' z : List Placed) (w : Tree) → SameFirst x x' → SpellsOpened names (Around g) x' z w → (y : List Placed) ×
+        (u : Tree) × SpellsLast names x' y u
     part_of x' z w same (around a c) = (_, _, (_, a, c))
 around_of_last names g x failure.Memory s = tt
 
@@ -556,7 +558,8 @@ unfolding close_token
 pattern_of_last names x (failure.Fault f) s =
     behind (stuck_first (close_token ∷ []) (λ z end. refl) part_of (λ x' z u end l. (_, if_pattern l.1 l.2 (empty_body names u z).1)) s)
   where
-    part_of : (x' z : List Placed) (w : Tree) → SameFirst x x' → SpellsOpened names IfPattern x' z w → (y : List Placed) × (u : Tree) × SpellsLast names x' y u
+    part_of : (x' z : List Placed) (w : Tree) → SameFirst x x' → SpellsOpened names IfPattern x' z w → (y : List Placed) ×
+        (u : Tree) × SpellsLast names x' y u
     part_of x' z w same (if_pattern a c b) = (_, _, (_, a, c))
 pattern_of_last names x failure.Memory s = tt
 
@@ -566,7 +569,8 @@ unfolding close_token
 look_of_last names k x (failure.Fault f) s =
     behind (stuck_first (close_token ∷ []) (λ z end. refl) part_of (λ x' z u end l. (_, if_look l.1 l.2 (empty_body names (tree.LookAround k u) z).1)) s)
   where
-    part_of : (x' z : List Placed) (w : Tree) → SameFirst x x' → SpellsOpened names (IfLook k) x' z w → (y : List Placed) × (u : Tree) × SpellsLast names x' y u
+    part_of : (x' z : List Placed) (w : Tree) → SameFirst x x' → SpellsOpened names (IfLook k) x' z w → (y : List Placed) ×
+        (u : Tree) × SpellsLast names x' y u
     part_of x' z w same (if_look a c b) = (_, _, (_, a, c))
 look_of_last names k x failure.Memory s = tt
 
@@ -617,13 +621,16 @@ close_ends (p ∷ ps) h = let e = ended (p ∷ ps) h in (e.ends, e.bar)
 
 pub if_of_bodies : (names : Names) (r : Reference) (c : Tree) (x : List Placed) (e : Failure) → reference names r ≡ Some c → is_at closing x ≡ false →
     Fails names anything (SpellsBodies names c) x e → FailsOpened names (If r) x e
-if_of_bodies names r c x (failure.Fault f) is lacks s = behind (stuck_first [] (λ z end. end) part_of (λ x' z u end b. whole_of x' z u b (is_at closing x') refl) s)
+if_of_bodies names r c x (failure.Fault f) is lacks s = behind (stuck_first [] (λ z end. end) part_of (λ x' z u end b. whole_of x' z u b
+    (is_at closing x') refl) s)
   where
-    part_of : (x' z : List Placed) (w : Tree) → SameFirst x x' → SpellsOpened names (If r) x' z w → (y : List Placed) × (u : Tree) × SpellsBodies names c x' y u
+    part_of : (x' z : List Placed) (w : Tree) → SameFirst x x' → SpellsOpened names (If r) x' z w → (y : List Placed) ×
+        (u : Tree) × SpellsBodies names c x' y u
     part_of x' z w same (asked q k) = there_or_not refl (sym (at_same closing same) ∙ lacks) k
     part_of x' z w same (if_group q h b) = (z, w, of_condition (some_same is q) b)
 
-    whole_of : (x' z : List Placed) (u : Tree) → SpellsBodies names c x' z u → (b : Bool) → is_at closing x' ≡ b → (w : Tree) × SpellsOpened names (If r) x' z w
+    whole_of : (x' z : List Placed) (u : Tree) → SpellsBodies names c x' z u → (b : Bool) → is_at closing x' ≡ b → (w : Tree) × SpellsOpened names
+        (If r) x' z w
     whole_of x' z u b true at = let e = close_ends x' at in (c, asked is (closed_bodies e.0 e.1 b))
     whole_of x' z u b false at = (u, if_group is at b)
 if_of_bodies names r c x failure.Memory is lacks s = tt

@@ -1,4 +1,5 @@
--- Where a fault is: the first token, or the end, that no pattern goes on with. The names are those of the whole pattern.
+-- Where a fault is: the first token, or the end, that no pattern goes on with. The names are those of the whole
+-- pattern.
 use Rattle.std.specs.Prelude.{◌≡◌, List, [], ◌∷◌, ◌++◌, Option, Some, None}
 use Rattle.fancy_meaning.specs.Tree.{Tree}
 use Rattle.fancy_pattern.specs.declared.error.ErrorKind.{ErrorKind}

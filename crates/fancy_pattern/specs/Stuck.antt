@@ -38,8 +38,8 @@ anything ps = true
 
 -- From x on nothing of this kind is spelled: the first token of `rest` cannot stand, whatever follows it, while what
 -- stands before it is spelled with these in place of the rest.
-pub record Stuck {V : Type 0} (names : Names) (starts : List Placed → Bool) (spells : List Placed → List Placed → V → Type 0)
-    (x : List Placed) (f : Fault) : Type 0 where
+pub record Stuck {V : Type 0} (names : Names) (starts : List Placed → Bool)
+    (spells : List Placed → List Placed → V → Type 0) (x : List Placed) (f : Fault) : Type 0 where
   pub rest : List Placed
   pub within : Within rest x
   pub place : IsPlace names f rest
@@ -48,7 +48,8 @@ pub record Stuck {V : Type 0} (names : Names) (starts : List Placed → Bool) (s
   pub goes : (x' z : List Placed) → is_end z ≡ true → Alike rest (more ++ z) x x' → (v : V) × spells x' z v
   pub fits : (z : List Placed) → is_end z ≡ true → length rest ≡ length x → starts (more ++ z) ≡ true
 
-abbrev pub Fails : {V : Type 0} → Names → (List Placed → Bool) → (List Placed → List Placed → V → Type 0) → List Placed → Failure → Type 0
+abbrev pub Fails : {V : Type 0} → Names → (List Placed → Bool) → (List Placed → List Placed → V → Type 0) →
+    List Placed → Failure → Type 0
 Fails names starts spells x (failure.Fault f) = Stuck names starts spells x f
 Fails names starts spells x failure.Memory = Unit {0}
 

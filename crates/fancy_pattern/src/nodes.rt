@@ -309,7 +309,8 @@ pub(crate) fn stopper(alloc: Global, e: Expr) -> Result<Expr, AllocError>
 }
 
 pub(crate) fn absent_expression(alloc: Global, absent: Expr, exp: Expr) -> Result<Expr, AllocError>
-    ensures made { IfOk result (λ r. tree_of r ≡ tree.AbsentExpression (tree_of absent) (tree_of exp)) }
+    ensures made { IfOk result (λ r. tree_of r
+        ≡ tree.AbsentExpression (tree_of absent) (tree_of exp)) }
     ensures one_char { OneCharEach absent → OneCharEach exp → IfOk result OneCharEach }
 {
     let absent = Box::new(alloc, absent)?;
@@ -394,7 +395,8 @@ pub(crate) fn suffixed(
     greedy: bool,
     suffix: Option<Suffix>,
 ) -> Result<Expr, AllocError>
-    ensures made { IfOk result (λ r. tree_of r ≡ grammar.suffixed quantifier greedy suffix (tree_of e)) }
+    ensures made { IfOk result (λ r. tree_of r
+        ≡ grammar.suffixed quantifier greedy suffix (tree_of e)) }
     ensures one_char { OneCharEach e → IfOk result OneCharEach }
 {
     match suffix {

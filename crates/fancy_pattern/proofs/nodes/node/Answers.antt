@@ -14,4 +14,5 @@ returns-in_err-reference-in-Refer-clause-fails c =
 
 pub returns-in_ok-reference-in-Refer-clause-one_char : goal.returns-in_ok-reference-in-Refer-clause-one_char
 returns-in_ok-reference-in-Refer-clause-one_char c =
-    reference_chars (pairs_in c.args.names.now.pairs) (reference_of c.in-Refer.found) c.in_ok-reference-in-Refer.field-0 c.in_ok-reference-in-Refer.ensures.made
+    reference_chars (pairs_in c.args.names.now.pairs) (reference_of c.in-Refer.found) c.in_ok-reference-in-Refer.field-0
+    c.in_ok-reference-in-Refer.ensures.made

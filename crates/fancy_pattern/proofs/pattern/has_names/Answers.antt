@@ -5,12 +5,14 @@ use Rattle.fancy_pattern.proofs.pattern.has_names.Goals as goal
 
 pub returns-then-opens_named : goal.returns-then-opens_named
 returns-then-opens_named c =
-    tested_found (λ p. opens_named p.token) c.args.tokens.now c.loop-placed.placed-index _ _ c.loop-placed-test.true (sym c.opens_named.ensures ∙ c.if-opens_named.true)
+    tested_found (λ p. opens_named p.token) c.args.tokens.now c.loop-placed.placed-index _ _ c.loop-placed-test.true
+    (sym c.opens_named.ensures ∙ c.if-opens_named.true)
     c.loop-placed.invariant
 
 pub loop-placed-preserved : goal.loop-placed-preserved
 loop-placed-preserved c =
-    tested_more (λ p. opens_named p.token) c.args.tokens.now c.loop-placed.placed-index _ _ c.loop-placed-test.true (sym c.opens_named.ensures ∙ c.if-opens_named.false)
+    tested_more (λ p. opens_named p.token) c.args.tokens.now c.loop-placed.placed-index _ _ c.loop-placed-test.true
+    (sym c.opens_named.ensures ∙ c.if-opens_named.false)
     c.loop-placed.invariant
 
 pub returns : goal.returns

@@ -5,12 +5,14 @@ use Rattle.fancy_pattern.proofs.pattern.has_numbers.Goals as goal
 
 pub returns-then-names_number : goal.returns-then-names_number
 returns-then-names_number c =
-    tested_found (λ p. names_number p.token) c.args.tokens.now c.loop-placed.placed-index _ _ c.loop-placed-test.true (sym c.names_number.ensures ∙ c.if-names_number.true)
+    tested_found (λ p. names_number p.token) c.args.tokens.now c.loop-placed.placed-index _ _ c.loop-placed-test.true
+    (sym c.names_number.ensures ∙ c.if-names_number.true)
     c.loop-placed.invariant
 
 pub loop-placed-preserved : goal.loop-placed-preserved
 loop-placed-preserved c =
-    tested_more (λ p. names_number p.token) c.args.tokens.now c.loop-placed.placed-index _ _ c.loop-placed-test.true (sym c.names_number.ensures ∙ c.if-names_number.false)
+    tested_more (λ p. names_number p.token) c.args.tokens.now c.loop-placed.placed-index _ _ c.loop-placed-test.true
+    (sym c.names_number.ensures ∙ c.if-names_number.false)
     c.loop-placed.invariant
 
 pub returns : goal.returns

@@ -6,11 +6,13 @@ use Rattle.fancy_pattern.proofs.pattern.parse_tree.Goals as goal
 
 pub told-requires : goal.told-requires
 told-requires c =
-    pattern_fits c.args.pattern.now c.deref-in-Err.result.now c.in_ok-chars.chars.items c.utf8.pattern c.deref-in-Err.ensures.value c.in_ok-chars.ensures (omega arith)
+    pattern_fits c.args.pattern.now c.deref-in-Err.result.now c.in_ok-chars.chars.items c.utf8.pattern c.deref-in-Err.ensures.value c.in_ok-chars.ensures
+    (omega arith)
 
 pub returns-in-Ok-clause-answer : goal.returns-in-Ok-clause-answer
 returns-in-Ok-clause-answer c =
-    subst (λ text. IsTreeOf c.args.options text c.in-Ok.tree × IsWellFormedTree c.in-Ok.tree) (c.deref.ensures.value ∙ c.in_ok-chars.ensures) c.in-Ok.ensures.made
+    subst (λ text. IsTreeOf c.args.options text c.in-Ok.tree × IsWellFormedTree c.in-Ok.tree)
+    (c.deref.ensures.value ∙ c.in_ok-chars.ensures) c.in-Ok.ensures.made
 
 pub returns-in-Ok-clause-reads : goal.returns-in-Ok-clause-reads
 returns-in-Ok-clause-reads c = reads_of c.args.options (chars c.args.pattern.now) (Ok c.in-Ok.tree) (returns-in-Ok-clause-answer c)

@@ -32,7 +32,8 @@ read_alternatives-returns-clause-spells t c =
     let s = c.in_ok-branches.ensures.spells in
     points.alternatives_spelled (pairs_in c.args.names.now.pairs) (point_of c.args.self.now) (point_of c.read_branch.new.self) (point_of c.read_bars.new.self)
     (tree_of c.in_ok-first.first) s.0 (map tree_of c.push.new.self.items) (map tree_of c.in_ok-branches.branches.items) _ c.in_ok-first.ensures.spells s.1
-    (points.one_given c.in_ok-first.first c.new-branches.result.items c.push.new.self.items c.new-branches.ensures.items c.in_ok-push.ensures.items) s.2 c.alternated.ensures.made
+    (points.one_given c.in_ok-first.first c.new-branches.result.items c.push.new.self.items c.new-branches.ensures.items c.in_ok-push.ensures.items) s.2
+    c.alternated.ensures.made
 
 pub read_bars-loop-self-init : goal.read_bars-loop-self-init
 read_bars-loop-self-init t c = points.bars_begin (pairs_in c.args.names.now.pairs) c.args.self.now c.args.given.items
@@ -88,7 +89,8 @@ read_atom-returns-in-Some-clause-spells t c =
 pub read_atom-returns-in-Some-next_class-clause-spells : goal.read_atom-returns-in-Some-next_class-clause-spells
 read_atom-returns-in-Some-next_class-clause-spells t c =
     points.atom_class (pairs_in c.args.names.now.pairs) c.args.self.now c.skip-in-Some-next_class.new.self c.read_class.new.self
-    c.in-Some-next_class.casei c.read_class.result (sym c.in-Some-next_class.ensures.value) c.skip-in-Some-next_class.ensures.skips c.read_class.ensures.spells
+    c.in-Some-next_class.casei c.read_class.result (sym c.in-Some-next_class.ensures.value) c.skip-in-Some-next_class.ensures.skips
+    c.read_class.ensures.spells
 
 pub read_atom-returns-clause-spells : goal.read_atom-returns-clause-spells
 read_atom-returns-clause-spells t c =
@@ -166,7 +168,8 @@ read_absent-returns-in_err-absent-clause-fails t c =
 pub read_absent-returns-in_err-exp-clause-fails : goal.read_absent-returns-in_err-exp-clause-fails
 read_absent-returns-in_err-exp-clause-fails t c =
     let p = err_from_is_err_and c.from_residual-in_err-exp.result c.from_residual-in_err-exp.ensures.1 in
-    rw (p.1, p.2) (stuck.absent_of_last (pairs_in c.args.names.now.pairs) (point_of c.args.self.now) (point_of c.read_branch.new.self) (point_of c.skip.new.self) (tree_of c.in_ok-absent.absent) _
+    rw (p.1, p.2) (stuck.absent_of_last (pairs_in c.args.names.now.pairs) (point_of c.args.self.now) (point_of c.read_branch.new.self)
+    (point_of c.skip.new.self) (tree_of c.in_ok-absent.absent) _
     c.in_ok-absent.ensures.spells
     (points.takes_at bar c.read_branch.new.self c.skip.new.self (sym c.is_at_bar.ensures.value ∙ c.if-is_at_bar.true) c.skip.ensures.skips)
     c.in_err-exp.ensures.fails)
@@ -174,7 +177,8 @@ read_absent-returns-in_err-exp-clause-fails t c =
 pub read_absent-returns-in_err-read_close-clause-fails : goal.read_absent-returns-in_err-read_close-clause-fails
 read_absent-returns-in_err-read_close-clause-fails t c =
     let p = err_from_is_err_and c.from_residual-in_err-read_close.result c.from_residual-in_err-read_close.ensures.1 in
-    rw (p.1, p.2) (stuck.absent_of_close (pairs_in c.args.names.now.pairs) (point_of c.args.self.now) (point_of c.read_branch.new.self) (tree_of c.in_ok-absent.absent) _ c.in_ok-absent.ensures.spells
+    rw (p.1, p.2) (stuck.absent_of_close (pairs_in c.args.names.now.pairs) (point_of c.args.self.now) (point_of c.read_branch.new.self)
+    (tree_of c.in_ok-absent.absent) _ c.in_ok-absent.ensures.spells
     (sym c.is_at_bar.ensures.value ∙ c.if-is_at_bar.false) c.in_err-read_close.ensures.fails.0 c.in_err-read_close.ensures.fails.1)
 
 pub read_alternatives-returns-in_err-first-clause-fails : goal.read_alternatives-returns-in_err-first-clause-fails
@@ -185,18 +189,21 @@ read_alternatives-returns-in_err-first-clause-fails t c =
 pub read_alternatives-returns-in_err-branches-clause-fails : goal.read_alternatives-returns-in_err-branches-clause-fails
 read_alternatives-returns-in_err-branches-clause-fails t c =
     let p = err_from_is_err_and c.from_residual-in_err-branches.result c.from_residual-in_err-branches.ensures.1 in
-    rw (p.1, p.2) (stuck.alternatives_of_bars (pairs_in c.args.names.now.pairs) (point_of c.args.self.now) (point_of c.read_branch.new.self) (tree_of c.in_ok-first.first) _ c.in_ok-first.ensures.spells
+    rw (p.1, p.2) (stuck.alternatives_of_bars (pairs_in c.args.names.now.pairs) (point_of c.args.self.now) (point_of c.read_branch.new.self)
+    (tree_of c.in_ok-first.first) _ c.in_ok-first.ensures.spells
     c.in_err-branches.ensures.fails)
 
 pub read_atom-returns-in-Some-clause-fails : goal.read_atom-returns-in-Some-clause-fails
 read_atom-returns-in-Some-clause-fails t c =
-    stuck.atom_opened_fails (pairs_in c.args.names.now.pairs) (point_of c.args.self.now) (point_of c.skip.new.self) (opening_of c.in-Some.opening) c.read_opened.result
+    stuck.atom_opened_fails (pairs_in c.args.names.now.pairs) (point_of c.args.self.now) (point_of c.skip.new.self)
+    (opening_of c.in-Some.opening) c.read_opened.result
     (points.takes_next opening (opening_of c.in-Some.opening) c.args.self.now c.skip.new.self (sym c.in-Some.ensures.value) c.skip.ensures.skips)
     c.read_opened.ensures.fails
 
 pub read_atom-returns-in-Some-next_class-clause-fails : goal.read_atom-returns-in-Some-next_class-clause-fails
 read_atom-returns-in-Some-next_class-clause-fails t c =
-    stuck.atom_class_fails (pairs_in c.args.names.now.pairs) (point_of c.args.self.now) (point_of c.skip-in-Some-next_class.new.self) c.in-Some-next_class.casei
+    stuck.atom_class_fails (pairs_in c.args.names.now.pairs) (point_of c.args.self.now)
+    (point_of c.skip-in-Some-next_class.new.self) c.in-Some-next_class.casei
     c.read_class.result
     (points.takes_next class_open c.in-Some-next_class.casei c.args.self.now c.skip-in-Some-next_class.new.self (sym c.in-Some-next_class.ensures.value)
     c.skip-in-Some-next_class.ensures.skips)
@@ -204,25 +211,29 @@ read_atom-returns-in-Some-next_class-clause-fails t c =
 
 pub read_atom-returns-clause-fails : goal.read_atom-returns-clause-fails
 read_atom-returns-clause-fails t c =
-    stuck.atom_node_fails (pairs_in c.args.names.now.pairs) (point_of c.args.self.now) c.read_node.result (sym c.in_default.ensures.value) (sym c.in_default-next_class.ensures.value)
+    stuck.atom_node_fails (pairs_in c.args.names.now.pairs) (point_of c.args.self.now) c.read_node.result (sym c.in_default.ensures.value)
+    (sym c.in_default-next_class.ensures.value)
     c.read_node.ensures.fails
 
 pub read_bars-returns-in_err-read_branch-clause-fails : goal.read_bars-returns-in_err-read_branch-clause-fails
 read_bars-returns-in_err-read_branch-clause-fails t c =
     let p = err_from_is_err_and c.from_residual.result c.from_residual.ensures.1 in
-    rw (p.1, p.2) (stuck.bars_fail (pairs_in c.args.names.now.pairs) (point_of c.args.self.now) (point_of c.loop-self.self) (point_of c.skip.new.self) c.loop-self.invariant.so_far _ c.loop-self.invariant.row
+    rw (p.1, p.2) (stuck.bars_fail (pairs_in c.args.names.now.pairs) (point_of c.args.self.now) (point_of c.loop-self.self)
+    (point_of c.skip.new.self) c.loop-self.invariant.so_far _ c.loop-self.invariant.row
     (points.takes_at bar c.loop-self.self c.skip.new.self (sym c.is_at_bar.ensures.value ∙ c.loop-self-test.true) c.skip.ensures.skips)
     c.in_err-read_branch.ensures.fails)
 
 pub read_bodies-returns-in_err-true_branch-clause-fails : goal.read_bodies-returns-in_err-true_branch-clause-fails
 read_bodies-returns-in_err-true_branch-clause-fails t c =
     let p = err_from_is_err_and c.from_residual.result c.from_residual.ensures.1 in
-    rw (p.1, p.2) (stuck.bodies_of_branch (pairs_in c.args.names.now.pairs) (tree_of c.args.condition) (point_of c.args.self.now) _ c.in_err-true_branch.ensures.fails)
+    rw (p.1, p.2) (stuck.bodies_of_branch (pairs_in c.args.names.now.pairs) (tree_of c.args.condition)
+    (point_of c.args.self.now) _ c.in_err-true_branch.ensures.fails)
 
 pub read_bodies-returns-in_err-false_branch-clause-fails : goal.read_bodies-returns-in_err-false_branch-clause-fails
 read_bodies-returns-in_err-false_branch-clause-fails t c =
     let p = err_from_is_err_and c.from_residual-in_err-false_branch.result c.from_residual-in_err-false_branch.ensures.1 in
-    rw (p.1, p.2) (stuck.bodies_of_last (pairs_in c.args.names.now.pairs) (tree_of c.args.condition) (point_of c.args.self.now) (point_of c.read_branch.new.self) (point_of c.skip.new.self)
+    rw (p.1, p.2) (stuck.bodies_of_last (pairs_in c.args.names.now.pairs) (tree_of c.args.condition) (point_of c.args.self.now)
+    (point_of c.read_branch.new.self) (point_of c.skip.new.self)
     (tree_of c.in_ok-true_branch.true_branch) _ c.in_ok-true_branch.ensures.spells
     (points.takes_at bar c.read_branch.new.self c.skip.new.self (sym c.is_at_bar.ensures.value ∙ c.if-is_at_bar.true) c.skip.ensures.skips)
     c.in_err-false_branch.ensures.fails)
@@ -230,7 +241,8 @@ read_bodies-returns-in_err-false_branch-clause-fails t c =
 pub read_bodies-returns-in_err-read_close-clause-fails : goal.read_bodies-returns-in_err-read_close-clause-fails
 read_bodies-returns-in_err-read_close-clause-fails t c =
     let p = err_from_is_err_and c.from_residual-in_err-read_close.result c.from_residual-in_err-read_close.ensures.1 in
-    rw (p.1, p.2) (stuck.bodies_of_close (pairs_in c.args.names.now.pairs) (tree_of c.args.condition) (point_of c.args.self.now) (point_of c.read_branch.new.self)
+    rw (p.1, p.2) (stuck.bodies_of_close (pairs_in c.args.names.now.pairs) (tree_of c.args.condition) (point_of c.args.self.now)
+    (point_of c.read_branch.new.self)
     (tree_of c.in_ok-true_branch.true_branch) _ c.in_ok-true_branch.ensures.spells
     (sym c.is_at_bar.ensures.value ∙ c.if-is_at_bar.false) c.in_err-read_close.ensures.fails.0 c.in_err-read_close.ensures.fails.1)
 
@@ -242,11 +254,13 @@ read_branch-returns-in_err-pieces-clause-fails t c =
 pub read_if-returns-in_err-condition-clause-fails : goal.read_if-returns-in_err-condition-clause-fails
 read_if-returns-in_err-condition-clause-fails t c =
     let p = err_from_is_err_and c.from_residual.result c.from_residual.ensures.1 in
-    rw (p.1, p.2) (stuck.if_unnamed (pairs_in c.args.names.now.pairs) (reference_of c.args.found) (point_of c.args.self.now) _ c.in_err-condition.ensures.fails)
+    rw (p.1, p.2) (stuck.if_unnamed (pairs_in c.args.names.now.pairs) (reference_of c.args.found)
+    (point_of c.args.self.now) _ c.in_err-condition.ensures.fails)
 
 pub read_if-returns-clause-fails : goal.read_if-returns-clause-fails
 read_if-returns-clause-fails t c =
-    stuck.if_fails (pairs_in c.args.names.now.pairs) (reference_of c.args.found) (tree_of c.in_ok-condition.condition) (point_of c.args.self.now) c.read_bodies.result
+    stuck.if_fails (pairs_in c.args.names.now.pairs) (reference_of c.args.found) (tree_of c.in_ok-condition.condition)
+    (point_of c.args.self.now) c.read_bodies.result
     c.in_ok-condition.ensures.made (sym c.if-is_at_close.false ∙ c.is_at_close.ensures.value) c.read_bodies.ensures.fails
 
 pub read_last-returns-in_err-body-clause-fails : goal.read_last-returns-in_err-body-clause-fails
@@ -257,31 +271,37 @@ read_last-returns-in_err-body-clause-fails t c =
 pub read_last-returns-in_err-read_close-clause-fails : goal.read_last-returns-in_err-read_close-clause-fails
 read_last-returns-in_err-read_close-clause-fails t c =
     let p = err_from_is_err_and c.from_residual-in_err-read_close.result c.from_residual-in_err-read_close.ensures.1 in
-    rw (p.1, p.2) (stuck.last_of_close (pairs_in c.args.names.now.pairs) (point_of c.args.self.now) (point_of c.read_alternatives.new.self) (tree_of c.in_ok-body.body) _ c.in_ok-body.ensures.spells
+    rw (p.1, p.2) (stuck.last_of_close (pairs_in c.args.names.now.pairs) (point_of c.args.self.now) (point_of c.read_alternatives.new.self)
+    (tree_of c.in_ok-body.body) _ c.in_ok-body.ensures.spells
     c.in_err-read_close.ensures.fails.0 c.in_err-read_close.ensures.fails.1)
 
 pub read_opened-returns-in_err-body-in-Enclosing-clause-fails : goal.read_opened-returns-in_err-body-in-Enclosing-clause-fails
 read_opened-returns-in_err-body-in-Enclosing-clause-fails t c =
     let p = err_from_is_err_and c.from_residual.result c.from_residual.ensures.1 in
-    rw (p.1, p.2) (stuck.of_form (pairs_in c.args.names.now.pairs) (opening_of c.args.opening) (Around c.in-Enclosing.enclosing) (point_of c.args.self.now) _ (ap opening_of c.in-Enclosing.is)
+    rw (p.1, p.2) (stuck.of_form (pairs_in c.args.names.now.pairs) (opening_of c.args.opening) (Around c.in-Enclosing.enclosing) (point_of c.args.self.now) _
+    (ap opening_of c.in-Enclosing.is)
     (stuck.around_of_last (pairs_in c.args.names.now.pairs) c.in-Enclosing.enclosing (point_of c.args.self.now) _ c.in_err-body-in-Enclosing.ensures.fails))
 
 pub read_opened-returns-in_err-body-in-Group-clause-fails : goal.read_opened-returns-in_err-body-in-Group-clause-fails
 read_opened-returns-in_err-body-in-Group-clause-fails t c =
     let p = err_from_is_err_and c.from_residual-in_err-body-in-Group.result c.from_residual-in_err-body-in-Group.ensures.1 in
-    rw (p.1, p.2) (stuck.of_form (pairs_in c.args.names.now.pairs) (opening_of c.args.opening) (Group c.in-Group.number (option_map (λ n. n.now) c.in-Group.name)) (point_of c.args.self.now) _ (ap opening_of c.in-Group.is)
-    (stuck.group_of_last (pairs_in c.args.names.now.pairs) c.in-Group.number (option_map (λ n. n.now) c.in-Group.name) (point_of c.args.self.now) _ c.in_err-body-in-Group.ensures.fails))
+    rw (p.1, p.2) (stuck.of_form (pairs_in c.args.names.now.pairs) (opening_of c.args.opening) (Group c.in-Group.number (option_map
+    (λ n. n.now) c.in-Group.name)) (point_of c.args.self.now) _ (ap opening_of c.in-Group.is)
+    (stuck.group_of_last (pairs_in c.args.names.now.pairs) c.in-Group.number (option_map (λ n. n.now) c.in-Group.name)
+    (point_of c.args.self.now) _ c.in_err-body-in-Group.ensures.fails))
 
 pub read_opened-returns-in_err-condition-in-IfPattern-clause-fails : goal.read_opened-returns-in_err-condition-in-IfPattern-clause-fails
 read_opened-returns-in_err-condition-in-IfPattern-clause-fails t c =
     let p = err_from_is_err_and c.from_residual-in_err-condition-in-IfPattern.result c.from_residual-in_err-condition-in-IfPattern.ensures.1 in
-    rw (p.1, p.2) (stuck.of_form (pairs_in c.args.names.now.pairs) (opening_of c.args.opening) IfPattern (point_of c.args.self.now) _ (ap opening_of c.in-IfPattern.is)
+    rw (p.1, p.2) (stuck.of_form (pairs_in c.args.names.now.pairs) (opening_of c.args.opening) IfPattern (point_of c.args.self.now) _
+    (ap opening_of c.in-IfPattern.is)
     (stuck.pattern_of_last (pairs_in c.args.names.now.pairs) (point_of c.args.self.now) _ c.in_err-condition-in-IfPattern.ensures.fails))
 
 pub read_opened-returns-in_err-body-in-IfLook-clause-fails : goal.read_opened-returns-in_err-body-in-IfLook-clause-fails
 read_opened-returns-in_err-body-in-IfLook-clause-fails t c =
     let p = err_from_is_err_and c.from_residual-in_err-body-in-IfLook.result c.from_residual-in_err-body-in-IfLook.ensures.1 in
-    rw (p.1, p.2) (stuck.of_form (pairs_in c.args.names.now.pairs) (opening_of c.args.opening) (IfLook (look_of c.in-IfLook.look)) (point_of c.args.self.now) _ (ap opening_of c.in-IfLook.is)
+    rw (p.1, p.2) (stuck.of_form (pairs_in c.args.names.now.pairs) (opening_of c.args.opening) (IfLook (look_of c.in-IfLook.look))
+    (point_of c.args.self.now) _ (ap opening_of c.in-IfLook.is)
     (stuck.look_of_last (pairs_in c.args.names.now.pairs) (look_of c.in-IfLook.look) (point_of c.args.self.now) _ c.in_err-body-in-IfLook.ensures.fails))
 
 pub read_opened-returns-in_ok-condition-in-IfPattern-clause-fails : goal.read_opened-returns-in_ok-condition-in-IfPattern-clause-fails
@@ -293,7 +313,8 @@ read_opened-returns-in_ok-condition-in-IfPattern-clause-fails t c =
 pub read_opened-returns-in_ok-condition-in-IfLook-clause-fails : goal.read_opened-returns-in_ok-condition-in-IfLook-clause-fails
 read_opened-returns-in_ok-condition-in-IfLook-clause-fails t c =
     stuck.look_fails (pairs_in c.args.names.now.pairs) (look_of c.in-IfLook.look) (tree_of c.in_ok-body-in-IfLook.body)
-    (tree_of c.in_ok-condition-in-IfLook.condition) (point_of c.args.self.now) (point_of c.read_last-in-IfLook.new.self) (opening_of c.args.opening) c.read_bodies-in-IfLook.result
+    (tree_of c.in_ok-condition-in-IfLook.condition) (point_of c.args.self.now) (point_of c.read_last-in-IfLook.new.self)
+    (opening_of c.args.opening) c.read_bodies-in-IfLook.result
     (ap opening_of c.in-IfLook.is) c.in_ok-body-in-IfLook.ensures.spells c.in_ok-condition-in-IfLook.ensures.made c.read_bodies-in-IfLook.ensures.fails
 
 pub read_piece-returns-in_err-atom-clause-fails : goal.read_piece-returns-in_err-atom-clause-fails
@@ -303,13 +324,15 @@ read_piece-returns-in_err-atom-clause-fails t c =
 
 pub read_piece-returns-clause-fails : goal.read_piece-returns-clause-fails
 read_piece-returns-clause-fails t c =
-    stuck.piece_fails (pairs_in c.args.names.now.pairs) (point_of c.args.self.now) (point_of c.read_atom.new.self) (tree_of c.in_ok-atom.atom) c.read_quantifier.result
+    stuck.piece_fails (pairs_in c.args.names.now.pairs) (point_of c.args.self.now) (point_of c.read_atom.new.self)
+    (tree_of c.in_ok-atom.atom) c.read_quantifier.result
     c.in_ok-atom.ensures.spells (c.read_quantifier.ensures.fails (pairs_in c.args.names.now.pairs))
 
 pub read_pieces-returns-in_err-piece-clause-fails : goal.read_pieces-returns-in_err-piece-clause-fails
 read_pieces-returns-in_err-piece-clause-fails t c =
     let p = err_from_is_err_and c.from_residual.result c.from_residual.ensures.1 in
-    rw (p.1, p.2) (stuck.pieces_fail (pairs_in c.args.names.now.pairs) (point_of c.args.self.now) (point_of c.loop-self.self) c.loop-self.invariant.so_far _ c.loop-self.invariant.row
+    rw (p.1, p.2) (stuck.pieces_fail (pairs_in c.args.names.now.pairs) (point_of c.args.self.now)
+    (point_of c.loop-self.self) c.loop-self.invariant.so_far _ c.loop-self.invariant.row
     (sym c.is_branch_end.ensures ∙ c.loop-self-test.true) c.in_err-piece.ensures.fails)
 
 -- ---- literals of one character
