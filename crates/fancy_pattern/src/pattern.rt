@@ -27,9 +27,10 @@ use std::collections::BTreeSet;
 
 /// The tree that a pattern spells, and what comes with it. The tree passes `is_well_formed`.
 ///
-/// Where the pattern spells none, `PatternError::Parse` has the byte of the first character that cannot stand where it
-/// stands, or the pattern's length where more is needed, and the kind of the fault. A name that cannot be called, since
-/// several groups have it, is told by the byte where the name begins. Want of memory is `PatternError::Memory`.
+/// Where the pattern spells none, `PatternError::Parse` has the byte and the kind of its first fault: where a token begins
+/// that cannot stand there, where what follows cannot be read as a token, or the pattern's length where more is needed.
+/// A call of a name that several groups have is a fault at the byte where the name begins. Want of memory is
+/// `PatternError::Memory`.
 pub fn parse_tree(
     alloc: Global,
     pattern: &str,
