@@ -1,0 +1,270 @@
+-- Each search of a list begins at or past the start where the match before was tried.
+use Rattle.std.proofs.Common.{◌≡◌, inl, ℕ, zero, suc, ◌+◌, ◌*◌, ◌-◌, ◌<◌, ◌≤◌, max, min, Bool, true, false, ◌||◌, List, [], ◌∷◌, ◌++◌, length, filter, flat_map, nat_lt, sum_by, Option, Some, None, IfSome, option_map, ⊎_elim, refl, sym, ap, ◌∙◌, subst, arith, length-append, if◌then◌else◌}
+use Rattle.std.specs.Option.{option_map_or}
+use Rattle.std.proofs.lemmas.Bool.{cond_both}
+use Rattle.std.proofs.lemmas.Bool.Decides.{nat_tests}
+use Rattle.std.proofs.lemmas.List.Sums.{sum_by-cons}
+use Rattle.std.proofs.lemmas.Option.{none-some, same_Some}
+use Rattle.std.proofs.lemmas.Str.{IsCharBoundary-start}
+use Rattle.fancy_meaning.specs.Answer.{Search, answer, attempt, is_admitted, search_of, span_numbers, starts, ways_from}
+use Rattle.fancy_meaning.specs.MatchState.{MatchState, Span, first_state}
+use Rattle.fancy_meaning.specs.Nodes.{group_count}
+use Rattle.fancy_meaning.specs.OpenCalls.{no_calls}
+use Rattle.fancy_meaning.specs.Options.{Plan, RunOptions}
+use Rattle.fancy_meaning.specs.Places.{is_place, places_from, range_from}
+use Rattle.fancy_meaning.specs.Premises.{IsText}
+use Rattle.fancy_laws.proofs.Characters.{place_of_cut}
+use Rattle.fancy_laws.proofs.Chosen.{every_chosen}
+use Rattle.fancy_laws.proofs.Every.{Every, every_filter, every_if, every_one, every_weaker}
+use Rattle.fancy_laws.proofs.Forward.{ways_go_forward}
+use Rattle.fancy_laws.proofs.Moves.{is_place_parts}
+use Rattle.fancy_laws.proofs.WaysOf.{every_place_from}
+use Rattle.fancy_vm.specs.Outcomes.{first_pair}
+use Rattle.fancy_starts.specs.Matches.{Found, has_keep_out, match_of}
+use Rattle.fancy_starts.proofs.Firsts.{found_there}
+use Rattle.fancy_starts.proofs.LaterStarts.{places_before}
+use Rattle.fancy_starts.proofs.Matches.{Begins, answer_is, begins, numbers_begin, numbers_of}
+use Rattle.fancy_bounds.specs.StartsBegun.{begun}
+use Rattle.fancy_bounds.specs.Successive.{AreFurtherOn, AreSuccessive}
+use Rattle.fancy_bounds.proofs.Successive.{starts_further_on, starts_of_successive}
+use Rattle.fancy_matches.specs.Listing.{Standing, after, at_start, found_at, further, next_pos, options_at}
+use Rattle.fancy_matches.proofs.Lists.{ends_before_next, found_tells, further_on, goes_on}
+use Rattle.fancy_costs.specs.Costs.{TriesAll, all_searches, enough, places_of, search_at, searches}
+
+-- ---- where the match of a search was tried, and where it ends
+
+ends_at : (q : Search) (numbers : List ℕ) (m : Found) → Some numbers ≡ numbers_of q (Some m) → (first_pair numbers).1 ≡ (m.1).place
+ends_at q numbers m e = ap (λ l. (first_pair l).1) (same_Some _ _ e ∙ numbers_begin (group_count q.tree) m.1)
+
+-- the match of an answer, and where that ends
+record HasMatch (q : Search) (numbers : List ℕ) : Type 0 where
+  pub found : Found
+  pub is : match_of q ≡ Some found
+  pub all : Some numbers ≡ numbers_of q (Some found)
+
+has_match : (q : Search) (numbers : List ℕ) → answer q ≡ Some numbers → HasMatch q numbers
+has_match q numbers e = go (match_of q) refl (sym e ∙ answer_is q)
+  where
+    go : (o : Option Found) → match_of q ≡ o → Some numbers ≡ numbers_of q (match_of q) → HasMatch q numbers
+    go None is h = absurd (none-some _ (sym (h ∙ ap (numbers_of q) is)))
+    go (Some m) is h = record { found = m; is = is; all = h ∙ ap (numbers_of q) is }
+
+of_ways : {P : MatchState → Type 0} (q : Search) (start : ℕ) (s : MatchState) → attempt q start ≡ Some s →
+    Every P (ways_from q start) → P s
+of_ways {P} q start s e h =
+    subst (λ o. IfSome o P) e
+    (every_chosen {P = P} q.leftmost_longest (every_filter {Q = P} (is_admitted q start) (λ u p admitted. p) h))
+
+starts_within : (q : Search) → is_place q.text q.pos ≡ true → Every (λ i. i ≤ length q.text) (starts q)
+starts_within q at =
+    every_if q.anchored (λ e. every_one (is_place_parts q.text q.pos at).0)
+    (λ e. every_weaker (λ j h. (is_place_parts q.text j h.1).0) (every_place_from q.text q.pos))
+
+-- it does not end before it was tried
+tried_before : (q : Search) (m : Found) → is_place q.text q.pos ≡ true → match_of q ≡ Some m → m.0 ≤ (m.1).place
+tried_before q m at e =
+    let found = found_there (attempt q) {P = λ i. i ≤ length q.text} m (starts q) (starts_within q at) e in
+    of_ways {P = λ t. m.0 ≤ t.place} q m.0 m.1 found.1
+    (every_weaker (λ t step. step.on) (ways_go_forward q.setting q.tree q.tree no_calls (first_state m.0) found.0))
+
+-- ---- where the next search begins
+
+past_start : (text : List ℕ) (s : Standing) (start end : ℕ) → start ≤ end → start < next_pos text s (start, end)
+past_start text s start end le =
+    cond_both (nat_lt (max s.pos start) end) end (further text end) (λ i. start < i)
+    (λ e. grind (arith, nat_tests)) (λ e. let f = further_on text end in omega (arith, f, le))
+
+module _ (p : Plan) (text : List ℕ) (o : RunOptions) (is : IsText text) where
+  -- those after the search from here
+  abbrev rest : ℕ → Standing → List Search
+  rest n s = option_map_or (λ m. searches p text o n (after text s (first_pair m))) (found_at p text o s) []
+
+  searches_at : (n : ℕ) (s : Standing) → is_place text s.pos ≡ true → searches p text o (suc n) s ≡ search_at p text o s ∷ rest n s
+  unfolding searches
+  searches_at n s at = ap (λ b. if b then search_at p text o s ∷ rest n s else []) at
+
+  searches_past : (n : ℕ) (s : Standing) → is_place text s.pos ≡ false → searches p text o (suc n) s ≡ []
+  unfolding searches
+  searches_past n s past = ap (λ b. if b then search_at p text o s ∷ rest n s else []) past
+
+  no_searches : (s : Standing) → searches p text o zero s ≡ []
+  unfolding searches
+  no_searches s = refl
+
+  rest_none : (n : ℕ) (s : Standing) → found_at p text o s ≡ None → rest n s ≡ []
+  rest_none n s e = ap (λ x. option_map_or (λ m. searches p text o n (after text s (first_pair m))) x []) e
+
+  rest_some : (n : ℕ) (s : Standing) (m : List ℕ) → found_at p text o s ≡ Some m → rest n s ≡ searches p text o n (after text s (first_pair m))
+  rest_some n s m e = ap (λ x. option_map_or (λ m. searches p text o n (after text s (first_pair m))) x []) e
+
+  -- the match that the search from here found
+  match_at : (s : Standing) (m : List ℕ) → found_at p text o s ≡ Some m → HasMatch (search_at p text o s) m
+  match_at s m e = has_match (search_at p text o s) m (found_tells p text o is s m e).1
+
+  -- the next search begins at or past the start where it was tried
+  next_begins : (s : Standing) (m : List ℕ) (e : found_at p text o s ≡ Some m) →
+      ((match_at s m e).found).0 ≤ (after text s (first_pair m)).pos
+  next_begins s m e =
+      let h = match_at s m e in
+      let q = search_at p text o s in
+      let tried = tried_before q h.found (found_tells p text o is s m e).0 h.is in
+      let end = ends_at q m h.found h.all in
+      let next = ends_before_next text s (first_pair m) in
+      omega (arith, tried, end, next)
+
+  -- and further on without `\K`
+  next_further : has_keep_out (p.analysis).tree ≡ false → (s : Standing) (m : List ℕ) (e : found_at p text o s ≡ Some m) →
+      ((match_at s m e).found).0 < (after text s (first_pair m)).pos
+  next_further free s m e =
+      let h = match_at s m e in
+      let q = search_at p text o s in
+      let at = (found_tells p text o is s m e).0 in
+      let b = begins q h.found (inl (is_place_parts text s.pos at).0) free h.is in
+      let kept = b.kept in
+      let forward = b.forward in
+      let end = ends_at q m h.found h.all in
+      let begin : (first_pair m).0 ≡ min ((h.found).1).kept ((h.found).1).place =
+      ap (λ l. (first_pair l).0) (same_Some _ _ h.all ∙ numbers_begin (group_count q.tree) (h.found).1) in
+      let past = past_start text s (first_pair m).0 (first_pair m).1 (omega (arith, kept, forward, begin, end)) in
+      omega (arith, past, kept, forward, begin)
+
+  -- what holds of a search and those after it, by what holds of two in a row
+  module _ (Chain : Search → List Search → Type 0) (last : (q : Search) → Chain q [])
+      (two : (s : Standing) (m : List ℕ) → found_at p text o s ≡ Some m → (rs : List Search) →
+      Chain (search_at p text o (after text s (first_pair m))) rs →
+      Chain (search_at p text o s) (search_at p text o (after text s (first_pair m)) ∷ rs)) where
+    after_none : (n : ℕ) (s : Standing) → found_at p text o s ≡ None → Chain (search_at p text o s) (rest n s)
+    after_none n s e = subst (Chain (search_at p text o s)) (sym (rest_none n s e)) (last (search_at p text o s))
+
+    after_some : (n : ℕ) (s : Standing) (m : List ℕ) → found_at p text o s ≡ Some m →
+        Chain (search_at p text o (after text s (first_pair m))) (rest n (after text s (first_pair m))) →
+        Chain (search_at p text o s) (rest (suc n) s)
+    after_some n s m e more =
+        let t = after text s (first_pair m) in
+        subst (Chain (search_at p text o s)) (sym (rest_some (suc n) s m e))
+        (by_place t (two s m e (rest n t) more) (is_place text t.pos) refl)
+      where
+        by_place : (t : Standing) → Chain (search_at p text o s) (search_at p text o t ∷ rest n t) → (v : Bool) → is_place text t.pos ≡ v →
+            Chain (search_at p text o s) (searches p text o (suc n) t)
+        by_place t next true at = subst (Chain (search_at p text o s)) (sym (searches_at n t at)) next
+        by_place t next false past = subst (Chain (search_at p text o s)) (sym (searches_past n t past)) (last (search_at p text o s))
+
+    chained : (n : ℕ) (s : Standing) → Chain (search_at p text o s) (rest n s)
+    chained zero s = go (found_at p text o s) refl
+      where
+        go : (x : Option (List ℕ)) → found_at p text o s ≡ x → Chain (search_at p text o s) (rest zero s)
+        go None e = after_none zero s e
+        go (Some m) e =
+            subst (Chain (search_at p text o s)) (sym (rest_some zero s m e ∙ no_searches (after text s (first_pair m))))
+            (last (search_at p text o s))
+    chained (suc n) s = go (found_at p text o s) refl (λ t. chained n t)
+      where
+        go : (x : Option (List ℕ)) → found_at p text o s ≡ x → ((t : Standing) → Chain (search_at p text o t) (rest n t)) →
+            Chain (search_at p text o s) (rest (suc n) s)
+        go None e more = after_none (suc n) s e
+        go (Some m) e more = after_some n s m e (more (after text s (first_pair m)))
+
+  -- ---- what the searches begin together
+
+  first_place : is_place text 0 ≡ true
+  first_place = place_of_cut text 0 (IsCharBoundary-start text is.utf8)
+
+  all_are : all_searches p text o ≡ search_at p text o at_start ∷ rest (length text) at_start
+  all_are = searches_at (length text) at_start first_place
+
+  module _ (all : TriesAll p text o) where
+    successive : (n : ℕ) (s : Standing) → AreSuccessive (search_at p text o s) (rest n s)
+    successive =
+        chained AreSuccessive (λ q. tt)
+        (λ s m e rs more.
+        let h = match_at s m e in
+        (h.found, record { found = h.is; text = refl; not_anchored = all }, next_begins s m e, more))
+
+    further_each : has_keep_out (p.analysis).tree ≡ false → (n : ℕ) (s : Standing) → AreFurtherOn (search_at p text o s) (rest n s)
+    further_each free =
+        chained AreFurtherOn (λ q. tt)
+        (λ s m e rs more.
+        let h = match_at s m e in
+        (h.found, record { found = h.is; text = refl; not_anchored = all }, next_further free s m e, more))
+
+    pub starts_of_all : sum_by begun (all_searches p text o) + 1 ≤ places_of text + length (all_searches p text o)
+    starts_of_all =
+        let most = starts_of_successive (search_at p text o at_start) (rest (length text) at_start) all (successive (length text) at_start) in
+        let sum = ap (sum_by begun) all_are in
+        let count = ap length all_are in
+        omega (arith, most, sum, count)
+
+    pub starts_without : has_keep_out (p.analysis).tree ≡ false → sum_by begun (all_searches p text o) ≤ places_of text
+    starts_without free =
+        let most = starts_further_on (search_at p text o at_start) (rest (length text) at_start) all (further_each free (length text) at_start) in
+        let sum = ap (sum_by begun) all_are in
+        omega (arith, most, sum)
+
+-- ---- as many searches as places
+
+place_counts : (text : List ℕ) (i : ℕ) → is_place text i ≡ true → length (places_from text i) ≡ suc (length (places_from text (suc i)))
+unfolding places_from
+place_counts text i at =
+    let within = (is_place_parts text i at).0 in
+    let one : suc (length text) - i ≡ suc (suc (length text) - suc i) = omega (arith, within) in
+    let others : List ℕ = filter (is_place text) (range_from (suc i) (suc (length text) - suc i)) in
+    ap (λ n. length (filter (is_place text) (range_from i n))) one
+    ∙ ap (λ v. length (if v then i ∷ others else others)) at
+
+later_fewer : (text : List ℕ) (i j : ℕ) → i ≤ j → length (places_from text j) ≤ length (places_from text i)
+later_fewer text i j le =
+    let b = places_before text i j le in
+    let all = ap length b.all ∙ length-append b.starts (places_from text j) in
+    omega (arith, all)
+
+module _ (p : Plan) (text : List ℕ) (o : RunOptions) (is : IsText text) where
+  few_searches : (n : ℕ) (s : Standing) → length (searches p text o n s) ≤ length (places_from text s.pos)
+  few_searches zero s = let none = ap length (no_searches p text o is s) in omega (arith, none)
+  few_searches (suc n) s = by_place (is_place text s.pos) refl (λ t. few_searches n t)
+    where
+      count_rest : is_place text s.pos ≡ true → (x : Option (List ℕ)) → found_at p text o s ≡ x →
+          ((t : Standing) → length (searches p text o n t) ≤ length (places_from text t.pos)) →
+          length (rest p text o is n s) ≤ length (places_from text (suc s.pos))
+      count_rest at None e more = let none = ap length (rest_none p text o is n s e) in omega (arith, none)
+      count_rest at (Some m) e more =
+          let t = after text s (first_pair m) in
+          let some = ap length (rest_some p text o is n s m e) in
+          let few = more t in
+          let on = goes_on p text o is s m e in
+          let fewer = later_fewer text (suc s.pos) t.pos (omega (arith, on)) in
+          omega (arith, some, few, fewer)
+
+      by_place : (v : Bool) → is_place text s.pos ≡ v →
+          ((t : Standing) → length (searches p text o n t) ≤ length (places_from text t.pos)) →
+          length (searches p text o (suc n) s) ≤ length (places_from text s.pos)
+      by_place false past more = let none = ap length (searches_past p text o is n s past) in omega (arith, none)
+      by_place true at more =
+          let some = ap length (searches_at p text o is n s at) in
+          let here = place_counts text s.pos at in
+          let few = count_rest at (found_at p text o s) refl more in
+          omega (arith, some, here, few)
+
+  pub count_of_all : length (all_searches p text o) ≤ places_of text
+  count_of_all = few_searches (suc (length text)) at_start
+
+-- ---- instructions
+
+one_at_most : (v : Bool) → (if v then 1 else 0) ≤ 1
+one_at_most true = omega arith
+one_at_most false = omega arith
+
+enough_at_most : (qs : List Search) → sum_by enough qs ≤ 8 * sum_by begun qs + length qs
+enough_at_most [] = omega arith
+enough_at_most (q ∷ qs) =
+    let rest = enough_at_most qs in
+    let one = one_at_most q.leftmost_longest in
+    let sums = sum_by-cons enough q qs in
+    let begins = sum_by-cons begun q qs in
+    omega (arith, rest, one, sums, begins)
+
+pub instructions_of_all : (p : Plan) (text : List ℕ) (o : RunOptions) → IsText text → TriesAll p text o →
+    sum_by enough (all_searches p text o) + 8 ≤ 8 * (places_of text + length (all_searches p text o)) + length (all_searches p text o)
+instructions_of_all p text o is all =
+    let starts = starts_of_all p text o is all in
+    let most = enough_at_most (all_searches p text o) in
+    omega (arith, starts, most)

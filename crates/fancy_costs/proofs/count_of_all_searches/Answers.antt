@@ -1,0 +1,5 @@
+use Rattle.fancy_costs.proofs.Costing.{count_of_all}
+use Rattle.fancy_costs.proofs.count_of_all_searches.Goals as goal
+
+pub returns : goal.returns
+returns c = λ p text o is. count_of_all p text o is

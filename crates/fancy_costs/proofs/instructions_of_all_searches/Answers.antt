@@ -1,0 +1,5 @@
+use Rattle.fancy_costs.proofs.Costing.{instructions_of_all}
+use Rattle.fancy_costs.proofs.instructions_of_all_searches.Goals as goal
+
+pub returns : goal.returns
+returns c = instructions_of_all
