@@ -1,13 +1,13 @@
 -- Each search of a list begins at or past the start where the match before was tried.
-use Rattle.std.proofs.Common.{◌≡◌, inl, ℕ, zero, suc, ◌+◌, ◌*◌, ◌-◌, ◌<◌, ◌≤◌, max, min, Bool, true, false, ◌||◌, List, [], ◌∷◌, ◌++◌, length, filter, flat_map, nat_lt, sum_by, Option, Some, None, IfSome, option_map, ⊎_elim, refl, sym, ap, ◌∙◌, subst, arith, length-append, if◌then◌else◌}
+use Rattle.std.proofs.Common.{◌≡◌, inl, ℕ, zero, suc, ◌+◌, ◌*◌, ◌-◌, ◌<◌, ◌≤◌, max, min, Bool, true, false, List, [], ◌∷◌, length, filter, nat_lt, sum_by, Option, Some, None, IfSome, refl, sym, ap, ◌∙◌, subst, arith, length-append, if◌then◌else◌}
 use Rattle.std.specs.Option.{option_map_or}
 use Rattle.std.proofs.lemmas.Bool.{cond_both}
 use Rattle.std.proofs.lemmas.Bool.Decides.{nat_tests}
 use Rattle.std.proofs.lemmas.List.Sums.{sum_by-cons}
 use Rattle.std.proofs.lemmas.Option.{none-some, same_Some}
 use Rattle.std.proofs.lemmas.Str.{IsCharBoundary-start}
-use Rattle.fancy_meaning.specs.Answer.{Search, answer, attempt, is_admitted, search_of, span_numbers, starts, ways_from}
-use Rattle.fancy_meaning.specs.MatchState.{MatchState, Span, first_state}
+use Rattle.fancy_meaning.specs.Answer.{Search, answer, attempt, is_admitted, starts, ways_from}
+use Rattle.fancy_meaning.specs.MatchState.{MatchState, first_state}
 use Rattle.fancy_meaning.specs.Nodes.{group_count}
 use Rattle.fancy_meaning.specs.OpenCalls.{no_calls}
 use Rattle.fancy_meaning.specs.Options.{Plan, RunOptions}
@@ -23,11 +23,11 @@ use Rattle.fancy_vm.specs.Outcomes.{first_pair}
 use Rattle.fancy_starts.specs.Matches.{Found, has_keep_out, match_of}
 use Rattle.fancy_starts.proofs.Firsts.{found_there}
 use Rattle.fancy_starts.proofs.LaterStarts.{places_before}
-use Rattle.fancy_starts.proofs.Matches.{Begins, answer_is, begins, numbers_begin, numbers_of}
+use Rattle.fancy_starts.proofs.Matches.{answer_is, begins, numbers_begin, numbers_of}
 use Rattle.fancy_bounds.specs.StartsBegun.{begun}
 use Rattle.fancy_bounds.specs.Successive.{AreFurtherOn, AreSuccessive}
 use Rattle.fancy_bounds.proofs.Successive.{starts_further_on, starts_of_successive}
-use Rattle.fancy_matches.specs.Listing.{Standing, after, at_start, found_at, further, next_pos, options_at}
+use Rattle.fancy_matches.specs.Listing.{Standing, after, at_start, found_at, further, next_pos}
 use Rattle.fancy_matches.proofs.Lists.{ends_before_next, found_tells, further_on, goes_on}
 use Rattle.fancy_costs.specs.Costs.{TriesAll, all_searches, enough, places_of, search_at, searches}
 

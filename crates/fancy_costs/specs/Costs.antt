@@ -1,5 +1,5 @@
 -- The searches that the list of all matches of a text makes, and what they begin and execute together, as types.
-use Rattle.std.specs.Prelude.{◌≡◌, ◌≢◌, ℕ, zero, suc, ◌+◌, ◌*◌, ◌≤◌, Bool, false, ◌||◌, List, [], ◌∷◌, length, sum_by, if◌then◌else◌}
+use Rattle.std.specs.Prelude.{◌≡◌, ◌≢◌, ℕ, zero, suc, ◌+◌, ◌*◌, ◌≤◌, false, ◌||◌, List, [], ◌∷◌, length, sum_by, if◌then◌else◌}
 use Rattle.std.specs.Option.{option_map_or}
 use Rattle.fancy_meaning.specs.Answer.{Search, search_of}
 use Rattle.fancy_meaning.specs.Config.{StepLimitExceeded}
