@@ -1,21 +1,25 @@
 -- Each search of a list begins at or past the start where the match before was tried.
-use Rattle.std.proofs.Common.{◌≡◌, inl, ℕ, zero, suc, ◌+◌, ◌*◌, ◌-◌, ◌<◌, ◌≤◌, max, min, Bool, true, false, List, [], ◌∷◌, length, filter, nat_lt, sum_by, Option, Some, None, IfSome, refl, sym, ap, ◌∙◌, subst, arith, length-append, if◌then◌else◌}
+use Rattle.std.proofs.Common.{◌≡◌, ◌&&◌, ◌||◌, ◌==◌, IsFalse, inl, ℕ, zero, suc, ◌+◌, ◌*◌, ◌-◌, ◌<◌, ◌≤◌, max, min, Bool, true, false, List, [], ◌∷◌, ◌++◌, length, filter, filter_map, nat_le, nat_lt, sum_by, Option, Some, None, IfSome, refl, sym, ap, ap₂, ◌∙◌, subst, arith, length-append, if◌then◌else◌}
+use Rattle.std.specs.List.{cons_option}
 use Rattle.std.specs.Option.{option_map_or}
-use Rattle.std.proofs.lemmas.Bool.{cond_both}
+use Rattle.std.proofs.lemmas.Bool.{cond_both, or_parts}
 use Rattle.std.proofs.lemmas.Bool.Decides.{nat_tests}
 use Rattle.std.proofs.lemmas.List.Sums.{sum_by-cons}
 use Rattle.std.proofs.lemmas.Option.{none-some, same_Some}
 use Rattle.std.proofs.lemmas.Str.{IsCharBoundary-start}
 use Rattle.fancy_meaning.specs.Answer.{Search, answer, attempt, is_admitted, starts, ways_from}
+use Rattle.fancy_meaning.specs.Hard.{is_hard, is_root_hard}
 use Rattle.fancy_meaning.specs.MatchState.{MatchState, first_state}
 use Rattle.fancy_meaning.specs.Nodes.{group_count}
-use Rattle.fancy_meaning.specs.OpenCalls.{no_calls}
+use Rattle.fancy_meaning.specs.OpenCalls.{no_calls, free_calls}
 use Rattle.fancy_meaning.specs.Options.{Plan, RunOptions}
 use Rattle.fancy_meaning.specs.Places.{is_place, places_from, range_from}
 use Rattle.fancy_meaning.specs.Premises.{IsText}
+use Rattle.fancy_meaning.specs.Sizes.{size}
+use Rattle.fancy_meaning.specs.Ways.{called}
 use Rattle.fancy_laws.proofs.Characters.{place_of_cut}
 use Rattle.fancy_laws.proofs.Chosen.{every_chosen}
-use Rattle.fancy_laws.proofs.Every.{Every, every_filter, every_if, every_one, every_weaker}
+use Rattle.fancy_laws.proofs.Every.{Every, item, no_item, every_filter, every_if, every_one, every_weaker}
 use Rattle.fancy_laws.proofs.Forward.{ways_go_forward}
 use Rattle.fancy_laws.proofs.Moves.{is_place_parts}
 use Rattle.fancy_laws.proofs.WaysOf.{every_place_from}
@@ -24,12 +28,13 @@ use Rattle.fancy_starts.specs.Matches.{Found, has_keep_out, match_of}
 use Rattle.fancy_starts.proofs.Firsts.{found_there}
 use Rattle.fancy_starts.proofs.LaterStarts.{places_before}
 use Rattle.fancy_starts.proofs.Matches.{answer_is, begins, numbers_begin, numbers_of}
-use Rattle.fancy_bounds.specs.StartsBegun.{begun}
+use Rattle.fancy_bounds.specs.StartsBegun.{begun, up_to}
 use Rattle.fancy_bounds.specs.Successive.{AreFurtherOn, AreSuccessive}
 use Rattle.fancy_bounds.proofs.Successive.{starts_further_on, starts_of_successive}
-use Rattle.fancy_matches.specs.Listing.{Standing, after, at_start, found_at, further, next_pos}
-use Rattle.fancy_matches.proofs.Lists.{ends_before_next, found_tells, further_on, goes_on}
-use Rattle.fancy_costs.specs.Costs.{TriesAll, all_searches, enough, places_of, search_at, searches}
+use Rattle.fancy_matches.specs.Listing.{Standing, after, all_matches, at_start, found_at, further, left, listed_one, next_pos}
+use Rattle.fancy_matches.proofs.Lists.{ended_at, ends_before_next, found_tells, further_on, goes_on, left_none, left_some, no_place_ends}
+use Rattle.fancy_costs.specs.Costs.{all_searches, enough, listed_among, places_of, search_at, searches}
+use Rattle.fancy_costs.proofs.EasyStarts.{easy_keeps}
 
 -- ---- where the match of a search was tried, and where it ends
 
@@ -112,16 +117,29 @@ module _ (p : Plan) (text : List ℕ) (o : RunOptions) (is : IsText text) where
       let next = ends_before_next text s (first_pair m) in
       omega (arith, tried, end, next)
 
-  -- and further on without `\K`
-  next_further : has_keep_out (p.analysis).tree ≡ false → (s : Standing) (m : List ℕ) (e : found_at p text o s ≡ Some m) →
+  -- the match of each search begins where it was tried
+  abbrev KeepsStarts : Type 0
+  KeepsStarts = (s : Standing) (m : Found) → is_place text s.pos ≡ true → match_of (search_at p text o s) ≡ Some m → (m.1).kept ≡ m.0
+
+  without_keep_out : has_keep_out (p.analysis).tree ≡ false → KeepsStarts
+  without_keep_out free s m at e = (begins (search_at p text o s) m (inl (is_place_parts text s.pos at).0) free e).kept
+
+  easy_tree : is_hard p.analysis (p.analysis).tree ≡ false → KeepsStarts
+  easy_tree easy s m at e =
+      let q = search_at p text o s in
+      let found = found_there (attempt q) {P = λ i. i ≤ length q.text} m (starts q) (starts_within q at) e in
+      of_ways {P = λ t. t.kept ≡ m.0} q m.0 m.1 found.1
+      (easy_keeps p.analysis q.setting (called q.setting q.tree (free_calls q.tree no_calls) no_calls) q.tree easy (first_state m.0))
+
+  -- then the next search begins further on
+  next_further : KeepsStarts → (s : Standing) (m : List ℕ) (e : found_at p text o s ≡ Some m) →
       ((match_at s m e).found).0 < (after text s (first_pair m)).pos
-  next_further free s m e =
+  next_further keeps s m e =
       let h = match_at s m e in
       let q = search_at p text o s in
       let at = (found_tells p text o is s m e).0 in
-      let b = begins q h.found (inl (is_place_parts text s.pos at).0) free h.is in
-      let kept = b.kept in
-      let forward = b.forward in
+      let kept = keeps s h.found at h.is in
+      let forward = tried_before q h.found at h.is in
       let end = ends_at q m h.found h.all in
       let begin : (first_pair m).0 ≡ min ((h.found).1).kept ((h.found).1).place =
       ap (λ l. (first_pair l).0) (same_Some _ _ h.all ∙ numbers_begin (group_count q.tree) (h.found).1) in
@@ -172,34 +190,6 @@ module _ (p : Plan) (text : List ℕ) (o : RunOptions) (is : IsText text) where
   all_are : all_searches p text o ≡ search_at p text o at_start ∷ rest (length text) at_start
   all_are = searches_at (length text) at_start first_place
 
-  module _ (all : TriesAll p text o) where
-    successive : (n : ℕ) (s : Standing) → AreSuccessive (search_at p text o s) (rest n s)
-    successive =
-        chained AreSuccessive (λ q. tt)
-        (λ s m e rs more.
-        let h = match_at s m e in
-        (h.found, record { found = h.is; text = refl; not_anchored = all }, next_begins s m e, more))
-
-    further_each : has_keep_out (p.analysis).tree ≡ false → (n : ℕ) (s : Standing) → AreFurtherOn (search_at p text o s) (rest n s)
-    further_each free =
-        chained AreFurtherOn (λ q. tt)
-        (λ s m e rs more.
-        let h = match_at s m e in
-        (h.found, record { found = h.is; text = refl; not_anchored = all }, next_further free s m e, more))
-
-    pub starts_of_all : sum_by begun (all_searches p text o) + 1 ≤ places_of text + length (all_searches p text o)
-    starts_of_all =
-        let most = starts_of_successive (search_at p text o at_start) (rest (length text) at_start) all (successive (length text) at_start) in
-        let sum = ap (sum_by begun) all_are in
-        let count = ap length all_are in
-        omega (arith, most, sum, count)
-
-    pub starts_without : has_keep_out (p.analysis).tree ≡ false → sum_by begun (all_searches p text o) ≤ places_of text
-    starts_without free =
-        let most = starts_further_on (search_at p text o at_start) (rest (length text) at_start) all (further_each free (length text) at_start) in
-        let sum = ap (sum_by begun) all_are in
-        omega (arith, most, sum)
-
 -- ---- as many searches as places
 
 place_counts : (text : List ℕ) (i : ℕ) → is_place text i ≡ true → length (places_from text i) ≡ suc (length (places_from text (suc i)))
@@ -247,24 +237,198 @@ module _ (p : Plan) (text : List ℕ) (o : RunOptions) (is : IsText text) where
   pub count_of_all : length (all_searches p text o) ≤ places_of text
   count_of_all = few_searches (suc (length text)) at_start
 
+  -- what holds of the search from each standing holds of all of them
+  each_search : {P : Search → Type 0} → ((s : Standing) → P (search_at p text o s)) → (n : ℕ) (s : Standing) →
+      Every P (searches p text o n s)
+  each_search {P} each zero s = subst (Every P) (sym (no_searches p text o is s)) no_item
+  each_search {P} each (suc n) s = by_place (is_place text s.pos) refl (λ t. each_search {P = P} each n t)
+    where
+      by_found : (x : Option (List ℕ)) → found_at p text o s ≡ x → ((t : Standing) → Every P (searches p text o n t)) →
+          Every P (rest p text o is n s)
+      by_found None e more = subst (Every P) (sym (rest_none p text o is n s e)) no_item
+      by_found (Some m) e more = subst (Every P) (sym (rest_some p text o is n s m e)) (more (after text s (first_pair m)))
+
+      by_place : (v : Bool) → is_place text s.pos ≡ v → ((t : Standing) → Every P (searches p text o n t)) →
+          Every P (searches p text o (suc n) s)
+      by_place false past more = subst (Every P) (sym (searches_past p text o is n s past)) no_item
+      by_place true at more =
+          subst (Every P) (sym (searches_at p text o is n s at)) (item (each s) (by_found (found_at p text o s) refl more))
+
+-- ---- what they find
+
+module _ (p : Plan) (text : List ℕ) (o : RunOptions) (is : IsText text) where
+  -- what is listed of an answer and of those after it
+  abbrev listed_by : Standing → Option (List ℕ) → List Search → List (List ℕ)
+  listed_by s x qs = listed_among p text o s (cons_option x (filter_map answer qs))
+
+  finds_left : (n : ℕ) (s : Standing) → suc (length text) - s.pos ≤ n →
+      left p text o s ≡ listed_among p text o s (filter_map answer (searches p text o n s))
+  finds_left zero s le =
+      no_place_ends p text o is s (omega (arith, le))
+      ∙ sym (ap (λ qs. listed_among p text o s (filter_map answer qs)) (no_searches p text o is s))
+  finds_left (suc n) s le = by_place (is_place text s.pos) refl (λ t few. finds_left n t few)
+    where
+      by_found : is_place text s.pos ≡ true → (x : Option (List ℕ)) → found_at p text o s ≡ x →
+          ((t : Standing) → suc (length text) - t.pos ≤ n →
+          left p text o t ≡ listed_among p text o t (filter_map answer (searches p text o n t))) →
+          left p text o s ≡ listed_by s (answer (search_at p text o s)) (rest p text o is n s)
+      by_found at None e more =
+          let here : answer (search_at p text o s) ≡ None =
+          sym (ap (λ b. if b then answer (search_at p text o s) else None) at) ∙ e in
+          left_none p text o is s e ∙ sym (ap₂ (listed_by s) here (rest_none p text o is n s e))
+      by_found at (Some m) e more =
+          let t = after text s (first_pair m) in
+          let on = goes_on p text o is s m e in
+          left_some p text o is s m e
+          ∙ ap (λ ms. listed_one p text o s m ++ ms) (more t (omega (arith, le, on)))
+          ∙ sym (ap₂ (listed_by s) (found_tells p text o is s m e).1 (rest_some p text o is n s m e))
+
+      by_place : (v : Bool) → is_place text s.pos ≡ v →
+          ((t : Standing) → suc (length text) - t.pos ≤ n →
+          left p text o t ≡ listed_among p text o t (filter_map answer (searches p text o n t))) →
+          left p text o s ≡ listed_among p text o s (filter_map answer (searches p text o (suc n) s))
+      by_place false past more =
+          ended_at p text o is s past
+          ∙ sym (ap (λ qs. listed_among p text o s (filter_map answer qs)) (searches_past p text o is n s past))
+      by_place true at more =
+          by_found at (found_at p text o s) refl more
+          ∙ sym (ap (λ qs. listed_among p text o s (filter_map answer qs)) (searches_at p text o is n s at))
+
+  pub finds_all : all_matches p text o ≡ listed_among p text o at_start (filter_map answer (all_searches p text o))
+  finds_all = finds_left (suc (length text)) at_start (omega arith)
+
+-- ---- starts
+
+one_kept : (v : Bool) (i : ℕ) → length (if v then i ∷ [] else []) ≤ 1
+one_kept true i = omega arith
+one_kept false i = omega arith
+
+-- an anchored search begins one start
+anchored_begins : (q : Search) → q.anchored ≡ true → begun q ≤ 1
+anchored_begins q anchored = by_match (match_of q)
+  where
+    one : starts q ≡ q.pos ∷ []
+    one = ap (λ v. if v then q.pos ∷ [] else places_from q.text q.pos) anchored
+
+    by_match : (r : Option Found) → length (up_to r (starts q)) ≤ 1
+    by_match None = let same = ap length one in omega (arith, same)
+    by_match (Some m) =
+        let same = ap (λ l. length (up_to (Some m) l)) one in
+        let few = one_kept (nat_le q.pos m.0) q.pos in
+        omega (arith, same, few)
+
+one_for_each : (qs : List Search) → Every (λ q. begun q ≤ 1) qs → sum_by begun qs ≤ length qs
+one_for_each [] no_item = omega arith
+one_for_each (q ∷ qs) (item one h) =
+    let rest = one_for_each qs h in
+    let sums = sum_by-cons begun q qs in
+    omega (arith, one, rest, sums)
+
+module _ (p : Plan) (text : List ℕ) (o : RunOptions) (is : IsText text) where
+  -- how many starts all begin, where each search tries its first alone
+  few_anchored : (p.anchored || o.anchored) ≡ true → sum_by begun (all_searches p text o) ≤ length (all_searches p text o)
+  few_anchored anchored =
+      one_for_each (all_searches p text o)
+      (each_search p text o is {P = λ q. begun q ≤ 1} (λ s. anchored_begins (search_at p text o s) anchored) (suc (length text)) at_start)
+
+  module _ (all : (p.anchored || o.anchored) ≡ false) where
+    successive : (n : ℕ) (s : Standing) → AreSuccessive (search_at p text o s) (rest p text o is n s)
+    successive =
+        chained p text o is AreSuccessive (λ q. tt)
+        (λ s m e rs more.
+        let h = match_at p text o is s m e in
+        (h.found, record { found = h.is; text = refl; not_anchored = all }, next_begins p text o is s m e, more))
+
+    further_each : KeepsStarts p text o is → (n : ℕ) (s : Standing) → AreFurtherOn (search_at p text o s) (rest p text o is n s)
+    further_each keeps =
+        chained p text o is AreFurtherOn (λ q. tt)
+        (λ s m e rs more.
+        let h = match_at p text o is s m e in
+        (h.found, record { found = h.is; text = refl; not_anchored = all }, next_further p text o is keeps s m e, more))
+
+    starts_of_many : sum_by begun (all_searches p text o) + 1 ≤ places_of text + length (all_searches p text o)
+    starts_of_many =
+        let most =
+        starts_of_successive (search_at p text o at_start) (rest p text o is (length text) at_start) all (successive (length text) at_start) in
+        let sum = ap (sum_by begun) (all_are p text o is) in
+        let count = ap length (all_are p text o is) in
+        omega (arith, most, sum, count)
+
+    starts_of_kept : KeepsStarts p text o is → sum_by begun (all_searches p text o) ≤ places_of text
+    starts_of_kept keeps =
+        let most =
+        starts_further_on (search_at p text o at_start) (rest p text o is (length text) at_start) all (further_each keeps (length text) at_start) in
+        let sum = ap (sum_by begun) (all_are p text o is) in
+        omega (arith, most, sum)
+
+  pub starts_of_all : sum_by begun (all_searches p text o) + 1 ≤ places_of text + length (all_searches p text o)
+  starts_of_all = by_anchored (p.anchored || o.anchored) refl
+    where
+      by_anchored : (v : Bool) → (p.anchored || o.anchored) ≡ v →
+          sum_by begun (all_searches p text o) + 1 ≤ places_of text + length (all_searches p text o)
+      by_anchored false all = starts_of_many all
+      by_anchored true anchored =
+          let few = few_anchored anchored in
+          let one = place_counts text 0 (first_place p text o is) in
+          omega (arith, few, one)
+
+  starts_where_kept : KeepsStarts p text o is → sum_by begun (all_searches p text o) ≤ places_of text
+  starts_where_kept keeps = by_anchored (p.anchored || o.anchored) refl
+    where
+      by_anchored : (v : Bool) → (p.anchored || o.anchored) ≡ v → sum_by begun (all_searches p text o) ≤ places_of text
+      by_anchored false all = starts_of_kept all keeps
+      by_anchored true anchored =
+          let few = few_anchored anchored in
+          let count = count_of_all p text o is in
+          omega (arith, few, count)
+
+  pub starts_without : has_keep_out (p.analysis).tree ≡ false → sum_by begun (all_searches p text o) ≤ places_of text
+  starts_without free = starts_where_kept (without_keep_out p text o is free)
+
+  starts_of_easy : IsFalse (is_root_hard p.analysis) → sum_by begun (all_searches p text o) ≤ places_of text
+  starts_of_easy easy =
+      starts_where_kept
+      (easy_tree p text o is
+      (or_parts (is_hard p.analysis (p.analysis).tree) ((p.analysis).end_text && (size (p.analysis).tree (p.analysis).tree).least == 0) easy).0)
+
 -- ---- instructions
 
-one_at_most : (v : Bool) → (if v then 1 else 0) ≤ 1
-one_at_most true = omega arith
-one_at_most false = omega arith
+abbrev one_if : Bool → ℕ
+one_if v = if v then 1 else 0
 
-enough_at_most : (qs : List Search) → sum_by enough qs ≤ 8 * sum_by begun qs + length qs
-enough_at_most [] = omega arith
-enough_at_most (q ∷ qs) =
-    let rest = enough_at_most qs in
-    let one = one_at_most q.leftmost_longest in
+one_more_for : (v : Bool) (n : ℕ) → one_if v + (if v then n else 0) ≡ (if v then suc n else 0)
+one_more_for true n = omega arith
+one_more_for false n = omega arith
+
+enough_is : (longest : Bool) (qs : List Search) → Every (λ q. q.leftmost_longest ≡ longest) qs →
+    sum_by enough qs ≡ 8 * sum_by begun qs + (if longest then length qs else 0)
+enough_is true [] no_item = omega arith
+enough_is false [] no_item = omega arith
+enough_is longest (q ∷ qs) (item same h) =
+    let others = enough_is longest qs h in
+    let one = ap one_if same in
+    let more = one_more_for longest (length qs) in
     let sums = sum_by-cons enough q qs in
     let begins = sum_by-cons begun q qs in
-    omega (arith, rest, one, sums, begins)
+    omega (arith, others, one, more, sums, begins)
 
-pub instructions_of_all : (p : Plan) (text : List ℕ) (o : RunOptions) → IsText text → TriesAll p text o →
-    sum_by enough (all_searches p text o) + 8 ≤ 8 * (places_of text + length (all_searches p text o)) + length (all_searches p text o)
-instructions_of_all p text o is all =
-    let starts = starts_of_all p text o is all in
-    let most = enough_at_most (all_searches p text o) in
-    omega (arith, starts, most)
+module _ (p : Plan) (text : List ℕ) (o : RunOptions) (is : IsText text) where
+  enough_of_all : sum_by enough (all_searches p text o)
+      ≡ 8 * sum_by begun (all_searches p text o) + (if o.leftmost_longest then length (all_searches p text o) else 0)
+  enough_of_all =
+      enough_is o.leftmost_longest (all_searches p text o)
+      (each_search p text o is {P = λ q. q.leftmost_longest ≡ o.leftmost_longest} (λ s. refl) (suc (length text)) at_start)
+
+  pub instructions_of_all : sum_by enough (all_searches p text o) + 8
+      ≤ 8 * (places_of text + length (all_searches p text o)) + (if o.leftmost_longest then length (all_searches p text o) else 0)
+  instructions_of_all =
+      let begins = starts_of_all p text o is in
+      let most = enough_of_all in
+      omega (arith, begins, most)
+
+  pub instructions_of_easy : IsFalse (is_root_hard p.analysis) → sum_by enough (all_searches p text o)
+      ≤ 8 * places_of text + (if o.leftmost_longest then length (all_searches p text o) else 0)
+  instructions_of_easy easy =
+      let begins = starts_of_easy p text o is easy in
+      let most = enough_of_all in
+      omega (arith, begins, most)

@@ -1,1 +1,3 @@
-pub mod Costing
+mod Attained
+mod EasyStarts
+mod Costing

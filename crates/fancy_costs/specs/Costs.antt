@@ -1,8 +1,9 @@
 -- The searches that the list of all matches of a text makes, and what they begin and execute together, as types.
-use Rattle.std.specs.Prelude.{◌≡◌, ◌≢◌, ℕ, zero, suc, ◌+◌, ◌*◌, ◌≤◌, false, ◌||◌, List, [], ◌∷◌, length, sum_by, if◌then◌else◌}
+use Rattle.std.specs.Prelude.{◌≡◌, ◌≢◌, ℕ, zero, suc, ◌+◌, ◌*◌, ◌≤◌, IsFalse, false, List, [], ◌∷◌, ◌++◌, length, filter_map, sum_by, if◌then◌else◌}
 use Rattle.std.specs.Option.{option_map_or}
-use Rattle.fancy_meaning.specs.Answer.{Search, search_of}
+use Rattle.fancy_meaning.specs.Answer.{Search, answer, search_of}
 use Rattle.fancy_meaning.specs.Config.{StepLimitExceeded}
+use Rattle.fancy_meaning.specs.Hard.{is_root_hard}
 use Rattle.fancy_meaning.specs.Options.{Plan, RunOptions}
 use Rattle.fancy_meaning.specs.Places.{is_place, places_from}
 use Rattle.fancy_meaning.specs.Premises.{Input, IsText, plan}
@@ -10,7 +11,7 @@ use Rattle.fancy_meaning.specs.Theorems.{EasyRun, outcome}
 use Rattle.fancy_vm.specs.Outcomes.{first_pair}
 use Rattle.fancy_starts.specs.Matches.{has_keep_out}
 use Rattle.fancy_bounds.specs.StartsBegun.{begun}
-use Rattle.fancy_matches.specs.Listing.{Standing, after, at_start, found_at, options_at}
+use Rattle.fancy_matches.specs.Listing.{Standing, after, all_matches, at_start, found_at, listed_one, options_at}
 
 -- a tree, a text, and the options of all searches but where they begin
 module _ (p : Plan) (text : List ℕ) (o : RunOptions) where
@@ -30,9 +31,10 @@ module _ (p : Plan) (text : List ℕ) (o : RunOptions) where
   abbrev pub all_searches : List Search
   all_searches = searches (suc (length text)) at_start
 
-  -- a search tries each place from where it begins on, and not the first alone
-  abbrev pub TriesAll : Type 0
-  TriesAll = (p.anchored || o.anchored) ≡ false
+  -- of the matches found from where the list stands, one after the other, those of the list
+  abbrev pub listed_among : Standing → List (List ℕ) → List (List ℕ)
+  listed_among s [] = []
+  listed_among s (m ∷ ms) = listed_one p text o s m ++ listed_among (after text s (first_pair m)) ms
 
 -- the places of a text
 abbrev pub places_of : List ℕ → ℕ
@@ -44,6 +46,11 @@ enough q = 8 * begun q + (if q.leftmost_longest then 1 else 0)
 
 -- ---- theorems
 
+-- The matches of the list are what these searches find, but for what the list does not count.
+abbrev pub MatchesOfAllSearches : Type 0
+MatchesOfAllSearches = (p : Plan) (text : List ℕ) (o : RunOptions) → IsText text →
+    all_matches p text o ≡ listed_among p text o at_start (filter_map answer (all_searches p text o))
+
 -- There are at most as many searches as places.
 abbrev pub CountOfAllSearches : Type 0
 CountOfAllSearches = (p : Plan) (text : List ℕ) (o : RunOptions) → IsText text →
@@ -51,12 +58,12 @@ CountOfAllSearches = (p : Plan) (text : List ℕ) (o : RunOptions) → IsText te
 
 -- They begin at most one start for each place, and one more for each search after the first.
 abbrev pub StartsOfAllSearches : Type 0
-StartsOfAllSearches = (p : Plan) (text : List ℕ) (o : RunOptions) → IsText text → TriesAll p text o →
+StartsOfAllSearches = (p : Plan) (text : List ℕ) (o : RunOptions) → IsText text →
     sum_by begun (all_searches p text o) + 1 ≤ places_of text + length (all_searches p text o)
 
 -- Without `\K` they begin at most one start for each place.
 abbrev pub StartsWithoutKeepOut : Type 0
-StartsWithoutKeepOut = (p : Plan) (text : List ℕ) (o : RunOptions) → IsText text → TriesAll p text o →
+StartsWithoutKeepOut = (p : Plan) (text : List ℕ) (o : RunOptions) → IsText text →
     has_keep_out (p.analysis).tree ≡ false → sum_by begun (all_searches p text o) ≤ places_of text
 
 -- Where the whole tree is easy, so many instructions are enough for the search from where the list stands.
@@ -65,7 +72,16 @@ InstructionsOfOneSearch = (i : Input) (text : List ℕ) (o : RunOptions) (s : St
     EasyRun i text (options_at o s) → enough (search_at (plan i) text o s) ≤ o.step_limit →
     outcome i text (options_at o s) ≢ StepLimitExceeded
 
--- Together that is at most eight for each place and for each search after the first, and one for each search.
+-- Together that is at most eight for each place and for each search after the first, and where the longest match is
+-- asked for one for each search.
 abbrev pub InstructionsOfAllSearches : Type 0
-InstructionsOfAllSearches = (p : Plan) (text : List ℕ) (o : RunOptions) → IsText text → TriesAll p text o →
-    sum_by enough (all_searches p text o) + 8 ≤ 8 * (places_of text + length (all_searches p text o)) + length (all_searches p text o)
+InstructionsOfAllSearches = (p : Plan) (text : List ℕ) (o : RunOptions) → IsText text →
+    sum_by enough (all_searches p text o) + 8
+    ≤ 8 * (places_of text + length (all_searches p text o))
+    + (if o.leftmost_longest then length (all_searches p text o) else 0)
+
+-- For an easy tree it is at most eight for each place, and where the longest match is asked for one for each search.
+abbrev pub InstructionsOfEasyTree : Type 0
+InstructionsOfEasyTree = (p : Plan) (text : List ℕ) (o : RunOptions) → IsText text → IsFalse (is_root_hard p.analysis) →
+    sum_by enough (all_searches p text o)
+    ≤ 8 * places_of text + (if o.leftmost_longest then length (all_searches p text o) else 0)

@@ -1,7 +1,12 @@
 //! What the searches for all matches of a text cost together. Each theorem is the contract of a function that does nothing.
 #![tactic(auto)]
 
-ghost use Rattle.fancy_costs.specs.Costs.{CountOfAllSearches, InstructionsOfAllSearches, InstructionsOfOneSearch, StartsOfAllSearches, StartsWithoutKeepOut};
+ghost use Rattle.fancy_costs.specs.Costs.{CountOfAllSearches, InstructionsOfAllSearches, InstructionsOfEasyTree, InstructionsOfOneSearch, MatchesOfAllSearches, StartsOfAllSearches, StartsWithoutKeepOut};
+
+/// The matches of the list are what these searches find, in order, but for what the list does not count.
+pub fn matches_of_all_searches()
+    ensures { MatchesOfAllSearches }
+{}
 
 /// There are at most as many searches as places of the text.
 pub fn count_of_all_searches()
@@ -24,8 +29,14 @@ pub fn instructions_of_one_search()
     ensures { InstructionsOfOneSearch }
 {}
 
-/// Together these are at most eight for each place of the text and for each search after the first, and one for each
-/// search.
+/// Together these are at most eight for each place of the text and for each search after the first, and where the longest
+/// match is asked for one for each search.
 pub fn instructions_of_all_searches()
     ensures { InstructionsOfAllSearches }
+{}
+
+/// For an easy tree they are at most eight for each place of the text, and where the longest match is asked for one for
+/// each search.
+pub fn instructions_of_easy_tree()
+    ensures { InstructionsOfEasyTree }
 {}
