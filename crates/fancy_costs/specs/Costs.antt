@@ -24,7 +24,7 @@ module _ (p : Plan) (text : List ℕ) (o : RunOptions) where
   searches zero s = []
   searches (suc n) s =
       if is_place text s.pos then
-        search_at s ∷ option_map_or (λ m. searches n (after text s (first_pair m))) (found_at p text o s) []
+      search_at s ∷ option_map_or (λ m. searches n (after text s (first_pair m))) (found_at p text o s) []
       else []
 
   -- all of them: each begins further on, so there are no more than places
