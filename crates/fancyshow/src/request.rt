@@ -110,7 +110,7 @@ fn prepared(alloc: Global, source: String, is_tree: bool) -> Result<String, Allo
 }
 
 /// The request, and the word that is left for the text.
-fn request<'a>(
+fn read_request<'a>(
     rt: &HostRuntime,
     matches: &ArgMatches<'a>,
 ) -> Result<(Request, Option<&'a str>), Trouble> {
@@ -163,7 +163,7 @@ fn arguments(matches: &ArgMatches<'_>) -> Arguments {
 
 /// What is asked of a pattern or a tree alone.
 pub fn tree_request(rt: &HostRuntime, matches: &ArgMatches<'_>) -> Result<Request, Trouble> {
-    match request(rt, matches)? {
+    match read_request(rt, matches)? {
         (request, None) => Ok(request),
         (_, Some(_)) => Err(missing(
             rt.alloc(),
@@ -177,7 +177,7 @@ pub fn text_request(
     rt: &HostRuntime,
     matches: &ArgMatches<'_>,
 ) -> Result<(Request, String), Trouble> {
-    let (request, word) = request(rt, matches)?;
+    let (request, word) = read_request(rt, matches)?;
     let text = text(rt, matches, word)?;
     Ok((request, text))
 }
