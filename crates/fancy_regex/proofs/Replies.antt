@@ -1,0 +1,67 @@
+-- What the engine promises of a reply is promised of it with the errors of this crate.
+use Rattle.std.proofs.Common.{◌≡◌, ℕ, Bool, true, false, List, ◌∷◌, Option, Some, None, Result, Ok, Err, MatchResult, option_map, if◌then◌else◌, refl, sym, subst, ◌∙◌}
+use Rattle.std.proofs.lemmas.Option.{none-some}
+use Rattle.fancy_meaning.specs.Answer.{answer, search_of}
+use Rattle.fancy_meaning.specs.Options as plain
+use Rattle.fancy_meaning.specs.Places.{is_place}
+use Rattle.fancy_meaning.specs.Premises.{Input, plan, IsText}
+use Rattle.fancy_expr.specs.declared.error.Error as engine
+use Rattle.fancy_expr.specs.declared.error.Error.TheVariants.{Memory}
+use Rattle.fancy_matches.specs.Listing.{ComesTo, Standing, by_match, ended, options_at, past_match, stays}
+use Rattle.fancy_matches.specs.Regexes.{FailsBy, FindsCaptures as FindsGroups, GivesBy, Shows, shown_captures as engine_shown, with_numbers}
+use Rattle.fancy_matches.specs.declared.found.Captures.{Captures as Groups}
+use Rattle.fancy_matches.proofs.Lists.{no_place_ends}
+use Rattle.fancy_regex.specs.Errors.{engine_error}
+use Rattle.fancy_regex.specs.Found.{shown_captures}
+use Rattle.fancy_regex.specs.Regexes.{FindsCaptures}
+use Rattle.fancy_regex.specs.declared.error.Error.{Error}
+use Rattle.fancy_regex.specs.declared.error.Error.TheVariants as face
+use Rattle.fancy_regex.specs.declared.found.Captures.{Captures}
+
+module _ {A B C D : Type 0} (show : A → C) (seen : List ℕ → C) (shown : B → D) (seen_so : List ℕ → D) (i : Input) (text : List ℕ)
+    (o : plain.RunOptions) where
+  -- an error of a search that is passed on
+  pub search_fails : (e : engine.Error) (f : Error) → engine_error f ≡ e → Shows i text o show seen (Err e) →
+      Shows i text o shown seen_so (Err (engine_error f))
+  search_fails e f is h = subst (λ e. Shows i text o shown seen_so (Err e)) (sym is) h
+
+  -- an error of a list that is passed on
+  pub list_fails : (s t : Standing) (e : engine.Error) (f : Error) → engine_error f ≡ e →
+      GivesBy i text o show seen s (Some (Err e)) t → GivesBy i text o shown seen_so s (Some (Err (engine_error f))) t
+  list_fails s t e f is h = subst (λ e. GivesBy i text o shown seen_so s (Some (Err e)) t) (sym is) h
+
+-- the groups that were found, with their names
+pub captures_found : (i : Input) (text : List ℕ) (o : plain.RunOptions) (found : Option Groups) (result : Result (Option Captures) Error) →
+    MatchResult result (λ c. option_map shown_captures c ≡ option_map engine_shown found) (λ e. e ≡ face.Memory) →
+    FindsGroups i text o (Ok found) → FindsCaptures i text o result
+captures_found i text o found (Ok c) is h = (h.0, is ∙ h.1)
+captures_found i text o found (Err e) is h =
+    subst (λ e. Shows i text o shown_captures (with_numbers text) (Err (engine_error e))) (sym is) (tt, tt)
+
+-- ---- want of memory after a match of a list was found
+
+module _ (i : Input) (text : List ℕ) (o : plain.RunOptions) where
+  found_if : Bool → Standing → Option (List ℕ)
+  found_if b s = if b then answer (search_of (plan i) text (options_at o s)) else None
+
+  -- what is found is found at a place
+  at_place : (s : Standing) (m : List ℕ) (b : Bool) → is_place text s.pos ≡ b → found_if b s ≡ Some m → is_place text s.pos ≡ true
+  unfolding found_if
+  at_place s m true is found = is
+  at_place s m false is found = absurd (none-some m found)
+
+  memory_by : {s t : Standing} {m : List ℕ} {ms : List (List ℕ)} → ComesTo (plan i) text o s (m ∷ ms) t → FailsBy i text o s Memory
+  unfolding found_if
+  memory_by (by_match s m found listed rest) = record {
+    standing = s;
+    comes = stays;
+    fails = record { place = at_place s m (is_place text s.pos) refl found; promise = tt; bounds = tt };
+  }
+  memory_by (past_match s m found listed rest) =
+      let later = memory_by rest in
+      record { standing = later.standing; comes = past_match s m found listed later.comes; fails = later.fails }
+
+  pub list_wants_memory : {A B C D : Type 0} (show : A → C) (seen : List ℕ → C) (shown : B → D) (seen_so : List ℕ → D) → IsText text →
+      (s t : Standing) (x : A) → GivesBy i text o show seen s (Some (Ok x)) t →
+      GivesBy i text o shown seen_so s (Some (Err Memory)) (ended t)
+  list_wants_memory show seen shown seen_so is s t x h = (memory_by h.comes, no_place_ends (plan i) text o is (ended t) is.fits)

@@ -1,0 +1,15 @@
+use Rattle.std.proofs.Common.{subst}
+use Rattle.fancy_matches.specs.Regexes as engine
+use Rattle.fancy_matches.specs.Regexes.{with_numbers}
+use Rattle.fancy_regex.specs.Found.{shown_captures}
+use Rattle.fancy_regex.proofs.Replies.{captures_found, search_fails}
+use Rattle.fancy_regex.proofs.regexes.Regex.captured.Goals as goal
+
+pub returns-in-Ok-clause-promise : goal.returns-in-Ok-clause-promise
+returns-in-Ok-clause-promise c i text o h =
+    captures_found i text o c.in-Ok.found c.found_with_names.result c.found_with_names.ensures.shown (subst (engine.FindsCaptures i text o) c.in-Ok.is h)
+
+pub returns-in-Err-clause-promise : goal.returns-in-Err-clause-promise
+returns-in-Err-clause-promise c i text o h =
+    search_fails engine.shown_captures (with_numbers text) shown_captures (with_numbers text) i text o c.in-Err.error c.from.result c.from.ensures
+    (subst (engine.FindsCaptures i text o) c.in-Err.is h)

@@ -1,0 +1,5 @@
+use Rattle.fancy_matches.specs.Listing.{begun_at}
+use Rattle.fancy_regex.proofs.regexes.Regex.captures_from_pos.Goals as goal
+
+pub returns-clause-promise : goal.returns-clause-promise
+returns-clause-promise c i o h = c.captured.ensures.promise i c.args.text.now (begun_at o c.args.pos) (c.captures_from-found.ensures.promise i o h)

@@ -1,0 +1,49 @@
+use Rattle.std.proofs.Common.{◌<◌, ◌-◌, suc, length, Some, Ok, Err, IfSome, ap, ◌∙◌, sym, subst, arith}
+use Rattle.fancy_meaning.specs.Numbers.{usize_max}
+use Rattle.fancy_matches.specs.Listing.{ended}
+use Rattle.fancy_matches.specs.Regexes.{GivesBy, shown_captures as engine_shown, standing_of, with_numbers}
+use Rattle.fancy_regex.specs.Errors.{engine_error}
+use Rattle.fancy_regex.specs.Found.{shown_captures}
+use Rattle.fancy_regex.proofs.Replies.{list_fails, list_wants_memory}
+use Rattle.fancy_regex.proofs.regexes.Regex.next_captures.Goals as goal
+
+pub returns-in-None-clause-list : goal.returns-in-None-clause-list
+returns-in-None-clause-list c i o h =
+    subst (λ item. GivesBy i c.args.text.now o engine_shown (with_numbers c.args.text.now) (standing_of c.args.standing.now) item (standing_of c.next_captures.new.standing))
+    c.in-None.is (c.next_captures.ensures.list i o h)
+
+pub returns-in-Ok-clause-list : goal.returns-in-Ok-clause-list
+returns-in-Ok-clause-list c i o h =
+    let text = c.args.text.now in
+    let from = standing_of c.args.standing.now in
+    let to = standing_of c.next_captures.new.standing in
+    subst (λ g. GivesBy i text o engine_shown (with_numbers text) from (Some (Ok g)) to) (sym c.in-Ok.ensures.0)
+    (subst (λ item. GivesBy i text o engine_shown (with_numbers text) from item to) (c.in-Some-Ok.is ∙ ap Some c.in-Some-Ok.field-0-is) (c.next_captures.ensures.list i o h))
+
+pub returns-in-Err-clause-list : goal.returns-in-Err-clause-list
+returns-in-Err-clause-list c i o h =
+    let text = c.args.text.now in
+    let small : length text < usize_max = omega arith in
+    let from = standing_of c.args.standing.now in
+    let to = standing_of c.next_captures.new.standing in
+    subst (λ t. GivesBy i text o shown_captures (with_numbers text) from (Some (Err (engine_error c.from.result))) t) (sym c.end.ensures)
+    (subst (λ e. GivesBy i text o shown_captures (with_numbers text) from (Some (Err (engine_error e))) (ended to)) (sym c.from.ensures)
+    (list_wants_memory i text o engine_shown (with_numbers text) shown_captures (with_numbers text) (record { utf8 = c.utf8.text; fits = small }) from to c.in-Some-Ok.groups
+    (subst (λ item. GivesBy i text o engine_shown (with_numbers text) from item to) (c.in-Some-Ok.is ∙ ap Some c.in-Some-Ok.field-0-is) (c.next_captures.ensures.list i o h))))
+
+pub returns-in-Err-clause-further : goal.returns-in-Err-clause-further
+returns-in-Err-clause-further c =
+    let text = c.args.text.now in
+    let small : length text < usize_max = omega arith in
+    let further = subst (λ item. IfSome item (λ _. suc (length text) - c.next_captures.new.standing.pos < suc (length text) - c.args.standing.now.pos))
+    c.in-Some-Ok.is c.next_captures.ensures.further in
+    let ends = ap (λ s. s.pos) c.end.ensures in
+    omega (arith, further, ends, small)
+
+pub returns-in-Some-Err-clause-list : goal.returns-in-Some-Err-clause-list
+returns-in-Some-Err-clause-list c i o h =
+    let text = c.args.text.now in
+    list_fails engine_shown (with_numbers text) shown_captures (with_numbers text) i text o (standing_of c.args.standing.now) (standing_of c.next_captures.new.standing)
+    c.in-Some-Err.error c.from-in-Some-Err.result c.from-in-Some-Err.ensures
+    (subst (λ item. GivesBy i text o engine_shown (with_numbers text) (standing_of c.args.standing.now) item (standing_of c.next_captures.new.standing))
+    (c.in-Some-Err.is ∙ ap Some c.in-Some-Err.field-0-is) (c.next_captures.ensures.list i o h))

@@ -1,0 +1,23 @@
+use Rattle.std.proofs.Common.{Some, ap, ◌∙◌, subst}
+use Rattle.fancy_matches.specs.Regexes.{GivesBy, shown_match as engine_shown, standing_of, with_span}
+use Rattle.fancy_regex.specs.Found.{shown_match}
+use Rattle.fancy_regex.proofs.Replies.{list_fails}
+use Rattle.fancy_regex.proofs.regexes.Regex.next_match.Goals as goal
+
+pub returns-in-None-clause-list : goal.returns-in-None-clause-list
+returns-in-None-clause-list c i o h =
+    subst (λ item. GivesBy i c.args.text.now o engine_shown (with_span c.args.text.now) (standing_of c.args.standing.now) item (standing_of c.next_match.new.standing))
+    c.in-None.is (c.next_match.ensures.list i o h)
+
+pub returns-in-Some-Ok-clause-list : goal.returns-in-Some-Ok-clause-list
+returns-in-Some-Ok-clause-list c i o h =
+    subst (λ item. GivesBy i c.args.text.now o engine_shown (with_span c.args.text.now) (standing_of c.args.standing.now) item (standing_of c.next_match.new.standing))
+    (c.in-Some-Ok.is ∙ ap Some c.in-Some-Ok.field-0-is) (c.next_match.ensures.list i o h)
+
+pub returns-in-Some-Err-clause-list : goal.returns-in-Some-Err-clause-list
+returns-in-Some-Err-clause-list c i o h =
+    let text = c.args.text.now in
+    list_fails engine_shown (with_span text) shown_match (with_span text) i text o (standing_of c.args.standing.now) (standing_of c.next_match.new.standing)
+    c.in-Some-Err.error c.from.result c.from.ensures
+    (subst (λ item. GivesBy i text o engine_shown (with_span text) (standing_of c.args.standing.now) item (standing_of c.next_match.new.standing))
+    (c.in-Some-Err.is ∙ ap Some c.in-Some-Err.field-0-is) (c.next_match.ensures.list i o h))

@@ -1,0 +1,7 @@
+pub mod Builders
+pub mod Errors
+pub mod Found
+pub mod Lists
+pub mod Names
+pub mod Regexes
+pub mod Splits

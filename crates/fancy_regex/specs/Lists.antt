@@ -1,0 +1,63 @@
+-- What clauses see of the lists of all matches: those of the engine, with the errors of this crate.
+use Rattle.std.specs.Prelude.{◌≡◌, List, ℕ, Option, Result, IfOk, IfSome}
+use Rattle.std.specs.Borrow.{MutBor}
+use Rattle.fancy_meaning.specs.Options as plain
+use Rattle.fancy_meaning.specs.Premises.{Input}
+use Rattle.fancy_matches.specs.Listing.{Standing, at_start}
+use Rattle.fancy_matches.specs.Regexes.{GivesBy, standing_of, with_numbers, with_span}
+use Rattle.fancy_regex.specs.Errors.{item_of}
+use Rattle.fancy_regex.specs.Found.{captures_names, shown_captures, shown_match}
+use Rattle.fancy_regex.specs.Regexes.{IsRegexOf, IsSameLoan, names_of}
+use Rattle.fancy_regex.specs.declared.error.Error.{Error}
+use Rattle.fancy_regex.specs.declared.found.Captures.{Captures}
+use Rattle.fancy_regex.specs.declared.found.Match.{Match}
+use Rattle.fancy_regex.specs.declared.iterators.CaptureMatches.{CaptureMatches}
+use Rattle.fancy_regex.specs.declared.iterators.Matches.{Matches}
+use Rattle.fancy_regex.specs.declared.names.GroupNames.{GroupNames}
+use Rattle.fancy_regex.specs.declared.regexes.Regex.{Regex}
+
+module _ (i : Input) (text : List ℕ) (o : plain.RunOptions) where
+  abbrev pub GivesCaptures : Standing → Option (Result Captures Error) → Standing → Type 0
+  GivesCaptures s item t = GivesBy i text o shown_captures (with_numbers text) s (item_of item) t
+
+  abbrev pub GivesMatch : Standing → Option (Result Match Error) → Standing → Type 0
+  GivesMatch s item t = GivesBy i text o shown_match (with_span text) s (item_of item) t
+
+-- the groups have the names of the pattern
+abbrev pub HaveNames : GroupNames → Option (Result Captures Error) → Type 0
+HaveNames names item = IfSome item (λ found. IfOk found (λ c. captures_names c ≡ names))
+
+-- ---- iterators
+
+-- what an iterator holds: a caller's regex, the text, and where the list of matches stands
+pub record Iteration : Type 0 where
+  pub regex : MutBor Regex
+  pub text : List ℕ
+  pub standing : Standing
+
+abbrev pub captures_iteration : CaptureMatches → Iteration
+captures_iteration s = record { regex = s.regex; text = s.text.now; standing = standing_of s.standing }
+
+abbrev pub matches_iteration : Matches → Iteration
+matches_iteration s = record { regex = s.regex; text = s.text.now; standing = standing_of s.standing }
+
+-- it holds this regex, over this text, before the first match
+pub record Begins (r : MutBor Regex) (text : List ℕ) (s : Iteration) : Type 0 where
+  pub regex : s.regex.now ≡ r.now
+  pub name : s.regex.ghost_name ≡ r.ghost_name
+  pub within : s.text ≡ text
+  pub first : s.standing ≡ at_start
+
+-- so a call of the iterator steps, whatever its regex was compiled from, and text and regex stay
+pub record Goes (Gives : Input → List ℕ → plain.RunOptions → Standing → Standing → Type 0) (s t : Iteration) : Type 0 where
+  pub gives : (i : Input) (o : plain.RunOptions) → IsRegexOf i s.text o s.regex.now → Gives i s.text o s.standing t.standing
+  pub within : t.text ≡ s.text
+  pub regex : IsSameLoan s.regex t.regex
+
+pub record NextCaptures (s : CaptureMatches) (item : Option (Result Captures Error)) (t : CaptureMatches) : Type 0 where
+  pub goes : Goes (λ i text o from to. GivesCaptures i text o from item to) (captures_iteration s) (captures_iteration t)
+  pub names : HaveNames (names_of s.regex.now) item
+
+abbrev pub NextMatch : Matches → Option (Result Match Error) → Matches → Type 0
+NextMatch s item t =
+    Goes (λ i text o from to. GivesMatch i text o from item to) (matches_iteration s) (matches_iteration t)

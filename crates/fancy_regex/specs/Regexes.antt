@@ -1,0 +1,65 @@
+-- What clauses see of a regex, and of what it finds: that of the engine, with the errors of this crate.
+use Rattle.std.specs.Prelude.{◌≡◌, ℕ, Bool, List, Option, Result, string_bytes}
+use Rattle.std.specs.Arc.{arc_value}
+use Rattle.std.specs.Borrow.{MutBor}
+use Rattle.std.specs.declared.alloc.Global.{Global}
+use Rattle.std.specs.declared.borrow.CowStr.{CowStr}
+use Rattle.fancy_meaning.specs.Options as plain
+use Rattle.fancy_meaning.specs.Premises.{Input}
+use Rattle.fancy_matches.specs.Regexes as engine
+use Rattle.fancy_matches.specs.declared.regexes.Regex as engine_regex
+use Rattle.fancy_matches.specs.Regexes.{Shows, with_numbers, with_span}
+use Rattle.fancy_replace.specs.Replacements as replacements
+use Rattle.fancy_regex.specs.Errors.{reply_of}
+use Rattle.fancy_regex.specs.Found.{shown_captures, shown_match}
+use Rattle.fancy_regex.specs.declared.error.Error.{Error}
+use Rattle.fancy_regex.specs.declared.found.Captures.{Captures}
+use Rattle.fancy_regex.specs.declared.found.Match.{Match}
+use Rattle.fancy_regex.specs.declared.names.GroupNames.{GroupNames}
+use Rattle.fancy_regex.specs.declared.regexes.Regex.{Regex}
+
+abbrev pub pattern_of : Regex → List ℕ
+pattern_of r = string_bytes r.pattern
+
+-- how many groups the pattern has, and their names
+abbrev pub names_of : Regex → GroupNames
+names_of r = arc_value r.names
+
+-- what the pattern was compiled to
+abbrev pub engine_of : Regex → engine_regex.Regex
+engine_of r = r.engine
+
+-- it was compiled from the tree, and its searches of this text have these options but where they begin
+abbrev pub IsRegexOf : Input → List ℕ → plain.RunOptions → Regex → Type 0
+IsRegexOf i text o r = engine.IsRegexOf i text o r.engine
+
+-- of the same pattern and the same tree, with the same options
+pub record IsSame (r s : Regex) : Type 0 where
+  pub engine : engine.IsSame r.engine s.engine
+  pub names : s.names ≡ r.names
+  pub pattern : s.pattern ≡ r.pattern
+
+-- of the same tree, and lent by the same caller
+pub record IsSameLoan (r s : MutBor Regex) : Type 0 where
+  pub same : IsSame r.now s.now
+  pub name : s.ghost_name ≡ r.ghost_name
+
+module _ (i : Input) (text : List ℕ) (o : plain.RunOptions) where
+  -- the span of the match
+  abbrev pub FindsMatch : Result (Option Match) Error → Type 0
+  FindsMatch result = Shows i text o shown_match (with_span text) (reply_of result)
+
+  -- all its numbers
+  abbrev pub FindsCaptures : Result (Option Captures) Error → Type 0
+  FindsCaptures result = Shows i text o shown_captures (with_numbers text) (reply_of result)
+
+  -- whether there is one
+  abbrev pub FindsWhether : Result Bool Error → Type 0
+  FindsWhether result = engine.FindsWhether i text o (reply_of result)
+
+-- A replacement of the first so many matches of a regex, or of all, by what is written for each, answered this, and left
+-- the regex so.
+pub record IsReplacement (r : Regex) (text : List ℕ) (limit : Option ℕ) (write : List ℕ → List ℕ → List ℕ)
+    (result : Result (CowStr Global) Error) (q : Regex) : Type 0 where
+  pub replaced : replacements.IsReplacement r.engine text limit write (reply_of result) q.engine
+  pub same : IsSame r q

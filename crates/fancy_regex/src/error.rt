@@ -1,0 +1,92 @@
+//! Why a pattern has no regex, and why a search has no answer.
+
+ghost use Rattle.std.specs.Prelude.{◌≡◌};
+ghost use Rattle.fancy_regex.specs.Errors.{engine_error, of_pattern};
+ghost use Rattle.fancy_regex.specs.declared.error.Error.TheVariants.{Memory};
+
+use fancy_expr::error::Error as EngineError;
+pub use fancy_expr::error::{CompileError, RuntimeError};
+pub use fancy_pattern::error::ErrorKind as ParseErrorKind;
+use fancy_pattern::error::PatternError;
+use std::alloc::{AllocError, AllocFailed};
+use std::fmt;
+
+/// Why a call has no result.
+#[derive(Debug, Drop)]
+pub enum Error {
+    /// The pattern cannot be read: the byte of the fault, and what is wrong there.
+    ParseError(usize, ParseErrorKind),
+    /// The pattern is read, and refused.
+    CompileError(CompileError),
+    /// A search passed a limit.
+    RuntimeError(RuntimeError),
+    /// More nodes of the pattern stand in one another, where they are written out, than the limit allows.
+    NestLimitExceeded,
+    /// A request for memory was refused.
+    Memory,
+}
+
+impl From<AllocError> for Error {
+    ghost from_gives = { λ _ e. e ≡ Memory };
+
+    fn from(_e: AllocError) -> Error {
+        Error::Memory
+    }
+}
+
+impl<T: Drop> From<AllocFailed<T>> for Error {
+    ghost from_gives = { λ _ e. e ≡ Memory };
+
+    fn from(_e: AllocFailed<T>) -> Error {
+        Error::Memory
+    }
+}
+
+impl From<EngineError> for Error {
+    ghost from_gives = { λ engine e. engine_error e ≡ engine };
+
+    fn from(engine: EngineError) -> Error {
+        match engine {
+            EngineError::CompileError(error) => Error::CompileError(error),
+            EngineError::RuntimeError(error) => Error::RuntimeError(error),
+            // The engine reads no pattern here.
+            EngineError::TreeFault { at } => Error::ParseError(
+                at,
+                ParseErrorKind::GeneralParseError,
+            ),
+            EngineError::NestLimitExceeded => Error::NestLimitExceeded,
+            EngineError::Memory => Error::Memory,
+        }
+    }
+}
+
+impl From<PatternError> for Error {
+    ghost from_gives = { λ error e. e ≡ of_pattern error };
+
+    fn from(error: PatternError) -> Error {
+        match error {
+            PatternError::Parse { at, kind } => Error::ParseError(at, kind),
+            PatternError::Memory => Error::Memory,
+        }
+    }
+}
+
+impl fmt::Display for Error {
+    fn fmt<W: fmt::Write>(&self, f: &mut fmt::Formatter<W>) -> fmt::Result {
+        match self {
+            Error::ParseError(at, kind) => {
+                let error = PatternError::Parse {
+                    at: *at,
+                    kind: *kind,
+                };
+                write!(f, "{error}")
+            }
+            Error::CompileError(error) => write!(f, "{error}"),
+            Error::RuntimeError(error) => write!(f, "{error}"),
+            Error::NestLimitExceeded => write!(f, "the pattern nests deeper than the limit"),
+            Error::Memory => write!(f, "memory ran out"),
+        }
+    }
+}
+
+impl std::error::Error for Error {}

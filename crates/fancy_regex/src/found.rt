@@ -1,0 +1,154 @@
+//! A match, and its groups by their numbers and names.
+
+ghost use Rattle.std.specs.Prelude.{◌≡◌, ◌++◌, ◌-◌, IfSome, OnOk, option_map, slice_range, string_bytes};
+ghost use Rattle.std.specs.Iterator.{at_most};
+ghost use Rattle.fancy_matches.specs.Listing.{group_span};
+ghost use Rattle.fancy_replace.specs.Reading.{expansion};
+ghost use Rattle.fancy_regex.specs.Names.{group_count, names_in, numbers_named};
+ghost use Rattle.fancy_regex.specs.Found.{NextGroup, captures_names, captures_text, first_span, numbers_in, span_of, text_of};
+
+use crate::error::Error;
+use crate::names::GroupNames;
+use fancy_matches::found as engine;
+use fancy_replace::replacer::Replacer;
+use fancy_replace::template::Template;
+use std::ops::Range;
+use std::sync::Arc;
+
+/// A part of a text that matched.
+#[derive(Clone, Copy)]
+pub struct Match<'t> {
+    pub(crate) found: engine::Match<'t>,
+}
+
+impl<'t> Match<'t> {
+    /// Where it begins, in bytes of the text.
+    pub fn start(&self) -> usize
+        ensures { result ≡ (span_of self.now).0 }
+    {
+        self.found.start()
+    }
+
+    /// Where it ends.
+    pub fn end(&self) -> usize
+        ensures { result ≡ (span_of self.now).1 }
+    {
+        self.found.end()
+    }
+
+    /// From where it begins to where it ends.
+    pub fn range(&self) -> Range<usize>
+        ensures start { result.start ≡ (span_of self.now).0 }
+        ensures end { result.end ≡ (span_of self.now).1 }
+    {
+        self.start()..self.end()
+    }
+
+    /// What matched.
+    pub fn as_str(&self) -> &'t str
+        ensures { result.now
+            ≡ slice_range (text_of self.now) (span_of self.now).0 (span_of self.now).1 }
+    {
+        self.found.as_str()
+    }
+}
+
+/// The groups of a match.
+#[derive(Drop)]
+pub struct Captures<'t> {
+    pub(crate) groups: engine::Captures<'t>,
+    pub(crate) names: Arc<GroupNames>,
+}
+
+impl<'t> Captures<'t> {
+    /// The part that the group took, or none if it is not set or not there. Group 0 is the match.
+    pub fn get(&self, group: usize) -> Option<Match<'t>>
+        ensures found { option_map span_of result ≡ group_span (numbers_in self.now) group }
+        ensures within { IfSome result (λ m. text_of m ≡ captures_text self.now) }
+    {
+        match self.groups.get(group) {
+            Some(found) => Some(Match { found }),
+            None => None,
+        }
+    }
+
+    /// The part that the group with this name took; of several the first that is set. None if none is set, or no group
+    /// has the name.
+    pub fn name(&self, name: &str) -> Option<Match<'t>>
+        ensures found { option_map span_of result
+            ≡ first_span (numbers_in self.now)
+            (numbers_named (names_in (captures_names self.now)) name.now) }
+        ensures within { IfSome result (λ m. text_of m ≡ captures_text self.now) }
+    {
+        first_set(self, self.names.named(name))
+    }
+
+    /// How many groups there are, set or not, with group 0.
+    pub fn len(&self) -> usize
+        ensures { result ≡ group_count (captures_names self.now) }
+    {
+        self.names.count
+    }
+
+    /// The parts that the groups took, from group 0 on; none for a group that is not set.
+    pub fn iter<'c>(&'c self) -> SubCaptureMatches<'c, 't>
+        ensures captures { result.captures.now ≡ self.now }
+        ensures first { result.next ≡ 0 }
+    {
+        SubCaptureMatches {
+            captures: self,
+            next: 0,
+        }
+    }
+
+    /// Appends a text in which references to groups stand for what these took, as `Template` reads it.
+    ///
+    /// The only error is want of memory, and after it a part of the text may stand there.
+    pub fn expand(&self, text: &str, out: &mut String) -> Result<(), Error>
+        ensures { OnOk result (string_bytes out.new ≡ string_bytes out.old
+            ++ expansion (names_in (captures_names self.now)) text.now
+            (captures_text self.now) (numbers_in self.now)) }
+    {
+        let template = Template::new(self.names.alloc, text, &self.names.numbers)?;
+        template.replace_append(&self.groups, out)?;
+        Ok(())
+    }
+}
+
+/// What the first of these groups took that is set.
+fn first_set<'t>(captures: &Captures<'t>, groups: &[usize]) -> Option<Match<'t>>
+    ensures found { option_map span_of result
+        ≡ first_span (numbers_in captures.now) groups.now }
+    ensures within { IfSome result (λ m. text_of m ≡ captures_text captures.now) }
+{
+    for group in groups {
+        if let Some(found) = captures.get(*group) {
+            return Some(found);
+        }
+    }
+    None
+}
+
+/// The parts that the groups took, from group 0 on; none for a group that is not set.
+#[derive(Drop)]
+pub struct SubCaptureMatches<'c, 't> {
+    pub(crate) captures: &'c Captures<'t>,
+    pub(crate) next: usize,
+}
+
+impl<'c, 't> Iterator for SubCaptureMatches<'c, 't> {
+    type Item = Option<Match<'t>>;
+
+    ghost next_gives = { NextGroup };
+
+    ghost remaining = { λ s. at_most (group_count (captures_names s.captures.now) - s.next) };
+
+    fn next(&mut self) -> Option<Option<Match<'t>>> {
+        if self.next >= self.captures.len() {
+            return None;
+        }
+        let found = self.captures.get(self.next);
+        self.next += 1;
+        Some(found)
+    }
+}

@@ -1,0 +1,53 @@
+//! All matches of a text, one after the other.
+
+ghost use Rattle.std.specs.Prelude.{◌-◌, length, suc};
+ghost use Rattle.std.specs.Iterator.{at_most};
+ghost use Rattle.fancy_regex.specs.Lists.{NextCaptures, NextMatch};
+
+use crate::error::Error;
+use crate::found::{Captures, Match};
+use crate::regexes::Regex;
+use fancy_matches::standing::Standing;
+
+/// The matches of a text from left to right, each with its groups.
+///
+/// The next search begins where the last match ended, and after an empty match one character further; there it is not
+/// continued. An empty match where the last match ended is left out. After an error there are no more.
+#[derive(Drop)]
+pub struct CaptureMatches<'r, 't> {
+    pub(crate) regex: &'r mut Regex,
+    pub(crate) text: &'t str,
+    pub(crate) standing: Standing,
+}
+
+impl<'r, 't> Iterator for CaptureMatches<'r, 't> {
+    type Item = Result<Captures<'t>, Error>;
+
+    ghost next_gives = { NextCaptures };
+
+    ghost remaining = { λ s. at_most (suc (length s.text.now) - s.standing.pos) };
+
+    fn next(&mut self) -> Option<Result<Captures<'t>, Error>> {
+        self.regex.next_captures(self.text, &mut self.standing)
+    }
+}
+
+/// The matches of a text from left to right, those of `CaptureMatches`, without their groups.
+#[derive(Drop)]
+pub struct Matches<'r, 't> {
+    pub(crate) regex: &'r mut Regex,
+    pub(crate) text: &'t str,
+    pub(crate) standing: Standing,
+}
+
+impl<'r, 't> Iterator for Matches<'r, 't> {
+    type Item = Result<Match<'t>, Error>;
+
+    ghost next_gives = { NextMatch };
+
+    ghost remaining = { λ s. at_most (suc (length s.text.now) - s.standing.pos) };
+
+    fn next(&mut self) -> Option<Result<Match<'t>, Error>> {
+        self.regex.next_match(self.text, &mut self.standing)
+    }
+}

@@ -1,0 +1,24 @@
+//! Regular expressions by the names of fancy-regex: a pattern goes in, and matches come out. See README.md.
+#![tactic(auto)]
+
+pub mod builder;
+pub mod error;
+pub mod found;
+pub mod iterators;
+pub mod names;
+pub mod regexes;
+pub mod replacement;
+pub mod splits;
+
+pub use builder::RegexBuilder;
+pub use error::{CompileError, Error, ParseErrorKind, RuntimeError};
+pub use fancy_pattern::escape::escape;
+pub use fancy_replace::parts::{Part, Parts};
+pub use fancy_replace::replacer::{NoExpand, Replacer};
+pub use fancy_replace::template::Template;
+pub use found::{Captures, Match, SubCaptureMatches};
+pub use iterators::{CaptureMatches, Matches};
+pub use names::CaptureNames;
+pub use regexes::Regex;
+pub use replacement::Replacement;
+pub use splits::Split;

@@ -1,0 +1,349 @@
+//! `Regex`: a pattern that is compiled, with the memory of its searches.
+
+ghost use Rattle.std.specs.Prelude.{◌≡◌, ◌-◌, ◌<◌, ℕ, IfOk, IfSome, IsTrue, List, MatchResult, None, Some, length, option_map, suc};
+ghost use Rattle.fancy_meaning.specs.Options as plain;
+ghost use Rattle.fancy_meaning.specs.Places as places;
+ghost use Rattle.fancy_meaning.specs.Premises.{Input};
+ghost use Rattle.fancy_matches.specs.Listing as list;
+ghost use Rattle.fancy_matches.specs.Regexes as engine;
+ghost use Rattle.fancy_matches.specs.Regexes.{standing_of};
+ghost use Rattle.fancy_replace.specs.Pieces.{as_limit};
+ghost use Rattle.fancy_regex.specs.Builders.{IsBuilt, IsRefused, default_builder};
+ghost use Rattle.fancy_regex.specs.Found.{captures_names, shown_captures, shown_match};
+ghost use Rattle.fancy_regex.specs.Lists.{Begins, HaveNames, GivesCaptures, GivesMatch, captures_iteration, matches_iteration};
+ghost use Rattle.fancy_regex.specs.Names.{group_count, names_in};
+ghost use Rattle.fancy_regex.specs.Regexes.{FindsCaptures, FindsMatch, FindsWhether, IsRegexOf, IsReplacement, IsSame, engine_of, names_of, pattern_of};
+
+use crate::builder::RegexBuilder;
+use crate::error::Error;
+use crate::found::{Captures, Match};
+use crate::iterators::{CaptureMatches, Matches};
+use crate::names::{CaptureNames, GroupNames};
+use crate::replacement::Replacement;
+use fancy_expr::error::Error as EngineError;
+use fancy_matches::found::{Captures as Groups, Match as Found};
+use fancy_matches::regexes::Regex as Engine;
+use fancy_matches::standing::Standing;
+use fancy_replace::replace::replacen;
+use std::alloc::{AllocError, Global};
+use std::borrow::CowStr;
+use std::sync::Arc;
+
+/// A pattern that is compiled once and searched for many times, with the memory that its searches use again.
+#[derive(Drop)]
+pub struct Regex {
+    pub(crate) pattern: String,
+    pub(crate) names: Arc<GroupNames>,
+    pub(crate) engine: Engine,
+}
+
+impl Regex {
+    /// The regex of a pattern, with the default options, as `RegexBuilder` makes it.
+    pub fn new(alloc: Global, pattern: &str) -> Result<Regex, Error>
+        ensures { MatchResult result
+            (IsBuilt (default_builder pattern.entry))
+            (IsRefused (default_builder pattern.entry)) }
+    {
+        RegexBuilder::new(pattern).build(alloc)
+    }
+
+    /// The pattern.
+    pub fn as_str(&self) -> &str
+        ensures { result.now ≡ pattern_of self.now }
+    {
+        self.pattern.as_str()
+    }
+
+    /// How many groups the pattern has, with group 0.
+    pub fn captures_len(&self) -> usize
+        ensures { result ≡ group_count (names_of self.now) }
+    {
+        self.names.count
+    }
+
+    /// The names of all groups, from group 0 on; none for a group without a name.
+    pub fn capture_names(&self) -> CaptureNames<'_>
+        ensures names { result.names.now ≡ names_of self.now }
+        ensures first { result.next ≡ 0 }
+    {
+        CaptureNames {
+            names: &self.names,
+            next: 0,
+        }
+    }
+
+    /// The groups of a match, with their names.
+    fn with_names<'t>(&self, groups: Groups<'t>) -> Result<Captures<'t>, AllocError>
+        ensures { IfOk result (λ c.
+            (c.groups ≡ groups.entry) × (captures_names c ≡ names_of self.now)) }
+    {
+        Ok(Captures {
+            groups,
+            names: Arc::try_clone(&self.names)?,
+        })
+    }
+
+    /// The groups of a match if there is one, with their names.
+    fn found_with_names<'t>(&self, found: Option<Groups<'t>>) -> Result<Option<Captures<'t>>, Error>
+        ensures shown { MatchResult result
+            (λ c. option_map shown_captures c ≡ option_map engine.shown_captures found.entry)
+            (λ e. e ≡ Error.Memory) }
+        ensures names { IfOk result (λ found. IfSome found (λ c.
+            captures_names c ≡ names_of self.now)) }
+    {
+        match found {
+            Some(groups) => Ok(Some(self.with_names(groups)?)),
+            None => Ok(None),
+        }
+    }
+
+    /// What a search of the engine found, with the names of the groups.
+    fn captured<'t>(
+        &self,
+        found: Result<Option<Groups<'t>>, EngineError>,
+    ) -> Result<Option<Captures<'t>>, Error>
+        ensures promise { (i : Input)
+            → (text : List ℕ)
+            → (o : plain.RunOptions)
+            → engine.FindsCaptures i text o found.entry
+            → FindsCaptures i text o result }
+        ensures names { IfOk result (λ found. IfSome found (λ c.
+            captures_names c ≡ names_of self.now)) }
+    {
+        match found {
+            Ok(found) => self.found_with_names(found),
+            Err(error) => Err(Error::from(error)),
+        }
+    }
+
+    /// What the pattern was compiled to, as a `Scanner` takes it.
+    pub fn into_engine(self) -> Engine
+        ensures { result ≡ engine_of self }
+    {
+        self.engine
+    }
+
+    /// Whether there is a match.
+    pub fn is_match(&mut self, text: &str) -> Result<bool, Error>
+        ensures promise { (i : Input)
+            → (o : plain.RunOptions)
+            → IsRegexOf i text.now o self.old
+            → FindsWhether i text.now (list.begun_at o 0) result }
+        ensures same { IsSame self.old self.new }
+    {
+        match self.engine.is_match(text) {
+            Ok(found) => Ok(found),
+            Err(error) => Err(Error::from(error)),
+        }
+    }
+
+    /// The first match.
+    pub fn find<'t>(&mut self, text: &'t str) -> Result<Option<Match<'t>>, Error>
+        ensures promise { (i : Input)
+            → (o : plain.RunOptions)
+            → IsRegexOf i text.now o self.old
+            → FindsMatch i text.now (list.begun_at o 0) result }
+        ensures same { IsSame self.old self.new }
+    {
+        matched(self.engine.find(text))
+    }
+
+    /// The first match from this place on, a byte of the text. What stands before it is seen by look-behind, and
+    /// `^` does not hold there.
+    pub fn find_from_pos<'t>(
+        &mut self,
+        text: &'t str,
+        pos: usize,
+    ) -> Result<Option<Match<'t>>, Error>
+        requires { IsTrue (places.is_place text.now pos) }
+        ensures promise { (i : Input)
+            → (o : plain.RunOptions)
+            → IsRegexOf i text.now o self.old
+            → FindsMatch i text.now (list.begun_at o pos) result }
+        ensures same { IsSame self.old self.new }
+    {
+        matched(self.engine.find_from(text, pos))
+    }
+
+    /// The groups of the first match.
+    pub fn captures<'t>(&mut self, text: &'t str) -> Result<Option<Captures<'t>>, Error>
+        ensures promise { (i : Input)
+            → (o : plain.RunOptions)
+            → IsRegexOf i text.now o self.old
+            → FindsCaptures i text.now (list.begun_at o 0) result }
+        ensures names { IfOk result (λ found. IfSome found (λ c.
+            captures_names c ≡ names_of self.old)) }
+        ensures same { IsSame self.old self.new }
+    {
+        let found = self.engine.captures(text);
+        self.captured(found)
+    }
+
+    /// The groups of the first match from this place on, a byte of the text, as `find_from_pos` finds it.
+    pub fn captures_from_pos<'t>(
+        &mut self,
+        text: &'t str,
+        pos: usize,
+    ) -> Result<Option<Captures<'t>>, Error>
+        requires { IsTrue (places.is_place text.now pos) }
+        ensures promise { (i : Input)
+            → (o : plain.RunOptions)
+            → IsRegexOf i text.now o self.old
+            → FindsCaptures i text.now (list.begun_at o pos) result }
+        ensures names { IfOk result (λ found. IfSome found (λ c.
+            captures_names c ≡ names_of self.old)) }
+        ensures same { IsSame self.old self.new }
+    {
+        let found = self.engine.captures_from(text, pos);
+        self.captured(found)
+    }
+
+    /// The next match of the list that stands so, with its groups; the list then stands after it. After an error the list
+    /// has ended.
+    pub fn next_captures<'t>(
+        &mut self,
+        text: &'t str,
+        standing: &mut Standing,
+    ) -> Option<Result<Captures<'t>, Error>>
+        ensures list { (i : Input)
+            → (o : plain.RunOptions)
+            → IsRegexOf i text.now o self.old
+            → GivesCaptures i text.now o (standing_of standing.old) result (standing_of standing.new) }
+        ensures names { HaveNames (names_of self.old) result }
+        ensures further { IfSome
+            result
+            (λ item. suc (length text.now) - standing.new.pos
+            < suc (length text.now) - standing.old.pos) }
+        ensures same { IsSame self.old self.new }
+    {
+        match self.engine.next_captures(text, standing) {
+            None => None,
+            Some(Ok(groups)) => match self.with_names(groups) {
+                Ok(captures) => Some(Ok(captures)),
+                Err(error) => {
+                    standing.end();
+                    Some(Err(Error::from(error)))
+                }
+            },
+            Some(Err(error)) => Some(Err(Error::from(error))),
+        }
+    }
+
+    /// The next match of the list that stands so, without its groups; the list then stands after it. After an error the
+    /// list has ended.
+    pub fn next_match<'t>(
+        &mut self,
+        text: &'t str,
+        standing: &mut Standing,
+    ) -> Option<Result<Match<'t>, Error>>
+        ensures list { (i : Input)
+            → (o : plain.RunOptions)
+            → IsRegexOf i text.now o self.old
+            → GivesMatch i text.now o (standing_of standing.old) result (standing_of standing.new) }
+        ensures further { IfSome
+            result
+            (λ item. suc (length text.now) - standing.new.pos
+            < suc (length text.now) - standing.old.pos) }
+        ensures same { IsSame self.old self.new }
+    {
+        match self.engine.next_match(text, standing) {
+            None => None,
+            Some(Ok(found)) => Some(Ok(Match { found })),
+            Some(Err(error)) => Some(Err(Error::from(error))),
+        }
+    }
+
+    /// All matches, one after the other, each with its groups. The regex is the caller's again once the iterator is gone.
+    pub fn captures_iter<'r, 't>(&'r mut self, text: &'t str) -> CaptureMatches<'r, 't>
+        ensures { Begins self.entry text.now (captures_iteration result) }
+    {
+        CaptureMatches {
+            regex: self,
+            text,
+            standing: Standing::first(),
+        }
+    }
+
+    /// All matches, one after the other, without their groups. The regex is the caller's again once the iterator is gone.
+    pub fn find_iter<'r, 't>(&'r mut self, text: &'t str) -> Matches<'r, 't>
+        ensures { Begins self.entry text.now (matches_iteration result) }
+    {
+        Matches {
+            regex: self,
+            text,
+            standing: Standing::first(),
+        }
+    }
+
+    /// The text with its first match replaced, and the text itself where there is none.
+    pub fn replace<'t, R: Replacement + Drop>(
+        &mut self,
+        text: &'t str,
+        by: R,
+    ) -> Result<CowStr<'t, Global>, Error>
+        ensures { IsReplacement
+            self.old text.now (Some 1)
+            (R.replacement_text by (names_in (names_of self.old))) result self.new }
+    {
+        self.replacen(text, 1, by)
+    }
+
+    /// The text with all its matches replaced, and the text itself where there is none.
+    pub fn replace_all<'t, R: Replacement + Drop>(
+        &mut self,
+        text: &'t str,
+        by: R,
+    ) -> Result<CowStr<'t, Global>, Error>
+        ensures { IsReplacement
+            self.old text.now None
+            (R.replacement_text by (names_in (names_of self.old))) result self.new }
+    {
+        self.replacen(text, 0, by)
+    }
+
+    /// The text with its first `limit` matches replaced, all of them where that is 0, and the text itself where there is
+    /// none.
+    ///
+    /// A limit that a search passes is answered by its name. Want of memory is `Error::Memory`.
+    pub fn replacen<'t, R: Replacement + Drop>(
+        &mut self,
+        text: &'t str,
+        limit: usize,
+        by: R,
+    ) -> Result<CowStr<'t, Global>, Error>
+        ensures { IsReplacement
+            self.old text.now (as_limit limit)
+            (R.replacement_text by (names_in (names_of self.old))) result self.new }
+    {
+        let alloc = self.names.alloc;
+        let replacer = by.replacer(alloc, &self.names.numbers)?;
+        match replacen(alloc, &mut self.engine, text, limit, &replacer) {
+            Ok(text) => Ok(text),
+            Err(error) => Err(Error::from(error)),
+        }
+    }
+}
+
+/// A match, if there is one.
+fn some_match<'t>(found: Option<Found<'t>>) -> Option<Match<'t>>
+    ensures { option_map shown_match result ≡ option_map engine.shown_match found.entry }
+{
+    match found {
+        Some(found) => Some(Match { found }),
+        None => None,
+    }
+}
+
+/// What a search of the engine found.
+fn matched<'t>(found: Result<Option<Found<'t>>, EngineError>) -> Result<Option<Match<'t>>, Error>
+    ensures { (i : Input)
+        → (text : List ℕ)
+        → (o : plain.RunOptions)
+        → engine.FindsMatch i text o found.entry
+        → FindsMatch i text o result }
+{
+    match found {
+        Ok(found) => Ok(some_match(found)),
+        Err(error) => Err(Error::from(error)),
+    }
+}
