@@ -4,6 +4,7 @@ pub mod Walks
 pub mod SoundNodes
 pub mod Groups
 pub mod Listed
+pub mod Referred
 pub mod Numbered
 pub mod Starts
 pub mod NodeParts

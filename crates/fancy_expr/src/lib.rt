@@ -5,6 +5,7 @@ pub mod error;
 pub mod expr;
 pub mod nodes;
 pub mod parts;
+mod references;
 mod sound;
 pub mod text;
 pub mod walk;

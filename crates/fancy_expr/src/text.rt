@@ -13,8 +13,9 @@ use crate::parts::part;
 use std::alloc::{AllocError, Global};
 
 impl Expr {
-    /// The pattern text of the node, as `fancy_meaning/specs/PatternText.antt` says it, in UTF-8. Where the node binds less than `precedence`, it
-    /// stands in brackets: an alternation from 1 on, a sequence from 2 on, a repetition from 3 on.
+    /// The pattern text of the node, as `fancy_meaning/specs/PatternText.antt` says it, in UTF-8. Where the node binds
+    /// less than `precedence`, it stands in brackets: an alternation from 1 on, a sequence from 2 on, a repetition from
+    /// 3 on.
     ///
     /// Want of memory is `Error::Memory`; nothing else is refused.
     pub fn to_str(&self, alloc: Global, precedence: u8) -> Result<String, Error>

@@ -12,6 +12,7 @@ ghost use Rattle.fancy_expr.specs.Sound.{IsWellFormedTree};
 use crate::expr::{Expr, ExprTree};
 use crate::nodes::{Question, has_node};
 use crate::parts::{part, part_count};
+use crate::references::all_referred;
 use crate::sound::all_sound;
 
 /// So many groups a tree may have.
@@ -74,11 +75,23 @@ fn is_referred_to(tree: &ExprTree, group: usize) -> bool
     has_node(&tree.expr, Question::Refers(group))
 }
 
-fn listed_refer(tree: &ExprTree) -> bool
+/// The test of each listed number by a walk of its own, which takes no memory.
+fn each_is_referred_to(tree: &ExprTree) -> bool
     ensures { result ≡ list_all
         (λ g. list_any (refers g) (nodes (tree_of tree.now.expr))) tree.now.backrefs.keys }
 {
     tree.backrefs.iter().all(|g| is_referred_to(tree, *g))
+}
+
+/// Whether each listed number is referred to: by one walk, where there is memory for a copy of the list.
+fn listed_refer(tree: &ExprTree) -> bool
+    ensures { result ≡ list_all
+        (λ g. list_any (refers g) (nodes (tree_of tree.now.expr))) tree.now.backrefs.keys }
+{
+    match tree.backrefs.clone() {
+        Ok(listed) => all_referred(&tree.expr, listed),
+        Err(_) => each_is_referred_to(tree),
+    }
 }
 
 fn out_of_range_refers(tree: &ExprTree) -> bool
@@ -94,7 +107,8 @@ fn out_of_range_refers(tree: &ExprTree) -> bool
 
 /// Whether a tree may be handed in: no alternation is without branches, each literal is one character, no class is
 /// without a text, the bounds of each loop are in order, and what comes with the tree says of it what is so
-/// ("docs/MEANING.md").
+/// ("docs/MEANING.md"). Memory is taken for a copy of `backrefs`; where it is refused, the answer is the same, in the
+/// time of a walk for each number of them.
 pub fn is_well_formed(tree: &ExprTree) -> bool
     ensures { IsTrue result ↔ IsWellFormedTree tree.now }
 {

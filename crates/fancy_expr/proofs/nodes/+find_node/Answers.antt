@@ -19,7 +19,8 @@ returns-in-Some t c =
     let child = c.part.result.now in (
       c.in-Some.ensures.0,
       contained_below e child _ c.loop-i.i (omega arith) c.part.ensures c.in-Some.ensures.1,
-      first_below (asks c.args.question) e child _ c.loop-i.i (omega arith) c.part.ensures (sym c.asks.ensures ∙ c.if-asks.false) c.loop-i.invariant c.in-Some.ensures.2,
+      first_below (asks c.args.question) e child _ c.loop-i.i (omega arith) c.part.ensures (sym c.asks.ensures ∙ c.if-asks.false)
+          c.loop-i.invariant c.in-Some.ensures.2,
     )
 
 pub loop-i-preserved : goal.loop-i-preserved

@@ -19,16 +19,19 @@ pub returns-in-Group : goal.returns-in-Group
 returns-in-Group c = only_child c.args.expr.now c.in-Group.body.value c.args.i _ (ap below c.in-Group.is) c.requires c.deref.ensures
 
 pub returns-in-LookAround : goal.returns-in-LookAround
-returns-in-LookAround c = only_child c.args.expr.now c.in-LookAround.body.value c.args.i _ (ap below c.in-LookAround.is) c.requires c.deref-in-LookAround.ensures
+returns-in-LookAround c =
+    only_child c.args.expr.now c.in-LookAround.body.value c.args.i _ (ap below c.in-LookAround.is) c.requires c.deref-in-LookAround.ensures
 
 pub returns-in-Repeat : goal.returns-in-Repeat
 returns-in-Repeat c = only_child c.args.expr.now c.in-Repeat.child.value c.args.i _ (ap below c.in-Repeat.is) c.requires c.deref-in-Repeat.ensures
 
 pub returns-in-AtomicGroup : goal.returns-in-AtomicGroup
-returns-in-AtomicGroup c = only_child c.args.expr.now c.in-AtomicGroup.body.value c.args.i _ (ap below c.in-AtomicGroup.is) c.requires c.deref-in-AtomicGroup.ensures
+returns-in-AtomicGroup c =
+    only_child c.args.expr.now c.in-AtomicGroup.body.value c.args.i _ (ap below c.in-AtomicGroup.is) c.requires c.deref-in-AtomicGroup.ensures
 
 pub returns-in-DefineGroup : goal.returns-in-DefineGroup
-returns-in-DefineGroup c = only_child c.args.expr.now c.in-DefineGroup.definitions.value c.args.i _ (ap below c.in-DefineGroup.is) c.requires c.deref-in-DefineGroup.ensures
+returns-in-DefineGroup c =
+    only_child c.args.expr.now c.in-DefineGroup.definitions.value c.args.i _ (ap below c.in-DefineGroup.is) c.requires c.deref-in-DefineGroup.ensures
 
 pub returns-then-i-eq0 : goal.returns-then-i-eq0
 returns-then-i-eq0 c = child_at c.args.expr.now _ c.args.i 0 _ (ap below c.in-Conditional.is) c.if-i-eq0.true c.deref-then-i-eq0.ensures

@@ -5,4 +5,5 @@ use Rattle.fancy_expr.proofs.text.push_own.Goals as goal
 
 pub returns-in-Absent : goal.returns-in-Absent
 returns-in-Absent c =
-    sym (append-nil _) ∙ ap (λ t. string_bytes c.args.text.now ++ t) (absent_same texts.own_text [] (λ x. refl) (λ x y. refl) (λ x. refl) refl _ _ c.in-Absent.is)
+    sym (append-nil _)
+    ∙ ap (λ t. string_bytes c.args.text.now ++ t) (absent_same texts.own_text [] (λ x. refl) (λ x y. refl) (λ x. refl) refl _ _ c.in-Absent.is)
