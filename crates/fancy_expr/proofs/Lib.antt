@@ -9,3 +9,9 @@ pub mod Numbered
 pub mod Starts
 pub mod NodeParts
 pub mod Texts
+pub mod EachLaws
+pub mod FineNodes
+pub mod OneChars
+pub mod MadeTrees
+pub mod TreeGroups
+pub mod DescribedTrees

@@ -6,3 +6,4 @@ pub mod Walk
 pub mod Each
 pub mod Errors
 pub mod Texts
+pub mod BackReferences

@@ -5,6 +5,7 @@ use Rattle.std.proofs.lemmas.List.Elements.{filter_map-append}
 use Rattle.fancy_meaning.specs.Tree.{Tree, trees, Literal, Assertion, Assert, NoLook}
 use Rattle.fancy_meaning.specs.Nodes.{nodes, nodes_of_each, as_group, groups, group_count}
 use Rattle.fancy_meaning.specs.WellFormed.{most_groups}
+use Rattle.fancy_expr.proofs.TreeGroups.{count, count-append, row, row-more}
 use Rattle.fancy_notation.specs.declared.forms.Enclosing.{Enclosing}
 use Rattle.fancy_notation.specs.declared.forms.Enclosing.TheVariants as enclosing
 use Rattle.fancy_notation.specs.declared.forms.Naming.{Naming}
@@ -17,26 +18,15 @@ use Rattle.fancy_notation.specs.Tokens.{Token, Opened, Closed, Quoted, Word, Bro
 use Rattle.fancy_notation.specs.Words.{leaf_of, form_of, found, assertions, plain_leaves}
 use Rattle.fancy_notation.specs.Grammar.{Point, in_word, counted, head_word, literals, joined, parts_of_text, enclosed, named, named_at, Begins, SpellsBytes, no_byte, byte, Spells, text, leaf, formed, SpellsForm, cat, alt, around, repeat, set, bytes, names, names_at, verb, conditional, absent_expression, SpellsParts, no_part, spliced, part}
 
-count : List Tree → ℕ
-count es = length (filter_map as_group es)
-
-count-append : (a b : List Tree) → count (a ++ b) ≡ count a + count b
-unfolding count
-count-append a b = ap length (filter_map-append as_group a b) ∙ length-append (filter_map as_group a) (filter_map as_group b)
-
 -- one more group where the form is a group
 opened : Form → ℕ
 opened (form.Enclosing enclosing.Group) = 1
 opened f = 0
 
-row : List Tree → ℕ
-row es = count (nodes_of_each (trees es))
-
 row-append : (a b : List Tree) → row (a ++ b) ≡ row a + row b
 unfolding row count
 row-append [] b = omega arith
-row-append (e ∷ a) b =
-    omega (arith, count-append (nodes e) (nodes_of_each (trees (a ++ b))), count-append (nodes e) (nodes_of_each (trees a)), row-append a b)
+row-append (e ∷ a) b = omega (arith, row-more e (a ++ b), row-more e a, row-append a b)
 
 no_literal : (folded : Bool) (cs : List ℕ) → row (map (λ c. Literal c folded) cs) ≡ 0
 unfolding row count

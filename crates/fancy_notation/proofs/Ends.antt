@@ -14,7 +14,7 @@ use Rattle.fancy_notation.specs.Grammar.{Point, in_word, opening, is_at_text, Be
 use Rattle.fancy_notation.specs.Misfit.{Node, wants, with_groups, given, node_step, next_step}
 use Rattle.fancy_notation.specs.NotationViews.{point_of}
 use Rattle.fancy_notation.specs.Reading.{first_gives, Skips, ReadsToken, ReadsHead, ReadsTree, SpellsPartsAfter}
-use Rattle.fancy_notation.proofs.MadeTrees.{tree-concat, tree-alt}
+use Rattle.fancy_expr.proofs.MadeTrees.{tree-concat, tree-alt}
 use Rattle.fancy_notation.proofs.Stack.{begun}
 use Rattle.fancy_notation.proofs.Failing.{fails_here, fails_on}
 use Rattle.fancy_notation.proofs.Loops.{skips_giving}

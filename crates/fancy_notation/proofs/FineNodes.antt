@@ -5,21 +5,16 @@ use borrow.Author.Differences.{fits_in, neg_is}
 use Rattle.std.specs.Str.{bytes_eq}
 use Rattle.std.specs.Str.Parse.{digits_value}
 use Rattle.std.proofs.lemmas.Bool.{and_parts}
-use Rattle.std.proofs.lemmas.Str.{IsUtf8-string_bytes}
 use Rattle.fancy_meaning.specs.Tree as plain
 use Rattle.fancy_meaning.specs.Tree.{Tree, trees}
 use Rattle.fancy_meaning.specs.Nodes.{nodes, nodes_of_each}
-use Rattle.fancy_meaning.specs.WellFormed.{IsUsize, IsCount, IsFine}
+use Rattle.fancy_meaning.specs.WellFormed.{IsUsize, IsCount}
 use Rattle.fancy_expr.specs.declared.expr.Expr.{Expr}
-use Rattle.fancy_expr.specs.declared.expr.Expr.TheVariants as code
-use Rattle.fancy_expr.specs.declared.expr.Absent.{Absent}
-use Rattle.fancy_expr.specs.declared.expr.Absent.TheVariants as code_absent
-use Rattle.fancy_expr.specs.Views.{tree_of, absent_of}
-use Rattle.fancy_expr.specs.Exprs.{exprs}
+use Rattle.fancy_expr.specs.Views.{tree_of}
 use Rattle.fancy_expr.specs.Each.{Each}
-use Rattle.fancy_expr.specs.Sound.{IsOneChar, IsSoundNode, AllSound}
-use Rattle.fancy_expr.proofs.Exprs.{nodes-exprs}
-use Rattle.fancy_expr.proofs.SoundNodes.{sound_literal}
+use Rattle.fancy_expr.specs.Sound.{AllSound}
+use Rattle.fancy_expr.proofs.EachLaws.{each_append, each_all}
+use Rattle.fancy_expr.proofs.FineNodes.{FineBut, sound_if_fine_but}
 use Rattle.fancy_notation.specs.declared.forms.Enclosing.{Enclosing}
 use Rattle.fancy_notation.specs.declared.forms.Enclosing.TheVariants as enclosing
 use Rattle.fancy_notation.specs.declared.forms.Naming.{Naming}
@@ -31,18 +26,6 @@ use Rattle.fancy_notation.specs.Tokens.{Token, Opened, Closed, Quoted, Word, Bro
 use Rattle.fancy_notation.specs.Words.{found, assertions, plain_leaves, leaf_of, when, kept, is_numeral, number_of, level_of, count_of, bound_at_least, byte_of}
 use Rattle.fancy_notation.specs.Grammar.{Point, in_word, class, literals, joined, parts_of_text, enclosed, named, named_at, Takes, SpellsBytes, no_byte, byte, Spells, text, leaf, formed, SpellsForm, cat, alt, around, repeat, set, bytes, names, names_at, verb, conditional, absent_expression, SpellsParts, no_part, spliced, part}
 use Rattle.fancy_notation.specs.Reading.{OneCharEach}
-
--- ---- what holds of each
-
-module _ {X : Type 0} (P : X → Type 0) where
-  pub each_append : (xs ys : List X) → Each P xs → Each P ys → Each P (xs ++ ys)
-  each_append [] ys h k = k
-  each_append (x ∷ xs) ys h k = (h.0, each_append xs ys h.1 k)
-
-  pub each_all : (xs : List X) → Each P xs → All P xs
-  each_all [] h k d lt = absurd (omega arith)
-  each_all (x ∷ xs) h zero d lt = h.0
-  each_all (x ∷ xs) h (suc k) d lt = each_all xs h.1 k d (omega arith)
 
 -- ---- words
 
@@ -120,11 +103,6 @@ pub taken_has : {V : Type 0} {f : List ℕ → Option V} {x y : Point} {v : V} (
 taken_has {f = f} {v = v} P h t = in_word_has f P h t.first.token v t.is
 
 -- ---- nodes that are fine but for their texts
-
-abbrev FineBut : Tree → Type 0
-FineBut (plain.Delegate (b ∷ bs) casei) = Unit {0}
-FineBut (plain.Literal c casei) = Unit {0}
-FineBut e = IsFine e
 
 AllFine : Tree → Type 0
 AllFine e = Each FineBut (nodes e)
@@ -244,26 +222,5 @@ mutual
 
 -- ---- expressions
 
-fine_class : (bytes : List ℕ) (casei : Bool) → IsUtf8 bytes → FineBut (plain.Delegate bytes casei) → IsFine (plain.Delegate bytes casei)
-fine_class [] casei u h = h
-fine_class (b ∷ bs) casei u h = u
-
-fine_absent : (a : Absent) → IsFine (absent_of a)
-fine_absent (code_absent.Repeater' b e) = tt
-fine_absent (code_absent.Expression' b a c e) = tt
-fine_absent (code_absent.Stopper' b e) = tt
-fine_absent code_absent.Clear = tt
-
-fine_expr : (x : Expr) → FineBut (tree_of x) → IsOneChar x → IsFine (tree_of x)
-fine_expr (code.Literal val casei) h one = ((sound_literal (code.Literal val casei) val casei 1 refl (sym one)).0 refl).fine
-fine_expr (code.Delegate inner casei) h one = fine_class (string_bytes inner) casei (IsUtf8-string_bytes inner) h
-fine_expr (code.Absent a) h one = fine_absent a
-fine_expr x h one = h
-
-sound_each : (xs : List Expr) → Each FineBut (map tree_of xs) → Each IsOneChar xs → Each IsSoundNode xs
-sound_each [] h k = tt
-sound_each (x ∷ xs) h k = (record { fine = fine_expr x h.0 k.0; one_char = k.0 }, sound_each xs h.1 k.1)
-
 pub sound_if_spelled : {x y : Point} (e : Expr) → Spells x y (tree_of e) → OneCharEach e → AllSound e
-sound_if_spelled e s k =
-    each_all IsSoundNode (exprs e) (sound_each (exprs e) (subst (Each FineBut) (sym (nodes-exprs e)) (node_fine s)) k)
+sound_if_spelled e s k = sound_if_fine_but e (node_fine s) k

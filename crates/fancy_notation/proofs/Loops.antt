@@ -14,7 +14,7 @@ use Rattle.fancy_notation.specs.Misfit.{Want, Node, Parts, Bytes, with_groups, g
 use Rattle.fancy_notation.specs.NotationViews.{placed_of, all_placed, point_of}
 use Rattle.fancy_expr.specs.Each.{Each}
 use Rattle.fancy_notation.specs.Reading.{first_gives, next_token, Skips, IsFaultHere, SpellsPartsAfter, Fails, OneCharEach}
-use Rattle.fancy_notation.proofs.FineNodes.{each_append}
+use Rattle.fancy_expr.proofs.EachLaws.{each_append}
 use Rattle.fancy_notation.proofs.Stack.{byte_goes_on, none_goes_on, wants_node, text_stands, node_stands, not_closing, first_is, text_not_closing}
 use Rattle.fancy_notation.proofs.Failing.{fails_here, fails_first, fails_on}
 

@@ -22,7 +22,8 @@ pub loop-c-preserved : goal.loop-c-preserved
 loop-c-preserved c =
     let t = YieldsList-turn
     (YieldsList-from_chars c.args.text.now c.utf8.text cc) c.loop-c.yielded _ c.loop-c.yielded_by _ _ c.in-Some.c c.in-Some.is c.next.ensures.steps in
-    subst (λ n. Nests c.args.text.now c.mode_past-mode.result c.nesting_past-nesting.result c.max-most.result n) (sym (length_push c.loop-c.yielded c.in-Some.c))
+    subst (λ n. Nests c.args.text.now c.mode_past-mode.result c.nesting_past-nesting.result c.max-most.result n)
+    (sym (length_push c.loop-c.yielded c.in-Some.c))
     (nests_next c.args.text.now c.loop-c.mode c.loop-c.nesting c.loop-c.most (length c.loop-c.yielded) c.in-Some.c c.loop-c.invariant t
     _ _ c.max-most.result c.mode_past-mode.ensures c.nesting_past-nesting.ensures (grind (arith, common_steps, c.max-most.ensures)))
 

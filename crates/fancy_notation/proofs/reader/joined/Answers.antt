@@ -1,6 +1,7 @@
 use Rattle.std.proofs.Common.{◌∙◌, arith}
-use Rattle.fancy_notation.proofs.MadeTrees.{tree-concat, joined-many}
-use Rattle.fancy_notation.proofs.OneChars.{concat_chars}
+use Rattle.fancy_expr.proofs.MadeTrees.{tree-concat}
+use Rattle.fancy_notation.proofs.MadeTrees.{joined-many}
+use Rattle.fancy_expr.proofs.OneChars.{concat_chars}
 use Rattle.fancy_notation.proofs.reader.joined.Goals as goal
 
 pub returns-then-len-gt1 : goal.returns-then-len-gt1

@@ -4,7 +4,7 @@ use Rattle.std.proofs.lemmas.Iterator.Consumers.{YieldsList-end}
 use Rattle.fancy_meaning.specs.Tree.{Literal}
 use Rattle.fancy_expr.specs.Views.{tree_of}
 use Rattle.fancy_notation.proofs.MadeTrees.{one_more, map_self}
-use Rattle.fancy_notation.proofs.OneChars.{with_part}
+use Rattle.fancy_expr.proofs.OneChars.{with_part}
 use Rattle.fancy_notation.proofs.reader.push_literals.Goals as goal
 
 pub returns : goal.returns

@@ -10,7 +10,8 @@ use Rattle.fancy_notation.specs.NotationViews.{point_of}
 use Rattle.fancy_notation.proofs.Failing.{fails_token, fails_first, after_token, after_node}
 use Rattle.fancy_notation.proofs.Lengths.{node_shorter, taken_shorter}
 use Rattle.fancy_notation.proofs.Loops.{parts_next, parts_splice, parts_done, parts_fail, no_close}
-use Rattle.fancy_notation.proofs.OneChars.{concat_chars, alt_chars, no_parts, one_part, boxed, two, three}
+use Rattle.fancy_expr.proofs.OneChars.{concat_chars, alt_chars, no_parts, two_chars, three_chars}
+use Rattle.fancy_notation.proofs.OneChars.{one_part, boxed}
 use Rattle.fancy_notation.proofs.Ends.{leaf_reads, begins_by, form_reads, cat_spelled, alt_spelled, not_both}
 use Rattle.fancy_notation.proofs.reader.Reader.+reading.Goals as goal
 
@@ -29,7 +30,7 @@ pub read_absent_expression-returns : goal.read_absent_expression-returns
 read_absent_expression-returns t c = (
   absent_expression c.in_ok-absent.ensures.0 c.in_ok-exp.ensures.0.1 c.in_ok-exp.ensures.0.2,
   c.in_ok-exp.ensures.1 ∙ c.in_ok-absent.ensures.1,
-  (tt, two c.in_ok-absent.absent.value c.in_ok-exp.exp.value c.in_ok-absent.ensures.2 c.in_ok-exp.ensures.2),
+  (tt, two_chars c.in_ok-absent.absent.value c.in_ok-exp.exp.value c.in_ok-absent.ensures.2 c.in_ok-exp.ensures.2),
 )
 
 -- ---- alternations
@@ -105,7 +106,7 @@ read_conditional-returns t c = (
   c.in_ok-false_branch.ensures.1 ∙ c.in_ok-true_branch.ensures.1 ∙ c.in_ok-condition.ensures.1,
   (
     tt,
-    three c.in_ok-condition.condition.value c.in_ok-true_branch.true_branch.value c.in_ok-false_branch.false_branch.value c.in_ok-condition.ensures.2
+    three_chars c.in_ok-condition.condition.value c.in_ok-true_branch.true_branch.value c.in_ok-false_branch.false_branch.value c.in_ok-condition.ensures.2
         c.in_ok-true_branch.ensures.2 c.in_ok-false_branch.ensures.2,
   ),
 )
