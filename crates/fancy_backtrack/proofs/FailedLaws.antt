@@ -1,20 +1,18 @@
 -- The pairs that were memoized, where nothing is and after one more.
-use Rattle.std.proofs.Common.{◌≡◌, ◌≢◌, ℕ, ◌-◌, ◌*◌, ◌/◌, ◌%◌, ◌^◌, ◌<◌, Bool, true, false, ◌||◌, not, List, [], ◌∷◌, ◌++◌, length, replicate, Vec, Option, Some, None, Result, Ok, Err, OnErr, get_or, set, ◌==◌, refl, sym, ap, subst, ◌∙◌, inl, inr, arith, bit_or, w64, get_or-set_same, get_or-set_other}
-use Rattle.std.proofs.lemmas.Bool.{cases_eq, cases_lt, not-false, eq-eqb, ne_eqb, false_from_ne_true}
+use Rattle.std.proofs.Common.{◌≡◌, ◌≢◌, ℕ, ◌-◌, ◌*◌, ◌/◌, ◌%◌, ◌^◌, ◌<◌, Bool, true, false, ◌||◌, List, [], ◌∷◌, ◌++◌, length, replicate, Vec, Option, Some, None, get_or, set, ◌==◌, refl, sym, ap, ◌∙◌, inl, inr, arith, bit_or, w64, get_or-set_same, get_or-set_other}
+use Rattle.std.proofs.lemmas.Bool.{cases_eq, cases_lt, eq-eqb, ne_eqb, false_from_ne_true}
 use Rattle.std.proofs.lemmas.List.{get_or-replicate, get_or_past, get_or_read, get_or_append_left, get_or-append_right, length-replicate}
 use Rattle.std.proofs.lemmas.Nat.Bits.{bit_at_set_same, bit_at_set_other, bit_at-zero}
 use Rattle.std.specs.Int.{bit_at}
-use Rattle.std.specs.List.{list_any}
-use Rattle.std.specs.HashSet.{HashSet, PutsKey, contains_by}
 use Rattle.std.specs.declared.alloc.Global.{Global}
-use Rattle.std.specs.declared.hash.FoldHasher.{FoldHasher}
-use Rattle.std.specs.declared.hash.BuildHasherDefault.{BuildHasherDefault}
-use Rattle.std.proofs.lemmas.List.Sorted.{list_any-IsPermutation}
 use lib.Pointwise.{bytes_decides}
 use Rattle.fancy_backtrack.specs.declared.failed.Failed.{Failed}
-use Rattle.fancy_backtrack.specs.FailedPairs.{same_numbers, bit_is_set, is_memoized, has_pair}
+use Rattle.fancy_backtrack.specs.PairKeys.{same_numbers}
+use Rattle.fancy_backtrack.specs.FailedPairs.{bit_is_set, is_memoized, has_pair}
 use Rattle.fancy_backtrack.specs.declared.pair_bits.PairBits.{PairBits}
 use Rattle.fancy_backtrack.specs.PairBits.{pair_bit}
+use Rattle.fancy_backtrack.specs.SparsePairs.{has_sparse}
+use Rattle.fancy_backtrack.specs.declared.sparse_pairs.SparsePairs.{SparsePairs}
 use Rattle.fancy_backtrack.proofs.PairBitLaws.{one_pair}
 
 -- ---- bits
@@ -89,12 +87,13 @@ pub memoized_at : (f : Failed) (k : List ℕ) (o : Option ℕ) → o ≡ pair_bi
 unfolding has_pair
 memoized_at f k o e = ap (λ o. is_memoized o f k) e
 
-pub none_memoized : (f : Failed) → f.bits.items ≡ [] → f.lists.keys ≡ [] → (k : List ℕ) → has_pair f k ≡ false
+pub none_memoized : (f : Failed) → f.bits.items ≡ [] → ((k : List ℕ) → has_sparse f.sparse k ≡ false) →
+    (k : List ℕ) → has_pair f k ≡ false
 unfolding has_pair
-none_memoized f no_bits no_lists k = go (pair_bit f.pair_bits f.base k)
+none_memoized f no_bits no_sparse k = go (pair_bit f.pair_bits f.base k)
   where
     go : (o : Option ℕ) → is_memoized o f k ≡ false
-    go None = ap (list_any (λ v. same_numbers k v.items)) no_lists
+    go None = no_sparse k
     go (Some bit) = ap (λ words. bit_is_set words bit) no_bits ∙ no_bit bit
 
 -- one more that has a bit
@@ -115,47 +114,17 @@ bit_set_holds f bits m bit of_m more k = go (pair_bit f.pair_bits f.base k) refl
     go None of_k = sym (ap (λ b. b || is_memoized None f k) (not_same f.pair_bits f.base k m (λ e. cc)))
     go (Some n) of_k = more n ∙ ap (λ b. b || bit_is_set f.bits.items n) (same_bit n of_k)
 
-abbrev pub Lists : Type 0
-Lists = HashSet (Vec ℕ Global) (BuildHasherDefault FoldHasher)
-
--- the set of lists has these numbers
-abbrev pub has_list : Lists → List ℕ → Bool
-has_list lists k = contains_by (λ v. same_numbers k v.items) lists
-
--- one more that has none
-list_memoized : (f : Failed) (lists : Lists) (m : List ℕ) → pair_bit f.pair_bits f.base m ≡ None →
-    ((k : List ℕ) → has_list lists k ≡ (same_numbers k m || has_list f.lists k)) →
-    (k : List ℕ) → has_pair (record f { lists = lists }) k ≡ (same_numbers k m || has_pair f k)
+-- one more in the sparse set
+pub sparse_added : (f : Failed) (sparse : SparsePairs) (m : List ℕ) → pair_bit f.pair_bits f.base m ≡ None →
+    ((k : List ℕ) → has_sparse sparse k ≡ (same_numbers k m || has_sparse f.sparse k)) →
+    (k : List ℕ) → has_pair (record f { sparse = sparse }) k ≡ (same_numbers k m || has_pair f k)
 unfolding has_pair
-list_memoized f lists m of_m more k = go (pair_bit f.pair_bits f.base k) refl
+sparse_added f sparse m of_m more k = go (pair_bit f.pair_bits f.base k) refl
   where
     go : (o : Option ℕ) → pair_bit f.pair_bits f.base k ≡ o →
-        is_memoized o (record f { lists = lists }) k ≡ (same_numbers k m || is_memoized o f k)
+        is_memoized o (record f { sparse = sparse }) k ≡ (same_numbers k m || is_memoized o f k)
     go None of_k = more k
     go (Some n) of_k = sym (ap (λ b. b || bit_is_set f.bits.items n) (not_same f.pair_bits f.base k m (λ e. cc)))
-
--- the set after an insert has one more
-list_put : (old new : Lists) (v : Vec ℕ Global) (added : Bool) →
-    added ≡ not (has_list old v.items) → PutsKey old new v added →
-    (k : List ℕ) → has_list new k ≡ (same_numbers k v.items || has_list old k)
-list_put old new v true was puts k = sym (list_any-IsPermutation (λ w. same_numbers k w.items) (v ∷ old.keys) new.keys puts)
-list_put old new v false was puts k = ap (list_any (λ w. same_numbers k w.items)) puts ∙ go (same_numbers k v.items) refl
-  where
-    go : (b : Bool) → same_numbers k v.items ≡ b → has_list old k ≡ (b || has_list old k)
-    go false other = refl
-    go true same = ap (has_list old) ((bytes_decides k v.items).0 same) ∙ not-false (has_list old v.items) (sym was)
-
--- the set after an insert of this list of numbers
-pub list_added : (f : Failed) (lists : Lists) (m : List ℕ) (v : Vec ℕ Global) (added : Bool) → pair_bit f.pair_bits f.base m ≡ None →
-    v.items ≡ m → added ≡ not (has_list f.lists v.items) → PutsKey f.lists lists v added →
-    (k : List ℕ) → has_pair (record f { lists = lists }) k ≡ (same_numbers k m || has_pair f k)
-list_added f lists m v added of_m same was puts =
-    list_memoized f lists m of_m (subst (λ l. (k : List ℕ) → has_list lists k ≡ (same_numbers k l || has_list f.lists k)) same
-    (list_put f.lists lists v added was puts))
-
-pub on_err : {T E P : Type 0} (r : Result T E) → P → OnErr r P
-on_err (Ok x) p = tt
-on_err (Err e) p = p
 
 pub same_bits : (f : Failed) (bits : Vec ℕ Global) → bits.items ≡ f.bits.items → (k : List ℕ) → has_pair (record f { bits = bits }) k ≡ has_pair f k
 unfolding has_pair
@@ -165,10 +134,11 @@ same_bits f bits same k = go (pair_bit f.pair_bits f.base k)
     go None = refl
     go (Some bit) = ap (λ words. bit_is_set words bit) same
 
-pub same_lists : (f : Failed) (lists : Lists) → lists.keys ≡ f.lists.keys → (k : List ℕ) → has_pair (record f { lists = lists }) k ≡ has_pair f k
+pub same_sparse : (f : Failed) (sparse : SparsePairs) → ((k : List ℕ) → has_sparse sparse k ≡ has_sparse f.sparse k) →
+    (k : List ℕ) → has_pair (record f { sparse = sparse }) k ≡ has_pair f k
 unfolding has_pair
-same_lists f lists same k = go (pair_bit f.pair_bits f.base k)
+same_sparse f sparse same k = go (pair_bit f.pair_bits f.base k)
   where
-    go : (o : Option ℕ) → is_memoized o (record f { lists = lists }) k ≡ is_memoized o f k
-    go None = ap (list_any (λ v. same_numbers k v.items)) same
+    go : (o : Option ℕ) → is_memoized o (record f { sparse = sparse }) k ≡ is_memoized o f k
+    go None = same k
     go (Some bit) = refl

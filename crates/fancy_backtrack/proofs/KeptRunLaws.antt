@@ -11,7 +11,8 @@ use Rattle.fancy_backtrack.specs.declared.memo.Memo.{Memo}
 use Rattle.fancy_backtrack.specs.BacktrackStack.{choices_of, run_choices}
 use Rattle.fancy_backtrack.specs.Paths.{EndsCounters, HasCounters, IsConfig, counter_of}
 use Rattle.fancy_backtrack.specs.Memos.{IsLoopSplitOf, onward, run_frames, run_search, AreKept, HaveFailed, IsHere, IsSearch, Continuation, saturated}
-use Rattle.fancy_backtrack.specs.FailedPairs.{has_pair, key_of}
+use Rattle.fancy_backtrack.specs.PairKeys.{key_of}
+use Rattle.fancy_backtrack.specs.FailedPairs.{has_pair}
 use Rattle.fancy_backtrack.proofs.MemoLaws.{inside, key_outside}
 
 -- ---- what is kept

@@ -18,7 +18,8 @@ use Rattle.fancy_backtrack.specs.declared.trail.Trail.{Trail}
 use Rattle.fancy_backtrack.specs.declared.trail.LoopCounter.{LoopCounter}
 use Rattle.fancy_backtrack.specs.declared.trail.NfaConfig.{NfaConfig}
 use Rattle.fancy_backtrack.specs.declared.memo.Memo.{Memo}
-use Rattle.fancy_backtrack.specs.FailedPairs.{has_pair, key_of, same_numbers, counter_numbers}
+use Rattle.fancy_backtrack.specs.PairKeys.{key_of, same_numbers, counter_numbers}
+use Rattle.fancy_backtrack.specs.FailedPairs.{has_pair}
 use Rattle.fancy_backtrack.specs.declared.failed.Failed.{Failed}
 use Rattle.fancy_backtrack.proofs.PairKeys.{same_keys_turned}
 use Rattle.fancy_backtrack.proofs.PathLaws.{agree_more, kept_agree, kept_longer, opened_agree, counters_agree}

@@ -6,7 +6,7 @@ use Rattle.regex_hir.proofs.AttemptLemmas.{option_and_then_some}
 use Rattle.fancy_backtrack.specs.declared.pair_bits.PairBits.{PairBits}
 use Rattle.fancy_backtrack.specs.PairBits.{counter_number, counters_base, counters_number, pair_number, place_bit, pair_bit}
 
-if_some : {A : Type 0} (b : Bool) (x y : A) → (if b then Some x else None) ≡ Some y → (b ≡ true) × (x ≡ y)
+pub if_some : {A : Type 0} (b : Bool) (x y : A) → (if b then Some x else None) ≡ Some y → (b ≡ true) × (x ≡ y)
 if_some true x y h = (refl, cc)
 if_some false x y h = cc
 

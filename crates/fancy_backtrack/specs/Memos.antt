@@ -10,7 +10,8 @@ use Rattle.fancy_backtrack.specs.declared.memo.StepResult.{StepResult}
 use Rattle.fancy_backtrack.specs.declared.memo.StepResult.TheVariants as step_result
 use Rattle.fancy_backtrack.specs.declared.memo.Memo.{Memo}
 use Rattle.fancy_backtrack.specs.BacktrackStack.{choices_of}
-use Rattle.fancy_backtrack.specs.FailedPairs.{has_pair, key_of}
+use Rattle.fancy_backtrack.specs.PairKeys.{key_of}
+use Rattle.fancy_backtrack.specs.FailedPairs.{has_pair}
 use Rattle.fancy_backtrack.specs.Paths.{IsConfig}
 
 -- where a configuration leads, by the definition

@@ -1,16 +1,14 @@
 //! The pairs of a state and a place that have no way.
 
 ghost use Rattle.std.specs.Prelude.{◌≡◌, ◌≤◌, ◌<◌, ◌+◌, ◌-◌, ◌++◌, ℕ, ◌∷◌, [], ◌||◌, ◌==◌, false, length, replicate, List, IsTrue, OnOk, OnErr};
-ghost use Rattle.fancy_backtrack.specs.FailedPairs.{same_numbers, bit_is_set, has_pair};
+ghost use Rattle.fancy_backtrack.specs.FailedPairs.{bit_is_set, has_pair};
+ghost use Rattle.fancy_backtrack.specs.PairKeys.{same_numbers};
 
 use crate::pair_bits::PairBits;
+use crate::sparse_pairs::SparsePairs;
 use std::alloc::{AllocError, Global};
-use std::collections::HashSet;
 
-/// How many times the lists that a search memoized their room may be, once it is over.
-const SPARE: usize = 16;
-
-/// Pairs that have no way. Where states and counts are few a pair is a bit; any other is a list of its numbers.
+/// Pairs that have no way. Where states and counts are few a pair is a bit of its place; others are in a sparse set.
 #[derive(Drop)]
 pub(crate) struct Failed {
     /// Which bit a pair has.
@@ -18,8 +16,7 @@ pub(crate) struct Failed {
     /// The place of the first bits.
     base: usize,
     bits: Vec<u64>,
-    /// The state, the place, and of each loop around the count and whether it is to move and has not.
-    lists: HashSet<Vec<usize>>,
+    sparse: SparsePairs,
 }
 
 impl Failed {
@@ -31,7 +28,7 @@ impl Failed {
             pair_bits,
             base,
             bits: Vec::new(alloc),
-            lists: HashSet::new(alloc),
+            sparse: SparsePairs::new(alloc, pair_bits.numbers, base),
         }
     }
 
@@ -42,11 +39,7 @@ impl Failed {
         self.pair_bits = pair_bits;
         self.base = base;
         self.bits.clear();
-        let used = self.lists.len();
-        if used > 0 {
-            self.lists.clear();
-            self.lists.shrink_to(used.saturating_mul(SPARE));
-        }
+        self.sparse.clear(pair_bits.numbers, base);
     }
 
     /// No pair was added.
@@ -54,7 +47,7 @@ impl Failed {
     pub(crate) fn is_empty(&self) -> bool
         ensures { IsTrue result → (k : List ℕ) → has_pair self.now k ≡ false }
     {
-        self.bits.is_empty() && self.lists.is_empty()
+        self.bits.is_empty() && self.sparse.is_empty()
     }
 
     /// Whether a pair with these numbers is among them.
@@ -63,7 +56,7 @@ impl Failed {
     {
         match self.pair_bits.bit(self.base, pair) {
             Some(bit) => has_bit(&self.bits, bit),
-            None => self.lists.contains(pair),
+            None => self.sparse.has(pair),
         }
     }
 
@@ -87,11 +80,7 @@ impl Failed {
     {
         match self.pair_bits.bit(self.base, pair) {
             Some(bit) => set_bit(&mut self.bits, bit),
-            None => {
-                let pair = Vec::from_slice(alloc, pair)?;
-                self.lists.insert(pair)?;
-                Ok(())
-            }
+            None => self.sparse.add(alloc, pair),
         }
     }
 

@@ -7,4 +7,6 @@ mod failed;
 pub mod loops;
 pub mod memo;
 pub mod pair_bits;
+pub mod pair_numbers;
+mod sparse_pairs;
 pub mod trail;

@@ -4,7 +4,7 @@ ghost use Rattle.std.specs.Prelude.{◌≡◌, ◌≤◌, ◌<◌, ◌+◌, ◌�
 ghost use Rattle.fancy_nfa.specs.NfaSearch as plain;
 ghost use Rattle.fancy_nfa.specs.NfaSearch.{Search, TakesUp, pair_of};
 ghost use Rattle.fancy_nfa.specs.NfaStates as states;
-ghost use Rattle.fancy_backtrack.specs.FailedPairs.{key_of, counter_numbers};
+ghost use Rattle.fancy_backtrack.specs.PairKeys.{key_of, counter_numbers};
 ghost use Rattle.fancy_backtrack.specs.Paths.{HasCounters, counter_of};
 ghost use Rattle.fancy_backtrack.specs.Loops.{loop_of, Repeats};
 ghost use Rattle.fancy_backtrack.specs.BacktrackStack.{choices_of, Pops};

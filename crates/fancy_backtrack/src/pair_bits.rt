@@ -3,6 +3,8 @@
 ghost use Rattle.std.specs.Prelude.{◌≡◌, ◌<◌, ◌^◌, ◌∷◌, [], ℕ, List, IfSome};
 ghost use Rattle.fancy_backtrack.specs.PairBits.{counter_number, counters_number, pair_number, pair_bit, place_bit};
 
+use crate::pair_numbers::PairNumbers;
+
 /// The most bits of a place.
 const MOST: usize = 256;
 
@@ -18,6 +20,8 @@ pub struct PairBits {
     counts: u8,
     /// where the number of whether they have stayed is below this one.
     stays: u8,
+    /// Which numbers the other pairs have.
+    pub(crate) numbers: PairNumbers,
 }
 
 /// What the loops of a fragment that count ask for.
@@ -39,12 +43,14 @@ fn small(n: usize) -> u8 {
 impl PairBits {
     /// Those of a fragment of so many states with these loops. Whatever is chosen here, no two pairs have one bit.
     pub fn of(count: usize, loops: Loops) -> PairBits {
+        let numbers = PairNumbers::of(count, loops);
         if count > MOST {
             return PairBits {
                 width: 0,
                 states: 0,
                 counts: 0,
                 stays: 0,
+                numbers,
             };
         }
         let counters = loops.counts.saturating_mul(loops.stays).saturating_add(1);
@@ -60,6 +66,7 @@ impl PairBits {
             states: count as u16,
             counts: small(loops.counts),
             stays: small(loops.stays),
+            numbers,
         }
     }
 

@@ -68,7 +68,7 @@ module _ (continuation : Continuation) (m cut : Memo) (c : StackFrame) (cs : Lis
         (subst (λ n. AreKept continuation cut.trail.entries.items n cs last.rest) (sym long)
         (subst (λ l. AreKept continuation l c.path cs last.rest) (sym path)
         (kept_agree es (take c.path es) continuation c.path cs last.rest (agree_cut c.path c.path es (omega arith)) last.kept)));
-    failed = λ p. ap (λ x. Rattle.fancy_backtrack.specs.FailedPairs.has_pair x (Rattle.fancy_backtrack.specs.FailedPairs.key_of p)) failed ∙ h.failed p;
+    failed = λ p. ap (λ x. Rattle.fancy_backtrack.specs.FailedPairs.has_pair x (Rattle.fancy_backtrack.specs.PairKeys.key_of p)) failed ∙ h.failed p;
     visits = visits ∙ h.visits;
   }
 

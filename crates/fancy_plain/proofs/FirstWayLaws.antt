@@ -20,7 +20,8 @@ use Rattle.fancy_plain.specs.declared.first_way.FirstWay.{FirstWay}
 use Rattle.fancy_plain.specs.declared.first_way.Way.{Way}
 use Rattle.fancy_plain.specs.declared.nfa.Nfa.{Nfa}
 use Rattle.fancy_plain.specs.declared.nfa_state.NfaState as code
-use Rattle.fancy_backtrack.specs.FailedPairs.{has_pair, key_of}
+use Rattle.fancy_backtrack.specs.PairKeys.{key_of}
+use Rattle.fancy_backtrack.specs.FailedPairs.{has_pair}
 use Rattle.fancy_backtrack.specs.declared.trail.Entry.{Entry}
 use Rattle.fancy_backtrack.specs.declared.trail.NfaConfig.{NfaConfig}
 use Rattle.fancy_backtrack.specs.declared.memo.Memo.{Memo}

@@ -26,7 +26,8 @@ use Rattle.fancy_backtrack.specs.Memos.{IsLoopSplitOf, onward, run_search, HaveF
 use Rattle.fancy_backtrack.specs.Loops.{Repeats, loop_of}
 use Rattle.fancy_plain.specs.Searches.{IsSearcher, after_steps_of, continuation_of, next_of}
 use Rattle.fancy_plain.specs.Views.{IsReadBy, state_of, test_of}
-use Rattle.fancy_backtrack.specs.FailedPairs.{has_pair, key_of}
+use Rattle.fancy_backtrack.specs.PairKeys.{key_of}
+use Rattle.fancy_backtrack.specs.FailedPairs.{has_pair}
 use Rattle.fancy_backtrack.proofs.KeptRunLaws.{onward_configs}
 use Rattle.fancy_plain.proofs.BackLaws.{back_memoized, one_more, steps_then}
 use Rattle.fancy_plain.proofs.FirstSetLaws.{at_index, passes_alike, past_ascii, past_end}

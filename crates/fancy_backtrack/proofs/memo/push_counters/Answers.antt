@@ -1,5 +1,5 @@
 use Rattle.std.proofs.Common.{refl, sym, ap, ◌∙◌, subst, ◌∷◌, ◌++◌, []}
-use Rattle.fancy_backtrack.specs.FailedPairs.{stayed_number}
+use Rattle.fancy_backtrack.specs.PairKeys.{stayed_number}
 use Rattle.fancy_backtrack.proofs.PathLaws.{AreWritten, option_stays, written_all, written_more}
 use Rattle.fancy_backtrack.proofs.memo.push_counters.Goals as goal
 

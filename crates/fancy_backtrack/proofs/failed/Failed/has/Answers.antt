@@ -9,4 +9,4 @@ returns-in-Some c =
     ∙ memoized_at c.args.self.now c.args.pair.now _ c.in-Some.ensures
 
 pub returns-in-None : goal.returns-in-None
-returns-in-None c = c.contains.ensures ∙ memoized_at c.args.self.now c.args.pair.now _ c.in-None.ensures
+returns-in-None c = c.has.ensures ∙ memoized_at c.args.self.now c.args.pair.now _ c.in-None.ensures

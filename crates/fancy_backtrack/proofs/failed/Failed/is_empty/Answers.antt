@@ -9,4 +9,4 @@ pub returns-then-is_empty : goal.returns-then-is_empty
 returns-then-is_empty c = λ none.
     let no_bits = eqb-true (vec_len c.args.self.now.bits) 0 (sym c.if-is_empty.ensures) in
     none_memoized c.args.self.now (nil_from_length c.args.self.now.bits.items (omega (arith, no_bits)))
-    (nil_from_length _ (c.is_empty-then-is_empty.ensures.0 none))
+    (c.is_empty-then-is_empty.ensures none)

@@ -1,4 +1,4 @@
-use Rattle.fancy_backtrack.specs.FailedPairs.{key_of}
+use Rattle.fancy_backtrack.specs.PairKeys.{key_of}
 use Rattle.fancy_backtrack.proofs.memo.Memo.clear.Goals as goal
 
 pub returns : goal.returns

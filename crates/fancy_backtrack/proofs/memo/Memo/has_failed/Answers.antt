@@ -1,6 +1,7 @@
 use Rattle.std.proofs.Common.{sym, ap, ◌∙◌}
 use Rattle.fancy_nfa.specs.NfaSearch.{pair_of}
-use Rattle.fancy_backtrack.specs.FailedPairs.{has_pair, key_of}
+use Rattle.fancy_backtrack.specs.PairKeys.{key_of}
+use Rattle.fancy_backtrack.specs.FailedPairs.{has_pair}
 use Rattle.fancy_backtrack.proofs.MemoLaws.{key_outside}
 use Rattle.fancy_backtrack.proofs.memo.Memo.has_failed.Goals as goal
 

@@ -1,5 +1,5 @@
 use Rattle.std.proofs.Common.{sym, ◌∙◌}
-use Rattle.fancy_backtrack.specs.FailedPairs.{key_of}
+use Rattle.fancy_backtrack.specs.PairKeys.{key_of}
 use Rattle.fancy_backtrack.proofs.memo.Memo.is_blank.Goals as goal
 
 pub returns : goal.returns

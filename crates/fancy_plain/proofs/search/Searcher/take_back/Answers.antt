@@ -6,7 +6,8 @@ use Rattle.fancy_plain.specs.Searches.{continuation_of}
 use Rattle.std.proofs.lemmas.Result.{err_from_is_err_and}
 use Rattle.fancy_backtrack.specs.declared.memo.Memo.{Memo}
 use Rattle.fancy_backtrack.specs.BacktrackStack.{choices_of}
-use Rattle.fancy_backtrack.specs.FailedPairs.{has_pair, key_of}
+use Rattle.fancy_backtrack.specs.PairKeys.{key_of}
+use Rattle.fancy_backtrack.specs.FailedPairs.{has_pair}
 use Rattle.fancy_plain.specs.Runs.{IsLostAt, lost_visits}
 use Rattle.fancy_plain.proofs.BackLaws.{goes_back, none_kept, one_more, popped, search_memoized}
 use Rattle.fancy_nfa.specs.FirstWays.{search_in}

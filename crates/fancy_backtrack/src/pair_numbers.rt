@@ -1,0 +1,93 @@
+//! Which number a pair has among all pairs of a search.
+
+ghost use Rattle.std.specs.Prelude.{◌≡◌};
+ghost use Rattle.fancy_backtrack.specs.PairNumbers.{counter_digit, counters_value, pair_value};
+
+use crate::pair_bits::Loops;
+
+/// The most numbers of iterations that a pair may have, two of each: more have no number in 64 bits.
+const MOST: usize = 128;
+
+/// Which pairs have a number. A pair has one inside any number of loops, as long as the number fits 64 bits.
+#[derive(Clone, Copy)]
+pub struct PairNumbers {
+    /// States below this one have numbers,
+    states: usize,
+    /// inside iterations before which fewer were begun than this,
+    counts: usize,
+    /// where the number of whether they have stayed is below this one.
+    stays: usize,
+    /// More than any digit, which is the number of one iteration.
+    base: usize,
+    /// How many numbers a state has at a place.
+    width: usize,
+}
+
+impl PairNumbers {
+    /// Those of a fragment of so many states with these loops. Whatever is chosen here, no two pairs have one number.
+    pub(crate) fn of(states: usize, loops: Loops) -> PairNumbers {
+        let base = loops.counts.saturating_mul(loops.stays).saturating_add(1);
+        let mut width: usize = 1;
+        for _ in 0..loops.depth.min(MOST / 2) {
+            width = width.saturating_mul(base);
+        }
+        PairNumbers {
+            states,
+            counts: loops.counts,
+            stays: loops.stays,
+            base,
+            width,
+        }
+    }
+
+    /// The digit of an iteration, from 1 on.
+    fn counter_digit(self, count: usize, stayed: usize) -> Option<usize>
+        ensures { result ≡ counter_digit self count stayed }
+    {
+        if count >= self.counts || stayed >= self.stays {
+            return None;
+        }
+        let digit = stayed
+            .checked_mul(self.counts)?
+            .checked_add(count)?
+            .checked_add(1)?;
+        if digit < self.base { Some(digit) } else { None }
+    }
+
+    /// The number that the iterations around have as digits, the innermost last. Each has two numbers.
+    fn counters_value(self, counters: &[usize]) -> Option<usize>
+        ensures { result ≡ counters_value self counters.now }
+    {
+        match counters {
+            [] => Some(0),
+            [count, stayed, around @ ..] => {
+                let digit = self.counter_digit(*count, *stayed)?;
+                let around = self.counters_value(around)?;
+                around.checked_mul(self.base)?.checked_add(digit)
+            }
+            _ => None,
+        }
+    }
+
+    /// The number of a pair, where those of the place `base` are the first ones.
+    pub(crate) fn number(self, base: usize, pair: &[usize]) -> Option<usize>
+        ensures { result ≡ pair_value self base pair.now }
+    {
+        let [at, place, counters @ ..] = pair else {
+            return None;
+        };
+        if counters.len() > MOST || *at >= self.states {
+            return None;
+        }
+        let around = self.counters_value(counters)?;
+        if around >= self.width {
+            return None;
+        }
+        place
+            .checked_sub(base)?
+            .checked_mul(self.states)?
+            .checked_add(*at)?
+            .checked_mul(self.width)?
+            .checked_add(around)
+    }
+}
