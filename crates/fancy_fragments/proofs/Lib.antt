@@ -8,3 +8,4 @@ pub mod PatternTexts
 pub mod GroupRanges
 pub mod DelegateParts
 pub mod SameTrees
+pub mod ThreadsLaws

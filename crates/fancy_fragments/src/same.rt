@@ -21,7 +21,8 @@ impl Fragment {
     /// Whether it is the fragment of these nodes. It may say no where it is, but not of the nodes that it was built of.
     pub fn is_of(&self, infos: &[Info], unicode: bool) -> bool
         requires { AreEasyNeighbours infos.now }
-        ensures { result ≡ true → fragment_of self.now ≡ fragment unicode (map info_tree infos.now) }
+        ensures { result ≡ true
+            → fragment_of self.now ≡ fragment unicode (map info_tree infos.now) }
     {
         if self.unicode == unicode {
             if begin_at(infos, self.first_group, self.within) {

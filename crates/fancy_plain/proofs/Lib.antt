@@ -14,3 +14,4 @@ pub mod FirstSetLaws
 pub mod RequiredBytesLaws
 pub mod OnePassLaws
 pub mod CountedLaws
+pub mod ThreadsLaws

@@ -125,7 +125,8 @@ impl Layout {
     /// Writes over a state.
     fn patch(&mut self, at: usize, nfa_state: NfaState)
         requires { IsStateReadBy self.now.unicode nfa_state }
-        ensures { Replaces (slice_set (states_in self.old) at (state_of nfa_state)) self.old self.new }
+        ensures { Replaces
+            (slice_set (states_in self.old) at (state_of nfa_state)) self.old self.new }
     {
         if at < self.states.len() {
             self.states[at] = nfa_state;
