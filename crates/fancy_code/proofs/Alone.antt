@@ -40,15 +40,18 @@ module _ (p : Site) (call : ℕ → Bool → Code) (at_start in_hard : Bool) (s 
 
   pub wrote_bytes : (cs bytes : List ℕ) → bytes ≡ encode_utf8_all cs → Writes (within_node p) (one (Instr.Lit bytes)) [] s t → Written (plain.LiteralBytes cs)
   wrote_bytes cs bytes same h =
-      wrote_node p room _ (plain.LiteralBytes cs) s t (safe_fine p (plain.LiteralBytes cs) refl refl) (subst (λ l. Writes (within_node p) (one (Instr.Lit l)) [] s t) same h)
+      wrote_node p room _ (plain.LiteralBytes cs) s t (safe_fine p (plain.LiteralBytes cs) refl refl)
+      (subst (λ l. Writes (within_node p) (one (Instr.Lit l)) [] s t) same h)
 
-  pub wrote_backref : (g : ℕ) (casei : Bool) → is_out_of_range (plain.Backref g casei) ≡ false → Writes (within_node p) (one (Instr.Backref (2 * g) casei p.unicode)) [] s t
+  pub wrote_backref : (g : ℕ) (casei : Bool) → is_out_of_range (plain.Backref g casei) ≡ false →
+      Writes (within_node p) (one (Instr.Backref (2 * g) casei p.unicode)) [] s t
       → Written (plain.Backref g casei)
   wrote_backref g casei ranged h = wrote_node p room _ (plain.Backref g casei) s t (safe_fine p (plain.Backref g casei) refl ranged) h
 
   -- ---- classes
 
-  class_fine : (inner : List ℕ) (casei : Bool) → is_class p.unicode inner casei ≡ true → (x : refusal.CompileError) → ¬ Rejects p.plan (plain.Delegate inner casei) x
+  class_fine : (inner : List ℕ) (casei : Bool) → is_class p.unicode inner casei ≡ true →
+      (x : refusal.CompileError) → ¬ Rejects p.plan (plain.Delegate inner casei) x
   class_fine inner casei ok x (refused (absent_other i n)) = true≢false (sym i)
   class_fine inner casei ok x (refused (no_class i)) = true≢false (sym ok ∙ i)
   class_fine inner casei ok x (out_of_range i) = true≢false (sym i)
@@ -72,7 +75,8 @@ module _ (p : Site) (call : ℕ → Bool → Code) (at_start in_hard : Bool) (s 
 
   pub wrote_any : (newline crlf : Bool) (i : Instr) → i ≡ any_instr newline crlf → Writes (within_node p) (one i) [] s t → Written (plain.Any newline crlf)
   wrote_any newline crlf i same h =
-      wrote_node p room _ (plain.Any newline crlf) s t (safe_fine p (plain.Any newline crlf) refl refl) (subst (λ j. Writes (within_node p) (one j) [] s t) same h)
+      wrote_node p room _ (plain.Any newline crlf) s t (safe_fine p (plain.Any newline crlf) refl refl)
+      (subst (λ j. Writes (within_node p) (one j) [] s t) same h)
 
   pub wrote_keep_out : Writes (within_node p) (one (Instr.Save 0)) [] s t → Written plain.KeepOut
   wrote_keep_out h = wrote_node p room _ plain.KeepOut s t (safe_fine p plain.KeepOut refl refl) h

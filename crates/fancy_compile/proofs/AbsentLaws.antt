@@ -37,7 +37,8 @@ repeater_below (code_absent.Expression' b a c e) h = absurd (true≢false (sym h
 repeater_below (code_absent.Stopper' b e) h = absurd (true≢false (sym h))
 repeater_below code_absent.Clear h = absurd (true≢false (sym h))
 
-pub not_repeater : (p : Site) (a : Absent) (es : Trees) → is_repeater a ≡ false → HasRejected p (absent_over a es ∷ []) (refused_as refusal.FeatureNotYetSupported)
+pub not_repeater : (p : Site) (a : Absent) (es : Trees) → is_repeater a ≡ false →
+    HasRejected p (absent_over a es ∷ []) (refused_as refusal.FeatureNotYetSupported)
 not_repeater p (code_absent.Repeater' b e) es h = absurd (true≢false h)
 not_repeater p (code_absent.Expression' b a c e) es h = other_absent p (plain.AbsentExpression (nth es 0) (nth es 1)) refl refl
 not_repeater p (code_absent.Stopper' b e) es h = other_absent p (plain.AbsentStopper (nth es 0)) refl refl
@@ -77,7 +78,8 @@ module _ (p : Site) (e : Tree) where
         subst (λ k. Writes p k (AbsentRepeater e ∷ []) s t) (sym (ap (λ b. over_easy (not b)) easy))
         (wrote_node p room (at_once (length s.instrs) s.fresh) (AbsentRepeater e) s t (repeater_fine passes, refl) w)
 
-    pub wrote_absent : is_hard p.analysis e ≡ true → is_refused ≡ false → Writes (within_node p) (absent_code (node_code p call e false false)) (e ∷ []) s t → Wrote
+    pub wrote_absent : is_hard p.analysis e ≡ true → is_refused ≡ false →
+        Writes (within_node p) (absent_code (node_code p call e false false)) (e ∷ []) s t → Wrote
     wrote_absent hard h w =
         let body = absent_code (node_code p call e false false) in
         subst (λ k. Writes p k (AbsentRepeater e ∷ []) s t)

@@ -108,7 +108,8 @@ module _ (p : Plan) where
   small_enough : (most : ℕ) → p.max_prog_size ≡ Some most → ForSome p.max_prog_size (λ n. length whole_code.instrs ≤ n) → length whole_code.instrs ≤ most
   small_enough most same h = h most same
 
-  pub none_refused : (most : Option ℕ) → RefusesNone (top p most) whole → ForSome p.max_prog_size (λ n. length whole_code.instrs ≤ n) → p.bytes_mode ≡ plain.Unicode
+  pub none_refused : (most : Option ℕ) → RefusesNone (top p most) whole → ForSome p.max_prog_size (λ n. length whole_code.instrs ≤ n) →
+      p.bytes_mode ≡ plain.Unicode
       → (x : refusal.CompileError) → ¬ Refuses p x
   none_refused top_most ok small mode x (refused_node {e = e} w r) = ok e (below_written e w) x (refused r)
   none_refused top_most ok small mode x (too_long {most = most} same long) = absurd (omega (arith, long, ap length body_is, small_enough most same small))

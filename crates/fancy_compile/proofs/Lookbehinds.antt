@@ -136,7 +136,8 @@ module _ (p : Site) where
     constant_fine look e h = (behind_fine look e (λ v. v.body_varies h), refl)
 
     pub wrote_behind : (negative : Bool) (e : Tree) (n : ℕ) → (size p.analysis.tree e).is_const ≡ true → n ≡ (size p.analysis.tree e).least
-        → Writes (within_node p) (around_code (around.Look (behind_kind negative n)) (node_code p call e false false)) (e ∷ []) s t → Wrote (look_behind negative) e
+        → Writes (within_node p) (around_code (around.Look (behind_kind negative n)) (node_code p call e false false)) (e ∷ []) s t
+        → Wrote (look_behind negative) e
     wrote_behind true e n const is h =
         wrote_node p room _ (LookAround LookBehindNeg e) s t (constant_fine LookBehindNeg e const)
         (subst (λ k. Writes (within_node p) k (e ∷ []) s t) (ap (λ m. around_code (not_behind m) (node_code p call e false false)) is
@@ -157,7 +158,8 @@ module _ (p : Site) where
     as_branches again es k h = wrote_node (within_node p) again _ (Alt (trees es)) s t (safe_fine (within_node p) (Alt (trees es)) refl refl)
         (subst (λ ds. Writes (within_node (within_node p)) k ds s t) (sym (children_trees es)) h)
 
-    pub wrote_behind_branches : HasRoom (within_node p) → (e : Tree) (es : List Tree) → e ≡ Alt (trees es) → (size p.analysis.tree e).is_const ≡ false → AllConst p call es
+    pub wrote_behind_branches : HasRoom (within_node p) → (e : Tree) (es : List Tree) → e ≡ Alt (trees es) →
+        (size p.analysis.tree e).is_const ≡ false → AllConst p call es
         → Writes (within_node (within_node p)) (branches (codes_of_branches p call true false es)) es s t → Wrote LookBehind e
     wrote_behind_branches again e es is varies all h =
         subst (λ d. Wrote LookBehind d) (sym is)
@@ -166,7 +168,8 @@ module _ (p : Site) where
         (sym (behind_alt_by p call at_start in_hard es (ap (λ d. (size p.analysis.tree d).is_const) (sym is) ∙ varies) all))
         (as_branches again es (branches (codes_of_branches p call true false es)) h)))
 
-    pub wrote_none_behind : HasRoom (within_node p) → (e : Tree) (es : List Tree) → e ≡ Alt (trees es) → (size p.analysis.tree e).is_const ≡ false → AllConst p call es
+    pub wrote_none_behind : HasRoom (within_node p) → (e : Tree) (es : List Tree) → e ≡ Alt (trees es) →
+        (size p.analysis.tree e).is_const ≡ false → AllConst p call es
         → Writes (within_node (within_node p)) (in_turn (codes_of_none p call es)) es s t → Wrote LookBehindNeg e
     wrote_none_behind again e es is varies all h =
         subst (λ d. Wrote LookBehindNeg d) (sym is)

@@ -100,7 +100,8 @@ module _ (p : Site) (room : HasRoom p) (call : ℕ → Bool → Code) (at_start 
       (subst (λ f. Writes (within_node p) (repeat_code greedy (body f) f) (e ∷ []) s t) is h)
 
 -- a loop that is never entered
-pub wrote_never : (p : Site) (room : HasRoom p) (call : ℕ → Bool → Code) (at_start in_hard : Bool) (lo : ℕ) (greedy : Bool) (e : Tree) (s : Draft) (hi : Option ℕ)
+pub wrote_never : (p : Site) (room : HasRoom p) (call : ℕ → Bool → Code) (at_start in_hard : Bool) (lo : ℕ) (greedy : Bool)
+    (e : Tree) (s : Draft) (hi : Option ℕ)
     → Never ≡ loop_form lo hi ((size p.analysis.tree e).least == 0) → Writes p (written_code p call (Repeat lo hi greedy e) at_start in_hard)
     (Repeat lo hi greedy e ∷ []) s s
 wrote_never p room call at_start in_hard lo greedy e s hi is =

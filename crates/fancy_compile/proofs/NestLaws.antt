@@ -66,7 +66,8 @@ module _ (a : Analysis) (n : ℕ) (w : plain.Within) (ts : Trees) where
   parts_not_entered (code.DefineGroup' b e) is = refl
   parts_not_entered e is = absurd (true≢false is)
 
-easy_among : (a : Analysis) (l : List Info) → Each (IsAnalysed a) l → ((c : Tree) → IsAmong c (trees (map info_tree l)) → is_hard a c ≡ false) → Each (IsEasy a) l
+easy_among : (a : Analysis) (l : List Info) → Each (IsAnalysed a) l →
+    ((c : Tree) → IsAmong c (trees (map info_tree l)) → is_hard a c ≡ false) → Each (IsEasy a) l
 easy_among a [] h easy = tt
 easy_among a (i ∷ l) h easy = (record { analysed = h.0; easy = easy (info_tree i) here }, easy_among a l h.1 (λ c m. easy c (there m)))
 
@@ -108,7 +109,8 @@ module _ (whole : Tree) (calls : Depths) where
 one_less : (n : ℕ) → ¬ (n ≡ 0) → n ≡ suc (n - 1)
 one_less n h = omega (arith, h)
 
-pub deeper_by_one : (e : Tree) (es : List Info) (most : ℕ) → ¬ (most ≡ 0) → written_parts e ≡ trees (map info_tree es) → OneDeeper (most - 1) es → IsDeeper most e
+pub deeper_by_one : (e : Tree) (es : List Info) (most : ℕ) → ¬ (most ≡ 0) → written_parts e ≡ trees (map info_tree es) →
+    OneDeeper (most - 1) es → IsDeeper most e
 deeper_by_one e es most some written (c, i, h) = λ whole calls.
     subst (λ n. NestsDeeper whole calls n e) (sym (one_less most some)) (over_part (subst (IsAmong c) (sym written) i) (h whole calls))
 

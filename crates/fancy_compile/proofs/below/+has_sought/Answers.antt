@@ -7,7 +7,9 @@ use Rattle.fancy_compile.proofs.SoughtNodesLaws.{over_sought}
 use Rattle.fancy_compile.proofs.below.+has_sought.Goals as goal
 
 pub returns-then-is_sought : goal.returns-then-is_sought
-returns-then-is_sought t c = sym (any_of_info (is_sought c.args.sought) (is_sought_expr c.args.sought) (λ es n w. over_sought es n w c.args.sought) c.requires.0 c.args.info.now c.requires.1
+returns-then-is_sought t c =
+    sym (any_of_info (is_sought c.args.sought) (is_sought_expr c.args.sought) (λ es n w. over_sought es n w c.args.sought)
+    c.requires.0 c.args.info.now c.requires.1
     ∙ ap (λ b. b || any_below (is_sought c.args.sought) (info_children c.args.info.now))
     (ap (is_sought_expr c.args.sought) (sym c.expr.ensures) ∙ sym c.is_sought.ensures ∙ c.if-is_sought.true))
 

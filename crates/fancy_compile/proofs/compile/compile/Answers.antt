@@ -49,7 +49,8 @@ finish-requires c =
       writing_from_start a c.args.info.now c.args.options m c.explicit_capture_group_0-explicit_group_0.result c.total_groups.result
           c.explicit_capture_group_0-explicit_group_0.ensures (c.total_groups.ensures.value a r)
           c.first_fresh-fresh.result (draft_of c.emit_program.new.writer) c.first_fresh-fresh.ensures.value
-          (subst (λ d. Writes (top p c.args.options.max_nesting) (program_code p (is_easy p.analysis)) (p.analysis.tree ∷ []) d (draft_of c.emit_program.new.writer)) c.new-writer.ensures
+          (subst (λ d. Writes (top p c.args.options.max_nesting) (program_code p (is_easy p.analysis)) (p.analysis.tree ∷ []) d
+          (draft_of c.emit_program.new.writer)) c.new-writer.ensures
           (c.emit_program.ensures p refl refl refl
           (scope_of_table a _ r c.explicit_capture_group_0-explicit_group_0.result c.explicit_capture_group_0-explicit_group_0.ensures _
           c.first_number.ensures c.in_ok-groups.ensures))),
@@ -63,7 +64,8 @@ returns c = λ a m.
     (writing_from_start a c.args.info.now c.args.options m c.explicit_capture_group_0-explicit_group_0.result c.total_groups.result
     c.explicit_capture_group_0-explicit_group_0.ensures (c.total_groups.ensures.value a r)
     c.first_fresh-fresh.result (draft_of c.emit_program.new.writer) c.first_fresh-fresh.ensures.value
-    (subst (λ d. Writes (top p c.args.options.max_nesting) (program_code p (is_easy p.analysis)) (p.analysis.tree ∷ []) d (draft_of c.emit_program.new.writer)) c.new-writer.ensures
+    (subst (λ d. Writes (top p c.args.options.max_nesting) (program_code p (is_easy p.analysis)) (p.analysis.tree ∷ []) d
+    (draft_of c.emit_program.new.writer)) c.new-writer.ensures
     (c.emit_program.ensures p refl refl refl
     (scope_of_table a _ r c.explicit_capture_group_0-explicit_group_0.result c.explicit_capture_group_0-explicit_group_0.ensures _
     c.first_number.ensures c.in_ok-groups.ensures))))

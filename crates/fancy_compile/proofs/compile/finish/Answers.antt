@@ -19,7 +19,8 @@ pub has_sought-requires : goal.has_sought-requires
 has_sought-requires c = (analysis c.requires.0, root_known c.requires.0 c.args.info.now (c.requires.1).root)
 
 pub returns-in-Some : goal.returns-in-Some
-returns-in-Some c = λ a m mode h. error_may_answer (plan_with a c.args.options) c.args.options.max_nesting (all_in_range a (few_groups a c.args.info.now m.root) m.accepted)
+returns-in-Some c = λ a m mode h.
+    error_may_answer (plan_with a c.args.options) c.args.options.max_nesting (all_in_range a (few_groups a c.args.info.now m.root) m.accepted)
     (draft_of c.args.writer) c.in-Some.error h c.in-Some.is
 
 pub new-requires : goal.new-requires

@@ -62,7 +62,8 @@ pub one_nests_deeper-loop-info-preserved : goal.one_nests_deeper-loop-info-prese
 one_nests_deeper-loop-info-preserved t c = λ rest.
     let lt : c.loop-info.info-index < length c.args.infos.now = omega arith in
     c.loop-info.invariant
-    (none_at c.args.infos.now c.loop-info.info-index c.info-item.result c.args.most lt c.info-item.is (c.nests_deeper.ensures.within c.if-nests_deeper.false) rest)
+    (none_at c.args.infos.now c.loop-info.info-index c.info-item.result c.args.most lt c.info-item.is
+    (c.nests_deeper.ensures.within c.if-nests_deeper.false) rest)
 
 pub one_nests_deeper-returns-clause-within : goal.one_nests_deeper-returns-clause-within
 one_nests_deeper-returns-clause-within t c = λ no.

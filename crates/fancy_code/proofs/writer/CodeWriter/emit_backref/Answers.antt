@@ -15,5 +15,6 @@ returns-then-is_out_of_range c = λ p call at_start in_hard room u. c.refuse.ens
 pub returns : goal.returns
 returns c = λ p call at_start in_hard room u. wrote_backref p call at_start in_hard _ _ room c.args.group c.args.casei
     (sym c.is_out_of_range.ensures ∙ c.if-is_out_of_range.false)
-    (subst (λ b. Writes (within_node p) (one (Instr.Backref (2 * c.args.group) c.args.casei b)) [] (draft_of c.args.self.now) (draft_of c.push.new.self)) (sym u)
+    (subst (λ b. Writes (within_node p) (one (Instr.Backref (2 * c.args.group) c.args.casei b)) [] (draft_of c.args.self.now) (draft_of c.push.new.self))
+    (sym u)
     (c.push.ensures.writes (within_node p)))

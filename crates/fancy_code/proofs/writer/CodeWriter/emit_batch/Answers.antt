@@ -17,7 +17,8 @@ returns-in-Ok-Some c = λ p u each room.
     let t = draft_of c.push.new.self in
     let code = ap code_of (sym c.in-Ok-Some.field-0-is) ∙ c.in-Ok-Some.ensures.value ∙ ap (λ b. batch b (map info_tree is)) (sym u) in
     subst (λ k. Writes p k (map info_tree is) s t) code
-    (wrote_easy p is each (subst (λ b. HaveClasses b is) (sym u) c.in-Ok-Some.ensures.classes) room (one (insn_of c.in-Ok-Some.insn)) s t (c.push.ensures.writes p))
+    (wrote_easy p is each (subst (λ b. HaveClasses b is) (sym u) c.in-Ok-Some.ensures.classes) room
+    (one (insn_of c.in-Ok-Some.insn)) s t (c.push.ensures.writes p))
 
 pub returns-in-Ok-None : goal.returns-in-Ok-None
 returns-in-Ok-None c = λ p u each room.

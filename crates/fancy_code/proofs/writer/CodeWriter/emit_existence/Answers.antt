@@ -10,7 +10,8 @@ use Rattle.fancy_code.proofs.writer.CodeWriter.emit_existence.Goals as goal
 
 pub returns-in-Some : goal.returns-in-Some
 returns-in-Some c = λ p call at_start in_hard room. c.refuse.ensures p _ _
-    (subst (λ l. HasRejected p (plain.BackrefExists c.args.group l ∷ []) (refused_as refusal.FeatureNotYetSupported)) (sym c.in-Some.is) (with_level p c.args.group _))
+    (subst (λ l. HasRejected p (plain.BackrefExists c.args.group l ∷ []) (refused_as refusal.FeatureNotYetSupported))
+    (sym c.in-Some.is) (with_level p c.args.group _))
 
 pub returns-in-None : goal.returns-in-None
 returns-in-None c = λ p call at_start in_hard room.

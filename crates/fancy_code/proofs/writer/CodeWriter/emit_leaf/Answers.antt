@@ -22,7 +22,8 @@ returns-in-Literal c = λ p call in_hard start w es room u. wrote_leaf p call c.
     c.deref.ensures (c.emit_literal.ensures p call c.args.at_start in_hard room u))
 
 pub returns-in-LiteralBytes : goal.returns-in-LiteralBytes
-returns-in-LiteralBytes c = λ p call in_hard start w es room u. wrote_leaf p call c.args.at_start in_hard _ _ room start w es c.args.expr.now _ c.in-LiteralBytes.is
+returns-in-LiteralBytes c = λ p call in_hard start w es room u.
+    wrote_leaf p call c.args.at_start in_hard _ _ room start w es c.args.expr.now _ c.in-LiteralBytes.is
     (subst (λ v. Writes p (written_code p call (plain.LiteralBytes v) c.args.at_start in_hard) (plain.LiteralBytes v ∷ []) (draft_of c.args.self.now)
     (draft_of c.emit_bytes.new.self))
     c.deref-in-LiteralBytes.ensures.value (c.emit_bytes.ensures p call c.args.at_start in_hard room))
@@ -32,9 +33,11 @@ returns-in-Backref c = λ p call in_hard start w es room u. wrote_leaf p call c.
     (c.emit_backref.ensures p call c.args.at_start in_hard room u)
 
 pub returns-in-BackrefWithRelativeRecursionLevel : goal.returns-in-BackrefWithRelativeRecursionLevel
-returns-in-BackrefWithRelativeRecursionLevel c = λ p call in_hard start w es room u. wrote_leaf p call c.args.at_start in_hard _ _ room start w es c.args.expr.now _
+returns-in-BackrefWithRelativeRecursionLevel c = λ p call in_hard start w es room u.
+    wrote_leaf p call c.args.at_start in_hard _ _ room start w es c.args.expr.now _
     c.in-BackrefWithRelativeRecursionLevel.is
-    (wrote_node p room _ (plain.BackrefWithLevel _ _ _) _ _ (safe_fine p (plain.BackrefWithLevel _ _ _) refl refl) (wrote_nothing (within_node p) (draft_of c.args.self.now)))
+    (wrote_node p room _ (plain.BackrefWithLevel _ _ _) _ _ (safe_fine p (plain.BackrefWithLevel _ _ _) refl refl)
+    (wrote_nothing (within_node p) (draft_of c.args.self.now)))
 
 pub returns-in-KeepOut : goal.returns-in-KeepOut
 returns-in-KeepOut c = λ p call in_hard start w es room u. wrote_leaf p call c.args.at_start in_hard _ _ room start w es c.args.expr.now _ c.in-KeepOut.is
@@ -56,7 +59,8 @@ returns-in-BacktrackingControlVerb c = λ p call in_hard start w es room u. wrot
     (c.emit_verb.ensures p call c.args.at_start in_hard room)
 
 pub returns-in-DefineGroup : goal.returns-in-DefineGroup
-returns-in-DefineGroup c = λ p call in_hard start w es room u. wrote_leaf p call c.args.at_start in_hard _ _ room start w es c.args.expr.now _ c.in-DefineGroup.is
+returns-in-DefineGroup c = λ p call in_hard start w es room u.
+    wrote_leaf p call c.args.at_start in_hard _ _ room start w es c.args.expr.now _ c.in-DefineGroup.is
     (wrote_node p room _ (plain.DefineGroup _) _ _ (safe_fine p (plain.DefineGroup _) refl refl) (wrote_nothing (within_node p) (draft_of c.args.self.now)))
 
 pub returns-in-AstNode : goal.returns-in-AstNode
@@ -64,7 +68,8 @@ returns-in-AstNode c = λ p call in_hard start w es room u. wrote_leaf p call c.
     (wrote_node p room _ (plain.AstNode _) _ _ (safe_fine p (plain.AstNode _) refl refl) (wrote_nothing (within_node p) (draft_of c.args.self.now)))
 
 pub returns-in-GeneralNewline : goal.returns-in-GeneralNewline
-returns-in-GeneralNewline c = λ p call in_hard start w es room u. wrote_leaf p call c.args.at_start in_hard _ _ room start w es c.args.expr.now _ c.in-GeneralNewline.is
+returns-in-GeneralNewline c = λ p call in_hard start w es room u.
+    wrote_leaf p call c.args.at_start in_hard _ _ room start w es c.args.expr.now _ c.in-GeneralNewline.is
     (c.emit_newline.ensures p call c.args.at_start in_hard room)
 
 pub returns-in-Delegate : goal.returns-in-Delegate

@@ -18,11 +18,13 @@ returns-in-Fail c = λ p call at_start in_hard room.
 
 pub returns-in-Accept : goal.returns-in-Accept
 returns-in-Accept c = λ p call at_start in_hard room. c.refuse.ensures p _ _
-    (subst (λ v. HasRejected p (plain.Control (verb_of v) ∷ []) (refused_as refusal.FeatureNotYetSupported)) (sym c.in-Accept.is) (wrong_verb p plain.Accept refl))
+    (subst (λ v. HasRejected p (plain.Control (verb_of v) ∷ []) (refused_as refusal.FeatureNotYetSupported))
+    (sym c.in-Accept.is) (wrong_verb p plain.Accept refl))
 
 pub returns-in-Commit : goal.returns-in-Commit
 returns-in-Commit c = λ p call at_start in_hard room. c.refuse-in-Commit.ensures p _ _
-    (subst (λ v. HasRejected p (plain.Control (verb_of v) ∷ []) (refused_as refusal.FeatureNotYetSupported)) (sym c.in-Commit.is) (wrong_verb p plain.Commit refl))
+    (subst (λ v. HasRejected p (plain.Control (verb_of v) ∷ []) (refused_as refusal.FeatureNotYetSupported))
+    (sym c.in-Commit.is) (wrong_verb p plain.Commit refl))
 
 pub returns-in-Skip : goal.returns-in-Skip
 returns-in-Skip c = λ p call at_start in_hard room. c.refuse-in-Skip.ensures p _ _
@@ -30,4 +32,5 @@ returns-in-Skip c = λ p call at_start in_hard room. c.refuse-in-Skip.ensures p 
 
 pub returns-in-Prune : goal.returns-in-Prune
 returns-in-Prune c = λ p call at_start in_hard room. c.refuse-in-Prune.ensures p _ _
-    (subst (λ v. HasRejected p (plain.Control (verb_of v) ∷ []) (refused_as refusal.FeatureNotYetSupported)) (sym c.in-Prune.is) (wrong_verb p plain.Prune refl))
+    (subst (λ v. HasRejected p (plain.Control (verb_of v) ∷ []) (refused_as refusal.FeatureNotYetSupported))
+    (sym c.in-Prune.is) (wrong_verb p plain.Prune refl))

@@ -554,7 +554,8 @@ pub emit_behind-emit_branches-requires : goal.emit_behind-emit_branches-requires
 emit_behind-emit_branches-requires t c = (
   omega (arith, node_count-below c.args.body.now, ap node_counts c.children-else-negative.ensures, ap work c.within_node-inner.ensures),
   subst (λ x. AreWhole x c.children-else-negative.result.now) (sym c.within_node-inner.ensures)
-      (all_within c.args.self.now _ (subst (AreWhole c.args.self.now) (sym c.children-else-negative.ensures) (whole_below c.args.self.now c.args.body.now c.requires))),
+      (all_within c.args.self.now _
+      (subst (AreWhole c.args.self.now) (sym c.children-else-negative.ensures) (whole_below c.args.self.now c.args.body.now c.requires))),
 )
 
 pub emit_behind-returns-else-negative : goal.emit_behind-returns-else-negative
@@ -572,7 +573,8 @@ emit_behind-returns-else-negative t c = λ in_hard p call at_start room u known.
     let z = draft_of c.emit_branches.new.writer in
     written_as p call at_start in_hard _ _ _ _ (ap (λ b. plain.LookAround (look_behind b) e) c.if-negative.false)
     (wrote_behind_branches p room call at_start in_hard _ z again e (map info_tree (info_children body)) branched.0 varies branched.1
-    (subst (λ l. LeftBranches (within_node q) call true false l (draft_of c.args.writer.now) z) c.children-else-negative.ensures (c.emit_branches.ensures (within_node q) call v each)))
+    (subst (λ l. LeftBranches (within_node q) call true false l (draft_of c.args.writer.now) z) c.children-else-negative.ensures
+    (c.emit_branches.ensures (within_node q) call v each)))
 
 pub emit_none_behind-emit_around-requires : goal.emit_none_behind-emit_around-requires
 emit_none_behind-emit_around-requires t c =
