@@ -38,7 +38,7 @@ use Rattle.fancy_compile.specs.Compiled.{Compiles, MayAnswer, MayCompile, plan_w
 use Rattle.fancy_search.specs.declared.search.Compiled.{Compiled}
 use Rattle.fancy_search.specs.Searches as searches
 use Rattle.fancy_search.specs.declared.search.SearchOptions.{SearchOptions}
-use Rattle.fancy_search.specs.Searches.{IsCompiledFrom, Promises, PromisesWithin, input_of, limit_of, program, program_of, instructions_of, options_fit, search_fits}
+use Rattle.fancy_search.specs.Searches.{IsCompiledFrom, IsMadeWithin, IsNestedOver, Promises, PromisesWithin, input_of, limit_of, program, program_of, instructions_of, options_fit, search_fits}
 
 -- where a character begins or the text ends, the test for a place says yes
 pub place_of : (text : List ℕ) (i : ℕ) → IsCharBoundary text i → is_place text i ≡ true
@@ -158,6 +158,23 @@ promised_within i most text o (Err (error.RuntimeError e)) h = h
 promised_within i most text o (Err error.Memory) h = h
 promised_within i most text o (Err (error.TreeFault at)) h = h
 promised_within i most text o (Err error.NestLimitExceeded) h = absurd h
+
+-- a refusal is no search that was made
+pub refusal_made_within : (i : Input) (most : Option ℕ) (e : Error) → searches.IsRefusedAs i most e → IsMadeWithin i most (Err e)
+refusal_made_within i most (error.CompileError e) h = tt
+refusal_made_within i most (error.RuntimeError e) h = absurd h
+refusal_made_within i most error.Memory h = tt
+refusal_made_within i most (error.TreeFault at) h = absurd h
+refusal_made_within i most error.NestLimitExceeded h = tt
+
+-- what was compiled stands within the limit of nesting, whatever a search for it answers
+pub made_within : (i : Input) (most : Option ℕ) (r : Result (Option (Vec ℕ Global)) Error) → ¬ IsNestedOver i most → IsMadeWithin i most r
+made_within i most (Ok found) h = h
+made_within i most (Err (error.CompileError e)) h = tt
+made_within i most (Err (error.RuntimeError e)) h = h
+made_within i most (Err error.Memory) h = tt
+made_within i most (Err (error.TreeFault at)) h = tt
+made_within i most (Err error.NestLimitExceeded) h = tt
 
 -- what fits the search
 pub record FitsSearch (s : SearchOptions) (text : List ℕ) : Type 0 where

@@ -99,6 +99,12 @@ module _ (i : Input) where
   PromisesWithin max_nesting text o (Err error.NestLimitExceeded) = IsNestedOver max_nesting
   PromisesWithin max_nesting text o result = Promises text o result
 
+  -- where a search was made, to its end or to a limit that it passed, the tree stands within this limit of nesting
+  abbrev pub IsMadeWithin : Option ℕ → Result (Option (Vec ℕ Global)) Error → Type 0
+  IsMadeWithin max_nesting (Ok found) = ¬ IsNestedOver max_nesting
+  IsMadeWithin max_nesting (Err (error.RuntimeError e)) = ¬ IsNestedOver max_nesting
+  IsMadeWithin max_nesting (Err e) = Unit {0}
+
   -- where the whole tree is easy, a limit is answered only if it is below its bound
   abbrev pub Bounds : List ℕ → plain.RunOptions → Result (Option (Vec ℕ Global)) Error → Type 0
   Bounds text o result = IfLimit result (MayPass i text o)

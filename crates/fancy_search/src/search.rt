@@ -9,7 +9,7 @@ ghost use Rattle.fancy_compile.specs.Compiled.{compile_options_of};
 ghost use Rattle.fancy_expr.specs.Sound.{IsWellFormedTree};
 ghost use Rattle.fancy_vm.specs.Means.{answer_in};
 ghost use Rattle.fancy_vm.specs.Tasks.{default_at, options_of as run_options_of, task_of};
-ghost use Rattle.fancy_search.specs.Searches.{Bounds, IsCompiledFrom, IsNestedOver, IsRefusedAs, Promises, PromisesWithin, input_of, program, search_fits};
+ghost use Rattle.fancy_search.specs.Searches.{Bounds, IsCompiledFrom, IsMadeWithin, IsNestedOver, IsRefusedAs, Promises, PromisesWithin, input_of, program, search_fits};
 ghost use Rattle.fancy_search.specs.Searches as searches;
 
 use fancy_analysis::analyze::{AnalyzeContext, analyze};
@@ -213,6 +213,10 @@ pub fn search(
         (input_of tree.now options.now.analysis options.now.compilation)
         text.now
         (run_options_of options.now.run)
+        result }
+    ensures within { IsMadeWithin
+        (input_of tree.now options.now.analysis options.now.compilation)
+        options.now.compilation.max_nesting
         result }
 {
     let compiled = Compiled::new(alloc, tree, options.analysis, options.compilation)?;
