@@ -1,1 +1,7 @@
+pub mod Reading
 pub mod Rules
+pub mod SoughtNodes
+pub mod Holding
+pub mod Kept
+pub mod Steps
+pub mod SearchPlaces

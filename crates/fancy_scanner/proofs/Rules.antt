@@ -1,54 +1,106 @@
--- Rules and the regexes that were compiled from their trees, one by one; and the replies of the rules from one on.
+-- Rules and the trees of a scanner that are of them, one by one; and the replies of the rules from one on.
 use Rattle.std.proofs.Common.{◌≡◌, ℕ, zero, suc, ◌-◌, ◌^◌, ◌<◌, ◌≤◌, List, [], ◌∷◌, ◌++◌, length, drop, get_or, slice_set, Option, Some, None, option_map, Ok, Err, refl, sym, ap, ◌∙◌, subst, arith}
-use Rattle.std.proofs.lemmas.List.{length-set}
+use Rattle.std.specs.Prelude.{slice_get}
 use Rattle.std.proofs.lemmas.Option.{none-some, same_Some}
 use Rattle.fancy_expr.specs.declared.error.Error.{Error}
 use Rattle.fancy_expr.specs.declared.error.Error.TheVariants as error
 use Rattle.fancy_expr.specs.declared.error.RuntimeError.{RuntimeError}
 use Rattle.fancy_matches.specs.Listing.{begun_at}
-use Rattle.fancy_matches.specs.Regexes.{FindsCaptures, IsRegexOf, IsSame, captures_text, numbers_in, shown_captures, with_numbers}
+use Rattle.fancy_matches.specs.Regexes.{FindsCaptures, IsSame, captures_text, numbers_in, shown_captures, with_numbers}
 use Rattle.fancy_matches.specs.declared.found.Captures.{Captures}
-use Rattle.fancy_matches.specs.declared.regexes.Regex.{Regex}
 use Rattle.fancy_matches.proofs.Easy.{no_limit}
 use Rattle.fancy_matches.proofs.Stepping.{of_same}
-use Rattle.fancy_scanner.specs.Scanning.{Rule, AreEasy, AreRegexesOf, EachReplies, FailsForOne, MayFail, Replies, Reply, RuleMatch, answer_from, earlier, earliest, first_stopped, here, in_text, later, match_view, stopped_view}
+use Rattle.fancy_scanner.specs.Scanning.{Rule, AreEasy, AreTreesOf, EachReplies, FailsForOne, IsLastingFor, IsRuleAt, IsScannerOf, IsTreeOf, KeepsTrees, MayFail, Replies, Reply, RuleMatch, answer_from, earlier, earliest, first_stopped, here, in_text, later, match_view, stopped_view, trees_of}
+use Rattle.fancy_scanner.specs.declared.lasting.Lasting.{Lasting}
 use Rattle.fancy_scanner.specs.declared.scanner.ScanMatch.{ScanMatch}
+use Rattle.fancy_scanner.specs.declared.scanner.ScanTree.{ScanTree}
+use Rattle.fancy_scanner.specs.declared.scanner.Scanner.{Scanner}
 use Rattle.fancy_scanner.specs.declared.scanner.Stopped.{Stopped}
 
+abbrev first_of : {X : Type 0} → X → List X → X
+first_of d [] = d
+first_of d (x ∷ xs) = x
+
+-- the rule with a number is one
+pub same_rule : (rules rest : List Rule) (q r : Rule) {l : List Rule} → q ∷ rest ≡ r ∷ l → q ≡ r
+same_rule rules rest q r e = ap (first_of r) e
+
 module _ (text : List ℕ) where
-  pub one_more : (rules : List Rule) (xs : List Regex) (r : Rule) (x : Regex) → AreRegexesOf rules text xs →
-      IsRegexOf r.input text r.options x → AreRegexesOf (rules ++ r ∷ []) text (xs ++ x ∷ [])
+  pub one_more : (rules : List Rule) (xs : List ScanTree) (r : Rule) (x : ScanTree) → AreTreesOf rules text xs →
+      IsTreeOf r text x → AreTreesOf (rules ++ r ∷ []) text (xs ++ x ∷ [])
   one_more [] [] r x h g = (g, tt)
   one_more [] (y ∷ ys) r x h g = absurd h
   one_more (q ∷ rules) [] r x h g = absurd h
   one_more (q ∷ rules) (y ∷ ys) r x h g = (h.0, one_more rules ys r x h.1 g)
 
-  -- the rule of the regex at this number
-  pub record RuleAt (rules : List Rule) (k : ℕ) (x : Regex) : Type 0 where
+  -- the rule with this number
+  pub record RuleAt (rules : List Rule) (k : ℕ) : Type 0 where
     pub rule : Rule
-    pub rest : drop k rules ≡ rule ∷ drop (suc k) rules
-    pub of : IsRegexOf rule.input text rule.options x
+    pub rest : IsRuleAt rules k rule
 
-  pub rule_at : (rules : List Rule) (xs : List Regex) (k : ℕ) (x : Regex) → AreRegexesOf rules text xs → k < length xs →
-      x ≡ get_or xs k x → RuleAt rules k x
-  rule_at [] [] k x h lt e = absurd (omega (arith, lt))
-  rule_at [] (y ∷ ys) k x h lt e = absurd h
-  rule_at (r ∷ rules) [] k x h lt e = absurd h
-  rule_at (r ∷ rules) (y ∷ ys) zero x h lt e =
-      record { rule = r; rest = refl; of = subst (IsRegexOf r.input text r.options) (sym e) h.0 }
-  rule_at (r ∷ rules) (y ∷ ys) (suc k) x h lt e =
-      let below = rule_at rules ys k x h.1 (omega (arith, lt)) e in
-      record { rule = below.rule; rest = below.rest; of = below.of }
+  pub rule_at : (rules : List Rule) (xs : List ScanTree) (k : ℕ) → AreTreesOf rules text xs → k < length xs → RuleAt rules k
+  rule_at [] [] k h lt = absurd (omega (arith, lt))
+  rule_at [] (y ∷ ys) k h lt = absurd h
+  rule_at (r ∷ rules) [] k h lt = absurd h
+  rule_at (r ∷ rules) (y ∷ ys) zero h lt = record { rule = r; rest = refl }
+  rule_at (r ∷ rules) (y ∷ ys) (suc k) h lt =
+      let below = rule_at rules ys k h.1 (omega (arith, lt)) in record { rule = below.rule; rest = below.rest }
 
-  -- one regex is put in the place of the same one
-  pub same_put : (rules : List Rule) (xs : List Regex) (k : ℕ) (x y : Regex) → AreRegexesOf rules text xs →
-      x ≡ get_or xs k x → IsSame x y → AreRegexesOf rules text (slice_set xs k y)
-  same_put [] [] k x y h e same = tt
-  same_put [] (z ∷ zs) k x y h e same = absurd h
-  same_put (r ∷ rules) [] k x y h e same = absurd h
-  same_put (r ∷ rules) (z ∷ zs) zero x y h e same =
-      (of_same x y r.input text r.options same (subst (IsRegexOf r.input text r.options) (sym e) h.0), h.1)
-  same_put (r ∷ rules) (z ∷ zs) (suc k) x y h e same = (h.0, same_put rules zs k x y h.1 e same)
+  -- the tree of the rule with this number
+  pub tree_at : (rules : List Rule) (xs : List ScanTree) (k : ℕ) (r : Rule) (x : ScanTree) → AreTreesOf rules text xs → IsRuleAt rules k r →
+      k < length xs → x ≡ get_or xs k x → IsTreeOf r text x
+  tree_at [] [] k r x h at lt e = absurd (omega (arith, lt))
+  tree_at [] (y ∷ ys) k r x h at lt e = absurd h
+  tree_at (q ∷ rules) [] k r x h at lt e = absurd h
+  tree_at (q ∷ rules) (y ∷ ys) zero r x h at lt e =
+      subst (λ (p : Rule). IsTreeOf p text x) (ap (first_of r) at) (subst (IsTreeOf q text) (sym e) h.0)
+  tree_at (q ∷ rules) (y ∷ ys) (suc k) r x h at lt e = tree_at rules ys k r x h.1 at (omega (arith, lt)) e
+
+  -- one tree is put in the place of the same one
+  pub same_put : (rules : List Rule) (xs : List ScanTree) (k : ℕ) (x y : ScanTree) → AreTreesOf rules text xs →
+      x ≡ get_or xs k x → IsSame x.regex y.regex → y.lasting ≡ x.lasting → AreTreesOf rules text (slice_set xs k y)
+  same_put [] [] k x y h e same lasts = tt
+  same_put [] (z ∷ zs) k x y h e same lasts = absurd h
+  same_put (r ∷ rules) [] k x y h e same lasts = absurd h
+  same_put (r ∷ rules) (z ∷ zs) zero x y h e same lasts =
+      let of : IsTreeOf r text x = subst (IsTreeOf r text) (sym e) h.0 in (
+        record {
+          regex = of_same x.regex y.regex r.input text r.options same of.regex;
+          lasting = subst (IsLastingFor r) (sym lasts) of.lasting;
+        },
+        h.1,
+      )
+  same_put (r ∷ rules) (z ∷ zs) (suc k) x y h e same lasts = (h.0, same_put rules zs k x y h.1 e same lasts)
+
+  -- of the tree with a number those answers last that last of its rule
+  pub lasting_of : (rules : List Rule) (xs : List ScanTree) (k : ℕ) (r : Rule) (lasting : Lasting) → AreTreesOf rules text xs → IsRuleAt rules k r →
+      option_map (λ x. x.lasting) (slice_get xs k) ≡ Some lasting → IsLastingFor r lasting
+  lasting_of rules [] k r lasting h at e = absurd (none-some _ e)
+  lasting_of [] (x ∷ xs) k r lasting h at e = absurd h
+  lasting_of (q ∷ rules) (x ∷ xs) zero r lasting h at e =
+      subst (λ (p : Rule). IsLastingFor p lasting) (ap (first_of r) at) (subst (IsLastingFor q) (same_Some _ _ e) (h.0).lasting)
+  lasting_of (q ∷ rules) (x ∷ xs) (suc k) r lasting h at e = lasting_of rules xs k r lasting h.1 at e
+
+-- the answers of the same tree last as they did
+pub lasting_put : (xs : List ScanTree) (i : ℕ) (x y : ScanTree) → x ≡ get_or xs i x → y.lasting ≡ x.lasting → (k : ℕ) →
+    option_map (λ z. z.lasting) (slice_get (slice_set xs i y) k) ≡ option_map (λ z. z.lasting) (slice_get xs k)
+lasting_put [] i x y e lasts k = refl
+lasting_put (z ∷ zs) zero x y e lasts zero = ap Some (lasts ∙ ap (λ (w : ScanTree). w.lasting) e)
+lasting_put (z ∷ zs) zero x y e lasts (suc k) = refl
+lasting_put (z ∷ zs) (suc i) x y e lasts zero = refl
+lasting_put (z ∷ zs) (suc i) x y e lasts (suc k) = lasting_put zs i x y e lasts k
+
+-- ---- the same trees
+
+pub keeps_itself : (s : Scanner) → KeepsTrees s s
+keeps_itself s = record { count = refl; lasting = λ k. refl; same = λ text rules h. h }
+
+pub keeps_twice : (s t u : Scanner) → KeepsTrees s t → KeepsTrees t u → KeepsTrees s u
+keeps_twice s t u h g = record {
+  count = g.count ∙ h.count;
+  lasting = λ k. g.lasting k ∙ h.lasting k;
+  same = λ text rules of. g.same text rules (h.same text rules of);
+}
 
 -- ---- the replies of the rules from one on
 
@@ -60,13 +112,13 @@ module _ (text : List ℕ) (pos : ℕ) where
     pub first : option_map match_view found ≡ option_map (in_text text) (earliest k replies)
     pub stops : option_map stopped_view stopped ≡ first_stopped k replies
 
-  none_left : (rules : List Rule) (xs : List Regex) → AreRegexesOf rules text xs → drop (length xs) rules ≡ []
+  none_left : (rules : List Rule) (xs : List ScanTree) → AreTreesOf rules text xs → drop (length xs) rules ≡ []
   none_left [] [] h = refl
   none_left [] (x ∷ xs) h = absurd h
   none_left (r ∷ rules) [] h = absurd h
   none_left (r ∷ rules) (x ∷ xs) h = none_left rules xs h.1
 
-  pub scan_of_none : (rules : List Rule) (xs : List Regex) (k : ℕ) → AreRegexesOf rules text xs → k ≡ length xs →
+  pub scan_of_none : (rules : List Rule) (xs : List ScanTree) (k : ℕ) → AreTreesOf rules text xs → k ≡ length xs →
       IsScanFrom rules k None None
   scan_of_none rules xs k h e =
       let none = ap (λ n. drop n rules) e ∙ none_left rules xs h in
@@ -83,7 +135,7 @@ module _ (text : List ℕ) (pos : ℕ) where
       let same = same_Some _ _ e in
       (ap Some (ap (λ p. p.1) same), ap (λ p. p.0) same)
 
-  module _ (rules : List Rule) (k : ℕ) (x : Regex) (at : RuleAt text rules k x) (found : Option ScanMatch) (stopped : Option Stopped)
+  module _ (rules : List Rule) (k : ℕ) (at : RuleAt text rules k) (found : Option ScanMatch) (stopped : Option Stopped)
       (scanned : IsScanFrom rules (suc k) found stopped) where
     -- the rules from k on, where rule k replies so
     one_back : (reply : Reply) (found_now : Option ScanMatch) (stopped_now : Option Stopped) → Replies text pos at.rule reply →
@@ -119,30 +171,31 @@ module _ (text : List ℕ) (pos : ℕ) where
   fails_from e [] (suc k) h = h
   fails_from e (r ∷ rules) (suc k) h = later (fails_from e rules k h)
 
-  pub fails_at : (e : Error) (rules : List Rule) (k : ℕ) (x : Regex) (at : RuleAt text rules k x) →
+  pub fails_at : (e : Error) (rules : List Rule) (k : ℕ) (at : RuleAt text rules k) →
       FindsCaptures (at.rule).input text (begun_at (at.rule).options pos) (Err e) → FailsForOne text pos e rules
-  fails_at e rules k x at h = fails_from e rules k (subst (FailsForOne text pos e) (sym at.rest) (here h))
+  fails_at e rules k at h = fails_from e rules k (subst (FailsForOne text pos e) (sym at.rest) (here h))
 
   -- ---- from one tree to the one before
 
-  -- The trees from number n on were searched for: each regex is still of its tree, and this is what the searches came to.
-  pub record ScanFrom (before items : List Regex) (n : ℕ) (found : Option ScanMatch) (stopped : Option Stopped) : Type 0 where
-    pub within : n ≤ length items
-    pub same : (t : List ℕ) (rules : List Rule) → AreRegexesOf rules t before → AreRegexesOf rules t items
-    pub scanned : (rules : List Rule) → AreRegexesOf rules text before → IsScanFrom rules n found stopped
+  -- The trees from number n on were searched for: the scanner has the same trees, and this is what the searches came to.
+  pub record ScanFrom (before s : Scanner) (n : ℕ) (found : Option ScanMatch) (stopped : Option Stopped) : Type 0 where
+    pub within : n ≤ length (trees_of s)
+    pub keeps : KeepsTrees before s
+    pub scanned : (rules : List Rule) → IsScannerOf rules text before → IsScanFrom rules n found stopped
 
-  pub tree_before : (before items : List Regex) (n : ℕ) (found found_now : Option ScanMatch) (stopped stopped_now : Option Stopped) (x y : Regex) →
-      ScanFrom before items n found stopped → 0 < n → x ≡ get_or items (n - 1) x → IsSame x y →
-      ((rules : List Rule) (at : RuleAt text rules (n - 1) x) → IsScanFrom rules (suc (n - 1)) found stopped →
+  pub tree_before : (before s t : Scanner) (n : ℕ) (found found_now : Option ScanMatch) (stopped stopped_now : Option Stopped) →
+      ScanFrom before s n found stopped → 0 < n → KeepsTrees s t →
+      ((rules : List Rule) (at : RuleAt text rules (n - 1)) → IsScannerOf rules text s → IsScanFrom rules (suc (n - 1)) found stopped →
       IsScanFrom rules (n - 1) found_now stopped_now) →
-      ScanFrom before (slice_set items (n - 1) y) (n - 1) found_now stopped_now
-  tree_before before items n found found_now stopped stopped_now x y h some at same back =
+      ScanFrom before t (n - 1) found_now stopped_now
+  tree_before before s t n found found_now stopped stopped_now h some keeps back =
       let next : n ≡ suc (n - 1) = omega (arith, some) in
       record {
-        within = omega (arith, h.within, length-set items (n - 1) y);
-        same = λ t rules of. same_put t rules items (n - 1) x y (h.same t rules of) at same;
+        within = omega (arith, h.within, keeps.count);
+        keeps = keeps_twice before s t h.keeps keeps;
         scanned = λ rules of.
-            back rules (rule_at text rules items (n - 1) x (h.same text rules of) (omega (arith, h.within, next)) at)
+            let now = (h.keeps).same text rules of in
+            back rules (rule_at text rules (trees_of s) (n - 1) now (omega (arith, h.within, next))) now
             (subst (λ m. IsScanFrom rules m found stopped) next (h.scanned rules of));
       }
 

@@ -1,1 +1,6 @@
+pub mod Kept
+pub mod Lasting
 pub mod Scanning
+pub mod Scans
+pub mod Searched
+pub mod Sought

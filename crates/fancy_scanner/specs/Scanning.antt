@@ -1,5 +1,5 @@
 -- Which of many trees matches first, and which passed a limit.
-use Rattle.std.specs.Prelude.{◌≡◌, ◌-◌, ◌^◌, ℕ, suc, nat_lt, IsFalse, List, [], ◌∷◌, Option, Some, None, option_map, Result, Ok, Err, if◌then◌else◌}
+use Rattle.std.specs.Prelude.{◌≡◌, ◌-◌, ◌^◌, ℕ, suc, nat_lt, IsFalse, List, [], ◌∷◌, length, drop, slice_get, Option, Some, None, option_map, Result, Ok, Err, if◌then◌else◌}
 use Rattle.fancy_meaning.specs.Answer.{answer, search_of}
 use Rattle.fancy_meaning.specs.Hard.{is_root_hard}
 use Rattle.fancy_meaning.specs.Options as plain
@@ -7,13 +7,18 @@ use Rattle.fancy_meaning.specs.Premises.{Input, plan, IsAccepted}
 use Rattle.fancy_expr.specs.declared.error.Error.{Error}
 use Rattle.fancy_expr.specs.declared.error.Error.TheVariants as error
 use Rattle.fancy_expr.specs.declared.error.RuntimeError.{RuntimeError}
+use Rattle.fancy_expr.specs.declared.expr.ExprTree.{ExprTree}
 use Rattle.fancy_vm.specs.Outcomes.{first_pair}
-use Rattle.fancy_search.specs.Searches.{Bounds, Promises, instructions_of}
-use Rattle.fancy_matches.specs.Listing.{backtracks_for, begun_at}
+use Rattle.fancy_vm.specs.Tasks.{options_of as run_options_of}
+use Rattle.fancy_search.specs.Searches.{Bounds, Promises, input_of, instructions_of}
+use Rattle.fancy_search.specs.declared.search.SearchOptions.{SearchOptions}
+use Rattle.fancy_matches.specs.Listing.{backtracks_for, begun_at, options_for}
 use Rattle.fancy_matches.specs.Regexes.{IsNoLimit, IsRegexOf, numbers_in, captures_text}
-use Rattle.fancy_matches.specs.declared.regexes.Regex.{Regex}
+use Rattle.fancy_scanner.specs.Lasting.{IsLasting, is_anchored}
+use Rattle.fancy_scanner.specs.declared.lasting.Lasting.{Lasting}
 use Rattle.fancy_scanner.specs.declared.scanner.Scan.{Scan}
 use Rattle.fancy_scanner.specs.declared.scanner.ScanMatch.{ScanMatch}
+use Rattle.fancy_scanner.specs.declared.scanner.ScanTree.{ScanTree}
 use Rattle.fancy_scanner.specs.declared.scanner.Scanner.{Scanner}
 use Rattle.fancy_scanner.specs.declared.scanner.Stopped.{Stopped}
 
@@ -119,12 +124,45 @@ AreEasy text (r ∷ rules) = IsEasy text r × AreEasy text rules
 
 -- ---- a scanner
 
--- they were compiled from the trees of these rules, one by one, and their searches of this text have these options
-abbrev pub AreRegexesOf : List Rule → List ℕ → List Regex → Type 0
-AreRegexesOf [] text [] = Unit {0}
-AreRegexesOf [] text (x ∷ xs) = ⊥
-AreRegexesOf (r ∷ rules) text [] = ⊥
-AreRegexesOf (r ∷ rules) text (x ∷ xs) = IsRegexOf r.input text r.options x × AreRegexesOf rules text xs
+-- the rule of a tree that is compiled with these options, where texts are searched for it with this limit of backtracks
+abbrev pub rule_of : ExprTree → SearchOptions → Option ℕ → List ℕ → Rule
+rule_of tree options asked text = record {
+  input = input_of tree options.analysis options.compilation;
+  options = options_for (run_options_of options.run) asked text;
+}
+
+-- so answers of searches for the rule last
+abbrev pub IsLastingFor : Rule → Lasting → Type 0
+IsLastingFor r = IsLasting (is_anchored (plan r.input) r.options) (plan r.input).analysis.tree
+
+-- It was compiled from the tree of the rule, its searches of this text have these options, and its answers last so.
+pub record IsTreeOf (r : Rule) (text : List ℕ) (x : ScanTree) : Type 0 where
+  pub regex : IsRegexOf r.input text r.options x.regex
+  pub lasting : IsLastingFor r x.lasting
+
+-- they are trees of these rules, one by one
+abbrev pub AreTreesOf : List Rule → List ℕ → List ScanTree → Type 0
+AreTreesOf [] text [] = Unit {0}
+AreTreesOf [] text (x ∷ xs) = ⊥
+AreTreesOf (r ∷ rules) text [] = ⊥
+AreTreesOf (r ∷ rules) text (x ∷ xs) = IsTreeOf r text x × AreTreesOf rules text xs
+
+abbrev pub trees_of : Scanner → List ScanTree
+trees_of s = s.trees.items
 
 abbrev pub IsScannerOf : List Rule → List ℕ → Scanner → Type 0
-IsScannerOf rules text s = AreRegexesOf rules text s.regexes.items
+IsScannerOf rules text s = AreTreesOf rules text (trees_of s)
+
+-- the rule with this number
+abbrev pub IsRuleAt : List Rule → ℕ → Rule → Type 0
+IsRuleAt rules k r = drop k rules ≡ r ∷ drop (suc k) rules
+
+-- which answers of the tree with this number last
+abbrev pub lasting_at : Scanner → ℕ → Option Lasting
+lasting_at s k = option_map (λ x. x.lasting) (slice_get (trees_of s) k)
+
+-- it has the same trees after a call as before
+pub record KeepsTrees (s t : Scanner) : Type 0 where
+  pub count : length (trees_of t) ≡ length (trees_of s)
+  pub lasting : (k : ℕ) → lasting_at t k ≡ lasting_at s k
+  pub same : (text : List ℕ) (rules : List Rule) → IsScannerOf rules text s → IsScannerOf rules text t

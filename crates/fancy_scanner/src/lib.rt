@@ -1,4 +1,9 @@
 //! Many trees and one text: which of them matches first.
 #![tactic(auto)]
 
+mod answers;
+mod lasting;
+pub mod scan_text;
 pub mod scanner;
+pub mod searched;
+mod sought;

@@ -1,17 +1,25 @@
 //! Trees that are searched for together.
 
-ghost use Rattle.std.specs.Prelude.{◌≡◌, ◌++◌, ◌∷◌, ◌<◌, ◌^◌, [], ℕ, IfErr, IfOk, IsTrue, List, MatchOption, None, OnOk, Option, length, option_map};
+ghost use Rattle.std.specs.Prelude.{◌≡◌, ◌++◌, ◌∷◌, ◌<◌, ◌^◌, [], ℕ, IfErr, IfOk, IsTrue, List, MatchOption, None, OnErr, OnOk, Option, Some, length, option_map};
 ghost use Rattle.fancy_meaning.specs.Options as plain;
 ghost use Rattle.fancy_meaning.specs.Places as places;
 ghost use Rattle.fancy_meaning.specs.Premises.{Input};
+ghost use Rattle.fancy_expr.specs.Sound.{IsWellFormedTree};
 ghost use Rattle.fancy_expr.specs.declared.error.Error.TheVariants as errors;
-ghost use Rattle.fancy_matches.specs.Regexes.{IsNoLimit, IsRegexOf, captures_text};
+ghost use Rattle.fancy_matches.specs.Listing.{begun_at};
+ghost use Rattle.fancy_matches.specs.Regexes.{FindsCaptures, IsNoLimit, IsRegexOf, captures_text};
+ghost use Rattle.fancy_search.specs.Searches.{IsRefusedAs, input_of, search_fits};
 ghost use Rattle.fancy_scanner.specs.Scanning as scanning;
-ghost use Rattle.fancy_scanner.specs.Scanning.{AreEasy, IsScannerOf, RuleMatch, Rule, Scans, in_text, match_view, rule_match, start_of};
+ghost use Rattle.fancy_scanner.specs.Scanning.{AreEasy, IsRuleAt, IsScannerOf, KeepsTrees, RuleMatch, Rule, Scans, in_text, lasting_at, match_view, rule_match, rule_of, start_of, trees_of};
+ghost use Rattle.fancy_scanner.specs.Scans.{BeginsScan};
 
+use crate::lasting::Lasting;
+use crate::scan_text::ScanText;
 use fancy_expr::error::{Error, RuntimeError};
+use fancy_expr::expr::ExprTree;
 use fancy_matches::found::Captures;
 use fancy_matches::regexes::Regex;
+use fancy_search::search::SearchOptions;
 use std::alloc::{AllocError, Global};
 
 /// A match of one of the trees.
@@ -49,10 +57,18 @@ impl ScanMatch<'_> {
     }
 }
 
+/// A tree of a scanner.
+#[derive(Drop)]
+pub(crate) struct ScanTree {
+    regex: Regex,
+    lasting: Lasting,
+}
+
 /// Trees that are searched for together, as the rules of a highlighter are, each with the memory of its searches.
 #[derive(Drop)]
 pub struct Scanner {
-    regexes: Vec<Regex>,
+    alloc: Global,
+    trees: Vec<ScanTree>,
 }
 
 impl Scanner {
@@ -61,11 +77,13 @@ impl Scanner {
         ensures { (text : List ℕ) → IsScannerOf [] text result }
     {
         Scanner {
-            regexes: Vec::new(alloc),
+            alloc,
+            trees: Vec::new(alloc),
         }
     }
 
-    /// One more tree, after the others. The only error is want of memory, which leaves the scanner as it was.
+    /// One more tree, after the others. Of a tree that comes compiled, nothing is kept in a `ScanText`; `add_tree` takes
+    /// one of which it may be. The only error is want of memory, which leaves the scanner as it was.
     pub fn add(&mut self, regex: Regex) -> Result<(), AllocError>
         ensures ok { OnOk result ((text : List ℕ) (rules : List Rule) (i : Input)
             (o : plain.RunOptions)
@@ -74,15 +92,82 @@ impl Scanner {
         ensures err { IfErr result (λ _. (text : List ℕ) (rules : List Rule)
             → IsScannerOf rules text self.old → IsScannerOf rules text self.new) }
     {
-        self.regexes.push(regex)?;
+        self.trees.push(ScanTree {
+            regex,
+            lasting: Lasting::Nothing,
+        })?;
         Ok(())
+    }
+
+    /// One more tree, after the others, compiled as `Regex::new` does it. A `ScanText` keeps what is found of it as long
+    /// as it holds.
+    ///
+    /// The tree is refused as `Regex::new` refuses it. Want of memory is `Error::Memory`. After an error the scanner is as
+    /// it was.
+    pub fn add_tree(
+        &mut self,
+        tree: &ExprTree,
+        options: &SearchOptions,
+        backtrack_limit: Option<usize>,
+    ) -> Result<(), Error>
+        requires well_formed { IsWellFormedTree tree.now }
+        requires fits { IsTrue (search_fits options.now []) }
+        ensures ok { OnOk result ((text : List ℕ) (rules : List Rule)
+            → IsScannerOf rules text self.old
+            → IsScannerOf
+            (rules ++ rule_of tree.now options.now backtrack_limit text ∷ [])
+            text self.new) }
+        ensures refused { IfErr result
+            (IsRefusedAs
+            (input_of tree.now options.now.analysis options.now.compilation)
+            options.now.compilation.max_nesting) }
+        ensures err { OnErr result ((text : List ℕ) (rules : List Rule)
+            → IsScannerOf rules text self.old → IsScannerOf rules text self.new) }
+    {
+        let regex = Regex::new(self.alloc, tree, options, backtrack_limit)?;
+        let lasting = Lasting::of(tree, options);
+        self.trees.push(ScanTree { regex, lasting })?;
+        Ok(())
+    }
+
+    /// How many trees there are.
+    pub(crate) fn tree_count(&self) -> usize
+        ensures { result ≡ length (trees_of self.now) }
+    {
+        self.trees.len()
+    }
+
+    /// Which answers of the tree with this number last.
+    pub(crate) fn lasting(&self, index: usize) -> Lasting
+        requires { index < length (trees_of self.now) }
+        ensures { Some result ≡ lasting_at self.now index }
+    {
+        self.trees[index].lasting
+    }
+
+    /// What a search for the tree with this number answers from this place on, a byte of the text.
+    pub(crate) fn captures_of<'t>(
+        &mut self,
+        index: usize,
+        text: &'t str,
+        pos: usize,
+    ) -> Result<Option<Captures<'t>>, Error>
+        requires place { IsTrue (places.is_place text.now pos) }
+        requires within { index < length (trees_of self.old) }
+        ensures promise { (rules : List Rule) (r : Rule)
+            → IsScannerOf rules text.now self.old → IsRuleAt rules index r
+            → FindsCaptures r.input text.now (begun_at r.options pos) result }
+        ensures same { KeepsTrees self.old self.new }
+    {
+        self.trees[index].regex.captures_from(text, pos)
     }
 
     /// The match that begins first, of the first matches of all trees from this place on, a byte of the text; of several
     /// that begin there that of the tree that was added first.
     ///
     /// A tree whose search passes a limit does not hide the matches of the others: the first such tree is told beside
-    /// them. Want of memory is `Error::Memory`. Each tree is searched for once, as far as the text goes.
+    /// them. Want of memory is `Error::Memory`. Each tree is searched for once, as far as the text goes; `scan` keeps
+    /// what is found from one place to the next.
     pub fn find_from<'t>(&mut self, text: &'t str, pos: usize) -> Result<Scan<'t>, Error>
         requires { IsTrue (places.is_place text.now pos) }
         ensures promise { (rules : List Rule)
@@ -95,10 +180,10 @@ impl Scanner {
     {
         let mut found = None;
         let mut stopped = None;
-        let mut index = self.regexes.len();
+        let mut index = self.trees.len();
         'trees: while index > 0 {
             index -= 1;
-            match self.regexes[index].captures_from(text, pos) {
+            match self.captures_of(index, text, pos) {
                 Ok(None) => {}
                 Ok(Some(captures)) => found = Some(earlier(ScanMatch { index, captures }, found)),
                 Err(error) => match limit_of(&error) {
@@ -109,10 +194,23 @@ impl Scanner {
         }
         Ok(Scan { found, stopped })
     }
+
+    /// A scan of one text, which keeps what is found from one place to the next. The scanner is the caller's again, with
+    /// the same trees, once the scan is gone.
+    pub fn scan<'r, 't>(&'r mut self, text: &'t str) -> ScanText<'r, 't>
+        ensures { BeginsScan self.entry text.now result }
+    {
+        let alloc = self.alloc;
+        ScanText {
+            scanner: self,
+            text,
+            answers: Vec::new(alloc),
+        }
+    }
 }
 
 /// The limit that was passed, if the error is one.
-fn limit_of(error: &Error) -> Option<RuntimeError>
+pub(crate) fn limit_of(error: &Error) -> Option<RuntimeError>
     ensures { MatchOption
         result
         (IsNoLimit error.now)

@@ -1,22 +1,22 @@
-use Rattle.std.proofs.Common.{◌≡◌, ◌-◌, length, Ok, Err, refl, ap, ◌∙◌, subst, arith}
+use Rattle.std.proofs.Common.{◌≡◌, ◌-◌, length, Ok, refl, ap, ◌∙◌, subst, arith}
 use Rattle.fancy_matches.specs.Listing.{begun_at}
 use Rattle.fancy_matches.specs.Regexes.{FindsCaptures}
 use Rattle.fancy_scanner.specs.Scanning.{MayFail}
-use Rattle.fancy_scanner.proofs.Rules.{IsScanFrom, back_past_limit, back_past_none, back_past_some, easy_never_stops, fails_at, rule_at, same_put, scan_of_none, tree_before}
+use Rattle.fancy_scanner.proofs.Rules.{IsScanFrom, back_past_limit, back_past_none, back_past_some, easy_never_stops, fails_at, keeps_itself, rule_at, scan_of_none, tree_before}
 use Rattle.fancy_scanner.proofs.scanner.Scanner.find_from.Goals as goal
 
 pub trees-init : goal.trees-init
 trees-init c =
-    let v = c.args.self.now.regexes in
+    let v = c.args.self.now.trees in
     let all : c.len-index.result ≡ length v.items = c.len-index.ensures ∙ v.ok.0 in
     record {
       within = omega (arith, all);
-      same = λ t rules h. h;
+      keeps = keeps_itself c.args.self.now;
       scanned = λ rules h. scan_of_none c.args.text.now c.args.pos rules v.items c.len-index.result h all;
     }
 
-pub index_mut-requires : goal.index_mut-requires
-index_mut-requires c = omega (arith, c.trees.invariant.within, c.trees-test.true, c.trees.self.regexes.ok.0)
+pub captures_of-requires-clause-within : goal.captures_of-requires-clause-within
+captures_of-requires-clause-within c = omega (arith, c.trees.invariant.within, c.trees-test.true)
 
 pub returns-in-None-clause-promise : goal.returns-in-None-clause-promise
 returns-in-None-clause-promise c = λ rules h.
@@ -24,56 +24,51 @@ returns-in-None-clause-promise c = λ rules h.
     let text = c.args.text.now in
     let pos = c.args.pos in
     let k = c.trees.index - 1 in
-    let x = c.index_mut.result.now in
-    let at = rule_at text rules c.trees.self.regexes.items k x (i.same text rules h) (omega (arith, i.within, c.trees-test.true)) c.index_mut.ensures.value in (
-      fails_at text pos c.in-Err.error rules k x at
+    let now = (i.keeps).same text rules h in
+    let at = rule_at text rules c.trees.self.trees.items k now (omega (arith, i.within, c.trees-test.true)) in (
+      fails_at text pos c.in-Err.error rules k at
           (subst (FindsCaptures (at.rule).input text (begun_at (at.rule).options pos)) c.in-Err.is
-          (c.captures_from.ensures.promise (at.rule).input (at.rule).options at.of)),
+          (c.captures_of.ensures.promise rules at.rule now at.rest)),
       c.in-None.ensures,
     )
 
 pub returns-in-None-clause-same : goal.returns-in-None-clause-same
-returns-in-None-clause-same c = λ t rules h.
-    same_put t rules c.trees.self.regexes.items (c.trees.index - 1) c.index_mut.result.now c.captures_from.new.self (c.trees.invariant.same t rules h)
-    c.index_mut.ensures.value c.captures_from.ensures.same
+returns-in-None-clause-same c = λ t rules h. c.captures_of.ensures.same.same t rules (c.trees.invariant.keeps.same t rules h)
 
 pub trees-preserved-in-Ok-None : goal.trees-preserved-in-Ok-None
 trees-preserved-in-Ok-None c =
     let text = c.args.text.now in
     let pos = c.args.pos in
-    let x = c.index_mut.result.now in
-    tree_before text pos c.args.self.now.regexes.items c.trees.self.regexes.items c.trees.index c.trees.found _ c.trees.stopped _ x
-    c.captures_from.new.self c.trees.invariant c.trees-test.true c.index_mut.ensures.value c.captures_from.ensures.same
-    (λ rules at scanned.
-    back_past_none text pos rules (c.trees.index - 1) x at c.trees.found c.trees.stopped scanned
+    tree_before text pos c.args.self.now c.trees.self c.captures_of.new.self c.trees.index c.trees.found _ c.trees.stopped _
+    c.trees.invariant c.trees-test.true c.captures_of.ensures.same
+    (λ rules at now scanned.
+    back_past_none text pos rules (c.trees.index - 1) at c.trees.found c.trees.stopped scanned
     (subst (FindsCaptures (at.rule).input text (begun_at (at.rule).options pos)) (c.in-Ok-None.is ∙ ap Ok c.in-Ok-None.field-0-is)
-    (c.captures_from.ensures.promise (at.rule).input (at.rule).options at.of)))
+    (c.captures_of.ensures.promise rules at.rule now at.rest)))
 
 pub trees-preserved-in-Ok-Some : goal.trees-preserved-in-Ok-Some
 trees-preserved-in-Ok-Some c =
     let text = c.args.text.now in
     let pos = c.args.pos in
-    let x = c.index_mut.result.now in
-    tree_before text pos c.args.self.now.regexes.items c.trees.self.regexes.items c.trees.index c.trees.found _ c.trees.stopped _ x
-    c.captures_from.new.self c.trees.invariant c.trees-test.true c.index_mut.ensures.value c.captures_from.ensures.same
-    (λ rules at scanned.
-    back_past_some text pos rules (c.trees.index - 1) x at c.trees.found c.trees.stopped scanned c.in-Ok-Some.captures c.earlier.result
+    tree_before text pos c.args.self.now c.trees.self c.captures_of.new.self c.trees.index c.trees.found _ c.trees.stopped _
+    c.trees.invariant c.trees-test.true c.captures_of.ensures.same
+    (λ rules at now scanned.
+    back_past_some text pos rules (c.trees.index - 1) at c.trees.found c.trees.stopped scanned c.in-Ok-Some.captures c.earlier.result
     (subst (FindsCaptures (at.rule).input text (begun_at (at.rule).options pos)) (c.in-Ok-Some.is ∙ ap Ok c.in-Ok-Some.field-0-is)
-    (c.captures_from.ensures.promise (at.rule).input (at.rule).options at.of))
+    (c.captures_of.ensures.promise rules at.rule now at.rest))
     (λ found within before. c.earlier.ensures text found within before))
 
 pub trees-preserved : goal.trees-preserved
 trees-preserved c =
     let text = c.args.text.now in
     let pos = c.args.pos in
-    let x = c.index_mut.result.now in
-    tree_before text pos c.args.self.now.regexes.items c.trees.self.regexes.items c.trees.index c.trees.found _ c.trees.stopped _ x
-    c.captures_from.new.self c.trees.invariant c.trees-test.true c.index_mut.ensures.value c.captures_from.ensures.same
-    (λ rules at scanned.
-    back_past_limit text pos rules (c.trees.index - 1) x at c.trees.found c.trees.stopped scanned c.in-Some.limit _
+    tree_before text pos c.args.self.now c.trees.self c.captures_of.new.self c.trees.index c.trees.found _ c.trees.stopped _
+    c.trees.invariant c.trees-test.true c.captures_of.ensures.same
+    (λ rules at now scanned.
+    back_past_limit text pos rules (c.trees.index - 1) at c.trees.found c.trees.stopped scanned c.in-Some.limit _
     (subst (MayFail text pos at.rule) c.in-Some.ensures
     (subst (FindsCaptures (at.rule).input text (begun_at (at.rule).options pos)) c.in-Err.is
-    (c.captures_from.ensures.promise (at.rule).input (at.rule).options at.of))) refl)
+    (c.captures_of.ensures.promise rules at.rule now at.rest))) refl)
 
 pub returns-clause-promise : goal.returns-clause-promise
 returns-clause-promise c = λ rules h.
@@ -88,4 +83,4 @@ returns-clause-easy c = λ rules h easy small.
     (subst (λ n. IsScanFrom c.args.text.now c.args.pos rules n c.trees.found c.trees.stopped) none (c.trees.invariant.scanned rules h))
 
 pub returns-clause-same : goal.returns-clause-same
-returns-clause-same c = λ t rules h. c.trees.invariant.same t rules h
+returns-clause-same c = λ t rules h. c.trees.invariant.keeps.same t rules h

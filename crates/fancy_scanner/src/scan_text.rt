@@ -1,0 +1,178 @@
+//! A scan of one text, which keeps what is found of each tree from one place to the next.
+
+ghost use Rattle.std.specs.Prelude.{◌≡◌, ◌<◌, ◌^◌, ℕ, IfOk, IfSome, IsTrue, List, None, OnErr, OnOk, length, option_map};
+ghost use Rattle.std.specs.Option.{option_copied};
+ghost use Rattle.fancy_meaning.specs.Places as places;
+ghost use Rattle.fancy_matches.specs.Listing.{begun_at};
+ghost use Rattle.fancy_matches.specs.Regexes.{FindsCaptures, shown_match};
+ghost use Rattle.fancy_scanner.specs.Kept.{kept_captures, shown_whole};
+ghost use Rattle.fancy_scanner.specs.Scanning.{AreEasy, IsRuleAt, Rule, Scans, trees_of};
+ghost use Rattle.fancy_scanner.specs.Scans as scans;
+ghost use Rattle.fancy_scanner.specs.Scans.{GoesOn, HasRoom, IsScanOf, KeepsHeld, answers_of, captures_result, scan_result, text_of};
+
+use crate::answers::Answer;
+use crate::scanner::{Scanner, Stopped, limit_of};
+use fancy_expr::error::Error;
+use fancy_matches::found::{Captures, Match};
+use std::alloc::AllocError;
+
+/// A match of one of the trees, without its groups.
+#[derive(Clone, Copy)]
+pub struct TreeMatch<'t> {
+    /// Which tree it is of: how many were added before it.
+    pub index: usize,
+    pub whole: Match<'t>,
+}
+
+/// What the trees of a scan come to from a place on.
+#[derive(Clone, Copy)]
+pub struct ScanStep<'t> {
+    /// The match that begins first, of the first matches of the trees that answered; of several that begin there that of
+    /// the tree that was added first. `ScanText::captures` has its groups.
+    pub found: Option<TreeMatch<'t>>,
+    /// The first tree whose search passed a limit, if there is one.
+    pub stopped: Option<Stopped>,
+}
+
+/// A scan of one text from place to place for the trees of a scanner, as a highlighter makes it.
+///
+/// Where `Scanner::add_tree` added a tree, what is found of it is kept as long as it holds, and it is searched for again
+/// only from a place past that. So a scan from left to right goes over the text once for each tree, and not once for each
+/// place. A tree with a `\G` or of an anchored search is searched for at each place, and one with a `\K` until it is not
+/// found any more.
+#[derive(Drop)]
+pub struct ScanText<'r, 't> {
+    pub(crate) scanner: &'r mut Scanner,
+    pub(crate) text: &'t str,
+    pub(crate) answers: Vec<Option<Answer<'t>>>,
+}
+
+impl<'r, 't> ScanText<'r, 't> {
+    /// The match that begins first, of the first matches of all trees from this place on, a byte of the text; of several
+    /// that begin there that of the tree that was added first. It is what `Scanner::find_from` finds.
+    ///
+    /// A tree whose search passes a limit does not hide the matches of the others: the first such tree is told beside
+    /// them. Want of memory is `Error::Memory`.
+    pub fn find_from(&mut self, pos: usize) -> Result<ScanStep<'t>, Error>
+        requires { IsTrue (places.is_place (text_of self.old) pos) }
+        ensures promise { (rules : List Rule)
+            → IsScanOf rules self.old
+            → Scans (text_of self.old) pos rules (scan_result self.new result) }
+        ensures whole { IfOk result (λ step. IfSome step.found
+            (scans.IsWholeIn (answers_of self.new))) }
+        ensures easy { (rules : List Rule)
+            → IsScanOf rules self.old → AreEasy (text_of self.old) rules
+            → length (text_of self.old) < 2 ^ 60 → IfOk result (λ step. step.stopped ≡ None) }
+        ensures held { KeepsHeld pos self.old self.new }
+        ensures goes_on { GoesOn self.old self.new }
+    {
+        self.make_room()?;
+        let mut found = None;
+        let mut stopped = None;
+        let mut index = self.scanner.tree_count();
+        'trees: while index > 0 {
+            index -= 1;
+            match self.look(index, pos) {
+                Ok(None) => {}
+                Ok(Some(whole)) => found = Some(earlier(TreeMatch { index, whole }, found)),
+                Err(error) => match limit_of(&error) {
+                    Some(limit) => stopped = Some(Stopped { index, limit }),
+                    None => return Err(error),
+                },
+            }
+        }
+        Ok(ScanStep { found, stopped })
+    }
+
+    /// The groups of the match that is kept of the tree with this number: after `find_from` found a match of it, those of
+    /// this match. None where nothing of the tree is kept, or that it has no match.
+    pub fn captures(&self, index: usize) -> Option<&Captures<'t>>
+        ensures { option_copied result ≡ kept_captures (answers_of self.now) index }
+    {
+        match self.answers.get(index) {
+            Some(Some(answer)) => answer.found.as_ref(),
+            _ => None,
+        }
+    }
+
+    /// The match that is kept of the tree with this number, without its groups.
+    fn whole(&self, index: usize) -> Option<Match<'t>>
+        ensures { option_map shown_match result
+            ≡ option_map shown_whole (kept_captures (answers_of self.now) index) }
+    {
+        match self.captures(index) {
+            None => None,
+            Some(captures) => Some(captures.whole()),
+        }
+    }
+
+    /// A place for the answer of each tree.
+    fn make_room(&mut self) -> Result<(), AllocError>
+        ensures room { OnOk result (HasRoom self.new) }
+        ensures refused { OnErr result (0 < length (trees_of self.old.scanner.now)) }
+        ensures held { (pos : ℕ) → KeepsHeld pos self.old self.new }
+        ensures goes_on { GoesOn self.old self.new }
+    {
+        let count = self.scanner.tree_count();
+        'trees: while self.answers.len() < count {
+            self.answers.push(None)?;
+        }
+        Ok(())
+    }
+
+    /// What is kept of the tree with this number is what a search for it from this place on answers.
+    fn holds(&self, index: usize, pos: usize) -> bool
+        requires room { HasRoom self.now }
+        requires within { index < length (trees_of self.now.scanner.now) }
+        ensures { result ≡ scans.is_held self.now index pos }
+    {
+        let lasting = self.scanner.lasting(index);
+        match &self.answers[index] {
+            None => false,
+            Some(answer) => answer.holds_at(pos, lasting),
+        }
+    }
+
+    /// The first match of the tree with this number from this place on; its groups are kept.
+    fn look(&mut self, index: usize, pos: usize) -> Result<Option<Match<'t>>, Error>
+        requires place { IsTrue (places.is_place (text_of self.old) pos) }
+        requires room { HasRoom self.old }
+        requires within { index < length (trees_of self.old.scanner.now) }
+        ensures promise { (rules : List Rule) (r : Rule)
+            → IsScanOf rules self.old → IsRuleAt rules index r
+            → FindsCaptures r.input (text_of self.old) (begun_at r.options pos)
+            (captures_result self.new index result) }
+        ensures whole { IfOk result (λ found. option_map shown_match found
+            ≡ option_map shown_whole (kept_captures (answers_of self.new) index)) }
+        ensures others { scans.KeepsOthers index self.old self.new }
+        ensures held { KeepsHeld pos self.old self.new }
+        ensures goes_on { GoesOn self.old self.new }
+    {
+        if self.holds(index, pos) {
+            return Ok(self.whole(index));
+        }
+        match self.scanner.captures_of(index, self.text, pos) {
+            Ok(found) => {
+                self.answers[index] = Some(Answer { from: pos, found });
+                Ok(self.whole(index))
+            }
+            Err(error) => Err(error),
+        }
+    }
+}
+
+/// Of two matches the one that begins first, and of equals the first one.
+fn earlier<'t>(one: TreeMatch<'t>, later: Option<TreeMatch<'t>>) -> TreeMatch<'t>
+    ensures { result ≡ scans.earlier_match one.entry later.entry }
+{
+    match later {
+        Some(other) => {
+            if other.whole.start() < one.whole.start() {
+                other
+            } else {
+                one
+            }
+        }
+        None => one,
+    }
+}
