@@ -1,0 +1,15 @@
+pub mod Steps
+pub mod Read
+pub mod Spelled
+pub mod Counts
+pub mod Leaves
+pub mod Forms
+pub mod Readings
+pub mod Bytes
+pub mod Opened
+pub mod ClassPieces
+pub mod ClassTokens
+pub mod OwnTokens
+pub mod Made
+pub mod Easy
+pub mod Whole

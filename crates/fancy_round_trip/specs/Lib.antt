@@ -1,0 +1,3 @@
+pub mod ClassTexts
+pub mod Returning
+pub mod RoundTrip
