@@ -1,13 +1,13 @@
 //! `Regex`: a tree that is compiled, with the memory of its searches.
 
-ghost use Rattle.std.specs.Prelude.{◌≡◌, ◌-◌, ◌<◌, [], IfErr, IfSome, IsTrue, MatchResult, length, suc};
+ghost use Rattle.std.specs.Prelude.{◌≡◌, ◌-◌, ◌<◌, [], IfErr, IfOk, IfSome, IsTrue, MatchResult, length, suc};
 ghost use Rattle.fancy_meaning.specs.Fits.{run_fits};
 ghost use Rattle.fancy_meaning.specs.Options as plain;
 ghost use Rattle.fancy_meaning.specs.Places as places;
 ghost use Rattle.fancy_meaning.specs.Premises.{Input};
 ghost use Rattle.fancy_expr.specs.Sound.{IsWellFormedTree};
 ghost use Rattle.fancy_vm.specs.Tasks.{options_of as run_options_of, task_of};
-ghost use Rattle.fancy_search.specs.Searches.{HasSource, IsRefusedAs, input_of, program, search_fits};
+ghost use Rattle.fancy_search.specs.Searches.{HasSource, IsNestedOver, IsRefusedAs, input_of, program, search_fits};
 ghost use Rattle.fancy_matches.specs.Listing as list;
 
 use crate::found::{Captures, Match};
@@ -52,12 +52,15 @@ impl Regex {
     ) -> Result<Regex, Error>
         requires well_formed { IsWellFormedTree tree.now }
         requires fits { IsTrue (search_fits options.now []) }
-        ensures { MatchResult
+        ensures made { MatchResult
             result
             (IsMadeBy
             (input_of tree.now options.now.analysis options.now.compilation)
             (run_options_of options.now.run) backtrack_limit)
             (IsRefusedAs
+            (input_of tree.now options.now.analysis options.now.compilation)
+            options.now.compilation.max_nesting) }
+        ensures within { IfOk result (λ _. ¬ IsNestedOver
             (input_of tree.now options.now.analysis options.now.compilation)
             options.now.compilation.max_nesting) }
     {

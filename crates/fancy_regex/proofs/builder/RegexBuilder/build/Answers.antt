@@ -18,7 +18,7 @@ returns-in-Ok c =
     let says = c.options-options.ensures in
     built b tree c.in_ok-tree.ensures c.in-Ok.engine
     (compiled_so b tree (analysis_options_of o.analysis) (compile_options_of o.compilation) says.analysis says.compilation (run_options_of o.run) c.in-Ok.engine
-    says.run c.in-Ok.ensures) c.of_tree.result c.of_tree.ensures
+    says.run c.in-Ok.ensures.made) c.of_tree.result c.of_tree.ensures
 
 pub returns-in-Err : goal.returns-in-Err
 returns-in-Err c =
@@ -28,4 +28,4 @@ returns-in-Err c =
     let says = c.options-options.ensures in
     refused b tree c.in_ok-tree.ensures c.from.result
     (subst (IsRefusedAs (input tree b) b.max_nesting) (sym c.from.ensures)
-    (refused_so b tree (analysis_options_of o.analysis) (compile_options_of o.compilation) says.analysis says.compilation (o.compilation).max_nesting c.in-Err.error says.nesting c.in-Err.ensures))
+    (refused_so b tree (analysis_options_of o.analysis) (compile_options_of o.compilation) says.analysis says.compilation (o.compilation).max_nesting c.in-Err.error says.nesting c.in-Err.ensures.made))
