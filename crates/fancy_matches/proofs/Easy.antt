@@ -1,5 +1,5 @@
 -- Where no limit was asked and the whole tree is easy, no limit is passed.
-use Rattle.std.proofs.Common.{◌≡◌, ◌≤◌, ◌<◌, ◌+◌, ◌*◌, ◌-◌, ◌^◌, min, ℕ, zero, suc, Bool, true, false, List, [], ◌∷◌, length, filter, Option, Some, None, Result, Ok, Err, IfErr, IsFalse, refl, sym, ap, ◌∙◌, subst, arith, if◌then◌else◌}
+use Rattle.std.proofs.Common.{◌≡◌, ◌≤◌, ◌<◌, ◌+◌, ◌-◌, ◌^◌, min, ℕ, zero, suc, Bool, true, false, List, [], ◌∷◌, length, filter, Option, None, Result, Ok, Err, IfErr, IsFalse, refl, sym, ap, ◌∙◌, subst, arith, if◌then◌else◌}
 use Rattle.fancy_meaning.specs.Answer.{Search, search_of, starts}
 use Rattle.fancy_meaning.specs.Hard.{is_root_hard}
 use Rattle.fancy_meaning.specs.Numbers.{usize_max}
@@ -13,8 +13,8 @@ use Rattle.fancy_expr.specs.declared.error.RuntimeError.{RuntimeError}
 use Rattle.fancy_expr.specs.declared.error.RuntimeError.TheVariants as limit
 use Rattle.fancy_vm.specs.Bounds.{IsBelowBound}
 use Rattle.fancy_search.specs.Searches.{Bounds, IsCompiledFrom}
-use Rattle.fancy_matches.specs.Listing.{Standing, backtracks_for, options_at}
-use Rattle.fancy_matches.specs.Regexes.{FailsAt, HasNoLimits, IsNoLimit, IsNoLimitWhereEasy, IsSame, PromisesSo, StepsBy, options_in}
+use Rattle.fancy_matches.specs.Listing.{backtracks_for}
+use Rattle.fancy_matches.specs.Regexes.{IsNoLimit, IsNoLimitWhereEasy, IsSame, PromisesSo}
 use Rattle.fancy_matches.specs.declared.options.RegexOptions.{RegexOptions}
 use Rattle.fancy_matches.specs.declared.regexes.Regex.{Regex}
 

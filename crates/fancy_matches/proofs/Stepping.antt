@@ -17,13 +17,11 @@ use Rattle.fancy_search.specs.declared.search.Compiled.{Compiled}
 use Rattle.fancy_expr.specs.declared.error.Error.{Error}
 use Rattle.fancy_laws.proofs.Moves.{is_place_parts}
 use Rattle.fancy_matches.specs.Listing.{ComesTo, Standing, after, by_match, ended, is_listed, options_at, options_for, past_match, stays}
-use Rattle.fancy_matches.specs.Regexes.{ComesBy, GivesBy, IsNoLimitWhereEasy, IsRegexOf, IsSame, Shows, StepsBy, left_of, numbers_in, options_in, shown_captures, shown_match, span_of, with_numbers, with_span}
-use Rattle.fancy_matches.specs.declared.found.Captures.{Captures}
-use Rattle.fancy_matches.specs.declared.found.Match.{Match}
+use Rattle.fancy_matches.specs.Regexes.{ComesBy, EndsOn, GivesBy, IsNoLimitWhereEasy, IsRegexOf, IsSame, Shows, StepsBy, left_of, options_in}
 use Rattle.fancy_matches.specs.declared.options.RegexOptions.{RegexOptions}
 use Rattle.fancy_matches.specs.declared.regexes.Regex.{Regex}
 use Rattle.fancy_matches.proofs.Easy.{easy_error}
-use Rattle.fancy_matches.proofs.Lists.{comes_left, comes_more, comes_on, ended_at, finds_none, is_found, no_place_ends}
+use Rattle.fancy_matches.proofs.Lists.{comes_left, comes_more, comes_on, ended_at, finds_none, is_found, next_on, no_place_ends}
 use Rattle.fancy_matches.proofs.Searching.{fits_at}
 
 -- ---- what is seen of an answer
@@ -42,21 +40,9 @@ some_seen : {B : Type 0} (seen : List ℕ → B) (shown : B) (x : Option (List �
 some_seen seen shown None e = absurd (none-some _ (sym e))
 some_seen seen shown (Some m) e = record { numbers = m; found = refl; shows = same_Some shown (seen m) e }
 
--- the span of what is shown of a match
-abbrev pub captures_span : Captures → Span
-captures_span c = first_pair (numbers_in c)
-
-pub captures_spans : (text : List ℕ) (c : Captures) (numbers : List ℕ) → shown_captures c ≡ with_numbers text numbers →
-    captures_span c ≡ first_pair numbers
-captures_spans text c numbers e = ap (λ (p : List ℕ × List ℕ). first_pair p.1) e
-
-pub match_spans : (text : List ℕ) (m : Match) (numbers : List ℕ) → shown_match m ≡ with_span text numbers → span_of m ≡ first_pair numbers
-match_spans text m numbers e = ap (λ (p : List ℕ × Span). p.1) e
-
 -- ---- a search from where the list of a tree stands, once it came there without a match
 
-module _ {A B : Type 0} (show : A → B) (seen : List ℕ → B) (span : A → Span)
-    (spans : (x : A) (numbers : List ℕ) → show x ≡ seen numbers → span x ≡ first_pair numbers)
+module _ {A B : Type 0} (show : A → B) (seen : List ℕ → B)
     (i : Input) (text : List ℕ) (o : plain.RunOptions) (is : IsText text) (from s : Standing) (at : is_place text s.pos ≡ true)
     (comes : ComesTo (plan i) text o from [] s) where
   abbrev answered : Option (List ℕ)
@@ -65,20 +51,22 @@ module _ {A B : Type 0} (show : A → B) (seen : List ℕ → B) (span : A → S
   none_left : Shows i text (options_at o s) show seen (Ok None) → left_of i text o from ≡ []
   none_left h = comes_left (plan i) text o is comes ∙ finds_none (plan i) text o is s at (none_seen seen answered h.1)
 
-  module _ (x : A) (h : Shows i text (options_at o s) show seen (Ok (Some x))) where
+  -- something was found here
+  module _ (x : A) (span : Span) (spans : (numbers : List ℕ) → show x ≡ seen numbers → span ≡ first_pair numbers)
+      (h : Shows i text (options_at o s) show seen (Ok (Some x))) where
     sees : IsSeen seen (show x) answered
     sees = some_seen seen (show x) answered h.1
 
-    pair : span x ≡ first_pair sees.numbers
-    pair = spans x sees.numbers sees.shows
+    pair : span ≡ first_pair sees.numbers
+    pair = spans sees.numbers sees.shows
 
-    by_this : is_listed s (span x) ≡ true → ComesTo (plan i) text o from (sees.numbers ∷ []) (after text s (span x))
+    by_this : is_listed s span ≡ true → ComesTo (plan i) text o from (sees.numbers ∷ []) (after text s span)
     by_this so =
         subst (λ p. ComesTo (plan i) text o from (sees.numbers ∷ []) (after text s p)) (sym pair)
         (comes_more (plan i) text o comes
         (by_match s sees.numbers (is_found (plan i) text o is s at sees.numbers sees.found) (subst (λ p. is_listed s p ≡ true) pair so) stays))
 
-    comes_by : is_listed s (span x) ≡ true → ComesBy i text o seen from (show x) (after text s (span x))
+    comes_by : is_listed s span ≡ true → ComesBy i text o seen from (show x) (after text s span)
     comes_by so = record {
       numbers = sees.numbers;
       shows = sees.shows;
@@ -86,7 +74,7 @@ module _ {A B : Type 0} (show : A → B) (seen : List ℕ → B) (span : A → S
       left = comes_left (plan i) text o is (by_this so);
     }
 
-    comes_past : is_listed s (span x) ≡ false → ComesTo (plan i) text o from [] (after text s (span x))
+    comes_past : is_listed s span ≡ false → ComesTo (plan i) text o from [] (after text s span)
     comes_past so =
         subst (λ p. ComesTo (plan i) text o from [] (after text s p)) (sym pair)
         (comes_more (plan i) text o comes
@@ -111,9 +99,12 @@ module _ (c : Compiled) (text : List ℕ) (is : IsText text) (base here : RunOpt
       (subst (λ pos. is_place text pos ≡ true) (sym (ap (λ q. q.pos) options)) at)
       (ap (λ q. q.not_empty) options) (ap (λ q. q.leftmost_longest) options)
 
-  module _ (goes : GoesOn c text (run_options_of base) from s) {A B : Type 0} (show : A → B) (seen : List ℕ → B) (span : A → Span)
-      (spans : (x : A) (numbers : List ℕ) → show x ≡ seen numbers → span x ≡ first_pair numbers) (result : Result (Option A) Error)
-      (promise : (i : Input) → IsCompiledFrom i c → Shows i text (run_options_of here) show seen result) where
+  -- where this was found, the next search begins further on
+  pub found_further : (span : Span) → EndsOn text here.pos span → s.pos < (after text s span).pos
+  found_further span on = next_on text s span (subst (λ n. n ≤ span.1) (ap (λ o. o.pos) options) on.0)
+
+  module _ (goes : GoesOn c text (run_options_of base) from s) {A B : Type 0} (show : A → B) (seen : List ℕ → B)
+      (result : Result (Option A) Error) (promise : (i : Input) → IsCompiledFrom i c → Shows i text (run_options_of here) show seen result) where
     abbrev o : plain.RunOptions
     o = run_options_of base
 
@@ -123,7 +114,7 @@ module _ (c : Compiled) (text : List ℕ) (is : IsText text) (base here : RunOpt
     -- nothing was found, and the list ends
     pub search_none : result ≡ Ok None → (i : Input) → IsCompiledFrom i c → StepsBy i text o show seen from (Ok None) (ended s)
     search_none was i of = (
-      none_left show seen span spans i text o is from s at (goes.comes i of) (found_so (Ok None) was i of),
+      none_left show seen i text o is from s at (goes.comes i of) (found_so (Ok None) was i of),
       no_place_ends (plan i) text o is (ended s) is.fits,
     )
 
@@ -131,19 +122,20 @@ module _ (c : Compiled) (text : List ℕ) (is : IsText text) (base here : RunOpt
     search_error e was i of =
         let h = found_so (Err e) was i of in (goes.comes i of, record { place = at; promise = h.0; bounds = h.1 })
 
-    module _ (x : A) (was : result ≡ Ok (Some x)) where
+    -- something was found here
+    module _ (x : A) (span : Span) (spans : (numbers : List ℕ) → show x ≡ seen numbers → span ≡ first_pair numbers) (was : result ≡ Ok (Some x)) where
       -- a match of the list
-      pub search_listed : is_listed s (span x) ≡ true → (i : Input) → IsCompiledFrom i c →
-          StepsBy i text o show seen from (Ok (Some x)) (after text s (span x))
+      pub search_listed : is_listed s span ≡ true → (i : Input) → IsCompiledFrom i c →
+          StepsBy i text o show seen from (Ok (Some x)) (after text s span)
       search_listed so i of =
-          comes_by show seen span spans i text o is from s at (goes.comes i of) x (found_so (Ok (Some x)) was i of) so
+          comes_by show seen i text o is from s at (goes.comes i of) x span spans (found_so (Ok (Some x)) was i of) so
 
       -- a match that is passed over
-      pub search_past : is_listed s (span x) ≡ false → s.pos < (after text s (span x)).pos → GoesOn c text o from (after text s (span x))
+      pub search_past : is_listed s span ≡ false → s.pos < (after text s span).pos → GoesOn c text o from (after text s span)
       search_past so further = record {
         on = let on = goes.on in omega (arith, on, further);
         comes = λ i of.
-            comes_past show seen span spans i text o is from s at (goes.comes i of) x (found_so (Ok (Some x)) was i of) so;
+            comes_past show seen i text o is from s at (goes.comes i of) x span spans (found_so (Ok (Some x)) was i of) so;
       }
 
 -- none is left where the list stands at no place

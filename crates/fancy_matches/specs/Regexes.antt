@@ -76,9 +76,9 @@ module _ (i : Input) (text : List ℕ) (o : plain.RunOptions) where
   abbrev pub FindsWhether : Result Bool Error → Type 0
   FindsWhether = PromisesSo (λ numbers there. there ≡ is_some numbers)
 
--- it is of this text, and ends at or past where the search for it began
-abbrev pub EndsOn : List ℕ → ℕ → List ℕ × Span → Type 0
-EndsOn text pos found = (found.0 ≡ text) × (pos ≤ found.1.1)
+-- it ends in this text, at or past where the search for it began
+abbrev pub EndsOn : List ℕ → ℕ → Span → Type 0
+EndsOn text pos span = (pos ≤ span.1) × (span.1 ≤ length text)
 
 -- ---- a regex
 
@@ -155,9 +155,6 @@ module _ (i : Input) (text : List ℕ) (o : plain.RunOptions) where
   StepsBy show seen s (Ok None) t = (left_of s ≡ []) × (left_of t ≡ [])
   StepsBy show seen s (Ok (Some x)) t = ComesBy seen s (show x) t
   StepsBy show seen s (Err e) t = ComesTo (plan i) text o s [] t × FailsAt t e
-
-  abbrev pub StepsToCaptures : Standing → Result (Option Captures) Error → Standing → Type 0
-  StepsToCaptures = StepsBy shown_captures (with_numbers text)
 
   abbrev pub StepsToMatch : Standing → Result (Option Match) Error → Standing → Type 0
   StepsToMatch = StepsBy shown_match (with_span text)

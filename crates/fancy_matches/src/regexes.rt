@@ -13,7 +13,7 @@ ghost use Rattle.fancy_matches.specs.Listing as list;
 use crate::found::{Captures, Match};
 use crate::iterators::{CaptureMatches, Matches};
 use crate::options::RegexOptions;
-use crate::searches::{find_captures, find_match, next_captures, next_match};
+use crate::searches::{FromSearch, next_found};
 use crate::standing::Standing;
 use fancy_expr::error::Error;
 use fancy_expr::expr::ExprTree;
@@ -33,7 +33,7 @@ pub struct Regex {
 }
 
 impl Regex {
-    ghost use Rattle.fancy_matches.specs.Regexes.{AreAllApart, Begins, FindsCaptures, FindsMatch, FindsWhether, GivesCaptures, GivesMatch, IsMadeBy, IsNoLimitWhereEasy, IsRegexOf, IsSame, captures_iteration, matches_iteration, options_in, standing_of};
+    ghost use Rattle.fancy_matches.specs.Regexes.{AreAllApart, Begins, FindsCaptures, FindsMatch, FindsWhether, GivesBy, GivesCaptures, GivesMatch, IsMadeBy, IsNoLimitWhereEasy, IsRegexOf, IsSame, Shows, captures_iteration, matches_iteration, options_in, standing_of};
 
     /// Analyses and compiles the tree, which has passed `is_well_formed`. The options fit a text that is empty, so they
     /// begin at 0; where a search begins, and whether it is continued, each search sets for itself.
@@ -86,6 +86,30 @@ impl Regex {
         }
     }
 
+    /// What is told of the first match from this place on, a byte of the text.
+    fn found_from<'t, F: FromSearch<'t>>(
+        &mut self,
+        text: &'t str,
+        pos: usize,
+    ) -> Result<Option<F>, Error>
+        requires { IsTrue (places.is_place text.now pos) }
+        ensures promise { (i : Input)
+            → (o : plain.RunOptions)
+            → IsRegexOf i text.now o self.old
+            → Shows i text.now (list.begun_at o pos) F.show (F.seen text.now) result }
+        ensures easy { IfErr result (IsNoLimitWhereEasy self.old text.now) }
+        ensures same { IsSame self.old self.new }
+    {
+        let options = self.begun_at(text, pos);
+        F::search(
+            self.alloc,
+            &self.compiled,
+            text,
+            &options,
+            &mut self.scratch,
+        )
+    }
+
     /// The groups of the first match from this place on, a byte of the text.
     pub fn captures_from<'t>(
         &mut self,
@@ -100,14 +124,7 @@ impl Regex {
         ensures easy { IfErr result (IsNoLimitWhereEasy self.old text.now) }
         ensures same { IsSame self.old self.new }
     {
-        let options = self.begun_at(text, pos);
-        find_captures(
-            self.alloc,
-            &self.compiled,
-            text,
-            &options,
-            &mut self.scratch,
-        )
+        self.found_from(text, pos)
     }
 
     /// The groups of the first match.
@@ -132,14 +149,7 @@ impl Regex {
         ensures easy { IfErr result (IsNoLimitWhereEasy self.old text.now) }
         ensures same { IsSame self.old self.new }
     {
-        let options = self.begun_at(text, pos);
-        find_match(
-            self.alloc,
-            &self.compiled,
-            text,
-            &options,
-            &mut self.scratch,
-        )
+        self.found_from(text, pos)
     }
 
     /// The first match.
@@ -169,6 +179,43 @@ impl Regex {
         }
     }
 
+    /// What is told of the next match of the list that stands so; the list then stands after it. After an error the list
+    /// has ended.
+    fn next_found<'t, F: FromSearch<'t>>(
+        &mut self,
+        text: &'t str,
+        standing: &mut Standing,
+    ) -> Option<Result<F, Error>>
+        ensures list { (i : Input)
+            → (o : plain.RunOptions)
+            → IsRegexOf i text.now o self.old
+            → GivesBy i text.now o F.show (F.seen text.now)
+            (standing_of standing.old) result (standing_of standing.new) }
+        ensures further { IfSome
+            result
+            (λ item. suc (length text.now) - standing.new.pos
+            < suc (length text.now) - standing.old.pos) }
+        ensures easy { IfSome result (λ item. IfErr item (IsNoLimitWhereEasy self.old text.now)) }
+        ensures same { IsSame self.old self.new }
+    {
+        let options = self.options.for_text(text);
+        match next_found(
+            self.alloc,
+            &self.compiled,
+            text,
+            &options,
+            standing,
+            &mut self.scratch,
+        ) {
+            Ok(None) => None,
+            Ok(Some(found)) => Some(Ok(found)),
+            Err(error) => {
+                standing.end();
+                Some(Err(error))
+            }
+        }
+    }
+
     /// The next match of the list that stands so, with its groups; the list then stands after it. After an error the list
     /// has ended.
     pub fn next_captures<'t>(
@@ -187,22 +234,7 @@ impl Regex {
         ensures easy { IfSome result (λ item. IfErr item (IsNoLimitWhereEasy self.old text.now)) }
         ensures same { IsSame self.old self.new }
     {
-        let options = self.options.for_text(text);
-        match next_captures(
-            self.alloc,
-            &self.compiled,
-            text,
-            &options,
-            standing,
-            &mut self.scratch,
-        ) {
-            Ok(None) => None,
-            Ok(Some(captures)) => Some(Ok(captures)),
-            Err(error) => {
-                standing.end();
-                Some(Err(error))
-            }
-        }
+        self.next_found(text, standing)
     }
 
     /// The next match of the list that stands so, without its groups; the list then stands after it. After an error the
@@ -223,25 +255,11 @@ impl Regex {
         ensures easy { IfSome result (λ item. IfErr item (IsNoLimitWhereEasy self.old text.now)) }
         ensures same { IsSame self.old self.new }
     {
-        let options = self.options.for_text(text);
-        match next_match(
-            self.alloc,
-            &self.compiled,
-            text,
-            &options,
-            standing,
-            &mut self.scratch,
-        ) {
-            Ok(None) => None,
-            Ok(Some(found)) => Some(Ok(found)),
-            Err(error) => {
-                standing.end();
-                Some(Err(error))
-            }
-        }
+        self.next_found(text, standing)
     }
 
-    /// All matches, one after the other, each with its groups. They do not overlap. The regex is the caller's again once the iterator is gone.
+    /// All matches, one after the other, each with its groups. They do not overlap. The regex is the caller's again once
+    /// the iterator is gone.
     pub fn captures_iter<'r, 't>(&'r mut self, text: &'t str) -> CaptureMatches<'r, 't>
         ensures begins { Begins self.entry text.now (captures_iteration result) }
         ensures apart { AreAllApart self.old text.now }

@@ -1,12 +1,13 @@
 //! Searches by a compiled tree: the first match from a place on, and the next one of a list.
 
-ghost use Rattle.std.specs.Prelude.{◌≡◌, ◌-◌, ◌<◌, [], IfOk, IfSome, IsTrue, length, suc};
+ghost use Rattle.std.specs.Prelude.{◌≡◌, ◌-◌, ◌<◌, ℕ, [], IfOk, IfSome, IsTrue, List, length, suc};
 ghost use Rattle.fancy_meaning.specs.Fits.{run_fits};
+ghost use Rattle.fancy_meaning.specs.MatchState.{Span};
 ghost use Rattle.fancy_meaning.specs.Premises.{Input};
 ghost use Rattle.fancy_vm.specs.Tasks.{options_of as run_options_of, task_of};
 ghost use Rattle.fancy_vm.specs.Outcomes.{first_pair};
 ghost use Rattle.fancy_search.specs.Searches.{HasSource, IsCompiledFrom, program};
-ghost use Rattle.fancy_matches.specs.Regexes.{EndsOn, FindsCaptures, FindsMatch, StepsToCaptures, StepsToMatch, captures_text, numbers_in, shown_match, standing_of};
+ghost use Rattle.fancy_matches.specs.Regexes.{EndsOn, Shows, StepsBy, StepsToMatch, numbers_in, shown_captures, shown_match, span_of, standing_of, with_numbers, with_span};
 
 use crate::found::{Captures, Match};
 use crate::standing::Standing;
@@ -16,82 +17,132 @@ use fancy_search::search::Compiled;
 use fancy_vm::vm::{RunOptions, Scratch, run_spans};
 use std::alloc::Global;
 
-/// The groups of the first match by these options.
-pub fn find_captures<'t>(
-    alloc: Global,
-    compiled: &Compiled,
-    text: &'t str,
-    options: &RunOptions,
-    scratch: &mut Scratch,
-) -> Result<Option<Captures<'t>>, Error>
-    requires fits { IsTrue (run_fits (task_of (program compiled.now) text.now options.now)) }
-    requires source { HasSource compiled.now }
-    ensures promise { (i : Input)
-        → IsCompiledFrom i compiled.now
-        → FindsCaptures i text.now (run_options_of options.now) result }
-    ensures on { IfOk result (λ found. IfSome found (λ c.
-        EndsOn text.now options.now.pos (captures_text c, first_pair (numbers_in c)))) }
-{
-    match compiled.search(alloc, text, options, scratch) {
-        Ok(None) => Ok(None),
-        Ok(Some(numbers)) => Ok(Some(Captures { text, numbers })),
-        Err(error) => Err(error),
+/// What a search tells of a match: where it is, or all its groups.
+pub trait FromSearch<'t>: Sized + Drop {
+    // what is shown of one
+    ghost Shown: { Type 0 };
+
+    ghost show: { Self → Self.Shown };
+
+    // what that has to be, by the text and the numbers of the match
+    ghost seen: { List ℕ → List ℕ → Self.Shown };
+
+    // where the match is
+    ghost span: { Self → Span };
+
+    /// What is told of the first match by these options.
+    fn search(
+        alloc: Global,
+        compiled: &Compiled,
+        text: &'t str,
+        options: &RunOptions,
+        scratch: &mut Scratch,
+    ) -> Result<Option<Self>, Error>
+        requires fits { IsTrue (run_fits (task_of (program compiled.now) text.now options.now)) }
+        requires source { HasSource compiled.now }
+        ensures promise { (i : Input)
+            → IsCompiledFrom i compiled.now
+            → Shows i text.now (run_options_of options.now) show (seen text.now) result }
+        ensures on { IfOk result (λ found. IfSome found (λ x.
+            EndsOn text.now options.now.pos (span x))) }
+        // what is shown tells where the match is
+        ensures spans { IfOk result (λ found. IfSome found (λ x. (numbers : List ℕ)
+            → show x ≡ seen text.now numbers
+            → span x ≡ first_pair numbers)) };
+
+    /// Where it begins and ends, in bytes of the text.
+    fn span(&self) -> (usize, usize)
+        ensures { result ≡ span self.now };
+}
+
+/// Where it is.
+impl<'t> FromSearch<'t> for Match<'t> {
+    ghost Shown = { List ℕ × Span };
+
+    ghost show = { shown_match };
+
+    ghost seen = { with_span };
+
+    ghost span = { span_of };
+
+    fn search(
+        alloc: Global,
+        compiled: &Compiled,
+        text: &'t str,
+        options: &RunOptions,
+        scratch: &mut Scratch,
+    ) -> Result<Option<Match<'t>>, Error> {
+        match run_spans(alloc, compiled.program(), text, options, scratch) {
+            Ok(None) => Ok(None),
+            Ok(Some((start, end))) => Ok(Some(Match { text, start, end })),
+            Err(error) => Err(error),
+        }
+    }
+
+    fn span(&self) -> (usize, usize) {
+        (self.start, self.end)
     }
 }
 
-/// The first match by these options, without its groups.
-pub fn find_match<'t>(
-    alloc: Global,
-    compiled: &Compiled,
-    text: &'t str,
-    options: &RunOptions,
-    scratch: &mut Scratch,
-) -> Result<Option<Match<'t>>, Error>
-    requires fits { IsTrue (run_fits (task_of (program compiled.now) text.now options.now)) }
-    requires source { HasSource compiled.now }
-    ensures promise { (i : Input)
-        → IsCompiledFrom i compiled.now
-        → FindsMatch i text.now (run_options_of options.now) result }
-    ensures on { IfOk result (λ found. IfSome found (λ m.
-        EndsOn text.now options.now.pos (shown_match m))) }
-{
-    match run_spans(alloc, compiled.program(), text, options, scratch) {
-        Ok(None) => Ok(None),
-        Ok(Some((start, end))) => Ok(Some(Match { text, start, end })),
-        Err(error) => Err(error),
+/// All its groups.
+impl<'t> FromSearch<'t> for Captures<'t> {
+    ghost Shown = { List ℕ × List ℕ };
+
+    ghost show = { shown_captures };
+
+    ghost seen = { with_numbers };
+
+    ghost span = { λ c. first_pair (numbers_in c) };
+
+    fn search(
+        alloc: Global,
+        compiled: &Compiled,
+        text: &'t str,
+        options: &RunOptions,
+        scratch: &mut Scratch,
+    ) -> Result<Option<Captures<'t>>, Error> {
+        match compiled.search(alloc, text, options, scratch) {
+            Ok(None) => Ok(None),
+            Ok(Some(numbers)) => Ok(Some(Captures { text, numbers })),
+            Err(error) => Err(error),
+        }
+    }
+
+    fn span(&self) -> (usize, usize) {
+        (self.numbers[0], self.numbers[1])
     }
 }
 
-/// The groups of the next match of the list that stands so, by these options but where each search begins and whether it
-/// is continued. The list then stands after that match; with an error, before the search that failed.
-pub fn next_captures<'t>(
+/// What is told of the next match of the list that stands so, by these options but where each search begins and whether
+/// it is continued. The list then stands after that match; with an error, before the search that failed.
+pub fn next_found<'t, F: FromSearch<'t>>(
     alloc: Global,
     compiled: &Compiled,
     text: &'t str,
     options: &RunOptions,
     standing: &mut Standing,
     scratch: &mut Scratch,
-) -> Result<Option<Captures<'t>>, Error>
+) -> Result<Option<F>, Error>
     requires fits { IsTrue (run_fits (task_of (program compiled.now) [] options.now)) }
     requires source { HasSource compiled.now }
     ensures steps { (i : Input)
         → IsCompiledFrom i compiled.now
-        → StepsToCaptures i text.now (run_options_of options.now)
+        → StepsBy i text.now (run_options_of options.now) F.show (F.seen text.now)
         (standing_of standing.old) result (standing_of standing.new) }
-    ensures further { IfOk result (λ found. IfSome found (λ c.
+    ensures further { IfOk result (λ found. IfSome found (λ x.
         suc (length text.now) - standing.new.pos < suc (length text.now) - standing.old.pos)) }
 {
     'searches: while is_place(text.as_bytes(), standing.pos) {
         let here = standing.options(options);
-        match find_captures(alloc, compiled, text, &here, scratch)? {
+        match F::search(alloc, compiled, text, &here, scratch)? {
             None => {
                 standing.end();
                 return Ok(None);
             }
-            Some(captures) => {
-                let whole = captures.whole();
-                if standing.pass(text, whole.start, whole.end) {
-                    return Ok(Some(captures));
+            Some(found) => {
+                let (start, end) = found.span();
+                if standing.pass(text, start, end) {
+                    return Ok(Some(found));
                 }
             }
         }
@@ -99,7 +150,7 @@ pub fn next_captures<'t>(
     Ok(None)
 }
 
-/// The next match of the list that stands so, without its groups, as `next_captures` has it.
+/// The next match of the list that stands so, without its groups, as `next_found` has it.
 pub fn next_match<'t>(
     alloc: Global,
     compiled: &Compiled,
@@ -117,19 +168,5 @@ pub fn next_match<'t>(
     ensures further { IfOk result (λ found. IfSome found (λ m.
         suc (length text.now) - standing.new.pos < suc (length text.now) - standing.old.pos)) }
 {
-    'searches: while is_place(text.as_bytes(), standing.pos) {
-        let here = standing.options(options);
-        match find_match(alloc, compiled, text, &here, scratch)? {
-            None => {
-                standing.end();
-                return Ok(None);
-            }
-            Some(found) => {
-                if standing.pass(text, found.start, found.end) {
-                    return Ok(Some(found));
-                }
-            }
-        }
-    }
-    Ok(None)
+    next_found(alloc, compiled, text, options, standing, scratch)
 }

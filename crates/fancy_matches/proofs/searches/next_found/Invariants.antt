@@ -2,10 +2,10 @@ use Rattle.std.proofs.Common.{◌-◌, suc, length}
 use Rattle.fancy_vm.specs.Tasks.{options_of as run_options_of}
 use Rattle.fancy_matches.specs.Regexes.{standing_of}
 use Rattle.fancy_matches.proofs.Stepping.{GoesOn}
-use Rattle.fancy_matches.proofs.searches.next_match.Given as goal
+use Rattle.fancy_matches.proofs.searches.next_found.Given as goal
 
 abbrev pub invariant-searches : goal.invariant-searches
-invariant-searches l = GoesOn l.compiled l.text (run_options_of l.options) (standing_of l.fn.standing) (standing_of l.standing)
+invariant-searches g l = GoesOn l.compiled l.text (run_options_of l.options) (standing_of l.fn.standing) (standing_of l.standing)
 
 abbrev pub decreases-searches : goal.decreases-searches
-decreases-searches l = suc (length l.text) - l.standing.pos
+decreases-searches g l = suc (length l.text) - l.standing.pos

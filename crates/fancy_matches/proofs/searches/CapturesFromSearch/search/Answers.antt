@@ -1,11 +1,13 @@
-use Rattle.std.proofs.Common.{Ok, length, ◌<◌, arith, refl, subst}
+use Rattle.std.proofs.Common.{◌<◌, ℕ, List, Ok, length, arith, ap, subst}
 use Rattle.fancy_meaning.specs.Numbers.{usize_max}
 use Rattle.fancy_meaning.specs.Premises.{IsText}
+use Rattle.fancy_laws.proofs.Moves.{is_place_parts}
 use Rattle.fancy_search.specs.Searches.{Promises, program}
+use Rattle.fancy_vm.specs.Outcomes.{first_pair}
 use Rattle.fancy_vm.specs.Tasks.{options_of as run_options_of, task_of}
 use Rattle.fancy_program.proofs.FitsLaws.{run_place}
 use Rattle.fancy_matches.proofs.Searching.{captures_sound}
-use Rattle.fancy_matches.proofs.searches.find_captures.Goals as goal
+use Rattle.fancy_matches.proofs.searches.CapturesFromSearch.search.Goals as goal
 
 pub invariant_of-result : goal.invariant_of-result
 invariant_of-result c =
@@ -27,7 +29,10 @@ returns-in-Ok-Some-clause-on c =
     let at = run_place (task_of (program c.args.compiled.now) text options) c.requires.fits in
     let sound = captures_sound c.args.compiled.now text options c.in-Ok-Some.numbers is_text at c.requires.source
     (λ i from. subst (λ found. Promises i text (run_options_of options) (Ok found)) c.in-Ok-Some.field-0-is (c.in-Ok-Some.ensures.promise i from)) in
-    (refl, sound.0.on)
+    (sound.0.on, (is_place_parts text (first_pair c.in-Ok-Some.numbers.items).1 sound.0.whole.to).0)
 
 pub returns-in-Err-clause-promise : goal.returns-in-Err-clause-promise
 returns-in-Err-clause-promise c i from = (c.in-Err.ensures.promise i from, c.in-Err.ensures.bounds i from)
+
+pub returns-in-Ok-Some-clause-spans : goal.returns-in-Ok-Some-clause-spans
+returns-in-Ok-Some-clause-spans c numbers is = ap (λ (p : List ℕ × List ℕ). first_pair p.1) is

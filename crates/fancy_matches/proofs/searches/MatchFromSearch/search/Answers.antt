@@ -1,17 +1,18 @@
-use Rattle.std.proofs.Common.{◌≡◌, true, None, Some, Err, length, ◌<◌, arith, refl, sym, subst}
+use Rattle.std.proofs.Common.{◌≡◌, ◌<◌, ℕ, true, List, None, Some, Err, length, arith, ap, sym, subst}
 use Rattle.fancy_meaning.specs.Answer.{answer, search_of}
 use Rattle.fancy_meaning.specs.Fits.{run_fits}
 use Rattle.fancy_meaning.specs.Machine as machine
 use Rattle.fancy_meaning.specs.MatchState.{Span}
 use Rattle.fancy_meaning.specs.Numbers.{usize_max}
 use Rattle.fancy_meaning.specs.Premises.{plan}
+use Rattle.fancy_laws.proofs.Moves.{is_place_parts}
 use Rattle.fancy_vm.specs.Means.{IsMeaningPair}
 use Rattle.fancy_vm.specs.Outcomes.{RunAnswersPair}
 use Rattle.fancy_program.specs.Programs.{prog_of}
 use Rattle.fancy_vm.specs.Tasks.{options_of as run_options_of, task_of}
 use Rattle.fancy_program.specs.declared.insn.Prog.{Prog}
 use Rattle.fancy_matches.proofs.Searching.{pair_fails, pair_found, pair_shown, pair_sound}
-use Rattle.fancy_matches.proofs.searches.find_match.Goals as goal
+use Rattle.fancy_matches.proofs.searches.MatchFromSearch.search.Goals as goal
 
 pub run_spans-requires : goal.run_spans-requires
 run_spans-requires c =
@@ -54,11 +55,10 @@ returns-in-Ok-Some-clause-on c =
     let o = c.args.options.now in
     let small : length text < usize_max = omega arith in
     let means = subst (λ (p : Prog). IsMeaningPair (prog_of p) text (run_options_of o) (Some (c.in-Ok-Some.start, c.in-Ok-Some.end))) c.program.ensures
-    (subst (IsMeaningPair (prog_of c.program.result.now) text (run_options_of o)) c.in-Ok-Some.field-0-is c.in-Ok-Some.ensures.headline) in (
-      refl,
-      (pair_sound c.args.compiled.now text o c.in-Ok-Some.start c.in-Ok-Some.end (record { utf8 = c.utf8.text; fits = small })
-          c.requires.fits c.requires.source means).1,
-    )
+    (subst (IsMeaningPair (prog_of c.program.result.now) text (run_options_of o)) c.in-Ok-Some.field-0-is c.in-Ok-Some.ensures.headline) in
+    let sound = pair_sound c.args.compiled.now text o c.in-Ok-Some.start c.in-Ok-Some.end (record { utf8 = c.utf8.text; fits = small })
+    c.requires.fits c.requires.source means in
+    (sound.1, (is_place_parts text c.in-Ok-Some.end sound.0.to).0)
 
 pub returns-in-Err-clause-promise : goal.returns-in-Err-clause-promise
 returns-in-Err-clause-promise c i from =
@@ -67,3 +67,6 @@ returns-in-Err-clause-promise c i from =
     let small : length text < usize_max = omega arith in
     pair_fails i c.args.compiled.now text o from c.requires.fits (record { utf8 = c.utf8.text; fits = small }) c.in-Err.error
     (subst (λ (p : Prog). RunAnswersPair (machine.run (task_of p text o)) (Err c.in-Err.error)) c.program.ensures c.in-Err.ensures.machine)
+
+pub returns-in-Ok-Some-clause-spans : goal.returns-in-Ok-Some-clause-spans
+returns-in-Ok-Some-clause-spans c numbers is = ap (λ (p : List ℕ × Span). p.1) is
