@@ -129,3 +129,11 @@ within_at now text =
 
 unfoldable pub found_at : Lexing → Text → Read Found
 found_at now text = if now.class.depth == 0 then outside_at now text else within_at now text
+
+-- outside of classes, a literal and what holds behind it
+abbrev pub literal_found : Lexing → ℕ → Found
+literal_found now c =
+    record {
+      token = literal now.flags c;
+      behind = record { flags = now.flags; opened = now.opened; class = record { depth = 0; head = head.Inner } };
+    }

@@ -1,10 +1,10 @@
 //! The token at the front of a text.
 
-ghost use Rattle.std.specs.Prelude.{◌≡◌, ◌+◌, ◌^◌, ◌<◌, ◌≤◌, length, IfOk, option_map};
+ghost use Rattle.std.specs.Prelude.{◌≡◌, ◌+◌, ◌^◌, ◌<◌, ◌≤◌, length, Ok, IfOk, IfSome, option_map};
 ghost use Rattle.fancy_meaning.specs.WellFormed.{most_groups};
 ghost use Rattle.fancy_pattern.specs.Texts.{seen};
 ghost use Rattle.fancy_pattern.specs.Items as plain;
-ghost use Rattle.fancy_pattern.specs.Items.{any_of, start_of, end_of, quantified, brace_at, sign_token, item_at, opened_by, class_of, outside_at, within_at, found_at};
+ghost use Rattle.fancy_pattern.specs.Items.{any_of, start_of, end_of, quantified, brace_at, sign_token, item_at, opened_by, class_of, outside_at, within_at, literal_found, found_at};
 ghost use Rattle.fancy_pattern.specs.PatternViews.{leaf_of, token_of, item_of, opening_of};
 
 use crate::characters::first;
@@ -82,7 +82,7 @@ fn quantified<'a>(flags: Flags, quantifier: Quantifier) -> Token<'a>
     }
 }
 
-fn literal<'a>(flags: Flags, c: char) -> Token<'a>
+pub(crate) fn literal<'a>(flags: Flags, c: char) -> Token<'a>
     ensures { token_of result ≡ plain.literal flags c }
 {
     Token::Leaf(Leaf::Literal {
@@ -245,6 +245,24 @@ fn within_at(now: Lexing, text: &[char]) -> Result<(Found<'_>, &[char]), Fault>
         },
         rest,
     ))
+}
+
+/// Outside of classes, the character at the front and what follows it, where it is a literal whatever follows.
+#[tactic(auto, unfolding(crate::specs::Items::found_at, crate::specs::Items::outside_at, crate::specs::Items::item_at))]
+pub(crate) fn plain_char(now: Lexing, text: &[char]) -> Option<(char, &[char])>
+    requires { now.opened ≤ most_groups }
+    ensures value { IfSome result (λ p. found_at now text.now
+        ≡ Ok (literal_found now p.0, p.1.now)) }
+    ensures shorter { IfSome result (λ p. length p.1.now + 1 ≤ length text.now) }
+{
+    if now.class.depth > 0 {
+        return None;
+    }
+    let (c, after) = first(text)?;
+    match c {
+        '.' | '^' | '$' | '|' | '(' | ')' | '*' | '+' | '?' | '[' | '{' | '\\' => None,
+        _ => Some((c, after)),
+    }
 }
 
 /// The token at the front, and what holds behind it.

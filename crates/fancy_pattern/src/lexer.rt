@@ -7,7 +7,7 @@ use crate::characters::{byte_count, past_gap};
 use crate::classes::{ClassPlace, Head};
 use crate::error::{ErrorKind, Fault};
 use crate::flags::Flags;
-use crate::items::{Lexing, found_at};
+use crate::items::{Lexing, found_at, literal, plain_char};
 use crate::nesting::behind;
 use crate::tokens::{Placed, Token};
 use std::alloc::{AllocError, Global};
@@ -28,7 +28,8 @@ pub struct Lexer<'a> {
 }
 
 impl<'a> Lexer<'a> {
-    ghost use Rattle.std.specs.Prelude.{[], ◌∷◌, ◌++◌, map, IfOk, OnOk, true, false};
+    ghost use Rattle.std.specs.Prelude.{[], ◌∷◌, ◌++◌, map, Ok, IfOk, OnOk, true, false};
+    ghost use Rattle.fancy_pattern.specs.Items.{found_at, literal_found};
     ghost use Rattle.fancy_pattern.specs.Lexing.{at_start, IsAtToken, Lexes};
     ghost use Rattle.fancy_pattern.specs.LexerViews.{state_of, text_of, placed_in, Steps, Pushes};
     ghost use Rattle.fancy_pattern.specs.PatternViews.{placed_of, token_of};
@@ -86,6 +87,28 @@ impl<'a> Lexer<'a> {
         Ok(false)
     }
 
+    /// Goes past a literal outside of classes.
+    fn pass_literal(&mut self, c: char, after: &'a [char]) -> Result<bool, AllocError>
+        requires token { IsAtToken (state_of self.old) (text_of self.old) }
+        requires found { found_at self.old.now self.old.rest.now
+            ≡ Ok (literal_found self.old.now c, after.now) }
+        requires shorter { length after.now < length self.old.rest.now }
+        ensures steps { IfOk result (λ more. Steps more self.old self.new) }
+        ensures shorter { IfOk result (λ more. length self.new.rest.now
+            < length self.old.rest.now) }
+    {
+        self.push(self.rest.len(), literal(self.now.flags, c))?;
+        self.pass(after);
+        self.now = Lexing {
+            class: ClassPlace {
+                depth: 0,
+                head: Head::Inner,
+            },
+            ..self.now
+        };
+        Ok(true)
+    }
+
     /// Goes past the token at the front, and answers whether the text goes on.
     fn next_token(&mut self) -> Result<bool, AllocError>
         requires { IsAtToken (state_of self.old) (text_of self.old) }
@@ -93,6 +116,9 @@ impl<'a> Lexer<'a> {
         ensures shorter { IfOk result (λ more. more ≡ true
             → length self.new.rest.now < length self.old.rest.now) }
     {
+        if let Some((c, after)) = plain_char(self.now, self.rest) {
+            return self.pass_literal(c, after);
+        }
         let left = self.rest.len();
         match found_at(self.now, self.rest) {
             Ok((found, after)) => match behind(&mut self.outer, self.now.flags, found, left)? {

@@ -45,7 +45,7 @@ fn literal(alloc: Global, c: char, casei: bool) -> Result<Expr, AllocError>
     ensures made { IfOk result (λ e. tree_of e ≡ tree.Literal c casei) }
     ensures one_char { IfOk result OneCharEach }
 {
-    let mut val = String::new(alloc);
+    let mut val = String::with_capacity(alloc, c.len_utf8())?;
     val.push(c)?;
     Ok(Expr::Literal { val, casei })
 }

@@ -236,6 +236,9 @@ impl<'a> Reader<'a> {
             ≤ length self.old.rest.now) }
     {
         let first = self.read_branch(names)?;
+        if !self.is_at_bar() {
+            return Ok(first);
+        }
         let mut branches = Vec::new(self.alloc);
         branches.push(first)?;
         let branches = self.read_bars(names, branches)?;

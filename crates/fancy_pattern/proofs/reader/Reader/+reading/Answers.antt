@@ -1,7 +1,7 @@
 use Rattle.std.proofs.Common.{sym, map, ap, option_map, ◌∙◌, subst, arith}
 use Rattle.std.proofs.lemmas.Result.{err_from_is_err_and}
 use Rattle.fancy_expr.specs.Views.{tree_of, look_of}
-use Rattle.fancy_pattern.specs.Grammar.{bar, closing, opening, class_open, SpellsOpened, asked}
+use Rattle.fancy_pattern.specs.Grammar.{bar, closing, opening, class_open, SpellsOpened, asked, no_bar, branches}
 use Rattle.fancy_pattern.specs.Naming.{pairs_in}
 use Rattle.fancy_pattern.specs.PatternViews.{opening_of, reference_of}
 use Rattle.fancy_pattern.specs.Reading.{point_of, ReadsTree}
@@ -34,6 +34,10 @@ read_alternatives-returns-clause-spells t c =
     (tree_of c.in_ok-first.first) s.0 (map tree_of c.push.new.self.items) (map tree_of c.in_ok-branches.branches.items) _ c.in_ok-first.ensures.spells s.1
     (points.one_given c.in_ok-first.first c.new-branches.result.items c.push.new.self.items c.new-branches.ensures.items c.in_ok-push.ensures.items) s.2
     c.alternated.ensures.made
+
+pub read_alternatives-returns-then-not-is_at_bar-clause-spells : goal.read_alternatives-returns-then-not-is_at_bar-clause-spells
+read_alternatives-returns-then-not-is_at_bar-clause-spells t c =
+    branches c.in_ok-first.ensures.spells (no_bar (sym c.is_at_bar.ensures.value ∙ c.if-not-is_at_bar.true))
 
 pub read_bars-loop-self-init : goal.read_bars-loop-self-init
 read_bars-loop-self-init t c = points.bars_begin (pairs_in c.args.names.now.pairs) c.args.self.now c.args.given.items
