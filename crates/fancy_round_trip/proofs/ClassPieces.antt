@@ -1,24 +1,28 @@
 -- The pieces of a class are handed on in a form that is handed on as it is written.
-use Rattle.std.proofs.Common.{◌≡◌, ℕ, ◌+◌, ◌-◌, ◌<◌, ◌⊎◌, inl, inr, Bool, true, false, not, ◌||◌, [], ◌∷◌, ◌++◌, length, take, drop, codes, Option, Some, None, Ok, Err, if◌then◌else◌, ◌==◌, nat_lt, nat_le, refl, sym, ap, ◌∙◌, subst, arith, append_assoc, append-nil, length-append}
+use Rattle.std.proofs.Common.{◌≡◌, ℕ, ◌+◌, ◌-◌, ◌<◌, ◌⊎◌, inl, inr, Bool, true, false, not, ◌&&◌, ◌||◌, [], ◌∷◌, ◌++◌, length, take, drop, codes, Option, Some, None, Ok, Err, if◌then◌else◌, ◌==◌, nat_lt, nat_le, refl, sym, ap, ◌∙◌, subst, arith, append_assoc, append-nil, length-append}
 use Rattle.std.specs.Char.{is_ascii, is_ascii_alphanumeric}
 use Rattle.std.specs.List.{take_while}
+use Rattle.std.specs.Prelude.{option_and_then}
+use lib.Utf8.{scalar}
+use Rattle.fancy_pattern.specs.Numbers.{number_of}
 use Rattle.std.proofs.lemmas.Bool.{true≢false, eqb-true, eqb-false, ne_eqb, ltb-true, lt-ltb, leb-true, or_left, or_right}
 use Rattle.std.proofs.lemmas.Bool.Decides.{nat_tests}
 use Rattle.std.proofs.lemmas.List.Sums.{take_while-cons}
 use Rattle.std.proofs.Math.Seq.{take-append-add, drop-append-add}
-use Rattle.fancy_pattern.specs.declared.error.ErrorKind.TheVariants.{InvalidEscape, UnclosedUnicodeName}
+use Rattle.fancy_pattern.specs.declared.error.ErrorKind.TheVariants.{InvalidEscape, UnclosedUnicodeName, InvalidHex, InvalidCodepointValue}
 use Rattle.fancy_pattern.specs.declared.classes.ClassPlace.{ClassPlace}
 use Rattle.fancy_pattern.specs.declared.classes.Head.{Head}
 use Rattle.fancy_pattern.specs.declared.classes.Head.TheVariants as head
-use Rattle.fancy_pattern.specs.Texts.{Text, Read, fault_at, ◌>>=◌}
+use Rattle.fancy_pattern.specs.Texts.{Text, Read, fault_at, ◌>>=◌, uncons, past_run}
 use Rattle.fancy_pattern.specs.Tokens.{Token, ClassText, ClassClose}
-use Rattle.fancy_pattern.specs.Escapes.{hex_at, property_at, property_length}
-use Rattle.fancy_pattern.specs.PatternViews.{code_text}
+use Rattle.fancy_pattern.specs.Escapes.{hex_at, bare_hex_at, braced_hex_at, is_hex, char_of, property_at, property_length}
+use Rattle.fancy_pattern.specs.PatternViews.{code_text, hex_digits}
 use Rattle.fancy_pattern.specs.Classes.{ClassItem, piece_item, inner, is_kept, fixed_escape, own_piece, coded_at, kept_set_at, other_class_escape_at, class_escape_at, bracket, closing_bracket, caret, class_item_at}
 use Rattle.fancy_pattern.proofs.EscapedTokens.{not_if}
 use Rattle.fancy_round_trip.specs.ClassTexts.{outside, IsPiece, IsLast, AsWritten, goes}
 use Rattle.fancy_round_trip.specs.RoundTrip.{is_rewritten}
 use Rattle.fancy_round_trip.proofs.Steps.{is_if}
+use Rattle.fancy_round_trip.proofs.HexDigits.{code_again}
 
 -- pieces in a row
 pub data Pieces : ClassPlace → Text → ClassPlace → Type 0 where
@@ -390,9 +394,104 @@ other_settles p deep c text after letter = by_kept (is_kept c) refl
     by_kept false h = by_fixed h (fixed_escape c) refl
 
 -- a character by its number
-coded_settles : (p : ClassPlace) (r : Read ℕ) → HasPiece p (r >>= λ c. Ok (code_text c.0, c.1))
-coded_settles p (Ok c) = inr refl
-coded_settles p (Err e) = tt
+abbrev IsCharacter : Read ℕ → Type 0
+IsCharacter (Ok c) = scalar c.0 ≡ true
+IsCharacter (Err e) = Unit {0}
+
+char_scalar : (digits : Text) (c : ℕ) → char_of digits ≡ Some c → scalar c ≡ true
+char_scalar digits c e = by_number (number_of 16 digits) e
+  where
+    by_test : (n : ℕ) (b : Bool) → scalar n ≡ b → (if b then Some n else None) ≡ Some c → scalar c ≡ true
+    by_test n true is e = let same : n ≡ c = cc in subst (λ k. scalar k ≡ true) same is
+    by_test n false is e = absurd (cc)
+
+    by_number : (o : Option ℕ) → option_and_then (λ n. if scalar n then Some n else None) o ≡ Some c → scalar c ≡ true
+    by_number None e = absurd (cc)
+    by_number (Some n) e = by_test n (scalar n) refl e
+
+found_character : (digits text rest : Text) → IsCharacter (elim (char_of digits) [
+  | Some c ↦ Ok (c, rest)
+  | None ↦ Err (fault_at InvalidCodepointValue text)
+])
+found_character digits text rest = by_char (char_of digits) refl
+  where
+    by_char : (o : Option ℕ) → char_of digits ≡ o → IsCharacter (elim o [ Some c ↦ Ok (c, rest) | None ↦ Err (fault_at InvalidCodepointValue text) ])
+    by_char (Some c) e = char_scalar digits c e
+    by_char None e = tt
+
+bare_character : (count : ℕ) (text : Text) → IsCharacter (bare_hex_at count text)
+unfolding bare_hex_at
+bare_character count text = by_length (nat_lt (length (take_while is_hex text)) count)
+  where
+    by_length : (b : Bool) → IsCharacter (if b then Err (fault_at InvalidHex (past_run is_hex text)) else elim (char_of (take count text)) [
+      | Some c ↦ Ok (c, drop count text)
+      | None ↦ Err (fault_at InvalidCodepointValue text)
+    ])
+    by_length true = tt
+    by_length false = found_character (take count text) text (drop count text)
+
+braced_character : (text : Text) → IsCharacter (braced_hex_at text)
+unfolding braced_hex_at
+braced_character text = by_length (nat_lt 8 (length (take_while is_hex text)))
+  where
+    by_brace : (b : Bool) (rest : Text) → IsCharacter (if b then elim (char_of (take_while is_hex text)) [
+      | Some c ↦ Ok (c, rest)
+      | None ↦ Err (fault_at InvalidCodepointValue text)
+    ] else Err (fault_at InvalidHex (past_run is_hex text)))
+    by_brace true rest = found_character (take_while is_hex text) text rest
+    by_brace false rest = tt
+
+    by_rest : (o : Option (ℕ × Text)) → IsCharacter (elim o [
+      | None ↦ Err (fault_at InvalidHex (past_run is_hex text))
+      | Some p ↦ if p.0 == 125 && not (length (take_while is_hex text) == 0)
+          then elim (char_of (take_while is_hex text)) [
+            | Some c ↦ Ok (c, p.1)
+            | None ↦ Err (fault_at InvalidCodepointValue text)
+          ]
+          else Err (fault_at InvalidHex (past_run is_hex text))
+    ])
+    by_rest None = tt
+    by_rest (Some p) = by_brace (p.0 == 125 && not (length (take_while is_hex text) == 0)) p.1
+
+    by_length : (b : Bool) → IsCharacter (if b then Err (fault_at InvalidHex (drop 8 text)) else elim (uncons (past_run is_hex text)) [
+      | None ↦ Err (fault_at InvalidHex (past_run is_hex text))
+      | Some p ↦ if p.0 == 125 && not (length (take_while is_hex text) == 0)
+          then elim (char_of (take_while is_hex text)) [
+            | Some c ↦ Ok (c, p.1)
+            | None ↦ Err (fault_at InvalidCodepointValue text)
+          ]
+          else Err (fault_at InvalidHex (past_run is_hex text))
+    ])
+    by_length true = tt
+    by_length false = by_rest (uncons (past_run is_hex text))
+
+hex_character : (count : ℕ) (text : Text) → IsCharacter (hex_at count text)
+unfolding hex_at
+hex_character count [] = bare_character count []
+hex_character count (c ∷ cs) = by_brace (c == 123)
+  where
+    by_brace : (b : Bool) → IsCharacter (if b then braced_hex_at cs else bare_hex_at count (c ∷ cs))
+    by_brace true = braced_character cs
+    by_brace false = bare_character count (c ∷ cs)
+
+abbrev as_code : Read ℕ → Read Text
+as_code r = r >>= λ c. Ok (code_text c.0, c.1)
+
+code_read : (c : ℕ) (rest : Text) → scalar c ≡ true →
+    class_escape_at (120 ∷ 123 ∷ ((hex_digits c ++ 125 ∷ []) ++ rest)) ≡ Ok (code_text c, rest)
+unfolding class_escape_at coded_at hex_at
+code_read c rest is = ap as_code (ap braced_hex_at (append_assoc (hex_digits c) (125 ∷ []) rest) ∙ code_again c rest is)
+
+code_piece : (p : ClassPlace) → Inside p → (c : ℕ) → scalar c ≡ true → Pieces p (code_text c) (inner p)
+code_piece p deep c is =
+    subst (λ l. Pieces p l (inner p)) (append-nil (code_text c)) (a_piece (record {
+      inside = deep;
+      read = λ rest. escape_read p (120 ∷ 123 ∷ ((hex_digits c ++ 125 ∷ []) ++ rest)) rest (code_text c) (code_read c rest is);
+    }) no_piece)
+
+coded_settles : (p : ClassPlace) → Inside p → (r : Read ℕ) → IsCharacter r → HasPiece p (r >>= λ c. Ok (code_text c.0, c.1))
+coded_settles p deep (Ok c) h = inl (code_piece p deep c.0 h)
+coded_settles p deep (Err e) h = tt
 
 property_escape : (c : ℕ) (rest name : Text) → (c == 112 || c == 80) ≡ true → property_at (name ++ rest) ≡ Ok (name, rest) →
     class_escape_at (c ∷ (name ++ rest)) ≡ Ok (92 ∷ c ∷ name, rest)
@@ -440,7 +539,7 @@ escape_settles p deep (c ∷ cs) = by_x (c == 120) refl
         else if c == 112 then kept_set_at c cs
         else if c == 80 then kept_set_at c cs
         else other_class_escape_at c (c ∷ cs) cs)
-    by_long true e h i = coded_settles p (hex_at 8 cs)
+    by_long true e h i = coded_settles p deep (hex_at 8 cs) (hex_character 8 cs)
     by_long false e h i = by_small (c == 112) refl h i e
 
     by_u : (b : Bool) → (c == 117) ≡ b → (c == 120) ≡ false →
@@ -449,7 +548,7 @@ escape_settles p deep (c ∷ cs) = by_x (c == 120) refl
         else if c == 112 then kept_set_at c cs
         else if c == 80 then kept_set_at c cs
         else other_class_escape_at c (c ∷ cs) cs)
-    by_u true e h = coded_settles p (hex_at 4 cs)
+    by_u true e h = coded_settles p deep (hex_at 4 cs) (hex_character 4 cs)
     by_u false e h = by_long (c == 85) refl h e
 
     by_x : (b : Bool) → (c == 120) ≡ b →
@@ -459,7 +558,7 @@ escape_settles p deep (c ∷ cs) = by_x (c == 120) refl
         else if c == 112 then kept_set_at c cs
         else if c == 80 then kept_set_at c cs
         else other_class_escape_at c (c ∷ cs) cs)
-    by_x true e = coded_settles p (hex_at 2 cs)
+    by_x true e = coded_settles p deep (hex_at 2 cs) (hex_character 2 cs)
     by_x false e = by_u (c == 117) refl e
 
 -- ---- tokens of a class

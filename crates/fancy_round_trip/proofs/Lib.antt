@@ -7,6 +7,7 @@ pub mod Forms
 pub mod Readings
 pub mod Bytes
 pub mod Opened
+pub mod HexDigits
 pub mod ClassPieces
 pub mod ClassTokens
 pub mod OwnTokens

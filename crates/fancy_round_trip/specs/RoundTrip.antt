@@ -1,6 +1,7 @@
 -- The round trip of patterns: the pattern text of a tree is a pattern that spells this tree.
-use Rattle.std.specs.Prelude.{◌≡◌, ◌≤◌, Bool, true, false, is_some, codes, encode_utf8_all}
+use Rattle.std.specs.Prelude.{◌≡◌, ◌≤◌, Bool, true, false, ◌||◌, codes, encode_utf8_all}
 use Rattle.std.specs.List.{list_any}
+use Rattle.std.specs.Str.{bytes_eq}
 use Rattle.fancy_meaning.specs.Tree.{Tree, DefineGroup}
 use Rattle.fancy_meaning.specs.Nodes.{nodes, group_count}
 use Rattle.fancy_meaning.specs.Options.{Analysis}
@@ -8,7 +9,7 @@ use Rattle.fancy_meaning.specs.Hard.{is_hard}
 use Rattle.fancy_meaning.specs.WellFormed.{most_groups}
 use Rattle.fancy_meaning.specs.PatternText.{text_of}
 use Rattle.fancy_pattern.specs.declared.options.ParseOptions.{ParseOptions}
-use Rattle.fancy_pattern.specs.Texts.{Text, past_word}
+use Rattle.fancy_pattern.specs.Texts.{Text}
 use Rattle.fancy_pattern.specs.Tokens.{Token, ClassText}
 use Rattle.fancy_pattern.specs.Lexing.{most_nested}
 use Rattle.fancy_pattern.specs.Spelling.{Spells}
@@ -44,18 +45,18 @@ abbrev pub is_definition : Tree → Bool
 is_definition (DefineGroup e) = true
 is_definition e = false
 
--- a character of a class that is handed on by its number
+-- a `\b` or an `\e` of a class, which is handed on by its number in two digits
 abbrev pub is_rewritten : Token → Bool
-is_rewritten (ClassText text) = is_some (past_word (codes "\\x") text)
+is_rewritten (ClassText text) = bytes_eq text (codes "\\x08") || bytes_eq text (codes "\\x1B")
 is_rewritten t = false
 
--- What a pattern spells is easy, and no part of it is a definition, which has no text. No character of a class is handed
--- on by its number, and the groups of the text do not nest too deep.
+-- What a pattern spells is easy, and no part of it is a definition, which has no text. No class has a `\b` or an `\e`,
+-- and the groups of the text do not nest too deep.
 pub record MayReturn {options : ParseOptions} {pattern : Text} {e : Tree} (a : Analysis) (s : Spells options pattern e) :
     Type 0 where
   pub easy : is_hard a e ≡ false
   pub no_definition : list_any is_definition (nodes e) ≡ false
-  pub no_number : list_any (λ p. is_rewritten p.token) s.tokens ≡ false
+  pub no_short : list_any (λ p. is_rewritten p.token) s.tokens ≡ false
   pub nested : depth_of e 0 ≤ most_nested
 
 -- such a tree that a pattern spells is spelled by its pattern text too
