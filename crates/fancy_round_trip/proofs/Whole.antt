@@ -49,4 +49,4 @@ pub round_trip : RoundTrip
 round_trip options pattern e s a may =
     let opened = spelled_groups (named_in s.tokens) s.tokens e s.spelled (all_fine s.lexed) in
     let few = few_opened s.lexed in
-    text_spells e (spelled_returns options pattern e s (easy_plain a e may.easy may.no_definition) may.no_short) may.nested (omega (arith, opened, few))
+    text_spells e (spelled_returns options pattern e s (easy_plain a e may.easy may.no_definition) may.none_rewritten) may.nested (omega (arith, opened, few))

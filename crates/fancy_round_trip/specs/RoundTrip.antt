@@ -56,7 +56,7 @@ pub record MayReturn {options : ParseOptions} {pattern : Text} {e : Tree} (a : A
     Type 0 where
   pub easy : is_hard a e ≡ false
   pub no_definition : list_any is_definition (nodes e) ≡ false
-  pub no_short : list_any (λ p. is_rewritten p.token) s.tokens ≡ false
+  pub none_rewritten : list_any (λ p. is_rewritten p.token) s.tokens ≡ false
   pub nested : depth_of e 0 ≤ most_nested
 
 -- such a tree that a pattern spells is spelled by its pattern text too
