@@ -52,7 +52,7 @@ is_rewritten t = false
 
 -- What a pattern spells is easy, and no part of it is a definition, which has no text. No class has a `\b` or an `\e`,
 -- and the groups of the text do not nest too deep.
-pub record MayReturn {options : ParseOptions} {pattern : Text} {e : Tree} (a : Analysis) (s : Spells options pattern e) :
+pub record MayReturn {options : ParseOptions} {text : Text} {e : Tree} (a : Analysis) (s : Spells options text e) :
     Type 0 where
   pub easy : is_hard a e ≡ false
   pub no_definition : list_any is_definition (nodes e) ≡ false
