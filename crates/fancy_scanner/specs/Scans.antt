@@ -21,6 +21,10 @@ use Rattle.fancy_scanner.specs.declared.scanner.Scanner.{Scanner}
 abbrev pub text_of : ScanText → List ℕ
 text_of s = s.text.now
 
+-- the scanner, which is the caller's
+abbrev pub scanner_of : ScanText → MutBor Scanner
+scanner_of s = s.scanner
+
 -- what is kept of each tree, where something is
 abbrev pub answers_of : ScanText → List (Option Answer)
 answers_of s = s.answers.items

@@ -8,7 +8,7 @@ ghost use Rattle.fancy_matches.specs.Regexes.{FindsCaptures, shown_match};
 ghost use Rattle.fancy_scanner.specs.Kept.{kept_captures, shown_whole};
 ghost use Rattle.fancy_scanner.specs.Scanning.{AreEasy, IsRuleAt, Rule, Scans, trees_of};
 ghost use Rattle.fancy_scanner.specs.Scans as scans;
-ghost use Rattle.fancy_scanner.specs.Scans.{GoesOn, HasRoom, IsScanOf, KeepsHeld, answers_of, captures_result, scan_result, text_of};
+ghost use Rattle.fancy_scanner.specs.Scans.{GoesOn, HasRoom, IsScanOf, KeepsHeld, answers_of, captures_result, scan_result, scanner_of, text_of};
 
 use crate::answers::Answer;
 use crate::scanner::{Scanner, Stopped, limit_of};
@@ -93,6 +93,14 @@ impl<'r, 't> ScanText<'r, 't> {
             Some(Some(answer)) => answer.found.as_ref(),
             _ => None,
         }
+    }
+
+    /// Ends the scan and gives the scanner back, with the same trees.
+    pub fn into_scanner(self) -> &'r mut Scanner
+        ensures name { result.ghost_name ≡ (scanner_of self.entry).ghost_name }
+        ensures same { result.now ≡ (scanner_of self.entry).now }
+    {
+        self.scanner
     }
 
     /// The match that is kept of the tree with this number, without its groups.

@@ -195,8 +195,8 @@ impl Scanner {
         Ok(Scan { found, stopped })
     }
 
-    /// A scan of one text, which keeps what is found from one place to the next. The scanner is the caller's again, with
-    /// the same trees, once the scan is gone.
+    /// A scan of one text, which keeps what is found from one place to the next. The scanner is the caller's again once
+    /// the scan is gone; that it has the same trees is known where `ScanText::into_scanner` ends the scan.
     pub fn scan<'r, 't>(&'r mut self, text: &'t str) -> ScanText<'r, 't>
         ensures { BeginsScan self.entry text.now result }
     {
