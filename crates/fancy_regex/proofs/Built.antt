@@ -1,5 +1,5 @@
 -- What a tree is compiled to, with its names, is the regex of its pattern.
-use Rattle.std.proofs.Common.{◌≡◌, ℕ, List, Option, Result, Ok, Err, MatchResult, chars, ap, ◌∙◌, sym, subst}
+use Rattle.std.proofs.Common.{◌≡◌, ◌-◌, ◌^◌, ℕ, List, [], None, Option, Result, Ok, Err, MatchResult, chars, ap, ◌∙◌, sym, subst}
 use Rattle.fancy_meaning.specs.Options as plain
 use Rattle.fancy_expr.specs.Views.{parsed_of}
 use Rattle.fancy_expr.specs.declared.expr.ExprTree.{ExprTree}
@@ -10,48 +10,55 @@ use Rattle.fancy_matches.specs.declared.regexes.Regex as engine_regex
 use Rattle.fancy_pattern.specs.declared.error.PatternError.{PatternError}
 use Rattle.fancy_pattern.specs.declared.error.PatternError.TheVariants as of_parser
 use Rattle.fancy_pattern.specs.Spelling.{IsError}
-use Rattle.fancy_regex.specs.Builders.{IsBuilt, IsMadeOf, IsRefused, IsTreeOf, analysis, compilation, input, parsing, running}
+use Rattle.fancy_regex.specs.Builders.{IsBuilt, IsMadeOf, IsRefused, IsTreeOf}
 use Rattle.fancy_regex.specs.Errors.{engine_error, of_pattern}
-use Rattle.fancy_regex.specs.declared.builder.RegexBuilder.{RegexBuilder}
+use Rattle.fancy_regex.specs.Options.{analysis, compilation, input, running}
 use Rattle.fancy_regex.specs.declared.error.Error.{Error}
 use Rattle.fancy_regex.specs.declared.error.Error.TheVariants as face
+use Rattle.fancy_regex.specs.declared.options.RegexOptions.{RegexOptions}
 use Rattle.fancy_regex.specs.declared.regexes.Regex.{Regex}
 
-module _ (b : RegexBuilder) (tree : ExprTree) where
-  module _ (a : plain.AnalysisOptions) (k : plain.CompileOptions) (as_analysed : a ≡ analysis b) (as_compiled : k ≡ compilation b) where
-    pub compiled_so : (o : plain.RunOptions) (r : engine_regex.Regex) →
-        ((text : List ℕ) → options_for o b.backtrack_limit text ≡ running b text) →
-        engine.IsMadeBy (record { parsed = parsed_of tree; analysis = a; options = k }) o b.backtrack_limit r →
-        (text : List ℕ) → engine.IsRegexOf (input tree b) text (running b text) r
-    compiled_so o r as_run h text = record {
-      compiled =
-          subst (λ a. IsCompiledFrom (record { parsed = parsed_of tree; analysis = a; options = compilation b }) r.compiled) as_analysed
-          (subst (λ k. IsCompiledFrom (record { parsed = parsed_of tree; analysis = a; options = k }) r.compiled) as_compiled h.compiled);
-      options =
-          ap (λ o. options_for o (r.options).backtrack_limit text) h.options ∙ ap (λ k. options_for o k text) h.backtracks ∙ as_run text;
-    }
+module _ (asked : RegexOptions) (tree : ExprTree) where
+  module _ (a : plain.AnalysisOptions) (k : plain.CompileOptions) (as_analysed : a ≡ analysis asked) (as_compiled : k ≡ compilation asked) where
+    module _ (o : plain.RunOptions) (r : engine_regex.Regex) (as_run : (text : List ℕ) → options_for o asked.backtrack_limit text ≡ running asked text)
+        (h : engine.IsMadeBy (record { parsed = parsed_of tree; analysis = a; options = k }) o asked.backtrack_limit r) where
+      pub compiled_so : (text : List ℕ) → engine.IsRegexOf (input tree asked) text (running asked text) r
+      compiled_so text = record {
+        compiled =
+            subst (λ a. IsCompiledFrom (record { parsed = parsed_of tree; analysis = a; options = compilation asked }) r.compiled) as_analysed
+            (subst (λ k. IsCompiledFrom (record { parsed = parsed_of tree; analysis = a; options = k }) r.compiled) as_compiled h.compiled);
+        options =
+            ap (λ o. options_for o (r.options).backtrack_limit text) h.options ∙ ap (λ k. options_for o k text) h.backtracks ∙ as_run text;
+      }
 
-    pub refused_so : (m : Option ℕ) (e : _) → m ≡ b.max_nesting → IsRefusedAs (record { parsed = parsed_of tree; analysis = a; options = k }) m e →
-        IsRefusedAs (input tree b) b.max_nesting e
+      pub unlimited_so : asked.backtrack_limit ≡ None → asked.step_limit ≡ 2 ^ 64 - 1 → engine.HasNoLimits r
+      unlimited_so backtracks steps =
+          (h.backtracks ∙ backtracks, ap (λ (o : plain.RunOptions). o.step_limit) (h.options) ∙ ap (λ (o : plain.RunOptions). o.step_limit) (as_run []) ∙ steps)
+
+    pub refused_so : (m : Option ℕ) (e : _) → m ≡ asked.max_nesting →
+        IsRefusedAs (record { parsed = parsed_of tree; analysis = a; options = k }) m e → IsRefusedAs (input tree asked) asked.max_nesting e
     refused_so m e as_nested h =
-        subst (λ a. IsRefusedAs (record { parsed = parsed_of tree; analysis = a; options = compilation b }) b.max_nesting e) as_analysed
-        (subst (λ k. IsRefusedAs (record { parsed = parsed_of tree; analysis = a; options = k }) b.max_nesting e) as_compiled
+        subst (λ a. IsRefusedAs (record { parsed = parsed_of tree; analysis = a; options = compilation asked }) asked.max_nesting e) as_analysed
+        (subst (λ k. IsRefusedAs (record { parsed = parsed_of tree; analysis = a; options = k }) asked.max_nesting e) as_compiled
         (subst (λ m. IsRefusedAs (record { parsed = parsed_of tree; analysis = a; options = k }) m e) as_nested h))
 
-  module _ (spelled : IsTreeOf b tree) where
-    pub built : (r : engine_regex.Regex) → ((text : List ℕ) → engine.IsRegexOf (input tree b) text (running b text) r) → (result : Result Regex Error) →
-        MatchResult result (IsMadeOf b.pattern.now tree r) (λ e. e ≡ face.Memory) → MatchResult result (IsBuilt b) (IsRefused b)
-    built r of (Ok s) made = record {
+  module _ (pattern : List ℕ) (spelled : IsTreeOf pattern asked tree) where
+    pub built : (r : engine_regex.Regex) → ((text : List ℕ) → engine.IsRegexOf (input tree asked) text (running asked text) r) →
+        (asked.backtrack_limit ≡ None → asked.step_limit ≡ 2 ^ 64 - 1 → engine.HasNoLimits r) → (result : Result Regex Error) →
+        MatchResult result (IsMadeOf pattern asked tree r) (λ e. e ≡ face.Memory) → MatchResult result (IsBuilt pattern asked) (IsRefused pattern asked)
+    built r of unlimited (Ok s) made = record {
       tree = tree;
       spelled = spelled;
-      compiled = λ text. subst (engine.IsRegexOf (input tree b) text (running b text)) (sym made.compiled) (of text);
+      compiled = λ text. subst (engine.IsRegexOf (input tree asked) text (running asked text)) (sym made.compiled) (of text);
+      unlimited = λ backtracks steps. subst engine.HasNoLimits (sym made.compiled) (unlimited backtracks steps);
       names = made.names;
       count = made.count;
-      pattern = made.pattern;
+      has_pattern = made.has_pattern;
+      has_options = made.has_options;
     }
-    built r of (Err e) made = subst (IsRefused b) (sym made) tt
+    built r of unlimited (Err e) made = subst (IsRefused pattern asked) (sym made) tt
 
-    pub refused : (e : Error) → IsRefusedAs (input tree b) b.max_nesting (engine_error e) → IsRefused b e
+    pub refused : (e : Error) → IsRefusedAs (input tree asked) asked.max_nesting (engine_error e) → IsRefused pattern asked e
     refused (face.ParseError at kind) h = absurd h
     refused (face.CompileError e) h = record { tree = tree; spelled = spelled; refused = h }
     refused (face.RuntimeError e) h = h
@@ -59,6 +66,7 @@ module _ (b : RegexBuilder) (tree : ExprTree) where
     refused face.Memory h = tt
 
 -- a pattern that cannot be read is refused as it is told
-pub refused_pattern : (b : RegexBuilder) (e : PatternError) → IsError (parsing b) (chars b.pattern.now) e → IsRefused b (of_pattern e)
-refused_pattern b (of_parser.Parse at kind) h = h
-refused_pattern b of_parser.Memory h = tt
+pub refused_pattern : (pattern : List ℕ) (asked : RegexOptions) (e : PatternError) → IsError asked.parsing (chars pattern) e →
+    IsRefused pattern asked (of_pattern e)
+refused_pattern pattern asked (of_parser.Parse at kind) h = h
+refused_pattern pattern asked of_parser.Memory h = tt

@@ -1,5 +1,5 @@
 -- What the engine promises of a reply is promised of it with the errors of this crate.
-use Rattle.std.proofs.Common.{◌≡◌, ℕ, Bool, true, false, List, ◌∷◌, Option, Some, None, Result, Ok, Err, MatchResult, option_map, if◌then◌else◌, refl, sym, subst, ◌∙◌}
+use Rattle.std.proofs.Common.{◌≡◌, ℕ, Bool, true, false, List, ◌∷◌, Option, Some, None, Result, Ok, Err, IfErr, MatchResult, option_map, if◌then◌else◌, refl, sym, subst, ◌∙◌}
 use Rattle.std.proofs.lemmas.Option.{none-some}
 use Rattle.fancy_meaning.specs.Answer.{answer, search_of}
 use Rattle.fancy_meaning.specs.Options as plain
@@ -8,8 +8,9 @@ use Rattle.fancy_meaning.specs.Premises.{Input, plan, IsText}
 use Rattle.fancy_expr.specs.declared.error.Error as engine
 use Rattle.fancy_expr.specs.declared.error.Error.TheVariants.{Memory}
 use Rattle.fancy_matches.specs.Listing.{ComesTo, Standing, by_match, ended, options_at, past_match, stays}
-use Rattle.fancy_matches.specs.Regexes.{FailsBy, FindsCaptures as FindsGroups, GivesBy, Shows, shown_captures as engine_shown, with_numbers}
+use Rattle.fancy_matches.specs.Regexes.{FailsBy, FindsCaptures as FindsGroups, GivesBy, IsNoLimit, IsNoLimitWhereEasy, Shows, shown_captures as engine_shown, with_numbers}
 use Rattle.fancy_matches.specs.declared.found.Captures.{Captures as Groups}
+use Rattle.fancy_matches.specs.declared.regexes.Regex as engine_regex
 use Rattle.fancy_matches.proofs.Lists.{no_place_ends}
 use Rattle.fancy_regex.specs.Errors.{engine_error}
 use Rattle.fancy_regex.specs.Found.{shown_captures}
@@ -37,6 +38,23 @@ pub captures_found : (i : Input) (text : List ℕ) (o : plain.RunOptions) (found
 captures_found i text o found (Ok c) is h = (h.0, is ∙ h.1)
 captures_found i text o found (Err e) is h =
     subst (λ e. Shows i text o shown_captures (with_numbers text) (Err (engine_error e))) (sym is) (tt, tt)
+
+-- ---- where no limit was asked
+
+module _ (r : engine_regex.Regex) (text : List ℕ) where
+  -- an error that is passed on
+  pub easy_error : {A : Type 0} (e : engine.Error) (f : Error) (result : Result A engine.Error) → engine_error f ≡ e → result ≡ Err e →
+      IfErr result (IsNoLimitWhereEasy r text) → IsNoLimitWhereEasy r text (engine_error f)
+  easy_error e f result is was h = subst (IsNoLimitWhereEasy r text) (sym is) (subst (λ x. IfErr x (IsNoLimitWhereEasy r text)) was h)
+
+  -- want of memory is no limit
+  pub easy_memory : (e : Error) → e ≡ face.Memory → IsNoLimitWhereEasy r text (engine_error e)
+  easy_memory e is i from easy none small = subst (λ e. IsNoLimit (engine_error e)) (sym is) tt
+
+  pub easy_names : {A : Type 0} (P : A → Type 0) (result : Result A Error) → MatchResult result P (λ e. e ≡ face.Memory) →
+      IfErr result (λ e. IsNoLimitWhereEasy r text (engine_error e))
+  easy_names P (Ok x) h = tt
+  easy_names P (Err e) h = easy_memory e h
 
 -- ---- want of memory after a match of a list was found
 

@@ -1,5 +1,5 @@
 -- What clauses see of a match, and of its groups.
-use Rattle.std.specs.Prelude.{◌≡◌, ◌<◌, ◌≤◌, ◌+◌, ℕ, List, [], ◌∷◌, Option, None, MatchOption, IfSome, option_map}
+use Rattle.std.specs.Prelude.{◌≡◌, ◌<◌, ◌≤◌, ◌+◌, ℕ, List, [], ◌∷◌, Option, None, MatchOption, IfSome, option_map, slice_range}
 use Rattle.std.specs.Arc.{arc_value}
 use Rattle.std.specs.Option.{option_or}
 use Rattle.fancy_meaning.specs.MatchState.{Span}
@@ -16,6 +16,10 @@ text_of m = engine.text_of m.found
 
 abbrev pub span_of : Match → Span
 span_of m = engine.span_of m.found
+
+-- what matched
+abbrev pub part_of : Match → List ℕ
+part_of m = slice_range (text_of m) (span_of m).0 (span_of m).1
 
 abbrev pub shown_match : Match → List ℕ × Span
 shown_match m = engine.shown_match m.found

@@ -1,5 +1,5 @@
 -- What clauses see of the lists of all matches: those of the engine, with the errors of this crate.
-use Rattle.std.specs.Prelude.{◌≡◌, List, ℕ, Option, Result, IfOk, IfSome}
+use Rattle.std.specs.Prelude.{◌≡◌, List, ℕ, Option, Result, IfErr, IfOk, IfSome}
 use Rattle.std.specs.Borrow.{MutBor}
 use Rattle.fancy_meaning.specs.Options as plain
 use Rattle.fancy_meaning.specs.Premises.{Input}
@@ -7,7 +7,7 @@ use Rattle.fancy_matches.specs.Listing.{Standing, at_start}
 use Rattle.fancy_matches.specs.Regexes.{GivesBy, standing_of, with_numbers, with_span}
 use Rattle.fancy_regex.specs.Errors.{item_of}
 use Rattle.fancy_regex.specs.Found.{captures_names, shown_captures, shown_match}
-use Rattle.fancy_regex.specs.Regexes.{IsRegexOf, IsSameLoan, names_of}
+use Rattle.fancy_regex.specs.Regexes.{IsNoLimitWhereEasy, IsRegexOf, IsSameLoan, names_of}
 use Rattle.fancy_regex.specs.declared.error.Error.{Error}
 use Rattle.fancy_regex.specs.declared.found.Captures.{Captures}
 use Rattle.fancy_regex.specs.declared.found.Match.{Match}
@@ -49,15 +49,17 @@ pub record Begins (r : MutBor Regex) (text : List ℕ) (s : Iteration) : Type 0 
   pub first : s.standing ≡ at_start
 
 -- so a call of the iterator steps, whatever its regex was compiled from, and text and regex stay
-pub record Goes (Gives : Input → List ℕ → plain.RunOptions → Standing → Standing → Type 0) (s t : Iteration) : Type 0 where
+pub record Goes {A : Type 0} (Gives : Input → List ℕ → plain.RunOptions → Standing → Standing → Type 0)
+    (s : Iteration) (item : Option (Result A Error)) (t : Iteration) : Type 0 where
   pub gives : (i : Input) (o : plain.RunOptions) → IsRegexOf i s.text o s.regex.now → Gives i s.text o s.standing t.standing
+  pub easy : IfSome item (λ found. IfErr found (IsNoLimitWhereEasy s.regex.now s.text))
   pub within : t.text ≡ s.text
   pub regex : IsSameLoan s.regex t.regex
 
 pub record NextCaptures (s : CaptureMatches) (item : Option (Result Captures Error)) (t : CaptureMatches) : Type 0 where
-  pub goes : Goes (λ i text o from to. GivesCaptures i text o from item to) (captures_iteration s) (captures_iteration t)
+  pub goes : Goes (λ i text o from to. GivesCaptures i text o from item to) (captures_iteration s) item (captures_iteration t)
   pub names : HaveNames (names_of s.regex.now) item
 
 abbrev pub NextMatch : Matches → Option (Result Match Error) → Matches → Type 0
 NextMatch s item t =
-    Goes (λ i text o from to. GivesMatch i text o from item to) (matches_iteration s) (matches_iteration t)
+    Goes (λ i text o from to. GivesMatch i text o from item to) (matches_iteration s) item (matches_iteration t)

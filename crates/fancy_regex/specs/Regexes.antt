@@ -10,12 +10,13 @@ use Rattle.fancy_matches.specs.Regexes as engine
 use Rattle.fancy_matches.specs.declared.regexes.Regex as engine_regex
 use Rattle.fancy_matches.specs.Regexes.{Shows, with_numbers, with_span}
 use Rattle.fancy_replace.specs.Replacements as replacements
-use Rattle.fancy_regex.specs.Errors.{reply_of}
+use Rattle.fancy_regex.specs.Errors.{engine_error, reply_of}
 use Rattle.fancy_regex.specs.Found.{shown_captures, shown_match}
 use Rattle.fancy_regex.specs.declared.error.Error.{Error}
 use Rattle.fancy_regex.specs.declared.found.Captures.{Captures}
 use Rattle.fancy_regex.specs.declared.found.Match.{Match}
 use Rattle.fancy_regex.specs.declared.names.GroupNames.{GroupNames}
+use Rattle.fancy_regex.specs.declared.options.RegexOptions.{RegexOptions}
 use Rattle.fancy_regex.specs.declared.regexes.Regex.{Regex}
 
 abbrev pub pattern_of : Regex → List ℕ
@@ -29,6 +30,10 @@ names_of r = arc_value r.names
 abbrev pub engine_of : Regex → engine_regex.Regex
 engine_of r = r.engine
 
+-- how it was asked to be
+abbrev pub options_of : Regex → RegexOptions
+options_of r = r.options
+
 -- it was compiled from the tree, and its searches of this text have these options but where they begin
 abbrev pub IsRegexOf : Input → List ℕ → plain.RunOptions → Regex → Type 0
 IsRegexOf i text o r = engine.IsRegexOf i text o r.engine
@@ -38,11 +43,20 @@ pub record IsSame (r s : Regex) : Type 0 where
   pub engine : engine.IsSame r.engine s.engine
   pub names : s.names ≡ r.names
   pub pattern : s.pattern ≡ r.pattern
+  pub options : s.options ≡ r.options
 
 -- of the same tree, and lent by the same caller
 pub record IsSameLoan (r s : MutBor Regex) : Type 0 where
   pub same : IsSame r.now s.now
   pub name : s.ghost_name ≡ r.ghost_name
+
+-- The matches of the text lie between places, they do not overlap, and each ends past the one before.
+abbrev pub AreAllApart : Regex → List ℕ → Type 0
+AreAllApart r text = engine.AreAllApart r.engine text
+
+-- Where no limit was asked and the whole tree is easy, no limit is passed in a text of fewer than 2 ^ 60 bytes.
+abbrev pub IsNoLimitWhereEasy : Regex → List ℕ → Error → Type 0
+IsNoLimitWhereEasy r text e = engine.IsNoLimitWhereEasy r.engine text (engine_error e)
 
 module _ (i : Input) (text : List ℕ) (o : plain.RunOptions) where
   -- the span of the match

@@ -1,17 +1,23 @@
 //! A match, and its groups by their numbers and names.
 
-ghost use Rattle.std.specs.Prelude.{◌≡◌, ◌++◌, ◌-◌, IfSome, OnOk, option_map, slice_range, string_bytes};
+ghost use Rattle.std.specs.Prelude.{◌≡◌, ◌++◌, ◌-◌, ◌==◌, IfSome, OnOk, nat_eq, option_map, string_bytes};
+ghost use Rattle.std.specs.Cmp.Rules.{comparing};
+ghost use Rattle.std.specs.Ordering.{eq_of_both, on};
+ghost use Rattle.std.specs.Str.{bytes_eq};
+ghost use Rattle.std.proofs.Common.{rules};
 ghost use Rattle.std.specs.Iterator.{at_most};
 ghost use Rattle.fancy_matches.specs.Listing.{group_span};
+ghost use Rattle.fancy_vm.specs.Outcomes.{first_pair};
 ghost use Rattle.fancy_replace.specs.Reading.{expansion};
 ghost use Rattle.fancy_regex.specs.Names.{group_count, names_in, numbers_named};
-ghost use Rattle.fancy_regex.specs.Found.{NextGroup, captures_names, captures_text, first_span, numbers_in, span_of, text_of};
+ghost use Rattle.fancy_regex.specs.Found.{NextGroup, captures_names, captures_text, first_span, numbers_in, part_of, span_of, text_of};
 
 use crate::error::Error;
 use crate::names::GroupNames;
 use fancy_matches::found as engine;
 use fancy_replace::replacer::Replacer;
 use fancy_replace::template::Template;
+use std::fmt;
 use std::ops::Range;
 use std::sync::Arc;
 
@@ -36,6 +42,20 @@ impl<'t> Match<'t> {
         self.found.end()
     }
 
+    /// How many bytes it takes.
+    pub fn len(&self) -> usize
+        ensures { result ≡ (span_of self.now).1 - (span_of self.now).0 }
+    {
+        self.end() - self.start()
+    }
+
+    /// Whether it takes nothing.
+    pub fn is_empty(&self) -> bool
+        ensures { result ≡ ((span_of self.now).0 == (span_of self.now).1) }
+    {
+        self.start() == self.end()
+    }
+
     /// From where it begins to where it ends.
     pub fn range(&self) -> Range<usize>
         ensures start { result.start ≡ (span_of self.now).0 }
@@ -46,10 +66,50 @@ impl<'t> Match<'t> {
 
     /// What matched.
     pub fn as_str(&self) -> &'t str
-        ensures { result.now
-            ≡ slice_range (text_of self.now) (span_of self.now).0 (span_of self.now).1 }
+        ensures { result.now ≡ part_of self.now }
     {
         self.found.as_str()
+    }
+}
+
+/// Two matches are equal that begin at the same byte and took the same.
+impl<'t> PartialEq for Match<'t> {
+    ghost eq = { eq_of_both (on (λ m. (span_of m).0) nat_eq) (on part_of bytes_eq) };
+
+    ghost laws = { Prim.search (comparing, rules) };
+
+    fn eq(&self, other: &Match<'t>) -> bool {
+        self.start() == other.start() && self.as_str() == other.as_str()
+    }
+}
+
+impl<'t> Eq for Match<'t> {
+    ghost laws = { Prim.search (comparing, rules) };
+}
+
+impl<'t> From<Match<'t>> for &'t str {
+    ghost from_gives = { λ m part. part.now ≡ part_of m };
+
+    fn from(found: Match<'t>) -> &'t str {
+        found.as_str()
+    }
+}
+
+impl<'t> From<Match<'t>> for Range<usize> {
+    ghost from_gives = { λ m range. (range.start ≡ (span_of m).0) × (range.end ≡ (span_of m).1) };
+
+    fn from(found: Match<'t>) -> Range<usize> {
+        found.range()
+    }
+}
+
+impl fmt::Debug for Match<'_> {
+    fn fmt<W: fmt::Write>(&self, f: &mut fmt::Formatter<W>) -> fmt::Result {
+        f.debug_struct("Match")
+            .field("start", &self.start())
+            .field("end", &self.end())
+            .field("string", &self.as_str())
+            .finish()
     }
 }
 
@@ -61,6 +121,16 @@ pub struct Captures<'t> {
 }
 
 impl<'t> Captures<'t> {
+    /// The match, which is group 0.
+    pub fn get_match(&self) -> Match<'t>
+        ensures span { span_of result ≡ first_pair (numbers_in self.now) }
+        ensures within { text_of result ≡ captures_text self.now }
+    {
+        Match {
+            found: self.groups.whole(),
+        }
+    }
+
     /// The part that the group took, or none if it is not set or not there. Group 0 is the match.
     pub fn get(&self, group: usize) -> Option<Match<'t>>
         ensures found { option_map span_of result ≡ group_span (numbers_in self.now) group }

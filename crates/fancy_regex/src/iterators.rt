@@ -1,6 +1,6 @@
 //! All matches of a text, one after the other.
 
-ghost use Rattle.std.specs.Prelude.{◌-◌, length, suc};
+ghost use Rattle.std.specs.Prelude.{◌≡◌, ◌-◌, length, suc};
 ghost use Rattle.std.specs.Iterator.{at_most};
 ghost use Rattle.fancy_regex.specs.Lists.{NextCaptures, NextMatch};
 
@@ -18,6 +18,22 @@ pub struct CaptureMatches<'r, 't> {
     pub(crate) regex: &'r mut Regex,
     pub(crate) text: &'t str,
     pub(crate) standing: Standing,
+}
+
+impl<'r, 't> CaptureMatches<'r, 't> {
+    /// The text that is searched.
+    pub fn text(&self) -> &'t str
+        ensures { result.now ≡ self.now.text.now }
+    {
+        self.text
+    }
+
+    /// The regex whose matches these are.
+    pub fn regex(&self) -> &Regex
+        ensures { result.now ≡ self.now.regex.now }
+    {
+        self.regex
+    }
 }
 
 impl<'r, 't> Iterator for CaptureMatches<'r, 't> {
@@ -38,6 +54,22 @@ pub struct Matches<'r, 't> {
     pub(crate) regex: &'r mut Regex,
     pub(crate) text: &'t str,
     pub(crate) standing: Standing,
+}
+
+impl<'r, 't> Matches<'r, 't> {
+    /// The text that is searched.
+    pub fn text(&self) -> &'t str
+        ensures { result.now ≡ self.now.text.now }
+    {
+        self.text
+    }
+
+    /// The regex whose matches these are.
+    pub fn regex(&self) -> &Regex
+        ensures { result.now ≡ self.now.regex.now }
+    {
+        self.regex
+    }
 }
 
 impl<'r, 't> Iterator for Matches<'r, 't> {

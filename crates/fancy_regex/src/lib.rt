@@ -6,6 +6,7 @@ pub mod error;
 pub mod found;
 pub mod iterators;
 pub mod names;
+pub mod options;
 pub mod regexes;
 pub mod replacement;
 pub mod splits;

@@ -1,6 +1,6 @@
 //! `Regex`: a pattern that is compiled, with the memory of its searches.
 
-ghost use Rattle.std.specs.Prelude.{◌≡◌, ◌-◌, ◌<◌, ℕ, IfOk, IfSome, IsTrue, List, MatchResult, None, Some, length, option_map, suc};
+ghost use Rattle.std.specs.Prelude.{◌≡◌, ◌-◌, ◌<◌, ℕ, IfErr, IfOk, IfSome, IsTrue, List, MatchResult, None, Some, length, option_map, suc};
 ghost use Rattle.fancy_meaning.specs.Options as plain;
 ghost use Rattle.fancy_meaning.specs.Places as places;
 ghost use Rattle.fancy_meaning.specs.Premises.{Input};
@@ -8,17 +8,21 @@ ghost use Rattle.fancy_matches.specs.Listing as list;
 ghost use Rattle.fancy_matches.specs.Regexes as engine;
 ghost use Rattle.fancy_matches.specs.Regexes.{standing_of};
 ghost use Rattle.fancy_replace.specs.Pieces.{as_limit};
-ghost use Rattle.fancy_regex.specs.Builders.{IsBuilt, IsRefused, default_builder};
+ghost use Rattle.fancy_matches.specs.declared.regexes.Regex as engine_regex;
+ghost use Rattle.fancy_regex.specs.Builders.{IsBuilt, IsRefused};
+ghost use Rattle.fancy_regex.specs.Errors.{engine_error};
 ghost use Rattle.fancy_regex.specs.Found.{captures_names, shown_captures, shown_match};
 ghost use Rattle.fancy_regex.specs.Lists.{Begins, HaveNames, GivesCaptures, GivesMatch, captures_iteration, matches_iteration};
 ghost use Rattle.fancy_regex.specs.Names.{group_count, names_in};
-ghost use Rattle.fancy_regex.specs.Regexes.{FindsCaptures, FindsMatch, FindsWhether, IsRegexOf, IsReplacement, IsSame, engine_of, names_of, pattern_of};
+ghost use Rattle.fancy_regex.specs.Options.{default_options};
+ghost use Rattle.fancy_regex.specs.Regexes.{AreAllApart, FindsCaptures, FindsMatch, FindsWhether, IsNoLimitWhereEasy, IsRegexOf, IsReplacement, IsSame, engine_of, names_of, options_of, pattern_of};
 
 use crate::builder::RegexBuilder;
 use crate::error::Error;
 use crate::found::{Captures, Match};
 use crate::iterators::{CaptureMatches, Matches};
 use crate::names::{CaptureNames, GroupNames};
+use crate::options::RegexOptions;
 use crate::replacement::Replacement;
 use fancy_expr::error::Error as EngineError;
 use fancy_matches::found::{Captures as Groups, Match as Found};
@@ -27,12 +31,14 @@ use fancy_matches::standing::Standing;
 use fancy_replace::replace::replacen;
 use std::alloc::{AllocError, Global};
 use std::borrow::CowStr;
+use std::fmt;
 use std::sync::Arc;
 
 /// A pattern that is compiled once and searched for many times, with the memory that its searches use again.
 #[derive(Drop)]
 pub struct Regex {
     pub(crate) pattern: String,
+    pub(crate) options: RegexOptions,
     pub(crate) names: Arc<GroupNames>,
     pub(crate) engine: Engine,
 }
@@ -41,10 +47,26 @@ impl Regex {
     /// The regex of a pattern, with the default options, as `RegexBuilder` makes it.
     pub fn new(alloc: Global, pattern: &str) -> Result<Regex, Error>
         ensures { MatchResult result
-            (IsBuilt (default_builder pattern.entry))
-            (IsRefused (default_builder pattern.entry)) }
+            (IsBuilt pattern.now default_options)
+            (IsRefused pattern.now default_options) }
     {
         RegexBuilder::new(pattern).build(alloc)
+    }
+
+    /// The same regex once more: its pattern is read and compiled again, with the same options. Two threads take one
+    /// each.
+    ///
+    /// It is refused as `RegexBuilder::build` would refuse it, so mostly for want of memory.
+    pub fn try_clone(&self) -> Result<Regex, Error>
+        ensures { MatchResult result
+            (IsBuilt (pattern_of self.now) (options_of self.now))
+            (IsRefused (pattern_of self.now) (options_of self.now)) }
+    {
+        let builder = RegexBuilder {
+            pattern: &self.pattern,
+            options: self.options,
+        };
+        builder.build(self.names.alloc)
     }
 
     /// The pattern.
@@ -107,6 +129,10 @@ impl Regex {
             → (o : plain.RunOptions)
             → engine.FindsCaptures i text o found.entry
             → FindsCaptures i text o result }
+        ensures easy { (r : engine_regex.Regex)
+            → (text : List ℕ)
+            → IfErr found.entry (engine.IsNoLimitWhereEasy r text)
+            → IfErr result (λ e. engine.IsNoLimitWhereEasy r text (engine_error e)) }
         ensures names { IfOk result (λ found. IfSome found (λ c.
             captures_names c ≡ names_of self.now)) }
     {
@@ -116,7 +142,7 @@ impl Regex {
         }
     }
 
-    /// What the pattern was compiled to, as a `Scanner` takes it.
+    /// What the pattern was compiled to, as a `Scanner` of fancy_scanner takes it.
     pub fn into_engine(self) -> Engine
         ensures { result ≡ engine_of self }
     {
@@ -129,6 +155,7 @@ impl Regex {
             → (o : plain.RunOptions)
             → IsRegexOf i text.now o self.old
             → FindsWhether i text.now (list.begun_at o 0) result }
+        ensures easy { IfErr result (IsNoLimitWhereEasy self.old text.now) }
         ensures same { IsSame self.old self.new }
     {
         match self.engine.is_match(text) {
@@ -143,6 +170,7 @@ impl Regex {
             → (o : plain.RunOptions)
             → IsRegexOf i text.now o self.old
             → FindsMatch i text.now (list.begun_at o 0) result }
+        ensures easy { IfErr result (IsNoLimitWhereEasy self.old text.now) }
         ensures same { IsSame self.old self.new }
     {
         matched(self.engine.find(text))
@@ -160,6 +188,7 @@ impl Regex {
             → (o : plain.RunOptions)
             → IsRegexOf i text.now o self.old
             → FindsMatch i text.now (list.begun_at o pos) result }
+        ensures easy { IfErr result (IsNoLimitWhereEasy self.old text.now) }
         ensures same { IsSame self.old self.new }
     {
         matched(self.engine.find_from(text, pos))
@@ -171,6 +200,7 @@ impl Regex {
             → (o : plain.RunOptions)
             → IsRegexOf i text.now o self.old
             → FindsCaptures i text.now (list.begun_at o 0) result }
+        ensures easy { IfErr result (IsNoLimitWhereEasy self.old text.now) }
         ensures names { IfOk result (λ found. IfSome found (λ c.
             captures_names c ≡ names_of self.old)) }
         ensures same { IsSame self.old self.new }
@@ -190,6 +220,7 @@ impl Regex {
             → (o : plain.RunOptions)
             → IsRegexOf i text.now o self.old
             → FindsCaptures i text.now (list.begun_at o pos) result }
+        ensures easy { IfErr result (IsNoLimitWhereEasy self.old text.now) }
         ensures names { IfOk result (λ found. IfSome found (λ c.
             captures_names c ≡ names_of self.old)) }
         ensures same { IsSame self.old self.new }
@@ -209,6 +240,7 @@ impl Regex {
             → (o : plain.RunOptions)
             → IsRegexOf i text.now o self.old
             → GivesCaptures i text.now o (standing_of standing.old) result (standing_of standing.new) }
+        ensures easy { IfSome result (λ item. IfErr item (IsNoLimitWhereEasy self.old text.now)) }
         ensures names { HaveNames (names_of self.old) result }
         ensures further { IfSome
             result
@@ -240,6 +272,7 @@ impl Regex {
             → (o : plain.RunOptions)
             → IsRegexOf i text.now o self.old
             → GivesMatch i text.now o (standing_of standing.old) result (standing_of standing.new) }
+        ensures easy { IfSome result (λ item. IfErr item (IsNoLimitWhereEasy self.old text.now)) }
         ensures further { IfSome
             result
             (λ item. suc (length text.now) - standing.new.pos
@@ -253,9 +286,10 @@ impl Regex {
         }
     }
 
-    /// All matches, one after the other, each with its groups. The regex is the caller's again once the iterator is gone.
+    /// All matches, one after the other, each with its groups. They do not overlap. The regex is the caller's again once the iterator is gone.
     pub fn captures_iter<'r, 't>(&'r mut self, text: &'t str) -> CaptureMatches<'r, 't>
-        ensures { Begins self.entry text.now (captures_iteration result) }
+        ensures begins { Begins self.entry text.now (captures_iteration result) }
+        ensures apart { AreAllApart self.old text.now }
     {
         CaptureMatches {
             regex: self,
@@ -264,9 +298,10 @@ impl Regex {
         }
     }
 
-    /// All matches, one after the other, without their groups. The regex is the caller's again once the iterator is gone.
+    /// All matches, one after the other, without their groups. They do not overlap. The regex is the caller's again once the iterator is gone.
     pub fn find_iter<'r, 't>(&'r mut self, text: &'t str) -> Matches<'r, 't>
-        ensures { Begins self.entry text.now (matches_iteration result) }
+        ensures begins { Begins self.entry text.now (matches_iteration result) }
+        ensures apart { AreAllApart self.old text.now }
     {
         Matches {
             regex: self,
@@ -324,6 +359,23 @@ impl Regex {
     }
 }
 
+impl fmt::Display for Regex {
+    ghost output = { λ r. Some (pattern_of r) };
+
+    /// The pattern.
+    fn fmt<W: fmt::Write>(&self, f: &mut fmt::Formatter<W>) -> fmt::Result {
+        let pattern = self.as_str();
+        write!(f, "{pattern}")
+    }
+}
+
+impl fmt::Debug for Regex {
+    /// The pattern.
+    fn fmt<W: fmt::Write>(&self, f: &mut fmt::Formatter<W>) -> fmt::Result {
+        write!(f, "{self}")
+    }
+}
+
 /// A match, if there is one.
 fn some_match<'t>(found: Option<Found<'t>>) -> Option<Match<'t>>
     ensures { option_map shown_match result ≡ option_map engine.shown_match found.entry }
@@ -336,11 +388,15 @@ fn some_match<'t>(found: Option<Found<'t>>) -> Option<Match<'t>>
 
 /// What a search of the engine found.
 fn matched<'t>(found: Result<Option<Found<'t>>, EngineError>) -> Result<Option<Match<'t>>, Error>
-    ensures { (i : Input)
+    ensures promise { (i : Input)
         → (text : List ℕ)
         → (o : plain.RunOptions)
         → engine.FindsMatch i text o found.entry
         → FindsMatch i text o result }
+    ensures easy { (r : engine_regex.Regex)
+        → (text : List ℕ)
+        → IfErr found.entry (engine.IsNoLimitWhereEasy r text)
+        → IfErr result (λ e. engine.IsNoLimitWhereEasy r text (engine_error e)) }
 {
     match found {
         Ok(found) => Ok(some_match(found)),

@@ -1,59 +1,81 @@
 //! A text is split at its matches.
 
+ghost use Rattle.std.specs.Prelude.{◌<◌, IfSome};
 ghost use Rattle.std.specs.Iterator.{at_most};
-ghost use Rattle.fancy_replace.specs.Splits.{CanGoOn, MostPiecesJoin, PiecesAndMatchesJoin, all_pieces, most_pieces, split_remaining};
+ghost use Rattle.fancy_replace.specs.Splits.{MostPiecesJoin, PiecesAndMatchesJoin, all_pieces, most_pieces, pieces_remaining};
 ghost use Rattle.fancy_regex.specs.Regexes.{engine_of};
-ghost use Rattle.fancy_regex.specs.Splits.{HasPieces, NextPiece};
+ghost use Rattle.fancy_regex.specs.Splits.{BeginsSplit, CanGoOn, GivesPiece, NextPiece};
 
 use crate::error::Error;
 use crate::regexes::Regex;
-use fancy_replace::pieces::Split as Pieces;
-use fancy_replace::split as engine;
+use fancy_replace::pieces::Pieces;
 
-/// The pieces of a text between its matches, from left to right: one more than there are matches.
+/// The pieces of a text between its matches, from left to right: one more than there are matches. The regex is the
+/// caller's again once the iterator is gone.
 ///
 /// A limit or a refusal of memory is an item, and after it there are no more.
 #[derive(Drop)]
 pub struct Split<'r, 't> {
-    pub(crate) pieces: Pieces<'r, 't>,
+    pub(crate) regex: &'r mut Regex,
+    pub(crate) pieces: Pieces<'t>,
 }
 
 impl<'r, 't> Iterator for Split<'r, 't> {
     type Item = Result<&'t str, Error>;
 
-    ghost can_next = { λ s. CanGoOn s.pieces };
+    ghost can_next = { λ s. CanGoOn s.regex.now s.pieces };
 
     ghost next_gives = { NextPiece (λ piece. piece.now) };
 
-    ghost remaining = { λ s. at_most (split_remaining s.pieces) };
+    ghost remaining = { λ s. at_most (pieces_remaining s.pieces) };
 
     fn next(&mut self) -> Option<Result<&'t str, Error>> {
-        match self.pieces.next() {
+        self.regex.next_piece(&mut self.pieces)
+    }
+}
+
+impl Regex {
+    /// The next of these pieces of a text. After an error there are no more.
+    pub(crate) fn next_piece<'t>(
+        &mut self,
+        pieces: &mut Pieces<'t>,
+    ) -> Option<Result<&'t str, Error>>
+        requires { CanGoOn self.old pieces.old }
+        ensures gives { GivesPiece
+            (λ piece. piece.now)
+            self.old pieces.old result self.new pieces.new }
+        ensures can { CanGoOn self.new pieces.new }
+        ensures further { IfSome
+            result
+            (λ item. pieces_remaining pieces.new < pieces_remaining pieces.old) }
+    {
+        match pieces.next(&mut self.engine) {
             None => None,
             Some(Ok(piece)) => Some(Ok(piece)),
             Some(Err(error)) => Some(Err(Error::from(error))),
         }
     }
-}
 
-impl Regex {
-    /// The pieces of the text between its matches, one more than these.
+    /// The pieces of the text between its matches, one more than these. The regex is the caller's again once the
+    /// iterator is gone.
     pub fn split<'r, 't>(&'r mut self, text: &'t str) -> Split<'r, 't>
-        ensures pieces { HasPieces self.old text.now (all_pieces text.now) result }
+        ensures pieces { BeginsSplit self.entry text.now (all_pieces text.now) result }
         ensures join { PiecesAndMatchesJoin (engine_of self.old) text.now }
     {
         Split {
-            pieces: engine::split(&mut self.engine, text),
+            regex: self,
+            pieces: Pieces::all(text),
         }
     }
 
     /// As `split`, but at most `limit` pieces, of which the last is the rest of the text with all its matches.
     pub fn splitn<'r, 't>(&'r mut self, text: &'t str, limit: usize) -> Split<'r, 't>
-        ensures pieces { HasPieces self.old text.now (most_pieces text.now limit) result }
+        ensures pieces { BeginsSplit self.entry text.now (most_pieces text.now limit) result }
         ensures join { MostPiecesJoin (engine_of self.old) text.now limit }
     {
         Split {
-            pieces: engine::splitn(&mut self.engine, text, limit),
+            regex: self,
+            pieces: Pieces::at_most(text, limit),
         }
     }
 }

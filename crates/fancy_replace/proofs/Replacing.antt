@@ -1,5 +1,5 @@
 -- A replacement goes on from match to match.
-use Rattle.std.proofs.Common.{Result, Ok, Err, ◌≡◌, ◌≤◌, ◌<◌, ◌-◌, ℕ, zero, suc, Bool, true, false, List, [], ◌∷◌, ◌++◌, length, take, map, Option, Some, None, option_map, ⊎_elim, refl, sym, ap, ap₂, ◌∙◌, subst, arith, append_assoc, append-nil, slice_range}
+use Rattle.std.proofs.Common.{IfErr, Result, Ok, Err, ◌≡◌, ◌≤◌, ◌<◌, ◌-◌, ℕ, zero, suc, Bool, true, false, List, [], ◌∷◌, ◌++◌, length, take, map, Option, Some, None, option_map, ⊎_elim, refl, sym, ap, ap₂, ◌∙◌, subst, arith, append_assoc, append-nil, slice_range}
 use Rattle.std.proofs.lemmas.Bool.{cases_lt}
 use Rattle.std.proofs.lemmas.List.{drop_all, length-append, length-take-le, take-map, take_at}
 use Rattle.std.proofs.lemmas.List.Folds.{drop_split}
@@ -8,7 +8,7 @@ use Rattle.fancy_meaning.specs.Premises.{Input, IsText, plan}
 use Rattle.fancy_expr.specs.declared.error.Error.{Error}
 use Rattle.fancy_vm.specs.Outcomes.{first_pair}
 use Rattle.fancy_matches.specs.Listing.{AreApart, ComesTo, PiecesJoin, all_matches, all_spans, at_start, in_turn, part, stays}
-use Rattle.fancy_matches.specs.Regexes.{FailsBy, IsRegexOf, IsSame, captures_text, left_of, numbers_in, standing_of}
+use Rattle.fancy_matches.specs.Regexes.{FailsBy, IsNoLimitWhereEasy, IsRegexOf, IsSame, captures_text, left_of, numbers_in, standing_of}
 use Rattle.fancy_matches.specs.declared.regexes.Regex.{Regex}
 use Rattle.fancy_replace.specs.Pieces.{IsBelow, pieces_between, rewrite, take_limit}
 use Rattle.fancy_replace.specs.Replacements.{FailsAfter, KeepsBefore, WritesMatch, to_replace}
@@ -17,6 +17,7 @@ use Rattle.fancy_replace.specs.Steps.{HasAllCuts, IsAhead, IsNextCut, NextCut, S
 use Rattle.fancy_replace.specs.declared.cuts.Cut.{Cut}
 use Rattle.fancy_replace.specs.declared.cuts.Cuts.{Cuts}
 use Rattle.fancy_laws.proofs.Moves.{is_place_parts}
+use Rattle.fancy_matches.proofs.Easy.{easy_of_same}
 use Rattle.fancy_matches.proofs.Lists.{comes_more, matches_apart, spans_join}
 use Rattle.fancy_matches.proofs.Stepping.{of_same, same_twice}
 use Rattle.fancy_replace.proofs.Cutting.{take_limit-cons}
@@ -187,6 +188,11 @@ module _ (r q p : Regex) (text : List ℕ) (most : Option ℕ) (write : List ℕ
 
   pub next_fails : (e : Error) → found ≡ Err e → (i : Input) (o : plain.RunOptions) → IsRegexOf i text o r → FailsAfter i o text most e
   next_fails e is i o of = fails_after i o text most (write text) s out is_same e so_far.within (steps _ is i o of) (so_far.done i o of)
+
+  pub next_easy : (e : Error) → found ≡ Err e → IsNoLimitWhereEasy r text e
+  next_easy e is =
+      easy_of_same r q text e so_far.same
+      (subst (λ u. IsNoLimitWhereEasy q u e) so_far.within (subst (λ x. IfErr x (IsNoLimitWhereEasy q s.text.now)) is next.easy))
 
   -- no match is left
   module _ (is : found ≡ Ok None) (i : Input) (o : plain.RunOptions) (of : IsRegexOf i text o r) where

@@ -1,5 +1,5 @@
 -- The text after a replacement, and why there is none.
-use Rattle.std.specs.Prelude.{◌≡◌, ◌⊎◌, ℕ, List, [], ◌∷◌, length, take, IfOk, Option, Result, Ok, Err}
+use Rattle.std.specs.Prelude.{◌≡◌, ◌⊎◌, ℕ, List, [], ◌∷◌, length, take, IfErr, IfOk, Option, Result, Ok, Err}
 use Rattle.std.specs.Cow.{cow_str_bytes, IsOwnedStr}
 use Rattle.std.specs.declared.alloc.Global.{Global}
 use Rattle.std.specs.declared.borrow.CowStr.{CowStr}
@@ -9,7 +9,7 @@ use Rattle.fancy_expr.specs.declared.error.Error.{Error}
 use Rattle.fancy_expr.specs.declared.error.Error.TheVariants.{Memory}
 use Rattle.fancy_vm.specs.Outcomes.{first_pair}
 use Rattle.fancy_matches.specs.Listing.{ComesTo, Standing, all_matches, at_start, part}
-use Rattle.fancy_matches.specs.Regexes.{FailsAt, IsRegexOf, IsSame}
+use Rattle.fancy_matches.specs.Regexes.{FailsAt, IsNoLimitWhereEasy, IsRegexOf, IsSame}
 use Rattle.fancy_matches.specs.declared.regexes.Regex.{Regex}
 use Rattle.fancy_replace.specs.Pieces.{IsBelow, rewrite, take_limit}
 
@@ -53,4 +53,5 @@ pub record IsReplacement (r : Regex) (text : List ℕ) (limit : Option ℕ) (wri
   -- each match in its own place leaves the text as it was
   pub itself : (i : Input) (o : plain.RunOptions) → IsRegexOf i text o r → WritesMatch write text →
       IfOk result (λ v. cow_str_bytes v ≡ text)
+  pub easy : IfErr result (IsNoLimitWhereEasy r text)
   pub same : IsSame r q

@@ -1,63 +1,81 @@
 -- What clauses see of the pieces of a text that are left.
-use Rattle.std.specs.Prelude.{◌≡◌, ◌<◌, ◌-◌, ℕ, suc, false, List, [], ◌∷◌, map, take, Option, Some, None, Result, Ok, Err, if◌then◌else◌}
+use Rattle.std.specs.Prelude.{◌≡◌, ◌<◌, ◌-◌, ℕ, suc, false, IfErr, IfSome, List, [], ◌∷◌, map, take, Option, Some, None, Result, Ok, Err, if◌then◌else◌}
 use Rattle.std.specs.Borrow.{MutBor}
 use Rattle.fancy_meaning.specs.Options as plain
 use Rattle.fancy_meaning.specs.Premises.{Input, plan}
 use Rattle.fancy_expr.specs.declared.error.Error.{Error}
 use Rattle.fancy_matches.specs.Listing.{ComesTo, PiecesJoin, all_matches, all_spans, at_start, in_turn, part}
-use Rattle.fancy_matches.specs.Regexes.{FailsBy, IsRegexOf, IsSameLoan, standing_of}
+use Rattle.fancy_matches.specs.Regexes.{FailsBy, IsNoLimitWhereEasy, IsRegexOf, IsSame, standing_of}
 use Rattle.fancy_matches.specs.declared.regexes.Regex.{Regex}
 use Rattle.fancy_replace.specs.Pieces.{at_most_pieces, pieces_between}
 use Rattle.fancy_replace.specs.Steps.{IsAhead, cuts_left, places_left}
+use Rattle.fancy_replace.specs.declared.pieces.Pieces.{Pieces}
 use Rattle.fancy_replace.specs.declared.pieces.Split.{Split}
 
 -- how many items are left at most
-abbrev pub split_remaining : Split → ℕ
-split_remaining s = if s.has_ended then 0 else suc (places_left s.cuts)
+abbrev pub pieces_remaining : Pieces → ℕ
+pieces_remaining s = if s.has_ended then 0 else suc (places_left s.cuts)
 
--- the caller's regex that it is split by
-abbrev pub split_regex : Split → MutBor Regex
-split_regex s = s.regex
+-- the text that is split
+abbrev pub text_of : Pieces → List ℕ
+text_of s = s.cuts.text.now
 
 -- it has not ended: the list of its matches goes on from here
-abbrev pub IsOpen : Split → Type 0
+abbrev pub IsOpen : Pieces → Type 0
 IsOpen s = s.has_ended ≡ false
 
 module _ (i : Input) (o : plain.RunOptions) where
-  abbrev pub pieces_left : Split → List (List ℕ)
-  pieces_left s = if s.has_ended then [] else pieces_between s.cuts.text.now s.cuts.from (cuts_left i o s.cuts)
+  abbrev pub pieces_left : Pieces → List (List ℕ)
+  pieces_left s = if s.has_ended then [] else pieces_between (text_of s) s.cuts.from (cuts_left i o s.cuts)
 
   -- A call gives the next piece, and unless that was the last, the list of matches comes by one match to where it then
   -- stands; or none, where none is left; or an error that a search answers which the list comes to before its next match,
   -- and then the pieces have ended.
-  abbrev pub StepsToPiece : {P : Type 0} → (P → List ℕ) → Split → Option (Result P Error) → Split → Type 0
+  abbrev pub StepsToPiece : {P : Type 0} → (P → List ℕ) → Pieces → Option (Result P Error) → Pieces → Type 0
   StepsToPiece shown s None t = (pieces_left s ≡ []) × (pieces_left t ≡ [])
   StepsToPiece shown s (Some (Ok piece)) t =
       (pieces_left s ≡ shown piece ∷ pieces_left t)
       × (IsOpen t → (m : List ℕ) ×
-      ComesTo (plan i) s.cuts.text.now o (standing_of s.cuts.standing) (m ∷ []) (standing_of t.cuts.standing))
+      ComesTo (plan i) (text_of s) o (standing_of s.cuts.standing) (m ∷ []) (standing_of t.cuts.standing))
   StepsToPiece shown s (Some (Err e)) t =
-      FailsBy i s.cuts.text.now o (standing_of s.cuts.standing) e × (pieces_left t ≡ [])
+      FailsBy i (text_of s) o (standing_of s.cuts.standing) e × (pieces_left t ≡ [])
 
--- so it steps, whatever its regex was compiled from, and text and regex stay
-pub record NextPiece {P : Type 0} (shown : P → List ℕ) (s : Split) (item : Option (Result P Error)) (t : Split) : Type 0 where
-  pub steps : (i : Input) (o : plain.RunOptions) → IsRegexOf i s.cuts.text.now o (split_regex s).now → StepsToPiece i o shown s item t
-  pub within : t.cuts.text.now ≡ s.cuts.text.now
-  pub regex : IsSameLoan (split_regex s) (split_regex t)
+-- so it steps by this regex, whatever that was compiled from, and text and regex stay
+pub record GivesPiece {P : Type 0} (shown : P → List ℕ) (r : Regex) (s : Pieces) (item : Option (Result P Error)) (q : Regex)
+    (t : Pieces) : Type 0 where
+  pub steps : (i : Input) (o : plain.RunOptions) → IsRegexOf i (text_of s) o r → StepsToPiece i o shown s item t
+  pub easy : IfSome item (λ found. IfErr found (IsNoLimitWhereEasy r (text_of s)))
+  pub within : text_of t ≡ text_of s
+  pub same : IsSame r q
 
 -- what is left to its regex lies ahead
-abbrev pub CanGoOn : Split → Type 0
-CanGoOn s = IsAhead s.regex.now s.cuts
+abbrev pub CanGoOn : Regex → Pieces → Type 0
+CanGoOn r s = IsAhead r s.cuts
 
--- it holds this regex, over this text, before the first match, and all these pieces are left
-pub record HasPieces (r : MutBor Regex) (text : List ℕ) (all : Input → plain.RunOptions → List (List ℕ)) (s : Split) :
+-- over this text, before the first match, all these pieces are left to the regex
+pub record HasPieces (r : Regex) (text : List ℕ) (all : Input → plain.RunOptions → List (List ℕ)) (s : Pieces) :
     Type 0 where
-  pub pieces : (i : Input) (o : plain.RunOptions) → IsRegexOf i text o r.now → pieces_left i o s ≡ all i o
-  pub regex : (split_regex s).now ≡ r.now
-  pub name : (split_regex s).ghost_name ≡ r.ghost_name
-  pub within : s.cuts.text.now ≡ text
+  pub pieces : (i : Input) (o : plain.RunOptions) → IsRegexOf i text o r → pieces_left i o s ≡ all i o
+  pub within : text_of s ≡ text
   pub first : standing_of s.cuts.standing ≡ at_start
-  pub can : CanGoOn s
+  pub can : CanGoOn r s
+
+-- ---- iterators
+
+-- it holds this regex, and all these pieces of the text are left
+pub record BeginsSplit (r : MutBor Regex) (text : List ℕ) (all : Input → plain.RunOptions → List (List ℕ)) (s : Split) :
+    Type 0 where
+  pub regex : s.regex.now ≡ r.now
+  pub name : s.regex.ghost_name ≡ r.ghost_name
+  pub pieces : HasPieces r.now text all s.pieces
+  pub can : CanGoOn s.regex.now s.pieces
+
+-- so a call of the iterator steps, and its regex is lent by the same caller
+pub record NextPiece {P : Type 0} (shown : P → List ℕ) (s : Split) (item : Option (Result P Error)) (t : Split) : Type 0 where
+  pub gives : GivesPiece shown s.regex.now s.pieces item t.regex.now t.pieces
+  pub name : t.regex.ghost_name ≡ s.regex.ghost_name
+
+-- ---- the pieces of a whole text
 
 -- all pieces of the text
 abbrev pub all_pieces : List ℕ → Input → plain.RunOptions → List (List ℕ)

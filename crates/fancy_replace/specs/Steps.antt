@@ -1,5 +1,5 @@
 -- What clauses see of a text that is gone through match by match.
-use Rattle.std.specs.Prelude.{◌≡◌, ◌≤◌, ◌<◌, ◌-◌, ℕ, suc, true, List, [], ◌∷◌, length, map, Option, Some, None, option_map, Result, Ok, Err, slice_range}
+use Rattle.std.specs.Prelude.{◌≡◌, ◌≤◌, ◌<◌, ◌-◌, ℕ, suc, true, IfErr, List, [], ◌∷◌, length, map, Option, Some, None, option_map, Result, Ok, Err, slice_range}
 use Rattle.fancy_meaning.specs.MatchState.{Span}
 use Rattle.fancy_meaning.specs.Options as plain
 use Rattle.fancy_meaning.specs.Places.{is_place}
@@ -7,7 +7,7 @@ use Rattle.fancy_meaning.specs.Premises.{Input, IsSpan, plan}
 use Rattle.fancy_expr.specs.declared.error.Error.{Error}
 use Rattle.fancy_vm.specs.Outcomes.{first_pair}
 use Rattle.fancy_matches.specs.Listing.{ComesTo, at_start}
-use Rattle.fancy_matches.specs.Regexes.{FailsBy, IsRegexOf, IsSame, captures_text, left_of, numbers_in, standing_of}
+use Rattle.fancy_matches.specs.Regexes.{FailsBy, IsNoLimitWhereEasy, IsRegexOf, IsSame, captures_text, left_of, numbers_in, standing_of}
 use Rattle.fancy_matches.specs.declared.regexes.Regex.{Regex}
 use Rattle.fancy_replace.specs.Pieces.{take_limit}
 use Rattle.fancy_replace.specs.declared.cuts.Cut.{Cut}
@@ -71,6 +71,7 @@ pub record IsAhead (r : Regex) (s : Cuts) : Type 0 where
 -- the next match is found by this regex, and text and regex stay
 pub record NextCut (r : Regex) (s : Cuts) (found : Result (Option Cut) Error) (q : Regex) (t : Cuts) : Type 0 where
   pub steps : (i : Input) (o : plain.RunOptions) → IsRegexOf i s.text.now o r → StepsToCut i o s found t
+  pub easy : IfErr found (IsNoLimitWhereEasy r s.text.now)
   pub within : t.text.now ≡ s.text.now
   pub same : IsSame r q
   pub further : IsFurther s found t

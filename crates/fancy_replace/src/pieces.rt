@@ -1,37 +1,60 @@
 //! The pieces of a text between its matches.
 
 ghost use Rattle.std.specs.Iterator.{at_most};
+ghost use Rattle.std.specs.Prelude.{◌<◌, IfSome};
+ghost use Rattle.fancy_matches.specs.declared.regexes.Regex as compiled_regex;
 
 use crate::cuts::Cuts;
 use fancy_expr::error::Error;
 use fancy_matches::regexes::Regex;
 
-/// The pieces of a text between its matches, from left to right: one more than there are matches.
-///
-/// A limit or a refusal of memory is an item, and after it there are no more.
+/// What is left of a text that is split, whatever regex it is split by.
 #[derive(Drop)]
-pub struct Split<'r, 't> {
-    pub(crate) regex: &'r mut Regex,
+pub struct Pieces<'t> {
     pub(crate) cuts: Cuts<'t>,
     pub(crate) has_ended: bool,
 }
 
-impl<'r, 't> Iterator for Split<'r, 't> {
-    ghost use Rattle.fancy_replace.specs.Splits.{CanGoOn, NextPiece, split_remaining};
+impl<'t> Pieces<'t> {
+    ghost use Rattle.fancy_replace.specs.Splits.{CanGoOn, GivesPiece, HasPieces, MostPiecesJoin, PiecesAndMatchesJoin, all_pieces, most_pieces, pieces_remaining};
 
-    type Item = Result<&'t str, Error>;
+    /// All pieces of the text.
+    pub fn all(text: &'t str) -> Pieces<'t>
+        ensures pieces { (r : compiled_regex.Regex)
+            → HasPieces r text.now (all_pieces text.now) result }
+        ensures join { (r : compiled_regex.Regex) → PiecesAndMatchesJoin r text.now }
+    {
+        Pieces {
+            cuts: Cuts::new(text, None),
+            has_ended: false,
+        }
+    }
 
-    ghost can_next = { CanGoOn };
+    /// At most `limit` pieces of the text, of which the last is the rest of the text with all its matches.
+    pub fn at_most(text: &'t str, limit: usize) -> Pieces<'t>
+        ensures pieces { (r : compiled_regex.Regex)
+            → HasPieces r text.now (most_pieces text.now limit) result }
+        ensures join { (r : compiled_regex.Regex) → MostPiecesJoin r text.now limit }
+    {
+        Pieces {
+            cuts: Cuts::new(text, Some(limit.saturating_sub(1))),
+            has_ended: limit == 0,
+        }
+    }
 
-    ghost next_gives = { NextPiece (λ piece. piece.now) };
-
-    ghost remaining = { λ s. at_most (split_remaining s) };
-
-    fn next(&mut self) -> Option<Result<&'t str, Error>> {
+    /// The next piece, by the regex that the text is split by. After an error there are no more.
+    pub fn next(&mut self, regex: &mut Regex) -> Option<Result<&'t str, Error>>
+        requires { CanGoOn regex.old self.old }
+        ensures gives { GivesPiece (λ piece. piece.now) regex.old self.old result regex.new self.new }
+        ensures can { CanGoOn regex.new self.new }
+        ensures further { IfSome
+            result
+            (λ item. pieces_remaining self.new < pieces_remaining self.old) }
+    {
         if self.has_ended {
             return None;
         }
-        match self.cuts.next(self.regex) {
+        match self.cuts.next(regex) {
             Ok(Some(cut)) => Some(Ok(cut.piece)),
             Ok(None) => {
                 self.has_ended = true;
@@ -42,5 +65,31 @@ impl<'r, 't> Iterator for Split<'r, 't> {
                 Some(Err(error))
             }
         }
+    }
+}
+
+/// The pieces of a text between its matches, from left to right: one more than there are matches. The regex is the
+/// caller's again once the iterator is gone.
+///
+/// A limit or a refusal of memory is an item, and after it there are no more.
+#[derive(Drop)]
+pub struct Split<'r, 't> {
+    pub(crate) regex: &'r mut Regex,
+    pub(crate) pieces: Pieces<'t>,
+}
+
+impl<'r, 't> Iterator for Split<'r, 't> {
+    ghost use Rattle.fancy_replace.specs.Splits.{CanGoOn, NextPiece, pieces_remaining};
+
+    type Item = Result<&'t str, Error>;
+
+    ghost can_next = { λ s. CanGoOn s.regex.now s.pieces };
+
+    ghost next_gives = { NextPiece (λ piece. piece.now) };
+
+    ghost remaining = { λ s. at_most (pieces_remaining s.pieces) };
+
+    fn next(&mut self) -> Option<Result<&'t str, Error>> {
+        self.pieces.next(self.regex)
     }
 }

@@ -2,13 +2,16 @@ use Rattle.std.proofs.Common.{◌∙◌, subst}
 use Rattle.fancy_matches.specs.Regexes as engine
 use Rattle.fancy_matches.specs.Regexes.{with_span}
 use Rattle.fancy_regex.specs.Found.{shown_match}
-use Rattle.fancy_regex.proofs.Replies.{search_fails}
+use Rattle.fancy_regex.proofs.Replies.{easy_error, search_fails}
 use Rattle.fancy_regex.proofs.regexes.matched.Goals as goal
 
-pub returns-in-Ok : goal.returns-in-Ok
-returns-in-Ok c i text o h = let found = subst (engine.FindsMatch i text o) c.in-Ok.is h in (found.0, c.some_match.ensures ∙ found.1)
+pub returns-in-Ok-clause-promise : goal.returns-in-Ok-clause-promise
+returns-in-Ok-clause-promise c i text o h = let found = subst (engine.FindsMatch i text o) c.in-Ok.is h in (found.0, c.some_match.ensures ∙ found.1)
 
-pub returns-in-Err : goal.returns-in-Err
-returns-in-Err c i text o h =
+pub returns-in-Err-clause-promise : goal.returns-in-Err-clause-promise
+returns-in-Err-clause-promise c i text o h =
     search_fails engine.shown_match (with_span text) shown_match (with_span text) i text o c.in-Err.error c.from.result c.from.ensures
     (subst (engine.FindsMatch i text o) c.in-Err.is h)
+
+pub returns-in-Err-clause-easy : goal.returns-in-Err-clause-easy
+returns-in-Err-clause-easy c r text = easy_error r text c.in-Err.error c.from.result c.args.found c.from.ensures c.in-Err.is

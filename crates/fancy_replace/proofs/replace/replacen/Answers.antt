@@ -8,7 +8,7 @@ use Rattle.fancy_meaning.specs.Premises.{Input, IsText}
 use Rattle.fancy_matches.specs.Regexes.{IsRegexOf}
 use Rattle.fancy_matches.proofs.Stepping.{same_twice}
 use Rattle.fancy_replace.specs.Replacements.{KeepsBefore}
-use Rattle.fancy_replace.proofs.Replacing.{at_first, before, goes_on, itself, new_text, next_fails, same_text, some_replaced}
+use Rattle.fancy_replace.proofs.Replacing.{at_first, before, goes_on, itself, new_text, next_easy, next_fails, same_text, some_replaced}
 use Rattle.fancy_replace.proofs.replace.replacen.Goals as goal
 
 pub matches-init : goal.matches-init
@@ -28,6 +28,10 @@ returns-in_err-cut g c =
           c.next.ensures.next _ c.in_err-cut.was i o h);
       before = λ i o h. tt;
       itself = λ i o h w. tt;
+      easy =
+          next_easy c.args.regex.now l.regex c.next.new.regex c.args.text.now (as_limit c.args.limit)
+          (g.R.Replacer.replacement_text c.args.replacement.now) l.cuts c.next.new.self (string_bytes l.out) l.is_same l.invariant c.next.result
+          c.next.ensures.next _ c.in_err-cut.was;
       same = same_twice c.args.regex.now l.regex c.next.new.regex l.invariant.same c.next.ensures.next.same;
     })
 
@@ -51,6 +55,7 @@ returns-then-is_same g c =
       );
       before = λ i o h first others e. refl;
       itself = λ i o h w. refl;
+      easy = tt;
       same = same_twice c.args.regex.now l.regex c.next.new.regex l.invariant.same c.next.ensures.next.same;
     }
 
@@ -75,5 +80,6 @@ returns g c =
       );
       before = λ i o h. subst (KeepsBefore i o text) (sym (value i o h)) (before i o text limit write is);
       itself = λ i o h w. value i o h ∙ itself i o text limit write is w;
+      easy = tt;
       same = same_twice c.args.regex.now l.regex c.next.new.regex l.invariant.same c.next.ensures.next.same;
     }

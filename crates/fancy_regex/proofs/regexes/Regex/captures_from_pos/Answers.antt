@@ -3,3 +3,6 @@ use Rattle.fancy_regex.proofs.regexes.Regex.captures_from_pos.Goals as goal
 
 pub returns-clause-promise : goal.returns-clause-promise
 returns-clause-promise c i o h = c.captured.ensures.promise i c.args.text.now (begun_at o c.args.pos) (c.captures_from-found.ensures.promise i o h)
+
+pub returns-clause-easy : goal.returns-clause-easy
+returns-clause-easy c = c.captured.ensures.easy c.args.self.now.engine c.args.text.now c.captures_from-found.ensures.easy

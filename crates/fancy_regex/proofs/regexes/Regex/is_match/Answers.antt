@@ -1,6 +1,7 @@
 use Rattle.std.proofs.Common.{Err, sym, subst}
 use Rattle.fancy_matches.specs.Listing.{begun_at}
 use Rattle.fancy_matches.specs.Regexes as engine
+use Rattle.fancy_regex.proofs.Replies.{easy_error}
 use Rattle.fancy_regex.proofs.regexes.Regex.is_match.Goals as goal
 
 pub returns-in-Ok-clause-promise : goal.returns-in-Ok-clause-promise
@@ -10,3 +11,7 @@ pub returns-in-Err-clause-promise : goal.returns-in-Err-clause-promise
 returns-in-Err-clause-promise c i o h =
     subst (λ e. engine.FindsWhether i c.args.text.now (begun_at o 0) (Err e)) (sym c.from.ensures)
     (subst (engine.FindsWhether i c.args.text.now (begun_at o 0)) c.in-Err.is (c.is_match.ensures.promise i o h))
+
+pub returns-in-Err-clause-easy : goal.returns-in-Err-clause-easy
+returns-in-Err-clause-easy c =
+    easy_error c.args.self.now.engine c.args.text.now c.in-Err.error c.from.result c.is_match.result c.from.ensures c.in-Err.is c.is_match.ensures.easy

@@ -1,10 +1,10 @@
-use Rattle.std.proofs.Common.{◌<◌, ◌-◌, suc, length, Some, Ok, Err, IfSome, ap, ◌∙◌, sym, subst, arith}
+use Rattle.std.proofs.Common.{◌<◌, ◌-◌, suc, length, Some, Ok, Err, IfErr, IfSome, ap, ◌∙◌, sym, subst, arith}
 use Rattle.fancy_meaning.specs.Numbers.{usize_max}
 use Rattle.fancy_matches.specs.Listing.{ended}
-use Rattle.fancy_matches.specs.Regexes.{GivesBy, shown_captures as engine_shown, standing_of, with_numbers}
+use Rattle.fancy_matches.specs.Regexes.{GivesBy, IsNoLimitWhereEasy, shown_captures as engine_shown, standing_of, with_numbers}
 use Rattle.fancy_regex.specs.Errors.{engine_error}
 use Rattle.fancy_regex.specs.Found.{shown_captures}
-use Rattle.fancy_regex.proofs.Replies.{list_fails, list_wants_memory}
+use Rattle.fancy_regex.proofs.Replies.{easy_error, easy_memory, list_fails, list_wants_memory}
 use Rattle.fancy_regex.proofs.regexes.Regex.next_captures.Goals as goal
 
 pub returns-in-None-clause-list : goal.returns-in-None-clause-list
@@ -47,3 +47,13 @@ returns-in-Some-Err-clause-list c i o h =
     c.in-Some-Err.error c.from-in-Some-Err.result c.from-in-Some-Err.ensures
     (subst (λ item. GivesBy i text o engine_shown (with_numbers text) (standing_of c.args.standing.now) item (standing_of c.next_captures.new.standing))
     (c.in-Some-Err.is ∙ ap Some c.in-Some-Err.field-0-is) (c.next_captures.ensures.list i o h))
+
+pub returns-in-Err-clause-easy : goal.returns-in-Err-clause-easy
+returns-in-Err-clause-easy c = easy_memory c.args.self.now.engine c.args.text.now c.from.result c.from.ensures
+
+pub returns-in-Some-Err-clause-easy : goal.returns-in-Some-Err-clause-easy
+returns-in-Some-Err-clause-easy c =
+    let r = c.args.self.now.engine in
+    let text = c.args.text.now in
+    easy_error r text c.in-Some-Err.error c.from-in-Some-Err.result c.in-Some-Err.field-0 c.from-in-Some-Err.ensures c.in-Some-Err.field-0-is
+    (subst (λ item. IfSome item (λ found. IfErr found (IsNoLimitWhereEasy r text))) c.in-Some-Err.is c.next_captures.ensures.easy)

@@ -1,7 +1,7 @@
-use Rattle.std.proofs.Common.{Some, ap, ◌∙◌, subst}
-use Rattle.fancy_matches.specs.Regexes.{GivesBy, shown_match as engine_shown, standing_of, with_span}
+use Rattle.std.proofs.Common.{IfErr, IfSome, Some, ap, ◌∙◌, subst}
+use Rattle.fancy_matches.specs.Regexes.{GivesBy, IsNoLimitWhereEasy, shown_match as engine_shown, standing_of, with_span}
 use Rattle.fancy_regex.specs.Found.{shown_match}
-use Rattle.fancy_regex.proofs.Replies.{list_fails}
+use Rattle.fancy_regex.proofs.Replies.{easy_error, list_fails}
 use Rattle.fancy_regex.proofs.regexes.Regex.next_match.Goals as goal
 
 pub returns-in-None-clause-list : goal.returns-in-None-clause-list
@@ -21,3 +21,10 @@ returns-in-Some-Err-clause-list c i o h =
     c.in-Some-Err.error c.from.result c.from.ensures
     (subst (λ item. GivesBy i text o engine_shown (with_span text) (standing_of c.args.standing.now) item (standing_of c.next_match.new.standing))
     (c.in-Some-Err.is ∙ ap Some c.in-Some-Err.field-0-is) (c.next_match.ensures.list i o h))
+
+pub returns-in-Some-Err-clause-easy : goal.returns-in-Some-Err-clause-easy
+returns-in-Some-Err-clause-easy c =
+    let r = c.args.self.now.engine in
+    let text = c.args.text.now in
+    easy_error r text c.in-Some-Err.error c.from.result c.in-Some-Err.field-0 c.from.ensures c.in-Some-Err.field-0-is
+    (subst (λ item. IfSome item (λ found. IfErr found (IsNoLimitWhereEasy r text))) c.in-Some-Err.is c.next_match.ensures.easy)

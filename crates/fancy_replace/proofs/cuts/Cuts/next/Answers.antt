@@ -1,8 +1,8 @@
-use Rattle.std.proofs.Common.{◌≡◌, ◌≤◌, true, true≢false, map, Some, refl, sym, ap, ◌∙◌, subst, slice_range}
+use Rattle.std.proofs.Common.{◌≡◌, ◌≤◌, IfErr, IfSome, true, true≢false, map, Some, refl, sym, ap, ◌∙◌, subst, slice_range}
 use Rattle.fancy_laws.proofs.Characters.{cut_of_place}
 use Rattle.fancy_meaning.specs.Places.{is_place}
 use Rattle.fancy_vm.specs.Outcomes.{first_pair}
-use Rattle.fancy_matches.specs.Regexes.{left_of, standing_of}
+use Rattle.fancy_matches.specs.Regexes.{IsNoLimitWhereEasy, left_of, standing_of}
 use Rattle.fancy_matches.proofs.Stepping.{of_same}
 use Rattle.fancy_replace.specs.Steps.{AreAhead}
 use Rattle.fancy_replace.proofs.Cutting.{fails, next_begins, next_comes, next_ends_at_place, next_is, next_starts_at_place, next_text, none_ahead, rest_ahead}
@@ -38,6 +38,9 @@ returns-in-Some-Err-clause-next c =
         fails c.args.regex.now c.args.self.now c.requires c.next_captures.result (standing_of c.next_captures.new.standing)
             c.next_captures.ensures.list c.in-Some-Err.error was i o h,
       );
+      easy =
+          subst (λ item. IfSome item (λ found. IfErr found (IsNoLimitWhereEasy c.args.regex.now c.args.self.now.text.now))) was
+          c.next_captures.ensures.easy;
       within = refl;
       same = c.next_captures.ensures.same;
       further = tt;
@@ -72,6 +75,7 @@ returns-in-Some-Ok-clause-next c =
         from = c.end-self.ensures ∙ ap (λ p. p.1) span;
         limit = c.one_less-self.ensures;
       };
+      easy = tt;
       within = refl;
       same = c.next_captures.ensures.same;
       further = c.in-Some-Ok.ensures.further;

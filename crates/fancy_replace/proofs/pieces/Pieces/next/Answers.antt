@@ -3,10 +3,10 @@ use Rattle.fancy_matches.specs.Regexes.{numbers_in}
 use Rattle.fancy_replace.specs.Pieces.{pieces_between}
 use Rattle.fancy_replace.specs.Steps.{StepsToCut, cuts_left}
 use Rattle.fancy_replace.proofs.Cutting.{piece_last, piece_next}
-use Rattle.fancy_replace.proofs.pieces.SplitIterator.next.Goals as goal
+use Rattle.fancy_replace.proofs.pieces.Pieces.next.Goals as goal
 
-pub returns-in-Ok-Some-clause-steps : goal.returns-in-Ok-Some-clause-steps
-returns-in-Ok-Some-clause-steps c =
+pub returns-in-Ok-Some-clause-gives : goal.returns-in-Ok-Some-clause-gives
+returns-in-Ok-Some-clause-gives c =
     let s = c.args.self.now.cuts in
     let t = c.next.new.self in
     let cut = c.in-Ok-Some.cut in
@@ -19,12 +19,13 @@ returns-in-Ok-Some-clause-steps c =
                 ∙ ap (λ b. cut.piece.now ∷ (if b then [] else pieces_between t.text.now t.from (cuts_left i o t))) (sym c.if-self.false),
             λ goes_on. (numbers_in cut.captures, next.comes),
           );
+      easy = tt;
       within = c.next.ensures.next.within;
-      regex = record { same = c.next.ensures.next.same; name = refl };
+      same = c.next.ensures.next.same;
     }
 
-pub returns-in-Ok-None-clause-steps : goal.returns-in-Ok-None-clause-steps
-returns-in-Ok-None-clause-steps c =
+pub returns-in-Ok-None-clause-gives : goal.returns-in-Ok-None-clause-gives
+returns-in-Ok-None-clause-gives c =
     let s = c.args.self.now.cuts in
     let t = c.next.new.self in
     let was = c.in-Ok-None.is ∙ ap Ok c.in-Ok-None.field-0-is in
@@ -35,13 +36,15 @@ returns-in-Ok-None-clause-steps c =
             ∙ ap (λ piece. piece ∷ []) (sym c.rest.ensures),
         λ goes_on. absurd (true≢false goes_on),
       );
+      easy = tt;
       within = c.next.ensures.next.within;
-      regex = record { same = c.next.ensures.next.same; name = refl };
+      same = c.next.ensures.next.same;
     }
 
-pub returns-in-Err-clause-steps : goal.returns-in-Err-clause-steps
-returns-in-Err-clause-steps c = record {
+pub returns-in-Err-clause-gives : goal.returns-in-Err-clause-gives
+returns-in-Err-clause-gives c = record {
   steps = λ i o h. ((c.in-Err.ensures.next.steps i o h).1, refl);
+  easy = c.in-Err.ensures.next.easy;
   within = c.in-Err.ensures.next.within;
-  regex = record { same = c.in-Err.ensures.next.same; name = refl };
+  same = c.in-Err.ensures.next.same;
 }

@@ -1,6 +1,6 @@
 use Rattle.std.proofs.Common.{◌≡◌, Bool, true, false, not, ◌&&◌, ◌||◌, [], refl}
 use Rattle.regex_hir.specs.Text.{is_boundary}
-use Rattle.fancy_regex.proofs.builder.RegexBuilder.options.Goals as goal
+use Rattle.fancy_regex.proofs.options.RegexOptions.search_options.Goals as goal
 
 -- what is asked of the search is asked of the analysis
 both : (a b : Bool) → ((not a || a) && (not b || b)) ≡ true

@@ -1,0 +1,29 @@
+use Rattle.std.proofs.Common.{Some, Err, refl, ap, ◌∙◌, sym, subst}
+use Rattle.fancy_replace.specs.Splits as parts
+use Rattle.fancy_regex.proofs.regexes.Regex.next_piece.Goals as goal
+
+pub returns-in-None-clause-gives : goal.returns-in-None-clause-gives
+returns-in-None-clause-gives c = record {
+  gives =
+      subst (λ item. parts.GivesPiece (λ piece. piece.now) c.args.self.now.engine c.args.pieces.now item c.next.new.regex c.next.new.self)
+      c.in-None.is c.next.ensures.gives;
+  same = record { engine = c.next.ensures.gives.same; names = refl; pattern = refl; options = refl };
+}
+
+pub returns-in-Some-Ok-clause-gives : goal.returns-in-Some-Ok-clause-gives
+returns-in-Some-Ok-clause-gives c = record {
+  gives =
+      subst (λ item. parts.GivesPiece (λ piece. piece.now) c.args.self.now.engine c.args.pieces.now item c.next.new.regex c.next.new.self)
+      (c.in-Some-Ok.is ∙ ap Some c.in-Some-Ok.field-0-is) c.next.ensures.gives;
+  same = record { engine = c.next.ensures.gives.same; names = refl; pattern = refl; options = refl };
+}
+
+pub returns-in-Some-Err-clause-gives : goal.returns-in-Some-Err-clause-gives
+returns-in-Some-Err-clause-gives c = record {
+  gives =
+      subst (λ e. parts.GivesPiece (λ piece. piece.now) c.args.self.now.engine c.args.pieces.now (Some (Err e)) c.next.new.regex c.next.new.self)
+      (sym c.from.ensures)
+      (subst (λ item. parts.GivesPiece (λ piece. piece.now) c.args.self.now.engine c.args.pieces.now item c.next.new.regex c.next.new.self)
+      (c.in-Some-Err.is ∙ ap Some c.in-Some-Err.field-0-is) c.next.ensures.gives);
+  same = record { engine = c.next.ensures.gives.same; names = refl; pattern = refl; options = refl };
+}

@@ -1,0 +1,71 @@
+-- What the options of a regex ask for: how its pattern is read, how its tree is analysed and compiled, and how it is
+-- searched for.
+use Rattle.std.specs.Prelude.{◌-◌, ◌^◌, ℕ, true, false, List, None}
+use Rattle.fancy_meaning.specs.Options as plain
+use Rattle.fancy_meaning.specs.Premises.{Input}
+use Rattle.fancy_expr.specs.Views.{parsed_of}
+use Rattle.fancy_expr.specs.declared.expr.ExprTree.{ExprTree}
+use Rattle.fancy_matches.specs.Listing.{backtracks_for}
+use Rattle.fancy_pattern.specs.declared.options.ParseOptions.{ParseOptions}
+use Rattle.fancy_regex.specs.declared.options.RegexOptions.{RegexOptions}
+
+-- how a pattern is read unless said otherwise
+abbrev pub default_parsing : ParseOptions
+default_parsing = record {
+  case_insensitive = false;
+  multi_line = false;
+  dot_matches_new_line = false;
+  ignore_whitespace = false;
+  crlf = false;
+  swap_greed = false;
+  unicode = true;
+  oniguruma = false;
+  ignore_numbered_groups_when_named_groups_exist = false;
+}
+
+-- the options unless said otherwise
+abbrev pub default_options : RegexOptions
+default_options = record {
+  parsing = default_parsing;
+  not_empty = false;
+  longest = false;
+  max_prog_size = None;
+  max_nesting = None;
+  backtrack_limit = None;
+  step_limit = 2 ^ 64 - 1;
+}
+
+-- how the tree is analysed
+abbrev pub analysis : RegexOptions → plain.AnalysisOptions
+analysis o = record {
+  explicit_capture_group_0 = false;
+  find_not_empty = o.not_empty;
+  end_text = false;
+  leftmost_longest = o.longest;
+}
+
+-- how it is compiled
+abbrev pub compilation : RegexOptions → plain.CompileOptions
+compilation o = record {
+  anchored = false;
+  end_text = false;
+  bytes_mode = plain.Unicode;
+  unicode = (o.parsing).unicode;
+  max_prog_size = o.max_prog_size;
+}
+
+-- how it is searched for in a text
+abbrev pub running : RegexOptions → List ℕ → plain.RunOptions
+running o text = record {
+  pos = 0;
+  anchored = false;
+  continued = true;
+  not_empty = o.not_empty;
+  leftmost_longest = o.longest;
+  backtrack_limit = backtracks_for o.backtrack_limit text;
+  step_limit = o.step_limit;
+}
+
+-- a tree with these options
+abbrev pub input : ExprTree → RegexOptions → Input
+input t o = record { parsed = parsed_of t; analysis = analysis o; options = compilation o }

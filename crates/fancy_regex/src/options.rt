@@ -1,0 +1,96 @@
+//! The options of a regex.
+
+ghost use Rattle.std.specs.Prelude.{◌≡◌, ℕ, [], IsTrue, List};
+ghost use Rattle.fancy_info.specs.Infos.{analysis_options_of};
+ghost use Rattle.fancy_compile.specs.Compiled.{compile_options_of};
+ghost use Rattle.fancy_vm.specs.Tasks.{options_of as run_options_of};
+ghost use Rattle.fancy_search.specs.Searches.{search_fits};
+ghost use Rattle.fancy_matches.specs.Listing.{options_for};
+ghost use Rattle.fancy_regex.specs.Options.{analysis, compilation, default_options, running};
+
+use fancy_analysis::analyze::AnalyzeContext;
+use fancy_compile::compile::{BytesMode, CompileOptions};
+use fancy_pattern::options::ParseOptions;
+use fancy_search::search::SearchOptions;
+use fancy_vm::vm::RunOptions;
+
+/// How a pattern is read and compiled, and how its regex searches.
+#[derive(Clone, Copy, Debug)]
+pub struct RegexOptions {
+    pub(crate) parsing: ParseOptions,
+    /// A match has to take something.
+    pub(crate) not_empty: bool,
+    /// The longest match at the earliest start is found.
+    pub(crate) longest: bool,
+    pub(crate) max_prog_size: Option<usize>,
+    pub(crate) max_nesting: Option<usize>,
+    pub(crate) backtrack_limit: Option<usize>,
+    pub(crate) step_limit: u64,
+}
+
+impl Default for RegexOptions {
+    fn default() -> RegexOptions
+        ensures { result ≡ default_options }
+    {
+        RegexOptions {
+            parsing: ParseOptions {
+                case_insensitive: false,
+                multi_line: false,
+                dot_matches_new_line: false,
+                ignore_whitespace: false,
+                crlf: false,
+                swap_greed: false,
+                unicode: true,
+                oniguruma: false,
+                ignore_numbered_groups_when_named_groups_exist: false,
+            },
+            not_empty: false,
+            longest: false,
+            max_prog_size: None,
+            max_nesting: None,
+            backtrack_limit: None,
+            step_limit: u64::MAX,
+        }
+    }
+}
+
+impl RegexOptions {
+    /// The options of the analysis, the compilation and the searches.
+    pub(crate) fn search_options(&self) -> SearchOptions
+        ensures fits { IsTrue (search_fits result []) }
+        ensures analysis { analysis_options_of result.analysis ≡ analysis self.now }
+        ensures compilation { compile_options_of result.compilation ≡ compilation self.now }
+        ensures nesting { result.compilation.max_nesting ≡ self.now.max_nesting }
+        ensures run { (text : List ℕ)
+            → options_for (run_options_of result.run) self.now.backtrack_limit text
+            ≡ running self.now text }
+    {
+        SearchOptions {
+            analysis: AnalyzeContext {
+                explicit_capture_group_0: false,
+                find_not_empty: self.not_empty,
+                disallow_empty_match_at_eof_after_newline: false,
+                leftmost_longest: self.longest,
+            },
+            compilation: CompileOptions {
+                anchored: false,
+                contains_subroutines: false,
+                disallow_empty_match_at_eof_after_newline: false,
+                bytes_mode: BytesMode::Unicode,
+                unicode: self.parsing.unicode,
+                max_prog_size: self.max_prog_size,
+                max_nesting: self.max_nesting,
+            },
+            run: RunOptions {
+                pos: 0,
+                anchored: false,
+                continued: true,
+                not_empty: self.not_empty,
+                leftmost_longest: self.longest,
+                // Each search takes the limit of backtracks from the regex.
+                backtrack_limit: 0,
+                step_limit: self.step_limit,
+            },
+        }
+    }
+}
