@@ -95,6 +95,13 @@ impl<'r, 't> ScanText<'r, 't> {
         }
     }
 
+    /// The text.
+    pub fn text(&self) -> &'t str
+        ensures { result.now ≡ text_of self.now }
+    {
+        self.text
+    }
+
     /// Ends the scan and gives the scanner back, with the same trees.
     pub fn into_scanner(self) -> &'r mut Scanner
         ensures name { result.ghost_name ≡ (scanner_of self.entry).ghost_name }
