@@ -8,7 +8,6 @@ use crate::refusals::{pattern_refusal, refusal, too_deep};
 use crate::request::Request;
 use fancy_command::command::MOST_DEPTH;
 use fancy_expr::expr::ExprTree;
-use fancy_expr::well_formed::is_well_formed;
 use fancy_notation::depth::depth;
 use fancy_notation::notation::read_tree;
 use fancy_pattern::options::ParseOptions;
@@ -47,21 +46,7 @@ fn tree_of_pattern(alloc: Global, pattern: &str, unicode: bool) -> Result<ExprTr
         ..ParseOptions::default()
     };
     match parse_tree(alloc, pattern, options) {
-        Ok(tree) => accepted(alloc, tree),
+        Ok(tree) => Ok(tree),
         Err(error) => Err(pattern_refusal(alloc, pattern, &error)),
-    }
-}
-
-/// The tree, which is one that may be handed in.
-fn accepted(alloc: Global, tree: ExprTree) -> Result<ExprTree, Trouble>
-    ensures { IfOk result IsWellFormedTree }
-{
-    if is_well_formed(&tree) {
-        Ok(tree)
-    } else {
-        Err(Trouble::Refusal(String::from_str(
-            alloc,
-            "the pattern spells no tree that can be searched for",
-        )?))
     }
 }
