@@ -1,9 +1,29 @@
-/* fancy.h: a backtracking regex engine, for programs in C. Kept by hand beside crates/fancy_host/src.
+/* fancy.h: a backtracking regex engine, for programs in C and C++. Kept by hand beside crates/fancy_host/src.
  *
- * A tree is compiled once and searched for many times. A program is used by one call at a time and may go from thread to
- * thread: the host orders the calls, by a lock, or by a thread's start or join. Programs have nothing in common. Each
- * pointer points to its own memory, which no other pointer of the same call reaches. Where a length is 0, the pointer may
- * not be null either.
+ * A pattern is compiled once and searched for many times:
+ *
+ *     struct fancy_program program = FANCY_NOTHING;
+ *     struct fancy_options options = fancy_default_options();
+ *     size_t spans[2];
+ *     struct fancy_outcome outcome = fancy_compile_pattern("b+", 2, &options, &program);
+ *     if (outcome.code == FANCY_OK)
+ *         outcome = fancy_find(&program, text, strlen(text), &options, spans, 2);
+ *     fancy_free(&program);
+ *
+ * Lengths and places are in bytes. Patterns, trees, texts, names and templates are UTF-8, and end where their length says:
+ * a zero in them is a character like any other.
+ *
+ * Texts that are written for the host end with a zero, as those of snprintf do: of `room` bytes at most room - 1 are
+ * written, then the zero, and nothing where room is 0. The call answers how many bytes the whole text has without the
+ * zero, so it was cut where that is room or more. It may be cut inside a character.
+ *
+ * Memory: a program's memory is the library's, until fancy_free. No call keeps a pointer of the host. Each pointer
+ * points to its own memory, which no other pointer of the same call reaches. Where a length or a room is 0 the pointer
+ * may be null (see the end of this file).
+ *
+ * Threads: a program is used by one call at a time, and may go from thread to thread; the host orders the calls, by a lock
+ * or by a thread's start or join. Threads that search for one pattern at the same time have a program each, which
+ * fancy_clone makes: they share what was compiled, and each has the memory of its own searches.
  *
  * The library is crates/fancy_host/out/libfancy_host.a (`rt lib` in crates/fancy_host). It calls malloc, realloc and
  * free, by c/liblibc_c.a of the kit, and nothing else.
@@ -11,7 +31,7 @@
 #ifndef FANCY_H
 #define FANCY_H
 
-/* The version of this header and of its library, as in CHANGELOG.md. */
+/* The version of this header, as in CHANGELOG.md. fancy_version writes that of the library. */
 #define FANCY_VERSION "0.3.0"
 
 #include <stdbool.h>
@@ -25,17 +45,22 @@ extern "C" {
 /* A group that is not set, a detail that an outcome does not have, and a limit of backtracks that is not given. */
 #define FANCY_UNSET SIZE_MAX
 
+/* What an outcome says. Numbers keep their meaning from version to version, and new ones may come. */
 enum fancy_code {
     FANCY_OK = 0,
     FANCY_NO_MATCH = 1,
     FANCY_NO_PROGRAM = 2,            /* nothing was compiled */
-    FANCY_NOT_UTF8 = 3,              /* of a tree or a text: byte */
+    FANCY_NOT_UTF8 = 3,              /* of a pattern, a tree, a text or a template: byte */
     FANCY_UNFIT = 4,                 /* pos is no place of the text, or not_empty or longest was not said to the compiler */
     FANCY_MEMORY = 5,
     FANCY_TREE_FAULT = 6,            /* byte */
+
+    /* a search passed a limit */
     FANCY_BACKTRACK_LIMIT_EXCEEDED = 7,
     FANCY_STACK_OVERFLOW = 8,        /* of branches, 1,000,000 of them */
     FANCY_STEP_LIMIT_EXCEEDED = 9,
+
+    /* a pattern or a tree was read, and is refused */
     FANCY_NAMED_BACKREF_ONLY = 10,
     FANCY_FEATURE_NOT_YET_SUPPORTED = 11,
     FANCY_SUBROUTINE_CALL_TARGET_NOT_FOUND = 12,
@@ -47,46 +72,81 @@ enum fancy_code {
     FANCY_INNER_ERROR = 18,          /* a class cannot be read */
     FANCY_CLASS_TOO_BIG = 19,
     FANCY_PATTERN_TOO_COMPLEX = 20,  /* the program would have more than max_prog_size instructions */
-    FANCY_RECURSION_EXCEEDED = 21,   /* the tree nests deeper than max_depth */
-    FANCY_NEST_LIMIT_EXCEEDED = 22   /* more nodes would be written out in one another than max_nesting */
+    FANCY_RECURSION_EXCEEDED = 21,   /* a tree nests deeper than max_depth, or a pattern deeper than 250: its byte */
+    FANCY_NEST_LIMIT_EXCEEDED = 22,  /* more nodes would be written out in one another than max_nesting */
+
+    /* a pattern cannot be read: byte, for each of them */
+    FANCY_UNCLOSED_OPEN_PAREN = 23,
+    FANCY_UNOPENED_CLOSE_PAREN = 24,
+    FANCY_INVALID_REPEAT = 25,
+    FANCY_TRAILING_BACKSLASH = 26,
+    FANCY_INVALID_ESCAPE = 27,
+    FANCY_UNCLOSED_UNICODE_NAME = 28,
+    FANCY_INVALID_HEX = 29,
+    FANCY_INVALID_CODEPOINT_VALUE = 30,
+    FANCY_INVALID_CLASS = 31,
+    FANCY_UNKNOWN_FLAG = 32,
+    FANCY_NON_UNICODE_UNSUPPORTED = 33,
+    FANCY_INVALID_GROUP_NAME = 34,
+    FANCY_INVALID_GROUP_NAME_BACKREF = 35,
+    FANCY_INVALID_BACKREF_NUMBER = 36,
+    FANCY_TARGET_NOT_REPEATABLE = 37,
+    FANCY_GENERAL_PARSE_ERROR = 38,
+
+    FANCY_WRONG_SIZE = 39            /* size of the options is not the library's: header and library are of two versions */
 };
 
-/* What a host holds: a compiled tree, or nothing. Begin with FANCY_NOTHING. Only the calls change it, and a copy of it is
- * not used once a call had the other. */
+/* A compiled pattern or tree, or nothing. What its words say is the library's affair. Begin with FANCY_NOTHING, or with
+ * memory of zeros. A copy of the words is not used once a call had the other; fancy_clone makes a program of its own. */
 struct fancy_program {
-    bool is_set;
-    size_t groups;
-    void *at;
+    uintptr_t words[3];
 };
 
-#define FANCY_NOTHING {false, 0, NULL}
+#define FANCY_NOTHING {{0, 0, 0}}
 
-/* The options of the compiler and of a search. Begin with fancy_default_options().
+/* The options of the compiler and of a search. Begin with fancy_default_options(), which has all that is false or 0 here
+ * unless it says otherwise.
  *
  * With backtrack_limit left at FANCY_UNSET a search may fall back 1,000,000 times, and once more for each byte of the text
  * and for its end. A start that fails is one such time, so a search for a tree that is easy never stops at that. */
 struct fancy_options {
-    size_t pos;             /* where the search begins, a byte of the text: for fancy_find; 0 */
+    size_t size;            /* sizeof(struct fancy_options); a call with another is FANCY_WRONG_SIZE */
+    size_t pos;             /* where the search begins, a byte of the text: for fancy_find and fancy_is_match */
     size_t max_prog_size;   /* how many instructions a program may have; 100,000 */
-    size_t max_nesting;     /* how many nodes may be written out in one another, calls with them; 1,000, for a stack of 2 MB */
-    size_t max_depth;       /* how deep a tree may nest, in parentheses; 250, for a stack of 2 MB: see fancy_compile */
+    size_t max_nesting;     /* how many nodes may be written out in one another, calls with them; 1,000, for 2 MB of stack */
+    size_t max_depth;       /* how deep a tree may nest, in parentheses; 250, for a stack of 2 MB: for fancy_compile */
     size_t backtrack_limit; /* how often a search may fall back to a branch; FANCY_UNSET: see above */
     uint64_t step_limit;    /* how many instructions a search may execute; UINT64_MAX */
-    bool compile_anchored;  /* only the first start is tried: for fancy_compile */
-    bool anchored;          /* the same, for fancy_find */
-    bool not_continued;     /* no match ended at pos: for fancy_find */
+
+    /* of searches, and of both where it says so */
+    bool compile_anchored;  /* only the first start is tried: for the compiler */
+    bool anchored;          /* the same, for a search */
+    bool not_continued;     /* no match ended at pos: for a search */
     bool not_empty;         /* a match has to take something: for both */
-    bool end_text;          /* no empty match at the end of a text after a newline: for fancy_compile */
-    bool ascii;             /* folding, word characters and classes go by ASCII: for fancy_compile */
+    bool end_text;          /* no empty match at the end of a text after a newline: for the compiler */
+    bool ascii;             /* folding, word characters and classes go by ASCII, not by Unicode: for the compiler */
     bool longest;           /* at the earliest start the longest match, and not the first: for both */
+
+    /* of fancy_compile_pattern: how the pattern is read */
+    bool case_insensitive;     /* literals, classes and references are folded, as with the flag i */
+    bool multi_line;           /* ^ and $ hold at the ends of lines, as with the flag m */
+    bool dot_matches_new_line; /* . takes a newline, as with the flag s */
+    bool ignore_whitespace;    /* white space and comments are left out, as with the flag x */
+    bool crlf;                 /* a CR before an LF belongs to the end of its line, as with the flag R */
+    bool swap_greed;           /* quantifiers are lazy, and greedy with a ?, as with the flag U */
+    bool oniguruma;            /* under m a line begins where Oniguruma has it */
+    bool named_groups_only;    /* where a group has a name, a plain ( ) captures nothing */
+
+    uint64_t reserved[4];      /* 0: room for options to come, so that the struct keeps its size */
 };
 
 struct fancy_outcome {
     uint32_t code; /* of enum fancy_code */
-    size_t byte;   /* where the tree or the text cannot be read */
+    size_t byte;   /* where the pattern, the tree or the text cannot be read */
     size_t group;  /* the group that is not there */
-    size_t count;  /* how many groups there are, with group 0; of fancy_find_all, how many matches were written */
-    size_t next;   /* pos of a search for the next match; past the length of the text there is none */
+    size_t count;  /* how many groups there are, with group 0; of fancy_find_all, how many matches were written; of
+                      fancy_replace, how many bytes the new text has */
+    size_t next;   /* of fancy_find: pos of a search for the next match; past the length of the text there is none */
 };
 
 /* Where a list of all matches stands. Begin with FANCY_FIRST, or with another pos, a byte of the text. */
@@ -100,25 +160,80 @@ struct fancy_standing {
 
 struct fancy_options fancy_default_options(void);
 
-/* Compiles the tree that a text in the notation of docs/MEANING.md spells. What the program held is freed; it holds the
- * tree if the code is FANCY_OK, and nothing otherwise.
+/* Writes the version of the library. */
+size_t fancy_version(char *version, size_t room);
+
+/* ---- compiling */
+
+/* Compiles a pattern; docs/PATTERNS.md has its syntax. What the program held is freed; it holds the pattern if the code is
+ * FANCY_OK, and nothing otherwise. count of the outcome is how many groups there are, with group 0.
  *
- * What reads, compiles and frees a tree recurses over it, so a tree in which more than max_depth parentheses are open at
- * one place is refused before it is read. The default is for a stack of 2 MB; on one of 512 kB set it to 60, and with a
- * greater one more levels may be asked for, as docs/MEANING.md says. A call is written out where it stands, so calls nest
- * deeper than the text: more nodes in one another than max_nesting are FANCY_NEST_LIMIT_EXCEEDED, which comes for nothing
- * else. On 512 kB set it to 250. */
-struct fancy_outcome fancy_compile(const uint8_t *tree, size_t tree_length, const struct fancy_options *options,
+ * Errors: FANCY_WRONG_SIZE; FANCY_NOT_UTF8 at byte; a fault of the pattern at byte, FANCY_RECURSION_EXCEEDED and those from
+ * FANCY_UNCLOSED_OPEN_PAREN on: where a token begins that cannot stand there, where what follows cannot be read as a
+ * token, or the pattern's length where more is needed; a refusal, FANCY_NAMED_BACKREF_ONLY and those after it;
+ * FANCY_NEST_LIMIT_EXCEEDED; FANCY_MEMORY.
+ *
+ * What reads, compiles and frees a pattern recurses over it. A pattern nests at most 250 deep, for which a stack of 2 MB
+ * is enough. A call of a group is written out where it stands, so calls nest deeper than the pattern: max_nesting bounds
+ * both, after the pattern is read. On a stack of 512 kB set it to 250. */
+struct fancy_outcome fancy_compile_pattern(const char *pattern, size_t pattern_length,
+                                           const struct fancy_options *options, struct fancy_program *program);
+
+/* Compiles the tree that a text in the notation of docs/MEANING.md spells, as fancy_compile_pattern does a pattern. A text
+ * that spells no tree is FANCY_TREE_FAULT at byte.
+ *
+ * A tree in which more than max_depth parentheses are open at one place is FANCY_RECURSION_EXCEEDED before it is read. The
+ * default is for a stack of 2 MB; on one of 512 kB set it to 60, and with a greater one more levels may be asked for, as
+ * docs/MEANING.md says. Groups of a tree have no names here. */
+struct fancy_outcome fancy_compile(const char *tree, size_t tree_length, const struct fancy_options *options,
                                    struct fancy_program *program);
 
-/* Searches a text in UTF-8. Start and end of each group from 0 up are written to spans, in bytes, as far as there is room
- * for them; all of them are 2 * count numbers. Spans are left as they were where the code is not FANCY_OK. */
-struct fancy_outcome fancy_find(struct fancy_program *program, const uint8_t *text, size_t text_length,
+/* Frees what a program holds, which is nothing then. */
+void fancy_free(struct fancy_program *program);
+
+/* The copy holds what the program holds, with memory of its own for its searches; nothing is compiled again. What the copy
+ * held is freed. So two threads search for one pattern at the same time, each with its own program; each is freed.
+ *
+ * Errors, after which the copy holds nothing: FANCY_NO_PROGRAM where the program holds nothing; FANCY_MEMORY. count of the
+ * outcome is how many groups there are. */
+struct fancy_outcome fancy_clone(struct fancy_program *program, struct fancy_program *copy);
+
+/* ---- groups */
+
+/* How many groups the pattern has, with group 0; 0 without a pattern. */
+size_t fancy_group_count(const struct fancy_program *program);
+
+/* Writes the name of a group; the answer is 0 where it has none, is not there, or nothing was compiled. */
+size_t fancy_group_name(struct fancy_program *program, size_t group, char *name, size_t room);
+
+/* Writes the numbers of the groups with this name, in the order in which they open, as far as there is room, and answers
+ * how many there are; 0 where no group has the name, or nothing was compiled. Of several the name means the first that is
+ * set in a match. */
+size_t fancy_groups_named(struct fancy_program *program, const char *name, size_t name_length, size_t *groups,
+                          size_t room);
+
+/* ---- searching
+ *
+ * A text is a range: to end a search early, give a shorter length. What lies behind is then not there, for look-ahead and
+ * `$` too. To begin it later, set pos: what lies before is there, for look-behind and `^`.
+ *
+ * Errors of each search: FANCY_WRONG_SIZE; FANCY_NOT_UTF8 of the text at byte; FANCY_NO_PROGRAM; FANCY_UNFIT;
+ * FANCY_BACKTRACK_LIMIT_EXCEEDED, FANCY_STACK_OVERFLOW, FANCY_STEP_LIMIT_EXCEEDED; FANCY_MEMORY. The program holds what it
+ * held, whatever the code is. */
+
+/* Whether there is a match: FANCY_OK or FANCY_NO_MATCH. */
+struct fancy_outcome fancy_is_match(struct fancy_program *program, const char *text, size_t text_length,
+                                    const struct fancy_options *options);
+
+/* Finds the first match. Start and end of each group from 0 up are written to spans, as far as there is room for them; all
+ * of them are 2 * count numbers. A group that is not set has FANCY_UNSET twice. Spans are left as they were where the code
+ * is not FANCY_OK. */
+struct fancy_outcome fancy_find(struct fancy_program *program, const char *text, size_t text_length,
                                 const struct fancy_options *options, size_t *spans, size_t spans_length);
 
-/* Searches a text in UTF-8 for all matches, from where their list stands. Start and end of each are written to spans, in
- * bytes, as many as there is room for, and count says how many matches that are, whatever the code is. The list then
- * stands behind them, and the same call again goes on:
+/* Finds all matches, from where their list stands. Start and end of each are written to spans, as many as there is room
+ * for, and count says how many matches that are, whatever the code is. The list then stands behind them, and the same call
+ * again goes on:
  *
  *   FANCY_OK        there was no room for one more
  *   FANCY_NO_MATCH  the list has ended
@@ -127,19 +242,79 @@ struct fancy_outcome fancy_find(struct fancy_program *program, const uint8_t *te
  * Each search begins where the match before it ended, and one character further where that took nothing. An empty match
  * where the last one ended is left out, and so is one that begins before its search. pos and not_continued of the options
  * say nothing here. */
-struct fancy_outcome fancy_find_all(struct fancy_program *program, const uint8_t *text, size_t text_length,
+struct fancy_outcome fancy_find_all(struct fancy_program *program, const char *text, size_t text_length,
                                     const struct fancy_options *options, struct fancy_standing *standing, size_t *spans,
                                     size_t spans_length);
 
-/* How many groups the tree has, with group 0; 0 without a tree. */
-size_t fancy_group_count(const struct fancy_program *program);
+/* ---- errors */
 
-/* Writes the name of a code as far as there is room, with no zero after it, and answers how many bytes it has; 0 where
- * the number is no code. No name has more than 40 bytes. */
-size_t fancy_error_name(uint32_t code, uint8_t *name, size_t name_length);
+/* Writes the name of a code; the answer is 0 where the number is no code. No name has more than 40 bytes. */
+size_t fancy_error_name(uint32_t code, char *name, size_t room);
 
-/* Frees what a program holds, which is nothing then. */
-void fancy_free(struct fancy_program *program);
+/* Writes what an outcome says as a sentence for a reader, with its byte and its group. The words may change from version to
+ * version: programs go by the code. */
+size_t fancy_error_message(const struct fancy_outcome *outcome, char *message, size_t room);
+
+/* Compiles the pattern once more, and writes why it has no program, in the words of fancy_error_message and with the text
+ * of the class or the description of the group that is refused; an empty text where it has one. */
+size_t fancy_explain_pattern(const char *pattern, size_t pattern_length, const struct fancy_options *options,
+                             char *message, size_t room);
+
+/* ---- replacing */
+
+/* Writes the text with its first `limit` matches replaced, all of them where that is 0; the list of them is that of
+ * fancy_find_all, from the start of the text. In the template $1, ${1}, $name and ${name} stand for what a group took, and
+ * $$ for a dollar; of a group that is not set or not there nothing is written. $1a is the group named 1a: write ${1}a.
+ *
+ * The code is FANCY_OK where the new text was made, and count says how many bytes it has, without the zero at its end:
+ * where that is room or more, it was cut, and the same call with room for count + 1 bytes writes all. Where no match was
+ * found the new text is the text. After other codes nothing was written. FANCY_NOT_UTF8 is of the text, or, where the
+ * text is UTF-8, of the template. */
+struct fancy_outcome fancy_replace(struct fancy_program *program, const char *text, size_t text_length,
+                                   const char *template_text, size_t template_length, size_t limit,
+                                   const struct fancy_options *options, char *new_text, size_t room);
+
+/* ---- null pointers
+ *
+ * Where a length or a room is 0 the pointer may be null in C and C++: each call is a macro too, which passes another
+ * pointer then. Hosts that call by the symbols of the library pass a pointer that is not null. */
+
+static inline const char *fancy_from(const char *text)
+{
+    return text != NULL ? text : "";
+}
+
+static inline char *fancy_into(char *text)
+{
+    static char none[1];
+    return text != NULL ? text : none;
+}
+
+static inline size_t *fancy_numbers(size_t *numbers)
+{
+    static size_t none[1];
+    return numbers != NULL ? numbers : none;
+}
+
+#define fancy_version(version, room) fancy_version(fancy_into(version), room)
+#define fancy_compile_pattern(pattern, length, options, program) \
+    fancy_compile_pattern(fancy_from(pattern), length, options, program)
+#define fancy_compile(tree, length, options, program) fancy_compile(fancy_from(tree), length, options, program)
+#define fancy_group_name(program, group, name, room) fancy_group_name(program, group, fancy_into(name), room)
+#define fancy_groups_named(program, name, length, groups, room) \
+    fancy_groups_named(program, fancy_from(name), length, fancy_numbers(groups), room)
+#define fancy_is_match(program, text, length, options) fancy_is_match(program, fancy_from(text), length, options)
+#define fancy_find(program, text, length, options, spans, spans_length) \
+    fancy_find(program, fancy_from(text), length, options, fancy_numbers(spans), spans_length)
+#define fancy_find_all(program, text, length, options, standing, spans, spans_length) \
+    fancy_find_all(program, fancy_from(text), length, options, standing, fancy_numbers(spans), spans_length)
+#define fancy_error_name(code, name, room) fancy_error_name(code, fancy_into(name), room)
+#define fancy_error_message(outcome, message, room) fancy_error_message(outcome, fancy_into(message), room)
+#define fancy_explain_pattern(pattern, length, options, message, room) \
+    fancy_explain_pattern(fancy_from(pattern), length, options, fancy_into(message), room)
+#define fancy_replace(program, text, length, template_text, template_length, limit, options, new_text, room) \
+    fancy_replace(program, fancy_from(text), length, fancy_from(template_text), template_length, limit, options, \
+                  fancy_into(new_text), room)
 
 #ifdef __cplusplus
 }
