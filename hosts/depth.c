@@ -1,7 +1,7 @@
-/* Compiles one tree that nests so deep, and searches for it, on a thread with a stack of so many bytes; prints the name of
- * what came of it.
+/* Compiles one tree or pattern that nests so deep, and searches for it, on a thread with a stack of so many bytes; prints
+ * the name of what came of it.
  *
- * depth STACK DEPTH MAX_DEPTH MAX_NESTING OPEN MIDDLE CLOSE TEXT   OPEN and CLOSE so many times, with MIDDLE between them;
+ * depth [--pattern] STACK DEPTH MAX_DEPTH MAX_NESTING OPEN MIDDLE CLOSE TEXT   OPEN and CLOSE so many times, with MIDDLE between them;
  * `default` for MAX_DEPTH or MAX_NESTING is the default of the library */
 #define _GNU_SOURCE
 #include "fancy.h"
@@ -11,6 +11,7 @@
 #include <string.h>
 
 struct question {
+    bool is_pattern;
     char *tree;
     const char *text;
     struct fancy_options options;
@@ -35,22 +36,26 @@ static void *ask(void *asked)
     const struct question *question = asked;
     struct fancy_program program = FANCY_NOTHING;
     size_t span[2];
-    uint8_t name[40];
+    char name[41];
     struct fancy_outcome outcome =
-        fancy_compile((const uint8_t *)question->tree, strlen(question->tree), &question->options, &program);
+        question->is_pattern ? fancy_compile_pattern(question->tree, strlen(question->tree), &question->options, &program)
+                             : fancy_compile(question->tree, strlen(question->tree), &question->options, &program);
     if (outcome.code == FANCY_OK)
-        outcome = fancy_find(&program, (const uint8_t *)question->text, strlen(question->text), &question->options, span, 2);
+        outcome = fancy_find(&program, question->text, strlen(question->text), &question->options, span, 2);
     fancy_free(&program);
-    size_t length = fancy_error_name(outcome.code, name, sizeof name);
-    printf("%.*s\n", (int)length, (const char *)name);
+    fancy_error_name(outcome.code, name, sizeof name);
+    puts(name);
     return NULL;
 }
 
 int main(int argc, char **argv)
 {
+    bool is_pattern = argc > 1 && strcmp(argv[1], "--pattern") == 0;
+    argc -= is_pattern;
+    argv += is_pattern;
     if (argc != 9)
         return 2;
-    struct question question = {written_out(strtoull(argv[2], NULL, 10), argv[5], argv[6], argv[7]), argv[8],
+    struct question question = {is_pattern, written_out(strtoull(argv[2], NULL, 10), argv[5], argv[6], argv[7]), argv[8],
                                 fancy_default_options()};
     if (strcmp(argv[3], "default") != 0)
         question.options.max_depth = strtoull(argv[3], NULL, 10);

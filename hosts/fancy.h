@@ -10,7 +10,7 @@
  *         outcome = fancy_find(&program, text, strlen(text), &options, spans, 2);
  *     fancy_free(&program);
  *
- * Lengths and places are in bytes. Patterns, trees, texts, names and templates are UTF-8, and end where their length says:
+ * Lengths and places are in bytes. Patterns, trees and texts are UTF-8, and end where their length says:
  * a zero in them is a character like any other.
  *
  * Texts that are written for the host end with a zero, as those of snprintf do: of `room` bytes at most room - 1 are
@@ -22,8 +22,7 @@
  * may be null (see the end of this file).
  *
  * Threads: a program is used by one call at a time, and may go from thread to thread; the host orders the calls, by a lock
- * or by a thread's start or join. Threads that search for one pattern at the same time have a program each, which
- * fancy_clone makes: they share what was compiled, and each has the memory of its own searches.
+ * or by a thread's start or join. Threads that search for one pattern at the same time compile a program each.
  *
  * The library is crates/fancy_host/out/libfancy_host.a (`rt lib` in crates/fancy_host). It calls malloc, realloc and
  * free, by c/liblibc_c.a of the kit, and nothing else.
@@ -50,7 +49,7 @@ enum fancy_code {
     FANCY_OK = 0,
     FANCY_NO_MATCH = 1,
     FANCY_NO_PROGRAM = 2,            /* nothing was compiled */
-    FANCY_NOT_UTF8 = 3,              /* of a pattern, a tree, a text or a template: byte */
+    FANCY_NOT_UTF8 = 3,              /* of a pattern, a tree or a text: byte */
     FANCY_UNFIT = 4,                 /* pos is no place of the text, or not_empty or longest was not said to the compiler */
     FANCY_MEMORY = 5,
     FANCY_TREE_FAULT = 6,            /* byte */
@@ -97,7 +96,7 @@ enum fancy_code {
 };
 
 /* A compiled pattern or tree, or nothing. What its words say is the library's affair. Begin with FANCY_NOTHING, or with
- * memory of zeros. A copy of the words is not used once a call had the other; fancy_clone makes a program of its own. */
+ * memory of zeros. A copy of the words is not used once a call had the other. */
 struct fancy_program {
     uintptr_t words[3];
 };
@@ -111,9 +110,9 @@ struct fancy_program {
  * and for its end. A start that fails is one such time, so a search for a tree that is easy never stops at that. */
 struct fancy_options {
     size_t size;            /* sizeof(struct fancy_options); a call with another is FANCY_WRONG_SIZE */
-    size_t pos;             /* where the search begins, a byte of the text: for fancy_find and fancy_is_match */
+    size_t pos;             /* where the search begins, a byte of the text: for fancy_find */
     size_t max_prog_size;   /* how many instructions a program may have; 100,000 */
-    size_t max_nesting;     /* how many nodes may be written out in one another, calls with them; 1,000, for 2 MB of stack */
+    size_t max_nesting;     /* how many nodes may be written out in one another, calls with them; 1,000, for 4 MB of stack */
     size_t max_depth;       /* how deep a tree may nest, in parentheses; 250, for a stack of 2 MB: for fancy_compile */
     size_t backtrack_limit; /* how often a search may fall back to a branch; FANCY_UNSET: see above */
     uint64_t step_limit;    /* how many instructions a search may execute; UINT64_MAX */
@@ -144,8 +143,7 @@ struct fancy_outcome {
     uint32_t code; /* of enum fancy_code */
     size_t byte;   /* where the pattern, the tree or the text cannot be read */
     size_t group;  /* the group that is not there */
-    size_t count;  /* how many groups there are, with group 0; of fancy_find_all, how many matches were written; of
-                      fancy_replace, how many bytes the new text has */
+    size_t count;  /* how many groups there are, with group 0; of fancy_find_all, how many matches were written */
     size_t next;   /* of fancy_find: pos of a search for the next match; past the length of the text there is none */
 };
 
@@ -173,9 +171,10 @@ size_t fancy_version(char *version, size_t room);
  * token, or the pattern's length where more is needed; a refusal, FANCY_NAMED_BACKREF_ONLY and those after it;
  * FANCY_NEST_LIMIT_EXCEEDED; FANCY_MEMORY.
  *
- * What reads, compiles and frees a pattern recurses over it. A pattern nests at most 250 deep, for which a stack of 2 MB
- * is enough. A call of a group is written out where it stands, so calls nest deeper than the pattern: max_nesting bounds
- * both, after the pattern is read. On a stack of 512 kB set it to 250. */
+ * What reads, compiles and frees a pattern recurses over it. A pattern nests at most 250 deep, and is read on a stack of
+ * 1 MB. One level of it may be several nodes of the tree, and a call of a group is written out where it stands, so nodes
+ * nest deeper than the pattern: max_nesting bounds them, after the pattern is read. For its default a stack of 4 MB was
+ * enough for all that was tried; on one of 2 MB set it to 500, on one of 1 MB to 250. */
 struct fancy_outcome fancy_compile_pattern(const char *pattern, size_t pattern_length,
                                            const struct fancy_options *options, struct fancy_program *program);
 
@@ -191,26 +190,10 @@ struct fancy_outcome fancy_compile(const char *tree, size_t tree_length, const s
 /* Frees what a program holds, which is nothing then. */
 void fancy_free(struct fancy_program *program);
 
-/* The copy holds what the program holds, with memory of its own for its searches; nothing is compiled again. What the copy
- * held is freed. So two threads search for one pattern at the same time, each with its own program; each is freed.
- *
- * Errors, after which the copy holds nothing: FANCY_NO_PROGRAM where the program holds nothing; FANCY_MEMORY. count of the
- * outcome is how many groups there are. */
-struct fancy_outcome fancy_clone(struct fancy_program *program, struct fancy_program *copy);
-
 /* ---- groups */
 
 /* How many groups the pattern has, with group 0; 0 without a pattern. */
 size_t fancy_group_count(const struct fancy_program *program);
-
-/* Writes the name of a group; the answer is 0 where it has none, is not there, or nothing was compiled. */
-size_t fancy_group_name(struct fancy_program *program, size_t group, char *name, size_t room);
-
-/* Writes the numbers of the groups with this name, in the order in which they open, as far as there is room, and answers
- * how many there are; 0 where no group has the name, or nothing was compiled. Of several the name means the first that is
- * set in a match. */
-size_t fancy_groups_named(struct fancy_program *program, const char *name, size_t name_length, size_t *groups,
-                          size_t room);
 
 /* ---- searching
  *
@@ -220,10 +203,6 @@ size_t fancy_groups_named(struct fancy_program *program, const char *name, size_
  * Errors of each search: FANCY_WRONG_SIZE; FANCY_NOT_UTF8 of the text at byte; FANCY_NO_PROGRAM; FANCY_UNFIT;
  * FANCY_BACKTRACK_LIMIT_EXCEEDED, FANCY_STACK_OVERFLOW, FANCY_STEP_LIMIT_EXCEEDED; FANCY_MEMORY. The program holds what it
  * held, whatever the code is. */
-
-/* Whether there is a match: FANCY_OK or FANCY_NO_MATCH. */
-struct fancy_outcome fancy_is_match(struct fancy_program *program, const char *text, size_t text_length,
-                                    const struct fancy_options *options);
 
 /* Finds the first match. Start and end of each group from 0 up are written to spans, as far as there is room for them; all
  * of them are 2 * count numbers. A group that is not set has FANCY_UNSET twice. Spans are left as they were where the code
@@ -260,20 +239,6 @@ size_t fancy_error_message(const struct fancy_outcome *outcome, char *message, s
 size_t fancy_explain_pattern(const char *pattern, size_t pattern_length, const struct fancy_options *options,
                              char *message, size_t room);
 
-/* ---- replacing */
-
-/* Writes the text with its first `limit` matches replaced, all of them where that is 0; the list of them is that of
- * fancy_find_all, from the start of the text. In the template $1, ${1}, $name and ${name} stand for what a group took, and
- * $$ for a dollar; of a group that is not set or not there nothing is written. $1a is the group named 1a: write ${1}a.
- *
- * The code is FANCY_OK where the new text was made, and count says how many bytes it has, without the zero at its end:
- * where that is room or more, it was cut, and the same call with room for count + 1 bytes writes all. Where no match was
- * found the new text is the text. After other codes nothing was written. FANCY_NOT_UTF8 is of the text, or, where the
- * text is UTF-8, of the template. */
-struct fancy_outcome fancy_replace(struct fancy_program *program, const char *text, size_t text_length,
-                                   const char *template_text, size_t template_length, size_t limit,
-                                   const struct fancy_options *options, char *new_text, size_t room);
-
 /* ---- null pointers
  *
  * Where a length or a room is 0 the pointer may be null in C and C++: each call is a macro too, which passes another
@@ -300,10 +265,6 @@ static inline size_t *fancy_numbers(size_t *numbers)
 #define fancy_compile_pattern(pattern, length, options, program) \
     fancy_compile_pattern(fancy_from(pattern), length, options, program)
 #define fancy_compile(tree, length, options, program) fancy_compile(fancy_from(tree), length, options, program)
-#define fancy_group_name(program, group, name, room) fancy_group_name(program, group, fancy_into(name), room)
-#define fancy_groups_named(program, name, length, groups, room) \
-    fancy_groups_named(program, fancy_from(name), length, fancy_numbers(groups), room)
-#define fancy_is_match(program, text, length, options) fancy_is_match(program, fancy_from(text), length, options)
 #define fancy_find(program, text, length, options, spans, spans_length) \
     fancy_find(program, fancy_from(text), length, options, fancy_numbers(spans), spans_length)
 #define fancy_find_all(program, text, length, options, standing, spans, spans_length) \
@@ -312,9 +273,6 @@ static inline size_t *fancy_numbers(size_t *numbers)
 #define fancy_error_message(outcome, message, room) fancy_error_message(outcome, fancy_into(message), room)
 #define fancy_explain_pattern(pattern, length, options, message, room) \
     fancy_explain_pattern(fancy_from(pattern), length, options, fancy_into(message), room)
-#define fancy_replace(program, text, length, template_text, template_length, limit, options, new_text, room) \
-    fancy_replace(program, fancy_from(text), length, fancy_from(template_text), template_length, limit, options, \
-                  fancy_into(new_text), room)
 
 #ifdef __cplusplus
 }

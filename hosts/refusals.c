@@ -10,9 +10,9 @@ static size_t spans[2];
 
 static void print_outcome(const char *what, struct fancy_outcome outcome)
 {
-    uint8_t name[40];
-    size_t length = fancy_error_name(outcome.code, name, sizeof name);
-    printf("%s: %.*s", what, (int)length, (const char *)name);
+    char name[41];
+    fancy_error_name(outcome.code, name, sizeof name);
+    printf("%s: %s", what, name);
     if (outcome.byte != FANCY_UNSET)
         printf(" at byte %zu", outcome.byte);
     if (outcome.group != FANCY_UNSET)
@@ -22,25 +22,88 @@ static void print_outcome(const char *what, struct fancy_outcome outcome)
 
 static void compile(const char *what, const char *tree)
 {
-    print_outcome(what, fancy_compile((const uint8_t *)tree, strlen(tree), &options, &program));
+    print_outcome(what, fancy_compile(tree, strlen(tree), &options, &program));
+}
+
+static void compile_pattern(const char *what, const char *pattern)
+{
+    struct fancy_outcome outcome = fancy_compile_pattern(pattern, strlen(pattern), &options, &program);
+    print_outcome(what, outcome);
 }
 
 static void find(const char *what, const char *text)
 {
-    print_outcome(what, fancy_find(&program, (const uint8_t *)text, strlen(text), &options, spans, 2));
+    print_outcome(what, fancy_find(&program, text, strlen(text), &options, spans, 2));
 }
 
 static void find_all(const char *what, const char *text, size_t room)
 {
-    struct fancy_outcome outcome = fancy_find_all(&program, (const uint8_t *)text, strlen(text), &options, &standing,
+    struct fancy_outcome outcome = fancy_find_all(&program, text, strlen(text), &options, &standing,
                                                   spans, room);
     print_outcome(what, outcome);
     printf("%zu written, then from %zu\n", outcome.count, standing.pos);
 }
 
+/* So many open parentheses, and as many closed ones. */
+static void compile_nested(const char *what, size_t depth)
+{
+    char pattern[600];
+    memset(pattern, '(', depth);
+    memset(pattern + depth, ')', depth);
+    print_outcome(what, fancy_compile_pattern(pattern, 2 * depth, &options, &program));
+}
+
+static void refuse_patterns(void)
+{
+    compile_pattern("a pattern", "(?<year>\\d{4})-\\d\\d");
+    find("a date", "on 2026-11");
+    printf("%zu groups, %zu %zu\n", fancy_group_count(&program), spans[0], spans[1]);
+    compile_pattern("a group that is not closed", "a(b");
+    find("a search after a fault", "a");
+    compile_pattern("a backslash at the end", "a\\");
+    compile_pattern("a reference to no group", "(a)\\2");
+    compile_pattern("a reference with too large a number", "\\99999999999999999999");
+    compile_pattern("a pattern that is no UTF-8", "ab\xff");
+    compile_nested("250 groups in one another", 250);
+    compile_nested("251 groups in one another", 251);
+    options.case_insensitive = true;
+    compile_pattern("a pattern to be folded", "a");
+    find("in the other case", "bA");
+    options = fancy_default_options();
+    options.size -= 8;
+    find("options of another size", "a");
+    compile_pattern("options of another size", "a");
+    options = fancy_default_options();
+    find("a search after them", "a");
+    print_outcome("an empty pattern, by a null pointer", fancy_compile_pattern(NULL, 0, &options, &program));
+    print_outcome("an empty text, by null pointers", fancy_find(&program, NULL, 0, &options, NULL, 0));
+    fancy_free(&program);
+}
+
+static void print_message(const char *what, const char *pattern)
+{
+    char message[120];
+    size_t length = fancy_explain_pattern(pattern, strlen(pattern), &options, message, sizeof message);
+    printf("%s: %zu %s\n", what, length, message);
+}
+
+static void write_texts(void)
+{
+    char name[4];
+    size_t length = fancy_error_name(FANCY_MEMORY, name, sizeof name);
+    printf("%zu %s\n", length, name);
+    printf("%zu %s.\n", fancy_error_name(99, name, sizeof name), name);
+    printf("%zu\n", fancy_error_name(FANCY_MEMORY, NULL, 0));
+    char version[16];
+    fancy_version(version, sizeof version);
+    printf("the version of the header: %s\n", strcmp(version, FANCY_VERSION) == 0 ? "the same" : version);
+    print_message("why a class is refused", "[b-a]");
+    print_message("why a group is refused", "(?<n>\\g<n>)");
+    print_message("why a pattern is not", "a");
+}
+
 int main(void)
 {
-    uint8_t name[3] = "---";
     options = fancy_default_options();
     find("a search without a tree", "a");
     find_all("all matches without a tree", "a", 2);
@@ -90,8 +153,7 @@ int main(void)
     fancy_free(&program);
     fancy_free(&program);
     find("a search in what was freed", "a");
-    size_t length = fancy_error_name(FANCY_MEMORY, name, sizeof name);
-    printf("%zu %.3s\n", length, (const char *)name);
-    printf("%zu\n", fancy_error_name(99, name, sizeof name));
+    refuse_patterns();
+    write_texts();
     return 0;
 }

@@ -33,8 +33,9 @@ void *__wrap_realloc(void *old, size_t size)
 }
 
 struct row {
-    uint8_t *tree, *text;
-    size_t tree_length, text_length;
+    char *source, *text; /* a tree or a pattern */
+    size_t source_length, text_length;
+    bool is_pattern;
     struct fancy_options options;
 };
 
@@ -44,19 +45,20 @@ static uint8_t value_of(char digit)
 }
 
 /* The bytes of a line of hexadecimal digits. */
-static uint8_t *read_bytes(const char *line, size_t *length)
+static char *read_bytes(const char *line, size_t *length)
 {
     *length = strspn(line, "0123456789abcdef") / 2;
-    uint8_t *bytes = malloc(*length + 1);
+    char *bytes = malloc(*length + 1);
     for (size_t i = 0; i < *length; i++)
-        bytes[i] = value_of(line[2 * i]) << 4 | value_of(line[2 * i + 1]);
+        bytes[i] = (char)(value_of(line[2 * i]) << 4 | value_of(line[2 * i + 1]));
     return bytes;
 }
 
-static struct fancy_options read_words(char *line)
+static void read_words(char *line, struct row *row)
 {
     struct fancy_options options = fancy_default_options();
     options.max_prog_size = SIZE_MAX;
+    row->is_pattern = false;
     for (char *word = strtok(line, " \n"); word != NULL; word = strtok(NULL, " \n")) {
         if (strcmp(word, "--compile-anchored") == 0)
             options.compile_anchored = true;
@@ -72,6 +74,24 @@ static struct fancy_options read_words(char *line)
             options.ascii = true;
         else if (strcmp(word, "--longest") == 0)
             options.longest = true;
+        else if (strcmp(word, "--pattern") == 0)
+            row->is_pattern = true;
+        else if (strcmp(word, "--case-insensitive") == 0)
+            options.case_insensitive = true;
+        else if (strcmp(word, "--multi-line") == 0)
+            options.multi_line = true;
+        else if (strcmp(word, "--dot-matches-new-line") == 0)
+            options.dot_matches_new_line = true;
+        else if (strcmp(word, "--ignore-whitespace") == 0)
+            options.ignore_whitespace = true;
+        else if (strcmp(word, "--crlf") == 0)
+            options.crlf = true;
+        else if (strcmp(word, "--swap-greed") == 0)
+            options.swap_greed = true;
+        else if (strcmp(word, "--oniguruma") == 0)
+            options.oniguruma = true;
+        else if (strcmp(word, "--named-groups-only") == 0)
+            options.named_groups_only = true;
         else if (strcmp(word, "--backtracks") == 0)
             options.backtrack_limit = strtoull(strtok(NULL, " \n"), NULL, 10);
         else if (strcmp(word, "--steps") == 0)
@@ -81,7 +101,7 @@ static struct fancy_options read_words(char *line)
         else
             options.pos = strtoull(word, NULL, 10);
     }
-    return options;
+    row->options = options;
 }
 
 static bool read_row(struct row *row)
@@ -90,13 +110,13 @@ static bool read_row(struct row *row)
     static size_t room;
     if (getline(&line, &room, stdin) < 0)
         return false;
-    row->tree = read_bytes(line, &row->tree_length);
+    row->source = read_bytes(line, &row->source_length);
     if (getline(&line, &room, stdin) < 0)
         return false;
     row->text = read_bytes(line, &row->text_length);
     if (getline(&line, &room, stdin) < 0)
         return false;
-    row->options = read_words(line);
+    read_words(line, row);
     return true;
 }
 
@@ -104,10 +124,7 @@ static bool read_row(struct row *row)
 
 static void write_failure(struct fancy_outcome outcome, char *line)
 {
-    uint8_t name[40];
-    size_t end = fancy_error_name(outcome.code, name, sizeof name);
-    memcpy(line, name, end);
-    line[end] = 0;
+    size_t end = fancy_error_name(outcome.code, line, LINE);
     if (outcome.byte != FANCY_UNSET)
         sprintf(line + end, " %zu", outcome.byte);
     if (outcome.group != FANCY_UNSET)
@@ -122,13 +139,66 @@ static void write_spans(const size_t *spans, size_t count, char *line)
     }
 }
 
+/* Start and end of a match, and of each group that is set, with its number. */
+static char *write_match(const size_t *spans, size_t count, char *line)
+{
+    line += sprintf(line, "%zu-%zu", spans[0], spans[1]);
+    for (size_t i = 1; i < count; i++) {
+        if (spans[2 * i] != FANCY_UNSET)
+            line += sprintf(line, " %zu:%zu-%zu", i, spans[2 * i], spans[2 * i + 1]);
+    }
+    return line;
+}
+
+/* All matches of a pattern; what stopped them if not their end. */
+static void write_matches(struct fancy_program *program, const struct row *row, char *line)
+{
+    struct fancy_options options = row->options;
+    struct fancy_outcome outcome = {0};
+    size_t spans[200], last = FANCY_UNSET;
+    char *start = line;
+    while (options.pos <= row->text_length) {
+        options.not_continued = last != FANCY_UNSET && options.pos > last;
+        is_counted = true;
+        outcome = fancy_find(program, row->text, row->text_length, &options, spans, 200);
+        is_counted = false;
+        if (outcome.code != FANCY_OK)
+            break;
+        if (spans[0] != spans[1] || spans[1] != last)
+            line = write_match(spans, outcome.count < 100 ? outcome.count : 100,
+                               line + sprintf(line, line == start ? "" : ", "));
+        last = spans[1];
+        options.pos = outcome.next;
+    }
+    if (outcome.code > FANCY_NO_MATCH)
+        write_failure(outcome, start);
+}
+
+static void answer_pattern(const struct row *row, char *line)
+{
+    struct fancy_program program = FANCY_NOTHING;
+    is_counted = true;
+    struct fancy_outcome outcome = fancy_compile_pattern(row->source, row->source_length, &row->options, &program);
+    is_counted = false;
+    line[0] = 0;
+    if (outcome.code == FANCY_OK)
+        write_matches(&program, row, line);
+    else
+        write_failure(outcome, line);
+    fancy_free(&program);
+}
+
 /* The line of a row; only the requests of the library are counted. */
 static void answer(const struct row *row, char *line)
 {
     struct fancy_program program = FANCY_NOTHING;
     size_t spans[200];
+    if (row->is_pattern) {
+        answer_pattern(row, line);
+        return;
+    }
     is_counted = true;
-    struct fancy_outcome outcome = fancy_compile(row->tree, row->tree_length, &row->options, &program);
+    struct fancy_outcome outcome = fancy_compile(row->source, row->source_length, &row->options, &program);
     size_t groups = fancy_group_count(&program);
     if (outcome.code == FANCY_OK)
         outcome = fancy_find(&program, row->text, row->text_length, &row->options, spans, 200);
@@ -152,7 +222,7 @@ static void *print_rows(void *unused)
     while (read_row(&row)) {
         answer(&row, line);
         puts(line);
-        free(row.tree);
+        free(row.source);
         free(row.text);
     }
     return unused;
@@ -188,7 +258,7 @@ static int refuse_rows(void)
     size_t rows = 0, asked = 0, ended = 0;
     for (; read_row(&row); rows++) {
         int wrong = refuse_row(&row, &asked, &ended);
-        free(row.tree);
+        free(row.source);
         free(row.text);
         if (wrong != 0)
             return 1;

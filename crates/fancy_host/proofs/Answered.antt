@@ -1,5 +1,5 @@
 -- What the calls of a host need of each other.
-use Rattle.std.proofs.Common.{◌≡◌, ◌<◌, ◌≤◌, ℕ, Bool, true, false, List, Option, Some, None, Result, IsFalse, IsTrue, refl, sym, ap, ◌∙◌, subst}
+use Rattle.std.proofs.Common.{◌≡◌, ◌<◌, ◌≤◌, ℕ, Bool, true, false, List, Option, Some, None, Result, Ok, Err, MatchResult, IsFalse, IsTrue, refl, sym, ap, ◌∙◌, subst}
 use Rattle.std.specs.Prelude.{IsUtf8}
 use Rattle.std.specs.Str.Lossy.{utf8_valid_len}
 use Rattle.std.specs.Option.{is_some}
@@ -20,9 +20,8 @@ use Rattle.fancy_search.specs.Searches.{Bounds, IsCompiledFrom, IsNestedOver, Is
 use Rattle.fancy_host.specs.declared.options.FancyOptions.{FancyOptions}
 use Rattle.fancy_host.specs.declared.searches.Searcher.{Searcher}
 use Rattle.fancy_host.specs.declared.outcome.FancyOutcome.{FancyOutcome}
-use Rattle.fancy_notation.specs.Depth.{depth}
-use Rattle.fancy_host.specs.Codes.{no_program, too_deep, unfit}
-use Rattle.fancy_host.specs.Hosted.{Answers, Compiles, FailsToCompile, FindsFirst, IsMadeFrom, IsPromised, analysis, asked_of, coded, compilation, compiled, does_not_fit, failure, fails, for_no_tree, found, groups, holds, in_no_text, nests_too_deep, not_utf8, running, spells_no_text}
+use Rattle.fancy_host.specs.Codes.{no_program, unfit, wrong_size}
+use Rattle.fancy_host.specs.Hosted.{Answers, Compiles, FailsToCompile, FindsFirst, IsFlat, IsMadeFrom, IsNoSearch, IsNoText, IsPromised, IsSearch, Source, analysis, asked_of, bytes_of, coded, compilation, compiled, compiled_of, does_not_fit, fails, for_no_tree, found, groups, has_another_size, has_size, holds, is_no_text, not_utf8, running}
 
 -- where nothing is said to be, there is nothing
 pub none_there : {X : Type 0} → (m : Option X) (b : Bool) → is_some m ≡ b → b ≡ false → m ≡ None
@@ -63,49 +62,43 @@ module _ (t : ExprTree) (o : FancyOptions) (a : AnalyzeContext) (k : CompileOpti
 
 -- ---- the cases of the calls
 
-module _ (text : List ℕ) (o : FancyOptions) (outcome : FancyOutcome) where
-  pub unread_compiles : (held : Option Searcher) (byte : ℕ) → held ≡ None → ¬ IsUtf8 text → outcome ≡ not_utf8 byte → byte ≡ utf8_valid_len text →
-      Compiles text o held outcome
-  unread_compiles held byte nothing bad is at =
-      subst (λ h. Compiles text o h outcome) (sym nothing) (subst (λ x. Compiles text o None x) (sym (is ∙ ap not_utf8 at)) (spells_no_text bad))
+module _ (bytes : List ℕ) (o : FancyOptions) (outcome : FancyOutcome) where
+  pub another_size : IsFalse (has_size o) → outcome ≡ coded wrong_size → IsNoText bytes o outcome
+  another_size other is = subst (IsNoText bytes o) (sym is) (has_another_size other)
 
-  pub too_deep_by : (read : List ℕ) (held : Option Searcher) → read ≡ text → IsUtf8 text → held ≡ None → o.max_depth < depth read →
-      outcome ≡ coded too_deep → Compiles text o held outcome
-  too_deep_by read held same utf8 nothing deep is =
-      subst (λ m. Compiles text o m outcome) (sym nothing)
-      (subst (λ x. Compiles text o None x) (sym is) (nests_too_deep utf8 (subst (λ t. o.max_depth < depth t) same deep)))
+  pub no_text : IsTrue (has_size o) → (byte : ℕ) → ¬ IsUtf8 bytes → outcome ≡ not_utf8 byte → byte ≡ utf8_valid_len bytes → IsNoText bytes o outcome
+  no_text size byte bad is at = subst (IsNoText bytes o) (sym (is ∙ ap not_utf8 at)) (is_no_text size bad)
 
-  pub fails_by : (read : List ℕ) (held : Option Searcher) (e : Error) → read ≡ text → held ≡ None → depth read ≤ o.max_depth →
-      outcome ≡ failure e → FailsToCompile read o e → Compiles text o held outcome
-  fails_by read held e same nothing flat is h =
-      subst (λ m. Compiles text o m outcome) (sym nothing)
-      (subst (λ x. Compiles text o None x) (sym is)
-      (fails (subst (λ t. depth t ≤ o.max_depth) same flat) (subst (λ t. FailsToCompile t o e) same h)))
+  pub nothing_held : (held : Option Searcher) → IsTrue (has_size o) → IsUtf8 bytes → held ≡ None → outcome ≡ coded no_program →
+      IsNoSearch bytes o held outcome
+  nothing_held held size utf8 nothing is =
+      subst (λ m. IsNoSearch bytes o m outcome) (sym nothing) (subst (IsNoSearch bytes o None) (sym is) (for_no_tree size utf8))
 
-  pub holds_by : (read : List ℕ) (held : Option Searcher) (s : Searcher) (n : ℕ) → read ≡ text → held ≡ Some s → depth read ≤ o.max_depth →
-      outcome ≡ compiled n → n ≡ groups s → IsMadeFrom read o s → Compiles text o held outcome
-  holds_by read held s n same there flat is counts h =
-      subst (λ m. Compiles text o m outcome) (sym there)
-      (subst (λ x. Compiles text o (Some s) x) (sym (is ∙ ap compiled counts))
-      (holds (subst (λ t. depth t ≤ o.max_depth) same flat) (subst (λ t. IsMadeFrom t o s) same h)))
+module _ (source : Source) (o : FancyOptions) (size : IsTrue (has_size o)) (utf8 : IsUtf8 (bytes_of source)) (flat : IsFlat source o) where
+  pub compiles_so : {B : Type 0} (value : B → Searcher) (result : Result B FancyOutcome) →
+      MatchResult result (λ b. IsMadeFrom source o (value b)) (λ outcome. FailsToCompile o source outcome) →
+      MatchResult result (λ b. Compiles source o (Some (value b)) (compiled (groups (value b)))) (λ outcome. Compiles source o None outcome)
+  compiles_so value (Ok b) h = holds size utf8 flat h
+  compiles_so value (Err outcome) h = fails size utf8 flat h
 
-  module _ (old : List ℕ) where
-    pub unread_finds : (held : Option Searcher) (byte : ℕ) → ¬ IsUtf8 text → outcome ≡ not_utf8 byte → byte ≡ utf8_valid_len text →
-        FindsFirst text o old held old outcome
-    unread_finds held byte bad is at = subst (λ x. FindsFirst text o old held old x) (sym (is ∙ ap not_utf8 at)) (in_no_text bad)
+module _ (source : Source) (o : FancyOptions) (held : Option Searcher) (outcome : FancyOutcome) where
+  pub compiled_so : (s : Searcher) → held ≡ Some s → outcome ≡ compiled (groups s) → Compiles source o (Some s) (compiled (groups s)) →
+      Compiles source o held outcome
+  compiled_so s there is h = subst (λ m. Compiles source o m outcome) (sym there) (subst (Compiles source o (Some s)) (sym is) h)
 
-    pub no_tree_finds : (held : Option Searcher) → IsUtf8 text → held ≡ None → outcome ≡ coded no_program → FindsFirst text o old held old outcome
-    no_tree_finds held utf8 nothing is =
-        subst (λ h. FindsFirst text o old h old outcome) (sym nothing) (subst (λ x. FindsFirst text o old None old x) (sym is) (for_no_tree utf8))
+  pub failed_so : held ≡ None → Compiles source o None outcome → Compiles source o held outcome
+  failed_so nothing h = subst (λ m. Compiles source o m outcome) (sym nothing) h
 
-    pub found_by : (read new : List ℕ) (held : Option Searcher) (s taken : Searcher) → read ≡ text → IsUtf8 text → held ≡ Some s → taken ≡ s →
-        Answers taken read o old new outcome → FindsFirst text o old held new outcome
-    found_by read new held s taken same utf8 there is h =
-        subst (λ m. FindsFirst text o old m new outcome) (sym there)
-        (found utf8 (subst (λ t. Answers s t o old new outcome) same (subst (λ x. Answers x read o old new outcome) is h)))
+module _ (text : List ℕ) (o : FancyOptions) (outcome : FancyOutcome) (old : List ℕ) where
+  pub found_by : (read new : List ℕ) (held : Option Searcher) (s taken : Searcher) → read ≡ text → IsSearch text o held → held ≡ Some s → taken ≡ s →
+      Answers taken read o old new outcome → FindsFirst text o old held new outcome
+  found_by read new held s taken same search there is h =
+      subst (λ m. FindsFirst text o old m new outcome) (sym there)
+      (found (subst (IsSearch text o) there search)
+      (subst (λ t. Answers s t o old new outcome) same (subst (λ x. Answers x read o old new outcome) is h)))
 
-    pub unfit_answers : (s : Searcher) (r : plain.RunOptions) → r ≡ running o text →
-        run_fits (record { program = prog_of (program s.compiled); text = text; options = r }) ≡ false → outcome ≡ coded unfit →
-        Answers s text o old old outcome
-    unfit_answers s r same h is =
-        subst (λ x. Answers s text o old old x) (sym is) (does_not_fit (unfit_by s.compiled text o r same h))
+  pub unfit_answers : (s : Searcher) (r : plain.RunOptions) → r ≡ running o text →
+      run_fits (record { program = prog_of (program (compiled_of s)); text = text; options = r }) ≡ false → outcome ≡ coded unfit →
+      Answers s text o old old outcome
+  unfit_answers s r same h is =
+      subst (λ x. Answers s text o old old x) (sym is) (does_not_fit (unfit_by (compiled_of s) text o r same h))

@@ -1,6 +1,7 @@
 pub mod Answered
+pub mod Ended
 pub mod HandleRows
 pub mod Listed
 pub mod Values
-pub mod Writing
+pub mod SpansWritten
 pub mod HandleLaws

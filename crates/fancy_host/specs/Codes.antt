@@ -5,6 +5,8 @@ use Rattle.fancy_expr.specs.declared.error.Error.TheVariants as error
 use Rattle.fancy_expr.specs.declared.error.RuntimeError.TheVariants as limit
 use Rattle.fancy_expr.specs.declared.error.CompileError.{CompileError}
 use Rattle.fancy_expr.specs.declared.error.CompileError.TheVariants as refusal
+use Rattle.fancy_pattern.specs.declared.error.ErrorKind.{ErrorKind}
+use Rattle.fancy_pattern.specs.declared.error.ErrorKind.TheVariants as kind
 
 abbrev pub ok : ℕ
 ok = 0
@@ -21,8 +23,14 @@ no_text = 3
 abbrev pub unfit : ℕ
 unfit = 4
 
+abbrev pub memory : ℕ
+memory = 5
+
 abbrev pub too_deep : ℕ
 too_deep = 21
+
+abbrev pub wrong_size : ℕ
+wrong_size = 39
 
 abbrev pub code_of_refusal : CompileError → ℕ
 code_of_refusal refusal.NamedBackrefOnly = 10
@@ -45,6 +53,26 @@ code_of (error.RuntimeError limit.StackOverflow) = 8
 code_of (error.RuntimeError limit.StepLimitExceeded) = 9
 code_of (error.CompileError e) = code_of_refusal e
 code_of error.NestLimitExceeded = 22
+
+-- what is wrong with a pattern
+abbrev pub code_of_kind : ErrorKind → ℕ
+code_of_kind kind.UnclosedOpenParen = 23
+code_of_kind kind.UnopenedCloseParen = 24
+code_of_kind kind.InvalidRepeat = 25
+code_of_kind kind.RecursionExceeded = 21
+code_of_kind kind.TrailingBackslash = 26
+code_of_kind kind.InvalidEscape = 27
+code_of_kind kind.UnclosedUnicodeName = 28
+code_of_kind kind.InvalidHex = 29
+code_of_kind kind.InvalidCodepointValue = 30
+code_of_kind kind.InvalidClass = 31
+code_of_kind kind.UnknownFlag = 32
+code_of_kind kind.NonUnicodeUnsupported = 33
+code_of_kind kind.InvalidGroupName = 34
+code_of_kind kind.InvalidGroupNameBackref = 35
+code_of_kind kind.InvalidBackref = 36
+code_of_kind kind.TargetNotRepeatable = 37
+code_of_kind kind.GeneralParseError = 38
 
 -- the name of each code, from 0 up
 abbrev pub names : List (List ℕ)
@@ -72,6 +100,23 @@ names =
     ∷ codes "PatternTooComplex"
     ∷ codes "RecursionExceeded"
     ∷ codes "NestLimitExceeded"
+    ∷ codes "UnclosedOpenParen"
+    ∷ codes "UnopenedCloseParen"
+    ∷ codes "InvalidRepeat"
+    ∷ codes "TrailingBackslash"
+    ∷ codes "InvalidEscape"
+    ∷ codes "UnclosedUnicodeName"
+    ∷ codes "InvalidHex"
+    ∷ codes "InvalidCodepointValue"
+    ∷ codes "InvalidClass"
+    ∷ codes "UnknownFlag"
+    ∷ codes "NonUnicodeUnsupported"
+    ∷ codes "InvalidGroupName"
+    ∷ codes "InvalidGroupNameBackref"
+    ∷ codes "InvalidBackrefNumber"
+    ∷ codes "TargetNotRepeatable"
+    ∷ codes "GeneralParseError"
+    ∷ codes "WrongSize"
     ∷ []
 
 -- no code has a name of no letters

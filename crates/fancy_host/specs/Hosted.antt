@@ -1,5 +1,6 @@
 -- What the calls of a host answer.
-use Rattle.std.specs.Prelude.{◌<◌, ◌≤◌, ℕ, ◌+◌, ◌-◌, ◌/◌, ◌^◌, true, false, not, IsFalse, IsTrue, IsUtf8, List, ◌∷◌, ◌++◌, length, take, drop, min, Option, None, Some, option_map, unwrap_or, Result, Ok, Err, if◌then◌else◌, ◌==◌}
+use Rattle.std.specs.Prelude.{◌<◌, ◌≡◌, ◌≤◌, ℕ, ◌+◌, ◌-◌, ◌/◌, ◌^◌, true, false, not, Bool, IsFalse, IsTrue, IsUtf8, List, [], ◌∷◌, ◌++◌, chars, length, take, drop, min, Option, None, Some, option_map, unwrap_or, Result, Ok, Err, if◌then◌else◌, ◌==◌}
+use Rattle.std.specs.Option.{IsSome}
 use Rattle.std.specs.Str.Lossy.{utf8_valid_len}
 use Rattle.std.specs.declared.vec.Vec.{Vec}
 use Rattle.std.specs.declared.alloc.Global.{Global}
@@ -14,29 +15,41 @@ use Rattle.fancy_notation.specs.Described.{IsDescribed}
 use Rattle.fancy_notation.specs.Grammar.{IsSpelled}
 use Rattle.fancy_notation.specs.Lexing.{tokens_of}
 use Rattle.fancy_notation.specs.Reading.{IsFault}
+use Rattle.fancy_pattern.specs.Spelling as spelling
+use Rattle.fancy_pattern.specs.declared.error.PatternError.{PatternError}
+use Rattle.fancy_pattern.specs.declared.error.PatternError.TheVariants as of_parser
+use Rattle.fancy_pattern.specs.declared.options.ParseOptions.{ParseOptions}
 use Rattle.fancy_expr.specs.declared.error.Error.{Error}
 use Rattle.fancy_expr.specs.declared.error.Error.TheVariants as error
 use Rattle.fancy_expr.specs.declared.error.CompileError.TheVariants as refusal
 use Rattle.fancy_expr.specs.declared.expr.ExprTree.{ExprTree}
 use Rattle.fancy_expr.specs.Sound.{IsWellFormedTree}
 use Rattle.fancy_expr.specs.Views as views
+use Rattle.fancy_analysis.specs.Names as analysis_names
 use Rattle.fancy_info.specs.declared.context.AnalyzeContext.{AnalyzeContext}
 use Rattle.fancy_compile.specs.declared.options.CompileOptions.{CompileOptions}
 use Rattle.fancy_matches.specs.Listing.{options_for}
 use Rattle.fancy_search.specs.declared.request.Request.{Request}
 use Rattle.fancy_search.specs.Requests as asked
 use Rattle.fancy_program.specs.Programs.{prog_of}
+use Rattle.fancy_replace.specs.Reading.{Names}
 use Rattle.fancy_search.specs.declared.search.Compiled.{Compiled}
 use Rattle.fancy_search.specs.Searches.{Bounds, IsCompiledFrom, IsNestedOver, IsRefusedAs, Promises, input_of, program}
 use Rattle.fancy_host.specs.declared.options.FancyOptions.{FancyOptions}
 use Rattle.fancy_host.specs.declared.outcome.FancyOutcome.{FancyOutcome}
 use Rattle.fancy_host.specs.declared.searches.Searcher.{Searcher}
-use Rattle.fancy_host.specs.Codes.{ok, no_match, no_program, no_text, unfit, too_deep, code_of}
+use Rattle.fancy_host.specs.declared.searches.CompiledTree.{CompiledTree}
+use Rattle.fancy_host.specs.Codes.{ok, no_match, no_program, no_text, unfit, memory, too_deep, wrong_size, code_of, code_of_kind}
 
 -- ---- options
 
+-- how many bytes they have
+abbrev pub options_size : ℕ
+options_size = 104
+
 abbrev pub default_options : FancyOptions
 default_options = record {
+  size = options_size;
   pos = 0;
   max_prog_size = 100_000;
   max_nesting = 1_000;
@@ -50,6 +63,33 @@ default_options = record {
   end_text = false;
   ascii = false;
   longest = false;
+  case_insensitive = false;
+  multi_line = false;
+  dot_matches_new_line = false;
+  ignore_whitespace = false;
+  crlf = false;
+  swap_greed = false;
+  oniguruma = false;
+  named_groups_only = false;
+  reserved = record { first = 0; second = 0; third = 0; fourth = 0 };
+}
+
+-- they have the size that the library gives them
+abbrev pub has_size : FancyOptions → Bool
+has_size o = o.size == options_size
+
+-- how a pattern is read
+abbrev pub parsing : FancyOptions → ParseOptions
+parsing o = record {
+  case_insensitive = o.case_insensitive;
+  multi_line = o.multi_line;
+  dot_matches_new_line = o.dot_matches_new_line;
+  ignore_whitespace = o.ignore_whitespace;
+  crlf = o.crlf;
+  swap_greed = o.swap_greed;
+  unicode = not o.ascii;
+  oniguruma = o.oniguruma;
+  ignore_numbered_groups_when_named_groups_exist = o.named_groups_only;
 }
 
 -- what they ask of a search
@@ -107,6 +147,11 @@ failure (error.CompileError (refusal.InvalidBackref group)) =
     record (coded (code_of (error.CompileError (refusal.InvalidBackref group)))) { group = group }
 failure e = coded (code_of e)
 
+-- why a pattern cannot be read, with the byte
+abbrev pub pattern_failure : PatternError → FancyOutcome
+pattern_failure (of_parser.Parse at kind) = record (coded (code_of_kind kind)) { byte = at }
+pattern_failure of_parser.Memory = coded memory
+
 -- Where a search for the next match begins: at the end of the one that was found, or, if that took nothing, past the
 -- character there.
 abbrev pub next_start : List ℕ → List ℕ → ℕ
@@ -124,6 +169,14 @@ outcome_of text (Err e) = failure e
 abbrev pub over : {X : Type 0} → List X → List X → List X
 over new old = take (length old) new ++ drop (length new) old
 
+-- a text over what is there, as far as there is room for it with the zero at its end
+abbrev pub ended : List ℕ → List ℕ → List ℕ
+ended text old = over (take (length old - 1) text ++ 0 ∷ []) old
+
+-- some text is written over what is there, and so many bytes are all of it: what an error's text says is left open
+abbrev pub IsText : List ℕ → ℕ → List ℕ → Type 0
+IsText old count new = (text : List ℕ) × (count ≡ length text) × (new ≡ ended text old)
+
 -- the numbers of an answer over what is there
 abbrev pub written : Result (Option (Vec ℕ Global)) Error → List ℕ → List ℕ
 written (Ok (Some numbers)) old = over numbers.items old
@@ -131,65 +184,118 @@ written answer old = old
 
 -- ---- what a host holds
 
+-- what was compiled, and the names of its groups
+abbrev pub compiled_of : Searcher → Compiled
+compiled_of s = s.tree.compiled
+
+abbrev pub names_of : Searcher → Names
+names_of s = analysis_names.names_of s.tree.names.entries
+
 -- how many groups the tree has, with group 0
 abbrev pub groups : Searcher → ℕ
-groups s = min usize_max ((prog_of (program s.compiled)).total_groups + 1)
+groups s = min usize_max ((prog_of (program (compiled_of s))).total_groups + 1)
 
 abbrev pub group_count : Option Searcher → ℕ
 group_count None = 0
 group_count (Some s) = groups s
 
-abbrev pub tree_of : Option Searcher → Option Compiled
-tree_of = option_map (λ s. s.compiled)
+abbrev pub tree_of : Option Searcher → Option CompiledTree
+tree_of = option_map (λ (s : Searcher). s.tree)
 
--- ---- calls
+-- ---- compiling
 
--- the tree that a text spells
-abbrev pub IsRead : List ℕ → ExprTree → Type 0
-IsRead text t = IsSpelled (tokens_of text) (views.tree_of t.expr) × IsDescribed t × IsWellFormedTree t
+-- what a host gives to be compiled: a text in the notation of trees, or a pattern
+pub data Source : Type 0 where
+  notation : List ℕ → Source
+  pattern : List ℕ → Source
+
+abbrev pub bytes_of : Source → List ℕ
+bytes_of (notation text) = text
+bytes_of (pattern text) = text
+
+-- the tree that it spells
+abbrev pub IsRead : Source → FancyOptions → ExprTree → Type 0
+IsRead (notation text) o t =
+    IsSpelled (tokens_of text) (views.tree_of t.expr) × IsDescribed t × IsWellFormedTree t
+IsRead (pattern text) o t = spelling.IsTreeOf (parsing o) (chars text) t × IsWellFormedTree t
 
 abbrev pub asked_of : ExprTree → FancyOptions → Input
 asked_of t o = input_of t (analysis o) (compilation o)
 
--- it was compiled from the tree that the text spells
-pub record IsMadeFrom (text : List ℕ) (o : FancyOptions) (s : Searcher) : Type 0 where
-  pub tree : ExprTree
-  pub read : IsRead text tree
-  pub from : IsCompiledFrom (asked_of tree o) s.compiled
+-- it was compiled from the tree, and has the names of its groups
+pub record IsMadeOf (tree : ExprTree) (o : FancyOptions) (s : Searcher) : Type 0 where
+  pub from : IsCompiledFrom (asked_of tree o) (compiled_of s)
   pub within : ¬ IsNestedOver (asked_of tree o) (Some o.max_nesting)
+  pub names : names_of s ≡ (views.parsed_of tree).named_groups
 
--- the text spells no tree, the tree that it spells is refused, or memory was
-pub data FailsToCompile (text : List ℕ) (o : FancyOptions) : Error → Type 0 where
-  unread : {e : Error} → IsFault (length text) (tokens_of text) e → FailsToCompile text o e
-  refused : {t : ExprTree} {e : Error} → IsRead text t → IsRefusedAs (asked_of t o) (Some o.max_nesting) e
-      → FailsToCompile text o e
-  without_memory : FailsToCompile text o error.Memory
+-- it was compiled from the tree that is spelled
+pub record IsMadeFrom (source : Source) (o : FancyOptions) (s : Searcher) : Type 0 where
+  pub tree : ExprTree
+  pub read : IsRead source o tree
+  pub made : IsMadeOf tree o s
 
--- what a program holds after a tree was to be compiled, and the outcome
-pub data Compiles (text : List ℕ) (o : FancyOptions) : Option Searcher → FancyOutcome → Type 0 where
-  spells_no_text : ¬ IsUtf8 text → Compiles text o None (not_utf8 (utf8_valid_len text))
-  nests_too_deep : IsUtf8 text → o.max_depth < depth text → Compiles text o None (coded too_deep)
-  fails : {e : Error} → depth text ≤ o.max_depth → FailsToCompile text o e → Compiles text o None (failure e)
-  holds : {s : Searcher} → depth text ≤ o.max_depth → IsMadeFrom text o s →
-      Compiles text o (Some s) (compiled (groups s))
+-- no tree is spelled, the tree that is spelled is refused, or memory was
+pub data FailsToCompile (o : FancyOptions) : Source → FancyOutcome → Type 0 where
+  unread : {text : List ℕ} (e : Error) → IsFault (length text) (tokens_of text) e →
+      FailsToCompile o (notation text) (failure e)
+  unspelled : {text : List ℕ} (e : PatternError) → spelling.IsError (parsing o) (chars text) e →
+      FailsToCompile o (pattern text) (pattern_failure e)
+  refused : {source : Source} (t : ExprTree) (e : Error) → IsRead source o t →
+      IsRefusedAs (asked_of t o) (Some o.max_nesting) e → FailsToCompile o source (failure e)
+
+-- Whether it nests as the options allow: a pattern is bounded where it is read.
+abbrev pub IsFlat : Source → FancyOptions → Type 0
+IsFlat (notation text) o = depth text ≤ o.max_depth
+IsFlat (pattern text) o = Unit {0}
+
+-- the options have another size, or the bytes are no text
+pub data IsNoText (bytes : List ℕ) (o : FancyOptions) : FancyOutcome → Type 0 where
+  has_another_size : IsFalse (has_size o) → IsNoText bytes o (coded wrong_size)
+  is_no_text : IsTrue (has_size o) → ¬ IsUtf8 bytes → IsNoText bytes o (not_utf8 (utf8_valid_len bytes))
+
+-- what a program holds after something was to be compiled, and the outcome
+pub data Compiles (source : Source) (o : FancyOptions) : Option Searcher → FancyOutcome → Type 0 where
+  spells_no_text : {outcome : FancyOutcome} → IsNoText (bytes_of source) o outcome → Compiles source o None outcome
+  nests_too_deep : IsTrue (has_size o) → IsUtf8 (bytes_of source) → ¬ IsFlat source o →
+      Compiles source o None (coded too_deep)
+  fails : {outcome : FancyOutcome} → IsTrue (has_size o) → IsUtf8 (bytes_of source) → IsFlat source o →
+      FailsToCompile o source outcome → Compiles source o None outcome
+  holds : {s : Searcher} → IsTrue (has_size o) → IsUtf8 (bytes_of source) → IsFlat source o → IsMadeFrom source o s →
+      Compiles source o (Some s) (compiled (groups s))
+
+-- ---- searches
 
 -- the answer of a search is promised, and within its bounds
 abbrev pub IsPromised : Compiled → List ℕ → FancyOptions → Result (Option (Vec ℕ Global)) Error → Type 0
 IsPromised c text o answer =
     (i : Input) → IsCompiledFrom i c → Promises i text (running o text) answer × Bounds i text (running o text) answer
 
+-- the options fit the program and the text
+abbrev pub fits : Searcher → List ℕ → FancyOptions → Bool
+fits s text o = run_fits (record { program = prog_of (program (compiled_of s)); text = text; options = running o text })
+
 -- what a search writes, and its outcome: it is unfit exactly where the options do not fit the program and the text
 pub data Answers (s : Searcher) (text : List ℕ) (o : FancyOptions) (old : List ℕ) : List ℕ → FancyOutcome → Type 0 where
-  does_not_fit : IsFalse (run_fits (record { program = prog_of (program s.compiled); text = text; options = running o text })) →
-      Answers s text o old old (coded unfit)
-  answered : IsTrue (run_fits (record { program = prog_of (program s.compiled); text = text; options = running o text })) →
-      (answer : Result (Option (Vec ℕ Global)) Error) → IsPromised s.compiled text o answer →
+  does_not_fit : IsFalse (fits s text o) → Answers s text o old old (coded unfit)
+  answered : IsTrue (fits s text o) → (answer : Result (Option (Vec ℕ Global)) Error) →
+      IsPromised (compiled_of s) text o answer →
       Answers s text o old (written answer old) (outcome_of text answer)
+
+-- No search is made: the options have another size, the bytes are no text, or the program holds no tree.
+pub data IsNoSearch (text : List ℕ) (o : FancyOptions) : Option Searcher → FancyOutcome → Type 0 where
+  in_no_text : {held : Option Searcher} {outcome : FancyOutcome} → IsNoText text o outcome → IsNoSearch text o held outcome
+  for_no_tree : IsTrue (has_size o) → IsUtf8 text → IsNoSearch text o None (coded no_program)
+
+-- a search is made for a tree that is held
+pub record IsSearch (text : List ℕ) (o : FancyOptions) (held : Option Searcher) : Type 0 where
+  pub size : IsTrue (has_size o)
+  pub utf8 : IsUtf8 text
+  pub searcher : IsSome held
 
 -- what a search answers by a program that may hold no tree, in bytes that may be no text
 pub data FindsFirst (text : List ℕ) (o : FancyOptions) (old : List ℕ) :
     Option Searcher → List ℕ → FancyOutcome → Type 0 where
-  in_no_text : {held : Option Searcher} → ¬ IsUtf8 text → FindsFirst text o old held old (not_utf8 (utf8_valid_len text))
-  for_no_tree : IsUtf8 text → FindsFirst text o old None old (coded no_program)
-  found : {s : Searcher} {new : List ℕ} {outcome : FancyOutcome} → IsUtf8 text → Answers s text o old new outcome →
-      FindsFirst text o old (Some s) new outcome
+  unsearched : {held : Option Searcher} {outcome : FancyOutcome} → IsNoSearch text o held outcome →
+      FindsFirst text o old held old outcome
+  found : {s : Searcher} {new : List ℕ} {outcome : FancyOutcome} → IsSearch text o (Some s) →
+      Answers s text o old new outcome → FindsFirst text o old (Some s) new outcome

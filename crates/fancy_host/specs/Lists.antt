@@ -1,7 +1,6 @@
 -- What a host is answered that asks for all matches of a text.
-use Rattle.std.specs.Prelude.{◌≡◌, ◌≤◌, ℕ, ◌/◌, IsFalse, IsTrue, IsUtf8, List, [], ◌∷◌, length, map, Option, None, Some, if◌then◌else◌}
+use Rattle.std.specs.Prelude.{◌≡◌, ◌≤◌, ℕ, ◌/◌, Bool, IsFalse, IsTrue, List, [], ◌∷◌, length, map, Option, None, Some, if◌then◌else◌}
 use Rattle.std.specs.List.{flat_map}
-use Rattle.std.specs.Str.Lossy.{utf8_valid_len}
 use Rattle.fancy_meaning.specs.Fits.{run_fits}
 use Rattle.fancy_meaning.specs.MatchState.{Span}
 use Rattle.fancy_meaning.specs.Options.{RunOptions}
@@ -17,8 +16,8 @@ use Rattle.fancy_host.specs.declared.options.FancyOptions.{FancyOptions}
 use Rattle.fancy_host.specs.declared.outcome.FancyOutcome.{FancyOutcome}
 use Rattle.fancy_host.specs.declared.searches.Searcher.{Searcher}
 use Rattle.fancy_host.specs.declared.standing.FancyStanding.{FancyStanding}
-use Rattle.fancy_host.specs.Codes.{ok, no_match, no_program, unfit}
-use Rattle.fancy_host.specs.Hosted.{coded, failure, not_utf8, over, running, with_count}
+use Rattle.fancy_host.specs.Codes.{ok, no_match, unfit}
+use Rattle.fancy_host.specs.Hosted.{IsNoSearch, IsSearch, coded, compiled_of, failure, over, running, with_count}
 
 -- where the list of a host stands
 abbrev pub standing_of : FancyStanding → Standing
@@ -73,22 +72,24 @@ module _ (c : Compiled) (text : List ℕ) (o : RunOptions) where
 
 -- ---- calls
 
+-- the options fit the program and the list
+abbrev pub list_fits : Searcher → List ℕ → FancyOptions → Bool
+list_fits s text o =
+    run_fits (record { program = prog_of (program (compiled_of s)); text = []; options = listing o text })
+
 -- what a program writes of a list, where the list then stands, and the outcome: it is unfit exactly where the options do
 -- not fit the program
 pub data Lists (s : Searcher) (text : List ℕ) (o : FancyOptions) (from : FancyStanding) (old : List ℕ) :
     FancyStanding → List ℕ → FancyOutcome → Type 0 where
-  does_not_fit : IsFalse (run_fits (record { program = prog_of (program s.compiled); text = []; options = listing o text })) →
-      Lists s text o from old from old (coded unfit)
-  listed : {to : FancyStanding} {new : List ℕ} {outcome : FancyOutcome} →
-      IsTrue (run_fits (record { program = prog_of (program s.compiled); text = []; options = listing o text })) →
-      Writes s.compiled text (listing o text) (standing_of from) old (standing_of to) new outcome →
+  does_not_fit : IsFalse (list_fits s text o) → Lists s text o from old from old (coded unfit)
+  listed : {to : FancyStanding} {new : List ℕ} {outcome : FancyOutcome} → IsTrue (list_fits s text o) →
+      Writes (compiled_of s) text (listing o text) (standing_of from) old (standing_of to) new outcome →
       Lists s text o from old to new outcome
 
 -- what is listed by a program that may hold no tree, in bytes that may be no text
 pub data FindsAll (text : List ℕ) (o : FancyOptions) (from : FancyStanding) (old : List ℕ) :
     Option Searcher → FancyStanding → List ℕ → FancyOutcome → Type 0 where
-  in_no_text : {held : Option Searcher} → ¬ IsUtf8 text →
-      FindsAll text o from old held from old (not_utf8 (utf8_valid_len text))
-  for_no_tree : IsUtf8 text → FindsAll text o from old None from old (coded no_program)
-  found : {s : Searcher} {to : FancyStanding} {new : List ℕ} {outcome : FancyOutcome} → IsUtf8 text →
+  unsearched : {held : Option Searcher} {outcome : FancyOutcome} → IsNoSearch text o held outcome →
+      FindsAll text o from old held from old outcome
+  found : {s : Searcher} {to : FancyStanding} {new : List ℕ} {outcome : FancyOutcome} → IsSearch text o (Some s) →
       Lists s text o from old to new outcome → FindsAll text o from old (Some s) to new outcome

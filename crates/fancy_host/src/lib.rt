@@ -1,32 +1,35 @@
-//! What a program in C, or in any language that calls C, needs of the engine: a tree is compiled once and searched for
+//! What a program in C, or in any language that calls C, needs of the engine: a pattern is compiled once and searched for
 //! many times, each search within limits. The header is `fancy.h`.
 #![tactic(auto)]
 
 mod loose;
+mod messages;
 mod options;
 mod outcome;
 mod program;
+mod reading;
 mod searches;
 mod standing;
+mod writing;
 
-ghost use Rattle.std.specs.Prelude.{◌≡◌, None, length};
+ghost use Rattle.std.specs.Prelude.{◌≡◌, None, codes, length};
 ghost use Rattle.fancy_host.specs.Codes.{name_of};
-ghost use Rattle.fancy_host.specs.Hosted.{Compiles, FindsFirst, default_options, group_count, over, tree_of};
+ghost use Rattle.fancy_host.specs.Hosted.{Compiles, FindsFirst, IsText, default_options, ended, group_count, tree_of};
+ghost use Rattle.fancy_host.specs.Hosted as hosted;
 ghost use Rattle.fancy_host.specs.Lists.{FindsAll};
 
-use fancy_notation::depth::depth;
+use messages::{write_explanation, write_message};
 use options::FancyOptions;
-use outcome::{FancyOutcome, NO_PROGRAM, TOO_DEEP, write_name};
+use outcome::{FancyOutcome, write_name};
 use program::FancyProgram;
-use searches::Searcher;
+use reading::{compile_notation, compile_pattern, searched};
 use standing::FancyStanding;
 use std::alloc::Global;
-use std::mem::replace;
-use std::str::from_utf8;
+use writing::write_text;
 
 /// The options of a search unless said otherwise: from the text's start, no flag, no limit of backtracks given, as many
 /// instructions as can be counted, a program of at most 100,000 instructions, a tree of at most 250 levels, and at most
-/// 1,000 nodes written out in one another, for which a stack of 2 MB was enough.
+/// 1,000 nodes written out in one another, for which a stack of 4 MB was enough.
 ///
 /// Where no limit of backtracks is given, a search may fall back to a branch 1,000,000 times, and once more for each byte
 /// of the text and for its end: a search for an easy tree never stops at that.
@@ -37,9 +40,37 @@ pub extern "C" fn fancy_default_options() -> FancyOptions
     FancyOptions::default()
 }
 
-/// Compiles the tree that a text spells. What the program held before is freed; it holds the tree if the code is
-/// `FANCY_OK`, and nothing otherwise. A tree that nests deeper than `max_depth` is refused before it is read, and one
-/// whose nodes are written out in one another deeper than `max_nesting` while it is compiled.
+/// Writes the version of the library, and answers how many bytes it has.
+#[unsafe(no_mangle)]
+pub extern "C" fn fancy_version(version: &mut [u8]) -> usize
+    ensures length { result ≡ length (codes "0.3.0") }
+    ensures version { version.new ≡ ended (codes "0.3.0") version.old }
+{
+    write_text("0.3.0".as_bytes(), version)
+}
+
+/// Compiles a pattern. What the program held before is freed; it holds the pattern if the code is `FANCY_OK`, and nothing
+/// otherwise.
+#[unsafe(no_mangle)]
+pub extern "C" fn fancy_compile_pattern(
+    alloc: Global,
+    pattern: &[u8],
+    options: &FancyOptions,
+    program: &mut FancyProgram,
+) -> FancyOutcome
+    ensures { Compiles
+        (hosted.pattern pattern.now) options.now program.new.handle.searcher result }
+{
+    program.take(alloc).free();
+    match compile_pattern(alloc, pattern, options) {
+        Ok(searcher) => program.hold(searcher),
+        Err(outcome) => outcome,
+    }
+}
+
+/// Compiles the tree that a text in the notation spells. What the program held before is freed; it holds the tree if the
+/// code is `FANCY_OK`, and nothing otherwise. A tree that nests deeper than `max_depth` is refused before it is read, and
+/// one whose nodes are written out in one another deeper than `max_nesting` while it is compiled.
 #[unsafe(no_mangle)]
 pub extern "C" fn fancy_compile(
     alloc: Global,
@@ -47,23 +78,13 @@ pub extern "C" fn fancy_compile(
     options: &FancyOptions,
     program: &mut FancyProgram,
 ) -> FancyOutcome
-    ensures { Compiles tree.now options.now program.new.handle.searcher result }
+    ensures { Compiles
+        (hosted.notation tree.now) options.now program.new.handle.searcher result }
 {
-    replace(program, FancyProgram::empty(alloc)).free();
-    let text = match from_utf8(tree) {
-        Ok(text) => text,
-        Err(fault) => return FancyOutcome::not_utf8(fault.valid_up_to()),
-    };
-    if depth(text) > options.max_depth {
-        return FancyOutcome::coded(TOO_DEEP);
-    }
-    match Searcher::compile(alloc, text, options) {
-        Ok(searcher) => {
-            let groups = searcher.group_count();
-            *program = FancyProgram::of(searcher);
-            FancyOutcome::compiled(groups)
-        }
-        Err(error) => FancyOutcome::of_error(&error),
+    program.take(alloc).free();
+    match compile_notation(alloc, tree, options) {
+        Ok(searcher) => program.hold(searcher),
+        Err(outcome) => outcome,
     }
 }
 
@@ -86,14 +107,11 @@ pub extern "C" fn fancy_find(
         result }
     ensures keeps { tree_of program.new.handle.searcher ≡ tree_of program.old.handle.searcher }
 {
-    let text = match from_utf8(text) {
+    let text = match searched(text, options, program) {
         Ok(text) => text,
-        Err(fault) => return FancyOutcome::not_utf8(fault.valid_up_to()),
+        Err(outcome) => return outcome,
     };
-    if !program.is_set {
-        return FancyOutcome::coded(NO_PROGRAM);
-    }
-    let mut searcher = replace(program, FancyProgram::empty(alloc)).into_searcher();
+    let mut searcher = program.take(alloc).into_searcher();
     let outcome = searcher.find(alloc, text, options, spans);
     *program = FancyProgram::of(searcher);
     outcome
@@ -124,14 +142,11 @@ pub extern "C" fn fancy_find_all(
         result }
     ensures keeps { tree_of program.new.handle.searcher ≡ tree_of program.old.handle.searcher }
 {
-    let text = match from_utf8(text) {
+    let text = match searched(text, options, program) {
         Ok(text) => text,
-        Err(fault) => return FancyOutcome::not_utf8(fault.valid_up_to()),
+        Err(outcome) => return outcome,
     };
-    if !program.is_set {
-        return FancyOutcome::coded(NO_PROGRAM);
-    }
-    let mut searcher = replace(program, FancyProgram::empty(alloc)).into_searcher();
+    let mut searcher = program.take(alloc).into_searcher();
     let outcome = searcher.find_all(alloc, text, options, standing, spans);
     *program = FancyProgram::of(searcher);
     outcome
@@ -145,14 +160,39 @@ pub extern "C" fn fancy_group_count(program: &FancyProgram) -> usize
     program.groups
 }
 
-/// Writes the name of a code, as far as there is room for it, and answers how many bytes it has; none where no code is
-/// this number.
+/// Writes the name of a code, and answers how many bytes it has; none where no code is this number.
 #[unsafe(no_mangle)]
 pub extern "C" fn fancy_error_name(code: u32, name: &mut [u8]) -> usize
     ensures length { result ≡ length (name_of code) }
-    ensures name { name.new ≡ over (name_of code) name.old }
+    ensures name { name.new ≡ ended (name_of code) name.old }
 {
     write_name(code, name)
+}
+
+/// Writes what an outcome says as a sentence for a reader, and answers how many bytes it has.
+#[unsafe(no_mangle)]
+pub extern "C" fn fancy_error_message(
+    alloc: Global,
+    outcome: &FancyOutcome,
+    message: &mut [u8],
+) -> usize
+    ensures { IsText message.old result message.new }
+{
+    write_message(alloc, outcome, message)
+}
+
+/// Compiles a pattern, and writes why it has no program, as a sentence for a reader, with the text of what is refused; an
+/// empty text where it has one.
+#[unsafe(no_mangle)]
+pub extern "C" fn fancy_explain_pattern(
+    alloc: Global,
+    pattern: &[u8],
+    options: &FancyOptions,
+    message: &mut [u8],
+) -> usize
+    ensures { IsText message.old result message.new }
+{
+    write_explanation(alloc, pattern, options, message)
 }
 
 /// Frees what a program holds.
@@ -160,6 +200,5 @@ pub extern "C" fn fancy_error_name(code: u32, name: &mut [u8]) -> usize
 pub extern "C" fn fancy_free(alloc: Global, program: &mut FancyProgram)
     ensures { program.new.handle.searcher ≡ None }
 {
-    let held = replace(program, FancyProgram::empty(alloc));
-    held.free();
+    program.take(alloc).free();
 }

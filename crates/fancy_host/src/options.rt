@@ -6,13 +6,29 @@ ghost use Rattle.fancy_host.specs.Hosted as hosted;
 ghost use Rattle.fancy_host.specs.Lists as lists;
 
 use fancy_matches::options::RegexOptions;
+use fancy_pattern::options::ParseOptions;
 use fancy_search::request::Request;
 use fancy_vm::vm::RunOptions;
 
-/// The options of a tree and of a search.
+/// How many bytes the options have.
+const SIZE: usize = 104;
+
+/// Room for options to come.
+#[repr(C)]
+#[derive(Clone, Copy, Drop)]
+pub struct Reserved {
+    pub first: u64,
+    pub second: u64,
+    pub third: u64,
+    pub fourth: u64,
+}
+
+/// The options of a pattern or a tree, and of a search.
 #[repr(C)]
 #[derive(Clone, Copy, Drop)]
 pub struct FancyOptions {
+    /// How many bytes the host's struct has.
+    pub size: usize,
     /// Where the search begins, a byte of the text.
     pub pos: usize,
     /// How many instructions a program may have.
@@ -40,6 +56,17 @@ pub struct FancyOptions {
     pub ascii: bool,
     /// Of the matches at the earliest start the longest one, in bytes, and not the first: said to both.
     pub longest: bool,
+    /// How a pattern is read, from here on; each as the field of `ParseOptions`.
+    pub case_insensitive: bool,
+    pub multi_line: bool,
+    pub dot_matches_new_line: bool,
+    pub ignore_whitespace: bool,
+    pub crlf: bool,
+    pub swap_greed: bool,
+    pub oniguruma: bool,
+    /// Where a group has a name, a plain `( )` captures nothing.
+    pub named_groups_only: bool,
+    pub reserved: Reserved,
 }
 
 impl Default for FancyOptions {
@@ -47,6 +74,7 @@ impl Default for FancyOptions {
         ensures { result ≡ hosted.default_options }
     {
         FancyOptions {
+            size: SIZE,
             pos: 0,
             max_prog_size: 100_000,
             max_nesting: 1_000,
@@ -60,11 +88,49 @@ impl Default for FancyOptions {
             end_text: false,
             ascii: false,
             longest: false,
+            case_insensitive: false,
+            multi_line: false,
+            dot_matches_new_line: false,
+            ignore_whitespace: false,
+            crlf: false,
+            swap_greed: false,
+            oniguruma: false,
+            named_groups_only: false,
+            reserved: Reserved {
+                first: 0,
+                second: 0,
+                third: 0,
+                fourth: 0,
+            },
         }
     }
 }
 
 impl FancyOptions {
+    /// Whether they have the size that the library gives them.
+    pub fn has_size(&self) -> bool
+        ensures { result ≡ hosted.has_size self.now }
+    {
+        self.size == SIZE
+    }
+
+    /// How a pattern is read.
+    pub fn parsing(&self) -> ParseOptions
+        ensures { result ≡ hosted.parsing self.now }
+    {
+        ParseOptions {
+            case_insensitive: self.case_insensitive,
+            multi_line: self.multi_line,
+            dot_matches_new_line: self.dot_matches_new_line,
+            ignore_whitespace: self.ignore_whitespace,
+            crlf: self.crlf,
+            swap_greed: self.swap_greed,
+            unicode: !self.ascii,
+            oniguruma: self.oniguruma,
+            ignore_numbered_groups_when_named_groups_exist: self.named_groups_only,
+        }
+    }
+
     /// What they ask of a search.
     pub fn request(&self) -> Request
         ensures { result ≡ hosted.request self.now }

@@ -1,11 +1,13 @@
-//! What a host is answered: a code with its details, and numbers and names written into its memory.
+//! What a host is answered: a code with its details, and what goes with it into the host's memory.
 
 ghost use Rattle.std.specs.Prelude.{◌≡◌, length};
 ghost use Rattle.fancy_host.specs.Codes as codes;
 ghost use Rattle.fancy_host.specs.Hosted as hosted;
 
+use crate::writing::{write_over, write_text};
 use fancy_characters::places::past_any;
 use fancy_expr::error::{CompileError, Error, RuntimeError};
+use fancy_pattern::error::{ErrorKind, PatternError};
 
 /// What came of a call.
 #[repr(C)]
@@ -13,7 +15,7 @@ use fancy_expr::error::{CompileError, Error, RuntimeError};
 pub struct FancyOutcome {
     /// `FANCY_OK`, `FANCY_NO_MATCH`, or why there is no answer.
     pub code: u32,
-    /// The byte of the tree or the text at which it cannot be read.
+    /// The byte of the pattern, the tree or the text at which it cannot be read.
     pub byte: usize,
     /// The group that is referred to, and is not there.
     pub group: usize,
@@ -33,7 +35,11 @@ const NOT_UTF8: u32 = 3;
 
 const UNFIT: u32 = 4;
 
+const MEMORY: u32 = 5;
+
 pub const TOO_DEEP: u32 = 21;
+
+pub const WRONG_SIZE: u32 = 39;
 
 /// The code of a refusal.
 fn code_of_refusal(error: &CompileError) -> u32
@@ -69,6 +75,31 @@ fn code_of(error: &Error) -> u32
     }
 }
 
+/// The code of what is wrong with a pattern.
+fn code_of_kind(kind: ErrorKind) -> u32
+    ensures { result ≡ codes.code_of_kind kind }
+{
+    match kind {
+        ErrorKind::UnclosedOpenParen => 23,
+        ErrorKind::UnopenedCloseParen => 24,
+        ErrorKind::InvalidRepeat => 25,
+        ErrorKind::RecursionExceeded => 21,
+        ErrorKind::TrailingBackslash => 26,
+        ErrorKind::InvalidEscape => 27,
+        ErrorKind::UnclosedUnicodeName => 28,
+        ErrorKind::InvalidHex => 29,
+        ErrorKind::InvalidCodepointValue => 30,
+        ErrorKind::InvalidClass => 31,
+        ErrorKind::UnknownFlag => 32,
+        ErrorKind::NonUnicodeUnsupported => 33,
+        ErrorKind::InvalidGroupName => 34,
+        ErrorKind::InvalidGroupNameBackref => 35,
+        ErrorKind::InvalidBackref => 36,
+        ErrorKind::TargetNotRepeatable => 37,
+        ErrorKind::GeneralParseError => 38,
+    }
+}
+
 /// The name of a code.
 fn name_of(code: u32) -> &'static str
     ensures { result.now ≡ codes.name_of code }
@@ -97,27 +128,33 @@ fn name_of(code: u32) -> &'static str
         20 => "PatternTooComplex",
         21 => "RecursionExceeded",
         22 => "NestLimitExceeded",
+        23 => "UnclosedOpenParen",
+        24 => "UnopenedCloseParen",
+        25 => "InvalidRepeat",
+        26 => "TrailingBackslash",
+        27 => "InvalidEscape",
+        28 => "UnclosedUnicodeName",
+        29 => "InvalidHex",
+        30 => "InvalidCodepointValue",
+        31 => "InvalidClass",
+        32 => "UnknownFlag",
+        33 => "NonUnicodeUnsupported",
+        34 => "InvalidGroupName",
+        35 => "InvalidGroupNameBackref",
+        36 => "InvalidBackrefNumber",
+        37 => "TargetNotRepeatable",
+        38 => "GeneralParseError",
+        39 => "WrongSize",
         _ => "",
     }
 }
 
-/// Writes what is new over what is there, as far as there is room.
-pub fn write_over<T: Copy>(new: &[T], room: &mut [T])
-    ensures { room.new ≡ hosted.over new.now room.old }
-{
-    let count = new.len().min(room.len());
-    let (front, _) = room.split_at_mut(count);
-    front.copy_from_slice(&new[..count]);
-}
-
-/// Writes the name of a code as far as there is room, and answers how many bytes it has.
+/// Writes the name of a code, and answers how many bytes it has.
 pub fn write_name(code: u32, room: &mut [u8]) -> usize
     ensures length { result ≡ length (codes.name_of code) }
-    ensures name { room.new ≡ hosted.over (codes.name_of code) room.old }
+    ensures name { room.new ≡ hosted.ended (codes.name_of code) room.old }
 {
-    let name = name_of(code).as_bytes();
-    write_over(name, room);
-    name.len()
+    write_text(name_of(code).as_bytes(), room)
 }
 
 /// Writes the numbers of an answer as far as there is room.
@@ -212,6 +249,19 @@ impl FancyOutcome {
                 ..outcome
             },
             _ => outcome,
+        }
+    }
+
+    /// Why a pattern cannot be read.
+    pub fn of_fault(error: &PatternError) -> FancyOutcome
+        ensures { result ≡ hosted.pattern_failure error.now }
+    {
+        match error {
+            PatternError::Parse { at, kind } => FancyOutcome {
+                byte: *at,
+                ..FancyOutcome::coded(code_of_kind(*kind))
+            },
+            PatternError::Memory => FancyOutcome::coded(MEMORY),
         }
     }
 

@@ -3,13 +3,15 @@
 ghost use Rattle.std.specs.Prelude.{◌≡◌, None, Option, Some};
 ghost use Rattle.std.specs.Option.{IsSome, is_some};
 ghost use Rattle.fancy_host.specs.declared.searches.Searcher.{Searcher};
-ghost use Rattle.fancy_host.specs.Hosted.{group_count};
+ghost use Rattle.fancy_host.specs.Hosted.{compiled, group_count, groups};
 ghost use Rattle.fancy_host.specs.Owned.{owned, searcher_coded};
 
 use crate::loose::Loose;
+use crate::outcome::FancyOutcome;
 use crate::searches::Searcher;
 use std::alloc::Global;
 use std::marker::Model;
+use std::mem::replace;
 
 /// The place of a compiled tree, or none.
 #[repr(C)]
@@ -102,6 +104,24 @@ impl FancyProgram {
         ensures { self.handle.searcher ≡ Some result.value }
     {
         self.handle.into_loose().into_box()
+    }
+
+    /// What it held; it holds nothing then.
+    pub fn take(&mut self, alloc: Global) -> FancyProgram
+        ensures held { result.handle.searcher ≡ self.old.handle.searcher }
+        ensures nothing { self.new.handle.searcher ≡ None }
+    {
+        replace(self, FancyProgram::empty(alloc))
+    }
+
+    /// It holds what was compiled, and says how many groups that has.
+    pub fn hold(&mut self, searcher: Box<Searcher>) -> FancyOutcome
+        requires { self.old.handle.searcher ≡ None }
+        ensures held { self.new.handle.searcher ≡ Some searcher.value }
+        ensures says { result ≡ compiled (groups searcher.value) }
+    {
+        *self = FancyProgram::of(searcher);
+        FancyOutcome::compiled(self.groups)
     }
 
     pub fn free(self) {

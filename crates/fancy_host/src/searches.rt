@@ -1,7 +1,8 @@
-//! A compiled tree, and its searches.
+//! What was compiled, and its searches.
 
 ghost use Rattle.std.specs.Prelude.{◌≡◌, [], IsTrue, MatchResult};
 ghost use Rattle.fancy_meaning.specs.Fits.{run_fits};
+ghost use Rattle.fancy_expr.specs.Sound.{IsWellFormedTree};
 ghost use Rattle.fancy_vm.specs.Tasks.{options_of as run_options_of, task_of};
 ghost use Rattle.fancy_search.specs.Searches.{HasSource, program};
 ghost use Rattle.fancy_matches.specs.Regexes.{standing_of};
@@ -10,49 +11,113 @@ use crate::options::FancyOptions;
 use crate::outcome::{FancyOutcome, NO_MATCH, OK, write_answer};
 use crate::standing::FancyStanding;
 use fancy_expr::error::Error;
+use fancy_expr::expr::ExprTree;
 use fancy_matches::searches::next_match;
 use fancy_matches::standing::Standing;
 use fancy_notation::notation::read_tree;
+use fancy_pattern::pattern::parse_tree;
 use fancy_search::search::Compiled;
 use fancy_vm::vm::{RunOptions, Scratch};
 use std::alloc::Global;
+use std::collections::BTreeMap;
 
-/// A compiled tree, and the memory that its searches use again.
+/// What a pattern or a tree was compiled to, and the numbers of each name of its groups.
 #[derive(Drop)]
-pub struct Searcher {
-    compiled: Compiled,
-    scratch: Scratch,
+pub struct CompiledTree {
+    pub compiled: Compiled,
+    pub names: BTreeMap<String, Vec<usize>>,
     ghost source: { HasSource compiled },
 }
 
+/// What was compiled, and the memory that its searches use again.
+#[derive(Drop)]
+pub struct Searcher {
+    tree: CompiledTree,
+    scratch: Scratch,
+}
+
 impl Searcher {
-    ghost use Rattle.fancy_host.specs.Hosted.{Answers, FailsToCompile, IsMadeFrom};
+    ghost use Rattle.fancy_search.specs.Searches.{IsRefusedAs};
+    ghost use Rattle.std.specs.Prelude.{Some};
+    ghost use Rattle.fancy_host.specs.Hosted.{Answers, FailsToCompile, IsMadeFrom, IsMadeOf, asked_of, compiled_of};
     ghost use Rattle.fancy_host.specs.Hosted as hosted;
     ghost use Rattle.fancy_host.specs.Lists.{Lists, Writes};
 
-    /// Reads and compiles the tree that a text spells.
-    pub fn compile(
+    /// Compiles a tree that was read.
+    fn of_tree(
         alloc: Global,
-        tree: &str,
+        tree: ExprTree,
         options: &FancyOptions,
     ) -> Result<Box<Searcher>, Error>
+        requires { IsWellFormedTree tree }
         ensures { MatchResult
             result
-            (λ searcher. IsMadeFrom tree.now options.now searcher.value)
-            (λ error. FailsToCompile tree.now options.now error) }
+            (λ searcher. IsMadeOf tree options.now searcher.value)
+            (λ error. IsRefusedAs (asked_of tree options.now) (Some options.now.max_nesting) error) }
     {
-        let tree = read_tree(alloc, tree)?;
         let request = options.request();
         let compiled = Compiled::new(alloc, &tree, request.analysis(), request.compilation())?;
-        let scratch = Scratch::new(alloc);
-        Ok(Box::new(alloc, Searcher { compiled, scratch })?)
+        let searcher = Searcher {
+            tree: CompiledTree {
+                compiled,
+                names: tree.named_groups,
+            },
+            scratch: Scratch::new(alloc),
+        };
+        Ok(Box::new(alloc, searcher)?)
+    }
+
+    /// Reads and compiles the tree that a text in the notation spells.
+    pub fn of_notation(
+        alloc: Global,
+        text: &str,
+        options: &FancyOptions,
+    ) -> Result<Box<Searcher>, FancyOutcome>
+        ensures { MatchResult
+            result
+            (λ searcher. IsMadeFrom (hosted.notation text.now) options.now searcher.value)
+            (λ outcome. FailsToCompile options.now (hosted.notation text.now) outcome) }
+    {
+        let tree = match read_tree(alloc, text) {
+            Ok(tree) => tree,
+            Err(error) => return Err(FancyOutcome::of_error(&error)),
+        };
+        match Searcher::of_tree(alloc, tree, options) {
+            Ok(searcher) => Ok(searcher),
+            Err(error) => Err(FancyOutcome::of_error(&error)),
+        }
+    }
+
+    /// Reads and compiles the tree that a pattern spells.
+    pub fn of_pattern(
+        alloc: Global,
+        pattern: &str,
+        options: &FancyOptions,
+    ) -> Result<Box<Searcher>, FancyOutcome>
+        ensures { MatchResult
+            result
+            (λ searcher. IsMadeFrom (hosted.pattern pattern.now) options.now searcher.value)
+            (λ outcome. FailsToCompile options.now (hosted.pattern pattern.now) outcome) }
+    {
+        let tree = match parse_tree(alloc, pattern, options.parsing()) {
+            Ok(tree) => tree,
+            Err(error) => return Err(FancyOutcome::of_fault(&error)),
+        };
+        match Searcher::of_tree(alloc, tree, options) {
+            Ok(searcher) => Ok(searcher),
+            Err(error) => Err(FancyOutcome::of_error(&error)),
+        }
     }
 
     /// How many groups the tree has, with group 0.
     pub fn group_count(&self) -> usize
         ensures { result ≡ hosted.groups self.now }
     {
-        self.compiled.program().total_groups().saturating_add(1)
+        self.tree
+            .compiled
+            .program()
+            .total_groups()
+            .saturating_add(1)
     }
 
     /// Searches the text, and writes the numbers of the answer as far as there is room.
@@ -64,13 +129,14 @@ impl Searcher {
         spans: &mut [usize],
     ) -> FancyOutcome
         ensures finds { Answers self.old text.now options.now spans.old spans.new result }
-        ensures keeps { self.new.compiled ≡ self.old.compiled }
+        ensures keeps { self.new.tree ≡ self.old.tree }
     {
         let running = options.running(text);
-        if !self.compiled.fits(text, &running) {
+        let tree = &self.tree;
+        if !tree.compiled.fits(text, &running) {
             return FancyOutcome::unfit();
         }
-        let answer = self
+        let answer = tree
             .compiled
             .search(alloc, text, &running, &mut self.scratch);
         write_answer(&answer, spans);
@@ -86,9 +152,9 @@ impl Searcher {
         standing: &mut Standing,
         spans: &mut [usize],
     ) -> FancyOutcome
-        requires { IsTrue (run_fits (task_of (program self.old.compiled) [] options.now)) }
+        requires { IsTrue (run_fits (task_of (program (compiled_of self.old)) [] options.now)) }
         ensures writes { Writes
-            self.old.compiled
+            (compiled_of self.old)
             text.now
             (run_options_of options.now)
             (standing_of standing.old)
@@ -96,13 +162,14 @@ impl Searcher {
             (standing_of standing.new)
             spans.new
             result }
-        ensures keeps { self.new.compiled ≡ self.old.compiled }
+        ensures keeps { self.new.tree ≡ self.old.tree }
     {
         let room = spans.len() / 2;
         for count in 0..room {
+            let tree = &self.tree;
             match next_match(
                 alloc,
-                &self.compiled,
+                &tree.compiled,
                 text,
                 options,
                 standing,
@@ -138,10 +205,10 @@ impl Searcher {
             standing.new
             spans.new
             result }
-        ensures keeps { self.new.compiled ≡ self.old.compiled }
+        ensures keeps { self.new.tree ≡ self.old.tree }
     {
         let listing = options.listing(text);
-        if !self.compiled.fits("", &listing) {
+        if !self.tree.compiled.fits("", &listing) {
             return FancyOutcome::unfit();
         }
         let mut list = standing.standing();

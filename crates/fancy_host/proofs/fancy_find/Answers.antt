@@ -1,20 +1,13 @@
-use Rattle.std.proofs.Common.{◌∙◌, ap, sym}
-use Rattle.fancy_host.proofs.Answered.{found_by, no_tree_finds, none_there, unread_finds}
+use Rattle.std.proofs.Common.{◌∙◌, sym}
+use Rattle.fancy_host.specs.Hosted.{unsearched}
+use Rattle.fancy_host.proofs.Answered.{found_by}
 use Rattle.fancy_host.proofs.fancy_find.Goals as goal
 
 pub returns-in-Err-clause-finds : goal.returns-in-Err-clause-finds
-returns-in-Err-clause-finds c =
-    unread_finds c.args.text.now c.args.options.now c.not_utf8.result c.args.spans.now c.args.program.now.handle.searcher c.valid_up_to.result
-    c.in-Err.ensures.cases.0 c.not_utf8.ensures (c.valid_up_to.ensures ∙ c.in-Err.ensures.valid_len)
-
-pub returns-then-not-program-clause-finds : goal.returns-then-not-program-clause-finds
-returns-then-not-program-clause-finds c =
-    let held = c.args.program.now.handle.searcher in
-    no_tree_finds c.args.text.now c.args.options.now c.coded.result c.args.spans.now held c.in-Ok.ensures.cases.1
-    (none_there held c.args.program.now.is_set c.args.program.now.agrees c.if-not-program.true) c.coded.ensures
+returns-in-Err-clause-finds c = unsearched c.in-Err.ensures
 
 pub returns-clause-finds : goal.returns-clause-finds
 returns-clause-finds c =
     found_by c.args.text.now c.args.options.now c.find-outcome.result c.args.spans.now c.in-Ok.text.now c.find-outcome.new.spans
-    c.args.program.now.handle.searcher c.into_searcher-searcher.result.value c.deref_mut.result.now c.in-Ok.ensures.cases.0 c.in-Ok.ensures.cases.1
-    (sym (ap (λ p. p.handle.searcher) c.replace.ensures.value) ∙ c.into_searcher-searcher.ensures) c.deref_mut.ensures.value c.find-outcome.ensures.finds
+    c.args.program.now.handle.searcher c.into_searcher-searcher.result.value c.deref_mut.result.now c.in-Ok.ensures.0 c.in-Ok.ensures.1
+    (sym c.take.ensures.held ∙ c.into_searcher-searcher.ensures) c.deref_mut.ensures.value c.find-outcome.ensures.finds

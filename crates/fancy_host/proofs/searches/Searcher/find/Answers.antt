@@ -1,5 +1,5 @@
 use Rattle.std.proofs.Common.{◌∙◌, sym, ap, subst}
-use Rattle.fancy_host.specs.Hosted.{Answers, answered, outcome_of, written}
+use Rattle.fancy_host.specs.Hosted.{Answers, answered, compiled_of, outcome_of, written}
 use Rattle.fancy_host.proofs.Answered.{fits_by, promised_by, unfit_answers}
 use Rattle.fancy_host.proofs.searches.Searcher.find.Goals as goal
 
@@ -17,5 +17,5 @@ returns-clause-finds c =
     let answer = c.search-answer.result in
     subst (λ new. Answers s text o old new c.of_answer.result) (sym c.write_answer.ensures)
     (subst (λ x. Answers s text o old (written answer old) x) (sym (c.of_answer.ensures ∙ ap (λ t. outcome_of t answer) c.as_bytes.ensures.value))
-    (answered (fits_by s.compiled text o _ c.running-running.ensures (sym c.fits.ensures ∙ c.if-not-fits.false)) answer
-    (promised_by s.compiled text o _ c.running-running.ensures answer c.search-answer.ensures.promise c.search-answer.ensures.bounds)))
+    (answered (fits_by (compiled_of s) text o _ c.running-running.ensures (sym c.fits.ensures ∙ c.if-not-fits.false)) answer
+    (promised_by (compiled_of s) text o _ c.running-running.ensures answer c.search-answer.ensures.promise c.search-answer.ensures.bounds)))

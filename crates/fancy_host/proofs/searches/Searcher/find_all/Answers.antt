@@ -4,6 +4,7 @@ use Rattle.fancy_program.specs.Programs.{prog_of}
 use Rattle.fancy_vm.specs.Tasks.{options_of as run_options_of}
 use Rattle.fancy_search.specs.Searches.{program}
 use Rattle.fancy_matches.specs.Regexes as matches
+use Rattle.fancy_host.specs.Hosted.{compiled_of}
 use Rattle.fancy_host.specs.Lists.{Lists, Writes, does_not_fit, listed, listing, standing_of}
 use Rattle.fancy_host.proofs.searches.Searcher.find_all.Goals as goal
 
@@ -17,7 +18,7 @@ returns-then-not-fits-clause-lists c =
     let no = sym c.fits.ensures ∙ c.if-not-fits.true in
     subst (λ x. Lists s text o from old from old x) (sym c.unfit.ensures)
     (does_not_fit
-    (subst (λ r. run_fits (record { program = prog_of (program s.compiled); text = []; options = r }) ≡ false) c.listing-listing.ensures no))
+    (subst (λ r. run_fits (record { program = prog_of (program (compiled_of s)); text = []; options = r }) ≡ false) c.listing-listing.ensures no))
 
 pub write_spans-outcome-requires : goal.write_spans-outcome-requires
 write_spans-outcome-requires c = sym c.fits.ensures ∙ c.if-not-fits.false
@@ -33,8 +34,8 @@ returns-clause-lists c =
     let to = matches.standing_of c.write_spans-outcome.new.standing in
     let fits = sym c.fits.ensures ∙ c.if-not-fits.false in
     listed
-    (subst (λ r. run_fits (record { program = prog_of (program s.compiled); text = []; options = r }) ≡ true) c.listing-listing.ensures fits)
-    (subst (λ t. Writes s.compiled text (listing o text) (standing_of c.args.standing.now) old t new outcome) (sym c.of.ensures)
-    (subst (λ from. Writes s.compiled text (listing o text) from old to new outcome) c.standing-list.ensures
-    (subst (λ r. Writes s.compiled text r (matches.standing_of c.standing-list.result) old to new outcome) c.listing-listing.ensures
+    (subst (λ r. run_fits (record { program = prog_of (program (compiled_of s)); text = []; options = r }) ≡ true) c.listing-listing.ensures fits)
+    (subst (λ t. Writes (compiled_of s) text (listing o text) (standing_of c.args.standing.now) old t new outcome) (sym c.of.ensures)
+    (subst (λ from. Writes (compiled_of s) text (listing o text) from old to new outcome) c.standing-list.ensures
+    (subst (λ r. Writes (compiled_of s) text r (matches.standing_of c.standing-list.result) old to new outcome) c.listing-listing.ensures
     c.write_spans-outcome.ensures.writes)))

@@ -1,11 +1,12 @@
 use Rattle.std.proofs.Common.{◌≡◌}
 use Rattle.fancy_vm.specs.Tasks.{options_of as run_options_of}
 use Rattle.fancy_matches.specs.Regexes.{standing_of}
-use Rattle.fancy_host.proofs.Writing.{Written}
+use Rattle.fancy_host.specs.Hosted.{compiled_of}
+use Rattle.fancy_host.proofs.SpansWritten.{Written}
 use Rattle.fancy_host.proofs.searches.Searcher.write_spans.Given as goal
 
 abbrev pub invariant-loop-count : goal.invariant-loop-count
 invariant-loop-count l =
-    Written l.fn.self.compiled l.text (run_options_of l.options) (standing_of l.fn.standing) l.fn.spans l.count
+    Written (compiled_of l.fn.self) l.text (run_options_of l.options) (standing_of l.fn.standing) l.fn.spans l.count
     (standing_of l.standing) l.spans
-    × (l.self.compiled ≡ l.fn.self.compiled)
+    × (l.self.tree ≡ l.fn.self.tree)

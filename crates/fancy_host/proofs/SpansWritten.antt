@@ -24,7 +24,7 @@ use Rattle.fancy_host.specs.Lists.{ComesBy, Stops, Writes, fails, has_ended, num
 over_is : (new old : List ℕ) → length new ≤ length old → over new old ≡ new ++ drop (length new) old
 over_is new old fits = ap (λ xs. xs ++ drop (length new) old) (take_all (length old) new fits)
 
-over_more : (new old : List ℕ) (x : ℕ) → length new < length old → set (over new old) (length new) x ≡ over (new ++ x ∷ []) old
+pub over_more : (new old : List ℕ) (x : ℕ) → length new < length old → set (over new old) (length new) x ≡ over (new ++ x ∷ []) old
 over_more new old x fits =
     let before : length new ≤ length old = omega (arith, fits) in
     let more : length (new ++ x ∷ []) ≡ suc (length new) = omega (arith, length-append new (x ∷ [])) in
