@@ -10,7 +10,7 @@
  *         outcome = fancy_find(&program, text, strlen(text), &options, spans, 2);
  *     fancy_free(&program);
  *
- * Lengths and places are in bytes. Patterns, trees and texts are UTF-8, and end where their length says:
+ * Lengths and places are in bytes. Patterns, trees, texts and names are UTF-8, and end where their length says:
  * a zero in them is a character like any other.
  *
  * Texts that are written for the host end with a zero, as those of snprintf do: of `room` bytes at most room - 1 are
@@ -195,6 +195,15 @@ void fancy_free(struct fancy_program *program);
 /* How many groups the pattern has, with group 0; 0 without a pattern. */
 size_t fancy_group_count(const struct fancy_program *program);
 
+/* Writes the name of a group; the answer is 0 where it has none, is not there, or nothing was compiled. */
+size_t fancy_group_name(struct fancy_program *program, size_t group, char *name, size_t room);
+
+/* Writes the numbers of the groups with this name, in the order in which they open, as far as there is room, and answers
+ * how many there are; 0 where no group has the name, or nothing was compiled. Of several the name means the first that is
+ * set in a match. */
+size_t fancy_groups_named(struct fancy_program *program, const char *name, size_t name_length, size_t *groups,
+                          size_t room);
+
 /* ---- searching
  *
  * A text is a range: to end a search early, give a shorter length. What lies behind is then not there, for look-ahead and
@@ -265,6 +274,9 @@ static inline size_t *fancy_numbers(size_t *numbers)
 #define fancy_compile_pattern(pattern, length, options, program) \
     fancy_compile_pattern(fancy_from(pattern), length, options, program)
 #define fancy_compile(tree, length, options, program) fancy_compile(fancy_from(tree), length, options, program)
+#define fancy_group_name(program, group, name, room) fancy_group_name(program, group, fancy_into(name), room)
+#define fancy_groups_named(program, name, length, groups, room) \
+    fancy_groups_named(program, fancy_from(name), length, fancy_numbers(groups), room)
 #define fancy_find(program, text, length, options, spans, spans_length) \
     fancy_find(program, fancy_from(text), length, options, fancy_numbers(spans), spans_length)
 #define fancy_find_all(program, text, length, options, standing, spans, spans_length) \

@@ -53,6 +53,39 @@ static void compile_nested(const char *what, size_t depth)
     print_outcome(what, fancy_compile_pattern(pattern, 2 * depth, &options, &program));
 }
 
+static void print_name(size_t group)
+{
+    char name[8];
+    size_t length = fancy_group_name(&program, group, name, sizeof name);
+    printf("group %zu: %zu %s.\n", group, length, name);
+}
+
+static void print_groups(const char *name)
+{
+    size_t groups[3];
+    size_t count = fancy_groups_named(&program, name, strlen(name), groups, 3);
+    printf("%s: %zu", name, count);
+    for (size_t i = 0; i < count && i < 3; i++)
+        printf(" %zu", groups[i]);
+    putchar('\n');
+}
+
+static void name_groups(void)
+{
+    compile_pattern("groups with names", "(?<year>\\d{4})-(\\d\\d)(?<afternoon>p)?");
+    for (size_t group = 0; group < 5; group++)
+        print_name(group);
+    print_groups("year");
+    print_groups("yea");
+    printf("%zu groups by a name that is no UTF-8\n", fancy_groups_named(&program, "\xff", 1, NULL, 0));
+    printf("%zu groups, no room for them\n", fancy_groups_named(&program, "year", 4, NULL, 0));
+    compile_pattern("groups of one name", "(?<n>a)|(b)|(?<n>c)");
+    print_groups("n");
+    fancy_free(&program);
+    print_name(1);
+    print_groups("n");
+}
+
 static void refuse_patterns(void)
 {
     compile_pattern("a pattern", "(?<year>\\d{4})-\\d\\d");
@@ -154,6 +187,7 @@ int main(void)
     fancy_free(&program);
     find("a search in what was freed", "a");
     refuse_patterns();
+    name_groups();
     write_texts();
     return 0;
 }

@@ -2,6 +2,8 @@ pub mod Answered
 pub mod Ended
 pub mod HandleRows
 pub mod Listed
+pub mod HeldGroups
+pub mod NamedGroups
 pub mod Values
 pub mod SpansWritten
 pub mod HandleLaws

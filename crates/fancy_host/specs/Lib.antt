@@ -1,4 +1,5 @@
 pub mod Codes
 pub mod Hosted
 pub mod Lists
+pub mod Names
 pub mod Owned

@@ -4,6 +4,7 @@
 
 mod loose;
 mod messages;
+mod names;
 mod options;
 mod outcome;
 mod program;
@@ -17,6 +18,7 @@ ghost use Rattle.fancy_host.specs.Codes.{name_of};
 ghost use Rattle.fancy_host.specs.Hosted.{Compiles, FindsFirst, IsText, default_options, ended, group_count, tree_of};
 ghost use Rattle.fancy_host.specs.Hosted as hosted;
 ghost use Rattle.fancy_host.specs.Lists.{FindsAll};
+ghost use Rattle.fancy_host.specs.Names.{FindsGroups, group_name};
 
 use messages::{write_explanation, write_message};
 use options::FancyOptions;
@@ -25,7 +27,8 @@ use program::FancyProgram;
 use reading::{compile_notation, compile_pattern, searched};
 use standing::FancyStanding;
 use std::alloc::Global;
-use writing::write_text;
+use std::str::from_utf8;
+use writing::{write_over, write_text};
 
 /// The options of a search unless said otherwise: from the text's start, no flag, no limit of backtracks given, as many
 /// instructions as can be counted, a program of at most 100,000 instructions, a tree of at most 250 levels, and at most
@@ -158,6 +161,54 @@ pub extern "C" fn fancy_group_count(program: &FancyProgram) -> usize
     ensures { result ≡ group_count program.now.handle.searcher }
 {
     program.groups
+}
+
+/// Writes the name of a group, and answers how many bytes it has; none where it has no name, or is not there.
+#[unsafe(no_mangle)]
+pub extern "C" fn fancy_group_name(
+    alloc: Global,
+    program: &mut FancyProgram,
+    group: usize,
+    name: &mut [u8],
+) -> usize
+    ensures length { result ≡ length (group_name program.old.handle.searcher group) }
+    ensures name { name.new ≡ ended (group_name program.old.handle.searcher group) name.old }
+    ensures keeps { program.new.handle.searcher ≡ program.old.handle.searcher }
+{
+    if !program.is_set {
+        return write_text("".as_bytes(), name);
+    }
+    let searcher = program.take(alloc).into_searcher();
+    let length = write_text(searcher.group_name(group).as_bytes(), name);
+    *program = FancyProgram::of(searcher);
+    length
+}
+
+/// Writes the numbers of the groups with this name, in the order in which they open, as far as there is room, and answers
+/// how many there are.
+#[unsafe(no_mangle)]
+pub extern "C" fn fancy_groups_named(
+    alloc: Global,
+    program: &mut FancyProgram,
+    name: &[u8],
+    groups: &mut [usize],
+) -> usize
+    ensures finds { FindsGroups
+        program.old.handle.searcher name.now groups.old result groups.new }
+    ensures keeps { program.new.handle.searcher ≡ program.old.handle.searcher }
+{
+    let Ok(name) = from_utf8(name) else {
+        return 0;
+    };
+    if !program.is_set {
+        return 0;
+    }
+    let searcher = program.take(alloc).into_searcher();
+    let numbers = searcher.groups_named(name);
+    write_over(numbers, groups);
+    let count = numbers.len();
+    *program = FancyProgram::of(searcher);
+    count
 }
 
 /// Writes the name of a code, and answers how many bytes it has; none where no code is this number.

@@ -7,6 +7,7 @@ ghost use Rattle.fancy_vm.specs.Tasks.{options_of as run_options_of, task_of};
 ghost use Rattle.fancy_search.specs.Searches.{HasSource, program};
 ghost use Rattle.fancy_matches.specs.Regexes.{standing_of};
 
+use crate::names::{name_of, numbers_named};
 use crate::options::FancyOptions;
 use crate::outcome::{FancyOutcome, NO_MATCH, OK, write_answer};
 use crate::standing::FancyStanding;
@@ -42,6 +43,8 @@ impl Searcher {
     ghost use Rattle.fancy_host.specs.Hosted.{Answers, FailsToCompile, IsMadeFrom, IsMadeOf, asked_of, compiled_of};
     ghost use Rattle.fancy_host.specs.Hosted as hosted;
     ghost use Rattle.fancy_host.specs.Lists.{Lists, Writes};
+    ghost use Rattle.fancy_host.specs.Names.{name_in};
+    ghost use Rattle.fancy_replace.specs.Reading.{groups_named};
 
     /// Compiles a tree that was read.
     fn of_tree(
@@ -107,6 +110,20 @@ impl Searcher {
             Ok(searcher) => Ok(searcher),
             Err(error) => Err(FancyOutcome::of_error(&error)),
         }
+    }
+
+    /// The name of a group; empty where it has none.
+    pub fn group_name(&self, group: usize) -> &str
+        ensures { result.now ≡ name_in (hosted.names_of self.now) group }
+    {
+        name_of(&self.tree.names, group)
+    }
+
+    /// The numbers of the groups with this name.
+    pub fn groups_named(&self, name: &str) -> &[usize]
+        ensures { result.now ≡ groups_named (hosted.names_of self.now) name.now }
+    {
+        numbers_named(&self.tree.names, name)
     }
 
     /// How many groups the tree has, with group 0.
