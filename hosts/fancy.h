@@ -110,7 +110,7 @@ struct fancy_program {
  * and for its end. A start that fails is one such time, so a search for a tree that is easy never stops at that. */
 struct fancy_options {
     size_t size;            /* sizeof(struct fancy_options); a call with another is FANCY_WRONG_SIZE */
-    size_t pos;             /* where the search begins, a byte of the text: for fancy_find */
+    size_t pos;             /* where the search begins, a byte of the text: for fancy_find and fancy_is_match */
     size_t max_prog_size;   /* how many instructions a program may have; 100,000 */
     size_t max_nesting;     /* how many nodes may be written out in one another, calls with them; 1,000, for 4 MB of stack */
     size_t max_depth;       /* how deep a tree may nest, in parentheses; 250, for a stack of 2 MB: for fancy_compile */
@@ -213,6 +213,10 @@ size_t fancy_groups_named(struct fancy_program *program, const char *name, size_
  * FANCY_BACKTRACK_LIMIT_EXCEEDED, FANCY_STACK_OVERFLOW, FANCY_STEP_LIMIT_EXCEEDED; FANCY_MEMORY. The program holds what it
  * held, whatever the code is. */
 
+/* Whether there is a match: FANCY_OK or FANCY_NO_MATCH. */
+struct fancy_outcome fancy_is_match(struct fancy_program *program, const char *text, size_t text_length,
+                                    const struct fancy_options *options);
+
 /* Finds the first match. Start and end of each group from 0 up are written to spans, as far as there is room for them; all
  * of them are 2 * count numbers. A group that is not set has FANCY_UNSET twice. Spans are left as they were where the code
  * is not FANCY_OK. */
@@ -277,6 +281,7 @@ static inline size_t *fancy_numbers(size_t *numbers)
 #define fancy_group_name(program, group, name, room) fancy_group_name(program, group, fancy_into(name), room)
 #define fancy_groups_named(program, name, length, groups, room) \
     fancy_groups_named(program, fancy_from(name), length, fancy_numbers(groups), room)
+#define fancy_is_match(program, text, length, options) fancy_is_match(program, fancy_from(text), length, options)
 #define fancy_find(program, text, length, options, spans, spans_length) \
     fancy_find(program, fancy_from(text), length, options, fancy_numbers(spans), spans_length)
 #define fancy_find_all(program, text, length, options, standing, spans, spans_length) \

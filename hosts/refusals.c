@@ -36,6 +36,11 @@ static void find(const char *what, const char *text)
     print_outcome(what, fancy_find(&program, text, strlen(text), &options, spans, 2));
 }
 
+static void is_match(const char *what, const char *text)
+{
+    print_outcome(what, fancy_is_match(&program, text, strlen(text), &options));
+}
+
 static void find_all(const char *what, const char *text, size_t room)
 {
     struct fancy_outcome outcome = fancy_find_all(&program, text, strlen(text), &options, &standing,
@@ -90,9 +95,21 @@ static void refuse_patterns(void)
 {
     compile_pattern("a pattern", "(?<year>\\d{4})-\\d\\d");
     find("a date", "on 2026-11");
+    is_match("whether there is a date", "on 2026-11");
+    is_match("whether there is a date in another text", "on 20-11");
+    is_match("whether there is a date in a text that is no UTF-8", "2026-11\xff");
+    options.pos = 4;
+    is_match("whether there is a date from place 4", "on 2026-11");
+    options.pos = 99;
+    is_match("whether there is a date behind the text", "on 2026-11");
+    options.pos = 0;
+    options.step_limit = 0;
+    is_match("whether there is a date, within no step", "on 2026-11");
+    options = fancy_default_options();
     printf("%zu groups, %zu %zu\n", fancy_group_count(&program), spans[0], spans[1]);
     compile_pattern("a group that is not closed", "a(b");
     find("a search after a fault", "a");
+    is_match("whether there is a match after a fault", "a");
     compile_pattern("a backslash at the end", "a\\");
     compile_pattern("a reference to no group", "(a)\\2");
     compile_pattern("a reference with too large a number", "\\99999999999999999999");

@@ -4,6 +4,7 @@ pub mod HandleRows
 pub mod Listed
 pub mod HeldGroups
 pub mod NamedGroups
+pub mod Told
 pub mod Values
 pub mod SpansWritten
 pub mod HandleLaws

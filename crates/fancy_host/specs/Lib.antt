@@ -3,3 +3,4 @@ pub mod Hosted
 pub mod Lists
 pub mod Names
 pub mod Owned
+pub mod Whether

@@ -19,6 +19,7 @@ ghost use Rattle.fancy_host.specs.Hosted.{Compiles, FindsFirst, IsText, default_
 ghost use Rattle.fancy_host.specs.Hosted as hosted;
 ghost use Rattle.fancy_host.specs.Lists.{FindsAll};
 ghost use Rattle.fancy_host.specs.Names.{FindsGroups, group_name};
+ghost use Rattle.fancy_host.specs.Whether.{FindsAny};
 
 use messages::{write_explanation, write_message};
 use options::FancyOptions;
@@ -89,6 +90,27 @@ pub extern "C" fn fancy_compile(
         Ok(searcher) => program.hold(searcher),
         Err(outcome) => outcome,
     }
+}
+
+/// Whether the tree that a program holds has a match in a text, in UTF-8: `FANCY_OK` or `FANCY_NO_MATCH`.
+#[unsafe(no_mangle)]
+pub extern "C" fn fancy_is_match(
+    alloc: Global,
+    program: &mut FancyProgram,
+    text: &[u8],
+    options: &FancyOptions,
+) -> FancyOutcome
+    ensures finds { FindsAny text.now options.now program.old.handle.searcher result }
+    ensures keeps { tree_of program.new.handle.searcher ≡ tree_of program.old.handle.searcher }
+{
+    let text = match searched(text, options, program) {
+        Ok(text) => text,
+        Err(outcome) => return outcome,
+    };
+    let mut searcher = program.take(alloc).into_searcher();
+    let outcome = searcher.is_match(alloc, text, options);
+    *program = FancyProgram::of(searcher);
+    outcome
 }
 
 /// Searches a text, in UTF-8, for the tree that a program holds, and writes start and end of each group from 0 up, in

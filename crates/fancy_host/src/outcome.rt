@@ -3,6 +3,7 @@
 ghost use Rattle.std.specs.Prelude.{◌≡◌, length};
 ghost use Rattle.fancy_host.specs.Codes as codes;
 ghost use Rattle.fancy_host.specs.Hosted as hosted;
+ghost use Rattle.fancy_host.specs.Whether.{whether};
 
 use crate::writing::{write_over, write_text};
 use fancy_characters::places::past_any;
@@ -262,6 +263,17 @@ impl FancyOutcome {
                 ..FancyOutcome::coded(code_of_kind(*kind))
             },
             PatternError::Memory => FancyOutcome::coded(MEMORY),
+        }
+    }
+
+    /// Whether the answer of a search is a match.
+    pub fn of_found(answer: &Result<Option<Vec<usize>>, Error>) -> FancyOutcome
+        ensures { result ≡ whether answer.now }
+    {
+        match answer {
+            Ok(None) => FancyOutcome::coded(NO_MATCH),
+            Ok(Some(_)) => FancyOutcome::coded(OK),
+            Err(error) => FancyOutcome::of_error(error),
         }
     }
 

@@ -44,6 +44,7 @@ impl Searcher {
     ghost use Rattle.fancy_host.specs.Hosted as hosted;
     ghost use Rattle.fancy_host.specs.Lists.{Lists, Writes};
     ghost use Rattle.fancy_host.specs.Names.{name_in};
+    ghost use Rattle.fancy_host.specs.Whether.{Tells};
     ghost use Rattle.fancy_replace.specs.Reading.{groups_named};
 
     /// Compiles a tree that was read.
@@ -158,6 +159,22 @@ impl Searcher {
             .search(alloc, text, &running, &mut self.scratch);
         write_answer(&answer, spans);
         FancyOutcome::of_answer(text.as_bytes(), &answer)
+    }
+
+    /// Whether there is a match.
+    pub fn is_match(&mut self, alloc: Global, text: &str, options: &FancyOptions) -> FancyOutcome
+        ensures tells { Tells self.old text.now options.now result }
+        ensures keeps { self.new.tree ≡ self.old.tree }
+    {
+        let running = options.running(text);
+        let tree = &self.tree;
+        if !tree.compiled.fits(text, &running) {
+            return FancyOutcome::unfit();
+        }
+        let found = tree
+            .compiled
+            .search(alloc, text, &running, &mut self.scratch);
+        FancyOutcome::of_found(&found)
     }
 
     /// Writes the spans of the matches of the list that stands so, as many as there is room for.
