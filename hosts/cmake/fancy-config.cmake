@@ -1,0 +1,20 @@
+# Defines the target fancy::fancy, and fancy::static for the static library.
+get_filename_component(fancy_lib "${CMAKE_CURRENT_LIST_DIR}/../.." ABSOLUTE)
+find_path(fancy_INCLUDE_DIR fancy.h HINTS "${fancy_lib}/../include")
+if(NOT fancy_INCLUDE_DIR)
+  set(fancy_FOUND FALSE)
+  set(fancy_NOT_FOUND_MESSAGE "fancy.h was not found: set fancy_INCLUDE_DIR to its folder")
+  return()
+endif()
+foreach(fancy_kind SHARED:fancy:libfancy.so STATIC:static:libfancy.a)
+  string(REPLACE ":" ";" fancy_kind "${fancy_kind}")
+  list(GET fancy_kind 0 fancy_linked)
+  list(GET fancy_kind 1 fancy_name)
+  list(GET fancy_kind 2 fancy_file)
+  if(NOT TARGET fancy::${fancy_name})
+    add_library(fancy::${fancy_name} ${fancy_linked} IMPORTED)
+    set_target_properties(fancy::${fancy_name} PROPERTIES
+      IMPORTED_LOCATION "${fancy_lib}/${fancy_file}"
+      INTERFACE_INCLUDE_DIRECTORIES "${fancy_INCLUDE_DIR}")
+  endif()
+endforeach()
