@@ -1,0 +1,291 @@
+//! Why there is no answer.
+
+use fancy_sys as sys;
+use std::fmt;
+
+/// What a call answers that may fail.
+pub type Result<T> = std::result::Result<T, Error>;
+
+/// A byte of a pattern.
+pub type ParseErrorPosition = usize;
+
+/// Why a call has no answer.
+#[derive(Clone, Debug, PartialEq, Eq)]
+#[non_exhaustive]
+pub enum Error {
+    /// The pattern cannot be read: the byte of the fault, and what is wrong there.
+    ParseError(ParseErrorPosition, ParseError),
+    /// The pattern is read, and refused.
+    CompileError(Box<CompileError>),
+    /// A search passed a limit.
+    RuntimeError(RuntimeError),
+    /// A request for memory was refused.
+    Memory,
+}
+
+/// What is wrong with a pattern that cannot be read.
+#[derive(Clone, Copy, Debug, PartialEq, Eq)]
+#[non_exhaustive]
+pub enum ParseError {
+    /// No verb goes on here, there are more than a million groups, or a tree or a template cannot be read.
+    GeneralParseError,
+    /// A `(` is not closed.
+    UnclosedOpenParen,
+    /// A `)` closes nothing.
+    UnopenedCloseParen,
+    /// The counts of a loop are out of order or too large.
+    InvalidRepeat,
+    /// The pattern nests deeper than 250, or a tree deeper than was allowed.
+    RecursionExceeded,
+    /// A `\` is last.
+    TrailingBackslash,
+    /// No escape has this letter.
+    InvalidEscape,
+    /// A property has no name, or no `}`.
+    UnclosedUnicodeName,
+    /// A hexadecimal digit or a `}` is missing.
+    InvalidHex,
+    /// No character has this number.
+    InvalidCodepointValue,
+    /// A class is not closed.
+    InvalidClass,
+    /// No such flag, or none where one has to stand.
+    UnknownFlag,
+    /// The flag `u` cannot be cleared.
+    NonUnicodeUnsupported,
+    /// The number of a group is too large.
+    InvalidBackref,
+    /// A quantifier behind nothing that can be repeated.
+    TargetNotRepeatable,
+    /// No name and no number of a group, or not what closes it.
+    InvalidGroupName,
+    /// Several groups have the name that is called.
+    InvalidGroupNameBackref,
+}
+
+/// Why a pattern that was read is refused.
+#[derive(Clone, Debug, PartialEq, Eq)]
+#[non_exhaustive]
+pub enum CompileError {
+    /// A class cannot be read: the message, with its text.
+    InnerError(String),
+    /// A class is refused for its size: the message, with its text.
+    ClassTooBig(String),
+    /// A reference names no group: its number.
+    InvalidBackref(usize),
+    /// A template names no group: the name.
+    InvalidGroupNameBackref(String),
+    /// A group is referred to by its number where groups have names.
+    NamedBackrefOnly,
+    /// This is read, and not supported.
+    FeatureNotYetSupported,
+    /// A call of a group that is not there.
+    SubroutineCallTargetNotFound,
+    /// A reference or a condition to a name that no group has.
+    UnresolvedAstNode,
+    /// A group calls itself before anything is taken: the message, with its description.
+    LeftRecursiveSubroutineCall(String),
+    /// A recursion that never ends.
+    NeverEndingRecursion,
+    /// A look-behind without a size of its own.
+    VariableLookBehindRequiresFeature,
+    /// The program of the pattern would have too many instructions.
+    PatternTooComplex,
+    /// More nodes of the pattern would be written out in one another than `max_nesting`.
+    NestLimitExceeded,
+}
+
+/// Which limit a search passed.
+#[derive(Clone, Copy, Debug, PartialEq, Eq)]
+#[non_exhaustive]
+pub enum RuntimeError {
+    /// More branches were held at once than there is room for.
+    StackOverflow,
+    /// The search fell back to a branch more often than `backtrack_limit`.
+    BacktrackLimitExceeded,
+    /// The search executed more instructions than `step_limit`.
+    StepLimitExceeded,
+}
+
+impl Error {
+    /// The error of an outcome that is neither a match nor none. `explain` writes the message of a refusal.
+    pub(crate) fn of(outcome: &sys::FancyOutcome, explain: impl FnOnce() -> String) -> Error {
+        if let Some(limit) = RuntimeError::of(outcome.code) {
+            return Error::RuntimeError(limit);
+        }
+        if let Some(kind) = ParseError::of(outcome.code) {
+            let at = if outcome.byte == sys::FANCY_UNSET {
+                0
+            } else {
+                outcome.byte
+            };
+            return Error::ParseError(at, kind);
+        }
+        match CompileError::of(outcome, explain) {
+            Some(refusal) => refusal.into(),
+            None if outcome.code == sys::FANCY_MEMORY => Error::Memory,
+            // The crate hands in text that is UTF-8, options of this size, and places that it checked.
+            None => unreachable!(
+                "the library answers code {}: is it of the version of this crate?",
+                outcome.code
+            ),
+        }
+    }
+}
+
+impl ParseError {
+    fn of(code: u32) -> Option<ParseError> {
+        Some(match code {
+            sys::FANCY_TREE_FAULT | sys::FANCY_GENERAL_PARSE_ERROR => ParseError::GeneralParseError,
+            sys::FANCY_UNCLOSED_OPEN_PAREN => ParseError::UnclosedOpenParen,
+            sys::FANCY_UNOPENED_CLOSE_PAREN => ParseError::UnopenedCloseParen,
+            sys::FANCY_INVALID_REPEAT => ParseError::InvalidRepeat,
+            sys::FANCY_RECURSION_EXCEEDED => ParseError::RecursionExceeded,
+            sys::FANCY_TRAILING_BACKSLASH => ParseError::TrailingBackslash,
+            sys::FANCY_INVALID_ESCAPE => ParseError::InvalidEscape,
+            sys::FANCY_UNCLOSED_UNICODE_NAME => ParseError::UnclosedUnicodeName,
+            sys::FANCY_INVALID_HEX => ParseError::InvalidHex,
+            sys::FANCY_INVALID_CODEPOINT_VALUE => ParseError::InvalidCodepointValue,
+            sys::FANCY_INVALID_CLASS => ParseError::InvalidClass,
+            sys::FANCY_UNKNOWN_FLAG => ParseError::UnknownFlag,
+            sys::FANCY_NON_UNICODE_UNSUPPORTED => ParseError::NonUnicodeUnsupported,
+            sys::FANCY_INVALID_GROUP_NAME => ParseError::InvalidGroupName,
+            sys::FANCY_INVALID_GROUP_NAME_BACKREF => ParseError::InvalidGroupNameBackref,
+            sys::FANCY_INVALID_BACKREF_NUMBER => ParseError::InvalidBackref,
+            sys::FANCY_TARGET_NOT_REPEATABLE => ParseError::TargetNotRepeatable,
+            _ => return None,
+        })
+    }
+
+    fn text(self) -> &'static str {
+        match self {
+            ParseError::GeneralParseError => "this cannot be read",
+            ParseError::UnclosedOpenParen => "a parenthesis is not closed",
+            ParseError::UnopenedCloseParen => "a `)` closes no parenthesis",
+            ParseError::InvalidRepeat => "the counts of a loop are out of order or too large",
+            ParseError::RecursionExceeded => "the pattern nests too deeply",
+            ParseError::TrailingBackslash => "a backslash ends the pattern",
+            ParseError::InvalidEscape => "no escape has this letter",
+            ParseError::UnclosedUnicodeName => "a property has no name, or its `}` is missing",
+            ParseError::InvalidHex => "a hexadecimal digit or a `}` is missing",
+            ParseError::InvalidCodepointValue => "no character has this number",
+            ParseError::InvalidClass => "a class is not closed",
+            ParseError::UnknownFlag => "no flag stands here",
+            ParseError::NonUnicodeUnsupported => "the flag `u` cannot be cleared",
+            ParseError::InvalidBackref => "the number of a group is too large",
+            ParseError::TargetNotRepeatable => "a quantifier follows nothing that can be repeated",
+            ParseError::InvalidGroupName => "this names no group",
+            ParseError::InvalidGroupNameBackref => {
+                "several groups have this name, so it cannot be called"
+            }
+        }
+    }
+}
+
+impl CompileError {
+    fn of(outcome: &sys::FancyOutcome, explain: impl FnOnce() -> String) -> Option<CompileError> {
+        Some(match outcome.code {
+            sys::FANCY_INNER_ERROR => CompileError::InnerError(explain()),
+            sys::FANCY_CLASS_TOO_BIG => CompileError::ClassTooBig(explain()),
+            sys::FANCY_INVALID_BACKREF => CompileError::InvalidBackref(outcome.group),
+            sys::FANCY_NAMED_BACKREF_ONLY => CompileError::NamedBackrefOnly,
+            sys::FANCY_FEATURE_NOT_YET_SUPPORTED => CompileError::FeatureNotYetSupported,
+            sys::FANCY_SUBROUTINE_CALL_TARGET_NOT_FOUND => {
+                CompileError::SubroutineCallTargetNotFound
+            }
+            sys::FANCY_UNRESOLVED_AST_NODE => CompileError::UnresolvedAstNode,
+            sys::FANCY_LEFT_RECURSIVE_SUBROUTINE_CALL => {
+                CompileError::LeftRecursiveSubroutineCall(explain())
+            }
+            sys::FANCY_NEVER_ENDING_RECURSION => CompileError::NeverEndingRecursion,
+            sys::FANCY_VARIABLE_LOOK_BEHIND_REQUIRES_FEATURE => {
+                CompileError::VariableLookBehindRequiresFeature
+            }
+            sys::FANCY_PATTERN_TOO_COMPLEX => CompileError::PatternTooComplex,
+            sys::FANCY_NEST_LIMIT_EXCEEDED => CompileError::NestLimitExceeded,
+            _ => return None,
+        })
+    }
+}
+
+impl RuntimeError {
+    fn of(code: u32) -> Option<RuntimeError> {
+        Some(match code {
+            sys::FANCY_STACK_OVERFLOW => RuntimeError::StackOverflow,
+            sys::FANCY_BACKTRACK_LIMIT_EXCEEDED => RuntimeError::BacktrackLimitExceeded,
+            sys::FANCY_STEP_LIMIT_EXCEEDED => RuntimeError::StepLimitExceeded,
+            _ => return None,
+        })
+    }
+}
+
+impl From<CompileError> for Error {
+    fn from(refusal: CompileError) -> Error {
+        Error::CompileError(Box::new(refusal))
+    }
+}
+
+impl From<RuntimeError> for Error {
+    fn from(limit: RuntimeError) -> Error {
+        Error::RuntimeError(limit)
+    }
+}
+
+impl fmt::Display for ParseError {
+    fn fmt(&self, f: &mut fmt::Formatter<'_>) -> fmt::Result {
+        f.write_str(self.text())
+    }
+}
+
+impl fmt::Display for CompileError {
+    fn fmt(&self, f: &mut fmt::Formatter<'_>) -> fmt::Result {
+        let text = match self {
+            CompileError::InnerError(message)
+            | CompileError::ClassTooBig(message)
+            | CompileError::LeftRecursiveSubroutineCall(message) => message,
+            CompileError::InvalidBackref(group) => return write!(f, "there is no group {group}"),
+            CompileError::InvalidGroupNameBackref(name) => {
+                return write!(f, "no group is named {name}")
+            }
+            CompileError::NamedBackrefOnly => {
+                "groups have names here, and one is referred to by its number"
+            }
+            CompileError::FeatureNotYetSupported => "this feature is not supported",
+            CompileError::SubroutineCallTargetNotFound => "a group is called that is not there",
+            CompileError::UnresolvedAstNode => "a group is referred to by a name that no group has",
+            CompileError::NeverEndingRecursion => "a recursion never ends",
+            CompileError::VariableLookBehindRequiresFeature => "a look-behind has no constant size",
+            CompileError::PatternTooComplex => {
+                "the program of the pattern has too many instructions"
+            }
+            CompileError::NestLimitExceeded => "the pattern nests deeper than the limit",
+        };
+        f.write_str(text)
+    }
+}
+
+impl fmt::Display for RuntimeError {
+    fn fmt(&self, f: &mut fmt::Formatter<'_>) -> fmt::Result {
+        f.write_str(match self {
+            RuntimeError::StackOverflow => "too many branches are held",
+            RuntimeError::BacktrackLimitExceeded => "the limit of backtracks was passed",
+            RuntimeError::StepLimitExceeded => "the limit of steps was passed",
+        })
+    }
+}
+
+impl fmt::Display for Error {
+    fn fmt(&self, f: &mut fmt::Formatter<'_>) -> fmt::Result {
+        match self {
+            Error::ParseError(at, kind) => write!(f, "at byte {at}: {kind}"),
+            Error::CompileError(refusal) => refusal.fmt(f),
+            Error::RuntimeError(limit) => limit.fmt(f),
+            Error::Memory => f.write_str("memory ran out"),
+        }
+    }
+}
+
+impl std::error::Error for Error {}
+impl std::error::Error for ParseError {}
+impl std::error::Error for CompileError {}
+impl std::error::Error for RuntimeError {}

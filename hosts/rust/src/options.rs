@@ -1,0 +1,177 @@
+//! How a pattern is read, compiled and searched for.
+
+use crate::error::Result;
+use crate::regex::Regex;
+use fancy_sys as sys;
+
+/// The options of a pattern or tree and of its searches: each is that of `fancy_options` in `fancy.h`.
+///
+/// [`RegexBuilder`] has those that fancy-regex knows, by its names.
+#[derive(Clone, Copy, Debug, PartialEq, Eq)]
+pub struct Options {
+    pub(crate) host: sys::FancyOptions,
+}
+
+impl Default for Options {
+    /// Those of `fancy_default_options`.
+    fn default() -> Options {
+        // Safety: the call takes nothing.
+        Options {
+            host: unsafe { sys::fancy_default_options() },
+        }
+    }
+}
+
+macro_rules! setters {
+    ($($(#[doc = $text:literal])+ $name:ident: $kind:ty,)*) => {
+        $($(#[doc = $text])+
+        #[must_use]
+        pub fn $name(mut self, $name: $kind) -> Options {
+            self.host.$name = $name;
+            self
+        })*
+    };
+}
+
+impl Options {
+    setters! {
+        /// How many instructions the program of a pattern may have; 100,000 unless set.
+        max_prog_size: usize,
+        /// How many nodes of a pattern may be written out in one another; 1,000 unless set, for a stack of 2 MB.
+        max_nesting: usize,
+        /// How deep a tree may nest; 250 unless set, for a stack of 2 MB.
+        max_depth: usize,
+        /// How often a search may fall back to a branch. Unless set it is 1,000,000 times, and once more for each byte
+        /// of the text and for its end.
+        backtrack_limit: usize,
+        /// How many instructions a search may execute; no bound unless set.
+        step_limit: u64,
+        /// Only the first start is tried: said to the compiler.
+        compile_anchored: bool,
+        /// Only the first start is tried: said to a search.
+        anchored: bool,
+        /// No match ended where a search begins, for `\G`.
+        not_continued: bool,
+        /// A match has to take something.
+        not_empty: bool,
+        /// No empty match at the end of a text after a newline.
+        end_text: bool,
+        /// Folding, word characters and classes go by ASCII.
+        ascii: bool,
+        /// Of the matches at the earliest start the longest one is found, and not the first.
+        longest: bool,
+        /// Literals, classes and references are folded, as with the flag `i`.
+        case_insensitive: bool,
+        /// `^` and `$` hold at the ends of lines, as with the flag `m`.
+        multi_line: bool,
+        /// `.` takes a newline, as with the flag `s`.
+        dot_matches_new_line: bool,
+        /// White space and comments in the pattern are left out, as with the flag `x`.
+        ignore_whitespace: bool,
+        /// A CR before an LF belongs to the end of its line, as with the flag `R`.
+        crlf: bool,
+        /// Quantifiers are lazy, and greedy with a `?`, as with the flag `U`.
+        swap_greed: bool,
+        /// Under `multi_line` a line begins where Oniguruma has it.
+        oniguruma: bool,
+        /// Where a group has a name, a plain `( )` captures nothing.
+        named_groups_only: bool,
+    }
+}
+
+/// A pattern with the options of its regex.
+///
+/// ```
+/// # fn main() -> fancy::Result<()> {
+/// use fancy::RegexBuilder;
+///
+/// let word = RegexBuilder::new(r"\bpi\b").case_insensitive(true).build()?;
+/// assert!(word.is_match("PI day")?);
+/// # Ok(())
+/// # }
+/// ```
+#[derive(Clone, Debug)]
+pub struct RegexBuilder {
+    pattern: String,
+    options: Options,
+}
+
+macro_rules! builder_setters {
+    ($($(#[doc = $text:literal])+ $name:ident: $kind:ty => $($field:ident).+,)*) => {
+        $($(#[doc = $text])+
+        pub fn $name(&mut self, value: $kind) -> &mut RegexBuilder {
+            self.options.host.$($field).+ = value;
+            self
+        })*
+    };
+}
+
+impl RegexBuilder {
+    /// The pattern with the default options.
+    pub fn new(pattern: &str) -> RegexBuilder {
+        RegexBuilder {
+            pattern: pattern.to_string(),
+            options: Options::default(),
+        }
+    }
+
+    /// The regex of the pattern.
+    ///
+    /// A pattern that cannot be read is an [`Error::ParseError`](crate::Error::ParseError), and one that is refused an
+    /// [`Error::CompileError`](crate::Error::CompileError).
+    pub fn build(&self) -> Result<Regex> {
+        Regex::with_options(&self.pattern, self.options)
+    }
+
+    builder_setters! {
+        /// Literals, classes and references are folded, as with the flag `i`. Off unless set.
+        case_insensitive: bool => case_insensitive,
+        /// `^` and `$` hold at the ends of lines, as with the flag `m`. Off unless set.
+        multi_line: bool => multi_line,
+        /// `.` takes a newline, as with the flag `s`. Off unless set.
+        dot_matches_new_line: bool => dot_matches_new_line,
+        /// White space and comments in the pattern are left out, as with the flag `x`. Off unless set.
+        ignore_whitespace: bool => ignore_whitespace,
+        /// The same.
+        verbose_mode: bool => ignore_whitespace,
+        /// A CR before an LF belongs to the end of its line, as with the flag `R`. Off unless set.
+        crlf: bool => crlf,
+        /// Quantifiers are lazy, and greedy with a `?`, as with the flag `U`. Off unless set.
+        swap_greed: bool => swap_greed,
+        /// Under `multi_line` a line begins where Oniguruma has it. Off unless set.
+        oniguruma_mode: bool => oniguruma,
+        /// Where a group has a name, a plain `( )` captures nothing. Off unless set.
+        ignore_numbered_groups_when_named_groups_exist: bool => named_groups_only,
+        /// A match has to take something. Off unless set.
+        find_not_empty: bool => not_empty,
+        /// Of the matches at the earliest start the longest one is found, in bytes, and not the first. Off unless set.
+        leftmost_longest: bool => longest,
+        /// How often a search may fall back to a branch. Unless set it is 1,000,000 times, and once more for each byte
+        /// of the text and for its end.
+        backtrack_limit: usize => backtrack_limit,
+        /// How many instructions a search may execute; no bound unless set.
+        step_limit: u64 => step_limit,
+        /// How many instructions the program of the pattern may have; 100,000 unless set.
+        max_prog_size: usize => max_prog_size,
+        /// How many nodes of the pattern may be written out in one another; 1,000 unless set, for a stack of 2 MB.
+        max_nesting: usize => max_nesting,
+    }
+
+    /// Folding, classes and word characters go by Unicode, and otherwise by ASCII. On unless set.
+    pub fn unicode_mode(&mut self, yes: bool) -> &mut RegexBuilder {
+        self.options.host.ascii = !yes;
+        self
+    }
+
+    /// Nothing: this engine has no automaton of `regex` whose size could be bounded; [`max_prog_size`] bounds a program.
+    ///
+    /// [`max_prog_size`]: RegexBuilder::max_prog_size
+    pub fn delegate_size_limit(&mut self, _limit: usize) -> &mut RegexBuilder {
+        self
+    }
+
+    /// Nothing, as [`delegate_size_limit`](RegexBuilder::delegate_size_limit).
+    pub fn delegate_dfa_size_limit(&mut self, _limit: usize) -> &mut RegexBuilder {
+        self
+    }
+}

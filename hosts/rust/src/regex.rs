@@ -1,0 +1,434 @@
+//! Patterns that were compiled.
+
+use crate::captures::{Captures, Match};
+use crate::error::{Error, Result};
+use crate::expand::Expander;
+use crate::matches::{CaptureMatches, Matches};
+use crate::options::Options;
+use crate::program::{Pool, Program, Source};
+use crate::replacer::Replacer;
+use crate::splits::{Split, SplitN};
+use fancy_sys as sys;
+use std::borrow::Cow;
+use std::collections::HashMap;
+use std::fmt;
+use std::str::FromStr;
+use std::sync::Arc;
+
+/// A pattern that was compiled.
+///
+/// Threads may share it: each search takes a program of its own from a pool. A clone shares the pool.
+///
+/// ```
+/// # fn main() -> fancy::Result<()> {
+/// use fancy::Regex;
+///
+/// let repeated = Regex::new(r"\b(\w+) \1\b")?;
+/// assert_eq!(repeated.find("it was was so")?.unwrap().range(), 3..10);
+/// # Ok(())
+/// # }
+/// ```
+#[derive(Clone)]
+pub struct Regex {
+    shared: Arc<Shared>,
+}
+
+struct Shared {
+    text: String,
+    options: Options,
+    names: Arc<Names>,
+    pool: Pool,
+}
+
+/// The groups of a pattern.
+pub(crate) struct Names {
+    /// The name of each group, by its number.
+    of_groups: Vec<Option<String>>,
+    /// The groups of each name, in the order in which they open.
+    numbers: HashMap<String, Vec<usize>>,
+}
+
+impl Names {
+    fn of(program: &mut Program) -> Names {
+        let of_groups: Vec<_> = (0..program.group_count())
+            .map(|group| program.group_name(group))
+            .collect();
+        let mut numbers = HashMap::<String, Vec<usize>>::new();
+        for (group, name) in of_groups.iter().enumerate() {
+            if let Some(name) = name {
+                numbers.entry(name.clone()).or_default().push(group);
+            }
+        }
+        Names { of_groups, numbers }
+    }
+
+    /// The groups of a name, in the order in which they open.
+    pub(crate) fn numbers(&self, name: &str) -> impl Iterator<Item = usize> + '_ {
+        self.numbers.get(name).into_iter().flatten().copied()
+    }
+}
+
+impl Regex {
+    /// Compiles a pattern with the default options; see [`RegexBuilder`](crate::RegexBuilder) for others.
+    ///
+    /// A pattern that cannot be read is an [`Error::ParseError`], and one that is refused an [`Error::CompileError`].
+    pub fn new(re: &str) -> Result<Regex> {
+        Regex::with_options(re, Options::default())
+    }
+
+    /// Compiles a pattern.
+    pub fn with_options(pattern: &str, options: Options) -> Result<Regex> {
+        Regex::of(Source::Pattern(pattern), pattern, options)
+    }
+
+    /// Compiles the tree that a text in the notation of docs/MEANING.md spells. Its groups have no names.
+    ///
+    /// A text that spells no tree is an [`Error::ParseError`] of kind `GeneralParseError`.
+    pub fn of_tree(tree: &str, options: Options) -> Result<Regex> {
+        Regex::of(Source::Tree(tree), tree, options)
+    }
+
+    fn of(source: Source<'_>, text: &str, options: Options) -> Result<Regex> {
+        let mut program = Program::compile(source, &options)?;
+        let names = Arc::new(Names::of(&mut program));
+        let shared = Shared {
+            text: text.to_string(),
+            options,
+            names,
+            pool: Pool::of(program),
+        };
+        Ok(Regex {
+            shared: Arc::new(shared),
+        })
+    }
+
+    /// The pattern, or the tree, as it was given.
+    pub fn as_str(&self) -> &str {
+        &self.shared.text
+    }
+
+    // ---- Groups
+
+    /// How many groups there are, with group 0.
+    pub fn captures_len(&self) -> usize {
+        self.shared.names.of_groups.len()
+    }
+
+    /// The name of each group, group 0 first, which has none.
+    pub fn capture_names(&self) -> CaptureNames<'_> {
+        CaptureNames(self.shared.names.of_groups.iter())
+    }
+
+    pub(crate) fn has_names(&self) -> bool {
+        !self.shared.names.numbers.is_empty()
+    }
+
+    pub(crate) fn has_group_named(&self, name: &str) -> bool {
+        self.shared.names.numbers.contains_key(name)
+    }
+
+    /// The group of a name that no other group has.
+    pub(crate) fn only_group_named(&self, name: &str) -> Option<usize> {
+        let mut numbers = self.shared.names.numbers(name);
+        numbers.next().filter(|_| numbers.next().is_none())
+    }
+
+    // ---- One match
+
+    /// Whether there is a match.
+    ///
+    /// An error, here and in each search, is an [`Error::RuntimeError`] or [`Error::Memory`].
+    pub fn is_match(&self, text: &str) -> Result<bool> {
+        self.shared
+            .pool
+            .with(|program| program.is_match(text, &self.shared.options))
+    }
+
+    /// The first match.
+    pub fn find<'t>(&self, text: &'t str) -> Result<Option<Match<'t>>> {
+        self.find_from_pos(text, 0)
+    }
+
+    /// The first match that begins at a byte of the text or later. What lies before is there for look-behind and `^`.
+    ///
+    /// # Panics
+    ///
+    /// If `pos` is no character boundary of the text.
+    pub fn find_from_pos<'t>(&self, text: &'t str, pos: usize) -> Result<Option<Match<'t>>> {
+        let mut span = [sys::FANCY_UNSET; 2];
+        let is_found = self.search(text, pos, true, &mut span)?;
+        Ok(if is_found {
+            Match::of(text, span[0], span[1])
+        } else {
+            None
+        })
+    }
+
+    /// The first match with its groups.
+    pub fn captures<'t>(&self, text: &'t str) -> Result<Option<Captures<'t>>> {
+        self.captures_from_pos(text, 0)
+    }
+
+    /// The first match, with its groups, that begins at a byte of the text or later.
+    ///
+    /// # Panics
+    ///
+    /// If `pos` is no character boundary of the text.
+    pub fn captures_from_pos<'t>(&self, text: &'t str, pos: usize) -> Result<Option<Captures<'t>>> {
+        self.captures_at(text, pos, true)
+    }
+
+    /// The same; it is said whether a match ended at `pos`, or none came before.
+    pub(crate) fn captures_at<'t>(
+        &self,
+        text: &'t str,
+        pos: usize,
+        is_continued: bool,
+    ) -> Result<Option<Captures<'t>>> {
+        let mut spans = vec![sys::FANCY_UNSET; 2 * self.captures_len()];
+        let is_found = self.search(text, pos, is_continued, &mut spans)?;
+        Ok(is_found.then(|| Captures::of(text, spans, Arc::clone(&self.shared.names))))
+    }
+
+    /// A match of a pattern without groups, with group 0.
+    pub(crate) fn captures_of<'t>(&self, found: Match<'t>) -> Captures<'t> {
+        Captures::of(
+            found.text(),
+            vec![found.start(), found.end()],
+            Arc::clone(&self.shared.names),
+        )
+    }
+
+    fn search(
+        &self,
+        text: &str,
+        pos: usize,
+        is_continued: bool,
+        spans: &mut [usize],
+    ) -> Result<bool> {
+        assert!(
+            text.is_char_boundary(pos),
+            "byte {pos} is no character boundary of the text"
+        );
+        let mut options = self.shared.options;
+        options.host.pos = pos;
+        options.host.not_continued |= !is_continued;
+        self.shared
+            .pool
+            .with(|program| program.find(text, &options, spans))
+    }
+
+    // ---- All matches
+
+    /// Every match, from left to right. An empty match where the last one ended is left out. An error is the last item.
+    ///
+    /// ```
+    /// # fn main() -> fancy::Result<()> {
+    /// use fancy::Regex;
+    ///
+    /// let numbers: Result<Vec<_>, _> = Regex::new("[0-9]+")?.find_iter("1, 22").map(|it| it.map(|it| it.as_str())).collect();
+    /// assert_eq!(numbers?, ["1", "22"]);
+    /// # Ok(())
+    /// # }
+    /// ```
+    pub fn find_iter<'r, 't>(&'r self, text: &'t str) -> Matches<'r, 't> {
+        Matches::of(self, text)
+    }
+
+    /// The next matches of a list, with how many there are and why it is no more.
+    pub(crate) fn next_matches(
+        &self,
+        text: &str,
+        standing: &mut sys::FancyStanding,
+        spans: &mut [usize],
+    ) -> (usize, Result<bool>) {
+        let options = &self.shared.options;
+        let found = self
+            .shared
+            .pool
+            .with(|program| Ok(program.find_all(text, options, standing, spans)));
+        found.unwrap_or_else(|error| (0, Err(error)))
+    }
+
+    /// Every match of [`find_iter`](Regex::find_iter), with its groups.
+    pub fn captures_iter<'r, 't>(&'r self, text: &'t str) -> CaptureMatches<'r, 't> {
+        CaptureMatches::of(self, text)
+    }
+
+    /// The pieces of the text between the matches. An error is the last item.
+    pub fn split<'r, 't>(&'r self, target: &'t str) -> Split<'r, 't> {
+        Split::of(self.find_iter(target))
+    }
+
+    /// At most `limit` pieces: the last one is the rest of the text. With a limit of 0 there are none.
+    pub fn splitn<'r, 't>(&'r self, target: &'t str, limit: usize) -> SplitN<'r, 't> {
+        SplitN::of(self.split(target), limit)
+    }
+
+    // ---- Replacing
+
+    /// The text with its first match replaced.
+    ///
+    /// # Panics
+    ///
+    /// If the search has an error: [`try_replacen`](Regex::try_replacen) answers it.
+    ///
+    /// ```
+    /// # fn main() -> fancy::Result<()> {
+    /// use fancy::{Captures, Regex};
+    ///
+    /// let date = Regex::new(r"(?<year>\d+)-(?<month>\d+)")?;
+    /// assert_eq!(date.replace("on 2026-11", "${month}/$year"), "on 11/2026");
+    /// assert_eq!(date.replace("on 2026-11", |it: &Captures<'_>| it["year"].to_string()), "on 2026");
+    /// # Ok(())
+    /// # }
+    /// ```
+    pub fn replace<'t, R: Replacer>(&self, text: &'t str, rep: R) -> Cow<'t, str> {
+        self.replacen(text, 1, rep)
+    }
+
+    /// The text with every match replaced.
+    ///
+    /// # Panics
+    ///
+    /// As [`replace`](Regex::replace).
+    pub fn replace_all<'t, R: Replacer>(&self, text: &'t str, rep: R) -> Cow<'t, str> {
+        self.replacen(text, 0, rep)
+    }
+
+    /// The text with its first `limit` matches replaced, all of them where that is 0.
+    ///
+    /// # Panics
+    ///
+    /// As [`replace`](Regex::replace).
+    pub fn replacen<'t, R: Replacer>(&self, text: &'t str, limit: usize, rep: R) -> Cow<'t, str> {
+        match self.try_replacen(text, limit, rep) {
+            Ok(replaced) => replaced,
+            Err(error) => panic!("a search while replacing: {error}"),
+        }
+    }
+
+    /// The text with its first `limit` matches replaced, all of them where that is 0. The error of a search for one of
+    /// them is answered.
+    pub fn try_replacen<'t, R: Replacer>(
+        &self,
+        text: &'t str,
+        limit: usize,
+        mut rep: R,
+    ) -> Result<Cow<'t, str>> {
+        if let Some(fixed) = rep.no_expansion().map(Cow::into_owned) {
+            let matches = self.find_iter(text).map(|it| it.map(|it| (it, ())));
+            return rewritten(text, limit, matches, |_, new| new.push_str(&fixed));
+        }
+        let template = rep
+            .template()
+            .and_then(|template| Expander::default().in_library(template, self));
+        if let Some(template) = template {
+            return self.replaced_by_library(text, limit, &template);
+        }
+        let matches = self
+            .captures_iter(text)
+            .map(|it| it.map(|it| (it.whole(), it)));
+        rewritten(text, limit, matches, |captures, new| {
+            rep.replace_append(&captures, new)
+        })
+    }
+
+    /// The text with its first matches replaced by a template of the library.
+    fn replaced_by_library<'t>(
+        &self,
+        text: &'t str,
+        limit: usize,
+        template: &str,
+    ) -> Result<Cow<'t, str>> {
+        let options = &self.shared.options;
+        let new = self
+            .shared
+            .pool
+            .with(|program| program.replace(text, template, limit, options))?;
+        Ok(if new == text {
+            Cow::Borrowed(text)
+        } else {
+            Cow::Owned(new)
+        })
+    }
+}
+
+/// The text with what is written for its first `limit` matches, or all for 0, in their places; the text itself if there are
+/// none.
+fn rewritten<'t, T>(
+    text: &'t str,
+    limit: usize,
+    matches: impl Iterator<Item = Result<(Match<'t>, T)>>,
+    mut write: impl FnMut(T, &mut String),
+) -> Result<Cow<'t, str>> {
+    let limit = if limit == 0 { usize::MAX } else { limit };
+    let mut matches = matches.take(limit).peekable();
+    if matches.peek().is_none() {
+        return Ok(Cow::Borrowed(text));
+    }
+    let mut new = String::with_capacity(text.len());
+    let mut end = 0;
+    for found in matches {
+        let (found, written) = found?;
+        new.push_str(&text[end..found.start()]);
+        write(written, &mut new);
+        end = found.end();
+    }
+    new.push_str(&text[end..]);
+    Ok(Cow::Owned(new))
+}
+
+impl fmt::Debug for Regex {
+    fn fmt(&self, f: &mut fmt::Formatter<'_>) -> fmt::Result {
+        f.write_str(self.as_str())
+    }
+}
+
+impl fmt::Display for Regex {
+    fn fmt(&self, f: &mut fmt::Formatter<'_>) -> fmt::Result {
+        f.write_str(self.as_str())
+    }
+}
+
+impl FromStr for Regex {
+    type Err = Error;
+
+    fn from_str(s: &str) -> Result<Regex> {
+        Regex::new(s)
+    }
+}
+
+impl TryFrom<&str> for Regex {
+    type Error = Error;
+
+    fn try_from(s: &str) -> Result<Regex> {
+        Regex::new(s)
+    }
+}
+
+impl TryFrom<String> for Regex {
+    type Error = Error;
+
+    fn try_from(s: String) -> Result<Regex> {
+        Regex::new(&s)
+    }
+}
+
+/// The name of each group; see [`Regex::capture_names`].
+#[derive(Clone, Debug)]
+pub struct CaptureNames<'r>(std::slice::Iter<'r, Option<String>>);
+
+impl<'r> Iterator for CaptureNames<'r> {
+    type Item = Option<&'r str>;
+
+    fn next(&mut self) -> Option<Option<&'r str>> {
+        self.0.next().map(Option::as_deref)
+    }
+
+    fn size_hint(&self) -> (usize, Option<usize>) {
+        self.0.size_hint()
+    }
+}
+
+impl ExactSizeIterator for CaptureNames<'_> {}
