@@ -1,0 +1,122 @@
+"""Regular expressions by the names of `re`, over the shared library of a backtracking engine whose answers are proved.
+
+    >>> import fancy
+    >>> fancy.search(r"(?<=\\$)(?<number>[0-9]+)", "cost $42").groupdict()
+    {'number': '42'}
+
+The syntax is that of fancy-regex: `(?~ )`, `\\g<name>`, `(?>..)`, `\\K`, `\\p{Greek}` and nested classes are there. Offsets are
+in characters. README.md says what differs from `re`.
+"""
+
+from __future__ import annotations
+
+from functools import lru_cache
+from typing import Any, Iterator, List, Optional, Tuple, Union
+
+from ._errors import LimitError, error
+from ._flags import RegexFlag
+from ._library import version
+from ._patterns import Match, Pattern, Replacement, last_text
+
+__all__ = [
+    "A", "ASCII", "DOTALL", "I", "IGNORECASE", "LimitError", "M", "MULTILINE", "Match", "NOFLAG", "Pattern", "RegexFlag", "S",
+    "U", "UNICODE", "VERBOSE", "X", "compile", "error", "escape", "findall", "finditer", "fullmatch", "match", "purge",
+    "search", "split", "sub", "subn", "version",
+]  # fmt: skip
+
+NOFLAG = RegexFlag.NOFLAG
+A = ASCII = RegexFlag.ASCII
+I = IGNORECASE = RegexFlag.IGNORECASE  # noqa: E741
+M = MULTILINE = RegexFlag.MULTILINE
+S = DOTALL = RegexFlag.DOTALL
+U = UNICODE = RegexFlag.UNICODE
+X = VERBOSE = RegexFlag.VERBOSE
+
+AnyPattern = Union[str, Pattern]
+_KNOWN = A | I | M | S | U | X
+
+
+@lru_cache(maxsize=512)
+def _kept(pattern: str, flags: int) -> Pattern:
+    return Pattern(pattern, RegexFlag(flags), {})
+
+
+def compile(pattern: AnyPattern, flags: int = 0, **options: Any) -> Pattern:
+    """The pattern, compiled. Of the flags A, I, M, S, U and X are known.
+
+    Options: backtrack_limit (how often a search may fall back to a branch), step_limit (how many instructions it may
+    execute), max_prog_size (how many instructions the program of a pattern may have), max_nesting (how many nodes may be
+    written out in one another), find_not_empty (a match has to take something), leftmost_longest (the longest match at the
+    earliest start is found, and not the first), and crlf, swap_greed, oniguruma and
+    ignore_numbered_groups_when_named_groups_exist, as RegexBuilder of fancy-regex has them.
+
+    A pattern that cannot be read, or is refused, is an `error`.
+    """
+    if isinstance(pattern, Pattern):
+        if flags or options:
+            raise ValueError("cannot process flags or options with a compiled pattern")
+        return pattern
+    if not isinstance(pattern, str):
+        raise TypeError(f"a pattern is a string, not {type(pattern).__name__!r}")
+    if flags & ~_KNOWN:
+        raise ValueError(f"unknown flags: {int(flags) & ~int(_KNOWN)}")
+    if flags & A and flags & U:
+        raise ValueError("ASCII and UNICODE flags are incompatible")
+    flags = int(flags) | (0 if flags & A else int(U))
+    return Pattern(pattern, RegexFlag(flags), options) if options else _kept(pattern, flags)
+
+
+def search(pattern: AnyPattern, string: str, flags: int = 0) -> Optional[Match]:
+    """The first match."""
+    return compile(pattern, flags).search(string)
+
+
+def match(pattern: AnyPattern, string: str, flags: int = 0) -> Optional[Match]:
+    """The match at the start of the string."""
+    return compile(pattern, flags).match(string)
+
+
+def fullmatch(pattern: AnyPattern, string: str, flags: int = 0) -> Optional[Match]:
+    """The match of the whole string."""
+    return compile(pattern, flags).fullmatch(string)
+
+
+def finditer(pattern: AnyPattern, string: str, flags: int = 0) -> Iterator[Match]:
+    """Every match, from left to right."""
+    return compile(pattern, flags).finditer(string)
+
+
+def findall(pattern: AnyPattern, string: str, flags: int = 0) -> List[Any]:
+    """The texts of every match, or of its groups."""
+    return compile(pattern, flags).findall(string)
+
+
+def split(pattern: AnyPattern, string: str, maxsplit: int = 0, flags: int = 0) -> List[Optional[str]]:
+    """What stands between the matches."""
+    return compile(pattern, flags).split(string, maxsplit)
+
+
+def sub(pattern: AnyPattern, repl: Replacement, string: str, count: int = 0, flags: int = 0) -> str:
+    """The string with matches replaced."""
+    return compile(pattern, flags).sub(repl, string, count)
+
+
+def subn(pattern: AnyPattern, repl: Replacement, string: str, count: int = 0, flags: int = 0) -> Tuple[str, int]:
+    """The string with matches replaced, and how many were."""
+    return compile(pattern, flags).subn(repl, string, count)
+
+
+_SPECIAL = {ord(letter): "\\" + letter for letter in "()[]{}?*+-|^$\\.&~# \t\n\r\v\f"}
+
+
+def escape(pattern: str) -> str:
+    """The pattern that spells a text, whatever flags hold: what `re.escape` answers."""
+    if not isinstance(pattern, str):
+        raise TypeError(f"a pattern is a string, not {type(pattern).__name__!r}")
+    return pattern.translate(_SPECIAL)
+
+
+def purge() -> None:
+    """Forgets the patterns that `compile` kept, and the text of the last search."""
+    _kept.cache_clear()
+    last_text.text = None

@@ -1,0 +1,45 @@
+"""Why there is no answer."""
+
+from __future__ import annotations
+
+from typing import Optional
+
+
+class error(Exception):
+    """A pattern or a template that cannot be read, or a search that passed a limit.
+
+    msg      what is wrong
+    pattern  the pattern or the template
+    pos      the character where it is wrong; None where it is no one place
+    lineno, colno  its line and column, from 1; None as pos
+    name     the name of the error in the engine, as 'InvalidEscape'; None for a template
+    """
+
+    __module__ = "fancy"
+
+    def __init__(
+        self, msg: str, pattern: Optional[str] = None, pos: Optional[int] = None, name: Optional[str] = None
+    ) -> None:
+        self.msg = msg
+        self.pattern = pattern
+        self.pos = pos
+        self.name = name
+        self.lineno: Optional[int] = None
+        self.colno: Optional[int] = None
+        text = msg
+        if pattern is not None and pos is not None:
+            self.lineno = pattern.count("\n", 0, pos) + 1
+            self.colno = pos - pattern.rfind("\n", 0, pos)
+            text = f"{msg} at position {pos}"
+            if "\n" in pattern:
+                text += f" (line {self.lineno}, column {self.colno})"
+        super().__init__(text)
+
+    def __reduce__(self):
+        return type(self), (self.msg, self.pattern, self.pos, self.name)
+
+
+class LimitError(error):
+    """A search that passed a limit: of backtracks, of steps, or of the branches that are held."""
+
+    __module__ = "fancy"

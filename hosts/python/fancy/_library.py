@@ -1,0 +1,323 @@
+"""The calls of the shared library, by ctypes."""
+
+from __future__ import annotations
+
+import os
+from ctypes import CDLL, POINTER, Structure, byref, c_bool, c_char_p, c_size_t, c_uint32, c_uint64, c_void_p
+from ctypes import create_string_buffer, sizeof
+from pathlib import Path
+from threading import Lock
+from typing import Any, Callable, Dict, List, Mapping, Optional, Tuple
+
+from ._errors import LimitError, error
+from ._flags import RegexFlag
+
+UNSET = c_size_t(-1).value
+# The library has to be of this version: below 1.0.0 a minor version may change calls.
+VERSION = "0.3"
+NAMES = (f"libfancy.so.{VERSION}", "libfancy.so")
+
+OK, NO_MATCH, MEMORY = 0, 1, 5
+LIMITS = range(7, 10)
+
+
+class _Program(Structure):
+    _fields_ = [("words", c_size_t * 3)]
+
+
+_SIZES = ("size", "pos", "max_prog_size", "max_nesting", "max_depth", "backtrack_limit")
+_SWITCHES = (
+    "compile_anchored",
+    "anchored",
+    "not_continued",
+    "not_empty",
+    "end_text",
+    "ascii",
+    "longest",
+    "case_insensitive",
+    "multi_line",
+    "dot_matches_new_line",
+    "ignore_whitespace",
+    "crlf",
+    "swap_greed",
+    "oniguruma",
+    "named_groups_only",
+)
+
+
+class _Options(Structure):
+    _fields_ = [
+        *((name, c_size_t) for name in _SIZES),
+        ("step_limit", c_uint64),
+        *((name, c_bool) for name in _SWITCHES),
+        ("reserved", c_uint64 * 4),
+    ]
+
+
+class _Outcome(Structure):
+    _fields_ = [("code", c_uint32), *((name, c_size_t) for name in ("byte", "group", "count", "next"))]
+
+
+class Standing(Structure):
+    """Where a list of all matches stands."""
+
+    _fields_ = [("pos", c_size_t), ("last", c_size_t), ("has_last", c_bool)]
+
+
+# ---- The library
+
+
+def _candidates() -> List[str]:
+    """What may be the library, the likeliest first."""
+    given = os.environ.get("FANCY_LIBRARY")
+    if given is None:
+        return list(NAMES)
+    return [str(Path(given) / name) for name in NAMES] if os.path.isdir(given) else [given]
+
+
+def _loaded() -> CDLL:
+    faults = []
+    for name in _candidates():
+        try:
+            return CDLL(name)
+        except OSError as fault:
+            faults.append(str(fault))
+    raise ImportError(
+        "the library libfancy.so was not found. Install it (`make -C hosts install PREFIX=/usr/local`, then `ldconfig`), or"
+        " name its file or folder in the environment variable FANCY_LIBRARY. Tried: " + "; ".join(faults)
+    )
+
+
+_PROGRAM, _OPTIONS, _NUMBERS, _ROOM = POINTER(_Program), POINTER(_Options), POINTER(c_size_t), (c_void_p, c_size_t)
+_TEXT = (c_char_p, c_size_t)
+_CALLS = {
+    "fancy_default_options": (_Options, ()),
+    "fancy_version": (c_size_t, _ROOM),
+    "fancy_compile_pattern": (_Outcome, (*_TEXT, _OPTIONS, _PROGRAM)),
+    "fancy_free": (None, (_PROGRAM,)),
+    "fancy_clone": (_Outcome, (_PROGRAM, _PROGRAM)),
+    "fancy_group_count": (c_size_t, (_PROGRAM,)),
+    "fancy_group_name": (c_size_t, (_PROGRAM, c_size_t, *_ROOM)),
+    "fancy_find": (_Outcome, (_PROGRAM, *_TEXT, _OPTIONS, _NUMBERS, c_size_t)),
+    "fancy_find_all": (_Outcome, (_PROGRAM, *_TEXT, _OPTIONS, POINTER(Standing), _NUMBERS, c_size_t)),
+    "fancy_error_name": (c_size_t, (c_uint32, *_ROOM)),
+    "fancy_error_message": (c_size_t, (POINTER(_Outcome), *_ROOM)),
+    "fancy_explain_pattern": (c_size_t, (*_TEXT, _OPTIONS, *_ROOM)),
+    "fancy_replace": (_Outcome, (_PROGRAM, *_TEXT, *_TEXT, c_size_t, _OPTIONS, *_ROOM)),
+}
+
+
+def _declared(library: CDLL) -> CDLL:
+    for name, (answer, arguments) in _CALLS.items():
+        call = getattr(library, name)
+        call.restype, call.argtypes = answer, arguments
+    return library
+
+
+def _written(write: Callable[..., int], *arguments: Any) -> str:
+    """What a call writes into a room, whose answer is the length of the whole."""
+    room = create_string_buffer(128)
+    length = write(*arguments, room, len(room))
+    if length >= len(room):
+        room = create_string_buffer(length + 1)
+        length = write(*arguments, room, len(room))
+    return room.raw[:length].decode()
+
+
+_library = _declared(_loaded())
+
+
+def version() -> str:
+    """The version of the library, as '0.3.0'."""
+    return _written(_library.fancy_version)
+
+
+_defaults = _library.fancy_default_options()
+if _defaults.size != sizeof(_Options) or version().rpartition(".")[0] != VERSION:
+    raise ImportError(f"the library {_library._name} is of version {version()}, and this package needs {VERSION}")
+
+
+# ---- Options
+
+
+class Options:
+    """The options of a pattern: by its flags, and those that were given by name."""
+
+    # by the names of RegexBuilder, the names of the library
+    NAMES = {
+        "backtrack_limit": "backtrack_limit",
+        "step_limit": "step_limit",
+        "max_prog_size": "max_prog_size",
+        "max_nesting": "max_nesting",
+        "crlf": "crlf",
+        "swap_greed": "swap_greed",
+        "oniguruma": "oniguruma",
+        "find_not_empty": "not_empty",
+        "leftmost_longest": "longest",
+        "ignore_numbered_groups_when_named_groups_exist": "named_groups_only",
+    }
+    FLAGS = {
+        RegexFlag.IGNORECASE: "case_insensitive",
+        RegexFlag.MULTILINE: "multi_line",
+        RegexFlag.DOTALL: "dot_matches_new_line",
+        RegexFlag.VERBOSE: "ignore_whitespace",
+        RegexFlag.ASCII: "ascii",
+    }
+    __slots__ = ("given", "_fields")
+
+    def __init__(self, given: Tuple[Tuple[str, Any], ...], fields: Mapping[str, Any]) -> None:
+        self.given = given
+        self._fields = dict(fields)
+
+    @classmethod
+    def of(cls, flags: RegexFlag, given: Mapping[str, Any]) -> "Options":
+        fields: Dict[str, Any] = {name: True for flag, name in cls.FLAGS.items() if flags & flag}
+        for name, value in given.items():
+            if name not in cls.NAMES:
+                raise TypeError(f"there is no option {name!r}; the options are {', '.join(cls.NAMES)}")
+            if isinstance(value, int) and not 0 <= value <= UNSET:
+                raise ValueError(f"{name} is not from 0 to {UNSET}")
+            fields[cls.NAMES[name]] = value
+        return cls(tuple(sorted(given.items())), fields)
+
+    def with_(self, **fields: Any) -> "Options":
+        return Options(self.given, {**self._fields, **fields})
+
+    def _struct(self) -> _Options:
+        options = _Options.from_buffer_copy(_defaults)
+        for name, value in self._fields.items():
+            setattr(options, name, value)
+        return options
+
+    def __eq__(self, other: object) -> bool:
+        return isinstance(other, Options) and self._fields == other._fields
+
+    def __hash__(self) -> int:
+        return hash(tuple(sorted(self._fields.items())))
+
+
+# ---- Programs
+
+
+class _Handle:
+    """A program of the library with what one search at a time writes to; it is freed with the handle."""
+
+    __slots__ = ("program", "options", "spans")
+
+    def __init__(self, options: Options) -> None:
+        self.program = _Program()
+        self.options = options._struct()
+        self.spans = (c_size_t * 0)()
+
+    def make_room(self) -> int:
+        """Room for the groups. Returns their number."""
+        groups = _library.fancy_group_count(self.program)
+        self.spans = (c_size_t * (2 * groups))()
+        return groups
+
+    def __del__(self, free: Callable[..., None] = _library.fancy_free) -> None:
+        free(self.program)
+
+
+class Program:
+    """A pattern that was compiled. Threads may search with it at the same time: each takes a handle of its own."""
+
+    __slots__ = ("pattern", "groups", "_options", "_first", "_idle", "_lock")
+
+    def __init__(self, pattern: str, options: Options) -> None:
+        text = pattern.encode()
+        self.pattern = pattern
+        self._options = options
+        # only copied, and never searched with
+        self._first = _Handle(options)
+        outcome = _library.fancy_compile_pattern(text, len(text), self._first.options, self._first.program)
+        if outcome.code != OK:
+            raise self._refusal(text, outcome)
+        self.groups = self._first.make_room()
+        self._idle: List[_Handle] = []
+        self._lock = Lock()
+
+    def _refusal(self, text: bytes, outcome: _Outcome) -> Exception:
+        if outcome.code == MEMORY:
+            return MemoryError()
+        name = _written(_library.fancy_error_name, outcome.code)
+        message = _written(_library.fancy_explain_pattern, text, len(text), self._first.options) or name
+        if outcome.byte == UNSET:
+            return error(message, self.pattern, None, name)
+        message = message.replace(f"at byte {outcome.byte}: ", "", 1)
+        return error(message, self.pattern, len(text[: outcome.byte].decode()), name)
+
+    def names(self) -> Dict[str, Tuple[int, ...]]:
+        """The groups of each name, in the order in which they open."""
+        names: Dict[str, Tuple[int, ...]] = {}
+        for group in range(1, self.groups):
+            name = _written(_library.fancy_group_name, self._first.program, group)
+            if name:
+                names[name] = (*names.get(name, ()), group)
+        return names
+
+    # A list's pop and append are each one step, so threads need no lock for them.
+
+    def _take(self) -> _Handle:
+        try:
+            return self._idle.pop()
+        except IndexError:
+            handle = _Handle(self._options)
+            with self._lock:
+                outcome = _library.fancy_clone(self._first.program, handle.program)
+            self._expect_answer(outcome)
+            handle.make_room()
+            return handle
+
+    def _expect_answer(self, outcome: _Outcome) -> None:
+        """Raises where there is no answer. A match and none are answers."""
+        if outcome.code in (OK, NO_MATCH):
+            return
+        if outcome.code == MEMORY:
+            raise MemoryError
+        name = _written(_library.fancy_error_name, outcome.code)
+        kind = LimitError if outcome.code in LIMITS else error
+        raise kind(_written(_library.fancy_error_message, outcome), self.pattern, None, name)
+
+    def find(
+        self, text: bytes, length: int, pos: int, is_anchored: bool = False, is_continued: bool = True
+    ) -> Optional[List[int]]:
+        """Start and end of each group of the first match, in bytes; None if there is no match."""
+        handle = self._take()
+        options, spans = handle.options, handle.spans
+        options.pos, options.anchored, options.not_continued = pos, is_anchored, not is_continued
+        outcome = _library.fancy_find(handle.program, text, length, options, spans, len(spans))
+        found = spans[:] if outcome.code == OK else None
+        self._idle.append(handle)
+        self._expect_answer(outcome)
+        return found
+
+    def find_all(self, text: bytes, length: int, standing: Standing, room: int) -> Tuple[List[int], Optional[Exception], bool]:
+        """Start and end of the next matches, at most so many, in bytes; why there is no more, if that is an error; and
+        whether there may be more."""
+        handle = self._take()
+        spans = (c_size_t * (2 * room))()
+        handle.options.anchored = handle.options.not_continued = False
+        outcome = _library.fancy_find_all(handle.program, text, length, handle.options, standing, spans, len(spans))
+        self._idle.append(handle)
+        fault = None
+        try:
+            self._expect_answer(outcome)
+        except (error, MemoryError) as raised:
+            fault = raised
+        return spans[: 2 * outcome.count], fault, outcome.code == OK
+
+    def replace(self, text: bytes, template: bytes, count: int) -> bytes:
+        """The text with its first matches replaced, so many or all for 0, by a template of the library."""
+        handle = self._take()
+        handle.options.anchored = handle.options.not_continued = False
+        handle.options.pos = 0
+        room = create_string_buffer(len(text) + len(text) // 4 + 64)
+        call = [handle.program, text, len(text), template, len(template), count, handle.options]
+        outcome = _library.fancy_replace(*call, room, len(room))
+        if outcome.code == OK and outcome.count >= len(room):
+            room = create_string_buffer(outcome.count + 1)
+            outcome = _library.fancy_replace(*call, room, len(room))
+        self._idle.append(handle)
+        self._expect_answer(outcome)
+        return room.raw[: outcome.count]

@@ -1,0 +1,348 @@
+"""Patterns that were compiled, and what they find."""
+
+from __future__ import annotations
+
+import sys
+from itertools import islice
+from types import MappingProxyType
+from typing import Any, Callable, Dict, Iterator, List, Mapping, Optional, Tuple, Union
+
+from ._closings import calls_whole, closing_order
+from ._errors import error
+from ._flags import RegexFlag
+from ._library import UNSET, Options, Program, Standing
+from ._templates import Template
+from ._texts import Text
+
+Group = Union[int, str]
+Replacement = Union[str, Callable[["Match"], str]]
+
+
+# For how many matches a call has room, at most.
+_MOST_ROOM = 1 << 16
+
+
+class _LastText:
+    """The text of the last call: a loop of searches through one string makes its UTF-8 once."""
+
+    def __init__(self) -> None:
+        self.text: Optional[Text] = None
+
+    def of(self, string: str) -> Text:
+        if not isinstance(string, str):
+            raise TypeError(f"expected string, got {type(string).__name__!r}: patterns search texts, not bytes")
+        text = self.text
+        if text is None or text.string is not string:
+            text = self.text = Text(string)
+        return text
+
+
+last_text = _LastText()
+
+
+class Match:
+    """A match: where it and its groups lie in the string, in characters."""
+
+    __module__ = "fancy"
+    __slots__ = ("re", "pos", "endpos", "regs", "_text")
+
+    def __init__(self, pattern: "Pattern", text: Text, pos: int, endpos: int, spans: List[int]) -> None:
+        self.re = pattern
+        self.pos = pos
+        self.endpos = endpos
+        self._text = text
+        places = [-1 if byte == UNSET else text.place_of(byte) for byte in spans]
+        self.regs: Tuple[Tuple[int, int], ...] = tuple(zip(places[::2], places[1::2]))
+
+    @property
+    def string(self) -> str:
+        return self._text.string
+
+    def _number(self, group: Group) -> int:
+        """The number of a group; of several with one name, the first that is set."""
+        if isinstance(group, str):
+            numbers = self.re._numbers.get(group, ())
+            for number in numbers:
+                if self.regs[number][0] >= 0:
+                    return number
+            number = numbers[0] if numbers else -1
+        else:
+            number = group.__index__() if hasattr(group, "__index__") else -1
+        if not 0 <= number < len(self.regs):
+            raise IndexError("no such group")
+        return number
+
+    def _text_of(self, number: int, default: Any = None) -> Any:
+        start, end = self.regs[number]
+        return self.string[start:end] if start >= 0 else default
+
+    def __getitem__(self, group: Group) -> Optional[str]:
+        return self._text_of(self._number(group))
+
+    def group(self, *groups: Group) -> Any:
+        """The text of a group, 0 for the whole match; of several, a tuple."""
+        if len(groups) == 1:
+            return self[groups[0]]
+        return tuple(map(self.__getitem__, groups)) if groups else self[0]
+
+    def groups(self, default: Any = None) -> Tuple[Any, ...]:
+        return tuple(self._text_of(number, default) for number in range(1, len(self.regs)))
+
+    def groupdict(self, default: Any = None) -> Dict[str, Any]:
+        return {name: self._text_of(self._number(name), default) for name in self.re.groupindex}
+
+    def start(self, group: Group = 0) -> int:
+        return self.span(group)[0]
+
+    def end(self, group: Group = 0) -> int:
+        return self.span(group)[1]
+
+    def span(self, group: Group = 0) -> Tuple[int, int]:
+        return self.regs[self._number(group)]
+
+    def expand(self, template: str) -> str:
+        return self.re._template(template).expand(self)
+
+    @property
+    def lastindex(self) -> Optional[int]:
+        """The group that ends last, of several the one that closes last in the pattern; None if none is set."""
+        closing = self.re._closing_order()
+        numbers = [number for number in range(1, len(self.regs)) if self.regs[number][0] >= 0]
+        return max(numbers, key=lambda number: (self.regs[number][1], closing[number]), default=None)
+
+    @property
+    def lastgroup(self) -> Optional[str]:
+        last = self.lastindex
+        return next((name for name, numbers in self.re._numbers.items() if last in numbers), None)
+
+    def __copy__(self) -> "Match":
+        return self
+
+    def __deepcopy__(self, memo: Any) -> "Match":
+        return self
+
+    def __repr__(self) -> str:
+        return f"<fancy.Match object; span={self.regs[0]}, match={self[0]!r}>"
+
+    def __class_getitem__(cls, kind: Any) -> Any:
+        return cls
+
+
+class Pattern:
+    """A pattern that was compiled. Several threads may search with one."""
+
+    __module__ = "fancy"
+    __slots__ = (
+        "pattern", "flags", "groups", "groupindex", "_options", "_numbers", "_programs", "_templates", "_closing", "__weakref__",
+    )  # fmt: skip
+
+    def __init__(self, pattern: str, flags: RegexFlag, options: Mapping[str, Any]) -> None:
+        self.pattern = pattern
+        self.flags = flags
+        self._options = Options.of(flags, options)
+        program = Program(pattern, self._options)
+        self._programs: Dict[str, Program] = {"search": program}
+        self.groups = program.groups - 1
+        self._numbers = program.names()
+        self.groupindex: Mapping[str, int] = MappingProxyType({name: of[0] for name, of in self._numbers.items()})
+        self._templates: Dict[str, Template] = {}
+        self._closing: Optional[List[int]] = None
+
+    # ---- What is made when it is first asked for
+
+    def _program(self, way: str) -> Program:
+        """The program for a way to search: `search` or `full`."""
+        if way not in self._programs:
+            self._programs[way] = self._whole()
+        return self._programs[way]
+
+    def _whole(self) -> Program:
+        """The program of the pattern that ends where the text does."""
+        if calls_whole(self.pattern):
+            # what is called has to be the pattern as it is: its longest match ends where the text does, if one does
+            return Program(self.pattern, self._options.with_(longest=True))
+        try:
+            return Program(f"(?:{self.pattern})\\z", self._options)
+        except error:
+            # the pattern ends in a comment
+            return Program(f"(?:{self.pattern}\n)\\z", self._options)
+
+    def _template(self, text: str) -> Template:
+        template = self._templates.get(text)
+        if template is None:
+            if len(self._templates) >= 64:
+                self._templates.clear()
+            template = self._templates[text] = Template(text, self.groups, self.groupindex)
+        return template
+
+    def _closing_order(self) -> List[int]:
+        if self._closing is None:
+            is_verbose = bool(self.flags & RegexFlag.VERBOSE)
+            self._closing = closing_order(self.pattern, self.groups, is_verbose)
+        return self._closing
+
+    # ---- One match
+
+    def search(self, string: str, pos: int = 0, endpos: int = sys.maxsize) -> Optional[Match]:
+        """The first match that begins at pos or later."""
+        return _Range(self, string, pos, endpos).find("search", is_anchored=False)
+
+    def match(self, string: str, pos: int = 0, endpos: int = sys.maxsize) -> Optional[Match]:
+        """The match that begins at pos."""
+        return _Range(self, string, pos, endpos).find("search", is_anchored=True)
+
+    def fullmatch(self, string: str, pos: int = 0, endpos: int = sys.maxsize) -> Optional[Match]:
+        """The match that begins at pos and ends at endpos.
+
+        A pattern that calls itself as a whole, as by `\\g<0>`, and has a lazy loop is an `error` here.
+        """
+        part = _Range(self, string, pos, endpos)
+        match = part.find("full", is_anchored=True)
+        return match if match and match.end() == part.endpos else None
+
+    # ---- All matches
+
+    def finditer(self, string: str, pos: int = 0, endpos: int = sys.maxsize) -> Iterator[Match]:
+        """Every match, from left to right. An empty match may stand where the last match ended."""
+        return _Range(self, string, pos, endpos).matches()
+
+    def findall(self, string: str, pos: int = 0, endpos: int = sys.maxsize) -> List[Any]:
+        """The texts of every match: of its group where there is one, and a tuple of them where there are more."""
+        matches = self.finditer(string, pos, endpos)
+        if self.groups == 0:
+            return [match[0] for match in matches]
+        if self.groups == 1:
+            return [match._text_of(1, "") for match in matches]
+        return [match.groups("") for match in matches]
+
+    def split(self, string: str, maxsplit: int = 0) -> List[Optional[str]]:
+        """What stands between the matches, and between two of them the groups of the match."""
+        pieces: List[Optional[str]] = []
+        end = 0
+        for match in _Range(self, string).matches(maxsplit):
+            pieces.append(string[end : match.start()])
+            pieces.extend(match.groups())
+            end = match.end()
+        pieces.append(string[end:])
+        return pieces
+
+    def sub(self, repl: Replacement, string: str, count: int = 0) -> str:
+        """The string with each match replaced, or with the first matches, as many as count says where it is not 0."""
+        template = None if callable(repl) else self._template(repl).in_library(self._numbers)
+        if template is None or count < 0:
+            return self.subn(repl, string, count)[0]
+        replaced = self._program("search").replace(last_text.of(string).utf8, template.encode(), count)
+        return replaced.decode()
+
+    def subn(self, repl: Replacement, string: str, count: int = 0) -> Tuple[str, int]:
+        """The same, and how many matches were replaced."""
+        expand = repl if callable(repl) else self._template(repl).expand
+        pieces: List[str] = []
+        end = number = 0
+        for match in _Range(self, string).matches(count):
+            pieces.append(string[end : match.start()])
+            pieces.append(expand(match))
+            end = match.end()
+            number += 1
+        if number == 0:
+            return string, 0
+        pieces.append(string[end:])
+        return "".join(pieces), number
+
+    # ---- As a value
+
+    def _key(self) -> Tuple[Any, ...]:
+        return self.pattern, self.flags, self._options
+
+    def __eq__(self, other: object) -> bool:
+        return self._key() == other._key() if isinstance(other, Pattern) else NotImplemented
+
+    def __hash__(self) -> int:
+        return hash(self._key())
+
+    def __repr__(self) -> str:
+        flags = self.flags & ~RegexFlag.UNICODE
+        return f"fancy.compile({self.pattern!r}{f', {flags!r}' if flags else ''})"
+
+    def __copy__(self) -> "Pattern":
+        return self
+
+    def __deepcopy__(self, memo: Any) -> "Pattern":
+        return self
+
+    def __reduce__(self) -> Tuple[Any, ...]:
+        return _rebuilt, (self.pattern, int(self.flags), dict(self._options.given))
+
+    def __class_getitem__(cls, kind: Any) -> Any:
+        return cls
+
+
+def _rebuilt(pattern: str, flags: int, options: Mapping[str, Any]) -> Pattern:
+    return Pattern(pattern, RegexFlag(flags), options)
+
+
+class _Range:
+    """A pattern and a part of a string, from pos to endpos, in which it is searched for."""
+
+    def __init__(self, pattern: Pattern, string: str, pos: int = 0, endpos: int = sys.maxsize) -> None:
+        self.pattern = pattern
+        self.text = last_text.of(string)
+        self.endpos = max(0, min(endpos, len(string)))
+        self.pos = max(0, min(pos, len(string)))
+        self.end = self.text.byte_of(self.endpos)
+
+    def find(self, way: str, is_anchored: bool) -> Optional[Match]:
+        if self.pos > self.endpos:
+            return None
+        program = self.pattern._program(way)
+        spans = program.find(self.text.utf8, self.end, self.text.byte_of(self.pos), is_anchored)
+        return self.match_of(spans) if spans else None
+
+    def match_of(self, spans: List[int]) -> Match:
+        return Match(self.pattern, self.text, self.pos, self.endpos, spans)
+
+    def matches(self, limit: int = 0) -> Iterator[Match]:
+        """Every match of the list, or the first of them, as many as the limit says where it is not 0."""
+        if self.pos > self.endpos or limit < 0:
+            return iter(())
+        found = self.spans_with_groups() if self.pattern.groups else self.spans_alone(limit or sys.maxsize)
+        return islice(map(self.match_of, found), limit or None)
+
+    def spans_alone(self, limit: int) -> Iterator[List[int]]:
+        """Start and end of each match. Each call asks for twice as many as the one before, since each reads the whole text."""
+        program = self.pattern._program("search")
+        standing = Standing(self.text.byte_of(self.pos), 0, False)
+        room, has_more = 1, True
+        while has_more:
+            spans, fault, has_more = program.find_all(self.text.utf8, self.end, standing, min(room, limit))
+            for at in range(0, len(spans), 2):
+                yield spans[at : at + 2]
+            if fault is not None:
+                raise fault
+            limit -= len(spans) // 2
+            has_more = has_more and limit > 0
+            room = min(2 * room, _MOST_ROOM)
+
+    def spans_with_groups(self) -> Iterator[List[int]]:
+        """Start and end of each group of each match. The list is that of `spans_alone`."""
+        program = self.pattern._program("search")
+        pos, last = self.text.byte_of(self.pos), -1
+        while pos <= self.end:
+            spans = program.find(self.text.utf8, self.end, pos, is_continued=last in (-1, pos))
+            if spans is None:
+                return
+            start, end = spans[:2]
+            is_listed = start >= pos and not start == end == last
+            pos = self.pos_after(pos, start, end)
+            if is_listed:
+                last = end
+                yield spans
+
+    def pos_after(self, pos: int, start: int, end: int) -> int:
+        """Where a search begins after one from pos: where the match ended, if that took something past where it and its
+        search began, or else one character further; past the end from there."""
+        if end > max(pos, start):
+            return end
+        if end >= self.end:
+            return self.end + 1
+        return self.text.byte_of(self.text.place_of(end) + 1)

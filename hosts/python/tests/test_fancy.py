@@ -1,0 +1,165 @@
+"""What is the engine's own: expected values are by the syntax of fancy-regex, and by hand."""
+
+import gc
+import threading
+import unittest
+
+import fancy
+from fancy._texts import Text
+
+
+class Syntax(unittest.TestCase):
+    def test_beyond_re(self):
+        for pattern, text, span in [
+            (r"(\((?:[^()]|\g<1>)*\))", "f(a(b)c)+1", (1, 8)),
+            (r"\p{Greek}+", "abc αβγ", (4, 7)),
+            (r"a\Kb", "ab", (1, 2)),
+            (r"[a-z&&[^b]]+", "bcd", (1, 3)),
+            (r"(?<n>a)\k<n>", "baa", (1, 3)),
+            (r"\h+", "xyz 0fF", (4, 7)),
+            (r"\R", "a\r\n", (1, 3)),
+            (r"(?<=a|bc)d", "bcd", (2, 3)),
+            (r"/\*(?~\*/)\*/", "x /* a */ */", (2, 9)),
+        ]:
+            self.assertEqual(fancy.search(pattern, text).span(), span, pattern)
+
+    def test_where_a_dollar_holds(self):
+        self.assertIsNone(fancy.search("a$", "a\n"))
+        self.assertEqual(fancy.search(r"a\Z", "a\n").span(), (0, 1))
+        self.assertEqual(fancy.search("(?m)a$", "a\n").span(), (0, 1))
+
+    def test_empty_matches(self):
+        # one directly behind another match is left out
+        self.assertEqual(fancy.findall("a*", "aab"), ["aa", ""])
+        self.assertEqual(fancy.findall("(a*)", "aab"), ["aa", ""])
+        self.assertEqual(fancy.sub("x*", "-", "abxd"), "-a-b-d-")
+        self.assertEqual(fancy.subn("x*", "-", "abxd"), ("-a-b-d-", 4))
+        self.assertEqual(fancy.split("x*", "axbc"), ["", "a", "b", "c", ""])
+
+    def test_both_lists_are_one(self):
+        for pattern in ("", "a|", r"\b", "a*", r"\Ga", r"a\K", "(?=a)", r"(?<=a\K)b|a", "é|"):
+            for text in ("", "aab a", "baé aéa", "éé"):
+                alone = [it.span() for it in fancy.finditer(pattern, text)]
+                with_groups = [it.span() for it in fancy.finditer(f"{pattern}()" if "|" not in pattern else f"(?:{pattern})()", text)]
+                self.assertEqual(alone, with_groups, (pattern, text))
+
+    def test_names(self):
+        pattern = fancy.compile("(?<k>a)|(?<k>b)|(?<other>c)")
+        self.assertEqual(dict(pattern.groupindex), {"k": 1, "other": 3})
+        self.assertEqual([it.group("k") for it in pattern.finditer("abc")], ["a", "b", None])
+        self.assertEqual(pattern.sub(r"<\g<k>>", "abc"), "<a><b><>")
+        self.assertEqual(fancy.search("(?<π>a)", "a").groupdict(), {"π": "a"})
+        self.assertEqual(fancy.sub("(?<π>a)", r"<\g<π>>", "a"), "<a>")
+
+    def test_whole_matches(self):
+        for pattern, text, found in [
+            ("a|ab", "ab", True),
+            ("a+?", "aaa", True),
+            ("(?x) a+ # with a comment", "aa", True),
+            ("(?x) a+ # with a comment", "aab", False),
+            (r"\((?:[^()]|\g<0>)*\)", "(a(b))", True),
+            (r"\((?:[^()]|\g<0>)*\)", "(a(b))c", False),
+            (r"\((?:[^()]|(?0))*\)", "()", True),
+        ]:
+            self.assertEqual(fancy.fullmatch(pattern, text) is not None, found, (pattern, text))
+        self.assertEqual(fancy.fullmatch("(a|ab)(c|bcd)", "abcd").groups(), ("a", "bcd"))
+
+    def test_options(self):
+        self.assertEqual(fancy.compile("a+", swap_greed=True).search("aa").span(), (0, 1))
+        self.assertEqual(fancy.compile("a*", find_not_empty=True).search("ba").span(), (1, 2))
+        self.assertEqual(fancy.compile("a|ab", leftmost_longest=True).search("ab").span(), (0, 2))
+        self.assertEqual(fancy.compile("(?m)^b", crlf=True).search("a\r\nb").span(), (3, 4))
+        only_named = fancy.compile("(?<n>a)(b)", ignore_numbered_groups_when_named_groups_exist=True)
+        self.assertEqual(only_named.search("ab").groups(), ("a",))
+
+
+class Errors(unittest.TestCase):
+    def test_names(self):
+        for pattern, name, pos in [
+            (r"\q", "InvalidEscape", 1),
+            ("(?z)", "UnknownFlag", 2),
+            ("(?<1a>a)", "InvalidGroupName", 3),
+            (r"(?<n>a)\k<m>", "UnresolvedAstNode", None),
+            (r"(a)\2", "InvalidBackref", None),
+            ("(a\\g<1>)", "NeverEndingRecursion", None),
+            ("[a&&[b]", "InvalidClass", 7),
+            ("[b-a]", "InnerError", None),
+        ]:
+            with self.assertRaises(fancy.error) as caught:
+                fancy.compile(pattern)
+            self.assertEqual((caught.exception.name, caught.exception.pos), (name, pos), pattern)
+
+    def test_limits(self):
+        pattern = fancy.compile(r"(a|b|ab)*(?=c)c\1", backtrack_limit=1000)
+        for call in (pattern.search, pattern.findall, pattern.split, lambda text: pattern.sub("", text)):
+            with self.assertRaises(fancy.LimitError) as caught:
+                call("ab" * 30 + "dc")
+            self.assertEqual(caught.exception.name, "BacktrackLimitExceeded")
+        self.assertIsInstance(caught.exception, fancy.error)
+        # afterwards it searches as before
+        self.assertEqual(pattern.search("aca").span(), (0, 3))
+
+    def test_lone_surrogates(self):
+        self.assertRaises(UnicodeEncodeError, fancy.search, "a", "\ud800")
+
+
+class Places(unittest.TestCase):
+    def test_bytes_and_characters(self):
+        for string in ("", "abc", "é" * 600, "a😀é" * 300, "x" * 1000 + "é", "é" + "x" * 255, "é" * 256):
+            text = Text(string)
+            byte = 0
+            for place, letter in enumerate(string):
+                self.assertEqual((text.byte_of(place), text.place_of(byte)), (byte, place))
+                byte += len(letter.encode())
+            self.assertEqual((text.byte_of(len(string)), text.place_of(byte)), (byte, len(string)))
+
+    def test_zeros(self):
+        self.assertEqual(fancy.search("\0(.)", "a\0b").span(1), (2, 3))
+        self.assertEqual(fancy.sub("b", "\0", "abc"), "a\0c")
+
+    def test_long_texts(self):
+        text = "é=1 " * 50_000
+        self.assertEqual(len(fancy.findall("é", text)), 50_000)
+        self.assertEqual(len(fancy.sub("(é)=", r"\1\1:", text)), 250_000)
+        self.assertEqual(sum(it.start() for it in fancy.finditer("=", text)), sum(range(1, 200_000, 4)))
+
+
+class Threads(unittest.TestCase):
+    def test_one_pattern_in_threads(self):
+        pattern, failed = fancy.compile(r"(\d+)-(\d+)"), []
+
+        def search(number):
+            for step in range(300):
+                match = pattern.search(f"ab {number}-{step} cd")
+                if match.groups() != (str(number), str(step)):
+                    failed.append(match)
+
+        threads = [threading.Thread(target=search, args=(number,)) for number in range(8)]
+        for thread in threads:
+            thread.start()
+        for thread in threads:
+            thread.join()
+        self.assertEqual(failed, [])
+        # a handle for each thread at most
+        self.assertLessEqual(len(pattern._programs["search"]._idle), 8)
+
+    def test_memory_is_freed(self):
+        def used():
+            gc.collect()
+            with open("/proc/self/statm", encoding="ascii") as file:
+                return int(file.read().split()[1])
+
+        def work():
+            for number in range(300):
+                pattern = fancy.Pattern(f"(a|b{number})*c", fancy.NOFLAG, {})
+                pattern.sub(lambda it: it.group(1) or "", "abac" * 20)
+
+        work()
+        before = used()
+        for _ in range(4):
+            work()
+        self.assertLess(used() - before, 2000, "pages of 4 kB")
+
+
+if __name__ == "__main__":
+    unittest.main()
