@@ -3,10 +3,9 @@
 from __future__ import annotations
 
 import os
-from ctypes import CDLL, POINTER, Structure, byref, c_bool, c_char_p, c_size_t, c_uint32, c_uint64, c_void_p
+from ctypes import CDLL, POINTER, Structure, c_bool, c_char_p, c_size_t, c_uint32, c_uint64, c_void_p
 from ctypes import create_string_buffer, sizeof
 from pathlib import Path
-from threading import Lock
 from typing import Any, Callable, Dict, List, Mapping, Optional, Tuple
 
 from ._errors import LimitError, error
@@ -95,7 +94,6 @@ _CALLS = {
     "fancy_version": (c_size_t, _ROOM),
     "fancy_compile_pattern": (_Outcome, (*_TEXT, _OPTIONS, _PROGRAM)),
     "fancy_free": (None, (_PROGRAM,)),
-    "fancy_clone": (_Outcome, (_PROGRAM, _PROGRAM)),
     "fancy_group_count": (c_size_t, (_PROGRAM,)),
     "fancy_group_name": (c_size_t, (_PROGRAM, c_size_t, *_ROOM)),
     "fancy_find": (_Outcome, (_PROGRAM, *_TEXT, _OPTIONS, _NUMBERS, c_size_t)),
@@ -103,7 +101,6 @@ _CALLS = {
     "fancy_error_name": (c_size_t, (c_uint32, *_ROOM)),
     "fancy_error_message": (c_size_t, (POINTER(_Outcome), *_ROOM)),
     "fancy_explain_pattern": (c_size_t, (*_TEXT, _OPTIONS, *_ROOM)),
-    "fancy_replace": (_Outcome, (_PROGRAM, *_TEXT, *_TEXT, c_size_t, _OPTIONS, *_ROOM)),
 }
 
 
@@ -209,39 +206,42 @@ class _Handle:
         self.options = options._struct()
         self.spans = (c_size_t * 0)()
 
-    def make_room(self) -> int:
-        """Room for the groups. Returns their number."""
-        groups = _library.fancy_group_count(self.program)
-        self.spans = (c_size_t * (2 * groups))()
-        return groups
+    def make_room(self) -> None:
+        """Room for the groups of what was compiled."""
+        self.spans = (c_size_t * (2 * _library.fancy_group_count(self.program)))()
 
     def __del__(self, free: Callable[..., None] = _library.fancy_free) -> None:
         free(self.program)
 
 
 class Program:
-    """A pattern that was compiled. Threads may search with it at the same time: each takes a handle of its own."""
+    """A pattern that was compiled. Threads may search with it at the same time: each takes a handle of its own, for which the
+    pattern is compiled again where none is idle."""
 
-    __slots__ = ("pattern", "groups", "_options", "_first", "_idle", "_lock")
+    __slots__ = ("pattern", "groups", "_options", "_idle")
 
     def __init__(self, pattern: str, options: Options) -> None:
-        text = pattern.encode()
         self.pattern = pattern
         self._options = options
-        # only copied, and never searched with
-        self._first = _Handle(options)
-        outcome = _library.fancy_compile_pattern(text, len(text), self._first.options, self._first.program)
-        if outcome.code != OK:
-            raise self._refusal(text, outcome)
-        self.groups = self._first.make_room()
-        self._idle: List[_Handle] = []
-        self._lock = Lock()
+        first = self._compiled()
+        self.groups = len(first.spans) // 2
+        self._idle = [first]
 
-    def _refusal(self, text: bytes, outcome: _Outcome) -> Exception:
+    def _compiled(self) -> _Handle:
+        """A new handle. What compiled once compiles again, but for want of memory."""
+        text = self.pattern.encode()
+        handle = _Handle(self._options)
+        outcome = _library.fancy_compile_pattern(text, len(text), handle.options, handle.program)
+        if outcome.code != OK:
+            raise self._refusal(text, outcome, handle.options)
+        handle.make_room()
+        return handle
+
+    def _refusal(self, text: bytes, outcome: _Outcome, options: _Options) -> Exception:
         if outcome.code == MEMORY:
             return MemoryError()
         name = _written(_library.fancy_error_name, outcome.code)
-        message = _written(_library.fancy_explain_pattern, text, len(text), self._first.options) or name
+        message = _written(_library.fancy_explain_pattern, text, len(text), options) or name
         if outcome.byte == UNSET:
             return error(message, self.pattern, None, name)
         message = message.replace(f"at byte {outcome.byte}: ", "", 1)
@@ -249,11 +249,13 @@ class Program:
 
     def names(self) -> Dict[str, Tuple[int, ...]]:
         """The groups of each name, in the order in which they open."""
+        handle = self._take()
         names: Dict[str, Tuple[int, ...]] = {}
         for group in range(1, self.groups):
-            name = _written(_library.fancy_group_name, self._first.program, group)
+            name = _written(_library.fancy_group_name, handle.program, group)
             if name:
                 names[name] = (*names.get(name, ()), group)
+        self._idle.append(handle)
         return names
 
     # A list's pop and append are each one step, so threads need no lock for them.
@@ -262,12 +264,8 @@ class Program:
         try:
             return self._idle.pop()
         except IndexError:
-            handle = _Handle(self._options)
-            with self._lock:
-                outcome = _library.fancy_clone(self._first.program, handle.program)
-            self._expect_answer(outcome)
-            handle.make_room()
-            return handle
+            pass
+        return self._compiled()
 
     def _expect_answer(self, outcome: _Outcome) -> None:
         """Raises where there is no answer. A match and none are answers."""
@@ -306,18 +304,3 @@ class Program:
         except (error, MemoryError) as raised:
             fault = raised
         return spans[: 2 * outcome.count], fault, outcome.code == OK
-
-    def replace(self, text: bytes, template: bytes, count: int) -> bytes:
-        """The text with its first matches replaced, so many or all for 0, by a template of the library."""
-        handle = self._take()
-        handle.options.anchored = handle.options.not_continued = False
-        handle.options.pos = 0
-        room = create_string_buffer(len(text) + len(text) // 4 + 64)
-        call = [handle.program, text, len(text), template, len(template), count, handle.options]
-        outcome = _library.fancy_replace(*call, room, len(room))
-        if outcome.code == OK and outcome.count >= len(room):
-            room = create_string_buffer(outcome.count + 1)
-            outcome = _library.fancy_replace(*call, room, len(room))
-        self._idle.append(handle)
-        self._expect_answer(outcome)
-        return room.raw[: outcome.count]

@@ -228,18 +228,16 @@ class Pattern:
 
     def sub(self, repl: Replacement, string: str, count: int = 0) -> str:
         """The string with each match replaced, or with the first matches, as many as count says where it is not 0."""
-        template = None if callable(repl) else self._template(repl).in_library(self._numbers)
-        if template is None or count < 0:
-            return self.subn(repl, string, count)[0]
-        replaced = self._program("search").replace(last_text.of(string).utf8, template.encode(), count)
-        return replaced.decode()
+        return self.subn(repl, string, count)[0]
 
     def subn(self, repl: Replacement, string: str, count: int = 0) -> Tuple[str, int]:
         """The same, and how many matches were replaced."""
-        expand = repl if callable(repl) else self._template(repl).expand
+        template = None if callable(repl) else self._template(repl)
+        expand = template.expand if template else repl
+        with_groups = template is None or template.asks_for_groups()
         pieces: List[str] = []
         end = number = 0
-        for match in _Range(self, string).matches(count):
+        for match in _Range(self, string).matches(count, with_groups):
             pieces.append(string[end : match.start()])
             pieces.append(expand(match))
             end = match.end()
@@ -301,11 +299,13 @@ class _Range:
     def match_of(self, spans: List[int]) -> Match:
         return Match(self.pattern, self.text, self.pos, self.endpos, spans)
 
-    def matches(self, limit: int = 0) -> Iterator[Match]:
-        """Every match of the list, or the first of them, as many as the limit says where it is not 0."""
+    def matches(self, limit: int = 0, with_groups: bool = True) -> Iterator[Match]:
+        """Every match of the list, or the first of them, as many as the limit says where it is not 0; with the groups of
+        each, or with group 0 alone."""
         if self.pos > self.endpos or limit < 0:
             return iter(())
-        found = self.spans_with_groups() if self.pattern.groups else self.spans_alone(limit or sys.maxsize)
+        with_groups = with_groups and self.pattern.groups > 0
+        found = self.spans_with_groups() if with_groups else self.spans_alone(limit or sys.maxsize)
         return islice(map(self.match_of, found), limit or None)
 
     def spans_alone(self, limit: int) -> Iterator[List[int]]:

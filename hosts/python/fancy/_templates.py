@@ -2,7 +2,7 @@
 
 from __future__ import annotations
 
-from typing import List, Mapping, Optional, Tuple, Union
+from typing import List, Mapping, Tuple, Union
 
 from ._errors import error
 
@@ -21,18 +21,9 @@ class Template:
         reader = _Reader(text, groups, numbers, self.parts)
         reader.read()
 
-    def in_library(self, numbers: Mapping[str, Tuple[int, ...]]) -> Optional[str]:
-        """The template of the library that writes the same; None where a name of several groups stands in it."""
-        parts = []
-        for part in self.parts:
-            if isinstance(part, str):
-                parts.append(part.replace("$", "$$"))
-                continue
-            (group,) = numbers[part[0]] if isinstance(part[0], str) and len(numbers[part[0]]) == 1 else part
-            if isinstance(group, str):
-                return None
-            parts.append(f"${{{group}}}")
-        return "".join(parts)
+    def asks_for_groups(self) -> bool:
+        """Whether it writes what another group than 0 took."""
+        return any(part != (0,) for part in self.parts if not isinstance(part, str))
 
     def expand(self, match) -> str:
         return "".join(part if isinstance(part, str) else match[part[0]] or "" for part in self.parts)

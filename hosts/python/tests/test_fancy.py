@@ -33,6 +33,9 @@ class Syntax(unittest.TestCase):
         self.assertEqual(fancy.findall("a*", "aab"), ["aa", ""])
         self.assertEqual(fancy.findall("(a*)", "aab"), ["aa", ""])
         self.assertEqual(fancy.sub("x*", "-", "abxd"), "-a-b-d-")
+        self.assertEqual(fancy.sub("(x*)", "-", "abxd"), "-a-b-d-")
+        self.assertEqual(fancy.sub("(x*)", r"<\1>", "abxd"), "<>a<>b<x>d<>")
+        self.assertEqual(fancy.sub("(x*)", r"<\g<0>>", "abxd"), "<>a<>b<x>d<>")
         self.assertEqual(fancy.subn("x*", "-", "abxd"), ("-a-b-d-", 4))
         self.assertEqual(fancy.split("x*", "axbc"), ["", "a", "b", "c", ""])
 
@@ -120,7 +123,8 @@ class Places(unittest.TestCase):
     def test_long_texts(self):
         text = "é=1 " * 50_000
         self.assertEqual(len(fancy.findall("é", text)), 50_000)
-        self.assertEqual(len(fancy.sub("(é)=", r"\1\1:", text)), 250_000)
+        self.assertEqual(len(fancy.sub("(é)=", ":", text)), 150_000)
+        self.assertEqual(len(fancy.sub("(é)=", r"\1\1:", text[:20_000])), 25_000)
         self.assertEqual(sum(it.start() for it in fancy.finditer("=", text)), sum(range(1, 200_000, 4)))
 
 
@@ -142,6 +146,15 @@ class Threads(unittest.TestCase):
         self.assertEqual(failed, [])
         # a handle for each thread at most
         self.assertLessEqual(len(pattern._programs["search"]._idle), 8)
+
+    def test_calls_at_the_same_time(self):
+        pattern = fancy.compile("(?<n>a)|b", find_not_empty=True)
+        program = pattern._programs["search"]
+        while program._idle:
+            program._idle.pop()
+        # with no handle that is idle the pattern is compiled again
+        self.assertEqual(pattern.sub(r"<\g<n>>", "abc"), "<a><>c")
+        self.assertEqual(len(program._idle), 1)
 
     def test_memory_is_freed(self):
         def used():

@@ -120,30 +120,6 @@ impl Expander {
             .try_for_each(|(part, _)| dst.write_all(text_of(&part, captures).as_bytes()))
     }
 
-    /// The template of the library that writes the same for each match of a regex; none where a name of several groups stands
-    /// in it.
-    pub(crate) fn in_library(&self, template: &str, regex: &Regex) -> Option<String> {
-        let mut own = String::with_capacity(template.len());
-        for (part, _) in self.parts(template) {
-            let group = match part {
-                Part::Text(text) | Part::Stray(text) => {
-                    own.push_str(&text.replace('$', "$$"));
-                    continue;
-                }
-                Part::Number(number) => Some(number),
-                Part::Name(name) if regex.has_group_named(name) => {
-                    Some(regex.only_group_named(name)?)
-                }
-                Part::Name(name) => name.parse().ok(),
-            };
-            // what is not there writes nothing
-            if let Some(group) = group.filter(|group| *group < regex.captures_len()) {
-                own.push_str(&format!("${{{group}}}"));
-            }
-        }
-        Some(own)
-    }
-
     /// The parts of a template, each with its length in bytes.
     fn parts<'t>(&self, template: &'t str) -> impl Iterator<Item = (Part<'t>, usize)> {
         let expander = self.clone();

@@ -6,11 +6,18 @@ use fancy_sys as sys;
 use std::ffi::c_char;
 use std::sync::{Mutex, MutexGuard, PoisonError};
 
-/// What a text spells.
-#[derive(Clone, Copy)]
-pub(crate) enum Source<'p> {
-    Pattern(&'p str),
-    Tree(&'p str),
+/// A text, by what it spells.
+pub(crate) enum Source {
+    Pattern(String),
+    Tree(String),
+}
+
+impl Source {
+    pub(crate) fn text(&self) -> &str {
+        match self {
+            Source::Pattern(text) | Source::Tree(text) => text,
+        }
+    }
 }
 
 /// A compiled pattern with the memory of its searches: a program of the library, freed when it is dropped.
@@ -45,7 +52,7 @@ pub(crate) fn written(write: impl Fn(*mut c_char, usize) -> usize) -> String {
 
 impl Program {
     /// Compiles what a text spells.
-    pub(crate) fn compile(source: Source<'_>, options: &Options) -> Result<Program> {
+    fn compile(source: &Source, options: &Options) -> Result<Program> {
         let mut program = Program(sys::FANCY_NOTHING);
         // Safety, here and below: each pointer is that of a reference, with its length, and none is null.
         let outcome = unsafe {
@@ -64,17 +71,6 @@ impl Program {
         match outcome.code {
             sys::FANCY_OK => Ok(program),
             _ => Err(Error::of(&outcome, || message(source, options, &outcome))),
-        }
-    }
-
-    /// The same pattern, with memory of its own for searches.
-    fn copied(&mut self) -> Result<Program> {
-        let mut copy = Program(sys::FANCY_NOTHING);
-        // Safety: as above.
-        let outcome = unsafe { sys::fancy_clone(&mut self.0, &mut copy.0) };
-        match outcome.code {
-            sys::FANCY_OK => Ok(copy),
-            _ => Err(search_error(&outcome)),
         }
     }
 
@@ -147,56 +143,19 @@ impl Program {
         };
         (outcome.count, is_found(&outcome))
     }
-
-    /// The text with its first `limit` matches, or all for 0, replaced by a template of the library.
-    pub(crate) fn replace(
-        &mut self,
-        text: &str,
-        template: &str,
-        limit: usize,
-        options: &Options,
-    ) -> Result<String> {
-        let mut new = vec![0u8; text.len() + text.len() / 4 + 64];
-        loop {
-            // Safety: as above.
-            let outcome = unsafe {
-                sys::fancy_replace(
-                    &mut self.0,
-                    start_of(text),
-                    text.len(),
-                    start_of(template),
-                    template.len(),
-                    limit,
-                    &options.host,
-                    new.as_mut_ptr().cast(),
-                    new.len(),
-                )
-            };
-            is_found(&outcome)?;
-            if outcome.count < new.len() {
-                new.truncate(outcome.count);
-                return Ok(String::from_utf8(new).expect("text and template are UTF-8"));
-            }
-            new.resize(outcome.count + 1, 0);
-        }
-    }
 }
 
 fn is_found(outcome: &sys::FancyOutcome) -> Result<bool> {
     match outcome.code {
         sys::FANCY_OK => Ok(true),
         sys::FANCY_NO_MATCH => Ok(false),
-        _ => Err(search_error(outcome)),
+        // A search refuses nothing, so there is nothing to explain.
+        _ => Err(Error::of(outcome, String::new)),
     }
 }
 
-/// A search refuses nothing, so there is nothing to explain.
-fn search_error(outcome: &sys::FancyOutcome) -> Error {
-    Error::of(outcome, String::new)
-}
-
 /// What the library says of a refusal.
-fn message(source: Source<'_>, options: &Options, outcome: &sys::FancyOutcome) -> String {
+fn message(source: &Source, options: &Options, outcome: &sys::FancyOutcome) -> String {
     // Safety: as above.
     match source {
         Source::Pattern(text) => written(|message, room| unsafe {
@@ -208,41 +167,79 @@ fn message(source: Source<'_>, options: &Options, outcome: &sys::FancyOutcome) -
     }
 }
 
-/// Programs of one pattern: a search takes one that is idle, and a new one is made where none is.
-pub(crate) struct Pool(Mutex<Programs>);
-
-struct Programs {
-    /// Only copied, and never searched with.
-    first: Program,
-    idle: Vec<Program>,
+/// Programs of one pattern or tree: a call takes one that is idle, and compiles a new one where none is.
+pub(crate) struct Pool {
+    source: Source,
+    options: Options,
+    idle: Mutex<Vec<Program>>,
 }
 
 impl Pool {
-    pub(crate) fn of(first: Program) -> Pool {
-        Pool(Mutex::new(Programs {
-            first,
-            idle: Vec::new(),
-        }))
+    /// A pool with one program.
+    pub(crate) fn of(source: Source, options: Options) -> Result<Pool> {
+        let first = Program::compile(&source, &options)?;
+        Ok(Pool {
+            source,
+            options,
+            idle: Mutex::new(vec![first]),
+        })
     }
 
-    fn programs(&self) -> MutexGuard<'_, Programs> {
+    /// The text that is compiled.
+    pub(crate) fn text(&self) -> &str {
+        self.source.text()
+    }
+
+    pub(crate) fn options(&self) -> &Options {
+        &self.options
+    }
+
+    fn idle(&self) -> MutexGuard<'_, Vec<Program>> {
         // Nothing panics while it is held, so what a poisoned lock guards is whole too.
-        self.0.lock().unwrap_or_else(PoisonError::into_inner)
+        self.idle.lock().unwrap_or_else(PoisonError::into_inner)
     }
 
-    /// Lets a call have a program to itself. Want of memory for a new one is an error.
+    /// Lets a call have a program to itself. What compiled once compiles again, but for want of memory, which is an error.
     pub(crate) fn with<T>(&self, call: impl FnOnce(&mut Program) -> Result<T>) -> Result<T> {
-        let mut program = self.take()?;
+        // Others may take and give programs while this one is compiled.
+        let idle = self.idle().pop();
+        let mut program = match idle {
+            Some(program) => program,
+            None => Program::compile(&self.source, &self.options)?,
+        };
         let answer = call(&mut program);
-        self.programs().idle.push(program);
+        self.idle().push(program);
         answer
     }
+}
 
-    fn take(&self) -> Result<Program> {
-        let mut programs = self.programs();
-        match programs.idle.pop() {
-            Some(program) => Ok(program),
-            None => programs.first.copied(),
+#[cfg(test)]
+mod tests {
+    use super::*;
+
+    /// Two calls at the same time: each has a program of its own, and both are idle afterwards.
+    fn search_in_both(source: Source) {
+        let pool = Pool::of(source, Options::default()).unwrap();
+        for _ in 0..2 {
+            let found = pool.with(|first| {
+                pool.with(|second| {
+                    let options = pool.options();
+                    let group_counts = (first.group_count(), second.group_count());
+                    let answers = (
+                        first.is_match("xa", options)?,
+                        second.is_match("b", options)?,
+                    );
+                    Ok((group_counts, answers))
+                })
+            });
+            assert_eq!(found, Ok(((2, 2), (true, false))));
+            assert_eq!(pool.idle().len(), 2);
         }
+    }
+
+    #[test]
+    fn calls_at_the_same_time_have_programs_of_their_own() {
+        search_in_both(Source::Pattern("(a)".to_string()));
+        search_in_both(Source::Tree(r#"(grp "a")"#.to_string()));
     }
 }

@@ -2,7 +2,6 @@
 
 use crate::captures::{Captures, Match};
 use crate::error::{Error, Result};
-use crate::expand::Expander;
 use crate::matches::{CaptureMatches, Matches};
 use crate::options::Options;
 use crate::program::{Pool, Program, Source};
@@ -17,7 +16,8 @@ use std::sync::Arc;
 
 /// A pattern that was compiled.
 ///
-/// Threads may share it: each search takes a program of its own from a pool. A clone shares the pool.
+/// Threads may share it: each search takes a program of its own from a pool. A clone shares the pool. Where all programs are
+/// in use, a search compiles the pattern once more, so its thread needs the stack for that: 2 MB, or what `max_nesting` allows.
 ///
 /// ```
 /// # fn main() -> fancy::Result<()> {
@@ -34,8 +34,6 @@ pub struct Regex {
 }
 
 struct Shared {
-    text: String,
-    options: Options,
     names: Arc<Names>,
     pool: Pool,
 }
@@ -78,33 +76,27 @@ impl Regex {
 
     /// Compiles a pattern.
     pub fn with_options(pattern: &str, options: Options) -> Result<Regex> {
-        Regex::of(Source::Pattern(pattern), pattern, options)
+        Regex::of(Source::Pattern(pattern.to_string()), options)
     }
 
     /// Compiles the tree that a text in the notation of docs/MEANING.md spells. Its groups have no names.
     ///
     /// A text that spells no tree is an [`Error::ParseError`] of kind `GeneralParseError`.
     pub fn of_tree(tree: &str, options: Options) -> Result<Regex> {
-        Regex::of(Source::Tree(tree), tree, options)
+        Regex::of(Source::Tree(tree.to_string()), options)
     }
 
-    fn of(source: Source<'_>, text: &str, options: Options) -> Result<Regex> {
-        let mut program = Program::compile(source, &options)?;
-        let names = Arc::new(Names::of(&mut program));
-        let shared = Shared {
-            text: text.to_string(),
-            options,
-            names,
-            pool: Pool::of(program),
-        };
+    fn of(source: Source, options: Options) -> Result<Regex> {
+        let pool = Pool::of(source, options)?;
+        let names = Arc::new(pool.with(|program| Ok(Names::of(program)))?);
         Ok(Regex {
-            shared: Arc::new(shared),
+            shared: Arc::new(Shared { names, pool }),
         })
     }
 
     /// The pattern, or the tree, as it was given.
     pub fn as_str(&self) -> &str {
-        &self.shared.text
+        self.shared.pool.text()
     }
 
     // ---- Groups
@@ -127,21 +119,14 @@ impl Regex {
         self.shared.names.numbers.contains_key(name)
     }
 
-    /// The group of a name that no other group has.
-    pub(crate) fn only_group_named(&self, name: &str) -> Option<usize> {
-        let mut numbers = self.shared.names.numbers(name);
-        numbers.next().filter(|_| numbers.next().is_none())
-    }
-
     // ---- One match
 
     /// Whether there is a match.
     ///
     /// An error, here and in each search, is an [`Error::RuntimeError`] or [`Error::Memory`].
     pub fn is_match(&self, text: &str) -> Result<bool> {
-        self.shared
-            .pool
-            .with(|program| program.is_match(text, &self.shared.options))
+        let pool = &self.shared.pool;
+        pool.with(|program| program.is_match(text, pool.options()))
     }
 
     /// The first match.
@@ -210,12 +195,11 @@ impl Regex {
             text.is_char_boundary(pos),
             "byte {pos} is no character boundary of the text"
         );
-        let mut options = self.shared.options;
+        let pool = &self.shared.pool;
+        let mut options = *pool.options();
         options.host.pos = pos;
         options.host.not_continued |= !is_continued;
-        self.shared
-            .pool
-            .with(|program| program.find(text, &options, spans))
+        pool.with(|program| program.find(text, &options, spans))
     }
 
     // ---- All matches
@@ -242,11 +226,9 @@ impl Regex {
         standing: &mut sys::FancyStanding,
         spans: &mut [usize],
     ) -> (usize, Result<bool>) {
-        let options = &self.shared.options;
-        let found = self
-            .shared
-            .pool
-            .with(|program| Ok(program.find_all(text, options, standing, spans)));
+        let pool = &self.shared.pool;
+        let found =
+            pool.with(|program| Ok(program.find_all(text, pool.options(), standing, spans)));
         found.unwrap_or_else(|error| (0, Err(error)))
     }
 
@@ -320,36 +302,11 @@ impl Regex {
             let matches = self.find_iter(text).map(|it| it.map(|it| (it, ())));
             return rewritten(text, limit, matches, |_, new| new.push_str(&fixed));
         }
-        let template = rep
-            .template()
-            .and_then(|template| Expander::default().in_library(template, self));
-        if let Some(template) = template {
-            return self.replaced_by_library(text, limit, &template);
-        }
         let matches = self
             .captures_iter(text)
             .map(|it| it.map(|it| (it.whole(), it)));
         rewritten(text, limit, matches, |captures, new| {
             rep.replace_append(&captures, new)
-        })
-    }
-
-    /// The text with its first matches replaced by a template of the library.
-    fn replaced_by_library<'t>(
-        &self,
-        text: &'t str,
-        limit: usize,
-        template: &str,
-    ) -> Result<Cow<'t, str>> {
-        let options = &self.shared.options;
-        let new = self
-            .shared
-            .pool
-            .with(|program| program.replace(text, template, limit, options))?;
-        Ok(if new == text {
-            Cow::Borrowed(text)
-        } else {
-            Cow::Owned(new)
         })
     }
 }

@@ -13,12 +13,6 @@ pub trait Replacer {
         None
     }
 
-    /// The template that says what replaces each match, if one does. Then the library itself may replace them.
-    #[doc(hidden)]
-    fn template(&self) -> Option<&str> {
-        None
-    }
-
     /// The same replacer, by a reference, for a call that takes one.
     ///
     /// ```
@@ -52,10 +46,6 @@ impl<R: Replacer + ?Sized> Replacer for ReplacerRef<'_, R> {
 
     fn no_expansion(&mut self) -> Option<Cow<'_, str>> {
         self.0.no_expansion()
-    }
-
-    fn template(&self) -> Option<&str> {
-        self.0.template()
     }
 }
 
@@ -97,10 +87,6 @@ macro_rules! templates {
 
             fn no_expansion(&mut self) -> Option<Cow<'_, str>> {
                 fixed(&*self)
-            }
-
-            fn template(&self) -> Option<&str> {
-                Some((*self).as_ref())
             }
         })*
     };

@@ -183,9 +183,12 @@ fn templates_write_what_they_expand_to() {
             }
         }
     }
-    let long = "é=1 ".repeat(20_000);
+    let named = Regex::new("(?<x>a)|(?<x>b)|(?<π>c)").unwrap();
+    assert_eq!(named.replace_all("abc", "<$x,$π>"), "<a,><b,><,c>");
+    assert_eq!(named.replacen("abc", 2, "$0$0"), "aabbc");
+    let long = "é=1 ".repeat(5_000);
     let doubled = Regex::new("(é)=").unwrap().replace_all(&long, "$1$1$1$1:");
-    assert_eq!(doubled, "éééé:1 ".repeat(20_000));
+    assert_eq!(doubled, "éééé:1 ".repeat(5_000));
 }
 
 #[test]

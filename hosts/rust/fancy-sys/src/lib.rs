@@ -138,8 +138,6 @@ extern "C" {
 
     pub fn fancy_free(program: *mut FancyProgram);
 
-    pub fn fancy_clone(program: *mut FancyProgram, copy: *mut FancyProgram) -> FancyOutcome;
-
     pub fn fancy_group_count(program: *const FancyProgram) -> usize;
 
     pub fn fancy_group_name(
@@ -198,16 +196,4 @@ extern "C" {
         message: *mut c_char,
         room: usize,
     ) -> usize;
-
-    pub fn fancy_replace(
-        program: *mut FancyProgram,
-        text: *const c_char,
-        text_length: usize,
-        template: *const c_char,
-        template_length: usize,
-        limit: usize,
-        options: *const FancyOptions,
-        new_text: *mut c_char,
-        room: usize,
-    ) -> FancyOutcome;
 }
