@@ -112,7 +112,7 @@ struct fancy_options {
     size_t size;            /* sizeof(struct fancy_options); a call with another is FANCY_WRONG_SIZE */
     size_t pos;             /* where the search begins, a byte of the text: for fancy_find and fancy_is_match */
     size_t max_prog_size;   /* how many instructions a program may have; 100,000 */
-    size_t max_nesting;     /* how many nodes may be written out in one another, calls with them; 1,000, for 4 MB of stack */
+    size_t max_nesting;     /* how many nodes may be written out in one another, calls with them; 500, for 2 MB of stack */
     size_t max_depth;       /* how deep a tree may nest, in parentheses; 250, for a stack of 2 MB: for fancy_compile */
     size_t backtrack_limit; /* how often a search may fall back to a branch; FANCY_UNSET: see above */
     uint64_t step_limit;    /* how many instructions a search may execute; UINT64_MAX */
@@ -173,8 +173,8 @@ size_t fancy_version(char *version, size_t room);
  *
  * What reads, compiles and frees a pattern recurses over it. A pattern nests at most 250 deep, and is read on a stack of
  * 1 MB. One level of it may be several nodes of the tree, and a call of a group is written out where it stands, so nodes
- * nest deeper than the pattern: max_nesting bounds them, after the pattern is read. For its default a stack of 4 MB was
- * enough for all that was tried; on one of 2 MB set it to 500, on one of 1 MB to 250. */
+ * nest deeper than the pattern: max_nesting bounds them, after the pattern is read. For its default a stack of 2 MB was
+ * enough for all that was tried; on one of 1 MB set it to 250. */
 struct fancy_outcome fancy_compile_pattern(const char *pattern, size_t pattern_length,
                                            const struct fancy_options *options, struct fancy_program *program);
 

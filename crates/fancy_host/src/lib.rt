@@ -33,7 +33,7 @@ use writing::{write_over, write_text};
 
 /// The options of a search unless said otherwise: from the text's start, no flag, no limit of backtracks given, as many
 /// instructions as can be counted, a program of at most 100,000 instructions, a tree of at most 250 levels, and at most
-/// 1,000 nodes written out in one another, for which a stack of 4 MB was enough.
+/// 500 nodes written out in one another, for which a stack of 2 MB was enough.
 ///
 /// Where no limit of backtracks is given, a search may fall back to a branch 1,000,000 times, and once more for each byte
 /// of the text and for its end: a search for an easy tree never stops at that.

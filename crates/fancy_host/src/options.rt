@@ -77,7 +77,7 @@ impl Default for FancyOptions {
             size: SIZE,
             pos: 0,
             max_prog_size: 100_000,
-            max_nesting: 1_000,
+            max_nesting: 500,
             max_depth: 250,
             backtrack_limit: usize::MAX,
             step_limit: u64::MAX,

@@ -37,7 +37,7 @@ impl Options {
     setters! {
         /// How many instructions the program of a pattern may have; 100,000 unless set.
         max_prog_size: usize,
-        /// How many nodes of a pattern may be written out in one another; 1,000 unless set, for a stack of 2 MB.
+        /// How many nodes of a pattern may be written out in one another; 500 unless set, for a stack of 2 MB.
         max_nesting: usize,
         /// How deep a tree may nest; 250 unless set, for a stack of 2 MB.
         max_depth: usize,
@@ -153,7 +153,7 @@ impl RegexBuilder {
         step_limit: u64 => step_limit,
         /// How many instructions the program of the pattern may have; 100,000 unless set.
         max_prog_size: usize => max_prog_size,
-        /// How many nodes of the pattern may be written out in one another; 1,000 unless set, for a stack of 2 MB.
+        /// How many nodes of the pattern may be written out in one another; 500 unless set, for a stack of 2 MB.
         max_nesting: usize => max_nesting,
     }
 
