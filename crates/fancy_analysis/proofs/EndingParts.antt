@@ -143,7 +143,7 @@ module _ (flags : List Bool) where
   over_own g (code.Absent a) n w ts = absent_own g a ts
   over_own g e n w ts = refl
 
-  own_end : (g : ℕ) (i : Info) →
+  pub own_end : (g : ℕ) (i : Info) →
       is_ended_group flags g (info_tree i) ≡ is_own_end (info_facts i).expr (info_facts i).start_group (ends_by flags (info_tree i)) g
   own_end g i =
       let f = info_facts i in

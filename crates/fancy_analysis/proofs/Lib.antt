@@ -26,6 +26,7 @@ pub mod InfoNodes
 pub mod EndingParts
 pub mod EndingRules
 pub mod EndingRounds
+pub mod SettledGroups
 pub mod LateReadWalk
 pub mod LateReadSpots
 pub mod Anchors

@@ -1,6 +1,7 @@
 -- Which parts can end, where flags say it of the targets, and the rounds of those flags.
-use Rattle.std.specs.Prelude.{◌≡◌, ℕ, zero, suc, ◌+◌, ◌≤◌, Bool, true, false, ◌&&◌, ◌||◌, ◌==◌, List, [], ◌∷◌, slice_index_or}
-use Rattle.std.specs.List.{list_any}
+use Rattle.std.specs.Prelude.{◌≡◌, ℕ, zero, suc, ◌+◌, ◌≤◌, Bool, true, false, ◌&&◌, ◌||◌, ◌==◌, nat_lt, List, [], ◌∷◌, slice_index_or, slice_set}
+use Rattle.std.specs.Borrow.{Bor}
+use Rattle.std.specs.List.{All, list_any}
 use Rattle.fancy_meaning.specs.Tree as plain
 use Rattle.fancy_meaning.specs.Tree.{Tree, Trees, none, more}
 use Rattle.fancy_meaning.specs.Nodes.{nodes, group_count}
@@ -12,7 +13,7 @@ use Rattle.fancy_info.specs.declared.info.Info.TheViews.{out-Info}
 use Rattle.fancy_expr.specs.declared.expr.Expr.{Expr}
 use Rattle.fancy_expr.specs.declared.expr.Expr.TheVariants as code
 use Rattle.fancy_meaning.specs.Sizes.{known_of}
-use Rattle.fancy_info.specs.Infos.{info_tree, IsAnalysed}
+use Rattle.fancy_info.specs.Infos.{info_tree, info_facts, IsAnalysed}
 use Rattle.fancy_analysis.specs.Made.{IsSized}
 
 -- the tree of an analysis, as the walk leaves it
@@ -91,3 +92,32 @@ abbrev pub set_count : List Bool → ℕ
 set_count [] = 0
 set_count (true ∷ flags) = suc (set_count flags)
 set_count (false ∷ flags) = set_count flags
+
+-- ---- the groups that are asked along the calls
+
+-- flags that are set one after another, each of a target that ends by those before
+pub data SetsEnds (whole : Tree) (old : List Bool) : List Bool → Type 0 where
+  none_set : SetsEnds whole old old
+  one_more : {flags : List Bool} (g : ℕ) → SetsEnds whole old flags → target_ends flags whole g ≡ true →
+      SetsEnds whole old (slice_set flags g true)
+
+-- a node with a group number is a group, but not group 0
+abbrev pub is_open : Expr → ℕ → Bool
+is_open (code.Group' b e) n = nat_lt 0 n
+is_open e n = false
+
+abbrev pub is_open_group : Info → Bool
+is_open_group i = is_open (info_facts i).expr (info_facts i).start_group
+
+-- the node stands in the tree of an analysis
+pub record IsNodeOf (a : Analysis) (root i : Info) : Type 0 where
+  pub analysed : IsAnalysed a root → IsAnalysed a i
+  pub inside : IsAnalysed a root → (test : Tree → Bool) → list_any test (nodes (info_tree i)) ≡ true →
+      list_any test (nodes (info_tree root)) ≡ true
+
+pub record IsGroupOf (a : Analysis) (root i : Info) : Type 0 where
+  pub node : IsNodeOf a root i
+  pub is_group : is_open_group i ≡ true
+
+abbrev pub AreGroupsOf : Analysis → Info → List (Bor Info) → Type 0
+AreGroupsOf a root groups = All (λ b. IsGroupOf a root b.now) groups

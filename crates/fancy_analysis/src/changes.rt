@@ -159,7 +159,7 @@ fn dependents_of(
     Ok(numbers)
 }
 
-fn numbers_below(alloc: Global, count: usize) -> Result<Vec<usize>, AllocError>
+pub fn numbers_below(alloc: Global, count: usize) -> Result<Vec<usize>, AllocError>
     ensures { IfOk result (λ v. (g : ℕ) → g < count → Contains v.items g) }
 {
     let mut numbers = Vec::new(alloc);

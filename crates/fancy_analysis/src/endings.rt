@@ -22,6 +22,7 @@ ghost use Rattle.fancy_info.specs.Infos.{IsAnalysed, info_tree};
 ghost use Rattle.fancy_info.specs.declared.info.Info.TheViews.{out-Info};
 
 use crate::reads::no_flags;
+use crate::settle::CallGraph;
 use fancy_expr::expr::Expr;
 use fancy_info::info::Info;
 use std::alloc::{AllocError, Global};
@@ -127,6 +128,19 @@ fn find_ends(flags: &[bool], info: &Info, next: &mut [bool]) -> bool
     ends
 }
 
+/// Whether a node ends by the flags.
+pub fn ends(flags: &[bool], info: &Info) -> bool
+    ensures { (a : Analysis) → IsAnalysed a info.now →
+        result ≡ ends_by flags.now (info_tree info.now) }
+{
+    let mut parts = PartEnds::none();
+    for child in &info.children {
+        let child_ends = ends(flags, child);
+        parts = parts.and_then(child_ends);
+    }
+    node_ends(flags, info.expr, parts)
+}
+
 fn count_set(flags: &[bool]) -> usize
     ensures { result ≡ set_count flags.now }
 {
@@ -175,20 +189,22 @@ fn next_flags(alloc: Global, root: &Info, flags: &[bool]) -> Result<Vec<bool>, A
 }
 
 /// Whether the whole tree can end, given its root.
+///
+/// In each round the calls are followed first. What they do not tell, a walk over the whole tree finds, and the round in
+/// which it finds nothing is the last.
 pub fn can_end(alloc: Global, root: &Info) -> Result<bool, AllocError>
     ensures { (a : Analysis) → IsWhole a root.now →
         IfOk result (λ ends. IsTrue ends ↔ CanEnd a.tree a.tree) }
 {
     let mut flags = no_flags(alloc, root.end_group.max(1))?;
-    let mut count: usize = 0;
+    let calls = CallGraph::of(alloc, root, flags.len())?;
     for _ in 0..flags.len() {
+        calls.settle(alloc, &mut flags)?;
         let next = next_flags(alloc, root, &flags)?;
-        let next_count = count_set(&next);
-        if next_count == count {
+        if count_set(&next) == count_set(&flags) {
             return Ok(flags[0]);
         }
         flags = next;
-        count = next_count;
     }
     Ok(flags[0])
 }

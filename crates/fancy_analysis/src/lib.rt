@@ -14,6 +14,7 @@ mod reads;
 mod recursion;
 mod refusals;
 mod rounds;
+mod settle;
 mod sizes;
 mod targets;
 mod visit;

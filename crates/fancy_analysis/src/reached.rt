@@ -19,7 +19,7 @@ use crate::dependents::{list_under, no_lists};
 use crate::links::Link;
 use std::alloc::{AllocError, Global};
 
-fn is_set(flags: &[bool], number: usize) -> bool
+pub fn is_set(flags: &[bool], number: usize) -> bool
     ensures { result ≡ flag flags.now number }
 {
     match flags.get(number) {

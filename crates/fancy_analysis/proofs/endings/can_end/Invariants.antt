@@ -8,5 +8,4 @@ use Rattle.fancy_analysis.proofs.endings.can_end.Given as goal
 abbrev pub invariant-loop : goal.invariant-loop
 invariant-loop l =
     (length l.flags.items ≡ max (out-Info l.root).end_group 1)
-    × (l.count ≡ set_count l.flags.items)
-    × ((a : Analysis) → IsWhole a l.root → (l.counter ≤ l.count) × IsSoundFor a.tree l.flags.items)
+    × ((a : Analysis) → IsWhole a l.root → (l.counter ≤ set_count l.flags.items) × IsSoundFor a.tree l.flags.items)
