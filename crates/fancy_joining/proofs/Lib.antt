@@ -1,0 +1,5 @@
+pub mod FindAlike
+pub mod AddedLoops
+pub mod JoinedWays
+pub mod JoinedSizes
+pub mod JoinedNodes

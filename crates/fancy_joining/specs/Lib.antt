@@ -1,0 +1,2 @@
+pub mod JoinedLoops
+pub mod Claims
