@@ -15,3 +15,4 @@ pub mod RequiredBytesLaws
 pub mod OnePassLaws
 pub mod CountedLaws
 pub mod ThreadsLaws
+pub mod JoinedLayout

@@ -1,6 +1,6 @@
 //! The NFA of neighbouring easy nodes.
 
-ghost use Rattle.std.specs.Prelude.{◌≡◌, ◌<◌, ◌+◌, ℕ, List, Some, false, IfErr, IfOk, IfSome, IsTrue, map, slice_get};
+ghost use Rattle.std.specs.Prelude.{◌≡◌, ◌<◌, ◌+◌, ℕ, List, Some, false, true, IfErr, IfOk, IfSome, IsTrue, map, slice_get};
 ghost use Rattle.fancy_info.specs.Infos.{info_tree};
 ghost use Rattle.fancy_expr.specs.Each.{Each};
 ghost use Rattle.fancy_meaning.specs.Options.{Analysis};
@@ -10,6 +10,7 @@ ghost use Rattle.fancy_plain.specs.FirstSets.{may_begin, AreFirstSets};
 ghost use Rattle.fancy_plain.specs.RequiredBytes.{AreRequired};
 ghost use Rattle.fancy_plain.specs.Neighbours.{AreNeighbours, IsEasy};
 ghost use Rattle.fancy_plain.specs.Views.{state_of};
+ghost use Rattle.fancy_joining.specs.JoinedLoops.{joined};
 ghost use Rattle.std.proofs.Props.{props};
 
 use crate::first_sets::{first_sets, may_begin};
@@ -57,13 +58,36 @@ impl Nfa {
         ensures classes { IfOk result (λ f. HaveClasses unicode infos.now) }
         ensures refused { IfErr result (IsRefusedFor unicode infos.now) }
     {
+        Nfa::build_by(alloc, infos, unicode, false)
+    }
+
+    /// As `build`, of the nodes with their loops joined where loops in loops only add up. It has the same first ways.
+    pub fn build_joined(alloc: Global, infos: &[Info], unicode: bool) -> Result<Nfa, Error>
+        requires { AreNeighbours infos.now }
+        ensures nfa { IfOk result (λ f. (a : Analysis)
+            → Each (IsEasy a) infos.now → AreFine (map info_tree infos.now)
+            → IsNfaOf a (map (joined true) (map info_tree infos.now)) unicode f) }
+        ensures refused { IfErr result (IsRefusedFor unicode infos.now) }
+    {
+        Nfa::build_by(alloc, infos, unicode, true)
+    }
+
+    /// As `build`, where loops may be joined.
+    fn build_by(alloc: Global, infos: &[Info], unicode: bool, may_join: bool) -> Result<Nfa, Error>
+        requires { AreNeighbours infos.now }
+        ensures nfa { IfOk result (λ f. (a : Analysis)
+            → Each (IsEasy a) infos.now → AreFine (map info_tree infos.now)
+            → IsNfaOf a (map (joined may_join) (map info_tree infos.now)) unicode f) }
+        ensures classes { IfOk result (λ f. HaveClasses unicode infos.now) }
+        ensures refused { IfErr result (IsRefusedFor unicode infos.now) }
+    {
         let states = Vec::new(alloc);
         let mut layout = Layout {
             alloc,
             unicode,
             states,
         };
-        layout.lay_each(infos)?;
+        layout.lay_each(infos, may_join)?;
         let mut states = layout.states;
         states.push(NfaState::Match)?;
         let pair_bits = PairBits::of(states.len(), loops_of(&states));
@@ -83,6 +107,19 @@ impl Nfa {
             is_one_pass,
             required_bytes,
         })
+    }
+
+    /// Whether there is a loop in a loop that counts.
+    pub fn has_loop_in_loop(&self) -> bool {
+        let mut is_in_loop = false;
+        for nfa_state in &self.states {
+            match nfa_state {
+                NfaState::CounterBegin | NfaState::Split(_, _) if is_in_loop => return true,
+                NfaState::CounterLoop { .. } => is_in_loop = true,
+                _ => is_in_loop = false,
+            }
+        }
+        false
     }
 
     /// What searches by this NFA in one text, from `pos` on, have memoized: nothing yet.

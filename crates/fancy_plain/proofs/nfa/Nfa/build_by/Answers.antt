@@ -1,13 +1,15 @@
 use Rattle.std.proofs.Common.{[], ◌∷◌, map, slice_get, refl, sym, ap, ◌∙◌, subst}
 use Rattle.std.proofs.lemmas.List.{map-append}
 use Rattle.fancy_expr.specs.Each.{Each}
+use Rattle.fancy_info.specs.Infos.{info_tree}
+use Rattle.fancy_joining.proofs.JoinedNodes.{joining_keeps_nodes}
 use Rattle.fancy_plain.specs.declared.nfa_state.NfaState.TheVariants as code
 use Rattle.fancy_plain.specs.declared.layout.Layout.{Layout}
 use Rattle.fancy_plain.specs.Nfas.{IsRefusedFor}
 use Rattle.fancy_plain.specs.Views.{state_of, IsStateReadBy}
 use Rattle.fancy_plain.proofs.ReadStates.{read_at}
 use Rattle.fancy_plain.proofs.Built.{are_easy, fault_passed, all_states, each_more}
-use Rattle.fancy_plain.proofs.nfa.Nfa.build.Goals as goal
+use Rattle.fancy_plain.proofs.nfa.Nfa.build_by.Goals as goal
 
 pub returns-in_err-lay_each-clause-refused : goal.returns-in_err-lay_each-clause-refused
 returns-in_err-lay_each-clause-refused c =
@@ -46,13 +48,13 @@ returns-clause-nfa c = λ a each fine.
     let s : Layout = record { alloc = c.args.alloc; unicode = c.args.unicode; states = c.new-states.result } in
     let none = c.new-states.ensures.items in
     let more = c.in_ok-push.ensures.items in record {
-      states = all_states a infos s t (ap (map state_of) none) adds (map state_of c.push.new.self.items)
+      states = all_states c.args.may_join a infos s t (ap (map state_of) none) adds (map state_of c.push.new.self.items)
           (ap (map state_of) more ∙ map-append state_of t.states.items (code.Match ∷ []));
       unicode = refl;
       reads = subst (Each (IsStateReadBy c.args.unicode)) (sym more)
           (each_more (IsStateReadBy c.args.unicode) t.states.items code.Match
           (adds.added.reads (subst (Each (IsStateReadBy c.args.unicode)) (sym none) tt)) tt);
-      easy = are_easy a infos each fine;
+      easy = (joining_keeps_nodes c.args.may_join (map info_tree infos)).easy a (are_easy a infos each fine);
     }
 
 pub returns-clause-classes : goal.returns-clause-classes
