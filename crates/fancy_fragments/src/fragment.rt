@@ -1,15 +1,18 @@
 //! Fragments: neighbouring easy nodes that are searched for plainly.
 
-ghost use Rattle.std.specs.Prelude.{◌≡◌, ◌*◌, ℕ, List, false, IfOk, IfErr, map, nat_le};
+ghost use Rattle.std.specs.Prelude.{◌≡◌, ◌*◌, ℕ, List, false, true, IfOk, IfErr, IfSome, map, nat_le};
+ghost use Rattle.fancy_joining.specs.JoinedLoops.{joined};
+ghost use Rattle.std.proofs.Props.{props};
 ghost use Rattle.fancy_meaning.specs.Fits.{fragment_fits};
 ghost use Rattle.fancy_expr.specs.Views.{tree_of};
 ghost use Rattle.fancy_expr.specs.Walk.{within_of};
 ghost use Rattle.fancy_info.specs.Infos.{info_tree};
 ghost use Rattle.fancy_plain.specs.OnePass.{IsOnePass};
+ghost use Rattle.fancy_plain.specs.Neighbours.{AreNeighbours};
 ghost use Rattle.fancy_plain.specs.Nfas.{HaveClasses, IsRefusedFor};
 ghost use Rattle.fancy_backtrack.specs.Memos.{HaveFailed};
 ghost use Rattle.fancy_plain.specs.Ways.{HasNoWayAt, IsOfNodes};
-ghost use Rattle.fancy_fragments.specs.Nodes.{AreEasyNeighbours, BeginAt, IsLaidOut, fits_over, nodes_over, plain_tree};
+ghost use Rattle.fancy_fragments.specs.Nodes.{AreEasyNeighbours, BeginAt, IsLaidOut, IsOfJoined, fits_over, nodes_over, plain_tree};
 
 use crate::copies::copy_of;
 use crate::settable::settable_above;
@@ -33,15 +36,19 @@ pub struct Fragment {
     pub(crate) within: Within,
     pub(crate) unicode: bool,
     pub(crate) nfa: Nfa,
+    /// The NFA of the nodes with their loops joined, where some may be: by it the machine searches.
+    pub(crate) of_joined: Option<Nfa>,
     /// Each group that a way can set has a number below this.
     pub(crate) settable: usize,
     ghost laid_out: { ∥ IsLaidOut (nodes_over exprs.items first_group (within_of within)) unicode nfa ∥₁ },
+    ghost joined_laid_out: { IfSome of_joined (λ n.
+        ∥ IsLaidOut (map (joined true) (nodes_over exprs.items first_group (within_of within))) unicode n ∥₁) } by { Prim.hlevel props },
     ghost fits: { (slots : ℕ) → fits_over slots (nodes_over exprs.items first_group (within_of within))
         ≡ nat_le (2 * settable) slots },
 }
 
 impl Fragment {
-    ghost use Rattle.fancy_fragments.specs.Fragments.{HasNoWayFrom, IsMemoFor, IsOnePassOf, fragment_of};
+    ghost use Rattle.fancy_fragments.specs.Fragments.{HasNoWayFrom, IsJoinedMemoFor, IsMemoFor, IsOnePassOf, fragment_of, joined_nfa};
 
     /// The fragment of neighbouring nodes of one analysed tree, none of them hard.
     ///
@@ -55,6 +62,7 @@ impl Fragment {
         ensures refused { IfErr result (IsRefusedFor unicode infos.now) }
     {
         let nfa = Nfa::build(alloc, infos, unicode)?;
+        let of_joined = nfa_of_joined(alloc, infos, unicode, &nfa)?;
         let exprs = copies_of_nodes(alloc, infos)?;
         let (first_group, within) = beginning(infos);
         Ok(Fragment {
@@ -63,6 +71,7 @@ impl Fragment {
             within,
             unicode,
             nfa,
+            of_joined,
             settable: settable_above(infos),
         })
     }
@@ -95,6 +104,31 @@ impl Fragment {
         self.nfa.memo(alloc, pos)
     }
 
+    /// The NFA that the machine searches by: that of the nodes, or of the nodes with their loops joined.
+    pub(crate) fn joined_nfa(&self) -> &Nfa
+        ensures nfa { result.now ≡ joined_nfa self.now }
+        ensures nodes { ∥ IsOfNodes result.now ∥₁ }
+    {
+        match &self.of_joined {
+            Some(nfa) => nfa,
+            None => &self.nfa,
+        }
+    }
+
+    /// As `memo`, for `first_way_joined`.
+    pub fn joined_memo(&self, alloc: Global, pos: usize) -> Memo
+        ensures { (text : List ℕ) → IsJoinedMemoFor text self.now result }
+    {
+        self.joined_nfa().memo(alloc, pos)
+    }
+
+    /// As `clear`, for `first_way_joined`.
+    pub fn clear_joined(&self, memo: &mut Memo, pos: usize)
+        ensures { (text : List ℕ) → IsJoinedMemoFor text self.now memo.new }
+    {
+        self.joined_nfa().clear(memo, pos);
+    }
+
     /// Empties a memo of any fragment and any text for this one, and keeps its room.
     pub fn clear(&self, memo: &mut Memo, pos: usize)
         ensures memo { (text : List ℕ) → IsMemoFor text self.now memo.new }
@@ -115,6 +149,23 @@ impl fmt::Debug for Fragment {
             .field("settable", &self.settable)
             .finish_non_exhaustive()
     }
+}
+
+/// The NFA of the nodes with their loops joined, where there are loops in loops.
+fn nfa_of_joined(
+    alloc: Global,
+    infos: &[Info],
+    unicode: bool,
+    nfa: &Nfa,
+) -> Result<Option<Nfa>, Error>
+    requires { AreNeighbours infos.now }
+    ensures nfa { IfOk result (λ o. IfSome o (IsOfJoined unicode infos.now)) }
+    ensures refused { IfErr result (IsRefusedFor unicode infos.now) }
+{
+    if !nfa.has_loop_in_loop() {
+        return Ok(None);
+    }
+    Ok(Some(Nfa::build_joined(alloc, infos, unicode)?))
 }
 
 /// The expressions of the nodes.
