@@ -2,14 +2,14 @@
 
 ghost use Rattle.std.specs.Prelude.{◌≡◌, ◌<◌, Some, None, length, slice_get, slice_set, IfOk, IsTrue, OnOk};
 ghost use Rattle.fancy_meaning.specs.Places.{is_place};
-ghost use Rattle.fancy_fragments.specs.Fragments.{IsFirstWayOf, IsMemoFor};
+ghost use Rattle.fancy_fragments.specs.Fragments.{IsFirstWayOf, IsJoinedMemoFor};
 ghost use Rattle.fancy_plain.specs.Ways.{HasAscending};
 ghost use Rattle.fancy_vm.specs.MemoRuns.{AddsNoMemo, AreOfRuns};
 
 use crate::machine::Task;
 use fancy_backtrack::memo::Memo;
 use fancy_expr::error::Error;
-use fancy_fragments::first_way::first_way_with;
+use fancy_fragments::first_way::first_way_joined;
 use fancy_fragments::fragment::Fragment;
 use fancy_plain::first_way::FirstWay;
 use std::alloc::{AllocError, Global};
@@ -107,7 +107,7 @@ impl Memos {
             });
         }
         let mut memo = self.memo_for(task, fragment, pc)?;
-        let way = first_way_with(task.alloc, fragment, task.text, ix, &mut *memo);
+        let way = first_way_joined(task.alloc, fragment, task.text, ix, &mut *memo);
         let run = self.run;
         self.by_place[pc] = Some(RunMemo { memo, run });
         way
@@ -122,17 +122,17 @@ impl Memos {
     ) -> Result<Box<Memo>, AllocError>
         requires here { fragment_at task.now pc ≡ Some fragment.now }
         requires memos { AreMemosOf task.now self.old }
-        ensures memo { IfOk result (λ m. IsMemoFor task.now.text.now fragment.now m.value) }
+        ensures memo { IfOk result (λ m. IsJoinedMemoFor task.now.text.now fragment.now m.value) }
         ensures room { OnOk result (pc < length self.new.by_place.items) }
         ensures memos { AreMemosOf task.now self.new }
     {
         grow(&mut self.by_place, pc)?;
         let pos = task.options.pos;
         match take_out(&mut self.by_place, pc) {
-            None => Ok(Box::new(task.alloc, fragment.memo(task.alloc, pos))?),
+            None => Ok(Box::new(task.alloc, fragment.joined_memo(task.alloc, pos))?),
             Some(RunMemo { mut memo, run }) => {
                 if run != self.run {
-                    fragment.clear(&mut *memo, pos);
+                    fragment.clear_joined(&mut *memo, pos);
                 }
                 Ok(memo)
             }

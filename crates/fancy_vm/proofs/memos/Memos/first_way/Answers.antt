@@ -1,6 +1,6 @@
 use Rattle.std.proofs.Common.{⊎_elim, arith, ap, subst, sym, ◌∙◌}
 use Rattle.std.proofs.lemmas.Option.{same_Some}
-use Rattle.fancy_fragments.specs.Fragments.{IsMemoFor}
+use Rattle.fancy_fragments.specs.Fragments.{IsJoinedMemoFor}
 use Rattle.fancy_vm.specs.Memos.{fragment_at}
 use Rattle.fancy_vm.proofs.MemosLaws.{put_tells}
 use Rattle.fancy_vm.proofs.memos.Memos.first_way.Goals as goal
@@ -22,8 +22,8 @@ returns-clause-memos c = record {
       let task = c.args.task.now in
       let text = task.text.now in
       let fragment_is = same_Some _ _ (sym c.requires.here ∙ ap (fragment_at task) (sym new.0) ∙ here) in
-      subst (λ g. IsMemoFor text g memo.memo.value) fragment_is
-      (subst (λ m. IsMemoFor text c.args.fragment.now m.memo.value) new.1 c.first_way_with-way.ensures.memo))
+      subst (λ g. IsJoinedMemoFor text g memo.memo.value) fragment_is
+      (subst (λ m. IsJoinedMemoFor text c.args.fragment.now m.memo.value) new.1 c.first_way_joined-way.ensures.memo))
       (λ before. c.memo_for.ensures.memos.each pc memo before same)
       (put_tells _ c.args.pc _ pc memo stands);
 }
