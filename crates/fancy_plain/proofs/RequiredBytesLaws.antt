@@ -1,12 +1,12 @@
 -- Where every way passes one state, and none of the bytes that it takes stands from a place on, no way is found.
-use Rattle.std.proofs.Common.{◌≡◌, ◌<◌, ◌≤◌, ◌+◌, ◌/◌, ◌∷◌, ◌++◌, [], ℕ, zero, suc, Bool, true, false, ◌&&◌, not, List, Option, Some, None, if◌then◌else◌, ◌==◌, nat_lt, slice_get, length, map, drop, encode_utf8, option_map, inl, inr, arith, refl, sym, ap, ◌∙◌, subst, true≢false}
-use Rattle.std.specs.Prelude.{slice_index_or}
+use Rattle.std.proofs.Common.{◌≡◌, ◌<◌, ◌≤◌, ◌+◌, ◌-◌, ◌/◌, ◌∷◌, ◌++◌, [], ℕ, zero, suc, Bool, true, false, ◌&&◌, not, List, Option, Some, None, if◌then◌else◌, ◌==◌, nat_lt, slice_get, length, map, drop, encode_utf8, option_map, inl, inr, arith, refl, sym, ap, ◌∙◌, subst, true≢false}
+use Rattle.std.specs.Prelude.{IfSome, slice_index, slice_index_or}
 use Rattle.std.specs.Char.{len_utf8, IsScalar}
 use Rattle.std.specs.List.{list_all}
 use Rattle.std.specs.Option.{option_and_then}
-use Rattle.std.proofs.lemmas.Bool.{cases_lt, eqb-false, eqb-true}
-use Rattle.std.proofs.lemmas.List.{drop_all, drop_more}
-use Rattle.std.proofs.lemmas.Option.{slice_get-map}
+use Rattle.std.proofs.lemmas.Bool.{cases_lt, eq-eqb, eqb-false, eqb-true}
+use Rattle.std.proofs.lemmas.List.{drop_all, drop_more, get_or-drop, length-drop}
+use Rattle.std.proofs.lemmas.Option.{none-some, same_Some, slice_get-map}
 use Rattle.std.proofs.lemmas.Str.{encode_ascii}
 use Rattle.regex_hir.specs.Text.{char_at}
 use Rattle.regex_hir.proofs.TextLemmas.{char_at_parts}
@@ -19,7 +19,7 @@ use Rattle.fancy_nfa.specs.NfaSearch as counted
 use Rattle.fancy_nfa.specs.NfaSearch.{Goes, Lost, NfaConfig, Tries, LoopCounter, choice_step, close_step, forward, goes_past, goes_to, counter_loop_step, step_at, step_by, next_counter, passes}
 use Rattle.fancy_plain.specs.declared.nfa_state.NfaState as code
 use Rattle.fancy_plain.specs.declared.nfa_state.NfaState.TheVariants as variant
-use Rattle.fancy_plain.specs.RequiredBytes.{AreRequired, BeginAmong, IsPassed, IsUpTo, StepsFrom, LeadsTo, lacks}
+use Rattle.fancy_plain.specs.RequiredBytes.{AreRequired, BeginAmong, HasOnly, IsPassed, IsUpTo, StepsFrom, LeadsTo, lacks}
 use Rattle.fancy_plain.specs.Views.{state_of}
 use Rattle.fancy_plain.proofs.FirstSetLaws.{at_index, passes_alike}
 use Rattle.fancy_plain.proofs.KeptLaws.{StepKeeps, finds_none}
@@ -51,6 +51,40 @@ module _ (bytes : List Bool) (text : List ℕ) (at : ℕ) where
 
   pub lacks_past : length text ≤ at → lacks bytes text at ≡ true
   lacks_past over = ap (list_all (other_than bytes)) (drop_all at text over)
+
+-- what no byte of the set stands in may be left out
+pub lacks_behind : (bytes : List Bool) (text : List ℕ) (from n : ℕ) → from + n ≤ length text →
+    ((k : ℕ) → from ≤ k → k < from + n → slice_index_or bytes (slice_index_or text k 0) false ≡ false) →
+    lacks bytes text (from + n) ≡ lacks bytes text from
+lacks_behind bytes text from zero room none = let same : from + 0 ≡ from = omega arith in ap (lacks bytes text) same
+lacks_behind bytes text from (suc n) room none =
+    let next : from + suc n ≡ from + 1 + n = omega arith in
+    ap (lacks bytes text) next
+    ∙ lacks_behind bytes text (from + 1) n (omega (arith, room)) (λ k low high. none k (omega (arith, low)) (omega (arith, high)))
+    ∙ sym (lacks_at bytes text from (omega (arith, room))
+    ∙ ap (λ b. not b && lacks bytes text (from + 1)) (none from (omega arith) (omega arith)))
+
+pub rest_length : (text rest : List ℕ) (from : ℕ) → rest ≡ drop from text → length rest ≡ length text - from
+rest_length text rest from is = ap length is ∙ length-drop from text
+
+-- where the one byte of the set stands nowhere, none of the set does
+other_byte : (bytes : List Bool) (byte : ℕ) → HasOnly bytes byte → (other : ℕ) → ((other == byte) ≡ true → ⊥) → slice_index_or bytes other false ≡ false
+other_byte bytes byte only other differs = go (slice_index_or bytes other false) refl
+  where
+    go : (v : Bool) → slice_index_or bytes other false ≡ v → slice_index_or bytes other false ≡ false
+    go false e = e
+    go true e = absurd (differs (eq-eqb other byte (only other e)))
+
+pub lacks_skipped : (bytes : List Bool) (byte : ℕ) (text rest : List ℕ) (from n : ℕ) → HasOnly bytes byte → rest ≡ drop from text → n ≤ length rest →
+    ((k : ℕ) → 0 ≤ k → k < n → (slice_index rest k == byte) ≡ true → ⊥) → from ≤ length text → lacks bytes text (from + n) ≡ lacks bytes text from
+lacks_skipped bytes byte text rest from n only is room none inside =
+    let long : length rest ≡ length text - from = rest_length text rest from is in
+    lacks_behind bytes text from n (omega (arith, long, room, inside)) (λ k low high.
+    let count : from + (k - from) ≡ k = omega (arith, low) in
+    let there : slice_index rest (k - from) ≡ slice_index_or text k 0 =
+    ap (λ l. slice_index l (k - from)) is ∙ get_or-drop from text (k - from) 0 ∙ ap (λ i. slice_index_or text i 0) count in
+    subst (λ b. slice_index_or bytes b false ≡ false) there
+    (other_byte bytes byte only (slice_index rest (k - from)) (none (k - from) (omega arith) (omega (arith, high, low)))))
 
 -- ---- with which byte a character begins
 
@@ -285,3 +319,7 @@ pub required_take : (unicode : Bool) (states : List code.NfaState) (bytes : List
 required_take unicode states bytes passed p test h at is begins =
     are_required unicode (map state_of states) bytes test passed h
     (slice_get-map state_of states passed ∙ ap (option_map state_of) at ∙ ap Some is) begins
+
+pub only_of_set : (set : List Bool) (only : Option ℕ) → IfSome only (HasOnly set) → (byte : ℕ) → only ≡ Some byte → HasOnly set byte
+only_of_set set None is byte e = absurd (none-some byte e)
+only_of_set set (Some b) is byte e = subst (HasOnly set) (same_Some b byte e) is

@@ -2,6 +2,7 @@
 use Rattle.std.specs.Prelude.{◌≡◌, ◌≤◌, ◌⊎◌, ℕ, ◌+◌, Bool, true, false, not, List, [], drop, encode_utf8, Option, Some, None, slice_get, slice_index_or}
 use Rattle.std.specs.Char.{IsScalar}
 use Rattle.std.specs.List.{list_all}
+use Rattle.std.specs.Option.{ForSome}
 use Rattle.fancy_nfa.specs.NfaStates as plain
 use Rattle.fancy_nfa.specs.NfaStates.{CharTest, NfaState}
 use Rattle.fancy_nfa.specs.NfaSearch.{Pair, NfaConfig, Search, Ends, passes}
@@ -14,6 +15,13 @@ lacks bytes text place = list_all (λ byte. not (slice_index_or bytes byte false
 abbrev pub lacks_any : (bytes : Option (List Bool)) → (text : List ℕ) → (place : ℕ) → Bool
 lacks_any None text place = false
 lacks_any (Some bytes) text place = lacks bytes text place
+
+-- the set has no other byte than this
+abbrev pub HasOnly : (bytes : List Bool) → (byte : ℕ) → Type 0
+HasOnly bytes byte = (other : ℕ) → slice_index_or bytes other false ≡ true → other ≡ byte
+
+abbrev pub IsOnlyOf : (bytes : Option (List Bool)) → (byte : ℕ) → Type 0
+IsOnlyOf bytes byte = ForSome bytes (λ set. HasOnly set byte)
 
 -- where none of them stands from the place on, no search from there finds a way
 abbrev pub AreRequired : Bool → List NfaState → (bytes : List Bool) → Type 0

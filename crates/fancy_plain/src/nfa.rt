@@ -1,5 +1,6 @@
 //! The NFA of neighbouring easy nodes.
 
+ghost use Rattle.std.specs.Option.{ForSome};
 ghost use Rattle.std.specs.Prelude.{◌≡◌, ◌<◌, ◌+◌, ℕ, List, Some, false, true, IfErr, IfOk, IfSome, IsTrue, map, slice_get};
 ghost use Rattle.fancy_info.specs.Infos.{info_tree};
 ghost use Rattle.fancy_expr.specs.Each.{Each};
@@ -7,7 +8,7 @@ ghost use Rattle.fancy_meaning.specs.Options.{Analysis};
 ghost use Rattle.fancy_meaning.specs.Places.{is_place};
 ghost use Rattle.fancy_meaning.specs.Premises.{IsText};
 ghost use Rattle.fancy_plain.specs.FirstSets.{may_begin, AreFirstSets};
-ghost use Rattle.fancy_plain.specs.RequiredBytes.{AreRequired};
+ghost use Rattle.fancy_plain.specs.RequiredBytes.{AreRequired, IsOnlyOf};
 ghost use Rattle.fancy_plain.specs.Neighbours.{AreNeighbours, IsEasy};
 ghost use Rattle.fancy_plain.specs.Views.{state_of};
 ghost use Rattle.fancy_joining.specs.JoinedLoops.{joined};
@@ -16,7 +17,7 @@ ghost use Rattle.std.proofs.Props.{props};
 use crate::first_sets::{first_sets, may_begin};
 use crate::layout::Layout;
 use crate::nfa_state::NfaState;
-use crate::required_bytes::required_bytes;
+use crate::required_bytes::{only_of, required_bytes};
 use crate::search::Searcher;
 use fancy_backtrack::memo::Memo;
 use fancy_backtrack::pair_bits::{Loops, PairBits};
@@ -37,8 +38,11 @@ pub struct Nfa {
     pub(crate) is_one_pass: bool,
     /// Bytes of which every way takes one, if some are known.
     pub(crate) required_bytes: Option<[bool; 256]>,
+    /// That byte, where it is one alone.
+    pub(crate) required_byte: Option<u8>,
     ghost begin: { AreFirstSets unicode (map state_of states.items) first_sets.items },
     ghost need: { IfSome required_bytes (AreRequired unicode (map state_of states.items)) } by { Prim.hlevel props },
+    ghost only: { ForSome required_byte (IsOnlyOf required_bytes) },
 }
 
 impl Nfa {
@@ -93,6 +97,7 @@ impl Nfa {
         let pair_bits = PairBits::of(states.len(), loops_of(&states));
         let first_sets = first_sets(alloc, &states, unicode)?;
         let required_bytes = required_bytes(&states, unicode);
+        let required_byte = only_of(&required_bytes);
         let searcher = Searcher {
             states: &states,
             unicode,
@@ -106,6 +111,7 @@ impl Nfa {
             first_sets,
             is_one_pass,
             required_bytes,
+            required_byte,
         })
     }
 

@@ -1,16 +1,18 @@
 //! Required bytes, of which every way takes one: where none of them stands from a place on, no way begins there or
 //! behind it.
 
-ghost use Rattle.std.specs.Prelude.{◌≡◌, ◌≤◌, ◌<◌, ℕ, [], true, false, length, map, slice_get, slice_index_or, Some, IfSome, IsTrue};
+ghost use Rattle.std.specs.Option.{ForSome};
+ghost use Rattle.std.specs.Prelude.{◌≡◌, ◌≤◌, ◌<◌, ◌+◌, ℕ, [], true, false, length, map, slice_get, slice_index_or, Some, IfSome, IsTrue};
 ghost use Rattle.fancy_meaning.specs.Places.{is_place};
 ghost use Rattle.fancy_nfa.specs.NfaSearch.{passes};
-ghost use Rattle.fancy_plain.specs.RequiredBytes.{lacks, lacks_any, AreRequired, BeginAmong, IsPassed, StepsFrom, LeadsTo};
+ghost use Rattle.fancy_plain.specs.RequiredBytes.{lacks, lacks_any, AreRequired, BeginAmong, HasOnly, IsOnlyOf, IsPassed, StepsFrom, LeadsTo};
 ghost use Rattle.fancy_plain.specs.declared.nfa_state.NfaState.TheVariants as nfa_state;
 ghost use Rattle.fancy_plain.specs.Views.{state_of, test_of, IsStateReadBy, IsReadBy};
 ghost use Rattle.fancy_plain.specs.Ways.{HasNoWayAt};
 
 use crate::nfa::Nfa;
 use crate::nfa_state::{CharTest, NfaState};
+use memchr::memchr;
 
 impl Nfa {
     /// Whether the text from `from` on, in bytes, has none of the bytes of which every way takes one: then no way
@@ -22,13 +24,32 @@ impl Nfa {
     {
         match &self.required_bytes {
             None => false,
-            Some(bytes) => lacks(bytes, text.as_bytes(), from),
+            Some(bytes) => lacks(bytes, self.required_byte, text.as_bytes(), from),
         }
     }
 }
 
-/// Whether none of these bytes stands in the text from the place on.
-fn lacks(bytes: &[bool; 256], text: &[u8], from: usize) -> bool
+/// Whether none of these bytes stands in the text from the place on. They may be `only` one.
+fn lacks(bytes: &[bool; 256], only: Option<u8>, text: &[u8], from: usize) -> bool
+    requires { ForSome only (HasOnly bytes.now) }
+    ensures { result ≡ lacks bytes.now text.now from }
+{
+    match only {
+        None => lacks_each(bytes, text, from),
+        Some(byte) => {
+            if from >= text.len() {
+                return true;
+            }
+            match memchr(byte, &text[from..]) {
+                None => true,
+                Some(count) => lacks_each(bytes, text, from + count),
+            }
+        }
+    }
+}
+
+/// As `lacks`, byte by byte.
+fn lacks_each(bytes: &[bool; 256], text: &[u8], from: usize) -> bool
     ensures { result ≡ lacks bytes.now text.now from }
 {
     'bytes: for place in from..text.len() {
@@ -49,6 +70,32 @@ pub(crate) fn required_bytes(states: &[NfaState], unicode: bool) -> Option<[bool
         Some(NfaState::Character(test)) => Some(first_bytes(test, unicode)),
         _ => None,
     }
+}
+
+/// The byte that is required, where it is one alone.
+pub(crate) fn only_of(bytes: &Option<[bool; 256]>) -> Option<u8>
+    ensures { ForSome result (IsOnlyOf bytes.now) }
+{
+    match bytes {
+        None => None,
+        Some(bytes) => only_in(bytes),
+    }
+}
+
+/// The one byte of the set, if it has no other.
+fn only_in(bytes: &[bool; 256]) -> Option<u8>
+    ensures { IfSome result (HasOnly bytes.now) }
+{
+    let mut only = None;
+    'ask: for byte in 0..256usize {
+        if bytes[byte] {
+            if only.is_some() {
+                return None;
+            }
+            only = Some(byte as u8);
+        }
+    }
+    only
 }
 
 // ---- which state every way passes
