@@ -9,7 +9,7 @@ use Rattle.fancy_expr.specs.Views.{tree_of}
 use Rattle.fancy_expr.proofs.Exprs.{parts-below, below-concat, below-alt}
 use Rattle.fancy_expr.proofs.Walks.{taken}
 
-tree-concat : (v : Vec Expr Global) → tree_of (view.Concat v) ≡ Concat (trees (map tree_of v.items))
+pub tree-concat : (v : Vec Expr Global) → tree_of (view.Concat v) ≡ Concat (trees (map tree_of v.items))
 tree-concat v = ap Concat (parts-below (view.Concat v) ∙ ap (λ l. trees (map tree_of l)) (below-concat _ v refl))
 
 tree-alt : (v : Vec Expr Global) → tree_of (view.Alt v) ≡ Alt (trees (map tree_of v.items))

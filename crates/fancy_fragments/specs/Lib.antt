@@ -3,3 +3,4 @@ pub mod Settable
 pub mod Nodes
 pub mod Fragments
 pub mod Delegates
+pub mod Leading

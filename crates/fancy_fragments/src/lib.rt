@@ -5,5 +5,6 @@ mod copies;
 pub mod delegate;
 pub mod first_way;
 pub mod fragment;
+pub mod leading;
 mod same;
 mod settable;
