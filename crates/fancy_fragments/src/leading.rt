@@ -31,7 +31,7 @@ impl LeadingAssertion {
 }
 
 impl Fragment {
-    /// The assertion with which each way begins, if one is known that takes the same time wherever it is asked.
+    /// The assertion with which each way begins, if it is known to be that of the start of the text or of a line.
     pub fn leading_assertion(&self) -> Option<LeadingAssertion>
         ensures { IfSome result (IsLeading self.now) }
     {
@@ -77,14 +77,14 @@ fn begins_with_first(expr: &Expr) -> bool
     }
 }
 
-/// The assertion, if it reads no more than the characters beside a place, and is the same in each look-around.
+/// The assertion, if it is that of the start of the text or of a line. Others hold at too many places to be looked for.
 fn as_leading(assertion: Assertion) -> Option<Assertion>
     ensures { IfSome result (λ a. (a ≡ assertion)
         × ((w : Within) → assertion_within w (assertion_of a) ≡ assertion_of a)) }
 {
     match assertion {
-        Assertion::EndTextIgnoreTrailingNewlines { .. } => None,
-        Assertion::StartLineOniguruma { .. } => None,
-        _ => Some(assertion),
+        Assertion::StartText => Some(assertion),
+        Assertion::StartLine { .. } => Some(assertion),
+        _ => None,
     }
 }

@@ -8,3 +8,5 @@ pub mod LazyLoopsLaws
 pub mod BackLaws
 pub mod ThreadsLaws
 pub mod PlacesLaws
+pub mod LeadingLaws
+pub mod WalkLaws

@@ -6,3 +6,4 @@ pub mod Attempts
 pub mod LazyLoops
 pub mod SingleDelegates
 pub mod Strategies
+pub mod Walks

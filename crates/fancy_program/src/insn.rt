@@ -8,6 +8,7 @@ ghost use Rattle.fancy_program.specs.declared.insn.Insn.{Insn};
 ghost use Rattle.fancy_program.specs.Attempts.{IsPrefilterOf};
 ghost use Rattle.fancy_program.specs.Insns.{insn_of, prog_with};
 ghost use Rattle.fancy_program.specs.Strategies.{IsStrategyOf};
+ghost use Rattle.fancy_program.specs.Walks.{IsRequired};
 
 use crate::prefilter::StartPrefilter;
 use crate::strategy::Strategy;
@@ -152,9 +153,12 @@ pub struct Prog {
     pub prefilter: Option<StartPrefilter>,
     /// Which way its runs take.
     pub strategy: Strategy,
+    /// The instruction without which no attempt succeeds, if one is known.
+    pub required: Option<usize>,
     ghost fits: { IsTrue (program_fits (prog_with body.items parts)) },
     ghost begins: { ForSome prefilter (IsPrefilterOf (map insn_of body.items)) },
     ghost decides: { IsStrategyOf (map insn_of body.items) prefilter strategy },
+    ghost needs: { ForSome required (λ at. ∥ IsRequired (map insn_of body.items) at ∥₁) },
 }
 
 impl ProgParts {

@@ -8,6 +8,7 @@ mod listing;
 pub mod moves;
 pub mod prefilter;
 mod program;
+pub mod required;
 mod shape;
 pub mod strategy;
 pub mod threads;

@@ -8,6 +8,7 @@ ghost use Rattle.fancy_program.specs.Programs.{prog_of};
 
 use crate::insn::{Insn, Prog, ProgParts};
 use crate::prefilter::StartPrefilter;
+use crate::required::required_in;
 use crate::strategy::Strategy;
 use crate::threads::{crosses_threads, is_shared_by_threads};
 
@@ -25,11 +26,13 @@ impl Prog {
         let insns: &[Insn] = &body;
         let prefilter = StartPrefilter::of(insns);
         let strategy = Strategy::of(insns, &prefilter);
+        let required = required_in(insns, &prefilter);
         Prog {
             body,
             parts,
             prefilter,
             strategy,
+            required,
         }
     }
 

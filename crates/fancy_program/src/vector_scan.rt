@@ -47,6 +47,42 @@ impl ScanKind {
 }
 
 impl Needles {
+    /// No character.
+    pub(crate) fn none() -> Needles
+        ensures { result ≡ record { first = 128; last = 128; second = 128; third = 128 } }
+    {
+        Needles {
+            first: 128,
+            last: 128,
+            second: 128,
+            third: 128,
+        }
+    }
+
+    /// This character.
+    pub(crate) fn one(first: u8) -> Needles
+        ensures { result ≡ record { first = first; last = first; second = 128; third = 128 } }
+    {
+        Needles {
+            first,
+            last: first,
+            second: 128,
+            third: 128,
+        }
+    }
+
+    /// These two characters.
+    pub(crate) fn two(first: u8, second: u8) -> Needles
+        ensures { result ≡ record { first = first; last = first; second = second; third = 128 } }
+    {
+        Needles {
+            first,
+            last: first,
+            second,
+            third: 128,
+        }
+    }
+
     /// The range is one character.
     fn is_single(self) -> bool
         ensures { IsTrue result → IsSingle self }

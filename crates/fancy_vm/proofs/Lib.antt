@@ -12,3 +12,4 @@ pub mod MemosLaws
 pub mod PairsLaws
 pub mod SingleDelegateLaws
 pub mod SingleBranchLaws
+pub mod RequiredLaws
