@@ -8,7 +8,7 @@ use Rattle.fancy_meaning.specs.Options as plain
 use Rattle.fancy_meaning.specs.Premises.{Input, IsText, plan}
 use Rattle.fancy_expr.specs.declared.error.Error.{Error}
 use Rattle.fancy_matches.specs.Listing.{ComesTo, Standing, at_start, left, stays}
-use Rattle.fancy_matches.specs.Regexes.{Counts, GivesMatch, IsNoLimitWhereEasy, IsRegexOf, IsSame, Iteration, options_in}
+use Rattle.fancy_matches.specs.Regexes.{Counts, GivesMatch, IsNoLimitWhereEasy, IsRegexOf, IsSame, Iteration, compiled_of, options_in}
 use Rattle.fancy_matches.specs.declared.found.Match.{Match}
 use Rattle.fancy_matches.specs.declared.regexes.Regex.{Regex}
 use Rattle.fancy_matches.proofs.Easy.{easy_of_same}
@@ -29,7 +29,7 @@ pub record HasCounted (r : Regex) (text : List ℕ) (count : ℕ) (s : Iteration
 pub none_counted : (r : Regex) (text : List ℕ) (s : Iteration) → s.regex.now ≡ r → s.text ≡ text → s.standing ≡ at_start →
     HasCounted r text 0 s
 none_counted r text s is within first = record {
-  same = (ap (λ (x : Regex). x.compiled) is, ap (λ (x : Regex). x.options) is);
+  same = (ap compiled_of is, ap (λ (x : Regex). x.options) is);
   within = within;
   so_far = λ i o h. record { gone = []; counts = refl; comes = subst (λ t. ComesTo (plan i) text o at_start [] t) (sym first) stays };
 }

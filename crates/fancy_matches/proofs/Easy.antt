@@ -14,7 +14,7 @@ use Rattle.fancy_expr.specs.declared.error.RuntimeError.TheVariants as limit
 use Rattle.fancy_vm.specs.Bounds.{IsBelowBound}
 use Rattle.fancy_search.specs.Searches.{Bounds, IsCompiledFrom}
 use Rattle.fancy_matches.specs.Listing.{backtracks_for}
-use Rattle.fancy_matches.specs.Regexes.{IsNoLimit, IsNoLimitWhereEasy, IsSame, PromisesSo}
+use Rattle.fancy_matches.specs.Regexes.{IsNoLimit, IsNoLimitWhereEasy, IsSame, PromisesSo, compiled_of}
 use Rattle.fancy_matches.specs.declared.options.RegexOptions.{RegexOptions}
 use Rattle.fancy_matches.specs.declared.regexes.Regex.{Regex}
 
@@ -75,12 +75,12 @@ module _ (i : Input) (text : List ℕ) (o : plain.RunOptions) (small : length te
 
 module _ (r : Regex) (text : List ℕ) (o : plain.RunOptions)
     (backtracks : o.backtrack_limit ≡ backtracks_for r.options.backtrack_limit text) (steps : o.step_limit ≡ r.options.run.step_limit) where
-  pub easy_error : (e : Error) → ((i : Input) → IsCompiledFrom i r.compiled → Bounds i text o (Err e)) → IsNoLimitWhereEasy r text e
+  pub easy_error : (e : Error) → ((i : Input) → IsCompiledFrom i (compiled_of r) → Bounds i text o (Err e)) → IsNoLimitWhereEasy r text e
   easy_error e bounds i from easy none small =
       no_limit i text o small (backtracks ∙ ap (λ asked. backtracks_for asked text) none.0) (steps ∙ none.1) e easy (bounds i from)
 
   pub easy_search : {A : Type 0} (Says : Option (List ℕ) → A → Type 0) (result : Result A Error) →
-      ((i : Input) → IsCompiledFrom i r.compiled → PromisesSo i text o Says result) → IfErr result (IsNoLimitWhereEasy r text)
+      ((i : Input) → IsCompiledFrom i (compiled_of r) → PromisesSo i text o Says result) → IfErr result (IsNoLimitWhereEasy r text)
   easy_search Says (Ok found) promise = tt
   easy_search Says (Err e) promise = easy_error e (λ i from. (promise i from).1)
 

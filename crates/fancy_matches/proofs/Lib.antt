@@ -3,3 +3,4 @@ pub mod Searching
 pub mod Stepping
 pub mod Counting
 pub mod Easy
+pub mod ThreadsLaws

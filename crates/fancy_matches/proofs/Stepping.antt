@@ -17,7 +17,7 @@ use Rattle.fancy_search.specs.declared.search.Compiled.{Compiled}
 use Rattle.fancy_expr.specs.declared.error.Error.{Error}
 use Rattle.fancy_laws.proofs.Moves.{is_place_parts}
 use Rattle.fancy_matches.specs.Listing.{ComesTo, Standing, after, by_match, ended, is_listed, options_at, options_for, past_match, stays}
-use Rattle.fancy_matches.specs.Regexes.{ComesBy, EndsOn, GivesBy, IsNoLimitWhereEasy, IsRegexOf, IsSame, Shows, StepsBy, left_of, options_in}
+use Rattle.fancy_matches.specs.Regexes.{ComesBy, EndsOn, GivesBy, IsNoLimitWhereEasy, IsRegexOf, IsSame, Shows, StepsBy, compiled_of, left_of, options_in}
 use Rattle.fancy_matches.specs.declared.options.RegexOptions.{RegexOptions}
 use Rattle.fancy_matches.specs.declared.regexes.Regex.{Regex}
 use Rattle.fancy_matches.proofs.Easy.{easy_error}
@@ -103,6 +103,13 @@ module _ (c : Compiled) (text : List ℕ) (is : IsText text) (base here : RunOpt
   pub found_further : (span : Span) → EndsOn text here.pos span → s.pos < (after text s span).pos
   found_further span on = next_on text s span (subst (λ n. n ≤ span.1) (ap (λ o. o.pos) options) on.0)
 
+  -- once it goes past what was found, the list stands further on
+  pub passed_on : (span : Span) → EndsOn text here.pos span → (t : Standing) → t ≡ after text s span → (s.pos < t.pos) × (s.pos ≤ length text)
+  passed_on span on t to =
+      let further = found_further span on in
+      let moved = ap (λ u. u.pos) to in
+      (omega (arith, moved, further), (is_place_parts text s.pos at).0)
+
   module _ (goes : GoesOn c text (run_options_of base) from s) {A B : Type 0} (show : A → B) (seen : List ℕ → B)
       (result : Result (Option A) Error) (promise : (i : Input) → IsCompiledFrom i c → Shows i text (run_options_of here) show seen result) where
     abbrev o : plain.RunOptions
@@ -158,13 +165,16 @@ same_twice r s t a b = (b.0 ∙ a.0, b.1 ∙ a.1)
 
 -- what its searches for the next match came to
 module _ {A B : Type 0} (show : A → B) (seen : List ℕ → B) (r : Regex) (text : List ℕ) (is : IsText text) (here : plain.RunOptions)
-    (asked : here ≡ options_in r text) (from to : Standing) (result : Result (Option A) Error)
-    (steps : (i : Input) → IsCompiledFrom i r.compiled → StepsBy i text here show seen from result to) where
+    (asked : here ≡ options_in r text) (from to : Standing) (result : Result (Option A) Error) (k : Compiled) (this : k ≡ compiled_of r)
+    (steps : (i : Input) → IsCompiledFrom i k → StepsBy i text here show seen from result to) where
+  steps_of : (i : Input) → IsCompiledFrom i (compiled_of r) → StepsBy i text here show seen from result to
+  steps_of i of = steps i (subst (IsCompiledFrom i) (sym this) of)
+
   steps_so : (x : Result (Option A) Error) → result ≡ x → (i : Input) (o : plain.RunOptions) → IsRegexOf i text o r →
       StepsBy i text o show seen from x to
   steps_so x was i o h =
       subst (λ q. StepsBy i text q show seen from x to) (asked ∙ h.options)
-      (subst (λ y. StepsBy i text here show seen from y to) was (steps i h.compiled))
+      (subst (λ y. StepsBy i text here show seen from y to) was (steps_of i h.compiled))
 
   pub gives_none : result ≡ Ok None → (i : Input) (o : plain.RunOptions) → IsRegexOf i text o r → GivesBy i text o show seen from None to
   gives_none was i o h = steps_so (Ok None) was i o h
@@ -179,7 +189,7 @@ module _ {A B : Type 0} (show : A → B) (seen : List ℕ → B) (r : Regex) (te
       let s = steps_so (Err e) was i o h in
       (record { standing = to; comes = s.0; fails = s.1 }, no_place_ends (plan i) text o is (ended to) is.fits)
 
-  pub error_within : HasSource r.compiled → (e : Error) → result ≡ Err e → from.pos ≤ length text
+  pub error_within : HasSource (compiled_of r) → (e : Error) → result ≡ Err e → from.pos ≤ length text
   error_within source e was =
       ∥∥₁_elim source le_prop (λ of.
       let s = steps_so (Err e) was of.0 (options_in r text) (record { compiled = of.1; options = refl }) in
@@ -190,4 +200,4 @@ module _ {A B : Type 0} (show : A → B) (seen : List ℕ → B) (r : Regex) (te
   pub easy_step : (e : Error) → result ≡ Err e → IsNoLimitWhereEasy r text e
   easy_step e was =
       easy_error r text (options_at here to) (ap (λ o. o.backtrack_limit) asked) (ap (λ o. o.step_limit) asked) e
-      (λ i of. (subst (λ x. StepsBy i text here show seen from x to) was (steps i of)).1.bounds)
+      (λ i of. (subst (λ x. StepsBy i text here show seen from x to) was (steps_of i of)).1.bounds)

@@ -1,5 +1,6 @@
 -- What clauses see of a regex, of what it finds, and of its lists.
 use Rattle.std.specs.Prelude.{◌≡◌, ◌≤◌, ◌<◌, ◌-◌, ◌^◌, ℕ, Bool, true, IfErr, IfSome, IsFalse, List, [], ◌∷◌, length, Option, Some, None, Result, Ok, Err, is_some, option_map}
+use Rattle.std.specs.Arc.{arc_value}
 use Rattle.std.specs.Borrow.{MutBor}
 use Rattle.fancy_meaning.specs.Answer.{answer, search_of}
 use Rattle.fancy_meaning.specs.Hard.{is_root_hard}
@@ -12,6 +13,7 @@ use Rattle.fancy_expr.specs.declared.error.Error.TheVariants as error
 use Rattle.fancy_vm.specs.Outcomes.{first_pair}
 use Rattle.fancy_vm.specs.Tasks.{options_of as run_options_of}
 use Rattle.fancy_search.specs.Searches.{Bounds, IsCompiledFrom, Promises, instructions_of}
+use Rattle.fancy_search.specs.declared.search.Compiled.{Compiled}
 use Rattle.fancy_matches.specs.Listing.{AreApart, ComesTo, Standing, all_matches, all_spans, at_start, left, options_at, options_for}
 use Rattle.fancy_matches.specs.declared.found.Captures.{Captures}
 use Rattle.fancy_matches.specs.declared.found.Match.{Match}
@@ -82,24 +84,28 @@ EndsOn text pos span = (pos ≤ span.1) × (span.1 ≤ length text)
 
 -- ---- a regex
 
+-- what its tree was compiled to
+abbrev pub compiled_of : Regex → Compiled
+compiled_of r = arc_value r.compiled
+
 -- the options of its searches of this text but where they begin
 abbrev pub options_in : Regex → List ℕ → plain.RunOptions
 options_in r text = options_for (run_options_of r.options.run) r.options.backtrack_limit text
 
 -- it was compiled from the tree, and its searches of this text have these options but where they begin
 pub record IsRegexOf (i : Input) (text : List ℕ) (o : plain.RunOptions) (r : Regex) : Type 0 where
-  pub compiled : IsCompiledFrom i r.compiled
+  pub compiled : IsCompiledFrom i (compiled_of r)
   pub options : options_in r text ≡ o
 
 -- it was compiled from the tree, with these options and the limit of backtracks that was asked
 pub record IsMadeBy (i : Input) (o : plain.RunOptions) (asked : Option ℕ) (r : Regex) : Type 0 where
-  pub compiled : IsCompiledFrom i r.compiled
+  pub compiled : IsCompiledFrom i (compiled_of r)
   pub options : run_options_of r.options.run ≡ o
   pub backtracks : r.options.backtrack_limit ≡ asked
 
 -- of the same tree, with the same options
 abbrev pub IsSame : Regex → Regex → Type 0
-IsSame r s = (s.compiled ≡ r.compiled) × (s.options ≡ r.options)
+IsSame r s = (compiled_of s ≡ compiled_of r) × (s.options ≡ r.options)
 
 -- of the same tree, and lent by the same caller
 pub record IsSameLoan (r s : MutBor Regex) : Type 0 where
@@ -120,7 +126,7 @@ IsNoLimit e = Unit {0}
 -- Where no limit was asked and the whole tree is easy, no limit is passed in a text of fewer than 2 ^ 60 bytes.
 abbrev pub IsNoLimitWhereEasy : Regex → List ℕ → Error → Type 0
 IsNoLimitWhereEasy r text e =
-    (i : Input) → IsCompiledFrom i r.compiled → IsFalse (is_root_hard (plan i).analysis) → HasNoLimits r →
+    (i : Input) → IsCompiledFrom i (compiled_of r) → IsFalse (is_root_hard (plan i).analysis) → HasNoLimits r →
     length text < 2 ^ 60 → IsNoLimit e
 
 -- ---- lists

@@ -1,10 +1,12 @@
 //! A match, and the groups of one.
 
-ghost use Rattle.std.specs.Prelude.{◌≡◌, ◌≤◌, IfSome, length, option_map, slice_index_or, slice_range};
+ghost use Rattle.std.specs.Prelude.{◌≡◌, ◌≤◌, IfOk, IfSome, length, option_map, slice_index_or, slice_range};
 ghost use Rattle.fancy_meaning.specs.Numbers.{usize_max};
 ghost use Rattle.fancy_meaning.specs.Premises.{IsSpan};
 ghost use Rattle.fancy_vm.specs.Outcomes.{first_pair};
 ghost use Rattle.fancy_matches.specs.Listing.{AreSpans, group_span};
+
+use std::alloc::{AllocError, Global};
 
 /// A part of a text that matched.
 #[derive(Clone, Copy)]
@@ -52,7 +54,7 @@ pub struct Captures<'t> {
 }
 
 impl<'t> Captures<'t> {
-    ghost use Rattle.fancy_matches.specs.Regexes.{captures_text, numbers_in, span_of, text_of};
+    ghost use Rattle.fancy_matches.specs.Regexes.{captures_text, numbers_in, shown_captures, span_of, text_of};
 
     /// The number at this index; `usize::MAX` where there is none.
     fn number(&self, index: usize) -> usize
@@ -91,6 +93,16 @@ impl<'t> Captures<'t> {
             text: self.text,
             start,
             end,
+        })
+    }
+
+    /// The same groups once more. The only error is want of memory.
+    pub fn try_clone(&self, alloc: Global) -> Result<Captures<'t>, AllocError>
+        ensures { IfOk result (λ c. shown_captures c ≡ shown_captures self.now) }
+    {
+        Ok(Captures {
+            text: self.text,
+            numbers: Vec::from_slice(alloc, &self.numbers)?,
         })
     }
 }

@@ -1,5 +1,6 @@
 //! `Regex`: a tree that is compiled, with the memory of its searches.
 
+ghost use Rattle.std.specs.Arc.{arc_value};
 ghost use Rattle.std.specs.Prelude.{◌≡◌, ◌-◌, ◌<◌, [], IfErr, IfOk, IfSome, IsTrue, MatchResult, length, suc};
 ghost use Rattle.fancy_meaning.specs.Fits.{run_fits};
 ghost use Rattle.fancy_meaning.specs.Options as plain;
@@ -17,19 +18,22 @@ use crate::searches::{FromSearch, next_found};
 use crate::standing::Standing;
 use fancy_expr::error::Error;
 use fancy_expr::expr::ExprTree;
+use fancy_program::threads::crosses_threads;
 use fancy_search::search::{Compiled, SearchOptions};
 use fancy_vm::vm::{RunOptions, Scratch};
-use std::alloc::Global;
+use std::alloc::{AllocError, Global};
+use std::sync::Arc;
 
-/// A tree that is compiled once and searched for many times, with the memory that its searches use again.
+/// A tree that is compiled once and searched for many times, with the memory that its searches use again. Several may
+/// share one program, each with memory of its own.
 #[derive(Drop)]
 pub struct Regex {
     alloc: Global,
-    compiled: Compiled,
+    compiled: Arc<Compiled>,
     options: RegexOptions,
     scratch: Scratch,
-    ghost fits: { IsTrue (run_fits (task_of (program compiled) [] options.run)) },
-    ghost source: { HasSource compiled },
+    ghost fits: { IsTrue (run_fits (task_of (program (arc_value compiled)) [] options.run)) },
+    ghost source: { HasSource (arc_value compiled) },
 }
 
 impl Regex {
@@ -64,15 +68,29 @@ impl Regex {
             (input_of tree.now options.now.analysis options.now.compilation)
             options.now.compilation.max_nesting) }
     {
+        crosses_threads::<Regex>();
         let compiled = Compiled::new(alloc, tree, options.analysis, options.compilation)?;
         Ok(Regex {
             alloc,
-            compiled,
+            compiled: Arc::new(alloc, compiled)?,
             options: RegexOptions {
                 run: options.run,
                 backtrack_limit,
             },
             scratch: Scratch::new(alloc),
+        })
+    }
+
+    /// The same regex once more. Both share the program, and each has memory of its own for its searches, so that two
+    /// threads may take one each. The only error is want of memory.
+    pub fn try_clone(&self) -> Result<Regex, AllocError>
+        ensures { IfOk result (IsSame self.now) }
+    {
+        Ok(Regex {
+            alloc: self.alloc,
+            compiled: Arc::try_clone(&self.compiled)?,
+            options: self.options,
+            scratch: Scratch::new(self.alloc),
         })
     }
 

@@ -6,13 +6,16 @@ use Rattle.fancy_expr.specs.declared.expr.ExprTree.{ExprTree}
 use Rattle.fancy_search.specs.Searches.{IsCompiledFrom, IsRefusedAs}
 use Rattle.fancy_matches.specs.Listing.{options_for}
 use Rattle.fancy_matches.specs.Regexes as engine
+use Rattle.fancy_matches.specs.declared.options.RegexOptions as engine_options
 use Rattle.fancy_matches.specs.declared.regexes.Regex as engine_regex
 use Rattle.fancy_pattern.specs.declared.error.PatternError.{PatternError}
 use Rattle.fancy_pattern.specs.declared.error.PatternError.TheVariants as of_parser
 use Rattle.fancy_pattern.specs.Spelling.{IsError}
-use Rattle.fancy_regex.specs.Builders.{IsBuilt, IsMadeOf, IsRefused, IsTreeOf}
+use Rattle.fancy_matches.proofs.Stepping.{of_same}
+use Rattle.fancy_regex.specs.Builders.{AreNamesOf, IsBuilt, IsMadeOf, IsRefused, IsTreeOf}
 use Rattle.fancy_regex.specs.Errors.{engine_error, of_pattern}
 use Rattle.fancy_regex.specs.Options.{analysis, compilation, input, running}
+use Rattle.fancy_regex.specs.Regexes.{IsSame, engine_of}
 use Rattle.fancy_regex.specs.declared.error.Error.{Error}
 use Rattle.fancy_regex.specs.declared.error.Error.TheVariants as face
 use Rattle.fancy_regex.specs.declared.options.RegexOptions.{RegexOptions}
@@ -25,8 +28,8 @@ module _ (asked : RegexOptions) (tree : ExprTree) where
       pub compiled_so : (text : List ℕ) → engine.IsRegexOf (input tree asked) text (running asked text) r
       compiled_so text = record {
         compiled =
-            subst (λ a. IsCompiledFrom (record { parsed = parsed_of tree; analysis = a; options = compilation asked }) r.compiled) as_analysed
-            (subst (λ k. IsCompiledFrom (record { parsed = parsed_of tree; analysis = a; options = k }) r.compiled) as_compiled h.compiled);
+            subst (λ a. IsCompiledFrom (record { parsed = parsed_of tree; analysis = a; options = compilation asked }) (engine.compiled_of r)) as_analysed
+            (subst (λ k. IsCompiledFrom (record { parsed = parsed_of tree; analysis = a; options = k }) (engine.compiled_of r)) as_compiled h.compiled);
         options =
             ap (λ o. options_for o (r.options).backtrack_limit text) h.options ∙ ap (λ k. options_for o k text) h.backtracks ∙ as_run text;
       }
@@ -52,7 +55,6 @@ module _ (asked : RegexOptions) (tree : ExprTree) where
       compiled = λ text. subst (engine.IsRegexOf (input tree asked) text (running asked text)) (sym made.compiled) (of text);
       unlimited = λ backtracks steps. subst engine.HasNoLimits (sym made.compiled) (unlimited backtracks steps);
       names = made.names;
-      count = made.count;
       has_pattern = made.has_pattern;
       has_options = made.has_options;
     }
@@ -70,3 +72,19 @@ pub refused_pattern : (pattern : List ℕ) (asked : RegexOptions) (e : PatternEr
     IsRefused pattern asked (of_pattern e)
 refused_pattern pattern asked (of_parser.Parse at kind) h = h
 refused_pattern pattern asked of_parser.Memory h = tt
+
+-- a regex of the same pattern and tree, with the same options, is as this one was built
+pub built_of_same : (pattern : List ℕ) (o : RegexOptions) (r s : Regex) → IsSame r s → IsBuilt pattern o r → IsBuilt pattern o s
+built_of_same pattern o r s same h = record {
+  tree = h.tree;
+  spelled = h.spelled;
+  compiled = λ text. of_same (engine_of r) (engine_of s) (input h.tree o) text (running o text) same.engine (h.compiled text);
+  unlimited = λ backtracks steps.
+      let u = h.unlimited backtracks steps in (
+        ap (λ (a : engine_options.RegexOptions). a.backtrack_limit) (same.engine).1 ∙ u.0,
+        ap (λ (a : engine_options.RegexOptions). (a.run).step_limit) (same.engine).1 ∙ u.1,
+      );
+  names = subst (AreNamesOf h.tree) (sym same.names) h.names;
+  has_pattern = same.pattern ∙ h.has_pattern;
+  has_options = same.options ∙ h.has_options;
+}

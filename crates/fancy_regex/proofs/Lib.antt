@@ -1,3 +1,4 @@
 pub mod Built
 pub mod NamedGroups
 pub mod Replies
+pub mod Scanning

@@ -17,6 +17,7 @@ use Rattle.fancy_regex.specs.Regexes.{IsRegexOf, engine_of, names_of, options_of
 use Rattle.fancy_regex.specs.declared.builder.RegexBuilder.{RegexBuilder}
 use Rattle.fancy_regex.specs.declared.error.Error.{Error}
 use Rattle.fancy_regex.specs.declared.error.Error.TheVariants as face
+use Rattle.fancy_regex.specs.declared.names.GroupNames.{GroupNames}
 use Rattle.fancy_regex.specs.declared.options.RegexOptions.{RegexOptions}
 use Rattle.fancy_regex.specs.declared.regexes.Regex.{Regex}
 
@@ -43,6 +44,11 @@ with_parsing b p = with_options b (record b.options { parsing = p })
 
 -- ---- the regex
 
+-- the names of the tree's groups, and how many there are
+pub record AreNamesOf (tree : ExprTree) (g : GroupNames) : Type 0 where
+  pub names : names_in g ≡ (parsed_of tree).named_groups
+  pub count : group_count g ≡ suc tree.total_groups
+
 module _ (pattern : List ℕ) (o : RegexOptions) where
   -- the tree that the pattern spells, with what comes with it
   pub record IsTreeOf (t : ExprTree) : Type 0 where
@@ -53,8 +59,7 @@ module _ (pattern : List ℕ) (o : RegexOptions) where
   pub record IsMadeOf (tree : ExprTree) (engine : compiled_regex.Regex) (r : Regex) : Type 0 where
     pub has_pattern : pattern_of r ≡ pattern
     pub has_options : options_of r ≡ o
-    pub names : names_in (names_of r) ≡ (parsed_of tree).named_groups
-    pub count : group_count (names_of r) ≡ suc tree.total_groups
+    pub names : AreNamesOf tree (names_of r)
     pub compiled : engine_of r ≡ engine
 
   -- the regex of the pattern: it was compiled from the tree that the pattern spells, and has its names
@@ -64,8 +69,7 @@ module _ (pattern : List ℕ) (o : RegexOptions) where
     pub compiled : (text : List ℕ) → IsRegexOf (input tree o) text (running o text) r
     -- where no limit was asked it has none
     pub unlimited : o.backtrack_limit ≡ None → o.step_limit ≡ 2 ^ 64 - 1 → HasNoLimits (engine_of r)
-    pub names : names_in (names_of r) ≡ (parsed_of tree).named_groups
-    pub count : group_count (names_of r) ≡ suc tree.total_groups
+    pub names : AreNamesOf tree (names_of r)
     pub has_pattern : pattern_of r ≡ pattern
     pub has_options : options_of r ≡ o
 

@@ -5,4 +5,5 @@ pub mod Lists
 pub mod Names
 pub mod Options
 pub mod Regexes
+pub mod Scanners
 pub mod Splits

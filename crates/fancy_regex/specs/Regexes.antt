@@ -41,8 +41,8 @@ IsRegexOf i text o r = engine.IsRegexOf i text o r.engine
 -- of the same pattern and the same tree, with the same options
 pub record IsSame (r s : Regex) : Type 0 where
   pub engine : engine.IsSame r.engine s.engine
-  pub names : s.names ≡ r.names
-  pub pattern : s.pattern ≡ r.pattern
+  pub names : names_of s ≡ names_of r
+  pub pattern : pattern_of s ≡ pattern_of r
   pub options : s.options ≡ r.options
 
 -- of the same tree, and lent by the same caller

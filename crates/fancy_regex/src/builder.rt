@@ -2,15 +2,18 @@
 
 ghost use Rattle.std.specs.Prelude.{◌≡◌, ◌≤◌, MatchResult, Some};
 ghost use Rattle.fancy_meaning.specs.WellFormed.{most_groups};
-ghost use Rattle.fancy_regex.specs.Builders.{IsBuilt, IsMadeOf, IsRefused, IsTreeOf, default_builder, options, parsing, with_options, with_parsing};
+ghost use Rattle.fancy_regex.specs.Builders.{AreNamesOf, IsBuilt, IsMadeOf, IsRefused, IsTreeOf, default_builder, options, parsing, with_options, with_parsing};
+ghost use Rattle.fancy_regex.specs.Scanners.{IsScanPattern};
 
 use crate::error::Error;
 use crate::names::GroupNames;
 use crate::options::RegexOptions;
 use crate::regexes::Regex;
+use crate::scanner::ScanPattern;
 use fancy_expr::expr::ExprTree;
 use fancy_matches::regexes::Regex as Engine;
 use fancy_pattern::pattern::parse_tree;
+use fancy_scanner::scanner::ScanTree;
 use std::alloc::Global;
 use std::sync::Arc;
 
@@ -232,6 +235,38 @@ impl<'p> RegexBuilder<'p> {
         }
     }
 
+    /// The names of the groups of the tree.
+    fn names_of(alloc: Global, tree: ExprTree) -> GroupNames
+        requires { tree.total_groups ≤ most_groups }
+        ensures { AreNamesOf tree result }
+    {
+        GroupNames {
+            alloc,
+            count: tree.total_groups + 1,
+            numbers: tree.named_groups,
+        }
+    }
+
+    /// The pattern compiled for a scanner, with the names of its groups.
+    ///
+    /// It is refused as `build` refuses it.
+    pub(crate) fn scan_pattern(&self, alloc: Global) -> Result<ScanPattern, Error>
+        ensures { MatchResult
+            result
+            (IsScanPattern self.now.pattern.now (options self.now))
+            (IsRefused self.now.pattern.now (options self.now)) }
+    {
+        let tree = self.tree(alloc)?;
+        let search = self.options.search_options();
+        match ScanTree::new(alloc, &tree, &search, self.options.backtrack_limit) {
+            Ok(compiled) => {
+                let names = Arc::new(alloc, RegexBuilder::names_of(alloc, tree))?;
+                Ok(ScanPattern { compiled, names })
+            }
+            Err(error) => Err(Error::from(error)),
+        }
+    }
+
     /// The regex of the pattern, by its tree and what this was compiled to.
     fn regex_of(&self, alloc: Global, tree: ExprTree, engine: Engine) -> Result<Regex, Error>
         requires { tree.total_groups ≤ most_groups }
@@ -240,11 +275,7 @@ impl<'p> RegexBuilder<'p> {
             (IsMadeOf self.now.pattern.now (options self.now) tree engine)
             (λ e. e ≡ Error.Memory) }
     {
-        let names = GroupNames {
-            alloc,
-            count: tree.total_groups + 1,
-            numbers: tree.named_groups,
-        };
+        let names = RegexBuilder::names_of(alloc, tree);
         Ok(Regex {
             pattern: String::from_str(alloc, self.pattern)?,
             options: self.options,

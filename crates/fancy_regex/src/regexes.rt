@@ -15,7 +15,8 @@ ghost use Rattle.fancy_regex.specs.Found.{captures_names, shown_captures, shown_
 ghost use Rattle.fancy_regex.specs.Lists.{Begins, HaveNames, GivesCaptures, GivesMatch, captures_iteration, matches_iteration};
 ghost use Rattle.fancy_regex.specs.Names.{group_count, names_in};
 ghost use Rattle.fancy_regex.specs.Options.{default_options};
-ghost use Rattle.fancy_regex.specs.Regexes.{AreAllApart, FindsCaptures, FindsMatch, FindsWhether, IsNoLimitWhereEasy, IsRegexOf, IsReplacement, IsSame, engine_of, names_of, options_of, pattern_of};
+ghost use Rattle.fancy_regex.specs.Regexes.{AreAllApart, FindsCaptures, FindsMatch, FindsWhether, IsNoLimitWhereEasy, IsRegexOf, IsReplacement, IsSame, engine_of, names_of, pattern_of};
+ghost use Rattle.fancy_regex.specs.declared.options.RegexOptions.{RegexOptions};
 
 use crate::builder::RegexBuilder;
 use crate::error::Error;
@@ -53,20 +54,19 @@ impl Regex {
         RegexBuilder::new(pattern).build(alloc)
     }
 
-    /// The same regex once more: its pattern is read and compiled again, with the same options. Two threads take one
-    /// each.
-    ///
-    /// It is refused as `RegexBuilder::build` would refuse it, so mostly for want of memory.
+    /// The same regex once more. Both share the program and the names, and each has memory of its own for its searches, so
+    /// that two threads may take one each. The only error is want of memory.
     pub fn try_clone(&self) -> Result<Regex, Error>
-        ensures { MatchResult result
-            (IsBuilt (pattern_of self.now) (options_of self.now))
-            (IsRefused (pattern_of self.now) (options_of self.now)) }
+        ensures same { MatchResult result (IsSame self.now) (λ e. e ≡ Error.Memory) }
+        ensures built { (pattern : List ℕ) (o : RegexOptions)
+            → IsBuilt pattern o self.now → IfOk result (IsBuilt pattern o) }
     {
-        let builder = RegexBuilder {
-            pattern: &self.pattern,
+        Ok(Regex {
+            pattern: String::from_str(self.names.alloc, &self.pattern)?,
             options: self.options,
-        };
-        builder.build(self.names.alloc)
+            names: Arc::try_clone(&self.names)?,
+            engine: self.engine.try_clone()?,
+        })
     }
 
     /// The pattern.
@@ -286,7 +286,8 @@ impl Regex {
         }
     }
 
-    /// All matches, one after the other, each with its groups. They do not overlap. The regex is the caller's again once the iterator is gone.
+    /// All matches, one after the other, each with its groups. They do not overlap. The regex is the caller's again once
+    /// the iterator is gone.
     pub fn captures_iter<'r, 't>(&'r mut self, text: &'t str) -> CaptureMatches<'r, 't>
         ensures begins { Begins self.entry text.now (captures_iteration result) }
         ensures apart { AreAllApart self.old text.now }
@@ -298,7 +299,8 @@ impl Regex {
         }
     }
 
-    /// All matches, one after the other, without their groups. They do not overlap. The regex is the caller's again once the iterator is gone.
+    /// All matches, one after the other, without their groups. They do not overlap. The regex is the caller's again once
+    /// the iterator is gone.
     pub fn find_iter<'r, 't>(&'r mut self, text: &'t str) -> Matches<'r, 't>
         ensures begins { Begins self.entry text.now (matches_iteration result) }
         ensures apart { AreAllApart self.old text.now }

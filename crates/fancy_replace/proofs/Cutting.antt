@@ -11,7 +11,7 @@ use Rattle.fancy_expr.specs.declared.error.Error.{Error}
 use Rattle.fancy_search.specs.Searches.{IsCompiledFrom}
 use Rattle.fancy_vm.specs.Outcomes.{first_pair}
 use Rattle.fancy_matches.specs.Listing.{AreApart, ComesTo, Standing, all_matches}
-use Rattle.fancy_matches.specs.Regexes.{FailsBy, GivesCaptures, IsRegexOf, captures_text, left_of, numbers_in, options_in, standing_of}
+use Rattle.fancy_matches.specs.Regexes.{FailsBy, GivesCaptures, IsRegexOf, captures_text, compiled_of, left_of, numbers_in, options_in, standing_of}
 use Rattle.fancy_matches.specs.declared.found.Captures.{Captures}
 use Rattle.fancy_matches.specs.declared.regexes.Regex.{Regex}
 use Rattle.fancy_matches.proofs.Lists.{matches_apart}
@@ -77,7 +77,7 @@ module _ (r : Regex) (s : Cuts) (ahead : IsAhead r s) (found : Option (Result Ca
         AreAhead text (first_pair (numbers_in c)).1 (map first_pair (left_of i text o t))
     rest_ahead i o h = (parts i o h).1.1
 
-    of_source : (i : Input) → IsCompiledFrom i r.compiled → IsRegexOf i text (options_in r text) r
+    of_source : (i : Input) → IsCompiledFrom i (compiled_of r) → IsRegexOf i text (options_in r text) r
     of_source i compiled = record { compiled = compiled; options = refl }
 
     pub next_begins : s.from ≤ (first_pair (numbers_in c)).0

@@ -1,6 +1,6 @@
 //! Trees that are searched for together.
 
-ghost use Rattle.std.specs.Prelude.{◌≡◌, ◌++◌, ◌∷◌, ◌<◌, ◌^◌, [], ℕ, IfErr, IfOk, IsTrue, List, MatchOption, None, OnErr, OnOk, Option, Some, length, option_map};
+ghost use Rattle.std.specs.Prelude.{◌≡◌, ◌++◌, ◌∷◌, ◌<◌, ◌^◌, [], ℕ, IfErr, IfOk, IsTrue, List, MatchOption, MatchResult, None, OnErr, OnOk, Option, Some, length, option_map};
 ghost use Rattle.fancy_meaning.specs.Options as plain;
 ghost use Rattle.fancy_meaning.specs.Places as places;
 ghost use Rattle.fancy_meaning.specs.Premises.{Input};
@@ -10,7 +10,7 @@ ghost use Rattle.fancy_matches.specs.Listing.{begun_at};
 ghost use Rattle.fancy_matches.specs.Regexes.{FindsCaptures, IsNoLimit, IsRegexOf, captures_text};
 ghost use Rattle.fancy_search.specs.Searches.{IsRefusedAs, input_of, search_fits};
 ghost use Rattle.fancy_scanner.specs.Scanning as scanning;
-ghost use Rattle.fancy_scanner.specs.Scanning.{AreEasy, IsRuleAt, IsScannerOf, KeepsTrees, RuleMatch, Rule, Scans, in_text, lasting_at, match_view, rule_match, rule_of, start_of, trees_of};
+ghost use Rattle.fancy_scanner.specs.Scanning.{AreEasy, IsRuleAt, IsScannerOf, IsTreeOf, KeepsTrees, RuleMatch, Rule, Scans, in_text, lasting_at, match_view, rule_match, rule_of, start_of, trees_of};
 ghost use Rattle.fancy_scanner.specs.Scans.{BeginsScan};
 
 use crate::lasting::Lasting;
@@ -57,11 +57,36 @@ impl ScanMatch<'_> {
     }
 }
 
-/// A tree of a scanner.
+/// A tree that is compiled for a scanner.
 #[derive(Drop)]
-pub(crate) struct ScanTree {
+pub struct ScanTree {
     regex: Regex,
     lasting: Lasting,
+}
+
+impl ScanTree {
+    /// Compiles the tree as `Regex::new` does it. A `ScanText` keeps what is found of it as long as it holds.
+    ///
+    /// The tree is refused as `Regex::new` refuses it. Want of memory is `Error::Memory`.
+    pub fn new(
+        alloc: Global,
+        tree: &ExprTree,
+        options: &SearchOptions,
+        backtrack_limit: Option<usize>,
+    ) -> Result<ScanTree, Error>
+        requires well_formed { IsWellFormedTree tree.now }
+        requires fits { IsTrue (search_fits options.now []) }
+        ensures { MatchResult result
+            (λ x. (text : List ℕ)
+            → IsTreeOf (rule_of tree.now options.now backtrack_limit text) text x)
+            (IsRefusedAs
+            (input_of tree.now options.now.analysis options.now.compilation)
+            options.now.compilation.max_nesting) }
+    {
+        let regex = Regex::new(alloc, tree, options, backtrack_limit)?;
+        let lasting = Lasting::of(tree, options);
+        Ok(ScanTree { regex, lasting })
+    }
 }
 
 /// Trees that are searched for together, as the rules of a highlighter are, each with the memory of its searches.
@@ -82,6 +107,18 @@ impl Scanner {
         }
     }
 
+    /// One more tree, after the others. The only error is want of memory, which leaves the scanner as it was.
+    pub fn push(&mut self, tree: ScanTree) -> Result<(), AllocError>
+        ensures ok { OnOk result ((text : List ℕ) (rules : List Rule) (r : Rule)
+            → IsScannerOf rules text self.old → IsTreeOf r text tree
+            → IsScannerOf (rules ++ r ∷ []) text self.new) }
+        ensures err { IfErr result (λ _. (text : List ℕ) (rules : List Rule)
+            → IsScannerOf rules text self.old → IsScannerOf rules text self.new) }
+    {
+        self.trees.push(tree)?;
+        Ok(())
+    }
+
     /// One more tree, after the others. Of a tree that comes compiled, nothing is kept in a `ScanText`; `add_tree` takes
     /// one of which it may be. The only error is want of memory, which leaves the scanner as it was.
     pub fn add(&mut self, regex: Regex) -> Result<(), AllocError>
@@ -92,7 +129,7 @@ impl Scanner {
         ensures err { IfErr result (λ _. (text : List ℕ) (rules : List Rule)
             → IsScannerOf rules text self.old → IsScannerOf rules text self.new) }
     {
-        self.trees.push(ScanTree {
+        self.push(ScanTree {
             regex,
             lasting: Lasting::Nothing,
         })?;
@@ -124,9 +161,8 @@ impl Scanner {
         ensures err { OnErr result ((text : List ℕ) (rules : List Rule)
             → IsScannerOf rules text self.old → IsScannerOf rules text self.new) }
     {
-        let regex = Regex::new(self.alloc, tree, options, backtrack_limit)?;
-        let lasting = Lasting::of(tree, options);
-        self.trees.push(ScanTree { regex, lasting })?;
+        let compiled = ScanTree::new(self.alloc, tree, options, backtrack_limit)?;
+        self.push(compiled)?;
         Ok(())
     }
 

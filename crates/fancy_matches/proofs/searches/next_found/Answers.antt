@@ -4,13 +4,12 @@ use Rattle.fancy_meaning.specs.MatchState.{Span}
 use Rattle.fancy_meaning.specs.Numbers.{usize_max}
 use Rattle.fancy_meaning.specs.Places.{is_place}
 use Rattle.fancy_meaning.specs.Premises.{Input, IsText}
-use Rattle.fancy_laws.proofs.Moves.{is_place_parts}
 use Rattle.fancy_vm.specs.Outcomes.{first_pair}
 use Rattle.fancy_vm.specs.Tasks.{options_of as run_options_of}
 use Rattle.fancy_search.specs.Searches.{IsCompiledFrom}
 use Rattle.fancy_matches.specs.Listing.{after, is_listed}
 use Rattle.fancy_matches.specs.Regexes.{EndsOn, Shows, StepsBy, standing_of}
-use Rattle.fancy_matches.proofs.Stepping.{GoesOn, at_first, found_further, none_at_end, search_error, search_fits, search_listed, search_none, search_past}
+use Rattle.fancy_matches.proofs.Stepping.{GoesOn, at_first, found_further, none_at_end, passed_on, search_error, search_fits, search_listed, search_none, search_past}
 use Rattle.fancy_matches.proofs.searches.next_found.Goals as goal
 
 pub searches-init : goal.searches-init
@@ -58,9 +57,10 @@ returns-in-None-clause-steps g c =
     let is : IsText text = record { utf8 = c.utf8.text; fits = small } in
     let here = c.options-here.result in
     let form = g.F.FromSearch in
-    let found = λ (i : Input) (of : IsCompiledFrom i compiled). subst (λ f. Shows i text (run_options_of here) form.show (form.seen text) (Ok f)) c.in-None.is
-    (c.in_ok-search.ensures.promise i of) in
-    subst (λ to. (i : Input) → IsCompiledFrom i compiled → StepsBy i text (run_options_of base) form.show (form.seen text) from (Ok None) to) (sym c.end.ensures)
+    let found = λ (i : Input) (of : IsCompiledFrom i compiled).
+    subst (λ f. Shows i text (run_options_of here) form.show (form.seen text) (Ok f)) c.in-None.is (c.in_ok-search.ensures.promise i of) in
+    subst (λ to. (i : Input) → IsCompiledFrom i compiled → StepsBy i text (run_options_of base) form.show (form.seen text) from (Ok None) to)
+    (sym c.end.ensures)
     (search_none compiled text is base here from st at c.options-here.ensures c.searches.invariant form.show (form.seen text)
     (Ok None) found refl)
 
@@ -96,40 +96,32 @@ returns-then-pass-clause-steps g c =
 
 pub returns-then-pass-clause-further : goal.returns-then-pass-clause-further
 returns-then-pass-clause-further g c =
-    let compiled = c.args.compiled.now in
     let text = c.args.text.now in
-    let base = c.args.options.now in
-    let from = standing_of c.args.standing.now in
     let st = standing_of c.searches.standing in
     let at = sym (subst (λ t. true ≡ is_place t st.pos) c.as_bytes.ensures.value c.searches-test.ensures) in
     let small : length text < usize_max = omega arith in
     let is : IsText text = record { utf8 = c.utf8.text; fits = small } in
     let here = c.options-here.result in
+    let span = g.F.FromSearch.span c.in-Some.found in
     let on = subst (λ f. IfSome f (λ x. EndsOn text here.pos (g.F.FromSearch.span x))) c.in-Some.is c.in_ok-search.ensures.on in
-    let further = found_further compiled text is base here from st at c.options-here.ensures (g.F.FromSearch.span c.in-Some.found) on in
-    let to = c.pass.ensures.after ∙ ap (after text st) c.span-start.ensures in
-    let moved : c.pass.new.self.pos ≡ (after text st (g.F.FromSearch.span c.in-Some.found)).pos = ap (λ s. s.pos) to in
-    let on = c.searches.invariant.on in
-    let within = (is_place_parts text st.pos at).0 in
-    omega (arith, moved, on, within, further)
+    let passed = passed_on c.args.compiled.now text is c.args.options.now here (standing_of c.args.standing.now) st at c.options-here.ensures span on
+    (standing_of c.pass.new.self) (c.pass.ensures.after ∙ ap (after text st) c.span-start.ensures) in
+    let so_far = c.searches.invariant.on in
+    omega (arith, passed.0, passed.1, so_far)
 
 pub searches-smaller : goal.searches-smaller
 searches-smaller g c =
-    let compiled = c.args.compiled.now in
     let text = c.args.text.now in
-    let base = c.args.options.now in
-    let from = standing_of c.args.standing.now in
     let st = standing_of c.searches.standing in
     let at = sym (subst (λ t. true ≡ is_place t st.pos) c.as_bytes.ensures.value c.searches-test.ensures) in
     let small : length text < usize_max = omega arith in
     let is : IsText text = record { utf8 = c.utf8.text; fits = small } in
     let here = c.options-here.result in
+    let span = g.F.FromSearch.span c.in-Some.found in
     let on = subst (λ f. IfSome f (λ x. EndsOn text here.pos (g.F.FromSearch.span x))) c.in-Some.is c.in_ok-search.ensures.on in
-    let further = found_further compiled text is base here from st at c.options-here.ensures (g.F.FromSearch.span c.in-Some.found) on in
-    let to = c.pass.ensures.after ∙ ap (after text st) c.span-start.ensures in
-    let moved : c.pass.new.self.pos ≡ (after text st (g.F.FromSearch.span c.in-Some.found)).pos = ap (λ s. s.pos) to in
-    let within = (is_place_parts text st.pos at).0 in
-    omega (arith, moved, within, further)
+    let passed = passed_on c.args.compiled.now text is c.args.options.now here (standing_of c.args.standing.now) st at c.options-here.ensures span on
+    (standing_of c.pass.new.self) (c.pass.ensures.after ∙ ap (after text st) c.span-start.ensures) in
+    omega (arith, passed.0, passed.1)
 
 pub searches-preserved : goal.searches-preserved
 searches-preserved g c =

@@ -1,7 +1,8 @@
-use Rattle.std.proofs.Common.{◌<◌, length, Some, Ok, Err, refl, ap, ◌∙◌, sym, subst, arith}
+use Rattle.std.proofs.Common.{◌≡◌, ◌<◌, [], true, length, Some, Ok, Err, refl, ap, ◌∙◌, sym, subst, arith}
+use Rattle.fancy_meaning.specs.Fits.{run_fits}
 use Rattle.fancy_meaning.specs.Numbers.{usize_max}
-use Rattle.fancy_search.specs.Searches.{program}
-use Rattle.fancy_vm.specs.Tasks.{options_of as run_options_of}
+use Rattle.fancy_search.specs.Searches.{HasSource, program}
+use Rattle.fancy_vm.specs.Tasks.{options_of as run_options_of, task_of}
 use Rattle.fancy_matches.specs.Regexes.{GivesBy, standing_of}
 use Rattle.fancy_matches.proofs.Searching.{fits_listed}
 use Rattle.fancy_matches.proofs.Stepping.{easy_step, error_within, gives_error, gives_none, gives_some}
@@ -14,7 +15,8 @@ returns-in-Ok-None-clause-list g c =
     gives_none g.F.FromSearch.show (g.F.FromSearch.seen text) c.args.self.now text (record { utf8 = c.utf8.text; fits = small })
     (run_options_of c.for_text-options.result) c.for_text-options.ensures
     (standing_of c.args.standing.now)
-    (standing_of c.next_found.new.standing) c.next_found.result c.next_found.ensures.steps (c.in-Ok-None.is ∙ ap Ok c.in-Ok-None.field-0-is)
+    (standing_of c.next_found.new.standing) c.next_found.result c.deref.result.now c.deref.ensures c.next_found.ensures.steps
+    (c.in-Ok-None.is ∙ ap Ok c.in-Ok-None.field-0-is)
 
 pub returns-in-Ok-Some-clause-list : goal.returns-in-Ok-Some-clause-list
 returns-in-Ok-Some-clause-list g c =
@@ -23,7 +25,7 @@ returns-in-Ok-Some-clause-list g c =
     gives_some g.F.FromSearch.show (g.F.FromSearch.seen text) c.args.self.now text (record { utf8 = c.utf8.text; fits = small })
     (run_options_of c.for_text-options.result) c.for_text-options.ensures
     (standing_of c.args.standing.now)
-    (standing_of c.next_found.new.standing) c.next_found.result c.next_found.ensures.steps c.in-Ok-Some.found
+    (standing_of c.next_found.new.standing) c.next_found.result c.deref.result.now c.deref.ensures c.next_found.ensures.steps c.in-Ok-Some.found
     (c.in-Ok-Some.is ∙ ap Ok c.in-Ok-Some.field-0-is)
 
 pub returns-in-Err-clause-list : goal.returns-in-Err-clause-list
@@ -34,7 +36,7 @@ returns-in-Err-clause-list g c i o h =
     subst (GivesBy i text o g.F.FromSearch.show (g.F.FromSearch.seen text) from (Some (Err c.in-Err.error))) (sym c.end.ensures)
     (gives_error g.F.FromSearch.show (g.F.FromSearch.seen text) c.args.self.now text (record { utf8 = c.utf8.text; fits = small })
     (run_options_of c.for_text-options.result) c.for_text-options.ensures from
-    (standing_of c.next_found.new.standing) c.next_found.result c.next_found.ensures.steps c.in-Err.error c.in-Err.is i o h)
+    (standing_of c.next_found.new.standing) c.next_found.result c.deref.result.now c.deref.ensures c.next_found.ensures.steps c.in-Err.error c.in-Err.is i o h)
 
 pub returns-in-Err-clause-further : goal.returns-in-Err-clause-further
 returns-in-Err-clause-further g c =
@@ -44,7 +46,8 @@ returns-in-Err-clause-further g c =
     let within = error_within g.F.FromSearch.show (g.F.FromSearch.seen text) regex text (record { utf8 = c.utf8.text; fits = small })
     (run_options_of c.for_text-options.result) c.for_text-options.ensures
     (standing_of c.args.standing.now)
-    (standing_of c.next_found.new.standing) c.next_found.result c.next_found.ensures.steps regex.source c.in-Err.error c.in-Err.is in
+    (standing_of c.next_found.new.standing) c.next_found.result c.deref.result.now c.deref.ensures c.next_found.ensures.steps
+    regex.source c.in-Err.error c.in-Err.is in
     let ends = ap (λ s. s.pos) c.end.ensures in
     omega (arith, within, ends, small)
 
@@ -54,15 +57,16 @@ returns-in-Err-clause-easy g c =
     let small : length text < usize_max = omega arith in
     easy_step g.F.FromSearch.show (g.F.FromSearch.seen text) c.args.self.now text (record { utf8 = c.utf8.text; fits = small })
     (run_options_of c.for_text-options.result) c.for_text-options.ensures (standing_of c.args.standing.now)
-    (standing_of c.next_found.new.standing) c.next_found.result c.next_found.ensures.steps c.in-Err.error c.in-Err.is
+    (standing_of c.next_found.new.standing) c.next_found.result c.deref.result.now c.deref.ensures c.next_found.ensures.steps c.in-Err.error c.in-Err.is
 
 pub next_found-requires : goal.next_found-requires
 next_found-requires g c k =
-    let regex = c.args.self.now in (
+    let regex = c.args.self.now in
+    let fits = subst (λ k. run_fits (task_of (program k) [] regex.options.run) ≡ true) (sym c.deref.ensures) regex.fits in (
       (refl, tt),
       (
-        fits_listed (program regex.compiled) regex.options.run c.for_text-options.result regex.options.backtrack_limit c.args.text.now regex.fits
+        fits_listed (program c.deref.result.now) regex.options.run c.for_text-options.result regex.options.backtrack_limit c.args.text.now fits
             c.for_text-options.ensures,
-        regex.source,
+        subst HasSource (sym c.deref.ensures) regex.source,
       ),
     )

@@ -9,8 +9,10 @@ use Rattle.fancy_regex.proofs.regexes.Regex.next_captures.Goals as goal
 
 pub returns-in-None-clause-list : goal.returns-in-None-clause-list
 returns-in-None-clause-list c i o h =
-    subst (λ item. GivesBy i c.args.text.now o engine_shown (with_numbers c.args.text.now) (standing_of c.args.standing.now) item (standing_of c.next_captures.new.standing))
-    c.in-None.is (c.next_captures.ensures.list i o h)
+    let text = c.args.text.now in
+    let from = standing_of c.args.standing.now in
+    let to = standing_of c.next_captures.new.standing in
+    subst (λ item. GivesBy i text o engine_shown (with_numbers text) from item to) c.in-None.is (c.next_captures.ensures.list i o h)
 
 pub returns-in-Ok-clause-list : goal.returns-in-Ok-clause-list
 returns-in-Ok-clause-list c i o h =
@@ -18,7 +20,8 @@ returns-in-Ok-clause-list c i o h =
     let from = standing_of c.args.standing.now in
     let to = standing_of c.next_captures.new.standing in
     subst (λ g. GivesBy i text o engine_shown (with_numbers text) from (Some (Ok g)) to) (sym c.in-Ok.ensures.0)
-    (subst (λ item. GivesBy i text o engine_shown (with_numbers text) from item to) (c.in-Some-Ok.is ∙ ap Some c.in-Some-Ok.field-0-is) (c.next_captures.ensures.list i o h))
+    (subst (λ item. GivesBy i text o engine_shown (with_numbers text) from item to) (c.in-Some-Ok.is ∙ ap Some c.in-Some-Ok.field-0-is)
+    (c.next_captures.ensures.list i o h))
 
 pub returns-in-Err-clause-list : goal.returns-in-Err-clause-list
 returns-in-Err-clause-list c i o h =
@@ -28,14 +31,17 @@ returns-in-Err-clause-list c i o h =
     let to = standing_of c.next_captures.new.standing in
     subst (λ t. GivesBy i text o shown_captures (with_numbers text) from (Some (Err (engine_error c.from.result))) t) (sym c.end.ensures)
     (subst (λ e. GivesBy i text o shown_captures (with_numbers text) from (Some (Err (engine_error e))) (ended to)) (sym c.from.ensures)
-    (list_wants_memory i text o engine_shown (with_numbers text) shown_captures (with_numbers text) (record { utf8 = c.utf8.text; fits = small }) from to c.in-Some-Ok.groups
-    (subst (λ item. GivesBy i text o engine_shown (with_numbers text) from item to) (c.in-Some-Ok.is ∙ ap Some c.in-Some-Ok.field-0-is) (c.next_captures.ensures.list i o h))))
+    (list_wants_memory i text o engine_shown (with_numbers text) shown_captures (with_numbers text) (record { utf8 = c.utf8.text; fits = small }) from to
+    c.in-Some-Ok.groups
+    (subst (λ item. GivesBy i text o engine_shown (with_numbers text) from item to) (c.in-Some-Ok.is ∙ ap Some c.in-Some-Ok.field-0-is)
+    (c.next_captures.ensures.list i o h))))
 
 pub returns-in-Err-clause-further : goal.returns-in-Err-clause-further
 returns-in-Err-clause-further c =
     let text = c.args.text.now in
     let small : length text < usize_max = omega arith in
-    let further = subst (λ item. IfSome item (λ _. suc (length text) - c.next_captures.new.standing.pos < suc (length text) - c.args.standing.now.pos))
+    let at = c.next_captures.new.standing.pos in
+    let further = subst (λ item. IfSome item (λ _. suc (length text) - at < suc (length text) - c.args.standing.now.pos))
     c.in-Some-Ok.is c.next_captures.ensures.further in
     let ends = ap (λ s. s.pos) c.end.ensures in
     omega (arith, further, ends, small)
@@ -43,9 +49,11 @@ returns-in-Err-clause-further c =
 pub returns-in-Some-Err-clause-list : goal.returns-in-Some-Err-clause-list
 returns-in-Some-Err-clause-list c i o h =
     let text = c.args.text.now in
-    list_fails engine_shown (with_numbers text) shown_captures (with_numbers text) i text o (standing_of c.args.standing.now) (standing_of c.next_captures.new.standing)
-    c.in-Some-Err.error c.from-in-Some-Err.result c.from-in-Some-Err.ensures
-    (subst (λ item. GivesBy i text o engine_shown (with_numbers text) (standing_of c.args.standing.now) item (standing_of c.next_captures.new.standing))
+    let from = standing_of c.args.standing.now in
+    let to = standing_of c.next_captures.new.standing in
+    list_fails engine_shown (with_numbers text) shown_captures (with_numbers text) i text o from to c.in-Some-Err.error c.from-in-Some-Err.result
+    c.from-in-Some-Err.ensures
+    (subst (λ item. GivesBy i text o engine_shown (with_numbers text) from item to)
     (c.in-Some-Err.is ∙ ap Some c.in-Some-Err.field-0-is) (c.next_captures.ensures.list i o h))
 
 pub returns-in-Err-clause-easy : goal.returns-in-Err-clause-easy

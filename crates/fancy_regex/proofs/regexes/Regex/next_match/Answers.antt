@@ -6,20 +6,27 @@ use Rattle.fancy_regex.proofs.regexes.Regex.next_match.Goals as goal
 
 pub returns-in-None-clause-list : goal.returns-in-None-clause-list
 returns-in-None-clause-list c i o h =
-    subst (λ item. GivesBy i c.args.text.now o engine_shown (with_span c.args.text.now) (standing_of c.args.standing.now) item (standing_of c.next_match.new.standing))
+    let text = c.args.text.now in
+    let from = standing_of c.args.standing.now in
+    let to = standing_of c.next_match.new.standing in
+    subst (λ item. GivesBy i text o engine_shown (with_span text) from item to)
     c.in-None.is (c.next_match.ensures.list i o h)
 
 pub returns-in-Some-Ok-clause-list : goal.returns-in-Some-Ok-clause-list
 returns-in-Some-Ok-clause-list c i o h =
-    subst (λ item. GivesBy i c.args.text.now o engine_shown (with_span c.args.text.now) (standing_of c.args.standing.now) item (standing_of c.next_match.new.standing))
+    let text = c.args.text.now in
+    let from = standing_of c.args.standing.now in
+    let to = standing_of c.next_match.new.standing in
+    subst (λ item. GivesBy i text o engine_shown (with_span text) from item to)
     (c.in-Some-Ok.is ∙ ap Some c.in-Some-Ok.field-0-is) (c.next_match.ensures.list i o h)
 
 pub returns-in-Some-Err-clause-list : goal.returns-in-Some-Err-clause-list
 returns-in-Some-Err-clause-list c i o h =
     let text = c.args.text.now in
-    list_fails engine_shown (with_span text) shown_match (with_span text) i text o (standing_of c.args.standing.now) (standing_of c.next_match.new.standing)
-    c.in-Some-Err.error c.from.result c.from.ensures
-    (subst (λ item. GivesBy i text o engine_shown (with_span text) (standing_of c.args.standing.now) item (standing_of c.next_match.new.standing))
+    let from = standing_of c.args.standing.now in
+    let to = standing_of c.next_match.new.standing in
+    list_fails engine_shown (with_span text) shown_match (with_span text) i text o from to c.in-Some-Err.error c.from.result c.from.ensures
+    (subst (λ item. GivesBy i text o engine_shown (with_span text) from item to)
     (c.in-Some-Err.is ∙ ap Some c.in-Some-Err.field-0-is) (c.next_match.ensures.list i o h))
 
 pub returns-in-Some-Err-clause-easy : goal.returns-in-Some-Err-clause-easy

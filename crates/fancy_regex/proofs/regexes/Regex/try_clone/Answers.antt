@@ -1,9 +1,14 @@
-use Rattle.std.proofs.Common.{MatchResult, subst}
-use Rattle.fancy_regex.specs.Builders.{IsBuilt, IsRefused}
-use Rattle.fancy_regex.specs.Regexes.{options_of}
+use Rattle.std.proofs.Common.{◌∙◌, refl}
+use Rattle.fancy_regex.proofs.Built.{built_of_same}
 use Rattle.fancy_regex.proofs.regexes.Regex.try_clone.Goals as goal
 
-pub returns : goal.returns
-returns c =
-    let o = options_of c.args.self.now in
-    subst (λ pattern. MatchResult c.build.result (IsBuilt pattern o) (IsRefused pattern o)) c.deref.ensures c.build.ensures
+pub returns-clause-built : goal.returns-clause-built
+returns-clause-built c pattern o h =
+    built_of_same pattern o c.args.self.now _
+    (record {
+      engine = c.in_ok-try_clone-2.ensures;
+      names = c.in_ok-try_clone.ensures;
+      pattern = c.in_ok-from_str.ensures.ok ∙ c.deref-2.ensures;
+      options = refl;
+    })
+    h

@@ -1,0 +1,45 @@
+-- What the scanner by trees promises is promised by patterns, with their names and the errors of this crate.
+use Rattle.std.proofs.Common.{◌≡◌, ℕ, List, map, Option, Some, Global, option_and_then, option_map, slice_get, sym, ap, ap₂, ◌∙◌}
+use Rattle.std.proofs.lemmas.Option.{slice_get-map}
+use Rattle.std.specs.Arc.{arc_value}
+use Rattle.std.specs.declared.sync.Arc.{Arc}
+use Rattle.fancy_meaning.specs.Options as plain
+use Rattle.fancy_expr.specs.Views.{parsed_of}
+use Rattle.fancy_expr.specs.declared.expr.ExprTree.{ExprTree}
+use Rattle.fancy_matches.specs.Regexes.{shown_captures}
+use Rattle.fancy_matches.specs.declared.found.Captures as engine
+use Rattle.fancy_scanner.specs.Scanning.{Rule}
+use Rattle.fancy_regex.specs.Options.{analysis, compilation, running}
+use Rattle.fancy_regex.specs.Scanners.{NamedGroups, rule_for}
+use Rattle.fancy_regex.specs.declared.names.GroupNames.{GroupNames}
+use Rattle.fancy_regex.specs.declared.options.RegexOptions.{RegexOptions}
+
+-- ---- a pattern that is added
+
+abbrev rule_with : ExprTree → plain.AnalysisOptions → plain.CompileOptions → plain.RunOptions → Rule
+rule_with tree a k o = record { input = record { parsed = parsed_of tree; analysis = a; options = k }; options = o }
+
+-- the rule of a tree with these options is that of the options of its pattern
+pub rule_so : (tree : ExprTree) (asked : RegexOptions) (text : List ℕ) (a : plain.AnalysisOptions) (k : plain.CompileOptions) (o : plain.RunOptions) →
+    a ≡ analysis asked → k ≡ compilation asked → o ≡ running asked text →
+    record { input = record { parsed = parsed_of tree; analysis = a; options = k }; options = o } ≡ rule_for tree asked text
+rule_so tree asked text a k o as_analysed as_compiled as_run =
+    ap (λ a. rule_with tree a k o) as_analysed ∙ (ap (λ k. rule_with tree (analysis asked) k o) as_compiled
+    ∙ ap (λ o. rule_with tree (analysis asked) (compilation asked) o) as_run)
+
+-- ---- the groups that are kept
+
+abbrev told : Option engine.Captures → Option GroupNames → Option NamedGroups
+told kept names = option_and_then (λ n. option_map (λ c. (shown_captures c, n)) kept) names
+
+abbrev pub some_named : List ℕ × List ℕ → GroupNames → Option NamedGroups
+some_named shown names = Some (shown, names)
+
+-- the groups that are kept of a pattern are told with its names
+pub kept_with_names : (names : List (Arc GroupNames Global)) (k : ℕ) (kept : Option engine.Captures) (a : Arc GroupNames Global)
+    (c : engine.Captures) → slice_get names k ≡ Some a → kept ≡ Some c →
+    ◌≡◌ {A = Option NamedGroups} (Some (shown_captures c, arc_value a))
+    (told kept (slice_get (map arc_value names) k))
+kept_with_names names k kept a c at is =
+    sym (ap₂ told is
+    (slice_get-map arc_value names k ∙ ap (option_map arc_value) at))

@@ -1,0 +1,211 @@
+//! Many patterns and one text: which of them matches first.
+
+ghost use Rattle.std.specs.Arc.{arc_value};
+ghost use Rattle.std.specs.Prelude.{◌≡◌, ◌<◌, ◌^◌, [], ℕ, IfErr, IfOk, IfSome, IsTrue, List, MatchResult, None, OnErr, OnOk, length, option_map};
+ghost use Rattle.fancy_meaning.specs.Places as places;
+ghost use Rattle.fancy_matches.specs.Regexes as engine;
+ghost use Rattle.fancy_scanner.specs.Scanning.{AreEasy, Rule, Scans};
+ghost use Rattle.fancy_scanner.specs.Scans as scans;
+ghost use Rattle.fancy_regex.specs.Builders.{IsRefused, options};
+ghost use Rattle.fancy_regex.specs.Found.{captures_names, shown_captures};
+ghost use Rattle.fancy_regex.specs.Options.{default_options};
+ghost use Rattle.fancy_regex.specs.Scanners.{Adds, BeginsScan, GoesOn, IsScanOf, IsScannerOf, IsWholeIn, Keeps, kept_groups, named_groups, names_listed, scan_in, scan_result, text_of, tree_match, tree_step};
+
+use crate::builder::RegexBuilder;
+use crate::error::Error;
+use crate::found::{Captures, Match};
+use crate::names::GroupNames;
+use fancy_matches::found::Captures as Groups;
+use fancy_scanner::scan_text as by_trees;
+use fancy_scanner::scanner::{ScanTree, Scanner as TreeScanner, Stopped};
+use std::alloc::{AllocError, Global};
+use std::sync::Arc;
+
+/// A pattern that is compiled for a scanner, with the names of its groups.
+#[derive(Drop)]
+pub(crate) struct ScanPattern {
+    pub(crate) compiled: ScanTree,
+    pub(crate) names: Arc<GroupNames>,
+}
+
+/// Patterns that are searched for together, as the rules of a highlighter are, each with the memory of its searches.
+#[derive(Drop)]
+pub struct Scanner {
+    pub(crate) alloc: Global,
+    pub(crate) trees: TreeScanner,
+    pub(crate) names: Vec<Arc<GroupNames>>,
+}
+
+impl Scanner {
+    /// No pattern yet, and no memory.
+    pub fn new(alloc: Global) -> Scanner
+        ensures rules { (text : List ℕ) → IsScannerOf [] text result }
+        ensures names { names_listed result ≡ [] }
+    {
+        Scanner {
+            alloc,
+            trees: TreeScanner::new(alloc),
+            names: Vec::new(alloc),
+        }
+    }
+
+    /// One more pattern, after the others, with the default options.
+    ///
+    /// It is refused as `Regex::new` refuses it. After an error the scanner is as it was.
+    pub fn add(&mut self, pattern: &str) -> Result<(), Error>
+        ensures ok { OnOk result (Adds pattern.now default_options self.old self.new) }
+        ensures refused { IfErr result (IsRefused pattern.now default_options) }
+        ensures err { OnErr result (Keeps self.old self.new) }
+    {
+        self.add_built(&RegexBuilder::new(pattern))
+    }
+
+    /// One more pattern, after the others, with the options of the builder.
+    ///
+    /// It is refused as `RegexBuilder::build` refuses it. After an error the scanner is as it was.
+    pub fn add_built(&mut self, builder: &RegexBuilder<'_>) -> Result<(), Error>
+        ensures ok { OnOk result (Adds
+            builder.now.pattern.now (options builder.now) self.old self.new) }
+        ensures refused { IfErr result (IsRefused builder.now.pattern.now (options builder.now)) }
+        ensures err { OnErr result (Keeps self.old self.new) }
+    {
+        let ScanPattern { compiled, names } = builder.scan_pattern(self.alloc)?;
+        self.names.push(names)?;
+        match self.trees.push(compiled) {
+            Ok(()) => Ok(()),
+            Err(error) => {
+                self.names.pop();
+                Err(Error::from(error))
+            }
+        }
+    }
+
+    /// A scan of one text, which keeps what it finds of each pattern from one place to the next. The scanner is the
+    /// caller's again once the scan is gone.
+    pub fn scan<'r, 't>(&'r mut self, text: &'t str) -> ScanText<'r, 't>
+        ensures { BeginsScan self.old text.now result }
+    {
+        ScanText {
+            scan: self.trees.scan(text),
+            names: &self.names,
+        }
+    }
+}
+
+/// A match of one of the patterns, without its groups.
+#[derive(Clone, Copy)]
+pub struct ScanMatch<'t> {
+    /// Which pattern it is of: how many were added before it.
+    pub index: usize,
+    pub whole: Match<'t>,
+}
+
+/// What the patterns of a scan come to from a place on.
+#[derive(Clone, Copy)]
+pub struct ScanStep<'t> {
+    /// The match that begins first, of the first matches of the patterns that answered; of several that begin there that of
+    /// the pattern that was added first. `ScanText::captures` has its groups.
+    pub found: Option<ScanMatch<'t>>,
+    /// The first pattern whose search passed a limit, if there is one, by how many were added before it.
+    pub stopped: Option<Stopped>,
+}
+
+impl<'t> ScanStep<'t> {
+    /// What a scan by trees told.
+    fn of(step: by_trees::ScanStep<'t>) -> ScanStep<'t>
+        ensures { tree_step result ≡ step.entry }
+    {
+        ScanStep {
+            found: ScanMatch::of(step.found),
+            stopped: step.stopped,
+        }
+    }
+}
+
+impl<'t> ScanMatch<'t> {
+    /// The match of a scan by trees, if there is one.
+    fn of(found: Option<by_trees::TreeMatch<'t>>) -> Option<ScanMatch<'t>>
+        ensures { option_map tree_match result ≡ found.entry }
+    {
+        match found {
+            None => None,
+            Some(found) => Some(ScanMatch {
+                index: found.index,
+                whole: Match { found: found.whole },
+            }),
+        }
+    }
+}
+
+/// A scan of one text from place to place for the patterns of a scanner, as a highlighter makes it.
+///
+/// What is found of a pattern is kept as long as it holds, and the pattern is searched for again only from a place past
+/// that. So a scan from left to right goes over the text once for each pattern, and not once for each place. A pattern with
+/// a `\G` is searched for at each place, and one with a `\K` until it is not found any more.
+#[derive(Drop)]
+pub struct ScanText<'r, 't> {
+    pub(crate) scan: by_trees::ScanText<'r, 't>,
+    pub(crate) names: &'r [Arc<GroupNames>],
+}
+
+impl<'r, 't> ScanText<'r, 't> {
+    /// The match that begins first, of the first matches of all patterns from this place on, a byte of the text; of several
+    /// that begin there that of the pattern that was added first.
+    ///
+    /// A pattern whose search passes a limit does not hide the matches of the others: the first such pattern is told beside
+    /// them. Want of memory is `Error::Memory`.
+    pub fn find_from(&mut self, pos: usize) -> Result<ScanStep<'t>, Error>
+        requires { IsTrue (places.is_place (text_of self.old) pos) }
+        ensures promise { (rules : List Rule)
+            → IsScanOf rules self.old
+            → Scans (text_of self.old) pos rules (scan_result self.new result) }
+        ensures whole { IfOk result (λ step. IfSome step.found (IsWholeIn self.new)) }
+        ensures easy { (rules : List Rule)
+            → IsScanOf rules self.old → AreEasy (text_of self.old) rules
+            → length (text_of self.old) < 2 ^ 60 → IfOk result (λ step. step.stopped ≡ None) }
+        ensures held { scans.KeepsHeld pos (scan_in self.old) (scan_in self.new) }
+        ensures goes_on { GoesOn self.old self.new }
+    {
+        match self.scan.find_from(pos) {
+            Ok(step) => Ok(ScanStep::of(step)),
+            Err(error) => Err(Error::from(error)),
+        }
+    }
+
+    /// The groups of the match that is kept of the pattern with this number, with their names: after `find_from` found a
+    /// match of it, those of this match. None where nothing of the pattern is kept, or that it has no match.
+    ///
+    /// The only error is want of memory.
+    pub fn captures(&self, index: usize) -> Result<Option<Captures<'t>>, Error>
+        ensures { MatchResult result
+            (λ found. option_map named_groups found ≡ kept_groups self.now index)
+            (λ e. e ≡ Error.Memory) }
+    {
+        let Some(names) = self.names.get(index) else {
+            return Ok(None);
+        };
+        let Some(groups) = self.scan.captures(index) else {
+            return Ok(None);
+        };
+        Ok(Some(named(groups, names)?))
+    }
+
+    /// The text.
+    pub fn text(&self) -> &'t str
+        ensures { result.now ≡ text_of self.now }
+    {
+        self.scan.text()
+    }
+}
+
+/// These groups once more, with these names.
+fn named<'t>(groups: &Groups<'t>, names: &Arc<GroupNames>) -> Result<Captures<'t>, AllocError>
+    ensures { IfOk result (λ c.
+        (shown_captures c ≡ engine.shown_captures groups.now)
+        × (captures_names c ≡ arc_value names.now)) }
+{
+    Ok(Captures {
+        groups: groups.try_clone(names.alloc)?,
+        names: Arc::try_clone(names)?,
+    })
+}

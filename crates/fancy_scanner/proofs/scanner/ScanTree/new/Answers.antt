@@ -1,0 +1,11 @@
+use Rattle.std.proofs.Common.{ap₂}
+use Rattle.fancy_matches.specs.Listing.{options_for}
+use Rattle.fancy_scanner.proofs.scanner.ScanTree.new.Goals as goal
+
+pub returns : goal.returns
+returns c = λ text.
+    let made = c.in_ok-regex.ensures.made in
+    record {
+      regex = record { compiled = made.compiled; options = ap₂ (λ o asked. options_for o asked text) made.options made.backtracks };
+      lasting = c.of-lasting.ensures;
+    }
