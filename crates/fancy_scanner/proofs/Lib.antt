@@ -4,4 +4,5 @@ pub mod SoughtNodes
 pub mod Holding
 pub mod Kept
 pub mod Steps
+pub mod OrderSteps
 pub mod SearchPlaces

@@ -1,3 +1,4 @@
+pub mod Among
 pub mod Kept
 pub mod Lasting
 pub mod Scanning

@@ -1,6 +1,7 @@
 //! Many trees and one text: which of them matches first.
 #![tactic(auto)]
 
+mod among;
 mod answers;
 mod lasting;
 pub mod scan_text;

@@ -1,6 +1,6 @@
 //! A scan of one text, which keeps what is found of each tree from one place to the next.
 
-ghost use Rattle.std.specs.Prelude.{◌≡◌, ◌<◌, ◌^◌, ℕ, IfOk, IfSome, IsTrue, List, None, OnErr, OnOk, length, option_map};
+ghost use Rattle.std.specs.Prelude.{◌≡◌, ◌<◌, ◌^◌, ℕ, IfOk, IfSome, IsTrue, List, None, OnErr, OnOk, length, option_map, true};
 ghost use Rattle.std.specs.Option.{option_copied};
 ghost use Rattle.fancy_meaning.specs.Places as places;
 ghost use Rattle.fancy_matches.specs.Listing.{begun_at};
@@ -95,6 +95,13 @@ impl<'r, 't> ScanText<'r, 't> {
         }
     }
 
+    /// How many trees there are.
+    pub fn tree_count(&self) -> usize
+        ensures { result ≡ length (trees_of self.now.scanner.now) }
+    {
+        self.scanner.tree_count()
+    }
+
     /// The text.
     pub fn text(&self) -> &'t str
         ensures { result.now ≡ text_of self.now }
@@ -122,7 +129,7 @@ impl<'r, 't> ScanText<'r, 't> {
     }
 
     /// A place for the answer of each tree.
-    fn make_room(&mut self) -> Result<(), AllocError>
+    pub(crate) fn make_room(&mut self) -> Result<(), AllocError>
         ensures room { OnOk result (HasRoom self.new) }
         ensures refused { OnErr result (0 < length (trees_of self.old.scanner.now)) }
         ensures held { (pos : ℕ) → KeepsHeld pos self.old self.new }
@@ -149,7 +156,7 @@ impl<'r, 't> ScanText<'r, 't> {
     }
 
     /// The first match of the tree with this number from this place on; its groups are kept.
-    fn look(&mut self, index: usize, pos: usize) -> Result<Option<Match<'t>>, Error>
+    pub(crate) fn look(&mut self, index: usize, pos: usize) -> Result<Option<Match<'t>>, Error>
         requires place { IsTrue (places.is_place (text_of self.old) pos) }
         requires room { HasRoom self.old }
         requires within { index < length (trees_of self.old.scanner.now) }
@@ -161,6 +168,7 @@ impl<'r, 't> ScanText<'r, 't> {
             ≡ option_map shown_whole (kept_captures (answers_of self.new) index)) }
         ensures others { scans.KeepsOthers index self.old self.new }
         ensures held { KeepsHeld pos self.old self.new }
+        ensures kept { OnOk result (scans.is_held self.new index pos ≡ true) }
         ensures goes_on { GoesOn self.old self.new }
     {
         if self.holds(index, pos) {
@@ -177,7 +185,7 @@ impl<'r, 't> ScanText<'r, 't> {
 }
 
 /// Of two matches the one that begins first, and of equals the first one.
-fn earlier<'t>(one: TreeMatch<'t>, later: Option<TreeMatch<'t>>) -> TreeMatch<'t>
+pub(crate) fn earlier<'t>(one: TreeMatch<'t>, later: Option<TreeMatch<'t>>) -> TreeMatch<'t>
     ensures { result ≡ scans.earlier_match one.entry later.entry }
 {
     match later {

@@ -1,0 +1,40 @@
+use Rattle.std.proofs.Common.{◌++◌, ◌∷◌, [], OnOk, OnErr, Result, Ok, Err, subst, sym}
+use Rattle.fancy_scanner.specs.Scanning.{Rule, rule_of, trees_of}
+use Rattle.fancy_scanner.specs.Scans.{AreAnswersOf, answers_of, text_of}
+use Rattle.fancy_scanner.proofs.OrderSteps.{answers_of_more, answers_taken}
+use Rattle.fancy_scanner.proofs.scan_text.ScanText.add_tree.Goals as goal
+
+on_ok : {A E P Q : Type 0} (r : Result A E) → (P → Q) → OnOk r P → OnOk r Q
+on_ok (Ok x) f h = f h
+on_ok (Err e) f h = tt
+
+on_err : {A E P Q : Type 0} (r : Result A E) → (P → Q) → OnErr r P → OnErr r Q
+on_err (Ok x) f h = tt
+on_err (Err e) f h = f h
+
+pub returns-clause-ok : goal.returns-clause-ok
+returns-clause-ok c =
+    let s = c.args.self.now in
+    let text = text_of s in
+    let r : Rule = rule_of c.args.tree.now c.args.options.now c.args.backtrack_limit text in
+    on_ok c.add_tree.result
+    (λ more rules h. record {
+      scanner = more text rules h.scanner;
+      answers =
+          subst (AreAnswersOf (rules ++ r ∷ []) text) (sym c.truncate.ensures.items)
+          (answers_of_more text rules (trees_of s.scanner.now) (answers_of s) c.tree_count.result r h.scanner c.tree_count.ensures h.answers);
+    })
+    c.add_tree.ensures.ok
+
+pub returns-clause-err : goal.returns-clause-err
+returns-clause-err c =
+    let s = c.args.self.now in
+    let text = text_of s in
+    on_err c.add_tree.result
+    (λ same rules h. record {
+      scanner = same text rules h.scanner;
+      answers =
+          subst (AreAnswersOf rules text) (sym c.truncate.ensures.items)
+          (answers_taken text rules (answers_of s) c.tree_count.result h.answers);
+    })
+    c.add_tree.ensures.err

@@ -1,0 +1,90 @@
+//! A scan for some of the trees of a scanner, in an order of their own; and one more tree for a scan.
+
+ghost use Rattle.std.specs.Prelude.{◌≡◌, ◌++◌, ◌∷◌, [], IfErr, IfOk, IfSome, IsTrue, List, OnErr, OnOk};
+ghost use Rattle.fancy_meaning.specs.Places as places;
+ghost use Rattle.fancy_expr.specs.Sound.{IsWellFormedTree};
+ghost use Rattle.fancy_search.specs.Searches.{IsRefusedAs, input_of, search_fits};
+ghost use Rattle.fancy_scanner.specs.Among.{ArePicked, answers_among, among_result};
+ghost use Rattle.fancy_scanner.specs.Scanning.{Rule, Scans, rule_of};
+ghost use Rattle.fancy_scanner.specs.Scans as scans;
+ghost use Rattle.fancy_scanner.specs.Scans.{GoesOn, IsScanOf, KeepsHeld, scanner_of, text_of};
+
+use crate::scan_text::{ScanStep, ScanText, TreeMatch, earlier};
+use crate::scanner::{Stopped, limit_of};
+use fancy_expr::error::Error;
+use fancy_expr::expr::ExprTree;
+use fancy_search::search::SearchOptions;
+
+impl<'t> ScanText<'_, 't> {
+    /// The match that begins first, of the first matches of the trees with these numbers from this place on, a byte of the
+    /// text; of several that begin there that of the number that stands first in `order`. What is told has the index in
+    /// `order`, so `captures(order[index])` has the groups. A number that no tree has is passed over.
+    ///
+    /// A tree whose search passes a limit does not hide the matches of the others: the first such one is told beside
+    /// them. Want of memory is `Error::Memory`.
+    pub fn find_among(&mut self, order: &[usize], pos: usize) -> Result<ScanStep<'t>, Error>
+        requires { IsTrue (places.is_place (text_of self.old) pos) }
+        ensures promise { (rules picked : List Rule)
+            → IsScanOf rules self.old → ArePicked rules order.now picked
+            → Scans (text_of self.old) pos picked (among_result self.new order.now result) }
+        ensures whole { IfOk result (λ step. IfSome step.found
+            (scans.IsWholeIn (answers_among self.new order.now))) }
+        ensures held { KeepsHeld pos self.old self.new }
+        ensures goes_on { GoesOn self.old self.new }
+    {
+        if order.is_empty() {
+            return Ok(ScanStep {
+                found: None,
+                stopped: None,
+            });
+        }
+        self.make_room()?;
+        let count = self.tree_count();
+        let mut found = None;
+        let mut stopped = None;
+        let mut index = order.len();
+        'trees: while index > 0 {
+            index -= 1;
+            let tree = order[index];
+            if tree >= count {
+                continue;
+            }
+            match self.look(tree, pos) {
+                Ok(None) => {}
+                Ok(Some(whole)) => found = Some(earlier(TreeMatch { index, whole }, found)),
+                Err(error) => match limit_of(&error) {
+                    Some(limit) => stopped = Some(Stopped { index, limit }),
+                    None => return Err(error),
+                },
+            }
+        }
+        Ok(ScanStep { found, stopped })
+    }
+
+    /// One more tree, after the others, as `Scanner::add_tree` adds it; what was found of the others is kept.
+    pub fn add_tree(
+        &mut self,
+        tree: &ExprTree,
+        options: &SearchOptions,
+        backtrack_limit: Option<usize>,
+    ) -> Result<(), Error>
+        requires well_formed { IsWellFormedTree tree.now }
+        requires fits { IsTrue (search_fits options.now []) }
+        ensures ok { OnOk result ((rules : List Rule)
+            → IsScanOf rules self.old
+            → IsScanOf
+            (rules ++ rule_of tree.now options.now backtrack_limit (text_of self.old) ∷ [])
+            self.new) }
+        ensures refused { IfErr result
+            (IsRefusedAs
+            (input_of tree.now options.now.analysis options.now.compilation)
+            options.now.compilation.max_nesting) }
+        ensures err { OnErr result ((rules : List Rule)
+            → IsScanOf rules self.old → IsScanOf rules self.new) }
+        ensures within { text_of self.new ≡ text_of self.old }
+        ensures name { (scanner_of self.new).ghost_name ≡ (scanner_of self.old).ghost_name }
+    {
+        self.answers.truncate(self.scanner.tree_count());
+        self.scanner.add_tree(tree, options, backtrack_limit)
+    }
+}
