@@ -1,0 +1,3 @@
+pub mod BackReferences
+pub mod Covering
+pub mod Stepping

@@ -1,0 +1,11 @@
+use Rattle.std.proofs.Common.{◌+◌, ◌*◌}
+use Rattle.fancy_highlight.proofs.reader.Reader.+reading.Given as goal
+
+abbrev pub decreases-patterns : goal.decreases-patterns
+decreases-patterns l = 3 * l.depth
+
+abbrev pub decreases-region : goal.decreases-region
+decreases-region l = 3 * l.depth + 1
+
+abbrev pub decreases-rule : goal.decreases-rule
+decreases-rule l = 3 * l.depth + 2

@@ -1,0 +1,5 @@
+pub mod Ends
+pub mod Frames
+pub mod Runs
+pub mod Tokens
+pub mod Writers

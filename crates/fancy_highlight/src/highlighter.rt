@@ -1,0 +1,52 @@
+//! `Highlighter`: the rules of a language, ready to be applied.
+
+ghost use Rattle.std.specs.Prelude.{IfOk};
+ghost use Rattle.fancy_highlight.specs.Tokens.{Covers};
+
+use crate::error::{GrammarError, HighlightError};
+use crate::grammar::Grammar;
+use crate::reader::read_grammar;
+use crate::run::Run;
+use crate::tokens::Highlights;
+use fancy_scanner::scanner::Scanner;
+use std::alloc::Global;
+use std::collections::BTreeMap;
+
+/// The rules of a language, with their patterns compiled.
+#[derive(Drop)]
+pub struct Highlighter {
+    alloc: Global,
+    grammar: Grammar,
+    scanner: Scanner,
+    /// The trees of ends that refer back, by their patterns.
+    ends: BTreeMap<String, usize>,
+}
+
+impl Highlighter {
+    /// Reads rules in JSON, in the shape of a TextMate grammar.
+    pub fn new(alloc: Global, rules: &str) -> Result<Highlighter, GrammarError> {
+        let (grammar, scanner) = read_grammar(alloc, rules)?;
+        Ok(Highlighter {
+            alloc,
+            grammar,
+            scanner,
+            ends: BTreeMap::new(alloc),
+        })
+    }
+
+    /// The name with this number.
+    pub fn name(&self, number: usize) -> Option<&str> {
+        match self.grammar.names.get(number) {
+            Some(name) => Some(name.as_str()),
+            None => None,
+        }
+    }
+
+    /// The tokens of the text.
+    pub fn highlight(&mut self, text: &str) -> Result<Highlights, HighlightError>
+        ensures covers { IfOk result (λ highlights. Covers text.now highlights.tokens.items) }
+    {
+        let scan = self.scanner.scan(text);
+        Run::new(self.alloc, &self.grammar, scan, &mut self.ends)?.finish()
+    }
+}
