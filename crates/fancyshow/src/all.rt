@@ -1,7 +1,8 @@
 //! All matches of a text, marked in its lines.
 
 use crate::excerpt::{columns, push_shown, push_times};
-use crate::find::{Searcher, push_found, searcher_of};
+use crate::find::{Groups, Searcher, push_found, searcher_of};
+use crate::no_match::no_match;
 use crate::outcome::Trouble;
 use crate::refusals::refusal;
 use crate::request::Request;
@@ -66,7 +67,7 @@ impl Marker<'_> {
         }
     }
 
-    /// The marks under a line that begins at this byte, up to the last one.
+    /// The marks under a line that begins at this byte, and one for its end, up to the last one.
     fn push_marks(&mut self, line: &str, start: usize) -> Result<(), AllocError> {
         let mut marks = String::new(self.alloc);
         for (i, c) in line.char_indices() {
@@ -79,9 +80,7 @@ impl Marker<'_> {
         }
         let end = start.saturating_add(line.len());
         self.pass_to(end);
-        if self.mark(end) == '|' {
-            marks.push('|')?;
-        }
+        marks.push(self.mark(end))?;
         self.out.push_str(marks.as_str().trim_end())
     }
 
@@ -124,7 +123,7 @@ struct Found {
 }
 
 impl Found {
-    fn push(&mut self, captures: &Captures<'_>, groups: usize) -> Result<(), AllocError> {
+    fn push(&mut self, captures: &Captures<'_>, groups: &Groups) -> Result<(), AllocError> {
         let whole = captures.whole();
         self.spans.push((whole.start(), whole.end()))?;
         let number = self.spans.len();
@@ -133,8 +132,8 @@ impl Found {
     }
 
     fn push_all(&mut self, searcher: &mut Searcher, text: &str) -> Result<(), Error> {
-        let groups = searcher.groups;
-        for captures in searcher.regex.captures_iter(text) {
+        let Searcher { regex, groups, .. } = searcher;
+        for captures in regex.captures_iter(text) {
             match captures {
                 Ok(captures) => self.push(&captures, groups)?,
                 Err(error) => return Err(error),
@@ -155,9 +154,6 @@ fn found_by(alloc: Global, searcher: &mut Searcher, text: &str) -> Result<Found,
 
 /// The lines in which the matches stand, and then what is written of each.
 fn page(alloc: Global, found: &Found, text: &str, colours: bool) -> Result<String, AllocError> {
-    if found.spans.is_empty() {
-        return String::from_str(alloc, "no match\n");
-    }
     let mut marker = Marker {
         alloc,
         out: String::new(alloc),
@@ -176,6 +172,7 @@ pub fn all(alloc: Global, request: &Request, text: &str, colours: bool) -> Resul
         found_by(alloc, &mut searcher, text)
     };
     match found {
+        Ok(found) if found.spans.is_empty() => no_match(alloc, request),
         Ok(found) => Ok(page(alloc, &found, text, colours)?),
         Err(error) => Err(refusal(alloc, request.source.as_str(), &error)),
     }

@@ -18,7 +18,8 @@ const TRACE: &str = "Each instruction that a run executes, 1000 at most without 
 const NODES: &str =
     "What is known of each node of the tree that the pattern spells, or which node is refused";
 
-const PICTURE: &str = "The program of the pattern as a picture, in SVG or for Graphviz";
+const PICTURE: &str =
+    "The program of the pattern as a picture, in SVG or for Graphviz, or the pattern as a railroad diagram";
 
 const BATCH: &str = "Each line of a file as a command line of its own, in which ' quotes";
 
@@ -88,7 +89,7 @@ const PARTS: [(&str, Takes, &str); 10] = [
 ];
 
 /// Each argument: its name, the parts that take it, what is written, and what it says.
-const ARGUMENTS: [(&str, Takes, Kind, &str); 20] = [
+const ARGUMENTS: [(&str, Takes, Kind, &str); 21] = [
     ("PATTERN", Takes::Pattern, Kind::Word, "The pattern"),
     (
         "tree",
@@ -148,9 +149,14 @@ const ARGUMENTS: [(&str, Takes, Kind, &str); 20] = [
         "TEXT",
         Takes::Text,
         Kind::Word,
-        "The text; standard input if it is left out",
+        "The text; standard input for - or if it is left out",
     ),
-    ("file", Takes::Text, Kind::File, "Read the text from a file"),
+    (
+        "file",
+        Takes::Text,
+        Kind::File,
+        "Read the text from a file, or for - from standard input",
+    ),
     (
         "anchored",
         Takes::Text,
@@ -189,10 +195,16 @@ const ARGUMENTS: [(&str, Takes, Kind, &str); 20] = [
         "Write DOT in place of SVG",
     ),
     (
+        "railroad",
+        Takes::Picture,
+        Kind::Flag,
+        "Draw the tree as a railroad diagram in place of the program",
+    ),
+    (
         "FILE",
         Takes::Lines,
         Kind::Word,
-        "The file; standard input if it is left out",
+        "The file; standard input for - or if it is left out",
     ),
 ];
 

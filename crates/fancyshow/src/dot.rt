@@ -1,6 +1,7 @@
 //! A program for Graphviz.
 
 use crate::arrows::{Arrow, arrows};
+use crate::insns::push_insn;
 use fancy_vm::vm::{Insn, Prog};
 use std::alloc::{AllocError, Global};
 
@@ -16,7 +17,8 @@ fn style(insn: &Insn) -> &'static str {
 
 fn push_node(alloc: Global, out: &mut String, place: usize, insn: &Insn) -> Result<(), AllocError> {
     let style = style(insn);
-    let label = format!(in alloc; "{place} {insn}")?;
+    let mut label = format!(in alloc; "{place} ")?;
+    push_insn(alloc, &mut label, insn)?;
     writeln!(out, "  {place} [label={label:?}{style}];")
 }
 

@@ -38,6 +38,15 @@ pub fn columns(c: char) -> usize {
     c.width().unwrap_or(1)
 }
 
+/// How many columns the text takes as it is shown.
+pub fn width(text: &str) -> usize {
+    let mut width: usize = 0;
+    for c in text.chars() {
+        width = width.saturating_add(columns(c));
+    }
+    width
+}
+
 /// Writes the line so that each character takes its columns: a space for a tab, a dot for another control character.
 pub fn push_shown(out: &mut String, line: &str) -> Result<(), AllocError> {
     for c in line.chars() {
@@ -57,16 +66,47 @@ pub fn push_times(out: &mut String, c: char, count: usize) -> Result<(), AllocEr
     Ok(())
 }
 
-/// Writes the line with this byte of the text, and a caret below the byte, each after a line end.
+/// So many characters are shown before a place in a long line, and so many from there on.
+const BEFORE: usize = 50;
+
+const BEHIND: usize = 30;
+
+/// The last characters of the text, so many at most, and whether there are more.
+pub fn tail(text: &str, most: usize) -> (&str, bool) {
+    let count = text.chars().count();
+    let first = count.saturating_sub(most);
+    let cut = match text.char_indices().nth(first) {
+        Some((cut, _)) => cut,
+        None => text.len(),
+    };
+    (text.get(cut..).unwrap_or(""), first > 0)
+}
+
+/// The first characters of the text, so many at most, and whether there are more.
+pub fn head(text: &str, most: usize) -> (&str, bool) {
+    match text.char_indices().nth(most) {
+        Some((cut, _)) => (text.get(..cut).unwrap_or(""), true),
+        None => (text, false),
+    }
+}
+
+fn dots(are_there: bool) -> &'static str {
+    if are_there { ".." } else { "" }
+}
+
+/// Writes the line with this byte of the text, and a caret below the byte, each after a line end. Of a long line only
+/// what is around the place is written.
 pub fn push_excerpt(out: &mut String, text: &str, at: usize) -> Result<(), AllocError> {
     let line = line_at(text, at);
-    out.push_str("\n  ")?;
-    push_shown(out, line.text)?;
-    out.push_str("\n  ")?;
-    for (i, c) in line.text.char_indices() {
-        if line.start.saturating_add(i) < at {
-            push_times(out, ' ', columns(c))?;
-        }
-    }
+    let place = at.saturating_sub(line.start);
+    let (before, more_before) = tail(line.text.get(..place).unwrap_or(""), BEFORE);
+    let (behind, more_behind) = head(line.text.get(place..).unwrap_or(""), BEHIND);
+    let (first, last) = (dots(more_before), dots(more_behind));
+    write!(out, "\n  {first}")?;
+    push_shown(out, before)?;
+    push_shown(out, behind)?;
+    write!(out, "{last}\n  ")?;
+    push_times(out, ' ', first.len())?;
+    push_times(out, ' ', width(before))?;
     out.push('^')
 }

@@ -3,6 +3,7 @@
 ghost use Rattle.fancy_expr.specs.Sound.{IsWellFormedTree};
 
 use crate::excerpt::push_times;
+use crate::no_match::no_match;
 use crate::outcome::Trouble;
 use crate::refusals::refusal;
 use crate::request::Request;
@@ -11,6 +12,7 @@ use fancy_characters::places::is_place;
 use fancy_expr::expr::ExprTree;
 use fancy_matches::found::{Captures, Match};
 use fancy_matches::regexes::Regex;
+use fancy_railroad::names::GroupNames;
 use std::alloc::{AllocError, Global};
 use std::collections::BTreeMap;
 
@@ -31,14 +33,29 @@ fn regex(alloc: Global, request: &Request, tree: &ExprTree) -> Result<Regex, Tro
     }
 }
 
+/// The groups of a tree.
+#[derive(Drop)]
+pub struct Groups {
+    pub count: usize,
+    pub names: GroupNames,
+}
+
+impl Groups {
+    pub fn of(alloc: Global, tree: &ExprTree) -> Result<Groups, AllocError> {
+        Ok(Groups {
+            count: tree.total_groups,
+            names: GroupNames::new(alloc, &tree.named_groups)?,
+        })
+    }
+}
+
 /// A tree that is compiled for searches, and what of the tree their answers speak of.
 #[derive(Drop)]
 pub struct Searcher {
     pub regex: Regex,
-    /// How many groups there are.
-    pub groups: usize,
+    pub groups: Groups,
     /// The numbers of each name.
-    pub names: BTreeMap<String, Vec<usize>>,
+    pub numbers: BTreeMap<String, Vec<usize>>,
 }
 
 /// The tree that is asked about, compiled for searches.
@@ -47,8 +64,8 @@ pub fn searcher_of(alloc: Global, request: &Request) -> Result<Searcher, Trouble
     let regex = regex(alloc, request, &tree)?;
     Ok(Searcher {
         regex,
-        groups: tree.total_groups,
-        names: tree.named_groups,
+        groups: Groups::of(alloc, &tree)?,
+        numbers: tree.named_groups,
     })
 }
 
@@ -75,12 +92,13 @@ pub fn push_match(out: &mut String, found: &Match<'_>) -> Result<(), AllocError>
 pub fn push_groups(
     out: &mut String,
     captures: &Captures<'_>,
-    groups: usize,
+    groups: &Groups,
     indent: usize,
 ) -> Result<(), AllocError> {
-    for group in 1..=groups {
+    for group in 1..=groups.count {
         push_times(out, ' ', indent)?;
-        write!(out, "group {group}  ")?;
+        groups.names.push_group(out, group)?;
+        out.push_str("  ")?;
         match captures.get(group) {
             Some(found) => push_match(out, &found)?,
             None => out.push_str("not set\n")?,
@@ -96,12 +114,12 @@ pub fn no_place(alloc: Global, pos: usize) -> Result<Trouble, AllocError> {
     )?))
 }
 
-/// The first match from the place on where the search is to begin, and how many groups the tree has.
+/// The first match from the place on where the search is to begin, and the groups of the tree.
 pub fn captures<'t>(
     alloc: Global,
     request: &Request,
     text: &'t str,
-) -> Result<(Option<Captures<'t>>, usize), Trouble> {
+) -> Result<(Option<Captures<'t>>, Groups), Trouble> {
     let pos = request.arguments.pos;
     if !is_place(text.as_bytes(), pos) {
         return Err(no_place(alloc, pos)?);
@@ -120,7 +138,7 @@ pub fn captures<'t>(
 pub fn push_found(
     out: &mut String,
     captures: &Captures<'_>,
-    groups: usize,
+    groups: &Groups,
     indent: usize,
 ) -> Result<(), AllocError> {
     push_match(out, &captures.whole())?;
@@ -131,9 +149,9 @@ pub fn push_found(
 pub fn find(alloc: Global, request: &Request, text: &str) -> Result<String, Trouble> {
     let (found, groups) = captures(alloc, request, text)?;
     let Some(captures) = found else {
-        return Ok(String::from_str(alloc, "no match\n")?);
+        return no_match(alloc, request);
     };
     let mut out = String::from_str(alloc, "match  ")?;
-    push_found(&mut out, &captures, groups, 0)?;
+    push_found(&mut out, &captures, &groups, 0)?;
     Ok(out)
 }

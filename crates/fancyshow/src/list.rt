@@ -2,6 +2,8 @@
 
 ghost use Rattle.fancy_expr.specs.Sound.{IsWellFormedTree};
 
+use crate::find::Groups;
+use crate::insns::push_noted;
 use crate::outcome::Trouble;
 use crate::refusals::refusal;
 use crate::request::Request;
@@ -37,39 +39,51 @@ fn compile_or_say(alloc: Global, request: &Request, tree: &ExprTree) -> Result<P
     }
 }
 
+/// A program, and the groups of its tree.
+#[derive(Drop)]
+pub struct Shown {
+    pub prog: Prog,
+    pub groups: Groups,
+}
+
 /// The program that is asked about.
-pub fn program(alloc: Global, request: &Request) -> Result<Prog, Trouble> {
+pub fn program(alloc: Global, request: &Request) -> Result<Shown, Trouble> {
     let tree = read(alloc, request)?;
-    compile_or_say(alloc, request, &tree)
+    let prog = compile_or_say(alloc, request, &tree)?;
+    Ok(Shown {
+        prog,
+        groups: Groups::of(alloc, &tree)?,
+    })
 }
 
 /// Writes what the first slots hold.
-fn push_slots(out: &mut String, groups: usize) -> Result<(), AllocError> {
+fn push_slots(out: &mut String, groups: &Groups) -> Result<(), AllocError> {
     out.push_str("slots 0 and 1: start and end of the match\n")?;
-    for group in 1..=groups {
+    for group in 1..=groups.count {
         let start = group.saturating_mul(2);
         let end = start.saturating_add(1);
-        writeln!(
-            out,
-            "slots {start} and {end}: start and end of group {group}"
-        )?;
+        write!(out, "slots {start} and {end}: start and end of ")?;
+        groups.names.push_group(out, group)?;
+        out.push('\n')?;
     }
     Ok(())
 }
 
-fn push_list(out: &mut String, prog: &Prog) -> Result<(), AllocError> {
-    let (count, groups) = (prog.body().len(), prog.total_groups());
+fn push_list(alloc: Global, out: &mut String, shown: &Shown) -> Result<(), AllocError> {
+    let (count, groups) = (shown.prog.body().len(), shown.groups.count);
     writeln!(out, "instructions: {count}, groups: {groups}")?;
-    push_slots(out, groups)?;
-    for (place, insn) in prog.body().iter().enumerate() {
-        writeln!(out, "{place:>5}  {insn}")?;
+    push_slots(out, &shown.groups)?;
+    for (place, insn) in shown.prog.body().iter().enumerate() {
+        write!(out, "{place:>5}  ")?;
+        push_noted(alloc, out, insn, &shown.groups)?;
+        out.push('\n')?;
     }
     Ok(())
 }
 
 /// How many instructions the program has, what its first slots hold, and each instruction after its place.
-pub fn list(alloc: Global, prog: &Prog) -> Result<String, AllocError> {
+pub fn list(alloc: Global, shown: &Shown) -> Result<String, AllocError> {
     let mut out = String::new(alloc);
-    push_list(&mut out, prog)?;
+    push_list(alloc, &mut out, shown)?;
     Ok(out)
 }

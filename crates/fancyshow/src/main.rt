@@ -9,11 +9,15 @@ mod commands;
 mod dot;
 mod excerpt;
 mod find;
+mod furthest;
+mod insns;
 mod list;
+mod marks;
+mod no_match;
 mod nodes;
 mod outcome;
 mod pieces;
-mod prefixes;
+mod railroad;
 mod refusals;
 mod request;
 mod show;
@@ -35,9 +39,14 @@ fn words(rt: &HostRuntime) -> io::Result<Vec<String>> {
     Ok(env::args(rt)?.skip(1).collect(rt.alloc())?)
 }
 
-/// Colours are for a terminal whose user has not set `NO_COLOR`.
+/// Whether the terminal says that it has no colours.
+fn is_dumb(rt: &HostRuntime) -> bool {
+    matches!(env::var(rt, "TERM"), Ok(term) if term.as_str() == "dumb")
+}
+
+/// Colours are for a terminal that is not dumb, whose user has not set `NO_COLOR`.
 fn has_colours(rt: &HostRuntime) -> bool {
-    rt.stdout().is_terminal() && env::var(rt, "NO_COLOR").is_err()
+    rt.stdout().is_terminal() && env::var(rt, "NO_COLOR").is_err() && !is_dumb(rt)
 }
 
 /// Writes what a command line came to, and answers the status: 3 where a write fails.
@@ -61,8 +70,12 @@ fn main(rt: HostRuntime) -> ExitCode {
     let words = match words(&rt) {
         Ok(words) => words,
         Err(error) if error.kind() == ErrorKind::OutOfMemory => return ExitCode::from(refuse(&rt)),
-        // Words that cannot be read, as they are no text, ask nothing.
-        Err(_) => Vec::new(rt.alloc()),
+        Err(_) => {
+            let _unwritten = rt
+                .stderr()
+                .write_all(b"error: a word of the command line is no text in UTF-8\n");
+            return ExitCode::from(2);
+        }
     };
     let status = match show(&rt, &words, has_colours(&rt)) {
         Ok(outcome) => write(&rt, &outcome),

@@ -126,12 +126,65 @@ pub fn push_node(out: &mut String, expr: &Expr, group: usize) -> Result<(), Allo
     if let Some((word, number)) = numbered(expr, group) {
         return write!(out, "{word} {number}");
     }
+    push_unnumbered(out, expr)
+}
+
+fn push_unnumbered(out: &mut String, expr: &Expr) -> Result<(), AllocError> {
     if let Some((before, text)) = quoted(expr) {
-        return write!(out, "{before}{text:?}");
+        out.push_str(before)?;
+        return push_quoted(out, text);
     }
     match expr {
         Expr::LiteralBytes { bytes } => push_bytes(out, bytes),
         Expr::Repeat { lo, hi, greedy, .. } => push_loop(out, *lo, *hi, *greedy),
         _ => out.push_str(word(expr)),
+    }
+}
+
+/// Writes the text between quotes, as the notation has it.
+pub fn push_quoted(out: &mut String, text: &str) -> Result<(), AllocError> {
+    out.push('"')?;
+    push_unquoted(out, text)?;
+    out.push('"')
+}
+
+/// Writes the text as it stands between quotes.
+pub fn push_unquoted(out: &mut String, text: &str) -> Result<(), AllocError> {
+    for c in text.chars() {
+        push_character(out, c)?;
+    }
+    Ok(())
+}
+
+pub fn push_character(out: &mut String, c: char) -> Result<(), AllocError> {
+    let code = c as u32;
+    match c {
+        '"' => out.push_str("\\\""),
+        '\\' => out.push_str("\\\\"),
+        '\n' => out.push_str("\\n"),
+        '\r' => out.push_str("\\r"),
+        _ if c.is_control() => write!(out, "\\u{{{code:x}}}"),
+        _ => out.push(c),
+    }
+}
+
+/// Whether the notation writes the node in brackets.
+pub fn has_brackets(expr: &Expr) -> bool {
+    match expr {
+        Expr::Literal { .. } | Expr::Any { .. } | Expr::Empty => false,
+        Expr::Assertion(_) | Expr::GeneralNewline { .. } => false,
+        Expr::KeepOut | Expr::ContinueFromPreviousMatchEnd => false,
+        _ => true,
+    }
+}
+
+/// Writes the node as the notation begins it, up to its children, with a bracket where it has one.
+pub fn push_head(out: &mut String, expr: &Expr) -> Result<(), AllocError> {
+    if has_brackets(expr) {
+        out.push('(')?;
+    }
+    match expr {
+        Expr::Group(_) => out.push_str("grp"),
+        _ => push_node(out, expr, 0),
     }
 }

@@ -25,6 +25,10 @@ pub enum Trouble {
     Words(String),
     /// The engine refuses the tree or the search: how, and why.
     Refusal(String),
+    /// What is written stands on standard output, and yet something was refused.
+    Refused(String),
+    /// There is an answer, and something to be warned of.
+    Warned { out: String, warning: String },
     Memory,
 }
 
@@ -73,6 +77,14 @@ impl Outcome {
             Err(Trouble::Refusal(why)) => {
                 Outcome::failed(alloc, format!(in alloc; "error: {why}\n")?, 1)
             }
+            Err(Trouble::Refused(out)) => Outcome {
+                status: 1,
+                ..Outcome::answered(alloc, out)
+            },
+            Err(Trouble::Warned { out, warning }) => Outcome {
+                err: format!(in alloc; "warning: {warning}\n")?,
+                ..Outcome::answered(alloc, out)
+            },
             Err(Trouble::Memory) => {
                 Outcome::failed(
                     alloc,

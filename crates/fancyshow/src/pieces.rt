@@ -17,9 +17,55 @@ fn replaced_by(
     text: &str,
     template: &str,
 ) -> Result<String, Error> {
-    let template = Template::new(alloc, template, &searcher.names)?;
+    let template = Template::new(alloc, template, &searcher.numbers)?;
     let made = replace_all(alloc, &mut searcher.regex, text, &template)?;
     Ok(String::from_str(alloc, made.as_ref())?)
+}
+
+/// The digits that a text begins with, and the letters, digits and `_` behind them.
+fn split_name(text: &str) -> (&str, &str) {
+    let mut digits: usize = 0;
+    let mut end: usize = 0;
+    for (i, c) in text.char_indices() {
+        if !c.is_ascii_alphanumeric() && c != '_' {
+            break;
+        }
+        end = i.saturating_add(1);
+        if c.is_ascii_digit() && digits == i {
+            digits = end;
+        }
+    }
+    (
+        text.get(..digits).unwrap_or(""),
+        text.get(digits..end).unwrap_or(""),
+    )
+}
+
+/// The first name of the template that begins with digits, behind a bare dollar: the digits and the rest of it.
+fn run_on(template: &str) -> Option<(&str, &str)> {
+    let mut is_escaped = false;
+    for piece in template.split('$').skip(1) {
+        // `$$` has nothing between its two dollars, and what follows is no name
+        let (digits, rest) = split_name(piece);
+        if !is_escaped && !digits.is_empty() && !rest.is_empty() {
+            return Some((digits, rest));
+        }
+        is_escaped = piece.is_empty() && !is_escaped;
+    }
+    None
+}
+
+/// The text where nothing is to be warned of: else that digits with letters behind them are a name.
+fn warned(alloc: Global, out: String, template: &str) -> Result<String, Trouble> {
+    match run_on(template) {
+        None => Ok(out),
+        Some((digits, rest)) => {
+            let warning = format!(in alloc;
+                "${digits}{rest} is the group with this name; ${{{digits}}}{rest} is group {digits}, and then {rest}"
+            )?;
+            Err(Trouble::Warned { out, warning })
+        }
+    }
 }
 
 /// The same, and a line end where it has none.
@@ -34,8 +80,8 @@ pub fn replaced(
         replaced_by(alloc, &mut searcher, text, template)
     };
     match replaced {
-        Ok(out) if out.as_str().ends_with('\n') => Ok(out),
-        Ok(out) => Ok(format!(in alloc; "{out}\n")?),
+        Ok(out) if out.as_str().ends_with('\n') => warned(alloc, out, template),
+        Ok(out) => warned(alloc, format!(in alloc; "{out}\n")?, template),
         Err(error) => Err(refusal(alloc, request.source.as_str(), &error)),
     }
 }

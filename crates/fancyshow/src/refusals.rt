@@ -2,17 +2,17 @@
 
 use crate::excerpt::push_excerpt;
 use crate::outcome::Trouble;
-use crate::wants::wanted;
+use crate::wants::{Wanted, wanted_at};
 use fancy_expr::error::{Error, RuntimeError};
 use fancy_pattern::error::PatternError;
 use std::alloc::{AllocError, Global};
 
 /// Where the tree cannot be read on, and what was wanted there.
 fn fault(alloc: Global, tree: &str, at: usize) -> Result<Trouble, Error> {
-    let wanted = wanted(alloc, tree, at)?;
+    let Wanted { at: place, words } = wanted_at(alloc, tree, at)?;
     let mut text = format!(in alloc; "the tree cannot be read from byte {at} on")?;
-    push_excerpt(&mut text, tree, at)?;
-    write!(text, "\n  wanted here: {wanted}")?;
+    push_excerpt(&mut text, tree, place)?;
+    write!(text, "\n  wanted here: {words}")?;
     Ok(Trouble::Refusal(text))
 }
 
@@ -70,6 +70,13 @@ pub fn pattern_refusal(alloc: Global, pattern: &str, error: &PatternError) -> Tr
         Ok(trouble) => trouble,
         Err(_) => Trouble::Memory,
     }
+}
+
+/// The trouble of a tree or a program that is too large for a picture.
+pub fn too_large(alloc: Global, what: &str, most: usize, of: &str) -> Result<Trouble, AllocError> {
+    Ok(Trouble::Refusal(format!(in alloc;
+        "a {what} of more than {most} {of} is not drawn (TooLarge)"
+    )?))
 }
 
 /// The trouble of a tree that nests too deep.

@@ -27,8 +27,11 @@ impl Request {
     }
 }
 
-/// The whole file, which is a text.
+/// The whole file, which is a text; for `-` standard input.
 pub fn read_file(rt: &HostRuntime, path: &str) -> Result<String, Trouble> {
+    if path == "-" {
+        return read_input(rt);
+    }
     match fs::read_to_string(rt, path) {
         Ok(text) => Ok(text),
         Err(error) => Err(Trouble::Words(format!(in rt.alloc();
@@ -140,6 +143,7 @@ fn text(rt: &HostRuntime, matches: &ArgMatches<'_>, word: Option<&str>) -> Resul
             )?)
         }
         (Some(path), None) => read_file(rt, path),
+        (None, Some("-")) => read_input(rt),
         (None, Some(word)) => Ok(String::from_str(rt.alloc(), word)?),
         (None, None) => read_input(rt),
     }

@@ -5,16 +5,17 @@ use crate::batch::{push_outcome, words_of};
 use crate::commands::command;
 use crate::dot::dot;
 use crate::find::find;
-use crate::list::{list, program};
+use crate::list::{Shown, list, program};
 use crate::outcome::{Outcome, Trouble};
 use crate::pieces::{pieces, replaced};
+use crate::railroad::railroad;
+use crate::refusals::too_large;
 use crate::request::{Request, read_file, read_input, text_request, tree_request};
-use crate::svg::svg;
+use crate::svg::{MOST_BOXES, svg};
 use crate::trace::trace;
 use crate::tree::tree;
 use crate::why::why;
 use clap::ArgMatches;
-use fancy_vm::vm::Prog;
 use std::alloc::{AllocError, Global};
 
 /// What the words say, or the help that they ask for.
@@ -32,18 +33,39 @@ fn read_words<'a>(rt: &HostRuntime, words: &'a [String]) -> Result<ArgMatches<'a
     }
 }
 
+/// How a picture is asked for.
+#[derive(Clone, Copy)]
+struct Drawn {
+    as_dot: bool,
+    as_railroad: bool,
+}
+
+fn drawing_of(matches: &ArgMatches<'_>) -> Drawn {
+    Drawn {
+        as_dot: matches.get_flag("dot"),
+        as_railroad: matches.get_flag("railroad"),
+    }
+}
+
 /// The answer of a part that asks of a program.
 fn program_answer(
     alloc: Global,
     part: &str,
-    prog: &Prog,
+    request: &Request,
+    shown: &Shown,
     is_dot: bool,
-) -> Result<String, AllocError> {
-    match part {
-        "list" => list(alloc, prog),
-        _ if is_dot => dot(alloc, prog),
-        _ => svg(alloc, prog),
+) -> Result<String, Trouble> {
+    if part == "list" {
+        return Ok(list(alloc, shown)?);
     }
+    let prog = &shown.prog;
+    if prog.body().len() > MOST_BOXES {
+        return Err(too_large(alloc, "program", MOST_BOXES, "instructions")?);
+    }
+    if is_dot {
+        return Ok(dot(alloc, prog)?);
+    }
+    Ok(svg(alloc, prog, request.source.as_str())?)
 }
 
 /// The answer of a part that asks of a tree alone.
@@ -51,16 +73,16 @@ fn tree_answer(
     alloc: Global,
     part: &str,
     request: &Request,
-    is_dot: bool,
+    drawn: Drawn,
 ) -> Result<String, Trouble> {
     if part == "tree" {
         return tree(alloc, request);
     }
-    let answer = {
-        let prog = program(alloc, request)?;
-        program_answer(alloc, part, &prog, is_dot)
-    };
-    Ok(answer?)
+    if drawn.as_railroad {
+        return railroad(alloc, request);
+    }
+    let shown = program(alloc, request)?;
+    program_answer(alloc, part, request, &shown, drawn.as_dot)
 }
 
 /// The answer of a part that asks of a tree and a text.
@@ -91,7 +113,7 @@ fn answer(
     match part {
         "list" | "tree" | "picture" => {
             let request = tree_request(rt, matches)?;
-            tree_answer(alloc, part, &request, matches.get_flag("dot"))
+            tree_answer(alloc, part, &request, drawing_of(matches))
         }
         "replace" => {
             let (request, text) = text_request(rt, matches)?;
@@ -118,21 +140,25 @@ fn line_answer(rt: &HostRuntime, words: &[String]) -> Result<String, Trouble> {
     }
 }
 
-/// Writes a line of a batch, and what it comes to where it is a command line.
-fn push_answer(rt: &HostRuntime, out: &mut String, line: &str) -> Result<(), AllocError> {
+/// Writes a line of a batch, and what it comes to where it is a command line. Answers whether its status is not 0.
+fn push_answer(rt: &HostRuntime, out: &mut String, line: &str) -> Result<bool, AllocError> {
     if line.is_empty() || line.starts_with('#') {
-        return writeln!(out, "{line}");
+        writeln!(out, "{line}")?;
+        return Ok(false);
     }
     let words = words_of(rt.alloc(), line)?;
     let outcome = Outcome::of(rt.alloc(), line_answer(rt, &words))?;
-    push_outcome(out, line, &outcome)
+    push_outcome(out, line, &outcome)?;
+    Ok(outcome.status != 0)
 }
 
-fn push_answers(rt: &HostRuntime, out: &mut String, lines: &str) -> Result<(), AllocError> {
+/// Writes each line with what it comes to. Answers whether one failed.
+fn push_answers(rt: &HostRuntime, out: &mut String, lines: &str) -> Result<bool, AllocError> {
+    let mut has_failed = false;
     for line in lines.lines() {
-        push_answer(rt, out, line)?;
+        has_failed |= push_answer(rt, out, line)?;
     }
-    Ok(())
+    Ok(has_failed)
 }
 
 /// What each command line of a file comes to.
@@ -142,7 +168,9 @@ fn batch(rt: &HostRuntime, matches: &ArgMatches<'_>) -> Result<String, Trouble> 
         None => read_input(rt)?,
     };
     let mut out = String::new(rt.alloc());
-    push_answers(rt, &mut out, lines.as_str())?;
+    if push_answers(rt, &mut out, lines.as_str())? {
+        return Err(Trouble::Refused(out));
+    }
     Ok(out)
 }
 

@@ -1,14 +1,22 @@
 //! A program as a picture: a box for each instruction, one below the other; arrows further on stand at the right, back
-//! ones at the left, branches dashed.
+//! ones at the left, branches dashed; below, what the signs mean.
 
 use crate::arrows::{Arrow, Lane, arrows, lanes};
+use crate::excerpt::width;
+use crate::insns::push_insn;
+use fancy_railroad::xml::push_escaped;
 use fancy_vm::vm::{Insn, Prog};
 use std::alloc::{AllocError, Global};
 
-/// From one box to the next, in pixels.
-const STEP: usize = 36;
+/// How many instructions a program may have that is drawn.
+pub const MOST_BOXES: usize = 1_000;
 
-const BOX_HEIGHT: usize = 24;
+/// From one box to the next, in pixels.
+const BETWEEN: usize = 12;
+
+const LEAST_HEIGHT: usize = 24;
+/// From one arrow to the next at a side of a box.
+const PORT: usize = 8;
 /// Above the first box and below the last one, and beside the outermost lanes.
 const MARGIN: usize = 16;
 /// From one lane to the next.
@@ -18,41 +26,107 @@ const CHARACTER: usize = 8;
 
 const STYLE: &str = "<style>text{font:13px monospace}rect{fill:#fff;stroke:#333}\
 .delegate{fill:#fff2cc}.end{fill:#d5e8d4}path{fill:none;stroke:#333}.back{stroke:#b85450}\
-.branch{stroke-dasharray:5 3}</style>\n";
+.branch{stroke-dasharray:5 3}.ground{stroke:none}</style>\n";
 
 const HEADS: &str =
     "<defs><marker id=\"head\" markerWidth=\"8\" markerHeight=\"8\" refX=\"7\" refY=\"4\" \
 orient=\"auto\"><path d=\"M0,0L8,4L0,8z\" style=\"fill:#333;stroke:none\"/></marker></defs>\n";
 
-/// Where the boxes stand.
-#[derive(Clone, Copy)]
-struct Frame {
+const LEGEND_HEIGHT: usize = 100;
+
+const LEGEND_WIDTH: usize = 320;
+
+const LEGEND: &str =
+    "\n<path d=\"M0,12H28\" marker-end=\"url(#head)\"/><text x=\"40\" y=\"16\">what is executed next</text>\n\
+<path d=\"M0,32H28\" marker-end=\"url(#head)\" class=\"branch\"/><text x=\"40\" y=\"36\">what is tried after a failure</text>\n\
+<path d=\"M0,52H28\" marker-end=\"url(#head)\" class=\"back\"/><text x=\"40\" y=\"56\">back</text>\n\
+<rect y=\"65\" width=\"28\" height=\"14\" rx=\"7\" class=\"delegate\"/><text x=\"40\" y=\"76\">a fragment, searched by itself</text>\n";
+
+/// Where the boxes stand: their left edge and width, and of each its top and height.
+#[derive(Drop)]
+struct Boxes {
     left: usize,
     width: usize,
+    tops: Vec<usize>,
+    heights: Vec<usize>,
 }
 
-impl Frame {
+impl Boxes {
     fn right(&self) -> usize {
         self.left.saturating_add(self.width)
     }
-}
 
-fn box_top(place: usize) -> usize {
-    place.saturating_mul(STEP).saturating_add(MARGIN)
-}
-
-/// Writes a text in which no character means anything to XML, and without control characters.
-fn push_escaped(out: &mut String, text: &str) -> Result<(), AllocError> {
-    for c in text.chars() {
-        match c {
-            '<' => out.push_str("&lt;")?,
-            '>' => out.push_str("&gt;")?,
-            '&' => out.push_str("&amp;")?,
-            _ if c.is_control() => out.push('·')?,
-            _ => out.push(c)?,
-        }
+    fn top(&self, place: usize) -> usize {
+        self.tops.get(place).copied().unwrap_or(MARGIN)
     }
-    Ok(())
+
+    fn bottom(&self, place: usize) -> usize {
+        let height = self.heights.get(place).copied().unwrap_or(0);
+        self.top(place).saturating_add(height)
+    }
+}
+
+/// Counts one end more at this box, and answers how many there were.
+fn count_end(ends: &mut Vec<usize>, place: usize) -> usize {
+    match ends.get_mut(place) {
+        Some(count) => {
+            let before = *count;
+            *count = before.saturating_add(1);
+            before
+        }
+        None => 0,
+    }
+}
+
+/// As many zeros as there are boxes.
+fn no_ends(alloc: Global, labels: &[String]) -> Result<Vec<usize>, AllocError> {
+    let mut ends = Vec::new(alloc);
+    for _ in labels {
+        ends.push(0)?;
+    }
+    Ok(ends)
+}
+
+/// How many arrows begin or end at each box, of those in lanes.
+fn ends_of(alloc: Global, labels: &[String], lanes: &[Lane]) -> Result<Vec<usize>, AllocError> {
+    let mut ends = no_ends(alloc, labels)?;
+    for lane in lanes {
+        count_end(&mut ends, lane.arrow.from);
+        count_end(&mut ends, lane.arrow.to);
+    }
+    Ok(ends)
+}
+
+/// The height of a box with so many ends at a side: each end is in a place of its own.
+fn height(ends: usize) -> usize {
+    ends.saturating_mul(PORT)
+        .saturating_add(PORT)
+        .max(LEAST_HEIGHT)
+}
+
+/// Boxes one below the other, each high enough for the arrows at its sides.
+fn placed_boxes(
+    alloc: Global,
+    labels: &[String],
+    on: &[Lane],
+    back: &[Lane],
+) -> Result<Boxes, AllocError> {
+    let right = ends_of(alloc, labels, on)?;
+    let left = ends_of(alloc, labels, back)?;
+    let mut boxes = Boxes {
+        left: beside(back),
+        width: widest(labels).saturating_add(2).saturating_mul(CHARACTER),
+        tops: Vec::new(alloc),
+        heights: Vec::new(alloc),
+    };
+    let mut top = MARGIN;
+    for (right, left) in right.iter().zip(left.iter()) {
+        let height = height(*right.max(left));
+        boxes.tops.push(top)?;
+        boxes.heights.push(height)?;
+        top = top.saturating_add(height).saturating_add(BETWEEN);
+    }
+    Ok(boxes)
 }
 
 fn class(insn: &Insn) -> &'static str {
@@ -65,18 +139,18 @@ fn class(insn: &Insn) -> &'static str {
 
 fn push_box(
     out: &mut String,
-    frame: Frame,
+    boxes: &Boxes,
     place: usize,
     insn: &Insn,
     label: &str,
 ) -> Result<(), AllocError> {
-    let Frame { left, width } = frame;
-    let top = box_top(place);
+    let (left, width, top) = (boxes.left, boxes.width, boxes.top(place));
+    let height = boxes.bottom(place).saturating_sub(top);
     let class = class(insn);
     let (x, y) = (left.saturating_add(CHARACTER), top.saturating_add(16));
     write!(
         out,
-        "<rect x=\"{left}\" y=\"{top}\" width=\"{width}\" height=\"{BOX_HEIGHT}\"{class}/>\n\
+        "<rect x=\"{left}\" y=\"{top}\" width=\"{width}\" height=\"{height}\"{class}/>\n\
 <text x=\"{x}\" y=\"{y}\">"
     )?;
     push_escaped(out, label)?;
@@ -93,14 +167,11 @@ fn class_of(arrow: Arrow) -> &'static str {
 }
 
 /// Writes an arrow from a box to the one below it.
-fn push_short(out: &mut String, frame: Frame, arrow: Arrow) -> Result<(), AllocError> {
-    let x = frame
+fn push_short(out: &mut String, boxes: &Boxes, arrow: Arrow) -> Result<(), AllocError> {
+    let x = boxes
         .left
         .saturating_add(if arrow.is_branch { 36 } else { 24 });
-    let (from, to) = (
-        box_top(arrow.from).saturating_add(BOX_HEIGHT),
-        box_top(arrow.to),
-    );
+    let (from, to) = (boxes.bottom(arrow.from), boxes.top(arrow.to));
     let class = class_of(arrow);
     writeln!(
         out,
@@ -108,17 +179,30 @@ fn push_short(out: &mut String, frame: Frame, arrow: Arrow) -> Result<(), AllocE
     )
 }
 
+/// Where the next arrow begins or ends at a side of a box.
+fn port(boxes: &Boxes, ends: &mut Vec<usize>, place: usize) -> usize {
+    let before = count_end(ends, place);
+    boxes
+        .top(place)
+        .saturating_add(before.saturating_add(1).saturating_mul(PORT))
+}
+
 /// Writes an arrow in its lane, beside the boxes.
-fn push_long(out: &mut String, frame: Frame, lane: Lane) -> Result<(), AllocError> {
+fn push_long(
+    out: &mut String,
+    boxes: &Boxes,
+    ends: &mut Vec<usize>,
+    lane: Lane,
+) -> Result<(), AllocError> {
     let arrow = lane.arrow;
     let away = lane.lane.saturating_add(1).saturating_mul(LANE);
     let (edge, x) = if arrow.is_back() {
-        (frame.left, frame.left.saturating_sub(away))
+        (boxes.left, boxes.left.saturating_sub(away))
     } else {
-        (frame.right(), frame.right().saturating_add(away))
+        (boxes.right(), boxes.right().saturating_add(away))
     };
-    let from = box_top(arrow.from).saturating_add(16);
-    let to = box_top(arrow.to).saturating_add(8);
+    let from = port(boxes, ends, arrow.from);
+    let to = port(boxes, ends, arrow.to);
     let class = class_of(arrow);
     writeln!(
         out,
@@ -139,7 +223,9 @@ fn lane_count(lanes: &[Lane]) -> usize {
 fn labels(alloc: Global, prog: &Prog) -> Result<Vec<String>, AllocError> {
     let mut labels = Vec::new(alloc);
     for (place, insn) in prog.body().iter().enumerate() {
-        labels.push(format!(in alloc; "{place} {insn}")?)?;
+        let mut label = format!(in alloc; "{place} ")?;
+        push_insn(alloc, &mut label, insn)?;
+        labels.push(label)?;
     }
     Ok(labels)
 }
@@ -147,7 +233,7 @@ fn labels(alloc: Global, prog: &Prog) -> Result<Vec<String>, AllocError> {
 fn widest(labels: &[String]) -> usize {
     let mut most = 0;
     for label in labels {
-        most = most.max(label.as_str().chars().count());
+        most = most.max(width(label.as_str()));
     }
     most
 }
@@ -161,28 +247,33 @@ fn beside(lanes: &[Lane]) -> usize {
 /// Writes the boxes.
 fn push_boxes(
     out: &mut String,
-    frame: Frame,
+    boxes: &Boxes,
     prog: &Prog,
     labels: &[String],
 ) -> Result<(), AllocError> {
     for ((place, insn), label) in prog.body().iter().enumerate().zip(labels.iter()) {
-        push_box(out, frame, place, insn, label.as_str())?;
+        push_box(out, boxes, place, insn, label.as_str())?;
     }
     Ok(())
 }
 
-fn push_shorts(out: &mut String, frame: Frame, arrows: &[Arrow]) -> Result<(), AllocError> {
+fn push_shorts(out: &mut String, boxes: &Boxes, arrows: &[Arrow]) -> Result<(), AllocError> {
     for arrow in arrows {
         if arrow.is_short() {
-            push_short(out, frame, *arrow)?;
+            push_short(out, boxes, *arrow)?;
         }
     }
     Ok(())
 }
 
-fn push_longs(out: &mut String, frame: Frame, lanes: &[Lane]) -> Result<(), AllocError> {
+fn push_longs(
+    out: &mut String,
+    boxes: &Boxes,
+    ends: &mut Vec<usize>,
+    lanes: &[Lane],
+) -> Result<(), AllocError> {
     for lane in lanes {
-        push_long(out, frame, *lane)?;
+        push_long(out, boxes, ends, *lane)?;
     }
     Ok(())
 }
@@ -196,28 +287,56 @@ struct Drawing<'d> {
     back: &'d [Lane],
 }
 
-fn push_drawing(out: &mut String, prog: &Prog, drawing: Drawing<'_>) -> Result<(), AllocError> {
-    let frame = Frame {
-        left: beside(drawing.back),
-        width: widest(drawing.labels)
-            .saturating_add(2)
-            .saturating_mul(CHARACTER),
-    };
-    let width = frame.right().saturating_add(beside(drawing.on));
-    let height = box_top(drawing.labels.len()).saturating_add(MARGIN);
+/// Writes what stands before the boxes, up to the ground, and the legend below them.
+fn push_head(out: &mut String, width: usize, bottom: usize, title: &str) -> Result<(), AllocError> {
+    let height = bottom.saturating_add(LEGEND_HEIGHT);
     write!(
         out,
-        "<svg xmlns=\"http://www.w3.org/2000/svg\" width=\"{width}\" height=\"{height}\">\n{STYLE}{HEADS}"
+        "<svg xmlns=\"http://www.w3.org/2000/svg\" viewBox=\"0 0 {width} {height}\" width=\"{width}\" height=\"{height}\">\n<title>"
     )?;
-    push_boxes(out, frame, prog, drawing.labels)?;
-    push_shorts(out, frame, drawing.arrows)?;
-    push_longs(out, frame, drawing.on)?;
-    push_longs(out, frame, drawing.back)?;
+    push_escaped(out, title)?;
+    writeln!(
+        out,
+        "</title>\n{STYLE}{HEADS}<rect width=\"{width}\" height=\"{height}\" class=\"ground\"/>\n\
+<g transform=\"translate({MARGIN},{bottom})\">{LEGEND}</g>"
+    )
+}
+
+fn push_drawing(
+    alloc: Global,
+    out: &mut String,
+    prog: &Prog,
+    drawing: Drawing<'_>,
+    title: &str,
+) -> Result<(), AllocError> {
+    let boxes = placed_boxes(alloc, drawing.labels, drawing.on, drawing.back)?;
+    let width = boxes
+        .right()
+        .saturating_add(beside(drawing.on))
+        .max(LEGEND_WIDTH);
+    let bottom = boxes
+        .bottom(drawing.labels.len().saturating_sub(1))
+        .saturating_add(BETWEEN);
+    push_head(out, width, bottom, title)?;
+    push_boxes(out, &boxes, prog, drawing.labels)?;
+    push_shorts(out, &boxes, drawing.arrows)?;
+    push_longs(
+        out,
+        &boxes,
+        &mut no_ends(alloc, drawing.labels)?,
+        drawing.on,
+    )?;
+    push_longs(
+        out,
+        &boxes,
+        &mut no_ends(alloc, drawing.labels)?,
+        drawing.back,
+    )?;
     out.push_str("</svg>\n")
 }
 
-/// The program as a picture in SVG.
-pub fn svg(alloc: Global, prog: &Prog) -> Result<String, AllocError> {
+/// The program as a picture in SVG, under this title. It has at most `MOST_BOXES` instructions.
+pub fn svg(alloc: Global, prog: &Prog, title: &str) -> Result<String, AllocError> {
     let labels = labels(alloc, prog)?;
     let arrows = arrows(alloc, prog)?;
     let on = lanes(alloc, &arrows, false)?;
@@ -229,6 +348,6 @@ pub fn svg(alloc: Global, prog: &Prog) -> Result<String, AllocError> {
         on: &on,
         back: &back,
     };
-    push_drawing(&mut out, prog, drawing)?;
+    push_drawing(alloc, &mut out, prog, drawing, title)?;
     Ok(out)
 }

@@ -1,47 +1,86 @@
 //! A run, instruction by instruction.
 
-use crate::find::no_place;
-use crate::list::program;
+use crate::excerpt::{head, push_shown, push_times, tail, width};
+use crate::find::{no_place, push_taken};
+use crate::insns::push_noted;
+use crate::list::{Shown, program};
 use crate::outcome::Trouble;
 use crate::refusals::refusal;
 use crate::request::Request;
 use fancy_expr::error::Error;
-use fancy_vm::vm::{Prog, Progress, RunOptions, Stepper};
+use fancy_vm::vm::{Progress, RunOptions, Stepper};
 use std::alloc::{AllocError, Global};
 
 /// How many instructions a run may execute where nothing else is said.
 const MOST_STEPS: u64 = 1_000;
 
-const HEAD: &str = "    step    byte  branches  backtracks  instruction\n";
+const HEAD: &str = "    step    byte  text at the byte        branches  backtracks  instruction\n";
+
+/// So many characters of the text are shown before the byte, and so many from there on.
+const AROUND: usize = 10;
+
+/// Writes the text around the byte, with a bar before the character there.
+fn push_around(out: &mut String, text: &str, at: usize) -> Result<(), AllocError> {
+    let (before, _) = tail(text.get(..at).unwrap_or(""), AROUND);
+    let (behind, _) = head(text.get(at..).unwrap_or(""), AROUND);
+    push_times(out, ' ', AROUND.saturating_sub(width(before)))?;
+    push_shown(out, before)?;
+    out.push('|')?;
+    push_shown(out, behind)?;
+    push_times(out, ' ', AROUND.saturating_sub(width(behind)))
+}
+
+/// What is run, and for whom it is shown.
+#[derive(Clone, Copy)]
+struct Run<'r> {
+    alloc: Global,
+    shown: &'r Shown,
+    text: &'r str,
+}
 
 /// Writes where the stepper is: the instruction that is next, and how many were executed before.
-fn push_standing(out: &mut String, prog: &Prog, stepper: &Stepper<'_>) -> Result<(), AllocError> {
+fn push_standing(out: &mut String, run: Run<'_>, stepper: &Stepper<'_>) -> Result<(), AllocError> {
     let (steps, pc, ix) = (stepper.steps(), stepper.pc(), stepper.ix());
+    write!(out, "{steps:>8}  {ix:>6}  ")?;
+    push_around(out, run.text, ix)?;
     let (branches, backtracks) = (stepper.branches(), stepper.backtracks());
-    write!(
-        out,
-        "{steps:>8}  {ix:>6}  {branches:>8}  {backtracks:>10}  {pc}"
-    )?;
-    if let Some(insn) = prog.body().get(pc) {
-        write!(out, " {insn}")?;
+    write!(out, "  {branches:>8}  {backtracks:>10}  {pc} ")?;
+    if let Some(insn) = run.shown.prog.body().get(pc) {
+        push_noted(run.alloc, out, insn, &run.shown.groups)?;
     }
     out.push('\n')
 }
 
-/// Writes the answer: start and end of each group, `-` for one that is not set, or that there is no match.
-fn push_numbers(out: &mut String, found: &Option<Vec<usize>>) -> Result<(), AllocError> {
+/// Writes where a group stands and what it takes, if it is set.
+fn push_span(out: &mut String, text: &str, start: usize, end: usize) -> Result<(), AllocError> {
+    if end == usize::MAX {
+        return out.push_str("not set\n");
+    }
+    write!(out, "{start}..{end}  ")?;
+    push_taken(out, text.get(start..end).unwrap_or(""))?;
+    out.push('\n')
+}
+
+/// Writes the answer: the match and each group, or that there is none.
+fn push_numbers(
+    out: &mut String,
+    run: Run<'_>,
+    found: &Option<Vec<usize>>,
+) -> Result<(), AllocError> {
     let Some(numbers) = found else {
         return out.push_str("no match\n");
     };
-    out.push_str("match ")?;
-    for number in numbers.iter() {
-        if *number == usize::MAX {
-            out.push_str(" -")?;
-        } else {
-            write!(out, " {number}")?;
+    out.push_str("match  ")?;
+    for (group, pair) in numbers.chunks(2).enumerate() {
+        if group > 0 {
+            run.shown.groups.names.push_group(out, group)?;
+            out.push_str("  ")?;
+        }
+        if let [start, end] = pair {
+            push_span(out, run.text, *start, *end)?;
         }
     }
-    out.push('\n')
+    Ok(())
 }
 
 /// How the program is run: with an end, for what is printed.
@@ -56,17 +95,17 @@ fn options(request: &Request) -> RunOptions {
 /// Writes each instruction that the stepper executes, so many at most and one more, and last what it answers.
 fn push_steps(
     out: &mut String,
-    prog: &Prog,
+    run: Run<'_>,
     stepper: Stepper<'_>,
     most: u64,
 ) -> Result<(), AllocError> {
     out.push_str(HEAD)?;
     let mut stepper = stepper;
     for _ in 0..=most {
-        push_standing(out, prog, &stepper)?;
+        push_standing(out, run, &stepper)?;
         match stepper.step() {
             Ok(Progress::GoesOn(further)) => stepper = further,
-            Ok(Progress::Ends(found)) => return push_numbers(out, &found),
+            Ok(Progress::Ends(found)) => return push_numbers(out, run, &found),
             Err(error) => return writeln!(out, "{error}"),
         }
     }
@@ -76,16 +115,18 @@ fn push_steps(
 /// What is written of a run, and nothing where it cannot begin at its place.
 fn written(
     alloc: Global,
-    prog: &Prog,
+    shown: &Shown,
     text: &str,
     options: &RunOptions,
 ) -> Result<Option<String>, Error> {
+    let prog = &shown.prog;
     if !options.fits(prog, text) {
         return Ok(None);
     }
     let stepper = Stepper::new(alloc, prog, text, options)?;
     let mut out = String::new(alloc);
-    push_steps(&mut out, prog, stepper, options.step_limit)?;
+    let run = Run { alloc, shown, text };
+    push_steps(&mut out, run, stepper, options.step_limit)?;
     Ok(Some(out))
 }
 
@@ -93,8 +134,8 @@ fn written(
 pub fn trace(alloc: Global, request: &Request, text: &str) -> Result<String, Trouble> {
     let options = options(request);
     let written = {
-        let prog = program(alloc, request)?;
-        written(alloc, &prog, text, &options)
+        let shown = program(alloc, request)?;
+        written(alloc, &shown, text, &options)
     };
     match written {
         Ok(Some(written)) => Ok(written),

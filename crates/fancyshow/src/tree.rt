@@ -171,7 +171,8 @@ fn refused_page<'a>(
 ) -> Result<String, Trouble> {
     match error {
         Error::CompileError(refused) => {
-            Ok(write_page(alloc, request, tree, info, Some(refused))?)
+            let page = write_page(alloc, request, tree, info, Some(refused))?;
+            Err(Trouble::Refused(page))
         }
         _ => Err(refusal(alloc, request.source.as_str(), error)),
     }

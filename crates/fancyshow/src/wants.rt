@@ -31,7 +31,9 @@ const TREE_OR_CLOSE: &str = "a tree, or a closing parenthesis";
 
 const NUMBER: &str = "a number";
 
-const QUOTED: &str = "a quoted text with an end, and with no escapes but \\\" \\\\ \\n \\r \\u{..}";
+const QUOTE: &str = "a quote, which ends the text";
+
+const ESCAPE: &str = "an escape: \\\" \\\\ \\n \\r or \\u{..}, with the number of a character";
 
 const WORD: &str = "a word that begins a form, as cat, alt, grp, rep or set";
 
@@ -91,35 +93,14 @@ fn of_part(part: Part) -> &'static str {
     }
 }
 
-/// Whether the form may be closed once so many things stand in it.
-fn may_close(form: Form, count: usize) -> bool {
-    let least = match form {
-        Form::Cat | Form::Bytes => 0,
-        Form::Alt | Form::Enclosing(_) | Form::Set { .. } | Form::Naming(_) | Form::Verb => 1,
-        Form::Leveled(_) | Form::AbsentExpression => 2,
-        Form::Repeat { .. } | Form::Conditional => 3,
-    };
-    least <= count
-}
-
-impl Part {
-    fn is_complete(&self) -> bool {
-        match self.head {
-            Head::Text => self.count > 0,
-            Head::Parenthesis => false,
-            Head::Form(form) => may_close(form, self.count),
-        }
-    }
-}
-
 /// The open parts of a text that has been read up to some token, the text itself first.
 #[derive(Drop)]
-pub struct Parts {
+struct Parts {
     parts: Vec<Part>,
 }
 
 impl Parts {
-    pub fn new(alloc: Global) -> Result<Parts, AllocError> {
+    fn new(alloc: Global) -> Result<Parts, AllocError> {
         let mut parts = Vec::new(alloc);
         parts.push(Part {
             head: Head::Text,
@@ -145,7 +126,7 @@ impl Parts {
     }
 
     /// Reads one token more. Of a part that is opened, the one around it counts it when it is opened.
-    pub fn take(&mut self, token: &Token) -> Result<(), AllocError> {
+    fn take(&mut self, token: &Token) -> Result<(), AllocError> {
         match token {
             Token::Opened => {
                 self.count_one();
@@ -164,16 +145,6 @@ impl Parts {
         Ok(())
     }
 
-    /// Whether each open part may be closed.
-    pub fn are_complete(&self) -> bool {
-        self.parts.iter().all(|part| part.is_complete())
-    }
-
-    /// How many parentheses are open.
-    pub fn open(&self) -> usize {
-        self.parts.len().saturating_sub(1)
-    }
-
     /// What can stand behind the last token.
     fn wanted(&self) -> &'static str {
         match self.parts.last() {
@@ -183,18 +154,77 @@ impl Parts {
     }
 }
 
+/// Where a text cannot be read on, and what was wanted there.
+#[derive(Clone, Copy)]
+pub struct Wanted {
+    pub at: usize,
+    pub words: &'static str,
+}
+
+/// The length of a character's number in braces, behind the first one.
+fn code_length(text: &str) -> Option<usize> {
+    let end = text.find('}')?;
+    let mut code: u32 = 0;
+    for c in text.get(..end)?.chars() {
+        code = code.saturating_mul(16).saturating_add(c.to_digit(16)?);
+    }
+    char::from_u32(code)?;
+    if matches!(end, 1..=6) {
+        end.checked_add(1)
+    } else {
+        None
+    }
+}
+
+/// The length of an escape behind its backslash.
+fn escape_length(text: &str) -> Option<usize> {
+    match text.chars().next()? {
+        '"' | '\\' | 'n' | 'r' => Some(1),
+        'u' => code_length(text.strip_prefix("u{")?)?.checked_add(2),
+        _ => None,
+    }
+}
+
+/// The first backslash from a byte on that begins no escape.
+fn wrong_escape(text: &str, from: usize) -> Option<usize> {
+    let mut at = from;
+    for _ in 0..text.len() {
+        let escape = at.checked_add(text.get(at..)?.find('\\')?)?;
+        let behind = escape.checked_add(1)?;
+        match escape_length(text.get(behind..)?) {
+            Some(length) => at = behind.checked_add(length)?,
+            None => return Some(escape),
+        }
+    }
+    None
+}
+
+/// What is wanted of a quoted text that is malformed: an escape where a wrong one stands, or a quote at its end.
+fn of_broken(text: &str, begin: usize) -> Wanted {
+    match wrong_escape(text, begin) {
+        Some(at) => Wanted { at, words: ESCAPE },
+        None => Wanted {
+            at: text.len(),
+            words: QUOTE,
+        },
+    }
+}
+
 /// What was wanted at this byte of the text, where no tree can be read on.
-pub fn wanted(alloc: Global, text: &str, at: usize) -> Result<&'static str, Error> {
+pub fn wanted_at(alloc: Global, text: &str, at: usize) -> Result<Wanted, Error> {
     let mut parts = Parts::new(alloc)?;
     let placed = tokens(alloc, text)?;
     for Placed { at: begins, token } in placed.iter() {
         if *begins >= at {
             if matches!(token, Token::Broken) {
-                return Ok(QUOTED);
+                return Ok(of_broken(text, *begins));
             }
             break;
         }
         parts.take(token)?;
     }
-    Ok(parts.wanted())
+    Ok(Wanted {
+        at,
+        words: parts.wanted(),
+    })
 }

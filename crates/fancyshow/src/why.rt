@@ -1,177 +1,184 @@
-//! How much of a pattern or tree matches where all of it does not: the longest beginning that does, and what does not follow.
+//! Why a text has no match: how far the attempt comes that comes furthest, and what does not follow there.
 
 use crate::excerpt::push_excerpt;
 use crate::find::{captures, push_match, push_taken};
+use crate::furthest::{Furthest, watch_run};
+use crate::list::compile;
+use crate::marks::{Marked, notation};
 use crate::outcome::Trouble;
-use crate::prefixes::explain_pattern;
 use crate::refusals::refusal;
 use crate::request::Request;
-use crate::wants::Parts;
-use fancy_notation::tokens::{Placed, Token, tokens};
+use crate::source::read;
+use fancy_command::arguments::Arguments;
+use fancy_expr::error::Error;
+use fancy_expr::expr::{Absent, Expr, ExprTree};
+use fancy_notation::notation::read_tree;
+use fancy_railroad::names::GroupNames;
+use fancy_railroad::words::{frame_words, push_words};
+use fancy_vm::vm::RunOptions;
 use std::alloc::{AllocError, Global};
 
-/// A beginning of a tree: so many of its tokens, and parentheses that close what is open behind them.
-#[derive(Clone, Copy)]
-struct Cut {
-    tokens: usize,
-    open: usize,
-}
+/// A run is watched for so many instructions.
+const MOST_STEPS: u64 = 200_000;
 
-/// The beginnings of the tree that are trees themselves, from the shortest on.
-fn cuts(alloc: Global, placed: &[Placed]) -> Result<Vec<Cut>, AllocError> {
-    let mut cuts = Vec::new(alloc);
-    let mut parts = Parts::new(alloc)?;
-    for (i, Placed { token, .. }) in placed.iter().enumerate() {
-        parts.take(token)?;
-        if parts.are_complete() {
-            cuts.push(Cut {
-                tokens: i.saturating_add(1),
-                open: parts.open(),
-            })?;
-        }
-    }
-    Ok(cuts)
-}
-
-/// The byte at which the token of this number begins, or the end of the text.
-fn begin_of(text: &str, placed: &[Placed], number: usize) -> usize {
-    match placed.get(number) {
-        Some(token) => token.at,
-        None => text.len(),
+/// How the marked tree is compiled and run: as the tree itself, but for what limits and shortens the program.
+fn watched(arguments: &Arguments) -> Arguments {
+    Arguments {
+        max_prog: None,
+        longest: false,
+        ..*arguments
     }
 }
 
-/// The text of a beginning.
-fn beginning(alloc: Global, text: &str, placed: &[Placed], cut: Cut) -> Result<String, AllocError> {
-    let taken = text.get(..begin_of(text, placed, cut.tokens)).unwrap_or("");
-    let mut out = String::from_str(alloc, taken.trim_end())?;
-    for _ in 0..cut.open {
-        out.push(')')?;
-    }
-    Ok(out)
-}
-
-/// The node that begins with the token of this number: a form up to its last parenthesis, or one token.
-fn node<'t>(text: &'t str, placed: &[Placed], number: usize) -> &'t str {
-    let mut open: usize = 0;
-    let mut last = number;
-    for (i, Placed { token, .. }) in placed.iter().enumerate().skip(number) {
-        last = i;
-        match token {
-            Token::Opened => open = open.saturating_add(1),
-            Token::Closed => open = open.saturating_sub(1),
-            _ => {}
-        }
-        if open == 0 {
-            break;
-        }
-    }
-    let begin = begin_of(text, placed, number);
-    let end = begin_of(text, placed, last.saturating_add(1));
-    text.get(begin..end).unwrap_or("").trim_end()
-}
-
-/// Where a beginning matches first, if it is accepted and does.
-pub fn found(
-    alloc: Global,
-    request: &Request,
-    text: &str,
-) -> Result<Option<(usize, usize)>, Trouble> {
-    match captures(alloc, request, text) {
-        Ok((Some(captures), _)) => {
-            let whole = captures.whole();
-            Ok(Some((whole.start(), whole.end())))
-        }
-        Err(Trouble::Memory) => Err(Trouble::Memory),
-        _ => Ok(None),
-    }
-}
-
-/// Writes the beginning that matches, where it does, and what does not follow there.
-pub fn report(
-    alloc: Global,
-    text: &str,
-    (start, end): (usize, usize),
-    request: &Request,
-    next: &str,
-) -> Result<String, AllocError> {
-    let taken = text.get(start..end).unwrap_or("");
-    let what = if request.is_tree { "tree" } else { "pattern" };
-    let beginning = request.source.as_str();
-    let mut out = format!(in alloc;
-        "no match\nthis beginning of the {what} matches:\n  {beginning}\nat {start}..{end}  "
-    )?;
-    push_taken(&mut out, taken)?;
-    write!(out, "\nand this does not follow:\n  {next}")?;
-    push_excerpt(&mut out, text, end)?;
-    out.push('\n')?;
-    Ok(out)
-}
-
-/// What there is to say of this beginning of the tree, if it matches.
-fn explain_cut(
-    alloc: Global,
-    request: &Request,
-    text: &str,
-    placed: &[Placed],
-    cut: Cut,
-) -> Result<Option<String>, Trouble> {
-    let tree = request.source.as_str();
-    let shorter = Request {
-        source: beginning(alloc, tree, placed, cut)?,
-        is_tree: true,
-        arguments: request.arguments,
+/// How far the attempts come, for the text of a marked tree.
+fn watch(alloc: Global, marked: &Request, text: &str) -> Result<Option<Furthest>, Error> {
+    let tree = read_tree(alloc, marked.source.as_str())?;
+    let prog = compile(alloc, marked, &tree)?;
+    let options = RunOptions {
+        step_limit: MOST_STEPS,
+        ..marked.arguments.running()
     };
-    match found(alloc, &shorter, text)? {
-        Some(span) => {
-            let next = node(tree, placed, cut.tokens);
-            Ok(Some(report(alloc, text, span, &shorter, next)?))
-        }
-        None => Ok(None),
+    watch_run(alloc, &prog, text, &options, MOST_STEPS)
+}
+
+/// A literal in quotes.
+fn literal(alloc: Global, text: &str, casei: bool) -> Result<String, AllocError> {
+    let note = if casei { " in any case" } else { "" };
+    format!(in alloc; "{text:?}{note}")
+}
+
+/// What a look-around asks of what stands in it, and that in the notation.
+fn framed(alloc: Global, expr: &Expr, body: &Expr) -> Result<String, AllocError> {
+    let words = frame_words(expr);
+    let body = notation(alloc, body)?;
+    format!(in alloc; "{words} {body}")
+}
+
+fn words(alloc: Global, expr: &Expr, names: &GroupNames) -> Result<String, AllocError> {
+    let mut out = String::new(alloc);
+    push_words(&mut out, expr, names)?;
+    Ok(out)
+}
+
+/// What is wanted where this leaf fails: in words, or of a tree in the notation.
+fn wanted(
+    alloc: Global,
+    expr: &Expr,
+    names: &GroupNames,
+    is_tree: bool,
+) -> Result<String, AllocError> {
+    if is_tree {
+        return notation(alloc, expr);
+    }
+    match expr {
+        Expr::Literal { val, casei } => literal(alloc, val.as_str(), *casei),
+        Expr::LookAround(body, _) => framed(alloc, expr, body),
+        Expr::Absent(Absent::Repeater(body)) => framed(alloc, expr, body),
+        _ => words(alloc, expr, names),
     }
 }
 
-/// What there is to say of the longest beginning that matches, of these from the shortest on.
-fn explain_longest(
+/// What is wanted at the furthest place, each once.
+fn all_wanted(
+    alloc: Global,
+    leaves: &[&Expr],
+    furthest: &Furthest,
+    names: &GroupNames,
+    is_tree: bool,
+) -> Result<Vec<String>, AllocError> {
+    let mut all: Vec<String> = Vec::new(alloc);
+    for mark in furthest.wanted.iter() {
+        if let Some(leaf) = leaves.get(mark.saturating_sub(1)) {
+            let said = wanted(alloc, leaf, names, is_tree)?;
+            if !all.contains(&said) {
+                all.push(said)?;
+            }
+        }
+    }
+    Ok(all)
+}
+
+/// Writes what the attempt takes, or that none takes anything.
+fn push_attempt(out: &mut String, text: &str, furthest: &Furthest) -> Result<(), AllocError> {
+    let (start, at) = (furthest.start, furthest.at);
+    if start == at {
+        return write!(out, "no attempt takes a character\nat byte {at} ");
+    }
+    write!(out, "the attempt that comes furthest takes {start}..{at}  ")?;
+    push_taken(out, text.get(start..at).unwrap_or(""))?;
+    out.push_str("\nand ")
+}
+
+/// Writes how far the attempt comes, and what does not follow there.
+fn push_furthest(
+    out: &mut String,
+    text: &str,
+    furthest: &Furthest,
+    all: &[String],
+) -> Result<(), AllocError> {
+    push_attempt(out, text, furthest)?;
+    out.push_str(if all.len() > 1 {
+        "none of these follows:"
+    } else {
+        "this does not follow:"
+    })?;
+    for said in all {
+        write!(out, "\n  {said}")?;
+    }
+    push_excerpt(out, text, furthest.at)?;
+    if furthest.is_cut {
+        write!(
+            out,
+            "\nonly the first {MOST_STEPS} instructions of the run were watched"
+        )?;
+    }
+    out.push('\n')
+}
+
+/// Explains why the tree has no match, by a run of it with marks.
+fn explain_tree(
     alloc: Global,
     request: &Request,
+    tree: &ExprTree,
     text: &str,
-    placed: &[Placed],
-    cuts: &[Cut],
-) -> Result<String, Trouble> {
-    for cut in cuts.iter().rev().skip(1) {
-        if let Some(said) = explain_cut(alloc, request, text, placed, *cut)? {
-            return Ok(said);
-        }
+) -> Result<String, Error> {
+    let mut marked = Marked::new(alloc);
+    marked.push_tree(&tree.expr)?;
+    let Marked {
+        text: source,
+        leaves,
+    } = marked;
+    let marked = Request {
+        source,
+        is_tree: true,
+        arguments: watched(&request.arguments),
+    };
+    let mut out = String::from_str(alloc, "no match\n")?;
+    if let Some(furthest) = watch(alloc, &marked, text)? {
+        let names = GroupNames::new(alloc, &tree.named_groups)?;
+        let all = all_wanted(alloc, &leaves, &furthest, &names, request.is_tree)?;
+        push_furthest(&mut out, text, &furthest, &all)?;
     }
-    Ok(String::from_str(alloc, "no match, and no beginning of the tree matches\n")?)
-}
-
-/// The longest beginning of the tree that matches, which has no match itself, and what does not follow.
-fn explain_tree(alloc: Global, request: &Request, text: &str) -> Result<String, Trouble> {
-    let tree = request.source.as_str();
-    match tokens(alloc, tree) {
-        Ok(placed) => {
-            let cuts = cuts(alloc, &placed)?;
-            explain_longest(alloc, request, text, &placed, &cuts)
-        }
-        Err(error) => Err(refusal(alloc, tree, &error)),
-    }
+    Ok(out)
 }
 
 fn explain(alloc: Global, request: &Request, text: &str) -> Result<String, Trouble> {
-    if request.is_tree {
-        explain_tree(alloc, request, text)
-    } else {
-        explain_pattern(alloc, request, text)
+    let explained = {
+        let tree = read(alloc, request)?;
+        explain_tree(alloc, request, &tree, text)
+    };
+    match explained {
+        Ok(out) => Ok(out),
+        Err(error) => Err(refusal(alloc, request.source.as_str(), &error)),
     }
 }
 
-/// Why a text has no match: the longest beginning of the pattern or tree that has one, and what does not follow there.
+/// Why a text has no match: how far the attempt comes that comes furthest, and what does not follow there.
 pub fn why(alloc: Global, request: &Request, text: &str) -> Result<String, Trouble> {
-    match captures(alloc, request, text)? {
-        (None, _) => explain(alloc, request, text),
-        (Some(captures), _) => {
+    let (found, _groups) = captures(alloc, request, text)?;
+    match found {
+        None => explain(alloc, request, text),
+        Some(captures) => {
             let mut out = String::from_str(alloc, "there is a match  ")?;
             push_match(&mut out, &captures.whole())?;
             Ok(out)

@@ -1,0 +1,4 @@
+use Rattle.fancyshow.proofs.marks.Marked.+push_node.Given as goal
+
+abbrev pub decreases-push_node : goal.decreases-push_node
+decreases-push_node l = l.levels

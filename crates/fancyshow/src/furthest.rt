@@ -1,0 +1,156 @@
+//! How far the attempts of a run come.
+
+use crate::marks::mark_at;
+use fancy_expr::error::Error;
+use fancy_vm::vm::{Insn, Prog, Progress, RunOptions, Stepper};
+use std::alloc::{AllocError, Global};
+
+/// So many leaves are told of those that fail in one place.
+const MOST_WANTED: usize = 8;
+
+/// The attempt that comes furthest: where it begins, how far it comes, and the leaves that fail there, by their marks.
+#[derive(Drop)]
+pub struct Furthest {
+    pub start: usize,
+    pub at: usize,
+    pub wanted: Vec<usize>,
+    /// The last of them in the tree.
+    last: usize,
+    /// The run was not watched to its end.
+    pub is_cut: bool,
+}
+
+impl Furthest {
+    /// How many bytes the attempt takes.
+    fn len(&self) -> usize {
+        self.at.saturating_sub(self.start)
+    }
+
+    fn is_at(&self, start: usize, at: usize) -> bool {
+        start == self.start && at == self.at
+    }
+
+    /// Whether an attempt that began at `start` takes more, or as much and fails at a later leaf of the tree.
+    fn is_passed_by(&self, start: usize, leaf: Leaf) -> bool {
+        let len = leaf.at.saturating_sub(start);
+        len > self.len() || (len == self.len() && leaf.mark > self.last)
+    }
+
+    /// A leaf fails at this place, in an attempt that began at `start`.
+    fn add(&mut self, start: usize, leaf: Leaf) -> Result<(), AllocError> {
+        if !self.is_at(start, leaf.at) && self.is_passed_by(start, leaf) {
+            self.wanted.clear();
+            self.last = 0;
+            self.start = start;
+            self.at = leaf.at;
+        }
+        let is_new = self.wanted.len() < MOST_WANTED && !self.wanted.contains(&leaf.mark);
+        if self.is_at(start, leaf.at) && is_new {
+            self.wanted.push(leaf.mark)?;
+            self.last = self.last.max(leaf.mark);
+        }
+        Ok(())
+    }
+}
+
+/// The leaf that is being tried: its mark, the place, and how many branches there were.
+#[derive(Clone, Copy)]
+struct Leaf {
+    mark: usize,
+    at: usize,
+    branches: usize,
+}
+
+/// Watches a run: where its attempt began, and the leaf that is being tried.
+#[derive(Drop)]
+struct Watch<'p> {
+    prog: &'p Prog,
+    start: usize,
+    leaf: Option<Leaf>,
+    furthest: Furthest,
+}
+
+impl Watch<'_> {
+    /// Before an instruction is executed.
+    fn look(&mut self, stepper: &Stepper<'_>) {
+        let place = stepper.pc();
+        if let Some(mark) = mark_at(self.prog, place) {
+            self.leaf = Some(Leaf {
+                mark,
+                at: stepper.ix(),
+                branches: stepper.branches(),
+            });
+            return;
+        }
+        match self.prog.body().get(place) {
+            Some(Insn::Save(0)) if self.is_first(place) => self.start = stepper.ix(),
+            Some(Insn::EndAtomic) => self.leaf = None,
+            _ => {}
+        }
+    }
+
+    /// Whether an attempt begins with the instruction at this place: `\K` is such an instruction too.
+    fn is_first(&self, place: usize) -> bool {
+        place <= 3
+    }
+
+    /// Once an instruction was executed, with so many branches left: the leaf failed if one from before it was taken.
+    fn note(&mut self, branches: Option<usize>) -> Result<(), AllocError> {
+        let Some(leaf) = self.leaf else {
+            return Ok(());
+        };
+        if matches!(branches, Some(left) if left >= leaf.branches) {
+            return Ok(());
+        }
+        self.leaf = None;
+        if leaf.mark == 0 {
+            return Ok(());
+        }
+        self.furthest.add(self.start, leaf)
+    }
+
+    /// Watches up to so many instructions.
+    fn run(&mut self, stepper: Stepper<'_>, most: u64) -> Result<(), Error> {
+        let mut stepper = stepper;
+        for _ in 0..most {
+            self.look(&stepper);
+            match stepper.step()? {
+                Progress::GoesOn(further) => {
+                    self.note(Some(further.branches()))?;
+                    stepper = further;
+                }
+                Progress::Ends(_) => return Ok(self.note(None)?),
+            }
+        }
+        self.furthest.is_cut = true;
+        Ok(())
+    }
+}
+
+/// The attempt of the run that comes furthest, of those in so many instructions; none where the run cannot begin.
+pub fn watch_run(
+    alloc: Global,
+    prog: &Prog,
+    text: &str,
+    options: &RunOptions,
+    most: u64,
+) -> Result<Option<Furthest>, Error> {
+    if !options.fits(prog, text) {
+        return Ok(None);
+    }
+    let stepper = Stepper::new(alloc, prog, text, options)?;
+    let mut watch = Watch {
+        prog,
+        start: options.pos,
+        leaf: None,
+        furthest: Furthest {
+            start: options.pos,
+            at: options.pos,
+            wanted: Vec::new(alloc),
+            last: 0,
+            is_cut: false,
+        },
+    };
+    watch.run(stepper, most)?;
+    Ok(Some(watch.furthest))
+}

@@ -1,0 +1,107 @@
+//! An instruction for people: as the listing of the program writes it, with characters in quotes, none that cannot be
+//! seen, and what its slots hold.
+
+use crate::excerpt::push_times;
+use crate::find::Groups;
+use crate::nodes::{push_character, push_quoted};
+use fancy_characters::classes::CharClassMatcher;
+use fancy_vm::vm::Insn;
+use std::alloc::{AllocError, Global};
+
+/// Where a note begins behind an instruction.
+const COLUMN: usize = 28;
+
+/// Writes the text with escapes in the place of control characters.
+fn push_visible(out: &mut String, text: &str) -> Result<(), AllocError> {
+    for c in text.chars() {
+        if c.is_control() {
+            push_character(out, c)?;
+        } else {
+            out.push(c)?;
+        }
+    }
+    Ok(())
+}
+
+fn push_class(
+    alloc: Global,
+    out: &mut String,
+    class: &CharClassMatcher,
+    insn: &Insn,
+) -> Result<(), AllocError> {
+    match class {
+        CharClassMatcher::Newline { unicode: true } => out.push_str("CharClass(Newline)"),
+        CharClassMatcher::Newline { unicode: false } => out.push_str("CharClass(ASCII newline)"),
+        _ => push_listed(alloc, out, insn),
+    }
+}
+
+/// Writes the instruction as the listing does.
+fn push_listed(alloc: Global, out: &mut String, insn: &Insn) -> Result<(), AllocError> {
+    let listed = format!(in alloc; "{insn}")?;
+    push_visible(out, listed.as_str())
+}
+
+/// Writes the instruction alone.
+pub fn push_insn(alloc: Global, out: &mut String, insn: &Insn) -> Result<(), AllocError> {
+    match insn {
+        Insn::Lit(text) => {
+            out.push_str("Lit(")?;
+            push_quoted(out, text.as_str())?;
+            out.push(')')
+        }
+        Insn::CharClass(class) => push_class(alloc, out, class, insn),
+        _ => push_listed(alloc, out, insn),
+    }
+}
+
+/// The group of an instruction, and what stands before it and after it.
+fn group_of(insn: &Insn) -> Option<(&'static str, usize, &'static str)> {
+    match insn {
+        Insn::SaveCaptureGroupStart { group, .. } => Some(("", *group, " opens")),
+        Insn::SaveCaptureGroup { group, .. } => Some(("", *group, " closes")),
+        Insn::Backref {
+            slot,
+            casei: false,
+            ..
+        } => Some(("", slot / 2, "")),
+        Insn::Backref { slot, .. } => Some(("", slot / 2, ", folded")),
+        Insn::BackrefExistsCondition(group) => Some(("", *group, "")),
+        _ => None,
+    }
+}
+
+/// What the instruction does that has no group.
+fn words(insn: &Insn) -> &'static str {
+    match insn {
+        Insn::Save(0) => "start of the match",
+        Insn::Save(1) => "end of the match",
+        Insn::LitCasei(_) => "some characters folded",
+        _ => "",
+    }
+}
+
+/// Writes the instruction, and in a column behind it the group that it names.
+pub fn push_noted(
+    alloc: Global,
+    out: &mut String,
+    insn: &Insn,
+    groups: &Groups,
+) -> Result<(), AllocError> {
+    let start = out.len();
+    push_insn(alloc, out, insn)?;
+    let (before, group, after) = match group_of(insn) {
+        Some(found) => found,
+        None => (words(insn), 0, ""),
+    };
+    if before.is_empty() && group == 0 {
+        return Ok(());
+    }
+    let written = out.as_str().get(start..).unwrap_or("").chars().count();
+    push_times(out, ' ', COLUMN.saturating_sub(written).max(2))?;
+    out.push_str(before)?;
+    if group > 0 {
+        groups.names.push_group(out, group)?;
+    }
+    out.push_str(after)
+}

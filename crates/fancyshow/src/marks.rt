@@ -1,0 +1,161 @@
+//! A tree with marks before its leaves, by which a run of its program tells where it stands.
+//!
+//! A mark is `(nahead (cat (verb fail) "c"))`: it holds everywhere and takes nothing, and its character is a number that
+//! stands in the program. A node with a mark is compiled by itself.
+
+use crate::nodes::{has_brackets, push_head, push_unquoted};
+use fancy_expr::expr::{Absent, Expr};
+use fancy_expr::parts::{part, part_count};
+use fancy_vm::vm::{Insn, Prog};
+use std::alloc::{AllocError, Global};
+
+/// The character of mark 0, the first of those for private use in plane 15.
+const FIRST: usize = 0xf0000;
+
+/// So many leaves have marks.
+const MOST_LEAVES: usize = 50_000;
+
+/// How deep the nodes are that are written.
+pub const MOST_LEVELS: usize = 1_010;
+
+/// The text of a tree, and the leaves that have marks in it, from mark 1 on. Mark 0 is of no leaf.
+#[derive(Drop)]
+pub struct Marked<'e> {
+    pub text: String,
+    pub leaves: Vec<&'e Expr>,
+}
+
+/// Whether a run can fail at the node, and nothing below it is marked.
+fn is_leaf(expr: &Expr) -> bool {
+    match expr {
+        Expr::Empty | Expr::Concat(_) => false,
+        Expr::LookAround(_, _) | Expr::Absent(Absent::Repeater(_)) => true,
+        _ => part_count(expr) == 0,
+    }
+}
+
+/// Whether what stands in this place of a node has marks.
+fn has_marks_below(expr: &Expr, i: usize) -> bool {
+    match expr {
+        Expr::Conditional { .. } => i > 0,
+        _ => !is_leaf(expr),
+    }
+}
+
+/// The characters of a child that follows a literal of a sequence, and is one that is folded alike.
+fn joined(expr: &Expr, i: usize) -> Option<&str> {
+    let Expr::Concat(parts) = expr else {
+        return None;
+    };
+    match (parts.get(i.checked_sub(1)?)?, parts.get(i)?) {
+        (Expr::Literal { casei: before, .. }, Expr::Literal { val, casei }) if before == casei => {
+            Some(val.as_str())
+        }
+        _ => None,
+    }
+}
+
+impl<'e> Marked<'e> {
+    pub fn new(alloc: Global) -> Marked<'e> {
+        Marked {
+            text: String::new(alloc),
+            leaves: Vec::new(alloc),
+        }
+    }
+
+    fn push_mark(&mut self, number: usize) -> Result<(), AllocError> {
+        let code = FIRST.saturating_add(number);
+        let text = &mut self.text;
+        write!(text, "(nahead (cat (verb fail) \"\\u{{{code:x}}}\")) ")
+    }
+
+    /// Begins a sequence with the mark that the node has, if it has one.
+    fn open(&mut self, expr: &'e Expr) -> Result<bool, AllocError> {
+        let is_conditional = matches!(expr, Expr::Conditional { .. });
+        let is_marked = is_leaf(expr) && self.leaves.len() < MOST_LEAVES;
+        if is_marked {
+            self.leaves.push(expr)?;
+        }
+        if is_marked || is_conditional {
+            self.text.push_str("(cat ")?;
+            let number = if is_marked { self.leaves.len() } else { 0 };
+            self.push_mark(number)?;
+        }
+        Ok(is_marked || is_conditional)
+    }
+
+    /// Writes the node and those below it, with marks where they are asked for. Past so many levels nothing is written.
+    fn push_node(
+        &mut self,
+        expr: &'e Expr,
+        has_marks: bool,
+        levels: usize,
+    ) -> Result<(), AllocError> {
+        if levels == 0 {
+            return Ok(());
+        }
+        let is_open = has_marks && self.open(expr)?;
+        push_head(&mut self.text, expr)?;
+        for i in 0..part_count(expr) {
+            if !has_marks && self.join(expr, i)? {
+                continue;
+            }
+            self.text.push(' ')?;
+            let below = has_marks && has_marks_below(expr, i);
+            self.push_node(part(expr, i), below, levels - 1)?;
+        }
+        self.close(expr, is_open)
+    }
+
+    /// Writes the child between the quotes of the one before it, where both are literals that are folded alike.
+    fn join(&mut self, expr: &Expr, i: usize) -> Result<bool, AllocError> {
+        let Some(text) = joined(expr, i) else {
+            return Ok(false);
+        };
+        self.text.pop();
+        push_unquoted(&mut self.text, text)?;
+        self.text.push('"')?;
+        Ok(true)
+    }
+
+    fn close(&mut self, expr: &Expr, is_open: bool) -> Result<(), AllocError> {
+        if has_brackets(expr) {
+            self.text.push(')')?;
+        }
+        if is_open {
+            self.text.push(')')?;
+        }
+        Ok(())
+    }
+
+    /// Writes the whole tree with marks, and mark 0 behind it.
+    pub fn push_tree(&mut self, expr: &'e Expr) -> Result<(), AllocError> {
+        self.text.push_str("(cat ")?;
+        self.push_node(expr, true, MOST_LEVELS)?;
+        self.text.push(' ')?;
+        self.push_mark(0)?;
+        self.text.push(')')
+    }
+}
+
+/// The node and those below it in the notation.
+pub fn notation(alloc: Global, expr: &Expr) -> Result<String, AllocError> {
+    let mut written = Marked::new(alloc);
+    written.push_node(expr, false, MOST_LEVELS)?;
+    Ok(written.text)
+}
+
+fn number_of(text: &str) -> Option<usize> {
+    let code = text.chars().next()? as usize;
+    code.checked_sub(FIRST)
+}
+
+/// The number of the mark that begins at this place of a program, if one does.
+pub fn mark_at(prog: &Prog, place: usize) -> Option<usize> {
+    let (first, rest) = prog.body().get(place..)?.split_first()?;
+    let (second, rest) = rest.split_first()?;
+    match (first, second, rest.first()?) {
+        (Insn::Split(_, _), Insn::Fail, Insn::Lit(text)) => number_of(text.as_str()),
+        _ => None,
+    }
+}
