@@ -96,6 +96,8 @@ static void read_words(char *line, struct row *row)
             options.backtrack_limit = strtoull(strtok(NULL, " \n"), NULL, 10);
         else if (strcmp(word, "--steps") == 0)
             options.step_limit = strtoull(strtok(NULL, " \n"), NULL, 10);
+        else if (strcmp(word, "--max-nesting") == 0)
+            options.max_nesting = strtoull(strtok(NULL, " \n"), NULL, 10);
         else if (strcmp(word, "--max-prog") == 0)
             options.max_prog_size = strtoull(strtok(NULL, " \n"), NULL, 10);
         else
