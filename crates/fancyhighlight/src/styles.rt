@@ -1,0 +1,152 @@
+//! How tokens look, by the names of their scopes.
+
+use fancy_highlight::highlighter::Highlighter;
+use fancy_highlight::scopes::Scopes;
+
+/// How a token looks: a class of the page, and a code of terminals.
+#[derive(Clone, Copy, Debug, PartialEq, Eq)]
+pub struct Style {
+    pub class: &'static str,
+    pub code: &'static str,
+}
+
+/// The styles, each with the beginning of the names that have it. The first that fits is taken.
+const STYLES: [(&str, Style); 16] = [
+    (
+        "comment",
+        Style {
+            class: "comment",
+            code: "90",
+        },
+    ),
+    (
+        "string",
+        Style {
+            class: "string",
+            code: "32",
+        },
+    ),
+    (
+        "constant.character.escape",
+        Style {
+            class: "escape",
+            code: "36",
+        },
+    ),
+    (
+        "constant",
+        Style {
+            class: "constant",
+            code: "35",
+        },
+    ),
+    (
+        "keyword.operator",
+        Style {
+            class: "operator",
+            code: "37",
+        },
+    ),
+    (
+        "keyword",
+        Style {
+            class: "keyword",
+            code: "1;34",
+        },
+    ),
+    (
+        "storage",
+        Style {
+            class: "keyword",
+            code: "1;34",
+        },
+    ),
+    (
+        "entity.name.function",
+        Style {
+            class: "function",
+            code: "33",
+        },
+    ),
+    (
+        "entity.name.macro",
+        Style {
+            class: "macro",
+            code: "1;33",
+        },
+    ),
+    (
+        "entity.name.type",
+        Style {
+            class: "type",
+            code: "36",
+        },
+    ),
+    (
+        "entity.name.lifetime",
+        Style {
+            class: "lifetime",
+            code: "31",
+        },
+    ),
+    (
+        "support.type.property",
+        Style {
+            class: "property",
+            code: "34",
+        },
+    ),
+    (
+        "support",
+        Style {
+            class: "type",
+            code: "36",
+        },
+    ),
+    (
+        "variable.language",
+        Style {
+            class: "keyword",
+            code: "1;34",
+        },
+    ),
+    (
+        "meta.attribute",
+        Style {
+            class: "attribute",
+            code: "90",
+        },
+    ),
+    (
+        "invalid",
+        Style {
+            class: "invalid",
+            code: "41",
+        },
+    ),
+];
+
+/// The style of a name, if it has one.
+fn style_of_name(name: &str) -> Option<Style> {
+    for (beginning, style) in STYLES {
+        if name.starts_with(beginning) {
+            return Some(style);
+        }
+    }
+    None
+}
+
+/// The style of a scope: of its innermost name that has one.
+pub fn style_of(highlighter: &Highlighter, scopes: &Scopes, scope: usize) -> Option<Style> {
+    let mut names = scopes.names(scope);
+    for _ in 0..usize::MAX {
+        let number = names.next_out()?;
+        let Some(name) = highlighter.name(number) else {
+            continue;
+        };
+        if let Some(style) = style_of_name(name) {
+            return Some(style);
+        }
+    }
+    None
+}
