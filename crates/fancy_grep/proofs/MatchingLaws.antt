@@ -1,0 +1,145 @@
+-- The lines that are selected, one after the other.
+use Rattle.std.proofs.Common.{◌≡◌, ◌⊎◌, inl, inr, ℕ, suc, ◌≤◌, Bool, List, [], ◌∷◌, ◌++◌, map, filter, append_assoc, append-nil, Result, Ok, Err, refl, sym, ap, subst, ◌∙◌, arith}
+use Rattle.std.proofs.lemmas.List.{map-append}
+use Rattle.std.proofs.lemmas.List.Elements.{filter-append}
+use Rattle.fancy_meaning.specs.Options as plain
+use Rattle.fancy_meaning.specs.Premises.{Input}
+use Rattle.fancy_matches.proofs.Stepping.{of_same, same_twice}
+use Rattle.fancy_regex.specs.Regexes.{IsSame}
+use Rattle.fancy_regex.specs.declared.error.Error.{Error}
+use Rattle.fancy_regex.specs.declared.regexes.Regex.{Regex}
+use Rattle.fancy_grep.specs.Context.{AreRising, numbers_of}
+use Rattle.fancy_grep.specs.Lines.{Line, line_of, lines, lines_of}
+use Rattle.fancy_grep.specs.Matching.{Grows, IsRegexFor, StopsAt, TakesLine, is_selected, selected}
+use Rattle.fancy_grep.specs.declared.lines.Line as code
+use Rattle.fancy_grep.proofs.LineLaws.{AreCounted, numbered_counts}
+
+-- ---- the regex stays the same
+
+pub is_same : (r : Regex) → IsSame r r
+is_same r = record { engine = (refl, refl); names = refl; pattern = refl; options = refl }
+
+pub is_same_still : (r s t : Regex) → IsSame r s → IsSame s t → IsSame r t
+is_same_still r s t a b = record {
+  engine = same_twice r.engine s.engine t.engine a.engine b.engine;
+  names = b.names ∙ a.names;
+  pattern = b.pattern ∙ a.pattern;
+  options = b.options ∙ a.options;
+}
+
+pub is_for_same : (i : Input) (o : List ℕ → plain.RunOptions) (r s : Regex) → IsSame r s → IsRegexFor i o r → IsRegexFor i o s
+is_for_same i o r s same h = λ text. of_same r.engine s.engine i text (o text) same.engine (h text)
+
+-- ---- the numbers rise
+
+-- the numbers rise from this one on, and are below the next one
+abbrev pub RiseTo : ℕ → ℕ → List ℕ → Type 0
+RiseTo least next [] = least ≤ next
+RiseTo least next (n ∷ ns) = (least ≤ n) × RiseTo (suc n) next ns
+
+pub rise : (least next : ℕ) (ns : List ℕ) → RiseTo least next ns → AreRising least ns
+rise least next [] h = tt
+rise least next (n ∷ ns) h = (h.0, rise (suc n) next ns h.1)
+
+pub rise_on : (least next : ℕ) (ns : List ℕ) → RiseTo least next ns → RiseTo least (suc next) ns
+rise_on least next [] h = omega arith
+rise_on least next (n ∷ ns) h = (h.0, rise_on (suc n) next ns h.1)
+
+pub rise_with : (least next : ℕ) (ns : List ℕ) → RiseTo least next ns → RiseTo least (suc next) (ns ++ next ∷ [])
+rise_with least next [] h = (h, omega arith)
+rise_with least next (n ∷ ns) h = (h.0, rise_with (suc n) next ns h.1)
+
+-- a line more, or none
+pub rises_with : (next : ℕ) (line : code.Line) (before after : List code.Line) → line.number ≡ next → Grows line before after →
+    RiseTo 1 next (numbers_of before) → RiseTo 1 (suc next) (numbers_of after)
+rises_with next line before after is (inl same) h = subst (λ ls. RiseTo 1 (suc next) (numbers_of ls)) (sym same) (rise_on 1 next (numbers_of before) h)
+rises_with next line before after is (inr more) h =
+    let one = rise_with 1 next (numbers_of before) h in
+    let ends : RiseTo 1 (suc next) (numbers_of before ++ line.number ∷ []) = subst (λ n. RiseTo 1 (suc next) (numbers_of before ++ n ∷ [])) (sym is) one in
+    subst (λ ls. RiseTo 1 (suc next) (numbers_of ls)) (sym more)
+    (subst (RiseTo 1 (suc next)) (sym (map-append (λ (l : code.Line). l.number) before (line ∷ []))) ends)
+
+-- ---- what is selected
+
+module _ (i : Input) (o : List ℕ → plain.RunOptions) (inverted : Bool) where
+  pub none_selected : selected i o inverted [] ≡ []
+  none_selected = refl
+
+  pub selected_with : (before : List Line) (line : Line) → selected i o inverted (before ++ line ∷ []) ≡ selected i o inverted before ++ selected i o inverted (line ∷ [])
+  selected_with before line = filter-append (is_selected i o inverted) before (line ∷ [])
+
+-- ---- a search line by line
+
+-- So far the search of a text has come: these lines were found, the regex is so, and these lines of the text are left.
+pub record Searched (r : Regex) (inverted : Bool) (text : List ℕ) (lines : List code.Line) (s : Regex) (left : List Line) : Type 0 where
+  pub before : List Line
+  pub split : lines_of text ≡ before ++ left
+  pub selects : (i : Input) (o : List ℕ → plain.RunOptions) → IsRegexFor i o r → map line_of lines ≡ selected i o inverted before
+  pub next : ℕ
+  pub counted : AreCounted next left
+  pub rises : RiseTo 1 next (numbers_of lines)
+  pub same : IsSame r s
+
+-- what is known of a line that was taken
+pub record Took (s : Regex) (inverted : Bool) (line : code.Line) (lines : List code.Line) (result : Result (Unit {0}) Error) (more : List code.Line) (t : Regex) :
+    Type 0 where
+  pub promise : (i : Input) (o : List ℕ → plain.RunOptions) → IsRegexFor i o s → TakesLine i o inverted line lines result more
+  pub grows : Grows line lines more
+  pub same : IsSame s t
+
+module _ (r : Regex) (inverted : Bool) (text : List ℕ) where
+  pub searched_none : (left : List Line) → left ≡ lines_of text → Searched r inverted text [] r left
+  searched_none left is = record {
+    before = [];
+    split = sym is;
+    selects = λ i o h. refl;
+    next = 1;
+    counted = subst (AreCounted 1) (sym is) (numbered_counts 1 0 (lines text));
+    rises = omega arith;
+    same = is_same r;
+  }
+
+  module _ (lines more : List code.Line) (s t : Regex) (line : code.Line) (rest : List Line) where
+    pub searched_more : (u : Unit {0}) → Searched r inverted text lines s (line_of line ∷ rest) → Took s inverted line lines (Ok u) more t →
+        Searched r inverted text more t rest
+    searched_more u h took = record {
+      before = h.before ++ line_of line ∷ [];
+      split = h.split ∙ sym (append_assoc h.before (line_of line ∷ []) rest);
+      selects = λ i o is.
+          took.promise i o (is_for_same i o r s h.same is)
+          ∙ ap (λ ls. ls ++ selected i o inverted (line_of line ∷ [])) (h.selects i o is)
+          ∙ sym (selected_with i o inverted h.before (line_of line));
+      next = suc h.next;
+      counted = h.counted.1;
+      rises = rises_with h.next line lines more h.counted.0 took.grows h.rises;
+      same = is_same_still r s t h.same took.same;
+    }
+
+    pub searched_stops : (e : Error) → Searched r inverted text lines s (line_of line ∷ rest) → Took s inverted line lines (Err e) more t →
+        (i : Input) (o : List ℕ → plain.RunOptions) → IsRegexFor i o r → StopsAt i o inverted text (map line_of more) line.number e
+    searched_stops e h took i o is =
+        let taken = took.promise i o (is_for_same i o r s h.same is) in record {
+          before = h.before;
+          line = line_of line;
+          after = rest;
+          split = h.split;
+          at = refl;
+          selects = ap (map line_of) taken.0 ∙ h.selects i o is;
+          fails = taken.1;
+        }
+
+    pub stopped_rises : (e : Error) → Searched r inverted text lines s (line_of line ∷ rest) → Took s inverted line lines (Err e) more t →
+        AreRising 1 (numbers_of more)
+    stopped_rises e h took = rise 1 (suc h.next) (numbers_of more) (rises_with h.next line lines more h.counted.0 took.grows h.rises)
+
+    pub stopped_same : (e : Error) → Searched r inverted text lines s (line_of line ∷ rest) → Took s inverted line lines (Err e) more t → IsSame r t
+    stopped_same e h took = is_same_still r s t h.same took.same
+
+  module _ (lines : List code.Line) (s : Regex) (left : List Line) where
+    pub searched_all : Searched r inverted text lines s left → left ≡ [] → (i : Input) (o : List ℕ → plain.RunOptions) → IsRegexFor i o r →
+        map line_of lines ≡ selected i o inverted (lines_of text)
+    searched_all h none i o is =
+        h.selects i o is ∙ ap (selected i o inverted) (sym (append-nil h.before) ∙ sym (h.split ∙ ap (λ l. h.before ++ l) none))
+
+    pub all_rises : Searched r inverted text lines s left → AreRising 1 (numbers_of lines)
+    all_rises h = rise 1 h.next (numbers_of lines) h.rises

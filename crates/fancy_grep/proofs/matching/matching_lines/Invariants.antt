@@ -1,0 +1,6 @@
+use Rattle.fancy_grep.specs.Lines.{lines_left}
+use Rattle.fancy_grep.proofs.MatchingLaws.{Searched}
+use Rattle.fancy_grep.proofs.matching.matching_lines.Given as goal
+
+abbrev pub invariant-loop-line : goal.invariant-loop-line
+invariant-loop-line l = Searched l.fn.regex l.inverted l.text l.lines.items l.regex (lines_left l.line-iterator)

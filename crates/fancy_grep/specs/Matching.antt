@@ -1,0 +1,61 @@
+-- Which lines of a text are selected: those in which there is a match, by what the engine promises of a search.
+use Rattle.std.specs.Prelude.{◌≡◌, ◌⊎◌, ℕ, Bool, not, List, [], ◌∷◌, ◌++◌, map, filter, MatchOption, Result, Ok, Err, is_some, if◌then◌else◌}
+use Rattle.fancy_meaning.specs.Answer.{answer, search_of}
+use Rattle.fancy_meaning.specs.Options as plain
+use Rattle.fancy_meaning.specs.Premises.{Input, plan}
+use Rattle.fancy_matches.specs.Listing.{begun_at}
+use Rattle.fancy_regex.specs.Regexes.{FindsWhether, IsRegexOf}
+use Rattle.fancy_regex.specs.declared.error.Error.{Error}
+use Rattle.fancy_regex.specs.declared.regexes.Regex.{Regex}
+use Rattle.fancy_grep.specs.Lines.{Line, line_of, lines_of}
+use Rattle.fancy_grep.specs.declared.lines.Line as code
+use Rattle.fancy_grep.specs.declared.matching.MatchingLines.{MatchingLines}
+
+-- the regex was compiled from this tree, and its searches have these options in each text
+abbrev pub IsRegexFor : Input → (List ℕ → plain.RunOptions) → Regex → Type 0
+IsRegexFor i o r = (text : List ℕ) → IsRegexOf i text (o text) r
+
+-- whether a line is selected, by whether it has a match
+abbrev pub is_chosen : Bool → Bool → Bool
+is_chosen inverted found = if inverted then not found else found
+
+-- The line comes last, or nothing does.
+abbrev pub Grows : code.Line → List code.Line → List code.Line → Type 0
+Grows line before after = (after ≡ before) ⊎ (after ≡ before ++ line ∷ [])
+
+module _ (i : Input) (o : List ℕ → plain.RunOptions) where
+  -- the tree has an admitted match in the line, as a text of its own
+  abbrev pub has_match : List ℕ → Bool
+  has_match line = is_some (answer (search_of (plan i) line (begun_at (o line) 0)))
+
+  abbrev pub is_selected : Bool → Line → Bool
+  is_selected inverted line = is_chosen inverted (has_match line.text)
+
+  abbrev pub selected : Bool → List Line → List Line
+  selected inverted lines = filter (is_selected inverted) lines
+
+  -- The search of the line answers this error, as is promised.
+  abbrev pub FailsOn : List ℕ → Error → Type 0
+  FailsOn line e = FindsWhether i line (begun_at (o line) 0) (Err e)
+
+  -- Of a line: it is added where it is selected, or its search fails and nothing is added.
+  abbrev pub TakesLine : Bool → code.Line → List code.Line → Result (Unit {0}) Error → List code.Line → Type 0
+  TakesLine inverted line before (Ok _) after =
+      map line_of after ≡ map line_of before ++ selected inverted (line_of line ∷ [])
+  TakesLine inverted line before (Err e) after = (after ≡ before) × FailsOn line.text.now e
+
+  -- The search of a line fails, and of the lines before it these are selected.
+  pub record StopsAt (inverted : Bool) (text : List ℕ) (lines : List Line) (number : ℕ) (e : Error) : Type 0 where
+    pub before : List Line
+    pub line : Line
+    pub after : List Line
+    pub split : lines_of text ≡ before ++ line ∷ after
+    pub at : number ≡ line.number
+    pub selects : lines ≡ selected inverted before
+    pub fails : FailsOn line.text e
+
+  -- These lines of the text are selected: of all, or of those before the one on which the search fails.
+  abbrev pub Selects : Bool → List ℕ → MatchingLines → Type 0
+  Selects inverted text found = MatchOption found.failure
+      (map line_of found.lines.items ≡ selected inverted (lines_of text))
+      (λ f. StopsAt inverted text (map line_of found.lines.items) f.number f.error)

@@ -1,0 +1,11 @@
+//! The lines of texts in which a regex has a match, and what is written of them: see README.md.
+#![tactic(auto)]
+
+pub mod context;
+pub mod files;
+pub mod lines;
+pub mod matching;
+pub mod patterns;
+pub mod printing;
+pub mod reports;
+pub mod settings;

@@ -1,0 +1,90 @@
+//! From a pattern with its options to a regex.
+
+ghost use Rattle.std.specs.Prelude.{◌≡◌, IfOk, MatchResult, string_bytes};
+ghost use Rattle.fancy_regex.specs.Builders.{IsBuilt, IsRefused};
+ghost use Rattle.fancy_grep.specs.Patterns.{asked, wrapped};
+ghost use Rattle.fancy_grep.specs.RegexOptions.{options_for};
+
+use fancy_regex::{Error, Regex, RegexBuilder, escape};
+use std::alloc::{AllocError, Global};
+
+/// How many nodes of the pattern may stand in one another, calls with them.
+const MOST_NESTING: usize = 4_000;
+
+/// What of a line a match may be.
+#[derive(Clone, Copy)]
+pub enum Extent {
+    /// Any part.
+    Part,
+    /// A part with no word character before it or behind it.
+    Word,
+    /// The whole line.
+    Line,
+}
+
+/// How a pattern is read.
+#[derive(Clone, Copy)]
+pub struct PatternOptions {
+    /// It is a text, and no pattern.
+    pub is_text: bool,
+    pub case_insensitive: bool,
+    /// The longest match at the earliest start is found, and not the first.
+    pub longest: bool,
+    pub extent: Extent,
+}
+
+/// The pattern for matches that are such parts of a line.
+fn wrapped(alloc: Global, extent: Extent, pattern: &str) -> Result<String, AllocError>
+    ensures { IfOk result (λ s. string_bytes s ≡ wrapped extent pattern.now) }
+{
+    let mut whole = String::new(alloc);
+    let (before, after) = extent.around();
+    whole.push_str(before)?;
+    whole.push_str(pattern)?;
+    whole.push_str(after)?;
+    Ok(whole)
+}
+
+impl Extent {
+    ghost use Rattle.fancy_grep.specs.Patterns.{after_pattern, before_pattern};
+
+    /// What stands before a pattern and after it, so that its matches are such parts of a line.
+    pub fn around(self) -> (&'static str, &'static str)
+        ensures before { result.0.now ≡ before_pattern self }
+        ensures after { result.1.now ≡ after_pattern self }
+    {
+        match self {
+            Extent::Part => ("", ""),
+            Extent::Word => (r"(?<!\w)(?:", r")(?!\w)"),
+            Extent::Line => ("^(?:", ")$"),
+        }
+    }
+}
+
+/// The pattern that is searched for.
+fn asked(alloc: Global, pattern: &str, options: PatternOptions) -> Result<String, AllocError>
+    ensures { IfOk result (λ s. string_bytes s ≡ asked options pattern.now) }
+{
+    if options.is_text {
+        let escaped = escape(alloc, pattern)?;
+        wrapped(alloc, options.extent, escaped.as_str())
+    } else {
+        wrapped(alloc, options.extent, pattern)
+    }
+}
+
+/// The regex of a pattern with its options, and the pattern that it was made of.
+///
+/// It is refused as `RegexBuilder::build` refuses that pattern. Want of memory is `Error::Memory`.
+pub fn regex_of(alloc: Global, pattern: &str, options: PatternOptions) -> Result<Regex, Error>
+    ensures { MatchResult result
+        (IsBuilt (asked options pattern.now) (options_for options))
+        (IsRefused (asked options pattern.now) (options_for options)) }
+{
+    let whole = asked(alloc, pattern, options)?;
+    RegexBuilder::new(whole.as_str())
+        .case_insensitive(options.case_insensitive)
+        .leftmost_longest(options.longest)
+        .max_nesting(MOST_NESTING)
+        .build(alloc)
+}

@@ -1,0 +1,138 @@
+//! From the words of a command line to a search.
+
+use crate::batch::run_lines;
+use crate::commands::command;
+use clap::{ArgMatches, Error};
+use fancy_grep::context::Context;
+use fancy_grep::files::search;
+use fancy_grep::patterns::{Extent, PatternOptions};
+use fancy_grep::settings::{Report, Settings};
+use std::alloc::{AllocError, Global};
+use std::env;
+use std::io::{IsTerminal, Write};
+
+/// Whether colours are asked for. By themselves they are for a terminal whose user has not set `NO_COLOR`.
+fn has_colours(rt: &HostRuntime, when: Option<&str>) -> bool {
+    match when {
+        None => false,
+        Some("always") => true,
+        Some("never") => false,
+        Some(_) => rt.stdout().is_terminal() && env::var(rt, "NO_COLOR").is_err(),
+    }
+}
+
+fn extent(matches: &ArgMatches<'_>) -> Extent {
+    if matches.get_flag("line-regexp") {
+        Extent::Line
+    } else if matches.get_flag("word-regexp") {
+        Extent::Word
+    } else {
+        Extent::Part
+    }
+}
+
+fn pattern(matches: &ArgMatches<'_>) -> PatternOptions {
+    PatternOptions {
+        is_text: matches.get_flag("fixed-strings"),
+        case_insensitive: matches.get_flag("ignore-case"),
+        longest: matches.get_flag("longest"),
+        extent: extent(matches),
+    }
+}
+
+/// Names stand before counts, and counts before matches, as grep has it.
+fn report_of(matches: &ArgMatches<'_>) -> Report {
+    if matches.get_flag("files-with-matches") {
+        Report::Name
+    } else if matches.get_flag("count") {
+        Report::Count
+    } else if matches.get_flag("only-matching") {
+        Report::Matches
+    } else {
+        Report::Lines
+    }
+}
+
+fn context(matches: &ArgMatches<'_>) -> Option<Context> {
+    let both = matches.get_one::<usize>("context");
+    let before = matches.get_one::<usize>("before-context").or(both);
+    let after = matches.get_one::<usize>("after-context").or(both);
+    if before.is_none() && after.is_none() {
+        return None;
+    }
+    Some(Context {
+        before: before.unwrap_or(0),
+        after: after.unwrap_or(0),
+    })
+}
+
+/// The files that are named; where none is, standard input or the working folder.
+fn paths<'a>(alloc: Global, matches: &ArgMatches<'a>) -> Result<Vec<&'a str>, AllocError> {
+    let mut paths = Vec::new(alloc);
+    if let Some(names) = matches.get_strs("FILE") {
+        for name in names {
+            paths.push(*name)?;
+        }
+    }
+    if paths.is_empty() {
+        paths.push(if matches.get_flag("recursive") {
+            "."
+        } else {
+            "-"
+        })?;
+    }
+    Ok(paths)
+}
+
+/// Searches as the words ask, and answers the status.
+fn search_by(rt: &HostRuntime, matches: &ArgMatches<'_>) -> Result<u8, AllocError> {
+    let paths = paths(rt.alloc(), matches)?;
+    let is_recursive = matches.get_flag("recursive");
+    let settings = Settings {
+        pattern: pattern(matches),
+        is_recursive,
+        report: report_of(matches),
+        inverted: matches.get_flag("invert-match"),
+        has_numbers: matches.get_flag("line-number"),
+        has_names: paths.len() > 1 || matches.get_flag("with-filename"),
+        has_colours: has_colours(rt, matches.get_str("color")),
+        context: context(matches),
+        template: matches.get_str("replace"),
+    };
+    let pattern = matches.get_str("PATTERN").unwrap_or("");
+    Ok(search(rt, pattern, &settings, &paths))
+}
+
+/// Writes the help that is asked for, or what is wrong with the words.
+fn tell(rt: &HostRuntime, error: &Error) -> u8 {
+    let _unwritten = error.print(rt);
+    if error.use_stderr() { 2 } else { 0 }
+}
+
+/// What the words of one search come to: the status.
+pub fn search_for(rt: &HostRuntime, words: &[String]) -> u8 {
+    let status = match command(rt.alloc()) {
+        Ok(command) => match command.try_get_matches_from(words) {
+            Ok(matches) => search_by(rt, &matches),
+            Err(error) => Ok(tell(rt, &error)),
+        },
+        Err(error) => Err(error),
+    };
+    match status {
+        Ok(status) => status,
+        Err(_) => {
+            let _unwritten = eprintln!(rt; "fancygrep: memory ran out");
+            2
+        }
+    }
+}
+
+/// What all words come to: after `--batch`, where it comes first, a file of command lines is named.
+pub fn run(rt: &HostRuntime, words: &[String]) -> u8 {
+    if let (Some(option), Some(path)) = (words.first(), words.get(1)) {
+        if option.as_str() == "--batch" {
+            return run_lines(rt, path.as_str());
+        }
+    }
+    search_for(rt, words)
+}
