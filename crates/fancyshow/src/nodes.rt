@@ -121,6 +121,14 @@ fn quoted(expr: &Expr) -> Option<(&'static str, &str)> {
     }
 }
 
+/// The number of the group that the node is or names. `group` is its number where it is a group.
+pub fn group_of(expr: &Expr, group: usize) -> Option<usize> {
+    match numbered(expr, group) {
+        Some((_, number)) => Some(number),
+        None => None,
+    }
+}
+
 /// Writes what the node is called. `group` is its number where it is a group.
 pub fn push_node(out: &mut String, expr: &Expr, group: usize) -> Result<(), AllocError> {
     if let Some((word, number)) = numbered(expr, group) {

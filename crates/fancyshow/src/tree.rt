@@ -5,7 +5,7 @@ ghost use Rattle.fancy_expr.specs.Sound.{IsWellFormedTree};
 use crate::blame::{Whole, is_blamed};
 use crate::excerpt::push_times;
 use crate::list::compile;
-use crate::nodes::push_node;
+use crate::nodes::{group_of, push_node};
 use crate::outcome::Trouble;
 use crate::refusals::refusal;
 use crate::request::Request;
@@ -16,6 +16,7 @@ use fancy_expr::error::{CompileError, Error};
 use fancy_expr::expr::{Expr, ExprTree};
 use fancy_expr::parts::{part, part_count};
 use fancy_info::info::Info;
+use fancy_railroad::names::GroupNames;
 use std::alloc::{AllocError, Global};
 
 /// Where what is said of a node begins.
@@ -37,6 +38,7 @@ struct Node<'i, 'a> {
 struct Page<'r> {
     alloc: Global,
     out: String,
+    names: GroupNames,
     /// Why the tree is refused.
     refused: Option<&'r CompileError>,
     tree: Whole,
@@ -70,11 +72,23 @@ fn push_facts(out: &mut String, info: &Info<'_>) -> Result<(), AllocError> {
 }
 
 impl Page<'_> {
+    /// Writes the name of the group that the node is or names, if it has one.
+    fn push_name(&mut self, node: Node<'_, '_>) -> Result<(), AllocError> {
+        let Some(group) = group_of(node.expr, node.group) else {
+            return Ok(());
+        };
+        match self.names.get(group) {
+            Some(name) => write!(self.out, " ({name})"),
+            None => Ok(()),
+        }
+    }
+
     /// Writes what the node is called, and what the analysis says of it.
     fn push_said(&mut self, node: Node<'_, '_>, indent: usize) -> Result<(), AllocError> {
         let start = self.out.len();
         push_times(&mut self.out, ' ', indent)?;
         push_node(&mut self.out, node.expr, node.group)?;
+        self.push_name(node)?;
         if let Some(info) = node.info {
             let line = self.out.as_str().get(start..).unwrap_or("");
             let count = line.chars().count();
@@ -145,6 +159,7 @@ fn write_page<'a>(
     let mut page = Page {
         alloc,
         out: String::new(alloc),
+        names: GroupNames::new(alloc, &tree.named_groups)?,
         refused,
         tree: Whole {
             groups: tree.total_groups,
