@@ -18,6 +18,10 @@ refers [] = false
 refers (c ∷ []) = false
 refers (c ∷ d ∷ rest) = if c == 92 then is_some (group_of d) || refers rest else refers (d ∷ rest)
 
+-- The end of a region with a `while`: where a line begins at which that pattern has no match.
+abbrev pub end_of_while : List ℕ → List ℕ
+end_of_while pattern = codes "^(?!(?:" ++ (pattern ++ codes "))")
+
 module _ (taken : ℕ → List ℕ) where
   -- what a group took, escaped, so that it is a pattern of this text alone
   abbrev pub reference : Option ℕ → ℕ → List ℕ

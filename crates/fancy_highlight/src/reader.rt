@@ -4,7 +4,7 @@ use crate::contexts::Rules;
 use crate::error::{Fault, GrammarError};
 use crate::grammar::{End, Grammar, GroupNames, MatchRule, Region, Rule};
 use crate::patterns::read_pattern;
-use crate::references::{Took, refers};
+use crate::references::{Took, end_of_while, refers};
 use crate::values::Part;
 use fancy_expr::error::Error as EngineError;
 use fancy_pattern::error::PatternError;
@@ -102,19 +102,67 @@ impl Reader {
         }
     }
 
-    /// How a region ends whose end is this part.
-    fn end(&mut self, part: Part<'_>) -> Result<End, GrammarError> {
-        let Some(end) = part.value.as_str() else {
+    /// Whether this pattern of an end can be read, whatever the groups took to which it refers.
+    fn check_end(&self, end: &str) -> Result<(), Fault> {
+        let sample = match Took::Sample.end(self.alloc, end) {
+            Ok(sample) => sample,
+            Err(_) => return Err(Fault::Refused(EngineError::Memory)),
+        };
+        match read_pattern(self.alloc, sample.as_str()) {
+            Ok(_) => Ok(()),
+            Err(PatternError::Parse { at, kind }) => Err(Fault::Pattern { at, kind }),
+            Err(PatternError::Memory) => Err(Fault::Refused(EngineError::Memory)),
+        }
+    }
+
+    /// How a region ends by this pattern.
+    fn end_by(&mut self, end: &str) -> Result<End, Fault> {
+        if !refers(end) {
+            return Ok(End::Tree(self.add_pattern(end)?));
+        }
+        self.check_end(end)?;
+        match String::from_str(self.alloc, end) {
+            Ok(end) => Ok(End::Refers(end)),
+            Err(_) => Err(Fault::Refused(EngineError::Memory)),
+        }
+    }
+
+    /// How a region ends that goes on while this pattern has a match where a line begins.
+    fn end_by_while(&mut self, pattern: &str) -> Result<End, Fault> {
+        self.check_end(pattern)?;
+        match end_of_while(self.alloc, pattern) {
+            Ok(end) => self.end_by(end.as_str()),
+            Err(_) => Err(Fault::Refused(EngineError::Memory)),
+        }
+    }
+
+    /// How a region ends that has this member, `end` or `while`, if it has it.
+    fn end(&mut self, part: &Part<'_>, member: &str) -> Result<Option<End>, GrammarError> {
+        let Some(part) = part.member(self.alloc, member)? else {
+            return Ok(None);
+        };
+        let Some(pattern) = part.value.as_str() else {
             return Err(part.wanted("a pattern"));
         };
-        if !refers(end) {
-            return Ok(End::Tree(self.pattern(part)?));
+        let end = if member == "while" {
+            self.end_by_while(pattern)
+        } else {
+            self.end_by(pattern)
+        };
+        match end {
+            Ok(end) => Ok(Some(end)),
+            Err(fault) => Err(part.fault(fault)),
         }
-        let sample = Took::Sample.end(self.alloc, end)?;
-        match read_pattern(self.alloc, sample.as_str()) {
-            Ok(_) => Ok(End::Refers(String::from_str(self.alloc, end)?)),
-            Err(PatternError::Parse { at, kind }) => Err(part.fault(Fault::Pattern { at, kind })),
-            Err(PatternError::Memory) => Err(GrammarError::Memory),
+    }
+
+    /// How a region ends, and whether its end is tried last; nothing where it has neither a `while` nor an `end`.
+    fn region_end(&mut self, part: &Part<'_>) -> Result<Option<(End, bool)>, GrammarError> {
+        if let Some(end) = self.end(part, "while")? {
+            return Ok(Some((end, false)));
+        }
+        match self.end(part, "end")? {
+            None => Ok(None),
+            Some(end) => Ok(Some((end, part.flag(self.alloc, "applyEndPatternLast")?))),
         }
     }
 
@@ -182,13 +230,13 @@ impl Reader {
         begin: Part<'_>,
         depth: usize,
     ) -> Result<Rule, GrammarError> {
-        let Some(end) = part.member(self.alloc, "end")? else {
-            return Err(begin.wanted("an end beside it, as for every begin,"));
+        let Some((end, end_last)) = self.region_end(part)? else {
+            return Err(begin.wanted("an end or a while beside it, as for every begin,"));
         };
         Ok(Rule::Region(Region {
             begin: self.pattern(begin)?,
-            end: self.end(end)?,
-            end_last: part.flag(self.alloc, "applyEndPatternLast")?,
+            end,
+            end_last,
             names: self.names_of(part, "name")?,
             content_names: self.names_of(part, "contentName")?,
             begin_captures: self.captures(part, "beginCaptures")?,

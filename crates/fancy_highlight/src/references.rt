@@ -48,6 +48,17 @@ pub(crate) fn refers(end: &str) -> bool
     found
 }
 
+/// The pattern of the end of a region with a `while`: a line begins at which that pattern has no match.
+pub(crate) fn end_of_while(alloc: Global, pattern: &str) -> Result<String, AllocError>
+    ensures { IfOk result (λ end. string_bytes end ≡ ends.end_of_while pattern.now) }
+{
+    let mut end = String::new(alloc);
+    end.push_str("^(?!(?:")?;
+    end.push_str(pattern)?;
+    end.push_str("))")?;
+    Ok(end)
+}
+
 /// What the groups of a begin took.
 #[derive(Clone, Copy)]
 pub(crate) enum Took<'c, 't> {
