@@ -1,23 +1,22 @@
 -- Joined loops keep nodes easy, and well formed, and no search of them takes up more states.
-use Rattle.std.proofs.Common.{◌≡◌, ◌⊎◌, inl, inr, ℕ, zero, suc, ◌+◌, ◌-◌, ◌*◌, ◌≤◌, ◌<◌, Bool, true, false, ◌&&◌, ◌||◌, ◌==◌, not, List, [], ◌∷◌, ◌++◌, map, Option, Some, None, IfSome, Contains, refl, sym, ap, ap₂, ◌∙◌, subst, arith}
+use Rattle.std.proofs.Common.{◌≡◌, ◌⊎◌, inl, inr, ℕ, ◌+◌, ◌*◌, ◌≤◌, Bool, true, false, ◌&&◌, ◌||◌, ◌==◌, not, List, [], ◌∷◌, map, Option, Some, None, IfSome, refl, sym, ap, ◌∙◌, subst, arith}
 use Rattle.std.specs.Prelude.{sum_by}
 use Rattle.std.proofs.lemmas.Nat.{mul-le}
 use Rattle.std.proofs.lemmas.Bool.{and_parts, and_cases, and_left, and_right, or_parts, or_from, false≢true}
 use Rattle.std.proofs.lemmas.List.Sums.{sum_by-cons}
-use Rattle.fancy_meaning.specs.Numbers.{usize_max}
 use Rattle.fancy_meaning.specs.Tree.{Tree, Trees, none, more, Concat, Alt, Group, Repeat}
 use Rattle.fancy_meaning.specs.Nodes.{nodes, nodes_of_each, is_read}
 use Rattle.fancy_meaning.specs.WellFormed.{IsFine, IsCount}
 use Rattle.fancy_meaning.specs.Options.{Analysis}
 use Rattle.fancy_meaning.specs.Hard.{is_hard, any_hard, is_hard_by_size}
-use Rattle.fancy_meaning.specs.Sizes.{size, size_by, known_of, times}
+use Rattle.fancy_meaning.specs.Sizes.{size, known_of}
 use Rattle.fancy_meaning.specs.FragmentStates.{loop_counts, states, states_of_each, fragment_states, visit_bound}
 use Rattle.fancy_laws.proofs.Every.{Every, no_item, item, every_append, every_append_parts, every_weaker, every_contained, every_contains}
 use Rattle.fancy_delegation.proofs.EasyNodes.{IsEasy, AllEasy, easy_group, easy_repeat, easy_concat, easy_alt, easy_each}
 use Rattle.fancy_nfa.specs.FirstWays.{AreEasy}
 use Rattle.fancy_joining.specs.JoinedLoops.{Bounds, loop_over, are_joined, joins, product, joined_bounds, joined_in, each_joined, joined}
 use Rattle.fancy_joining.specs.Claims.{JoiningKeepsNodes}
-use Rattle.fancy_joining.proofs.JoinedWays.{AddUp, they_add_up, by_test, same_first}
+use Rattle.fancy_joining.proofs.JoinedWays.{they_add_up, by_test, same_first}
 use Rattle.fancy_joining.proofs.JoinedSizes.{KeepsSize, size_keeps, sum_keeps, any_keeps, both_keep, over_keeps}
 
 -- ---- easy

@@ -4,7 +4,7 @@ use Rattle.std.proofs.lemmas.Bool.{and_parts, and_from, false≢true}
 use Rattle.fancy_meaning.specs.Tree.{Tree, Trees, none, more, Concat, Alt, Group, Repeat}
 use Rattle.fancy_meaning.specs.Sizes.{Size, Known, saturated, plus, either, sum_of, any_of, times, is_exact, size_by, each_size}
 use Rattle.fancy_joining.specs.JoinedLoops.{Bounds, loop_over, adds_up, are_joined, joins, product, joined_bounds, joined_in, each_joined}
-use Rattle.fancy_joining.proofs.JoinedWays.{AddUp, they_add_up, by_test}
+use Rattle.fancy_joining.proofs.JoinedWays.{they_add_up, by_test}
 
 -- as many characters at least, and a size that was constant still is
 pub record KeepsSize (s t : Size) : Type 0 where
