@@ -4,7 +4,7 @@ use Rattle.std.proofs.lemmas.Bool.{and_parts, ltb-true, leb-true}
 use Rattle.std.proofs.lemmas.Nat.{same_from_place}
 use Rattle.regex_hir.proofs.AttemptLemmas.{option_and_then_some}
 use Rattle.fancy_backtrack.specs.declared.pair_numbers.PairNumbers.{PairNumbers}
-use Rattle.fancy_backtrack.specs.PairNumbers.{counter_digit, counters_value, pair_value}
+use Rattle.fancy_backtrack.specs.PairNumbers.{counter_digit, counters_value, pair_value, in_word, shifted}
 use Rattle.fancy_backtrack.proofs.PairBitLaws.{if_some}
 
 if_then : {A : Type 0} (b : Bool) (o : Option A) (y : A) → (if b then o else None) ≡ Some y → (b ≡ true) × (o ≡ Some y)
@@ -80,7 +80,9 @@ module _ (b : PairNumbers) where
     pub low : at < b.states
     pub small : around < b.width
     pub past : base ≤ place
-    pub is : ((place - base) * b.states + at) * b.width + around ≡ n
+    pub at_place : ℕ
+    pub shifts : shifted b (place - base) counters ≡ Some at_place
+    pub is : (at_place * b.states + at) * b.width + around ≡ n
 
   numbered : (base at place : ℕ) (counters : List ℕ) (n : ℕ) →
       pair_value b base (at ∷ place ∷ counters) ≡ Some n → IsNumbered base at place counters n
@@ -89,20 +91,31 @@ module _ (b : PairNumbers) where
       let outer = if_then (few && nat_lt at b.states) _ n h in
       let state = and_parts few (nat_lt at b.states) outer.0 in
       let (around, are, e) = option_and_then_some _ (counters_value b counters) n outer.1 in
-      let row : ℕ = (place - base) * b.states + at in
       let within : Bool = nat_lt around b.width && nat_le base place in
-      let inner = if_then (within && nat_lt row (2 ^ 64)) _ n e in
-      let parts = and_parts within (nat_lt row (2 ^ 64)) inner.0 in
-      let both = and_parts (nat_lt around b.width) (nat_le base place) parts.0 in
-      let made = if_some (nat_lt (row * b.width + around) (2 ^ 64)) (row * b.width + around) n inner.1 in
+      let inner = if_then within _ n e in
+      let both = and_parts (nat_lt around b.width) (nat_le base place) inner.0 in
+      let (there, shifts, f) = option_and_then_some _ (shifted b (place - base) counters) n inner.1 in
+      let row : ℕ = there * b.states + at in
+      let last = if_then (nat_lt row (2 ^ 64)) _ n f in
+      let made = if_some (nat_lt (row * b.width + around) (2 ^ 64)) (row * b.width + around) n last.1 in
       record {
         around = around;
         are = are;
         low = ltb-true at b.states state.1;
         small = ltb-true around b.width both.0;
         past = leb-true base place both.1;
+        at_place = there;
+        shifts = shifts;
         is = made.1;
       }
+
+  -- places that are numbered alike, inside the same iterations, are one
+  one_place : (ts : List ℕ) (p q n : ℕ) → shifted b p ts ≡ Some n → shifted b q ts ≡ Some n → p ≡ q
+  one_place [] p q n h i = cc
+  one_place (c ∷ ts) p q n h i =
+      let x = if_some (nat_lt ((b.counts - c) * b.step + p) (2 ^ 64)) ((b.counts - c) * b.step + p) n h in
+      let y = if_some (nat_lt ((b.counts - c) * b.step + q) (2 ^ 64)) ((b.counts - c) * b.step + q) n i in
+      omega (arith, x.1, y.1)
 
   -- a number is of one pair
   pub one_numbered : (base : ℕ) (k m : List ℕ) (n : ℕ) → pair_value b base k ≡ Some n → pair_value b base m ≡ Some n → k ≡ m
@@ -113,10 +126,12 @@ module _ (b : PairNumbers) where
   one_numbered base (a ∷ p ∷ ts) (c ∷ q ∷ us) n h i =
       let x = numbered base a p ts n h in
       let y = numbered base c q us n i in
-      let rows = same_from_place ((p - base) * b.states + a) x.around ((q - base) * b.states + c) y.around b.width x.small y.small
+      let rows = same_from_place (x.at_place * b.states + a) x.around (y.at_place * b.states + c) y.around b.width x.small y.small
       (x.is ∙ sym y.is) in
-      let places = same_from_place (p - base) a (q - base) c b.states x.low y.low rows.0 in
-      let place : p ≡ q = omega (arith, places.0, x.past, y.past) in
-      let state : a ≡ c = places.1 in
+      let places = same_from_place x.at_place a y.at_place c b.states x.low y.low rows.0 in
       let counters : ts ≡ us = one_value ts us x.around x.are (y.are ∙ ap Some (sym rows.1)) in
+      let there : shifted b (q - base) ts ≡ Some x.at_place =
+      ap (shifted b (q - base)) counters ∙ y.shifts ∙ ap Some (sym places.0) in
+      let place : p ≡ q = omega (arith, one_place ts (p - base) (q - base) x.at_place x.shifts there, x.past, y.past) in
+      let state : a ≡ c = places.1 in
       cc

@@ -23,6 +23,12 @@ counters_value b (c ∷ s ∷ around) =
     (λ digit. option_and_then (λ n. in_word (n * b.base + digit)) (counters_value b around))
     (counter_digit b c s)
 
+-- The place at which a pair is numbered: where the innermost loop would come to its end if each iteration that is left
+-- took `step` bytes.
+abbrev pub shifted : PairNumbers → ℕ → List ℕ → Option ℕ
+shifted b place [] = Some place
+shifted b place (c ∷ counters) = in_word ((b.counts - c) * b.step + place)
+
 -- the number of a pair, where each place from `base` on has `width` numbers for each state
 abbrev pub pair_value : PairNumbers → ℕ → List ℕ → Option ℕ
 pair_value b base [] = None
@@ -31,8 +37,12 @@ pair_value b base (at ∷ place ∷ counters) =
     if nat_le (length counters) 128 && nat_lt at b.states
     then option_and_then
     (λ around.
-    let row = (place - base) * b.states + at in
-    if (nat_lt around b.width && nat_le base place) && nat_lt row (2 ^ 64)
-    then in_word (row * b.width + around) else None)
+    if nat_lt around b.width && nat_le base place
+    then option_and_then
+    (λ place.
+    let row = place * b.states + at in
+    if nat_lt row (2 ^ 64) then in_word (row * b.width + around) else None)
+    (shifted b (place - base) counters)
+    else None)
     (counters_value b counters)
     else None

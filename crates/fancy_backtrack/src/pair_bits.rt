@@ -33,6 +33,8 @@ pub struct Loops {
     pub stays: usize,
     /// How many loops are around the state that has most of them.
     pub depth: usize,
+    /// How many bytes an iteration takes, as far as is known.
+    pub step: usize,
 }
 
 /// The number as a byte, or none at all.
@@ -71,6 +73,7 @@ impl PairBits {
     }
 
     /// The number of an iteration, from 1 on.
+    #[inline(always)]
     fn counter_number(self, count: usize, stayed: usize) -> Option<usize>
         ensures number { result ≡ counter_number self count stayed }
         ensures small { IfSome result (λ n. n < 2 ^ 16) }

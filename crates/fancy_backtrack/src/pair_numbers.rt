@@ -1,7 +1,7 @@
 //! Which number a pair has among all pairs of a search.
 
 ghost use Rattle.std.specs.Prelude.{◌≡◌};
-ghost use Rattle.fancy_backtrack.specs.PairNumbers.{counter_digit, counters_value, pair_value};
+ghost use Rattle.fancy_backtrack.specs.PairNumbers.{counter_digit, counters_value, pair_value, shifted};
 
 use crate::pair_bits::Loops;
 
@@ -21,6 +21,8 @@ pub struct PairNumbers {
     base: usize,
     /// How many numbers a state has at a place.
     width: usize,
+    /// By how many places the numbers of an iteration are shifted against those of the next one.
+    step: usize,
 }
 
 impl PairNumbers {
@@ -37,10 +39,12 @@ impl PairNumbers {
             stays: loops.stays,
             base,
             width,
+            step: loops.step,
         }
     }
 
     /// The digit of an iteration, from 1 on.
+    #[inline(always)]
     fn counter_digit(self, count: usize, stayed: usize) -> Option<usize>
         ensures { result ≡ counter_digit self count stayed }
     {
@@ -69,7 +73,35 @@ impl PairNumbers {
         }
     }
 
+    /// As `counters_value`, of one iteration without a detour.
+    #[inline(always)]
+    fn around_value(self, counters: &[usize]) -> Option<usize>
+        ensures { result ≡ counters_value self counters.now }
+    {
+        match counters {
+            [count, stayed] => self.counter_digit(*count, *stayed),
+            _ => self.counters_value(counters),
+        }
+    }
+
+    /// The place at which a pair is numbered. Where each iteration of the innermost loop takes `step` bytes, it is the
+    /// same for all of them, so that their numbers follow one another.
+    #[inline(always)]
+    fn shifted(self, place: usize, counters: &[usize]) -> Option<usize>
+        ensures { result ≡ shifted self place counters.now }
+    {
+        match counters {
+            [] => Some(place),
+            [count, ..] => self
+                .counts
+                .saturating_sub(*count)
+                .checked_mul(self.step)?
+                .checked_add(place),
+        }
+    }
+
     /// The number of a pair, where those of the place `base` are the first ones.
+    #[inline(always)]
     pub(crate) fn number(self, base: usize, pair: &[usize]) -> Option<usize>
         ensures { result ≡ pair_value self base pair.now }
     {
@@ -79,12 +111,11 @@ impl PairNumbers {
         if counters.len() > MOST || *at >= self.states {
             return None;
         }
-        let around = self.counters_value(counters)?;
+        let around = self.around_value(counters)?;
         if around >= self.width {
             return None;
         }
-        place
-            .checked_sub(base)?
+        self.shifted(place.checked_sub(base)?, counters)?
             .checked_mul(self.states)?
             .checked_add(*at)?
             .checked_mul(self.width)?

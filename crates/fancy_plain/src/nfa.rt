@@ -192,8 +192,10 @@ fn loops_of(states: &[NfaState]) -> Loops {
         counts: 0,
         stays: 1,
         depth: 0,
+        step: 0,
     };
     let mut depth: usize = 0;
+    let mut is_on_first_way = false;
     for nfa_state in states {
         match nfa_state {
             NfaState::CounterBegin => {
@@ -205,8 +207,14 @@ fn loops_of(states: &[NfaState]) -> Loops {
                 if bounds.asks_moved {
                     loops.stays = 2;
                 }
+                loops.step = 0;
+                is_on_first_way = true;
+            }
+            NfaState::Character(_) if is_on_first_way => {
+                loops.step = loops.step.saturating_add(1);
             }
             NfaState::Jump(to) => {
+                is_on_first_way = false;
                 if let Some(NfaState::CounterLoop { .. }) = states.get(*to) {
                     depth = depth.saturating_sub(1);
                 }
