@@ -1,5 +1,5 @@
 -- An NFA from its states.
-use Rattle.std.proofs.Common.{◌≡◌, Bool, false, Option, Some, None, ap₂, List, [], ◌∷◌, ◌++◌, length, map, true≢false, refl, sym, ap, ◌∙◌, subst}
+use Rattle.std.proofs.Common.{◌≡◌, Bool, false, Option, Some, None, ap₂, ℕ, List, [], ◌∷◌, ◌++◌, length, map, slice_get, true≢false, refl, sym, ap, ◌∙◌, subst}
 use Rattle.std.specs.Prelude.{Result, Ok, Err, IsErr, IsErrAnd, IfErr, IfOk}
 use Rattle.fancy_expr.specs.declared.error.Error.{Error}
 use Rattle.fancy_meaning.specs.Tree.{Tree, Trees, none, more, trees, Concat, Alt, Group, Repeat}
@@ -12,10 +12,14 @@ use Rattle.fancy_expr.specs.Each.{Each}
 use Rattle.fancy_info.specs.declared.info.Info.{Info}
 use Rattle.fancy_info.specs.Infos.{info_tree}
 use Rattle.fancy_plain.specs.declared.layout.Layout.{Layout}
+use Rattle.fancy_plain.specs.declared.nfa_state.NfaState.{NfaState}
+use Rattle.fancy_plain.specs.declared.nfa_state.NfaState.TheVariants as code
 use Rattle.fancy_plain.specs.Nfas.{AreFine}
 use Rattle.fancy_plain.specs.Layouts.{states_in, each_laid_joined}
 use Rattle.fancy_plain.specs.Neighbours.{IsEasy, trees_of}
+use Rattle.fancy_plain.specs.Views.{IsStateReadBy}
 use Rattle.fancy_plain.proofs.Branches.{AddsEach}
+use Rattle.fancy_plain.proofs.ReadStates.{read_at}
 
 pub are_easy : (a : Analysis) (is : List Info) → Each (IsEasy a) is → AreFine (map info_tree is) → AreEasy a (map info_tree is)
 are_easy a [] h fine = tt
@@ -60,6 +64,18 @@ all_states j a is s t nil h l end =
 pub each_more : {X : Type 0} (P : X → Type 0) (l : List X) (x : X) → Each P l → P x → Each P (l ++ x ∷ [])
 each_more P [] x h g = (g, tt)
 each_more P (y ∷ l) x h g = (h.0, each_more P l x h.1 g)
+
+-- these states and the end are read by the option
+module _ (j : Bool) (a : Analysis) (is : List Info) (s t : Layout) (none : s.states.items ≡ []) (adds : AddsEach j a is s t) (l : List NfaState)
+    (more : l ≡ t.states.items ++ code.Match ∷ []) where
+  pub all_read : Each (IsStateReadBy s.unicode) l
+  all_read =
+      let read : List NfaState → Type 0 = Each (IsStateReadBy s.unicode) in
+      subst read (sym more) (each_more (IsStateReadBy s.unicode) t.states.items code.Match (adds.added.reads (subst read (sym none) tt)) tt)
+
+  -- also as they are handed on
+  pub one_read : (states : List NfaState) → states ≡ l → (i : ℕ) (p : NfaState) → slice_get states i ≡ Some p → IsStateReadBy s.unicode p
+  one_read states same i p at = read_at (IsStateReadBy s.unicode) l i p all_read (ap (λ m. slice_get m i) (sym same) ∙ at)
 
 pub ok_mapped : {X E : Type 0} {P Q : X → Type 0} (r : Result X E) → ((x : X) → P x → Q x) → IfOk r P → IfOk r Q
 ok_mapped (Ok x) to h = to x h

@@ -63,6 +63,11 @@ module _ (info : Info) where
         pub easy_child : is_hard a (info_tree d) ≡ false → IsEasy a d
         easy_child easy = record { analysed = (subst (Each (IsAnalysed a)) one_child children_analysed).0; easy = easy }
 
+        -- as the law of its kind says
+        pub easy_body : (is_hard a (node_over e (out-Info info).start_group (info_within info) (trees (info_tree d ∷ []))) ≡ false →
+            is_hard a (info_tree d) ≡ false) → IsEasy a d
+        easy_body law = easy_child (law (subst (λ x. is_hard a x ≡ false) tree_over h.easy))
+
 -- ---- for callers: what an analysis found not to be hard
 
 module _ (a : Analysis) where

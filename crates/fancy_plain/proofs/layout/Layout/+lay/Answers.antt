@@ -2,7 +2,6 @@ use Rattle.std.proofs.Common.{Some, None, ◌≡◌, ℕ, ◌+◌, ◌-◌, ◌<
 use Rattle.fancy_meaning.specs.Tree as plain_tree
 use Rattle.fancy_meaning.specs.Tree.{trees}
 use Rattle.fancy_meaning.specs.Constructs.{loop_form}
-use Rattle.fancy_meaning.specs.Hard.{is_hard}
 use Rattle.fancy_meaning.specs.Sizes.{Size, size, known_of}
 use Rattle.fancy_delegation.proofs.EasyNodes.{easy_group, easy_repeat, easy_concat, easy_alt}
 use Rattle.fancy_info.specs.declared.info.Info.TheViews.{out-Info}
@@ -20,7 +19,7 @@ use Rattle.fancy_joining.proofs.JoinedSizes.{size_keeps}
 use Rattle.fancy_plain.specs.Neighbours.{IsEasy, trees_of}
 use Rattle.fancy_info.specs.NodeCounts.{node_counts}
 use Rattle.fancy_info.proofs.Children.{node_count-below, child_count, each_at, tree_by}
-use Rattle.fancy_plain.proofs.Nodes.{easy_kids, easy_size, has_one, smaller_child, tree_over, easy_child}
+use Rattle.fancy_plain.proofs.Nodes.{easy_kids, easy_size, has_one, smaller_child, tree_over, easy_body}
 use Rattle.fancy_plain.proofs.Laid.{place, same_states, replaced_then, replaced_same, lays_by, lays_behind, lays_before, adds_behind, adds_before, adds_headed, adds_around, lays_at, lays_fault}
 use Rattle.fancy_plain.proofs.Texts.{lays_fault_at, lays_parts, lays_part, repeat_parts, form_enters}
 use Rattle.fancy_plain.proofs.JoinedLayout.{apart, joined_step, left_step, same_texts}
@@ -58,13 +57,9 @@ lay-lay_group-requires t c =
     let body = c.only_child.result.now in
     let a = c.requires.0 in
     let at = sym c.expr.ensures ∙ c.in-Group.is in
-    let tree = tree_over info a c.requires.1 body _ at refl c.only_child.ensures in (
-      omega (arith, smaller_child info a c.requires.1 body _ at refl c.only_child.ensures),
-      (
-        a,
-        easy_child info a c.requires.1 body _ at refl c.only_child.ensures
-            (easy_group a _ (info_tree body) (subst (λ e. is_hard a e ≡ false) tree c.requires.1.easy)).1,
-      ),
+    let one = c.only_child.ensures in (
+      omega (arith, smaller_child info a c.requires.1 body _ at refl one),
+      (a, easy_body info a c.requires.1 body _ at refl one (λ h. (easy_group a _ (info_tree body) h).1)),
     )
 
 pub lay-only_child-requires-in-Repeat : goal.lay-only_child-requires-in-Repeat
@@ -78,13 +73,12 @@ lay-lay_joined-requires t c =
     let body = c.only_child-in-Repeat.result.now in
     let a = c.requires.0 in
     let at = sym c.expr.ensures ∙ c.in-Repeat.is in
-    let tree = tree_over info a c.requires.1 body _ at refl c.only_child-in-Repeat.ensures in (
-      omega (arith, smaller_child info a c.requires.1 body _ at refl c.only_child-in-Repeat.ensures),
+    let one = c.only_child-in-Repeat.ensures in (
+      omega (arith, smaller_child info a c.requires.1 body _ at refl one),
       (
         a,
-        easy_child info a c.requires.1 body _ at refl c.only_child-in-Repeat.ensures
-            (easy_repeat a c.in-Repeat.lo (bound_of c.in-Repeat.hi) c.in-Repeat.greedy (info_tree body)
-            (subst (λ e. is_hard a e ≡ false) tree c.requires.1.easy)),
+        easy_body info a c.requires.1 body _ at refl one
+            (easy_repeat a c.in-Repeat.lo (bound_of c.in-Repeat.hi) c.in-Repeat.greedy (info_tree body)),
       ),
     )
 
@@ -118,9 +112,8 @@ lay-returns-in-Group t c = λ a easy.
     let body = c.only_child.result.now in
     let at = sym c.expr.ensures ∙ c.in-Group.is in
     let tree = tree_over info a easy body _ at refl c.only_child.ensures in
-    let hard = subst (λ e. is_hard a e ≡ false) tree easy.easy in
     let g = (out-Info info).start_group in
-    let known = easy_child info a easy body _ at refl c.only_child.ensures (easy_group a g (info_tree body) hard).1 in
+    let known = easy_body info a easy body _ at refl c.only_child.ensures (λ h. (easy_group a g (info_tree body) h).1) in
     let s = c.args.self.now in
     let u = c.lay_group.new.self in
     subst (λ e. Lays (laid_joined c.args.may_join a.tree e) (texts_of e) s u c.lay_group.result) (sym tree)
@@ -134,9 +127,8 @@ lay-returns-in-Repeat t c = λ a easy.
     let body = c.only_child-in-Repeat.result.now in
     let at = sym c.expr.ensures ∙ c.in-Repeat.is in
     let tree = tree_over info a easy body _ at refl c.only_child-in-Repeat.ensures in
-    let hard = subst (λ e. is_hard a e ≡ false) tree easy.easy in
-    let known = easy_child info a easy body _ at refl c.only_child-in-Repeat.ensures
-    (easy_repeat a c.in-Repeat.lo (bound_of c.in-Repeat.hi) c.in-Repeat.greedy (info_tree body) hard) in
+    let known = easy_body info a easy body _ at refl c.only_child-in-Repeat.ensures
+    (easy_repeat a c.in-Repeat.lo (bound_of c.in-Repeat.hi) c.in-Repeat.greedy (info_tree body)) in
     subst (λ e. Lays (laid_joined c.args.may_join a.tree e) (texts_of e) c.args.self.now c.lay_joined.new.self c.lay_joined.result) (sym tree)
     (c.lay_joined.ensures a known)
 
@@ -415,13 +407,12 @@ lay_joined-lay_joined-requires t c =
     let child = c.only_child.result.now in
     let a = c.requires.0 in
     let at = sym c.expr.ensures ∙ c.in-Repeat.is in
-    let tree = tree_over body a c.requires.1 child _ at refl c.only_child.ensures in (
-      omega (arith, smaller_child body a c.requires.1 child _ at refl c.only_child.ensures),
+    let one = c.only_child.ensures in (
+      omega (arith, smaller_child body a c.requires.1 child _ at refl one),
       (
         a,
-        easy_child body a c.requires.1 child _ at refl c.only_child.ensures
-            (easy_repeat a c.in-Repeat.lo (bound_of c.in-Repeat.hi) c.in-Repeat.greedy (info_tree child)
-            (subst (λ e. is_hard a e ≡ false) tree c.requires.1.easy)),
+        easy_body body a c.requires.1 child _ at refl one
+            (easy_repeat a c.in-Repeat.lo (bound_of c.in-Repeat.hi) c.in-Repeat.greedy (info_tree child)),
       ),
     )
 
@@ -436,8 +427,7 @@ lay_joined-returns-in-Some t c = λ a easy.
     let hi = bound_of c.in-Repeat.hi in
     let greedy = c.in-Repeat.greedy in
     let e = info_tree child in
-    let known = easy_child body a easy child _ at refl c.only_child.ensures
-    (easy_repeat a lo hi greedy e (subst (λ d. is_hard a d ≡ false) tree easy.easy)) in
+    let known = easy_body body a easy child _ at refl c.only_child.ensures (easy_repeat a lo hi greedy e) in
     let j = c.args.may_join in
     let m = c.in-Some.joined.lo in
     let n = bound_of c.in-Some.joined.hi in

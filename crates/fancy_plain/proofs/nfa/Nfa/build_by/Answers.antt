@@ -1,4 +1,4 @@
-use Rattle.std.proofs.Common.{[], ◌∷◌, map, slice_get, refl, sym, ap, ◌∙◌, subst}
+use Rattle.std.proofs.Common.{[], ◌∷◌, map, refl, sym, ap, ◌∙◌}
 use Rattle.std.proofs.lemmas.List.{map-append}
 use Rattle.fancy_expr.specs.Each.{Each}
 use Rattle.fancy_info.specs.Infos.{info_tree}
@@ -6,9 +6,8 @@ use Rattle.fancy_joining.proofs.JoinedNodes.{joining_keeps_nodes}
 use Rattle.fancy_plain.specs.declared.nfa_state.NfaState.TheVariants as code
 use Rattle.fancy_plain.specs.declared.layout.Layout.{Layout}
 use Rattle.fancy_plain.specs.Nfas.{IsRefusedFor}
-use Rattle.fancy_plain.specs.Views.{state_of, IsStateReadBy}
-use Rattle.fancy_plain.proofs.ReadStates.{read_at}
-use Rattle.fancy_plain.proofs.Built.{are_easy, fault_passed, all_states, each_more}
+use Rattle.fancy_plain.specs.Views.{state_of}
+use Rattle.fancy_plain.proofs.Built.{are_easy, fault_passed, all_states, all_read, one_read}
 use Rattle.fancy_plain.proofs.nfa.Nfa.build_by.Goals as goal
 
 pub returns-in_err-lay_each-clause-refused : goal.returns-in_err-lay_each-clause-refused
@@ -18,56 +17,37 @@ returns-in_err-lay_each-clause-refused c =
 
 pub first_sets-requires : goal.first_sets-requires
 first_sets-requires c = λ i p at.
-    let adds = c.in_ok-lay_each.ensures c.requires.0 c.requires.1 in
-    let t = c.lay_each.new.self in
-    let none = c.new-states.ensures.items in
-    let more = c.in_ok-push.ensures.items in
-    let reads = subst (Each (IsStateReadBy c.args.unicode)) (sym more)
-    (each_more (IsStateReadBy c.args.unicode) t.states.items code.Match
-    (adds.added.reads (subst (Each (IsStateReadBy c.args.unicode)) (sym none) tt)) tt) in
-    read_at (IsStateReadBy c.args.unicode) c.push.new.self.items i p reads
-    (ap (λ l. slice_get l i) (sym c.deref-2.ensures.value) ∙ at)
+    let s : Layout = record { alloc = c.args.alloc; unicode = c.args.unicode; states = c.new-states.result } in
+    one_read c.args.may_join c.requires.0 c.args.infos.now s c.lay_each.new.self c.new-states.ensures.items
+    (c.in_ok-lay_each.ensures c.requires.0 c.requires.1) c.push.new.self.items c.in_ok-push.ensures.items _ c.deref-2.ensures.value i p at
 
 pub required_bytes-required_bytes-requires : goal.required_bytes-required_bytes-requires
 required_bytes-required_bytes-requires c = λ i p at.
-    let adds = c.in_ok-lay_each.ensures c.requires.0 c.requires.1 in
-    let t = c.lay_each.new.self in
-    let none = c.new-states.ensures.items in
-    let more = c.in_ok-push.ensures.items in
-    let reads = subst (Each (IsStateReadBy c.args.unicode)) (sym more)
-    (each_more (IsStateReadBy c.args.unicode) t.states.items code.Match
-    (adds.added.reads (subst (Each (IsStateReadBy c.args.unicode)) (sym none) tt)) tt) in
-    read_at (IsStateReadBy c.args.unicode) c.push.new.self.items i p reads
-    (ap (λ l. slice_get l i) (sym c.deref-3.ensures.value) ∙ at)
+    let s : Layout = record { alloc = c.args.alloc; unicode = c.args.unicode; states = c.new-states.result } in
+    one_read c.args.may_join c.requires.0 c.args.infos.now s c.lay_each.new.self c.new-states.ensures.items
+    (c.in_ok-lay_each.ensures c.requires.0 c.requires.1) c.push.new.self.items c.in_ok-push.ensures.items _ c.deref-3.ensures.value i p at
+
+pub is_one_pass-is_one_pass-requires : goal.is_one_pass-is_one_pass-requires
+is_one_pass-is_one_pass-requires c = λ i p at.
+    let s : Layout = record { alloc = c.args.alloc; unicode = c.args.unicode; states = c.new-states.result } in
+    one_read c.args.may_join c.requires.0 c.args.infos.now s c.lay_each.new.self c.new-states.ensures.items
+    (c.in_ok-lay_each.ensures c.requires.0 c.requires.1) c.push.new.self.items c.in_ok-push.ensures.items _ c.deref-4.ensures.value i p at
 
 pub returns-clause-nfa : goal.returns-clause-nfa
 returns-clause-nfa c = λ a each fine.
+    let j = c.args.may_join in
     let infos = c.args.infos.now in
     let adds = c.in_ok-lay_each.ensures a each in
     let t = c.lay_each.new.self in
     let s : Layout = record { alloc = c.args.alloc; unicode = c.args.unicode; states = c.new-states.result } in
     let none = c.new-states.ensures.items in
     let more = c.in_ok-push.ensures.items in record {
-      states = all_states c.args.may_join a infos s t (ap (map state_of) none) adds (map state_of c.push.new.self.items)
+      states = all_states j a infos s t (ap (map state_of) none) adds (map state_of c.push.new.self.items)
           (ap (map state_of) more ∙ map-append state_of t.states.items (code.Match ∷ []));
       unicode = refl;
-      reads = subst (Each (IsStateReadBy c.args.unicode)) (sym more)
-          (each_more (IsStateReadBy c.args.unicode) t.states.items code.Match
-          (adds.added.reads (subst (Each (IsStateReadBy c.args.unicode)) (sym none) tt)) tt);
-      easy = (joining_keeps_nodes c.args.may_join (map info_tree infos)).easy a (are_easy a infos each fine);
+      reads = all_read j a infos s t none adds c.push.new.self.items more;
+      easy = (joining_keeps_nodes j (map info_tree infos)).easy a (are_easy a infos each fine);
     }
 
 pub returns-clause-classes : goal.returns-clause-classes
 returns-clause-classes c = (c.in_ok-lay_each.ensures c.requires.0 c.requires.1).classes
-
-pub is_one_pass-is_one_pass-requires : goal.is_one_pass-is_one_pass-requires
-is_one_pass-is_one_pass-requires c = λ i p at.
-    let adds = c.in_ok-lay_each.ensures c.requires.0 c.requires.1 in
-    let t = c.lay_each.new.self in
-    let none = c.new-states.ensures.items in
-    let more = c.in_ok-push.ensures.items in
-    let reads = subst (Each (IsStateReadBy c.args.unicode)) (sym more)
-    (each_more (IsStateReadBy c.args.unicode) t.states.items code.Match
-    (adds.added.reads (subst (Each (IsStateReadBy c.args.unicode)) (sym none) tt)) tt) in
-    read_at (IsStateReadBy c.args.unicode) c.push.new.self.items i p reads
-    (ap (λ l. slice_get l i) (sym c.deref-4.ensures.value) ∙ at)
