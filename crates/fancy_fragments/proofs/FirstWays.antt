@@ -1,5 +1,5 @@
 -- The first way by the NFA is that of the nodes.
-use Rattle.std.proofs.Common.{◌≡◌, ◌≤◌, ◌-◌, ℕ, Bool, true, List, length, map, Option, Some, None, Result, Ok, Err, IfOk, IfSome, sym, subst, arith}
+use Rattle.std.proofs.Common.{◌≡◌, ◌≤◌, ◌-◌, ℕ, Bool, true, List, length, map, Option, Some, None, Box, Global, Result, Ok, Err, IfOk, IfSome, sym, subst, arith}
 use Rattle.std.proofs.Math.Logic.{∥∥₁_elim, ∥∥₁_map}
 use Rattle.std.specs.Coded.{×_prop, Π_prop, Unit-prop, le_prop, Coded-set, coded_option, coded×, coded_ℕ}
 use Rattle.std.proofs.Props.{props}
@@ -87,9 +87,9 @@ module _ (f : Fragment) where
       IsNfaOf laid.0 (map (joined true) (nodes_of f)) n.unicode n
   by_its_option n laid = subst (λ u. IsNfaOf laid.0 (map (joined true) (nodes_of f)) u n) (sym laid.1.unicode) laid.1
 
-  of_either : (o : Option Nfa) → IfSome o IsJoinedOut → ∥ IsOfNodes (nfa_or f.nfa o) ∥₁
+  of_either : (o : Option (Box Nfa Global)) → IfSome o (λ n. IsJoinedOut n.value) → ∥ IsOfNodes (nfa_or f.nfa o) ∥₁
   of_either None h = of_nodes f
-  of_either (Some n) h = ∥∥₁_map h (λ laid. (laid.0, (map (joined true) (nodes_of f), by_its_option n laid)))
+  of_either (Some n) h = ∥∥₁_map h (λ laid. (laid.0, (map (joined true) (nodes_of f), by_its_option n.value laid)))
 
   pub of_joined_nodes : ∥ IsOfNodes (joined_nfa f) ∥₁
   of_joined_nodes = of_either f.of_joined f.joined_laid_out
@@ -111,10 +111,10 @@ module _ (f : Fragment) where
         (le_then few within));
   }
 
-  by_either : (o : Option Nfa) → IfSome o IsJoinedOut → (text : List ℕ) (place : ℕ) (answer : FirstWay) →
+  by_either : (o : Option (Box Nfa Global)) → IfSome o (λ n. IsJoinedOut n.value) → (text : List ℕ) (place : ℕ) (answer : FirstWay) →
       IsFirstWay text (nfa_or f.nfa o) place answer → IsFirstWayOf text f place answer
   by_either None out text place answer h = by_table f text place answer h
-  by_either (Some n) out text place answer h = by_joined n out text place answer h
+  by_either (Some n) out text place answer h = by_joined n.value out text place answer h
 
 pub found_joined : (text : List ℕ) (f : Fragment) (place : ℕ) (result : Result FirstWay Error) →
     IfOk result (IsFirstWay text (joined_nfa f) place) → IfOk result (IsFirstWayOf text f place)

@@ -1,5 +1,5 @@
 -- The nodes of a fragment are those that it was built of.
-use Rattle.std.proofs.Common.{◌≡◌, ℕ, ◌+◌, ◌*◌, ◌<◌, Bool, true, nat_le, Option, Some, None, IfSome, List, [], ◌∷◌, ◌++◌, length, map, take, get_or, refl, sym, ap, ap₂, subst, ◌∙◌}
+use Rattle.std.proofs.Common.{◌≡◌, ℕ, ◌+◌, ◌*◌, ◌<◌, Bool, true, nat_le, Option, Some, None, IfSome, Box, Global, List, [], ◌∷◌, ◌++◌, length, map, take, get_or, refl, sym, ap, ap₂, subst, ◌∙◌}
 use Rattle.std.proofs.lemmas.List.{map-append}
 use Rattle.fancy_meaning.specs.Tree.{Within, trees, children}
 use Rattle.fancy_meaning.specs.Numbering.{each_numbered}
@@ -56,13 +56,13 @@ module _ (is : List Info) (h : AreEasyNeighbours is) (exprs : List Expr) (copied
   laid_over unicode nfa made =
       ∣ (h.analysis, subst (λ es. IsNfaOf h.analysis es unicode nfa) (sym same_nodes) (made h.analysis h.each h.fine)) ∣₁
 
-  pub joined_over : (unicode : Bool) (o : Option Nfa) → IfSome o (IsOfJoined unicode is) →
-      IfSome o (λ n. ∥ IsLaidOut (map (joined true) (nodes_over exprs first w)) unicode n ∥₁)
+  pub joined_over : (unicode : Bool) (o : Option (Box Nfa Global)) → IfSome o (λ n. IsOfJoined unicode is n.value) →
+      IfSome o (λ n. ∥ IsLaidOut (map (joined true) (nodes_over exprs first w)) unicode n.value ∥₁)
   joined_over unicode None made = tt
   joined_over unicode (Some n) made =
       ∣ (
         h.analysis,
-        subst (λ es. IsNfaOf h.analysis (map (joined true) es) unicode n) (sym same_nodes) (made h.analysis h.each h.fine),
+        subst (λ es. IsNfaOf h.analysis (map (joined true) es) unicode n.value) (sym same_nodes) (made h.analysis h.each h.fine),
       ) ∣₁
 
   pub fits_copied : (settable : ℕ) → settable ≡ settable_above (map info_tree is) → (slots : ℕ) →

@@ -1,5 +1,6 @@
 -- What a fragment stands for, and what its search answers.
-use Rattle.std.specs.Prelude.{◌≡◌, ◌≤◌, ◌-◌, ℕ, Bool, List, length, Option, None, Some}
+use Rattle.std.specs.Prelude.{◌≡◌, ◌≤◌, ◌-◌, ℕ, Bool, List, length, Option, None, Some, Box}
+use Rattle.std.specs.Global.{Global}
 use Rattle.fancy_meaning.specs.Tree.{Tree}
 use Rattle.fancy_meaning.specs.Instr as plain
 use Rattle.fancy_meaning.specs.Options.{Analysis}
@@ -51,9 +52,9 @@ IsMemoFor text f m = IsMemoOf text f.nfa m
 
 -- ---- with loops joined
 
-abbrev pub nfa_or : Nfa → Option Nfa → Nfa
+abbrev pub nfa_or : Nfa → Option (Box Nfa Global) → Nfa
 nfa_or nfa None = nfa
-nfa_or nfa (Some joined) = joined
+nfa_or nfa (Some joined) = joined.value
 
 -- by which the machine searches
 abbrev pub joined_nfa : Fragment → Nfa

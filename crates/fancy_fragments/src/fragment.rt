@@ -37,12 +37,12 @@ pub struct Fragment {
     pub(crate) unicode: bool,
     pub(crate) nfa: Nfa,
     /// The NFA of the nodes with their loops joined, where some may be: by it the machine searches.
-    pub(crate) of_joined: Option<Nfa>,
+    pub(crate) of_joined: Option<Box<Nfa>>,
     /// Each group that a way can set has a number below this.
     pub(crate) settable: usize,
     ghost laid_out: { ∥ IsLaidOut (nodes_over exprs.items first_group (within_of within)) unicode nfa ∥₁ },
     ghost joined_laid_out: { IfSome of_joined (λ n.
-        ∥ IsLaidOut (map (joined true) (nodes_over exprs.items first_group (within_of within))) unicode n ∥₁) } by { Prim.hlevel props },
+        ∥ IsLaidOut (map (joined true) (nodes_over exprs.items first_group (within_of within))) unicode n.value ∥₁) } by { Prim.hlevel props },
     ghost fits: { (slots : ℕ) → fits_over slots (nodes_over exprs.items first_group (within_of within))
         ≡ nat_le (2 * settable) slots },
 }
@@ -157,15 +157,16 @@ fn nfa_of_joined(
     infos: &[Info],
     unicode: bool,
     nfa: &Nfa,
-) -> Result<Option<Nfa>, Error>
+) -> Result<Option<Box<Nfa>>, Error>
     requires { AreNeighbours infos.now }
-    ensures nfa { IfOk result (λ o. IfSome o (IsOfJoined unicode infos.now)) }
+    ensures nfa { IfOk result (λ o. IfSome o (λ n. IsOfJoined unicode infos.now n.value)) }
     ensures refused { IfErr result (IsRefusedFor unicode infos.now) }
 {
     if !nfa.has_loop_in_loop() {
         return Ok(None);
     }
-    Ok(Some(Nfa::build_joined(alloc, infos, unicode)?))
+    let of_joined = Nfa::build_joined(alloc, infos, unicode)?;
+    Ok(Some(Box::new(alloc, of_joined)?))
 }
 
 /// The expressions of the nodes.
