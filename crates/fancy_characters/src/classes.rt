@@ -8,7 +8,7 @@ ghost use Rattle.fancy_meaning.specs.Machine.{class_test};
 ghost use Rattle.fancy_meaning.specs.Moves.{past_char};
 ghost use Rattle.fancy_expr.specs.declared.error.Error.TheVariants.{Memory};
 
-pub use crate::compiled::CompiledClass;
+pub use crate::compiled::{CompiledClass, class_ranges};
 pub use crate::folding::{CaseiLiteral, fold_equal, literal_takes, matches_literal_casei_unicode};
 pub use crate::pieces::past_piece;
 use crate::spelling::len_utf8;

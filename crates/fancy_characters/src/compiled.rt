@@ -1,9 +1,10 @@
 //! A class with its answers for ASCII, and its other characters: listed where its pattern is one set, else asked of `regex`.
 
-ghost use Rattle.std.specs.Prelude.{◌≡◌, ℕ, ◌<◌, ◌≤◌, ◌++◌, ◌||◌, false, is_some, slice_index_or, length, encode_utf8, string_bytes, IfOk, IfErr, IsTrue};
+ghost use Rattle.std.specs.Prelude.{◌≡◌, ℕ, ◌<◌, ◌≤◌, ◌++◌, ◌||◌, false, is_some, slice_index_or, length, encode_utf8, string_bytes, IfOk, IfErr, IfSome, IsTrue};
 ghost use Rattle.regex.specs.Patterns.{find_str};
 ghost use Rattle.regex.specs.Strings.{regex_pattern, matcher_pattern};
 ghost use Rattle.regex_class.specs.Ranges.{in_range, in_ranges};
+ghost use Rattle.fancy_characters.specs.Members.{AreMembersBy};
 ghost use Rattle.fancy_meaning.specs.Chars as meant;
 
 use crate::members::members;
@@ -122,6 +123,26 @@ impl CompiledClass {
             Others::Listed(members) => Ok(members.contains(c as u32)),
             Others::Asked(regex) => Ok(ask(&mut regex.matcher(alloc)?, c)),
         }
+    }
+}
+
+/// The characters of the class with this text as ranges, if its pattern is one set.
+pub fn class_ranges(
+    alloc: Global,
+    name: &str,
+    casei: bool,
+    unicode: bool,
+) -> Result<Option<Class>, AllocError>
+    ensures { IfOk result (λ found. IfSome found
+        (λ class. AreMembersBy (meant.class_takes unicode name.now casei) class.ranges.items)) }
+{
+    let pattern = class_pattern(alloc, name, casei, unicode)?;
+    match members(alloc, pattern.as_str()) {
+        Ok(found) => Ok(found),
+        Err(kind) => match kind {
+            ErrorKind::OutOfMemory => Err(AllocError),
+            _ => Ok(None),
+        },
     }
 }
 
