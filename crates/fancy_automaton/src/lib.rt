@@ -1,0 +1,8 @@
+//! Automata of easy nodes, which tell where in a text a match of the nodes can start.
+#![tactic(auto)]
+
+pub mod automaton;
+mod looks;
+mod loops;
+mod ranges;
+pub mod translate;
