@@ -4,3 +4,4 @@ pub mod LookLaws
 pub mod RangeLaws
 pub mod Translated
 pub mod StartLaws
+pub mod FragmentLaws
