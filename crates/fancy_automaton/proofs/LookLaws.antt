@@ -7,7 +7,7 @@ use Rattle.regex_hir.specs.Looks as kit
 use Rattle.regex_hir.specs.declared.look.Look.{Look}
 use Rattle.regex_hir.specs.declared.look.Look.TheVariants.{Start, End, StartLf, EndLf, StartCrlf, EndCrlf, WordUnicode, WordStartUnicode, WordEndUnicode}
 use Rattle.fancy_meaning.specs.Chars.{is_word}
-use Rattle.fancy_meaning.specs.Tree.{Assertion, StartText, EndText, StartLine, StartLineOniguruma, EndLine, LeftWordBoundary, RightWordBoundary, WordBoundary, Within, NoLook, InLookAhead, InLookBehind}
+use Rattle.fancy_meaning.specs.Tree.{Assertion, StartText, EndText, StartLine, StartLineOniguruma, EndLine, LeftWordBoundary, RightWordBoundary, WordBoundary, NoLook, InLookAhead, InLookBehind}
 use Rattle.fancy_meaning.specs.Assertions.{assertion_within, holds, is_after, is_before, is_line_end, is_line_start}
 use Rattle.fancy_expr.specs.declared.expr.Assertion as code
 use Rattle.fancy_expr.specs.Views.{assertion_of}

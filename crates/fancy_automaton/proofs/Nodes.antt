@@ -1,6 +1,5 @@
 -- Nodes are covered by the patterns of their parts.
-use Rattle.std.proofs.Common.{◌≡◌, ℕ, zero, suc, ◌+◌, ◌≤◌, Bool, true, false, if◌then◌else◌, List, [], ◌∷◌, ◌++◌, map, Option, Some, None, IfSome, refl, sym, ap, subst, inl, inr}
-use Rattle.std.specs.Char.{len_utf8}
+use Rattle.std.proofs.Common.{◌≡◌, ℕ, suc, ◌+◌, Bool, true, false, if◌then◌else◌, List, [], ◌∷◌, ◌++◌, Option, refl, sym, subst, inl, inr}
 use Rattle.regex_class.specs.Ranges.{Range}
 use Rattle.regex_hir.proofs.TextLemmas.{char_at_parts}
 use Rattle.regex_hir.specs.Looks as kit
@@ -8,18 +7,18 @@ use Rattle.regex_hir.specs.declared.look.Look.{Look}
 use Rattle.regex_hir.specs.Re.{Re, empty, char_in, look}
 use Rattle.regex_hir.specs.Meaning.{alt_all, cat_all, repeat}
 use Rattle.regex_hir.specs.Matches.{Matches}
-use Rattle.fancy_meaning.specs.Tree.{Tree, Trees, Within, Assertion, Any, Literal, Delegate, Empty, DefineGroup, Assert, Concat, Alt, Group, Repeat, NoLook, trees}
+use Rattle.fancy_meaning.specs.Tree.{Tree, Within, Assertion, Any, Literal, Delegate, Empty, DefineGroup, Assert, Concat, Alt, Group, Repeat, NoLook, trees}
 use Rattle.fancy_meaning.specs.Nodes.{group_count}
 use Rattle.fancy_meaning.specs.Assertions.{assertion_within, holds, is_of_end}
 use Rattle.fancy_meaning.specs.Chars.{any_takes, class_takes, literal_takes}
 use Rattle.fancy_meaning.specs.Moves.{past_char}
-use Rattle.fancy_meaning.specs.MatchState.{MatchState, Ways, in_order, moved_to, one_of, with_span}
+use Rattle.fancy_meaning.specs.MatchState.{MatchState, Ways, in_order, one_of, with_span}
 use Rattle.fancy_meaning.specs.Numbering.{each_numbered, numbered_within}
 use Rattle.fancy_meaning.specs.Ways.{Setting, each_ways, moves, asserts, ways_with}
-use Rattle.fancy_laws.proofs.Every.{Every, no_item, item, every_one, every_append, every_flat_map, every_map, every_if, every_weaker, every-All, All-every}
-use Rattle.fancy_laws.proofs.WaysOf.{every_moves, every_one_of}
+use Rattle.fancy_laws.proofs.Every.{Every, no_item, every_one, every_append, every_flat_map, every_map, every_if, every_weaker, every-All, All-every}
+use Rattle.fancy_laws.proofs.WaysOf.{every_moves}
 use Rattle.fancy_laws.proofs.Moves.{past_char_tells}
-use Rattle.fancy_laws.proofs.Loops.{IsIterable, Iterated, every_repeats}
+use Rattle.fancy_laws.proofs.Loops.{IsIterable, every_repeats}
 use Rattle.fancy_automaton.specs.Covers.{AreCovered, Covers, CoversInOrder}
 use Rattle.fancy_automaton.specs.Parts.{Allow, Include, IsImplied}
 use Rattle.fancy_automaton.proofs.Rounds.{Leads, repeats_match}

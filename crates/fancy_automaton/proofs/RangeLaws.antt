@@ -1,12 +1,12 @@
 -- Ranges that include the characters which nodes take.
-use Rattle.std.proofs.Common.{◌≡◌, ◌≢◌, ℕ, zero, suc, ◌+◌, ◌<◌, ◌≤◌, Bool, true, false, not, ◌||◌, ◌&&◌, ◌==◌, nat_le, List, [], ◌∷◌, length, slice_index_or, Contains, Result, Ok, Err, IfOk, refl, sym, ap, ap₂, subst, ◌∙◌, ◌⊎◌, ◌-◌, inl, inr, eqb-true, ne_eqb, arith}
+use Rattle.std.proofs.Common.{◌≡◌, ◌≢◌, ℕ, zero, suc, ◌<◌, ◌≤◌, Bool, true, false, ◌||◌, ◌==◌, List, [], ◌∷◌, length, slice_index_or, Result, Ok, Err, IfOk, sym, ap, subst, ◌∙◌, inl, inr, eqb-true, arith}
 use Rattle.std.proofs.lemmas.Bool.{and_from, cases_eq, cases_lt, or_left, or_right}
 use Rattle.std.proofs.lemmas.Bool.Decides.{nat_tests}
 use Rattle.std.specs.Char.{IsScalar, eq_ignore_ascii_case, to_ascii_lowercase, to_ascii_uppercase}
 use Rattle.regex_class.specs.Ranges.{Range, HasExactly, in_image, in_range, in_ranges}
-use Rattle.regex_class.proofs.RangesLemmas.{in_range_tells, in_ranges-cons, in_ranges-nil}
+use Rattle.regex_class.proofs.RangesLemmas.{in_range_tells, in_ranges-cons}
 use Rattle.regex_hir.proofs.Utf8Lemmas.{InScalarRange-of_IsScalar}
-use Rattle.ucd_case.specs.CaseFolding.{IsFoldPairs, fold_pairs, simple_fold}
+use Rattle.ucd_case.specs.CaseFolding.{IsFoldPairs, simple_fold}
 use Rattle.fancy_meaning.specs.Chars.{any_takes, fold_equal, literal_takes}
 use Rattle.fancy_characters.specs.Members.{AreMembersBy}
 use Rattle.regex_class.specs.declared.Class.{Class}

@@ -1,6 +1,6 @@
 -- A loop of the kit matches whatever so many rounds of its body match, where its bounds allow so many.
-use Rattle.std.proofs.Common.{◌≡◌, ℕ, zero, suc, ◌+◌, ◌-◌, ◌≤◌, Bool, true, false, List, Option, Some, None, refl, sym, subst, inl, inr, arith}
-use Rattle.regex_hir.specs.Re.{Re, empty, cat, plus}
+use Rattle.std.proofs.Common.{◌≡◌, ℕ, zero, suc, ◌+◌, ◌-◌, ◌≤◌, Bool, true, false, List, Option, Some, None, sym, subst, inl, inr, arith}
+use Rattle.regex_hir.specs.Re.{Re, cat, plus}
 use Rattle.regex_hir.specs.Meaning.{at_least, copies, optional, repeat, up_to}
 use Rattle.regex_hir.specs.Matches.{Matches, Rounds, one_round, next_round}
 use Rattle.fancy_automaton.specs.Parts.{IsWithin}

@@ -1,9 +1,9 @@
 -- From what the DFA answers to the places at which nodes have no way.
-use Rattle.std.proofs.Common.{◌≡◌, ℕ, zero, ◌+◌, ◌<◌, ◌≤◌, Bool, false, List, [], ◌∷◌, length, get_or, All, Fits, w8, Option, Some, None, option_map, refl, sym, ap, subst, ◌∙◌, inl, inr, arith}
+use Rattle.std.proofs.Common.{◌≡◌, ℕ, ◌+◌, ◌<◌, ◌≤◌, false, List, [], ◌∷◌, length, get_or, All, Fits, w8, Option, Some, None, option_map, refl, sym, ap, subst, ◌∙◌, inl, inr, arith}
 use Rattle.std.proofs.lemmas.Bool.{cases_lt}
 use Rattle.std.proofs.lemmas.List.Elements.{All-from_get_or}
 use Rattle.std.proofs.lemmas.Option.{none-some, same_Some}
-use Rattle.regex_hir.specs.Re.{Re, Trace}
+use Rattle.regex_hir.specs.Re.{Trace}
 use Rattle.regex_hir.specs.Find.{Match}
 use Rattle.regex_hir.specs.Matches.{Matches}
 use Rattle.regex_hir.proofs.FindLemmas.{none_of_first_between}
@@ -16,13 +16,12 @@ use Rattle.regex_nfa.proofs.StopLemmas.{Accepts_stop}
 use Rattle.regex_dfa.specs.Search.{IsEnd, IsLeast, end_from}
 use Rattle.regex_dfa.specs.declared.forward.End.{End}
 use Rattle.regex_dfa.specs.declared.reverse.Start.{Start}
-use Rattle.fancy_meaning.specs.Tree.{Tree, Within, trees}
-use Rattle.fancy_meaning.specs.MatchState.{MatchState, Ways, in_order}
+use Rattle.fancy_meaning.specs.Tree.{trees}
+use Rattle.fancy_meaning.specs.MatchState.{MatchState, in_order}
 use Rattle.fancy_meaning.specs.Numbering.{each_numbered}
-use Rattle.fancy_meaning.specs.Ways.{Setting, each_ways}
+use Rattle.fancy_meaning.specs.Ways.{each_ways}
 use Rattle.fancy_automaton.specs.declared.automaton.Automaton.{Automaton}
-use Rattle.fancy_automaton.specs.Covers.{CoversInOrder}
-use Rattle.fancy_automaton.specs.Starts.{HaveNoWay, IsAutomatonOf, NoneStarts}
+use Rattle.fancy_automaton.specs.Starts.{NoneStarts}
 
 pub are_bytes : (text : List ℕ) → ((i : ℕ) → Fits w8 (get_or text i 0)) → All (λ b. b < 256) text
 are_bytes text h = All-from_get_or (λ b. b < 256) text 0 (λ i _. omega (arith, h i))

@@ -1,5 +1,5 @@
 -- Sequences and alternations by what stands below them.
-use Rattle.std.proofs.Common.{◌≡◌, ℕ, ◌+◌, ◌<◌, ◌≤◌, Bool, List, [], ◌∷◌, ◌++◌, length, map, take, get_or, slice_index, chars, string_bytes, String, Vec, Box, Global, Option, Some, None, IfSome, Result, Ok, Err, IfOk, sym, ap, ap₂, subst, ◌∙◌}
+use Rattle.std.proofs.Common.{◌≡◌, ℕ, ◌+◌, ◌<◌, ◌≤◌, Bool, List, [], ◌∷◌, ◌++◌, length, map, take, get_or, slice_index, chars, string_bytes, String, Vec, Box, Global, Option, Some, None, IfSome, Result, Ok, Err, IfOk, sym, ap, subst, ◌∙◌}
 use Rattle.std.proofs.lemmas.List.{map-append, take_all}
 use Rattle.regex_hir.specs.declared.hir.Hir.{Hir}
 use Rattle.regex_hir.specs.declared.hir.Hir.TheVariants as hir

@@ -5,4 +5,5 @@ pub mod automaton;
 mod looks;
 mod loops;
 mod ranges;
+mod size;
 pub mod translate;

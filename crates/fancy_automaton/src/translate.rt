@@ -10,6 +10,7 @@ ghost use Rattle.fancy_automaton.specs.Covers.{AreCovered, Covers, CoversInOrder
 use crate::looks::look_of;
 use crate::loops::bounds_of;
 use crate::ranges::{of_any, of_class, of_literal};
+use crate::size::are_at_most;
 use fancy_expr::expr::{Assertion, Expr};
 use fancy_expr::parts::{part, part_count};
 use fancy_expr::text::first_char;
@@ -24,14 +25,20 @@ pub struct Translator {
     pub unicode: bool,
     /// Loops count up to this. One that counts further has no upper bound.
     pub max_count: u32,
+    /// More nodes than these are not translated.
+    pub max_nodes: usize,
 }
 
 impl Translator {
-    /// A pattern that covers the nodes, one after the other. There is none where a node is hard.
+    /// A pattern that covers the nodes, one after the other. There is none where a node is hard, or where there are too
+    /// many.
     pub fn nodes(self, exprs: &[Expr]) -> Result<Option<Hir>, AllocError>
         ensures { IfOk result (λ found. IfSome found (λ hir.
             CoversInOrder self.unicode (map tree_of exprs.now) (meaning hir))) }
     {
+        if !are_at_most(exprs, self.max_nodes) {
+            return Ok(None);
+        }
         let mut hirs = Vec::new(self.alloc);
         for expr in exprs {
             let Some(hir) = self.node(expr)? else {

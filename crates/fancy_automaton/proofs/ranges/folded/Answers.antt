@@ -10,5 +10,6 @@ append_image-requires c = subst KeysRise (sym c.fold_pairs.ensures.table) KeysRi
 pub returns : goal.returns
 returns c =
     folded_made c.new.result _ c.fold_pairs.result.now c.in_ok-one.one.ranges.items
-    c.in_ok-ranges.ranges.items c.args.c (scalar_bounded c.args.c c.ranges.c.0) c.in_ok-ranges.ensures.items c.in_ok-one.ensures c.in_ok-append_image.ensures.members
+    c.in_ok-ranges.ranges.items
+    c.args.c (scalar_bounded c.args.c c.ranges.c.0) c.in_ok-ranges.ensures.items c.in_ok-one.ensures c.in_ok-append_image.ensures.members
     c.fold_pairs.ensures.meaning c.new.ensures

@@ -1,4 +1,4 @@
-use Rattle.std.proofs.Common.{◌≡◌, ℕ, refl, sym, ap, ◌∙◌, subst}
+use Rattle.std.proofs.Common.{ap}
 use Rattle.std.specs.Char.{eq_ignore_ascii_case}
 use Rattle.fancy_meaning.specs.Chars.{fold_equal, folds_to}
 use Rattle.fancy_automaton.proofs.RangeLaws.{folds_made, one_made}

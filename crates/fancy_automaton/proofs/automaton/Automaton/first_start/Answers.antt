@@ -8,7 +8,8 @@ returns-in-At-clause-start c =
     let text = c.args.text.now in
     let nfa = c.args.self.now.dfa.nfa in
     let within : c.args.from ≤ length text = omega arith in
-    let found = least_at (Accepts nfa text c.args.end c.args.end nfa.start) c.args.from c.args.end c.in-At.start c.find_start.result c.in-At.is c.find_start.ensures.least in (
+    let found = least_at (Accepts nfa text c.args.end c.args.end nfa.start) c.args.from c.args.end c.in-At.start c.find_start.result
+    c.in-At.is c.find_start.ensures.least in (
       found.0,
       omega (arith, found.1),
       no_way c.args.self.now text c.args.from c.in-At.start

@@ -1,4 +1,4 @@
-use Rattle.std.proofs.Common.{slice_index, chars, sym, ap, ◌∙◌, arith}
+use Rattle.std.proofs.Common.{slice_index, chars, ap, ◌∙◌, arith}
 use Rattle.fancy_expr.specs.Exprs.{below}
 use Rattle.fancy_expr.proofs.Exprs.{child_smaller}
 use Rattle.fancy_automaton.proofs.Translated.{alt_translated, any_translated, class_translated, concat_translated, group_translated, literal_translated, one_more}
@@ -10,7 +10,8 @@ each_below-node-requires t c =
 
 pub each_below-loop-i-preserved : goal.each_below-loop-i-preserved
 each_below-loop-i-preserved t c =
-    one_more c.args.self.unicode (below c.args.expr.now) c.loop-i.hirs.items c.push.new.self.items c.loop-i.i c.part.result.now c.in-Some.hir (omega arith) c.part.ensures c.loop-i.invariant
+    one_more c.args.self.unicode (below c.args.expr.now) c.loop-i.hirs.items c.push.new.self.items
+    c.loop-i.i c.part.result.now c.in-Some.hir (omega arith) c.part.ensures c.loop-i.invariant
     (rw c.in-Some.is at c.in_ok-hir.ensures) c.in_ok-push.ensures.items
 
 pub node-returns-in_ok-of_any-in-Any : goal.node-returns-in_ok-of_any-in-Any

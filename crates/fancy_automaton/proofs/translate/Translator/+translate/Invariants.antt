@@ -1,4 +1,4 @@
-use Rattle.std.proofs.Common.{ℕ, ◌+◌, ◌*◌, length, map, take}
+use Rattle.std.proofs.Common.{◌+◌, ◌*◌, length, map, take}
 use Rattle.regex_hir.specs.Meaning.{meaning}
 use Rattle.fancy_expr.specs.Exprs.{below, exprs}
 use Rattle.fancy_expr.specs.Views.{tree_of}

@@ -6,7 +6,8 @@ use Rattle.fancy_automaton.proofs.translate.Translator.nodes.Goals as goal
 
 pub loop-expr-preserved : goal.loop-expr-preserved
 loop-expr-preserved c =
-    one_more c.args.self.unicode c.args.exprs.now c.loop-expr.hirs.items c.push.new.self.items c.loop-expr.expr-index c.expr-item.result c.in-Some.hir (omega arith) c.expr-item.is
+    one_more c.args.self.unicode c.args.exprs.now c.loop-expr.hirs.items c.push.new.self.items
+    c.loop-expr.expr-index c.expr-item.result c.in-Some.hir (omega arith) c.expr-item.is
     c.loop-expr.invariant (rw c.in-Some.is at c.in_ok-hir.ensures) c.in_ok-push.ensures.items
 
 pub returns : goal.returns

@@ -1,4 +1,4 @@
-use Rattle.std.proofs.Common.{sym, subst, ap}
+use Rattle.std.proofs.Common.{sym, subst}
 use Rattle.regex_hir.specs.Meaning.{meaning}
 use Rattle.regex_hir.proofs.MeaningLemmas.{meaning-Repetition}
 use Rattle.fancy_meaning.specs.Tree.{Repeat}
