@@ -1,12 +1,12 @@
 -- The groups with names, token by token, and the bytes of a name, character by character.
-use Rattle.std.proofs.Common.{◌≡◌, ℕ, ◌+◌, ◌<◌, List, [], ◌∷◌, ◌++◌, length, take, map, filter, cond, true, false, Option, Some, None, String, Vec, string_bytes, get_or, encode_utf8, encode_utf8_all, refl, sym, ap, ◌∙◌, append-nil, append_assoc}
+use Rattle.std.proofs.Common.{◌≡◌, ℕ, ◌+◌, ◌<◌, List, [], ◌∷◌, ◌++◌, length, take, map, filter, cond, true, false, Some, None, String, Vec, string_bytes, get_or, encode_utf8, encode_utf8_all, refl, sym, ap, ◌∙◌, append-nil, append_assoc}
 use Rattle.std.proofs.lemmas.List.{take_more, map-append}
 use Rattle.std.proofs.lemmas.Str.{encodes-append}
 use Rattle.std.specs.BTreeMap.{BTreeMap, get_by_text}
 use Rattle.std.specs.Option.{option_map_or}
 use Rattle.std.specs.Str.{bytes_eq}
 use Rattle.std.specs.declared.alloc.Global.{Global}
-use Rattle.fancy_pattern.specs.declared.tokens.Placed.{Placed as Code}
+use Rattle.fancy_pattern.specs.declared.kept.Placed.{Placed as Code}
 use Rattle.fancy_pattern.specs.Tokens.{Placed}
 use Rattle.fancy_pattern.specs.Naming.{named_of, named_in, numbers_of, numbers_in}
 use Rattle.fancy_pattern.specs.PatternViews.{placed_of}

@@ -8,11 +8,11 @@ use Rattle.fancy_expr.specs.declared.expr.Expr.{Expr}
 use Rattle.fancy_expr.specs.Views.{tree_of}
 use Rattle.fancy_pattern.specs.declared.failure.Failure.{Failure}
 use Rattle.fancy_pattern.specs.declared.reader.Reader.{Reader}
-use Rattle.fancy_pattern.specs.declared.tokens.Placed.{Placed as Code}
+use Rattle.fancy_pattern.specs.declared.kept.Placed.{Placed as Code}
 use Rattle.fancy_pattern.specs.declared.tokens.Quantifier.{Quantifier}
 use Rattle.fancy_pattern.specs.declared.tokens.Suffix.{Suffix}
 use Rattle.fancy_pattern.specs.declared.tokens.Enclosing.{Enclosing}
-use Rattle.fancy_pattern.specs.Tokens.{Reference, Token, Placed, Opening, Around, Group, AbsentBar, If, IfPattern, IfLook}
+use Rattle.fancy_pattern.specs.Tokens.{Reference, Token, Node, Placed, Opening, Around, Group, AbsentBar, If, IfPattern, IfLook}
 use Rattle.fancy_pattern.specs.PatternViews.{placed_of}
 use Rattle.fancy_pattern.specs.Grammar.{Names, Takes, first_gives, gives_some, is_at, is_branch_end, is_empty, is_repeatable, bar, closing, quantifier, class_text, class_close, class_of, joined, alternated, suffixed, SpellsSuffix, SpellsClass, class_end, class_piece, class_open, opening, node_of, reference, enclosed, SpellsAtom, node, class, opened, SpellsOpened, around, group, stopper, expression, if_group, if_pattern, if_look, SpellsBodies, one_body, two_bodies, SpellsPiece, plain, quantified, SpellsPieces, no_piece, piece, SpellsBranch, branch, SpellsBars, no_bar, barred, SpellsAlternatives, branches}
 use Rattle.fancy_pattern.proofs.MadeNodes.{text_added, one_char}
@@ -91,6 +91,25 @@ pub piece_read : (names : Names) (atom : Tree) (old mid new : Reader) (r : Resul
     IfOk r (λ e. Quantifies atom (point_of mid) (point_of new) (tree_of e)) → ReadsTree (SpellsPiece names) old new r
 piece_read names atom old mid new (Ok e) a h = piece_spelled names atom (tree_of e) (point_of old) (point_of mid) (point_of new) a h
 piece_read names atom old mid new (Err f) a h = tt
+
+-- ---- literals
+
+-- a literal behind which no quantifier stands
+pub literal_alone : (names : Names) (rest after : List Code) (first : Code) (c : ℕ) (casei : Bool) → rest ≡ first ∷ after →
+    (placed_of first).token ≡ Node (tree.Literal c casei) → is_at quantifier (map placed_of after) ≡ false →
+    SpellsPiece names (map placed_of rest) (drop 1 (map placed_of rest)) (tree.Literal c casei)
+literal_alone names rest after first c casei is leaf calm =
+    subst (λ l. SpellsPiece names (map placed_of l) (drop 1 (map placed_of l)) (tree.Literal c casei)) (sym is)
+    (plain (node (record { first = placed_of first; tokens = refl; is = ap (node_of names) leaf })) calm)
+
+pub literal_passed : (names : Names) (old new : Reader) (e : Tree) → SpellsPiece names (point_of old) (drop 1 (point_of old)) e → Skips old new →
+    SpellsPiece names (point_of old) (point_of new) e
+literal_passed names old new e h s = subst (λ l. SpellsPiece names (point_of old) l e) (ap (drop 1) s.tokens) h
+
+pub literal_pushed : (old new : List Expr) (e : Expr) (c : ℕ) (casei : Bool) → new ≡ old ++ e ∷ [] → tree_of e ≡ tree.Literal c casei →
+    map tree_of new ≡ map tree_of old ++ some_of (tree.Literal c casei)
+literal_pushed old new e c casei is made =
+    ap (map tree_of) is ∙ map-append tree_of old (e ∷ []) ∙ ap (λ t. map tree_of old ++ t ∷ []) made
 
 -- ---- groups
 

@@ -2,7 +2,7 @@
 use Rattle.std.proofs.Common.{◌≡◌, ℕ, ◌+◌, ◌<◌, ◌≤◌, Bool, true, false, ◌||◌, List, length, map, drop, get_or, refl, sym, ap, ◌∙◌, add-one, drop-cons}
 use Rattle.std.specs.List.{list_any}
 use Rattle.std.proofs.lemmas.List.{drop_all}
-use Rattle.fancy_pattern.specs.declared.tokens.Placed.{Placed as Code}
+use Rattle.fancy_pattern.specs.declared.kept.Placed.{Placed as Code}
 use Rattle.fancy_pattern.specs.Tokens.{Placed}
 use Rattle.fancy_pattern.specs.PatternViews.{placed_of}
 

@@ -1,5 +1,5 @@
 -- The token at the front of a text, and what holds behind it.
-use Rattle.std.specs.Prelude.{ℕ, ◌+◌, Bool, true, false, not, List, [], ◌∷◌, length, Option, Some, None, Result, Ok, Err, if◌then◌else◌, ◌==◌, nat_lt}
+use Rattle.std.specs.Prelude.{ℕ, ◌+◌, true, false, not, Option, Some, None, Ok, Err, if◌then◌else◌, ◌==◌, nat_lt}
 use Rattle.fancy_meaning.specs.Tree as tree
 use Rattle.fancy_meaning.specs.Tree.{Tree}
 use Rattle.fancy_meaning.specs.WellFormed.{most_groups}
@@ -12,7 +12,7 @@ use Rattle.fancy_pattern.specs.declared.items.Found as code
 use Rattle.fancy_pattern.specs.declared.tokens.Quantifier.{Quantifier}
 use Rattle.fancy_pattern.specs.declared.tokens.Quantifier.TheVariants.{Star, Plus, Question}
 use Rattle.fancy_pattern.specs.Texts.{Text, Read, fault_at, ◌>>=◌, uncons}
-use Rattle.fancy_pattern.specs.Tokens.{Opening, Around, Group, AbsentBar, If, IfPattern, IfLook, Token, Node, Refer, FlagsItem, Open, Bar, Close, Quantified, ClassOpen, ClassText, ClassClose, Broken, Item, item}
+use Rattle.fancy_pattern.specs.Tokens.{Opening, Group, Token, Node, Open, Bar, Close, Quantified, ClassOpen, Item, item}
 use Rattle.fancy_pattern.specs.Escapes.{escape_at}
 use Rattle.fancy_pattern.specs.Quantifiers.{counts_at}
 use Rattle.fancy_pattern.specs.Groups.{opening_at}
@@ -130,10 +130,16 @@ within_at now text =
 unfoldable pub found_at : Lexing → Text → Read Found
 found_at now text = if now.class.depth == 0 then outside_at now text else within_at now text
 
--- outside of classes, a literal and what holds behind it
-abbrev pub literal_found : Lexing → ℕ → Found
-literal_found now c =
+-- a token that neither begins nor ends a group
+abbrev pub IsLone : Token → Type 0
+IsLone (Open o) = ⊥
+IsLone Close = ⊥
+IsLone t = Unit {0}
+
+-- outside of classes, a token behind which nothing changes
+abbrev pub lone_found : Lexing → Token → Found
+lone_found now t =
     record {
-      token = literal now.flags c;
+      token = t;
       behind = record { flags = now.flags; opened = now.opened; class = record { depth = 0; head = head.Inner } };
     }

@@ -1,5 +1,5 @@
 -- The views of the parser's values: tokens as plain ones.
-use Rattle.std.specs.Prelude.{ℕ, ◌+◌, ◌-◌, ◌/◌, ◌%◌, ◌++◌, drop, nat_lt, Bool, true, false, List, [], ◌∷◌, map, codes, encode_utf8, encode_utf8_all, Option, Some, None, if◌then◌else◌}
+use Rattle.std.specs.Prelude.{ℕ, ◌+◌, ◌-◌, ◌/◌, ◌%◌, ◌++◌, drop, nat_lt, Bool, false, List, [], ◌∷◌, codes, encode_utf8_all, None, if◌then◌else◌}
 use Rattle.std.specs.Option.{option_map}
 use Rattle.fancy_meaning.specs.Tree as tree
 use Rattle.fancy_meaning.specs.Tree.{Tree}
@@ -13,10 +13,13 @@ use Rattle.fancy_pattern.specs.declared.tokens.Opening as code_opening
 use Rattle.fancy_pattern.specs.declared.tokens.Opening.TheVariants as opening
 use Rattle.fancy_pattern.specs.declared.tokens.ClassPiece.{ClassPiece}
 use Rattle.fancy_pattern.specs.declared.tokens.ClassPiece.TheVariants as piece
+use Rattle.fancy_pattern.specs.declared.tokens.Quantifier.TheVariants as quantifier
 use Rattle.fancy_pattern.specs.declared.tokens.Token as code_token
 use Rattle.fancy_pattern.specs.declared.tokens.Token.TheVariants as token
 use Rattle.fancy_pattern.specs.declared.tokens.Item as code_item
-use Rattle.fancy_pattern.specs.declared.tokens.Placed as code_placed
+use Rattle.fancy_pattern.specs.declared.kept.Kept as code_kept
+use Rattle.fancy_pattern.specs.declared.kept.Kept.TheVariants as kept
+use Rattle.fancy_pattern.specs.declared.kept.Placed as code_placed
 use Rattle.fancy_pattern.specs.Tokens as plain
 
 abbrev pub hex_class : Bool → List ℕ
@@ -110,5 +113,28 @@ token_of (token.Broken kind) = plain.Broken kind
 abbrev pub item_of : code_item.Item → plain.Item
 item_of i = record { token = token_of i.token; flags = i.flags }
 
+-- a token as it is kept
+abbrev pub kept_of : code_kept.Kept → plain.Token
+kept_of (kept.Leaf l) = plain.Node (leaf_of l)
+kept_of (kept.Set casei letter text) = plain.Node (tree.Delegate (encode_utf8_all (92 ∷ letter ∷ text.now)) casei)
+kept_of (kept.Numbered naming number left) =
+    plain.Refer (record { naming = naming; target = plain.Number number; level = None; left = left })
+kept_of kept.Flags = plain.FlagsItem
+kept_of (kept.Enclosing e) = plain.Open (plain.Around e)
+kept_of (kept.Group number) = plain.Open (plain.Group number None)
+kept_of kept.Bar = plain.Bar
+kept_of kept.Close = plain.Close
+kept_of (kept.Star greedy) = plain.Quantified quantifier.Star greedy
+kept_of (kept.Plus greedy) = plain.Quantified quantifier.Plus greedy
+kept_of (kept.Question greedy) = plain.Quantified quantifier.Question greedy
+kept_of (kept.Counts greedy lo hi) = plain.Quantified (quantifier.Counts lo hi) greedy
+kept_of (kept.ClassOpen casei) = plain.ClassOpen casei
+kept_of (kept.ClassChar c) = plain.ClassText (piece_text (piece.Char c))
+kept_of (kept.ClassEscaped c) = plain.ClassText (piece_text (piece.Escaped c))
+kept_of (kept.ClassCode c) = plain.ClassText (piece_text (piece.Code c))
+kept_of (kept.ClassSet letter text) = plain.ClassText (piece_text (piece.Set letter text))
+kept_of kept.ClassClose = plain.ClassClose
+kept_of (kept.Wide w) = token_of w.value.token
+
 abbrev pub placed_of : code_placed.Placed → plain.Placed
-placed_of p = record { left = p.left; token = token_of p.token }
+placed_of p = record { left = p.left; token = kept_of p.kept }

@@ -1,11 +1,12 @@
 //! The token at the front of a text.
 
-ghost use Rattle.std.specs.Prelude.{◌≡◌, ◌+◌, ◌^◌, ◌<◌, ◌≤◌, length, Ok, IfOk, IfSome, option_map};
+ghost use Rattle.std.specs.Prelude.{◌≡◌, ◌+◌, ◌^◌, ◌<◌, ◌≤◌, length, Ok, IfOk, IfSome, option_map, None};
 ghost use Rattle.fancy_meaning.specs.WellFormed.{most_groups};
-ghost use Rattle.fancy_pattern.specs.Texts.{seen};
+ghost use Rattle.fancy_pattern.specs.Texts.{seen, gap_at};
+ghost use Rattle.fancy_meaning.specs.Tree.{Literal};
 ghost use Rattle.fancy_pattern.specs.Items as plain;
-ghost use Rattle.fancy_pattern.specs.Items.{any_of, start_of, end_of, quantified, brace_at, sign_token, item_at, opened_by, class_of, outside_at, within_at, literal_found, found_at};
-ghost use Rattle.fancy_pattern.specs.PatternViews.{leaf_of, token_of, item_of, opening_of};
+ghost use Rattle.fancy_pattern.specs.Items.{any_of, start_of, end_of, quantified, brace_at, sign_token, item_at, opened_by, class_of, outside_at, within_at, IsLone, lone_found, found_at};
+ghost use Rattle.fancy_pattern.specs.PatternViews.{leaf_of, kept_of, token_of, item_of, opening_of};
 
 use crate::characters::first;
 use crate::classes::{ClassPlace, Head, class_item_at};
@@ -13,6 +14,7 @@ use crate::error::{ErrorKind, Fault, fault_at};
 use crate::escapes::escape_at;
 use crate::flags::Flags;
 use crate::groups::opening_at;
+use crate::kept::Kept;
 use crate::quantifiers::counts_at;
 use crate::tokens::{Item, Leaf, Opening, Quantifier, Token};
 use fancy_expr::expr::Assertion;
@@ -82,13 +84,19 @@ fn quantified<'a>(flags: Flags, quantifier: Quantifier) -> Token<'a>
     }
 }
 
-pub(crate) fn literal<'a>(flags: Flags, c: char) -> Token<'a>
-    ensures { token_of result ≡ plain.literal flags c }
+pub(crate) fn literal_leaf(flags: Flags, c: char) -> Leaf
+    ensures { leaf_of result ≡ Literal c flags.casei }
 {
-    Token::Leaf(Leaf::Literal {
+    Leaf::Literal {
         val: c,
         casei: flags.casei,
-    })
+    }
+}
+
+fn literal<'a>(flags: Flags, c: char) -> Token<'a>
+    ensures { token_of result ≡ plain.literal flags c }
+{
+    Token::Leaf(literal_leaf(flags, c))
 }
 
 /// A `{`: counts, or a literal; `text` begins with it, and `after` follows it.
@@ -247,21 +255,33 @@ fn within_at(now: Lexing, text: &[char]) -> Result<(Found<'_>, &[char]), Fault>
     ))
 }
 
-/// Outside of classes, the character at the front and what follows it, where it is a literal whatever follows.
+/// Outside of classes and of free spacing, the token of one character at the front and what follows it, where it is a token
+/// whatever follows, and neither begins nor ends a group or a class.
 #[tactic(auto, unfolding(crate::specs::Items::found_at, crate::specs::Items::outside_at, crate::specs::Items::item_at))]
-pub(crate) fn plain_char(now: Lexing, text: &[char]) -> Option<(char, &[char])>
+pub(crate) fn lone_at(now: Lexing, text: &[char]) -> Option<(Kept<'_>, char, &[char])>
     requires { now.opened ≤ most_groups }
     ensures value { IfSome result (λ p. found_at now text.now
-        ≡ Ok (literal_found now p.0, p.1.now)) }
-    ensures shorter { IfSome result (λ p. length p.1.now + 1 ≤ length text.now) }
+        ≡ Ok (lone_found now (kept_of p.0), p.2.now)) }
+    ensures lone { IfSome result (λ p. IsLone (kept_of p.0)) }
+    ensures outside { IfSome result (λ p. now.class.depth ≡ 0) }
+    ensures no_gap { IfSome result (λ p. gap_at now.flags.ignore_whitespace text.now ≡ None) }
+    ensures shorter { IfSome result (λ p. length p.2.now + 1 ≤ length text.now) }
 {
-    if now.class.depth > 0 {
+    if now.class.depth > 0 || now.flags.ignore_whitespace {
         return None;
     }
     let (c, after) = first(text)?;
+    let greedy = !now.flags.swap_greed;
     match c {
-        '.' | '^' | '$' | '|' | '(' | ')' | '*' | '+' | '?' | '[' | '{' | '\\' => None,
-        _ => Some((c, after)),
+        '(' | ')' | '[' | '{' | '\\' => None,
+        '.' => Some((Kept::Leaf(any_of(now.flags)), c, after)),
+        '^' => Some((Kept::Leaf(start_of(now.flags)), c, after)),
+        '$' => Some((Kept::Leaf(end_of(now.flags)), c, after)),
+        '|' => Some((Kept::Bar, c, after)),
+        '*' => Some((Kept::Star { greedy }, c, after)),
+        '+' => Some((Kept::Plus { greedy }, c, after)),
+        '?' => Some((Kept::Question { greedy }, c, after)),
+        _ => Some((Kept::Leaf(literal_leaf(now.flags, c)), c, after)),
     }
 }
 

@@ -7,14 +7,16 @@ use crate::characters::{byte_count, past_gap};
 use crate::classes::{ClassPlace, Head};
 use crate::error::{ErrorKind, Fault};
 use crate::flags::Flags;
-use crate::items::{Lexing, found_at, literal, plain_char};
+use crate::items::{Lexing, found_at, lone_at};
+use crate::kept::{Kept, Placed, keep};
 use crate::nesting::behind;
-use crate::tokens::{Placed, Token};
+use crate::tokens::Token;
 use std::alloc::{AllocError, Global};
 
 /// What is known when a pattern has been read up to some character.
 #[derive(Drop)]
 pub struct Lexer<'a> {
+    pub alloc: Global,
     /// What is left to read.
     pub rest: &'a [char],
     /// The byte where it begins.
@@ -29,10 +31,10 @@ pub struct Lexer<'a> {
 
 impl<'a> Lexer<'a> {
     ghost use Rattle.std.specs.Prelude.{[], ◌∷◌, ◌++◌, map, Ok, IfOk, OnOk, true, false};
-    ghost use Rattle.fancy_pattern.specs.Items.{found_at, literal_found};
+    ghost use Rattle.fancy_pattern.specs.Items.{found_at, IsLone, lone_found};
     ghost use Rattle.fancy_pattern.specs.Lexing.{at_start, IsAtToken, Lexes};
     ghost use Rattle.fancy_pattern.specs.LexerViews.{state_of, text_of, placed_in, Steps, Pushes};
-    ghost use Rattle.fancy_pattern.specs.PatternViews.{placed_of, token_of};
+    ghost use Rattle.fancy_pattern.specs.PatternViews.{kept_of, placed_of, token_of};
     ghost use Rattle.fancy_pattern.specs.Tokens.{placed, broken};
 
     fn new(alloc: Global, flags: Flags, chars: &'a [char]) -> Lexer<'a>
@@ -41,6 +43,7 @@ impl<'a> Lexer<'a> {
         ensures tokens { placed_in result ≡ [] }
     {
         Lexer {
+            alloc,
             rest: chars,
             at: 0,
             now: Lexing {
@@ -56,15 +59,31 @@ impl<'a> Lexer<'a> {
         }
     }
 
+    #[inline(always)]
+    fn push_kept(&mut self, left: usize, kept: Kept<'a>) -> Result<(), AllocError>
+        ensures { OnOk result (Pushes (placed left (kept_of kept.entry)) self.old self.new) }
+    {
+        self.tokens.push(Placed { left, kept })?;
+        Ok(())
+    }
+
+    #[inline(always)]
     fn push(&mut self, left: usize, token: Token<'a>) -> Result<(), AllocError>
         ensures { OnOk result (Pushes (placed left (token_of token.entry)) self.old self.new) }
     {
-        self.tokens.push(Placed {
-            left,
-            at: self.at,
-            token,
-        })?;
-        Ok(())
+        let kept = keep(self.alloc, self.at, token)?;
+        self.push_kept(left, kept)
+    }
+
+    /// Goes to what follows what was read, which has so many bytes.
+    fn pass_bytes(&mut self, rest: &'a [char], bytes: usize)
+        requires { length rest.now ≤ length self.old.rest.now }
+        ensures rest { text_of self.new ≡ rest.now }
+        ensures state { state_of self.new ≡ state_of self.old }
+        ensures tokens { self.new.tokens ≡ self.old.tokens }
+    {
+        self.at = self.at.saturating_add(bytes);
+        self.rest = rest;
     }
 
     /// Goes to what follows what was read.
@@ -75,11 +94,12 @@ impl<'a> Lexer<'a> {
         ensures tokens { self.new.tokens ≡ self.old.tokens }
     {
         let passed = &self.rest[..self.rest.len() - rest.len()];
-        self.at = self.at.saturating_add(byte_count(passed));
-        self.rest = rest;
+        self.pass_bytes(rest, byte_count(passed));
     }
 
     /// What is left cannot be read.
+    #[cold]
+    #[inline(never)]
     fn break_off(&mut self, fault: Fault) -> Result<bool, AllocError>
         ensures { IfOk result (λ more. (more ≡ false) × Pushes (broken fault) self.old self.new) }
     {
@@ -87,18 +107,20 @@ impl<'a> Lexer<'a> {
         Ok(false)
     }
 
-    /// Goes past a literal outside of classes.
-    fn pass_literal(&mut self, c: char, after: &'a [char]) -> Result<bool, AllocError>
+    /// Goes past a token of one character, outside of classes.
+    #[inline]
+    fn pass_lone(&mut self, kept: Kept<'a>, c: char, after: &'a [char]) -> Result<bool, AllocError>
         requires token { IsAtToken (state_of self.old) (text_of self.old) }
         requires found { found_at self.old.now self.old.rest.now
-            ≡ Ok (literal_found self.old.now c, after.now) }
+            ≡ Ok (lone_found self.old.now (kept_of kept), after.now) }
+        requires lone { IsLone (kept_of kept) }
         requires shorter { length after.now < length self.old.rest.now }
         ensures steps { IfOk result (λ more. Steps more self.old self.new) }
         ensures shorter { IfOk result (λ more. length self.new.rest.now
             < length self.old.rest.now) }
     {
-        self.push(self.rest.len(), literal(self.now.flags, c))?;
-        self.pass(after);
+        self.push_kept(self.rest.len(), kept)?;
+        self.pass_bytes(after, c.len_utf8());
         self.now = Lexing {
             class: ClassPlace {
                 depth: 0,
@@ -116,9 +138,6 @@ impl<'a> Lexer<'a> {
         ensures shorter { IfOk result (λ more. more ≡ true
             → length self.new.rest.now < length self.old.rest.now) }
     {
-        if let Some((c, after)) = plain_char(self.now, self.rest) {
-            return self.pass_literal(c, after);
-        }
         let left = self.rest.len();
         match found_at(self.now, self.rest) {
             Ok((found, after)) => match behind(&mut self.outer, self.now.flags, found, left)? {
@@ -140,6 +159,9 @@ impl<'a> Lexer<'a> {
         ensures shorter { IfOk result (λ more. more ≡ true
             → length self.new.rest.now < length self.old.rest.now) }
     {
+        if let Some((kept, c, after)) = lone_at(self.now, self.rest) {
+            return self.pass_lone(kept, c, after);
+        }
         if self.now.class.depth == 0 {
             if self.rest.is_empty() {
                 return Ok(false);

@@ -12,6 +12,7 @@ pub mod flags;
 mod group_names;
 mod groups;
 mod items;
+mod kept;
 mod lexer;
 mod named;
 mod names;

@@ -3,9 +3,10 @@
 ghost use Rattle.std.specs.Prelude.{◌≡◌, ◌++◌, ℕ, List, map, IfOk, OnOk, encode_utf8_all, string_bytes};
 ghost use Rattle.std.specs.Option.{option_map};
 ghost use Rattle.fancy_pattern.specs.Naming.{numbers_of, numbers_in, pairs_in, named_in, named_of, named_by, named_opening};
-ghost use Rattle.fancy_pattern.specs.PatternViews.{placed_of, token_of, opening_of};
+ghost use Rattle.fancy_pattern.specs.PatternViews.{kept_of, placed_of, token_of, opening_of};
 
-use crate::tokens::{Opening, Placed, Token};
+use crate::kept::{Kept, Placed};
+use crate::tokens::{Opening, Token};
 use std::alloc::{AllocError, Global};
 use std::collections::BTreeMap;
 
@@ -21,7 +22,16 @@ pub(crate) fn text_of(alloc: Global, chars: &[char]) -> Result<String, AllocErro
 }
 
 /// The name and the number of a group that a token opens.
-fn named_by<'a>(token: Token<'a>) -> Option<(&'a [char], usize)>
+fn named_by<'a>(kept: &Kept<'a>) -> Option<(&'a [char], usize)>
+    ensures { option_map (λ p. (p.0.now, p.1)) result ≡ named_by (kept_of kept.now) }
+{
+    match kept {
+        Kept::Wide(wide) => named_by_token(wide.token),
+        _ => None,
+    }
+}
+
+fn named_by_token<'a>(token: Token<'a>) -> Option<(&'a [char], usize)>
     ensures { option_map (λ p. (p.0.now, p.1)) result ≡ named_by (token_of token.entry) }
 {
     match token {
@@ -52,7 +62,7 @@ fn push_named(
     ensures { OnOk result (pairs_in pairs.new
         ≡ pairs_in pairs.old ++ named_of (placed_of placed.now).token) }
 {
-    match named_by(placed.token) {
+    match named_by(&placed.kept) {
         Some((name, number)) => {
             pairs.push((text_of(alloc, name)?, number))?;
             Ok(())

@@ -12,12 +12,13 @@ ghost use Rattle.fancy_pattern.specs.declared.tokens.Naming.TheVariants as namin
 ghost use Rattle.fancy_expr.specs.Each.{Each};
 ghost use Rattle.fancy_pattern.specs.Reading.{OneCharEach};
 ghost use Rattle.fancy_pattern.specs.Stuck.{NoNode, NoAtom};
-ghost use Rattle.fancy_pattern.specs.PatternViews.{leaf_of, hex_class, token_of, reference_of};
+ghost use Rattle.fancy_pattern.specs.PatternViews.{leaf_of, hex_class, kept_of, token_of, reference_of};
 
 use crate::class_text::push_escape;
 use crate::error::{ErrorKind, Fault};
 use crate::failure::Failure;
 use crate::group_names::GroupNames;
+use crate::kept::Kept;
 use crate::named::text_of;
 use crate::tokens::{Enclosing, Leaf, Naming, Quantifier, Reference, Suffix, Target, Token};
 use fancy_expr::expr::{Absent, AstNode, CaptureGroupTarget, Expr, LookAround};
@@ -41,7 +42,7 @@ pub(crate) fn leaf(alloc: Global, leaf: Leaf) -> Result<Expr, AllocError>
     }
 }
 
-fn literal(alloc: Global, c: char, casei: bool) -> Result<Expr, AllocError>
+pub(crate) fn literal(alloc: Global, c: char, casei: bool) -> Result<Expr, AllocError>
     ensures made { IfOk result (λ e. tree_of e ≡ tree.Literal c casei) }
     ensures one_char { IfOk result OneCharEach }
 {
@@ -411,6 +412,32 @@ pub(crate) fn suffixed(
 
 /// The node of an atom that is one token; none for any other token. `place` is the byte where it stands.
 pub(crate) fn node(
+    alloc: Global,
+    names: &GroupNames,
+    kept: &Kept<'_>,
+    place: usize,
+) -> Result<Option<Expr>, Failure>
+    ensures made { IfOk result (λ found. option_map tree_of found
+        ≡ grammar.node_of (pairs_in names.now.pairs) (kept_of kept.now)) }
+    ensures one_char { IfOk result (λ found. IfSome found OneCharEach) }
+    ensures fails { IfErr result (NoAtom
+        (pairs_in names.now.pairs) (kept_of kept.now)) }
+{
+    match kept {
+        Kept::Leaf(found) => Ok(Some(leaf(alloc, *found)?)),
+        Kept::Set {
+            letter,
+            text,
+            casei,
+        } => Ok(Some(set_node(alloc, *letter, text, *casei)?)),
+        Kept::Numbered { naming, number, .. } => Ok(Some(named(*naming, None, *number))),
+        Kept::Flags => Ok(Some(Expr::Empty)),
+        Kept::Wide(wide) => token_node(alloc, names, wide.token, place),
+        _ => Ok(None),
+    }
+}
+
+fn token_node(
     alloc: Global,
     names: &GroupNames,
     token: Token<'_>,

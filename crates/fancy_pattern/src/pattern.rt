@@ -7,7 +7,8 @@ ghost use Rattle.fancy_expr.specs.Sound.{IsWellFormedTree};
 ghost use Rattle.fancy_expr.specs.Views.{tree_of};
 ghost use Rattle.fancy_pattern.specs.Described.{by_number, names_number, asks_number, is_group, opens_group, first_past, up_to, IsDescribed};
 ghost use Rattle.fancy_pattern.specs.Naming.{pairs_in, named_in};
-ghost use Rattle.fancy_pattern.specs.PatternViews.{placed_of, token_of, opening_of, target_of};
+ghost use Rattle.fancy_pattern.specs.PatternViews.{kept_of, placed_of, token_of, opening_of, target_of};
+ghost use Rattle.fancy_pattern.specs.Texts.{Text};
 ghost use Rattle.fancy_pattern.specs.Spelling.{opens_named, has_name, ignores, byte_at, HasTokens, Spells, IsTreeOf, PatternFails, IsError};
 ghost use Rattle.fancy_pattern.specs.declared.error.PatternError.TheVariants.{Parse, Memory};
 ghost use Rattle.fancy_pattern.specs.declared.options.ParseOptions.{ParseOptions};
@@ -16,11 +17,12 @@ use crate::characters::byte_count;
 use crate::error::{Fault, PatternError};
 use crate::failure::Failure;
 use crate::group_names::GroupNames;
+use crate::kept::{Kept, Placed};
 use crate::lexer::Lexer;
 use crate::options::ParseOptions;
 use crate::reader::Reader;
 use crate::survey::Survey;
-use crate::tokens::{Opening, Placed, Target, Token};
+use crate::tokens::{Opening, Target, Token};
 use fancy_expr::expr::{Expr, ExprTree};
 use std::alloc::{AllocError, Global};
 use std::collections::BTreeSet;
@@ -113,7 +115,16 @@ fn has_name(opening: Opening<'_>) -> bool
     }
 }
 
-fn opens_named(token: Token<'_>) -> bool
+fn opens_named(kept: &Kept<'_>) -> bool
+    ensures { result ≡ opens_named (kept_of kept.now) }
+{
+    match kept {
+        Kept::Wide(wide) => token_opens_named(wide.token),
+        _ => false,
+    }
+}
+
+fn token_opens_named(token: Token<'_>) -> bool
     ensures { result ≡ opens_named (token_of token.entry) }
 {
     match token {
@@ -127,7 +138,7 @@ fn has_names(tokens: &[Placed<'_>]) -> bool
     ensures { result ≡ list_any (λ p. opens_named p.token) (map placed_of tokens.now) }
 {
     for placed in tokens {
-        if opens_named(placed.token) {
+        if opens_named(&placed.kept) {
             return true;
         }
     }
@@ -140,14 +151,26 @@ fn tree_of_chars(alloc: Global, chars: &[char], options: ParseOptions) -> Result
     ensures fails { IfErr result (PatternFails options chars.now) }
 {
     let (placed, ignored) = tokens(alloc, chars, options)?;
-    let names = GroupNames::of(alloc, &placed)?;
+    tree_of_tokens(alloc, &placed, ignored)
+}
+
+/// The tree that the tokens of a pattern spell.
+fn tree_of_tokens(alloc: Global, tokens: &[Placed<'_>], ignored: bool) -> Result<ExprTree, Failure>
+    ensures made { (options : ParseOptions) → (text : Text)
+        → HasTokens options text ignored (map placed_of tokens.now)
+        → IfOk result (λ tree. IsTreeOf options text tree × IsWellFormedTree tree) }
+    ensures fails { (options : ParseOptions) → (text : Text)
+        → HasTokens options text ignored (map placed_of tokens.now)
+        → IfErr result (PatternFails options text) }
+{
+    let names = GroupNames::of(alloc, tokens)?;
     let mut reader = Reader {
         alloc,
-        rest: &placed,
+        rest: tokens,
     };
     let expr = reader.read_alternatives(&names)?;
     reader.read_end()?;
-    Ok(described(alloc, expr, names, &placed, ignored)?)
+    Ok(described(alloc, expr, names, tokens, ignored)?)
 }
 
 fn is_group(opening: Opening<'_>) -> bool
@@ -159,7 +182,17 @@ fn is_group(opening: Opening<'_>) -> bool
     }
 }
 
-fn opens_group(token: Token<'_>) -> bool
+fn opens_group(kept: &Kept<'_>) -> bool
+    ensures { result ≡ opens_group (kept_of kept.now) }
+{
+    match kept {
+        Kept::Group(_) => true,
+        Kept::Wide(wide) => token_opens_group(wide.token),
+        _ => false,
+    }
+}
+
+fn token_opens_group(token: Token<'_>) -> bool
     ensures { result ≡ opens_group (token_of token.entry) }
 {
     match token {
@@ -174,7 +207,7 @@ fn group_count(tokens: &[Placed<'_>]) -> usize
 {
     let mut count: usize = 0;
     for placed in tokens {
-        if opens_group(placed.token) {
+        if opens_group(&placed.kept) {
             count += 1;
         }
     }
@@ -199,7 +232,17 @@ fn asks_number(opening: Opening<'_>) -> bool
     }
 }
 
-fn names_number(token: Token<'_>) -> bool
+fn names_number(kept: &Kept<'_>) -> bool
+    ensures { result ≡ names_number (kept_of kept.now) }
+{
+    match kept {
+        Kept::Numbered { .. } => true,
+        Kept::Wide(wide) => token_names_number(wide.token),
+        _ => false,
+    }
+}
+
+fn token_names_number(token: Token<'_>) -> bool
     ensures { result ≡ names_number (token_of token.entry) }
 {
     match token {
@@ -214,7 +257,7 @@ fn has_numbers(tokens: &[Placed<'_>]) -> bool
     ensures { result ≡ list_any (λ p. names_number p.token) (map placed_of tokens.now) }
 {
     for placed in tokens {
-        if names_number(placed.token) {
+        if names_number(&placed.kept) {
             return true;
         }
     }

@@ -1,6 +1,6 @@
 //! The reader by recursive descent: from tokens to an `Expr`.
 
-ghost use Rattle.std.specs.Prelude.{◌≡◌, ◌+◌, ◌<◌, ◌≤◌, ◌++◌, true, false, length, map, IfOk, IfErr, IfSome, Some};
+ghost use Rattle.std.specs.Prelude.{◌≡◌, ◌+◌, ◌<◌, ◌≤◌, ◌++◌, true, false, drop, length, map, IfOk, IfErr, IfSome, Some};
 ghost use Rattle.std.specs.Option.{option_map};
 ghost use Rattle.fancy_expr.specs.Each.{Each};
 ghost use Rattle.fancy_expr.specs.Views.{tree_of};
@@ -8,31 +8,43 @@ ghost use Rattle.fancy_pattern.specs.Grammar.{Names, is_at, is_branch_end, bar, 
 ghost use Rattle.fancy_pattern.specs.Faults.{Tells};
 ghost use Rattle.fancy_pattern.specs.Stuck.{is_end, is_calm, anything, Fails, FailsOpened, IsMisfit};
 ghost use Rattle.fancy_pattern.specs.Naming.{pairs_in};
-ghost use Rattle.fancy_pattern.specs.PatternViews.{token_of, opening_of, reference_of, piece_text};
+ghost use Rattle.fancy_pattern.specs.PatternViews.{kept_of, token_of, opening_of, reference_of, piece_text};
 ghost use Rattle.fancy_pattern.specs.Reading.{OneCharEach, point_of, next_token, Skips, ReadsTree, ReadsLast, SpellsLast, ReadsClass, ReadsPieces, ReadsBars, Quantifies, some_of};
-ghost use Rattle.fancy_pattern.specs.Tokens.{AbsentBar, If};
+ghost use Rattle.fancy_meaning.specs.Tree.{Literal};
+ghost use Rattle.fancy_pattern.specs.Tokens.{AbsentBar, If, Node};
 ghost use Rattle.fancy_pattern.specs.declared.failure.Failure.TheVariants.{Memory};
 
 use crate::class_text::push_piece;
 use crate::error::{ErrorKind, Fault};
 use crate::failure::Failure;
 use crate::group_names::GroupNames;
+use crate::kept::{Kept, Placed};
 use crate::nodes::{
     absent_expression, alternated, conditional, enclosed, group, is_empty, is_repeatable, joined,
-    look_around, node, reference, stopper, suffixed,
+    literal, look_around, node, reference, stopper, suffixed,
 };
-use crate::tokens::{ClassPiece, Opening, Placed, Quantifier, Reference, Suffix, Token};
+use crate::tokens::{ClassPiece, Leaf, Opening, Quantifier, Reference, Suffix, Token};
 use fancy_expr::expr::Expr;
 use std::alloc::Global;
 
 /// What is left to read.
 #[derive(Drop)]
-pub struct Reader<'a> {
+pub struct Reader<'r, 'a> {
     pub alloc: Global,
-    pub rest: &'a [Placed<'a>],
+    pub rest: &'r [Placed<'a>],
 }
 
-fn is_bar(token: Token<'_>) -> bool
+fn is_bar(kept: &Kept<'_>) -> bool
+    ensures { result ≡ gives_some (bar (kept_of kept.now)) }
+{
+    match kept {
+        Kept::Bar => true,
+        Kept::Wide(wide) => is_bar_token(wide.token),
+        _ => false,
+    }
+}
+
+fn is_bar_token(token: Token<'_>) -> bool
     ensures { result ≡ gives_some (bar (token_of token.entry)) }
 {
     match token {
@@ -41,7 +53,17 @@ fn is_bar(token: Token<'_>) -> bool
     }
 }
 
-fn is_close(token: Token<'_>) -> bool
+fn is_close(kept: &Kept<'_>) -> bool
+    ensures { result ≡ gives_some (closing (kept_of kept.now)) }
+{
+    match kept {
+        Kept::Close => true,
+        Kept::Wide(wide) => is_close_token(wide.token),
+        _ => false,
+    }
+}
+
+fn is_close_token(token: Token<'_>) -> bool
     ensures { result ≡ gives_some (closing (token_of token.entry)) }
 {
     match token {
@@ -50,7 +72,17 @@ fn is_close(token: Token<'_>) -> bool
     }
 }
 
-fn is_class_close(token: Token<'_>) -> bool
+fn is_class_close(kept: &Kept<'_>) -> bool
+    ensures { result ≡ gives_some (class_close (kept_of kept.now)) }
+{
+    match kept {
+        Kept::ClassClose => true,
+        Kept::Wide(wide) => is_class_close_token(wide.token),
+        _ => false,
+    }
+}
+
+fn is_class_close_token(token: Token<'_>) -> bool
     ensures { result ≡ gives_some (class_close (token_of token.entry)) }
 {
     match token {
@@ -59,7 +91,21 @@ fn is_class_close(token: Token<'_>) -> bool
     }
 }
 
-fn as_opening<'a>(token: Token<'a>) -> Option<Opening<'a>>
+fn as_opening<'a>(kept: &Kept<'a>) -> Option<Opening<'a>>
+    ensures { option_map opening_of result ≡ opening (kept_of kept.now) }
+{
+    match kept {
+        Kept::Enclosing(enclosing) => Some(Opening::Enclosing(*enclosing)),
+        Kept::Group(number) => Some(Opening::Group {
+            number: *number,
+            name: None,
+        }),
+        Kept::Wide(wide) => as_opening_token(wide.token),
+        _ => None,
+    }
+}
+
+fn as_opening_token<'a>(token: Token<'a>) -> Option<Opening<'a>>
     ensures { option_map opening_of result ≡ opening (token_of token.entry) }
 {
     match token {
@@ -68,7 +114,17 @@ fn as_opening<'a>(token: Token<'a>) -> Option<Opening<'a>>
     }
 }
 
-fn as_class_open(token: Token<'_>) -> Option<bool>
+fn as_class_open(kept: &Kept<'_>) -> Option<bool>
+    ensures { result ≡ class_open (kept_of kept.now) }
+{
+    match kept {
+        Kept::ClassOpen { casei } => Some(*casei),
+        Kept::Wide(wide) => as_class_open_token(wide.token),
+        _ => None,
+    }
+}
+
+fn as_class_open_token(token: Token<'_>) -> Option<bool>
     ensures { result ≡ class_open (token_of token.entry) }
 {
     match token {
@@ -77,7 +133,23 @@ fn as_class_open(token: Token<'_>) -> Option<bool>
     }
 }
 
-fn as_class_piece<'a>(token: Token<'a>) -> Option<ClassPiece<'a>>
+fn as_class_piece<'a>(kept: &Kept<'a>) -> Option<ClassPiece<'a>>
+    ensures { option_map piece_text result ≡ class_text (kept_of kept.now) }
+{
+    match kept {
+        Kept::ClassChar(c) => Some(ClassPiece::Char(*c)),
+        Kept::ClassEscaped(c) => Some(ClassPiece::Escaped(*c)),
+        Kept::ClassCode(c) => Some(ClassPiece::Code(*c)),
+        Kept::ClassSet { letter, text } => Some(ClassPiece::Set {
+            letter: *letter,
+            text,
+        }),
+        Kept::Wide(wide) => as_class_piece_token(wide.token),
+        _ => None,
+    }
+}
+
+fn as_class_piece_token<'a>(token: Token<'a>) -> Option<ClassPiece<'a>>
     ensures { option_map piece_text result ≡ class_text (token_of token.entry) }
 {
     match token {
@@ -86,7 +158,20 @@ fn as_class_piece<'a>(token: Token<'a>) -> Option<ClassPiece<'a>>
     }
 }
 
-fn as_quantifier(token: Token<'_>) -> Option<(Quantifier, bool)>
+fn as_quantifier(kept: &Kept<'_>) -> Option<(Quantifier, bool)>
+    ensures { result ≡ quantifier_of (kept_of kept.now) }
+{
+    match kept {
+        Kept::Star { greedy } => Some((Quantifier::Star, *greedy)),
+        Kept::Plus { greedy } => Some((Quantifier::Plus, *greedy)),
+        Kept::Question { greedy } => Some((Quantifier::Question, *greedy)),
+        Kept::Counts { lo, hi, greedy } => Some((Quantifier::Counts { lo: *lo, hi: *hi }, *greedy)),
+        Kept::Wide(wide) => as_quantifier_token(wide.token),
+        _ => None,
+    }
+}
+
+fn as_quantifier_token(token: Token<'_>) -> Option<(Quantifier, bool)>
     ensures { result ≡ quantifier_of (token_of token.entry) }
 {
     match token {
@@ -95,7 +180,18 @@ fn as_quantifier(token: Token<'_>) -> Option<(Quantifier, bool)>
     }
 }
 
-fn as_suffix(token: Token<'_>) -> Option<Suffix>
+fn as_suffix(kept: &Kept<'_>) -> Option<Suffix>
+    ensures { result ≡ suffix (kept_of kept.now) }
+{
+    match kept {
+        Kept::Plus { .. } => Some(Suffix::Possessive),
+        Kept::Question { .. } => Some(Suffix::Turned),
+        Kept::Wide(wide) => as_suffix_token(wide.token),
+        _ => None,
+    }
+}
+
+fn as_suffix_token(token: Token<'_>) -> Option<Suffix>
     ensures { result ≡ suffix (token_of token.entry) }
 {
     match token {
@@ -114,8 +210,27 @@ fn suffix_of(quantifier: Quantifier) -> Option<Suffix>
     }
 }
 
+/// The character of a literal, and whether it is folded.
+fn as_literal(kept: &Kept<'_>) -> Option<(char, bool)>
+    ensures { IfSome result (λ p. kept_of kept.now ≡ Node (Literal p.0 p.1)) }
+{
+    match kept {
+        Kept::Leaf(Leaf::Literal { val, casei }) => Some((*val, *casei)),
+        _ => None,
+    }
+}
+
 /// The kind of the fault where this token cannot stand.
-fn kind_of(token: Token<'_>, kind: ErrorKind) -> ErrorKind
+fn kind_of(kept: &Kept<'_>, kind: ErrorKind) -> ErrorKind
+    ensures { Tells (kept_of kept.now) result }
+{
+    match kept {
+        Kept::Wide(wide) => kind_of_token(wide.token, kind),
+        _ => kind,
+    }
+}
+
+fn kind_of_token(token: Token<'_>, kind: ErrorKind) -> ErrorKind
     ensures { Tells (token_of token.entry) result }
 {
     match token {
@@ -124,13 +239,21 @@ fn kind_of(token: Token<'_>, kind: ErrorKind) -> ErrorKind
     }
 }
 
-impl<'a> Reader<'a> {
-    fn next(&self) -> Option<Token<'a>>
-        ensures value { option_map token_of result ≡ next_token (point_of self.now) }
-        ensures some { IfSome result (λ t. 0 < length self.now.rest.now) }
+/// The byte where a token begins that is kept behind a pointer, as one is whose group may be missing; else 0.
+fn place_of(kept: &Kept<'_>) -> usize {
+    match kept {
+        Kept::Wide(wide) => wide.at,
+        _ => 0,
+    }
+}
+
+impl<'r, 'a> Reader<'r, 'a> {
+    fn next(&self) -> Option<&'r Kept<'a>>
+        ensures value { option_map (λ k. kept_of k.now) result ≡ next_token (point_of self.now) }
+        ensures some { IfSome result (λ k. 0 < length self.now.rest.now) }
     {
         match self.rest.first() {
-            Some(placed) => Some(placed.token),
+            Some(placed) => Some(&placed.kept),
             None => None,
         }
     }
@@ -142,7 +265,7 @@ impl<'a> Reader<'a> {
         match self.rest.first() {
             Some(placed) => Failure::Fault(Fault {
                 left: placed.left,
-                kind: kind_of(placed.token, kind),
+                kind: kind_of(&placed.kept, kind),
             }),
             None => Failure::Fault(Fault {
                 left: 0,
@@ -151,10 +274,10 @@ impl<'a> Reader<'a> {
         }
     }
 
-    /// The byte where the next token begins.
+    /// The byte where the next token begins, if it names a group.
     fn place(&self) -> usize {
         match self.rest.first() {
-            Some(placed) => placed.at,
+            Some(placed) => place_of(&placed.kept),
             None => 0,
         }
     }
@@ -172,7 +295,7 @@ impl<'a> Reader<'a> {
         ensures some { result ≡ true → 0 < length self.now.rest.now }
     {
         match self.next() {
-            Some(token) => is_bar(token),
+            Some(kept) => is_bar(kept),
             None => false,
         }
     }
@@ -182,7 +305,7 @@ impl<'a> Reader<'a> {
         ensures some { result ≡ true → 0 < length self.now.rest.now }
     {
         match self.next() {
-            Some(token) => is_close(token),
+            Some(kept) => is_close(kept),
             None => false,
         }
     }
@@ -191,7 +314,7 @@ impl<'a> Reader<'a> {
         ensures { result ≡ is_branch_end (point_of self.now) }
     {
         match self.next() {
-            Some(token) => is_bar(token) || is_close(token),
+            Some(kept) => is_bar(kept) || is_close(kept),
             None => true,
         }
     }
@@ -292,8 +415,16 @@ impl<'a> Reader<'a> {
     {
         let mut pieces = Vec::new(self.alloc);
         while !self.is_branch_end() {
-            let piece = self.read_piece(names)?;
-            push_some(&mut pieces, piece)?;
+            match self.next_literal() {
+                Some((val, casei)) => {
+                    pieces.push(literal(self.alloc, val, casei)?)?;
+                    self.skip();
+                }
+                None => {
+                    let piece = self.read_piece(names)?;
+                    push_some(&mut pieces, piece)?;
+                }
+            }
         }
         Ok(pieces)
     }
@@ -361,6 +492,33 @@ impl<'a> Reader<'a> {
         Ok(suffixed(self.alloc, atom, quantifier, greedy, suffix)?)
     }
 
+    /// The literal that is next, if it has no quantifier.
+    fn next_literal(&self) -> Option<(char, bool)>
+        ensures value { (names : Names) → IfSome result (λ p. SpellsPiece names
+            (point_of self.now) (drop 1 (point_of self.now)) (Literal p.0 p.1)) }
+        ensures some { IfSome result (λ p. 0 < length self.now.rest.now) }
+    {
+        let (first, after) = self.rest.split_first()?;
+        let literal = as_literal(&first.kept)?;
+        let after = Reader {
+            alloc: self.alloc,
+            rest: after,
+        };
+        if after.is_at_quantifier() {
+            return None;
+        }
+        Some(literal)
+    }
+
+    fn is_at_quantifier(&self) -> bool
+        ensures { result ≡ is_at quantifier_of (point_of self.now) }
+    {
+        match self.next() {
+            Some(kept) => as_quantifier(kept).is_some(),
+            None => false,
+        }
+    }
+
     fn next_suffix(&self) -> Option<Suffix>
         ensures value { result ≡ first_gives suffix (point_of self.now) }
         ensures some { IfSome result (λ q. 0 < length self.now.rest.now) }
@@ -407,8 +565,9 @@ impl<'a> Reader<'a> {
             ≤ length self.old.rest.now) }
     {
         if let Some(opening) = self.next_opening() {
+            let place = self.place();
             self.skip();
-            return self.read_opened(names, opening);
+            return self.read_opened(names, opening, place);
         }
         if let Some(casei) = self.next_class() {
             self.skip();
@@ -428,10 +587,10 @@ impl<'a> Reader<'a> {
             ≤ length self.old.rest.now) }
     {
         let place = self.place();
-        let Some(token) = self.next() else {
+        let Some(kept) = self.next() else {
             return Err(self.misfit(ErrorKind::TargetNotRepeatable));
         };
-        match node(self.alloc, names, token, place)? {
+        match node(self.alloc, names, kept, place)? {
             Some(found) => {
                 self.skip();
                 Ok(found)
@@ -453,7 +612,7 @@ impl<'a> Reader<'a> {
         ensures some { result ≡ true → 0 < length self.now.rest.now }
     {
         match self.next() {
-            Some(token) => is_class_close(token),
+            Some(kept) => is_class_close(kept),
             None => false,
         }
     }
@@ -481,9 +640,14 @@ impl<'a> Reader<'a> {
         Ok(Expr::Delegate { inner: text, casei })
     }
 
-    /// What follows an opening token, up to its closing parenthesis.
+    /// What follows an opening token, which begins at the byte `place`, up to its closing parenthesis.
     #[cycle(reading)]
-    fn read_opened(&mut self, names: &GroupNames, opening: Opening<'a>) -> Result<Expr, Failure>
+    fn read_opened(
+        &mut self,
+        names: &GroupNames,
+        opening: Opening<'a>,
+        place: usize,
+    ) -> Result<Expr, Failure>
         ensures spells { ReadsTree
             (SpellsOpened (pairs_in names.now.pairs) (opening_of opening.entry))
             self.old self.new result }
@@ -503,7 +667,7 @@ impl<'a> Reader<'a> {
                 Ok(group(self.alloc, body)?)
             }
             Opening::AbsentBar => self.read_absent(names),
-            Opening::If(found) => self.read_if(names, found),
+            Opening::If(found) => self.read_if(names, found, place),
             Opening::IfPattern => {
                 let condition = self.read_last(names)?;
                 self.read_bodies(names, condition)
@@ -554,7 +718,12 @@ impl<'a> Reader<'a> {
 
     /// A conditional that asks for a group; without branches the condition alone.
     #[cycle(reading)]
-    fn read_if(&mut self, names: &GroupNames, found: Reference<'a>) -> Result<Expr, Failure>
+    fn read_if(
+        &mut self,
+        names: &GroupNames,
+        found: Reference<'a>,
+        place: usize,
+    ) -> Result<Expr, Failure>
         ensures spells { ReadsTree
             (SpellsOpened (pairs_in names.now.pairs) (If (reference_of found.entry)))
             self.old self.new result }
@@ -564,7 +733,7 @@ impl<'a> Reader<'a> {
         ensures shorter { IfOk result (λ e. length self.new.rest.now
             ≤ length self.old.rest.now) }
     {
-        let condition = reference(self.alloc, names, found, self.place())?;
+        let condition = reference(self.alloc, names, found, place)?;
         if self.is_at_close() {
             self.skip();
             return Ok(condition);

@@ -159,13 +159,3 @@ impl<'a> Item<'a> {
         Item { token, flags }
     }
 }
-
-/// A token, and where it is.
-#[derive(Clone, Copy)]
-pub struct Placed<'a> {
-    /// How many characters of the pattern begin where it does.
-    pub left: usize,
-    /// The byte where it begins.
-    pub at: usize,
-    pub token: Token<'a>,
-}

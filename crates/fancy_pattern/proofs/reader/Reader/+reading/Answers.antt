@@ -1,12 +1,13 @@
 use Rattle.std.proofs.Common.{sym, map, ap, option_map, ◌∙◌, subst, arith}
 use Rattle.std.proofs.lemmas.Result.{err_from_is_err_and}
+use Rattle.fancy_meaning.specs.Tree.{Literal}
 use Rattle.fancy_expr.specs.Views.{tree_of, look_of}
 use Rattle.fancy_pattern.specs.Grammar.{bar, closing, opening, class_open, SpellsOpened, asked, no_bar, branches}
 use Rattle.fancy_pattern.specs.Naming.{pairs_in}
 use Rattle.fancy_pattern.specs.PatternViews.{opening_of, reference_of}
 use Rattle.fancy_pattern.specs.Reading.{point_of, ReadsTree}
 use Rattle.fancy_pattern.specs.Tokens.{Around, Group, IfPattern, IfLook}
-use Rattle.fancy_pattern.proofs.OneChars.{one_part, reference_chars}
+use Rattle.fancy_pattern.proofs.OneChars.{one_part, with_part, reference_chars}
 use Rattle.fancy_pattern.proofs.Points as points
 use Rattle.fancy_pattern.proofs.WhereStuck as stuck
 use Rattle.fancy_pattern.proofs.reader.Reader.+reading.Goals as goal
@@ -69,9 +70,22 @@ read_pieces-loop-self-init t c = points.pieces_begin (pairs_in c.args.names.now.
 pub read_pieces-loop-self-preserved : goal.read_pieces-loop-self-preserved
 read_pieces-loop-self-preserved t c =
     points.pieces_next (pairs_in c.args.names.now.pairs) c.args.self.now c.loop-self.self c.read_piece.new.self c.loop-self.pieces.items
-    c.push_some.new.pieces.items (tree_of c.in_ok-piece.piece) c.loop-self.invariant (sym c.is_branch_end.ensures ∙ c.loop-self-test.true)
-    c.in_ok-piece.ensures.spells c.in_ok-push_some.ensures.pushed (let a = c.in_ok-piece.ensures.shorter in omega (arith, a))
-    (c.in_ok-push_some.ensures.one_char c.loop-self.invariant.one_char c.in_ok-piece.ensures.one_char)
+    c.push_some.new.pieces.items (tree_of c.in_ok-piece-in-None.piece) c.loop-self.invariant (sym c.is_branch_end.ensures ∙ c.loop-self-test.true)
+    c.in_ok-piece-in-None.ensures.spells c.in_ok-push_some-in-None.ensures.pushed (let a = c.in_ok-piece-in-None.ensures.shorter in omega (arith, a))
+    (c.in_ok-push_some-in-None.ensures.one_char c.loop-self.invariant.one_char c.in_ok-piece-in-None.ensures.one_char)
+
+pub read_pieces-loop-self-preserved-in-Some : goal.read_pieces-loop-self-preserved-in-Some
+read_pieces-loop-self-preserved-in-Some t c =
+    let names = pairs_in c.args.names.now.pairs in
+    let made = c.in_ok-literal-in-Some in
+    let pushed = c.in_ok-push-in-Some.ensures.items in
+    points.pieces_next names c.args.self.now c.loop-self.self c.skip.new.self c.loop-self.pieces.items c.push.new.self.items
+    (Literal c.in-Some.val c.in-Some.casei) c.loop-self.invariant (sym c.is_branch_end.ensures ∙ c.loop-self-test.true)
+    (points.literal_passed names c.loop-self.self c.skip.new.self (Literal c.in-Some.val c.in-Some.casei) (c.in-Some.ensures.value names)
+    c.skip.ensures.skips)
+    (points.literal_pushed c.loop-self.pieces.items c.push.new.self.items made.field-0 c.in-Some.val c.in-Some.casei pushed made.ensures.made)
+    (let a = c.skip.ensures.shorter in omega (arith, a))
+    (with_part c.loop-self.pieces.items c.push.new.self.items made.field-0 pushed made.ensures.one_char c.loop-self.invariant.one_char)
 
 pub read_pieces-returns-clause-spells : goal.read_pieces-returns-clause-spells
 read_pieces-returns-clause-spells t c =
@@ -332,12 +346,12 @@ read_piece-returns-clause-fails t c =
     (tree_of c.in_ok-atom.atom) c.read_quantifier.result
     c.in_ok-atom.ensures.spells (c.read_quantifier.ensures.fails (pairs_in c.args.names.now.pairs))
 
-pub read_pieces-returns-in_err-piece-clause-fails : goal.read_pieces-returns-in_err-piece-clause-fails
-read_pieces-returns-in_err-piece-clause-fails t c =
-    let p = err_from_is_err_and c.from_residual.result c.from_residual.ensures.1 in
+pub read_pieces-returns-in_err-piece-in-None-clause-fails : goal.read_pieces-returns-in_err-piece-in-None-clause-fails
+read_pieces-returns-in_err-piece-in-None-clause-fails t c =
+    let p = err_from_is_err_and c.from_residual-in_err-piece-in-None.result c.from_residual-in_err-piece-in-None.ensures.1 in
     rw (p.1, p.2) (stuck.pieces_fail (pairs_in c.args.names.now.pairs) (point_of c.args.self.now)
     (point_of c.loop-self.self) c.loop-self.invariant.so_far _ c.loop-self.invariant.row
-    (sym c.is_branch_end.ensures ∙ c.loop-self-test.true) c.in_err-piece.ensures.fails)
+    (sym c.is_branch_end.ensures ∙ c.loop-self-test.true) c.in_err-piece-in-None.ensures.fails)
 
 -- ---- literals of one character
 

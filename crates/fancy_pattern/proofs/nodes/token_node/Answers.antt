@@ -4,7 +4,7 @@ use Rattle.fancy_pattern.specs.Naming.{pairs_in}
 use Rattle.fancy_pattern.specs.PatternViews.{token_of, reference_of}
 use Rattle.fancy_pattern.proofs.OneChars.{reference_chars}
 use Rattle.fancy_pattern.proofs.WhereStuck.{unnamed_token}
-use Rattle.fancy_pattern.proofs.nodes.node.Goals as goal
+use Rattle.fancy_pattern.proofs.nodes.token_node.Goals as goal
 
 pub returns-in_err-reference-in-Refer-clause-fails : goal.returns-in_err-reference-in-Refer-clause-fails
 returns-in_err-reference-in-Refer-clause-fails c =
