@@ -9,4 +9,5 @@ pub mod BackLaws
 pub mod ThreadsLaws
 pub mod PlacesLaws
 pub mod LeadingLaws
+pub mod LookLaws
 pub mod WalkLaws

@@ -6,4 +6,5 @@ pub mod Attempts
 pub mod LazyLoops
 pub mod SingleDelegates
 pub mod Strategies
+pub mod LookPrefilters
 pub mod Walks

@@ -7,10 +7,13 @@ ghost use Rattle.fancy_meaning.specs.Fits.{answer_fits, flag_fits, instr_fits, i
 ghost use Rattle.fancy_program.specs.declared.insn.Insn.{Insn};
 ghost use Rattle.fancy_program.specs.Attempts.{IsPrefilterOf};
 ghost use Rattle.fancy_program.specs.Insns.{insn_of, prog_with};
+ghost use Rattle.fancy_program.specs.LookPrefilters.{IsLookPrefilterOf};
 ghost use Rattle.fancy_program.specs.Strategies.{IsStrategyOf};
 ghost use Rattle.fancy_program.specs.Walks.{IsRequired};
 
+use crate::look_prefilter::LookPrefilter;
 use crate::prefilter::StartPrefilter;
+use crate::required::Required;
 use crate::strategy::Strategy;
 use fancy_characters::classes::{CaseiLiteral, CharClassMatcher};
 use fancy_characters::look::is_of_end;
@@ -151,14 +154,17 @@ pub struct Prog {
     pub parts: ProgParts,
     /// What lets a run pass over starts, if the program has it.
     pub prefilter: Option<StartPrefilter>,
+    /// The same by the byte before, if there is none.
+    pub look_prefilter: Option<LookPrefilter>,
     /// Which way its runs take.
     pub strategy: Strategy,
-    /// The instruction without which no attempt succeeds, if one is known.
-    pub required: Option<usize>,
+    /// What each match takes, if it is known.
+    pub required: Option<Required>,
     ghost fits: { IsTrue (program_fits (prog_with body.items parts)) },
     ghost begins: { ForSome prefilter (IsPrefilterOf (map insn_of body.items)) },
+    ghost looks: { ForSome look_prefilter (IsLookPrefilterOf (map insn_of body.items)) },
     ghost decides: { IsStrategyOf (map insn_of body.items) prefilter strategy },
-    ghost needs: { ForSome required (λ at. ∥ IsRequired (map insn_of body.items) at ∥₁) },
+    ghost needs: { ForSome required (λ r. ∥ IsRequired (map insn_of body.items) r ∥₁) },
 }
 
 impl ProgParts {

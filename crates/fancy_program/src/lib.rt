@@ -5,6 +5,7 @@ mod attempt;
 pub mod insn;
 pub mod lazy;
 mod listing;
+pub mod look_prefilter;
 pub mod moves;
 pub mod prefilter;
 mod program;

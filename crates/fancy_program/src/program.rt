@@ -7,6 +7,7 @@ ghost use Rattle.fancy_program.specs.Insns.{insn_of, prog_with};
 ghost use Rattle.fancy_program.specs.Programs.{prog_of};
 
 use crate::insn::{Insn, Prog, ProgParts};
+use crate::look_prefilter::{LookPrefilter, look_prefilter_of};
 use crate::prefilter::StartPrefilter;
 use crate::required::required_in;
 use crate::strategy::Strategy;
@@ -25,12 +26,14 @@ impl Prog {
         is_shared_by_threads::<Prog>();
         let insns: &[Insn] = &body;
         let prefilter = StartPrefilter::of(insns);
+        let look_prefilter = look_prefilter_of(insns, &prefilter);
         let strategy = Strategy::of(insns, &prefilter);
         let required = required_in(insns, &prefilter);
         Prog {
             body,
             parts,
             prefilter,
+            look_prefilter,
             strategy,
             required,
         }

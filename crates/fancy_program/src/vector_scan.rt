@@ -104,7 +104,7 @@ impl Needles {
 }
 
 /// The byte is a small letter, a digit or a space, as most of many texts are.
-fn is_common(byte: u8) -> bool {
+pub(crate) fn is_common(byte: u8) -> bool {
     matches!(byte, b'a'..=b'z' | b'0'..=b'9' | b' ')
 }
 
