@@ -143,7 +143,7 @@ struct fancy_outcome {
     uint32_t code; /* of enum fancy_code */
     size_t byte;   /* where the pattern, the tree or the text cannot be read */
     size_t group;  /* the group that is not there */
-    size_t count;  /* how many groups there are, with group 0; of fancy_find_all, how many matches were written */
+    size_t count;  /* how many groups there are, with group 0; of the calls for all matches, how many were written */
     size_t next;   /* of fancy_find: pos of a search for the next match; past the length of the text there is none */
 };
 
@@ -238,6 +238,12 @@ struct fancy_outcome fancy_find_all(struct fancy_program *program, const char *t
                                     const struct fancy_options *options, struct fancy_standing *standing, size_t *spans,
                                     size_t spans_length);
 
+/* The same with groups: of each match start and end of each group from 0 up are written, 2 * fancy_group_count(program)
+ * numbers, and FANCY_UNSET twice for a group that is not set. count says how many matches that are. */
+struct fancy_outcome fancy_captures_all(struct fancy_program *program, const char *text, size_t text_length,
+                                        const struct fancy_options *options, struct fancy_standing *standing,
+                                        size_t *spans, size_t spans_length);
+
 /* ---- errors */
 
 /* Writes the name of a code; the answer is 0 where the number is no code. No name has more than 40 bytes. */
@@ -286,6 +292,8 @@ static inline size_t *fancy_numbers(size_t *numbers)
     fancy_find(program, fancy_from(text), length, options, fancy_numbers(spans), spans_length)
 #define fancy_find_all(program, text, length, options, standing, spans, spans_length) \
     fancy_find_all(program, fancy_from(text), length, options, standing, fancy_numbers(spans), spans_length)
+#define fancy_captures_all(program, text, length, options, standing, spans, spans_length) \
+    fancy_captures_all(program, fancy_from(text), length, options, standing, fancy_numbers(spans), spans_length)
 #define fancy_error_name(code, name, room) fancy_error_name(code, fancy_into(name), room)
 #define fancy_error_message(outcome, message, room) fancy_error_message(outcome, fancy_into(message), room)
 #define fancy_explain_pattern(pattern, length, options, message, room) \

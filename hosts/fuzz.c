@@ -56,6 +56,27 @@ static size_t list(struct fancy_program *program, const char *text, size_t lengt
     return written;
 }
 
+/* The list with groups has the matches of the list without. */
+static void list_with_groups(struct fancy_program *program, const char *text, size_t length,
+                             const struct fancy_options *options, const size_t *spans, size_t count, uint32_t ends)
+{
+    struct fancy_standing standing = FANCY_FIRST;
+    size_t width = 2 * fancy_group_count(program), numbers[4 * ROOM], at = 0;
+    if (width > 2 * ROOM)
+        return;
+    struct fancy_outcome found;
+    do {
+        found = fancy_captures_all(program, text, length, options, &standing, numbers, 4 * ROOM);
+        for (size_t row = 0; row < found.count && at < count; row++, at += 2) {
+            want(memcmp(numbers + row * width, spans + at, 2 * sizeof *spans) == 0, "a list with groups has other matches");
+            check_spans(text, length, numbers + row * width, width / 2);
+        }
+    } while (found.code == FANCY_OK && at < count);
+    /* Where groups are asked for a search may come to a limit that one without them does not. */
+    if (ends <= FANCY_NO_MATCH && found.code <= FANCY_NO_MATCH)
+        want(at == count && (ends == FANCY_OK || found.code == ends), "a list with groups ends otherwise");
+}
+
 static void search(struct fancy_program *program, const char *text, size_t length, const struct fancy_options *options)
 {
     size_t first[ROOM], second[ROOM], many[ROOM], single[ROOM];
@@ -77,6 +98,7 @@ static void search(struct fancy_program *program, const char *text, size_t lengt
          "a list with little room ends otherwise");
     want(memcmp(many, single, count * sizeof *many) == 0, "a list with little room has other matches");
     check_spans(text, length, many, count / 2);
+    list_with_groups(program, text, length, options, many, count, ends);
     for (size_t at = 2; at < count; at += 2)
         want(many[at] >= many[at - 1], "two matches of a list overlap");
 }

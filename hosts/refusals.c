@@ -49,6 +49,42 @@ static void find_all(const char *what, const char *text, size_t room)
     printf("%zu written, then from %zu\n", outcome.count, standing.pos);
 }
 
+static void captures_all(const char *what, const char *text, size_t *numbers, size_t room)
+{
+    struct fancy_outcome outcome = fancy_captures_all(&program, text, strlen(text), &options, &standing,
+                                                      numbers, room);
+    print_outcome(what, outcome);
+    printf("%zu written, then from %zu:", outcome.count, standing.pos);
+    for (size_t i = 0; i < 2 * fancy_group_count(&program) * outcome.count; i++)
+        printf(numbers[i] == FANCY_UNSET ? " -" : " %zu", numbers[i]);
+    putchar('\n');
+}
+
+/* Two groups, one of which is not set in each match. */
+static void list_groups(void)
+{
+    size_t numbers[14];
+    struct fancy_standing first = FANCY_FIRST;
+    standing = first;
+    captures_all("all groups without a pattern", "a", numbers, 14);
+    compile_pattern("two groups, of which one is set", "(a)|(b)");
+    captures_all("no room for the groups of a match", "abab", numbers, 5);
+    captures_all("room for one match and not for two", "abab", numbers, 11);
+    captures_all("room for two", "abab", numbers, 13);
+    options.not_empty = true;
+    captures_all("not_empty said to all searches alone", "abab", numbers, 14);
+    options = fancy_default_options();
+    captures_all("the rest", "abab", numbers, 14);
+    captures_all("after the end", "abab", numbers, 14);
+    standing = first;
+    captures_all("all groups of a text that is no UTF-8", "ab\xff", numbers, 14);
+    options.step_limit = 0;
+    captures_all("all groups within no step", "ab", numbers, 14);
+    options = fancy_default_options();
+    printf("%zu matches, no room at all\n", fancy_captures_all(&program, "ab", 2, &options, &standing, NULL, 0).count);
+    fancy_free(&program);
+}
+
 /* So many open parentheses, and as many closed ones. */
 static void compile_nested(const char *what, size_t depth)
 {
@@ -204,6 +240,7 @@ int main(void)
     fancy_free(&program);
     find("a search in what was freed", "a");
     refuse_patterns();
+    list_groups();
     name_groups();
     write_texts();
     return 0;

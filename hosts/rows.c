@@ -2,7 +2,8 @@
  *
  * rows [--stack BYTES]   on a thread with a stack of so many bytes
  * rows --refuse          refuses each request for memory of each row in turn: the row has to end by Memory, or by its
- *                        line where it can do without; and made again to give its line. Prints how many there were. */
+ *                        line where it can do without; and made again to give its line. Prints how many there were.
+ * rows --list ..         any of these; the matches of a pattern are listed by fancy_captures_all, and not one by one. */
 #define _GNU_SOURCE
 #include "fancy.h"
 #include <pthread.h>
@@ -16,6 +17,7 @@ void *__real_realloc(void *old, size_t size);
 
 static size_t requests, refused; /* how many so far, and which one is refused; 0 for none */
 static bool is_counted;
+static bool is_listed; /* by fancy_captures_all */
 
 static bool is_refused(void)
 {
@@ -176,6 +178,26 @@ static void write_matches(struct fancy_program *program, const struct row *row, 
         write_failure(outcome, start);
 }
 
+/* The same by fancy_captures_all, with room for two matches. */
+static void write_list(struct fancy_program *program, const struct row *row, char *line)
+{
+    struct fancy_standing standing = FANCY_FIRST;
+    struct fancy_outcome outcome;
+    size_t groups = fancy_group_count(program);
+    size_t *spans = __real_malloc(4 * groups * sizeof *spans);
+    char *start = line;
+    do {
+        is_counted = true;
+        outcome = fancy_captures_all(program, row->text, row->text_length, &row->options, &standing, spans, 4 * groups);
+        is_counted = false;
+        for (size_t i = 0; i < outcome.count; i++)
+            line = write_match(spans + 2 * groups * i, groups, line + sprintf(line, line == start ? "" : ", "));
+    } while (outcome.code == FANCY_OK);
+    free(spans);
+    if (outcome.code > FANCY_NO_MATCH)
+        write_failure(outcome, start);
+}
+
 static void answer_pattern(const struct row *row, char *line)
 {
     struct fancy_program program = FANCY_NOTHING;
@@ -183,7 +205,9 @@ static void answer_pattern(const struct row *row, char *line)
     struct fancy_outcome outcome = fancy_compile_pattern(row->source, row->source_length, &row->options, &program);
     is_counted = false;
     line[0] = 0;
-    if (outcome.code == FANCY_OK)
+    if (outcome.code == FANCY_OK && is_listed)
+        write_list(&program, row, line);
+    else if (outcome.code == FANCY_OK)
         write_matches(&program, row, line);
     else
         write_failure(outcome, line);
@@ -271,6 +295,9 @@ static int refuse_rows(void)
 
 int main(int argc, char **argv)
 {
+    is_listed = argc > 1 && strcmp(argv[1], "--list") == 0;
+    argc -= is_listed;
+    argv += is_listed;
     if (argc == 2 && strcmp(argv[1], "--refuse") == 0)
         return refuse_rows();
     if (argc != 3) {

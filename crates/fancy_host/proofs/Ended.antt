@@ -3,7 +3,7 @@ use Rattle.std.proofs.Common.{◌≡◌, ◌<◌, ◌≤◌, ◌-◌, ℕ, List,
 use Rattle.std.proofs.Math.Seq.{drop-nil}
 use Rattle.std.proofs.lemmas.List.{length-take, take_min}
 use Rattle.fancy_host.specs.Hosted.{ended, over}
-use Rattle.fancy_host.proofs.SpansWritten.{over_more}
+use Rattle.fancy_host.proofs.RowsWritten.{over_more}
 
 module _ (text : List ℕ) where
   pub ended_in_room : (old : List ℕ) (n : ℕ) → n ≡ min (length old - 1) (length text) → n < length old →

@@ -6,5 +6,6 @@ pub mod HeldGroups
 pub mod NamedGroups
 pub mod Told
 pub mod Values
-pub mod SpansWritten
+pub mod Widths
+pub mod RowsWritten
 pub mod HandleLaws

@@ -169,6 +169,10 @@ outcome_of text (Err e) = failure e
 abbrev pub over : {X : Type 0} → List X → List X → List X
 over new old = take (length old) new ++ drop (length new) old
 
+-- and that from a place on
+abbrev pub over_from : {X : Type 0} → ℕ → List X → List X → List X
+over_from at new old = take at old ++ over new (drop at old)
+
 -- a text over what is there, as far as there is room for it with the zero at its end
 abbrev pub ended : List ℕ → List ℕ → List ℕ
 ended text old = over (take (length old - 1) text ++ 0 ∷ []) old

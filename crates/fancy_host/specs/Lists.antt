@@ -1,8 +1,8 @@
 -- What a host is answered that asks for all matches of a text.
-use Rattle.std.specs.Prelude.{◌≡◌, ◌≤◌, ℕ, ◌/◌, Bool, IsFalse, IsTrue, List, [], ◌∷◌, length, map, Option, None, Some, if◌then◌else◌}
+use Rattle.std.specs.Prelude.{◌≡◌, ◌≤◌, ◌<◌, ℕ, ◌+◌, ◌*◌, All, Bool, IsFalse, IsTrue, List, [], ◌∷◌, length, map, min, Option, None, Some, if◌then◌else◌}
 use Rattle.std.specs.List.{flat_map}
 use Rattle.fancy_meaning.specs.Fits.{run_fits}
-use Rattle.fancy_meaning.specs.MatchState.{Span}
+use Rattle.fancy_meaning.specs.Numbers.{usize_max}
 use Rattle.fancy_meaning.specs.Options.{RunOptions}
 use Rattle.fancy_meaning.specs.Premises.{Input, plan}
 use Rattle.fancy_expr.specs.declared.error.Error.{Error}
@@ -17,7 +17,7 @@ use Rattle.fancy_host.specs.declared.outcome.FancyOutcome.{FancyOutcome}
 use Rattle.fancy_host.specs.declared.searches.Searcher.{Searcher}
 use Rattle.fancy_host.specs.declared.standing.FancyStanding.{FancyStanding}
 use Rattle.fancy_host.specs.Codes.{ok, no_match, unfit}
-use Rattle.fancy_host.specs.Hosted.{IsNoSearch, IsSearch, coded, compiled_of, failure, over, running, with_count}
+use Rattle.fancy_host.specs.Hosted.{IsNoSearch, IsSearch, coded, compiled_of, failure, groups, over, running, with_count}
 
 -- where the list of a host stands
 abbrev pub standing_of : FancyStanding → Standing
@@ -27,48 +27,56 @@ standing_of s = record { pos = s.pos; last = if s.has_last then Some s.last else
 abbrev pub listing : FancyOptions → List ℕ → RunOptions
 listing o text = begun_at (running o text) 0
 
--- start and end of each span
-abbrev pub numbers_of : List Span → List ℕ
-numbers_of = flat_map (λ span. span.0 ∷ span.1 ∷ [])
+-- what a list tells of each match: where it is, or where all its groups are
+pub data Form : Type 0 where
+  span_alone : Form
+  all_groups : Form
 
--- how many spans these numbers are
-abbrev pub room : List ℕ → ℕ
-room spans = length spans / 2
+-- the row of numbers that is written of a match with these numbers
+abbrev pub row_of : Form → List ℕ → List ℕ
+row_of span_alone numbers = (first_pair numbers).0 ∷ (first_pair numbers).1 ∷ []
+row_of all_groups numbers = numbers
 
--- the spans of the matches that are left where the list stands so
-abbrev pub spans_left : Input → List ℕ → RunOptions → Standing → List Span
-spans_left i text o s = map first_pair (left (plan i) text o s)
+-- how many numbers a row has
+abbrev pub width_of : Form → Searcher → ℕ
+width_of span_alone s = 2
+width_of all_groups s = min usize_max (2 * groups s)
 
--- ---- a tree that is compiled, a text, and the options of all searches
+-- the numbers of all rows, one row after the other
+abbrev pub numbers_of : List (List ℕ) → List ℕ
+numbers_of rows = flat_map (λ row. row) rows
 
-module _ (c : Compiled) (text : List ℕ) (o : RunOptions) where
-  -- the list comes from the one standing to the other by matches with these spans
-  abbrev pub ComesBy : Standing → List Span → Standing → Type 0
-  ComesBy from spans to =
+-- ---- a form of rows, a tree that is compiled, a text, and the options of all searches
+
+module _ (form : Form) (width : ℕ) (c : Compiled) (text : List ℕ) (o : RunOptions) where
+  -- the list comes from the one standing to the other by matches with these rows
+  abbrev pub ComesBy : Standing → List (List ℕ) → Standing → Type 0
+  ComesBy from rows to =
       (i : Input) → IsCompiledFrom i c →
-      (ms : List (List ℕ)) × ((map first_pair ms ≡ spans) × ComesTo (plan i) text o from ms to)
+      (ms : List (List ℕ)) × ((map (row_of form) ms ≡ rows) × ComesTo (plan i) text o from ms to)
 
-  -- these are the spans of all matches that are left
-  abbrev pub AreAll : Standing → List Span → Type 0
-  AreAll s spans = (i : Input) → IsCompiledFrom i c → spans_left i text o s ≡ spans
+  -- these are the rows of all matches that are left
+  abbrev pub AreAll : Standing → List (List ℕ) → Type 0
+  AreAll s rows = (i : Input) → IsCompiledFrom i c → map (row_of form) (left (plan i) text o s) ≡ rows
 
   -- the next search of the list answers this error, as is promised
   abbrev pub Fails : Standing → Error → Type 0
   Fails s e = (i : Input) → IsCompiledFrom i c → FailsAt i text o s e
 
-  -- Why these spans are written and no more, where there is room for so many: there is no room for one more, and the
-  -- list stands after them; they are all, and the list has ended; or the list comes after them to a search that fails,
-  -- and stands before it.
-  pub data Stops (spaces : ℕ) (from : Standing) (spans : List Span) : Standing → FancyOutcome → Type 0 where
-    is_full : {to : Standing} → length spans ≡ spaces → ComesBy from spans to → Stops spaces from spans to (coded ok)
-    has_ended : {to : Standing} → AreAll from spans → AreAll to [] → Stops spaces from spans to (coded no_match)
-    fails : {to : Standing} (e : Error) → ComesBy from spans to → Fails to e → Stops spaces from spans to (failure e)
+  -- Why these rows are written and no more, where there is room for so many numbers: there is no room for one more row,
+  -- and the list stands after them; they are all, and the list has ended; or the list comes after them to a search that
+  -- fails, and stands before it.
+  pub data Stops (room : ℕ) (from : Standing) (rows : List (List ℕ)) : Standing → FancyOutcome → Type 0 where
+    is_full : {to : Standing} → room < length (numbers_of rows) + width → ComesBy from rows to →
+        Stops room from rows to (coded ok)
+    has_ended : {to : Standing} → AreAll from rows → AreAll to [] → Stops room from rows to (coded no_match)
+    fails : {to : Standing} (e : Error) → ComesBy from rows to → Fails to e → Stops room from rows to (failure e)
 
   -- what is written of the list that stands at `from`, where it then stands, and the outcome
   pub data Writes (from : Standing) (old : List ℕ) : Standing → List ℕ → FancyOutcome → Type 0 where
-    writes : {to : Standing} {outcome : FancyOutcome} → (spans : List Span) → length spans ≤ room old →
-        Stops (room old) from spans to outcome →
-        Writes from old to (over (numbers_of spans) old) (with_count (length spans) outcome)
+    writes : {to : Standing} {outcome : FancyOutcome} → (rows : List (List ℕ)) → All (λ row. length row ≡ width) rows →
+        length (numbers_of rows) ≤ length old → Stops (length old) from rows to outcome →
+        Writes from old to (over (numbers_of rows) old) (with_count (length rows) outcome)
 
 -- ---- calls
 
@@ -79,17 +87,17 @@ list_fits s text o =
 
 -- what a program writes of a list, where the list then stands, and the outcome: it is unfit exactly where the options do
 -- not fit the program
-pub data Lists (s : Searcher) (text : List ℕ) (o : FancyOptions) (from : FancyStanding) (old : List ℕ) :
+pub data Lists (form : Form) (s : Searcher) (text : List ℕ) (o : FancyOptions) (from : FancyStanding) (old : List ℕ) :
     FancyStanding → List ℕ → FancyOutcome → Type 0 where
-  does_not_fit : IsFalse (list_fits s text o) → Lists s text o from old from old (coded unfit)
+  does_not_fit : IsFalse (list_fits s text o) → Lists form s text o from old from old (coded unfit)
   listed : {to : FancyStanding} {new : List ℕ} {outcome : FancyOutcome} → IsTrue (list_fits s text o) →
-      Writes (compiled_of s) text (listing o text) (standing_of from) old (standing_of to) new outcome →
-      Lists s text o from old to new outcome
+      Writes form (width_of form s) (compiled_of s) text (listing o text) (standing_of from) old (standing_of to) new outcome →
+      Lists form s text o from old to new outcome
 
 -- what is listed by a program that may hold no tree, in bytes that may be no text
-pub data FindsAll (text : List ℕ) (o : FancyOptions) (from : FancyStanding) (old : List ℕ) :
+pub data FindsAll (form : Form) (text : List ℕ) (o : FancyOptions) (from : FancyStanding) (old : List ℕ) :
     Option Searcher → FancyStanding → List ℕ → FancyOutcome → Type 0 where
   unsearched : {held : Option Searcher} {outcome : FancyOutcome} → IsNoSearch text o held outcome →
-      FindsAll text o from old held from old outcome
+      FindsAll form text o from old held from old outcome
   found : {s : Searcher} {to : FancyStanding} {new : List ℕ} {outcome : FancyOutcome} → IsSearch text o (Some s) →
-      Lists s text o from old to new outcome → FindsAll text o from old (Some s) to new outcome
+      Lists form s text o from old to new outcome → FindsAll form text o from old (Some s) to new outcome

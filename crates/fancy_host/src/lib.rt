@@ -9,6 +9,7 @@ mod options;
 mod outcome;
 mod program;
 mod reading;
+mod rows;
 mod searches;
 mod standing;
 mod writing;
@@ -17,7 +18,7 @@ ghost use Rattle.std.specs.Prelude.{◌≡◌, None, codes, length};
 ghost use Rattle.fancy_host.specs.Codes.{name_of};
 ghost use Rattle.fancy_host.specs.Hosted.{Compiles, FindsFirst, IsText, default_options, ended, group_count, tree_of};
 ghost use Rattle.fancy_host.specs.Hosted as hosted;
-ghost use Rattle.fancy_host.specs.Lists.{FindsAll};
+ghost use Rattle.fancy_host.specs.Lists.{FindsAll, all_groups, span_alone};
 ghost use Rattle.fancy_host.specs.Names.{FindsGroups, group_name};
 ghost use Rattle.fancy_host.specs.Whether.{FindsAny};
 
@@ -157,6 +158,7 @@ pub extern "C" fn fancy_find_all(
     spans: &mut [usize],
 ) -> FancyOutcome
     ensures finds { FindsAll
+        span_alone
         text.now
         options.now
         standing.old
@@ -173,6 +175,39 @@ pub extern "C" fn fancy_find_all(
     };
     let mut searcher = program.take(alloc).into_searcher();
     let outcome = searcher.find_all(alloc, text, options, standing, spans);
+    *program = FancyProgram::of(searcher);
+    outcome
+}
+
+/// As `fancy_find_all`, but writes start and end of each group from 0 up for each match, `FANCY_UNSET` twice for a group
+/// that is not set: for each match twice as many numbers as there are groups.
+#[unsafe(no_mangle)]
+pub extern "C" fn fancy_captures_all(
+    alloc: Global,
+    program: &mut FancyProgram,
+    text: &[u8],
+    options: &FancyOptions,
+    standing: &mut FancyStanding,
+    spans: &mut [usize],
+) -> FancyOutcome
+    ensures finds { FindsAll
+        all_groups
+        text.now
+        options.now
+        standing.old
+        spans.old
+        program.old.handle.searcher
+        standing.new
+        spans.new
+        result }
+    ensures keeps { tree_of program.new.handle.searcher ≡ tree_of program.old.handle.searcher }
+{
+    let text = match searched(text, options, program) {
+        Ok(text) => text,
+        Err(outcome) => return outcome,
+    };
+    let mut searcher = program.take(alloc).into_searcher();
+    let outcome = searcher.captures_all(alloc, text, options, standing, spans);
     *program = FancyProgram::of(searcher);
     outcome
 }

@@ -10,10 +10,12 @@ ghost use Rattle.fancy_matches.specs.Regexes.{standing_of};
 use crate::names::{name_of, numbers_named};
 use crate::options::FancyOptions;
 use crate::outcome::{FancyOutcome, NO_MATCH, OK, write_answer};
+use crate::rows::{Groups, Row};
 use crate::standing::FancyStanding;
 use fancy_expr::error::Error;
 use fancy_expr::expr::ExprTree;
-use fancy_matches::searches::next_match;
+use fancy_matches::found::Match;
+use fancy_matches::searches::next_found;
 use fancy_matches::standing::Standing;
 use fancy_notation::notation::read_tree;
 use fancy_pattern::pattern::parse_tree;
@@ -42,7 +44,7 @@ impl Searcher {
     ghost use Rattle.std.specs.Prelude.{Some};
     ghost use Rattle.fancy_host.specs.Hosted.{Answers, FailsToCompile, IsMadeFrom, IsMadeOf, asked_of, compiled_of};
     ghost use Rattle.fancy_host.specs.Hosted as hosted;
-    ghost use Rattle.fancy_host.specs.Lists.{Lists, Writes};
+    ghost use Rattle.fancy_host.specs.Lists.{Lists, Writes, all_groups, span_alone, width_of};
     ghost use Rattle.fancy_host.specs.Names.{name_in};
     ghost use Rattle.fancy_host.specs.Whether.{Tells};
     ghost use Rattle.fancy_replace.specs.Reading.{groups_named};
@@ -177,31 +179,36 @@ impl Searcher {
         FancyOutcome::of_found(&found)
     }
 
-    /// Writes the spans of the matches of the list that stands so, as many as there is room for.
-    fn write_spans(
+    /// Writes the rows of the matches of the list that stands so, as many as there is room for.
+    fn write_rows<'t, F: Row<'t>>(
         &mut self,
         alloc: Global,
-        text: &str,
+        text: &'t str,
         options: &RunOptions,
+        width: usize,
         standing: &mut Standing,
-        spans: &mut [usize],
+        room: &mut [usize],
     ) -> FancyOutcome
-        requires { IsTrue (run_fits (task_of (program (compiled_of self.old)) [] options.now)) }
+        requires fits { IsTrue (run_fits (task_of (program (compiled_of self.old)) [] options.now)) }
+        requires width { width ≡ width_of F.form self.old }
         ensures writes { Writes
+            F.form
+            width
             (compiled_of self.old)
             text.now
             (run_options_of options.now)
             (standing_of standing.old)
-            spans.old
+            room.old
             (standing_of standing.new)
-            spans.new
+            room.new
             result }
         ensures keeps { self.new.tree ≡ self.old.tree }
     {
-        let room = spans.len() / 2;
-        for count in 0..room {
+        let mut at = 0;
+        let mut count = 0;
+        'rows: while room.len() - at >= width {
             let tree = &self.tree;
-            match next_match(
+            match next_found::<F>(
                 alloc,
                 &tree.compiled,
                 text,
@@ -211,13 +218,48 @@ impl Searcher {
             ) {
                 Ok(None) => return FancyOutcome::coded(NO_MATCH).with_count(count),
                 Ok(Some(found)) => {
-                    spans[2 * count] = found.start();
-                    spans[2 * count + 1] = found.end();
+                    found.write(at, room);
+                    at += width;
+                    count += 1;
                 }
                 Err(error) => return FancyOutcome::of_error(&error).with_count(count),
             }
         }
-        FancyOutcome::coded(OK).with_count(room)
+        FancyOutcome::coded(OK).with_count(count)
+    }
+
+    /// Writes the rows of the matches of the list that stands so, of such a width, as many as there is room for; it then
+    /// stands after them.
+    fn list<'t, F: Row<'t>>(
+        &mut self,
+        alloc: Global,
+        text: &'t str,
+        options: &FancyOptions,
+        width: usize,
+        standing: &mut FancyStanding,
+        room: &mut [usize],
+    ) -> FancyOutcome
+        requires { width ≡ width_of F.form self.old }
+        ensures lists { Lists
+            F.form
+            self.old
+            text.now
+            options.now
+            standing.old
+            room.old
+            standing.new
+            room.new
+            result }
+        ensures keeps { self.new.tree ≡ self.old.tree }
+    {
+        let listing = options.listing(text);
+        if !self.tree.compiled.fits("", &listing) {
+            return FancyOutcome::unfit();
+        }
+        let mut list = standing.standing();
+        let outcome = self.write_rows::<F>(alloc, text, &listing, width, &mut list, room);
+        *standing = FancyStanding::of(&list);
+        outcome
     }
 
     /// Writes the spans of the matches of the list that stands so, as many as there is room for; it then stands after
@@ -231,6 +273,7 @@ impl Searcher {
         spans: &mut [usize],
     ) -> FancyOutcome
         ensures lists { Lists
+            span_alone
             self.old
             text.now
             options.now
@@ -241,13 +284,31 @@ impl Searcher {
             result }
         ensures keeps { self.new.tree ≡ self.old.tree }
     {
-        let listing = options.listing(text);
-        if !self.tree.compiled.fits("", &listing) {
-            return FancyOutcome::unfit();
-        }
-        let mut list = standing.standing();
-        let outcome = self.write_spans(alloc, text, &listing, &mut list, spans);
-        *standing = FancyStanding::of(&list);
-        outcome
+        self.list::<Match<'_>>(alloc, text, options, 2, standing, spans)
+    }
+
+    /// Writes the spans of all groups of these matches, so many numbers for each match; the list then stands after them.
+    pub fn captures_all(
+        &mut self,
+        alloc: Global,
+        text: &str,
+        options: &FancyOptions,
+        standing: &mut FancyStanding,
+        spans: &mut [usize],
+    ) -> FancyOutcome
+        ensures lists { Lists
+            all_groups
+            self.old
+            text.now
+            options.now
+            standing.old
+            spans.old
+            standing.new
+            spans.new
+            result }
+        ensures keeps { self.new.tree ≡ self.old.tree }
+    {
+        let width = self.group_count().saturating_mul(2);
+        self.list::<Groups>(alloc, text, options, width, standing, spans)
     }
 }

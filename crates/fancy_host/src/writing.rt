@@ -1,6 +1,6 @@
 //! What is written into the memory of a host, as far as there is room.
 
-ghost use Rattle.std.specs.Prelude.{◌≡◌, length};
+ghost use Rattle.std.specs.Prelude.{◌≡◌, ◌≤◌, length};
 ghost use Rattle.fancy_host.specs.Hosted as hosted;
 
 /// Writes what is new over what is there, as far as there is room.
@@ -10,6 +10,15 @@ pub fn write_over<T: Copy>(new: &[T], room: &mut [T])
     let count = new.len().min(room.len());
     let (front, _) = room.split_at_mut(count);
     front.copy_from_slice(&new[..count]);
+}
+
+/// Writes what is new from this place on over what is there, as far as there is room.
+pub fn write_from<T: Copy>(new: &[T], at: usize, room: &mut [T])
+    requires { at ≤ length room.old }
+    ensures { room.new ≡ hosted.over_from at new.now room.old }
+{
+    let (_, rest) = room.split_at_mut(at);
+    write_over(new, rest);
 }
 
 /// Writes a text, as far as there is room for it, with a zero at its end, and answers how many bytes all of it has.

@@ -98,6 +98,7 @@ _CALLS = {
     "fancy_group_name": (c_size_t, (_PROGRAM, c_size_t, *_ROOM)),
     "fancy_find": (_Outcome, (_PROGRAM, *_TEXT, _OPTIONS, _NUMBERS, c_size_t)),
     "fancy_find_all": (_Outcome, (_PROGRAM, *_TEXT, _OPTIONS, POINTER(Standing), _NUMBERS, c_size_t)),
+    "fancy_captures_all": (_Outcome, (_PROGRAM, *_TEXT, _OPTIONS, POINTER(Standing), _NUMBERS, c_size_t)),
     "fancy_error_name": (c_size_t, (c_uint32, *_ROOM)),
     "fancy_error_message": (c_size_t, (POINTER(_Outcome), *_ROOM)),
     "fancy_explain_pattern": (c_size_t, (*_TEXT, _OPTIONS, *_ROOM)),
@@ -277,30 +278,32 @@ class Program:
         kind = LimitError if outcome.code in LIMITS else error
         raise kind(_written(_library.fancy_error_message, outcome), self.pattern, None, name)
 
-    def find(
-        self, text: bytes, length: int, pos: int, is_anchored: bool = False, is_continued: bool = True
-    ) -> Optional[List[int]]:
+    def find(self, text: bytes, length: int, pos: int, is_anchored: bool) -> Optional[List[int]]:
         """Start and end of each group of the first match, in bytes; None if there is no match."""
         handle = self._take()
         options, spans = handle.options, handle.spans
-        options.pos, options.anchored, options.not_continued = pos, is_anchored, not is_continued
+        options.pos, options.anchored, options.not_continued = pos, is_anchored, False
         outcome = _library.fancy_find(handle.program, text, length, options, spans, len(spans))
         found = spans[:] if outcome.code == OK else None
         self._idle.append(handle)
         self._expect_answer(outcome)
         return found
 
-    def find_all(self, text: bytes, length: int, standing: Standing, room: int) -> Tuple[List[int], Optional[Exception], bool]:
-        """Start and end of the next matches, at most so many, in bytes; why there is no more, if that is an error; and
-        whether there may be more."""
+    def find_all(
+        self, text: bytes, length: int, standing: Standing, room: int, with_groups: bool
+    ) -> Tuple[List[List[int]], Optional[Exception], bool]:
+        """Start and end of the next matches, at most so many, in bytes, or of each of their groups; why there is no more, if
+        that is an error; and whether there may be more."""
         handle = self._take()
-        spans = (c_size_t * (2 * room))()
+        call, width = (_library.fancy_captures_all, 2 * self.groups) if with_groups else (_library.fancy_find_all, 2)
+        spans = (c_size_t * (width * room))()
         handle.options.anchored = handle.options.not_continued = False
-        outcome = _library.fancy_find_all(handle.program, text, length, handle.options, standing, spans, len(spans))
+        outcome = call(handle.program, text, length, handle.options, standing, spans, len(spans))
         self._idle.append(handle)
         fault = None
         try:
             self._expect_answer(outcome)
         except (error, MemoryError) as raised:
             fault = raised
-        return spans[: 2 * outcome.count], fault, outcome.code == OK
+        rows = [spans[at : at + width] for at in range(0, width * outcome.count, width)]
+        return rows, fault, outcome.code == OK

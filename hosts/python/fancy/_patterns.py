@@ -18,8 +18,8 @@ Group = Union[int, str]
 Replacement = Union[str, Callable[["Match"], str]]
 
 
-# For how many matches a call has room, at most.
-_MOST_ROOM = 1 << 16
+# For how many numbers a call has room, at most, or for one match.
+_MOST_ROOM = 1 << 17
 
 
 class _LastText:
@@ -304,45 +304,21 @@ class _Range:
         each, or with group 0 alone."""
         if self.pos > self.endpos or limit < 0:
             return iter(())
-        with_groups = with_groups and self.pattern.groups > 0
-        found = self.spans_with_groups() if with_groups else self.spans_alone(limit or sys.maxsize)
+        found = self.spans(limit or sys.maxsize, with_groups and self.pattern.groups > 0)
         return islice(map(self.match_of, found), limit or None)
 
-    def spans_alone(self, limit: int) -> Iterator[List[int]]:
-        """Start and end of each match. Each call asks for twice as many as the one before, since each reads the whole text."""
+    def spans(self, limit: int, with_groups: bool) -> Iterator[List[int]]:
+        """Start and end of each match, or of each group of each match. Each call asks for twice as many matches as the one
+        before, since each reads the whole text."""
         program = self.pattern._program("search")
         standing = Standing(self.text.byte_of(self.pos), 0, False)
+        most = max(1, _MOST_ROOM // (2 * program.groups if with_groups else 2))
         room, has_more = 1, True
         while has_more:
-            spans, fault, has_more = program.find_all(self.text.utf8, self.end, standing, min(room, limit))
-            for at in range(0, len(spans), 2):
-                yield spans[at : at + 2]
+            rows, fault, has_more = program.find_all(self.text.utf8, self.end, standing, min(room, limit), with_groups)
+            yield from rows
             if fault is not None:
                 raise fault
-            limit -= len(spans) // 2
+            limit -= len(rows)
             has_more = has_more and limit > 0
-            room = min(2 * room, _MOST_ROOM)
-
-    def spans_with_groups(self) -> Iterator[List[int]]:
-        """Start and end of each group of each match. The list is that of `spans_alone`."""
-        program = self.pattern._program("search")
-        pos, last = self.text.byte_of(self.pos), -1
-        while pos <= self.end:
-            spans = program.find(self.text.utf8, self.end, pos, is_continued=last in (-1, pos))
-            if spans is None:
-                return
-            start, end = spans[:2]
-            is_listed = start >= pos and not start == end == last
-            pos = self.pos_after(pos, start, end)
-            if is_listed:
-                last = end
-                yield spans
-
-    def pos_after(self, pos: int, start: int, end: int) -> int:
-        """Where a search begins after one from pos: where the match ended, if that took something past where it and its
-        search began, or else one character further; past the end from there."""
-        if end > max(pos, start):
-            return end
-        if end >= self.end:
-            return self.end + 1
-        return self.text.byte_of(self.text.place_of(end) + 1)
+            room = min(2 * room, most)

@@ -20,11 +20,6 @@ impl<'t> Match<'t> {
         (start != fancy_sys::FANCY_UNSET).then_some(Match { text, start, end })
     }
 
-    /// The text in which it lies.
-    pub(crate) fn text(&self) -> &'t str {
-        self.text
-    }
-
     /// The byte where it begins.
     pub fn start(&self) -> usize {
         self.start

@@ -6,55 +6,62 @@ use crate::regex::Regex;
 use fancy_sys as sys;
 use std::vec::IntoIter;
 
-/// For how many matches a call has room, at most. Each call has room for twice as many as the one before, since each checks
-/// the whole text.
-const MOST_ROOM: usize = 1 << 16;
+/// For how many numbers a call has room, at most, or for one match. Each call has room for twice as many matches as the one
+/// before, since each checks the whole text.
+const MOST_ROOM: usize = 1 << 17;
 
-/// Every match of a text; see [`Regex::find_iter`].
+/// What a list tells of each match.
+#[derive(Clone, Copy, Debug, PartialEq, Eq)]
+pub(crate) enum Form {
+    /// Its start and end.
+    Span,
+    /// Start and end of each group.
+    Groups,
+}
+
+/// A list of matches, each as a row of numbers.
 #[derive(Debug)]
-pub struct Matches<'r, 't> {
+struct Rows<'r, 't> {
     regex: &'r Regex,
     text: &'t str,
+    form: Form,
+    /// How many numbers a row has.
+    width: usize,
     standing: sys::FancyStanding,
-    /// Start and end of the matches that were found and not given yet.
-    spans: IntoIter<usize>,
-    /// For how many matches the next call has room; 0 once the list has ended.
+    /// The rows that were found and not given yet.
+    found: IntoIter<usize>,
+    /// For how many rows the next call has room; 0 once the list has ended.
     room: usize,
     error: Option<Error>,
 }
 
-impl<'r, 't> Matches<'r, 't> {
-    pub(crate) fn of(regex: &'r Regex, text: &'t str) -> Matches<'r, 't> {
-        Matches {
+impl<'r, 't> Rows<'r, 't> {
+    fn of(regex: &'r Regex, text: &'t str, form: Form) -> Rows<'r, 't> {
+        Rows {
             regex,
             text,
+            form,
+            width: match form {
+                Form::Span => 2,
+                Form::Groups => 2 * regex.captures_len(),
+            },
             standing: sys::FANCY_FIRST,
-            spans: Vec::new().into_iter(),
+            found: Vec::new().into_iter(),
             room: 1,
             error: None,
         }
     }
 
-    /// The text that is searched.
-    pub fn text(&self) -> &'t str {
-        self.text
-    }
-
-    /// The regex that is searched for.
-    pub fn regex(&self) -> &'r Regex {
-        self.regex
-    }
-
-    /// Asks for the next matches, as many as there is room for.
+    /// Asks for the next rows, as many as there is room for.
     fn find_more(&mut self) {
-        let mut spans = vec![0; 2 * self.room];
-        let (count, why) = self
-            .regex
-            .next_matches(self.text, &mut self.standing, &mut spans);
-        spans.truncate(2 * count);
-        self.spans = spans.into_iter();
+        let mut numbers = vec![0; self.room * self.width];
+        let (count, why) =
+            self.regex
+                .next_matches(self.form, self.text, &mut self.standing, &mut numbers);
+        numbers.truncate(count * self.width);
+        self.found = numbers.into_iter();
         match why {
-            Ok(true) => self.room = MOST_ROOM.min(2 * self.room),
+            Ok(true) => self.room = (2 * self.room).min(usize::max(1, MOST_ROOM / self.width)),
             Ok(false) => self.room = 0,
             Err(error) => {
                 self.room = 0;
@@ -62,79 +69,69 @@ impl<'r, 't> Matches<'r, 't> {
             }
         }
     }
+
+    /// Whether there is a row more; it then stands at the front of what was found.
+    fn has_next(&mut self) -> bool {
+        if self.found.len() == 0 && self.room > 0 {
+            self.find_more();
+        }
+        self.found.len() > 0
+    }
+}
+
+/// Every match of a text; see [`Regex::find_iter`].
+#[derive(Debug)]
+pub struct Matches<'r, 't>(Rows<'r, 't>);
+
+impl<'r, 't> Matches<'r, 't> {
+    pub(crate) fn of(regex: &'r Regex, text: &'t str) -> Matches<'r, 't> {
+        Matches(Rows::of(regex, text, Form::Span))
+    }
+
+    /// The text that is searched.
+    pub fn text(&self) -> &'t str {
+        self.0.text
+    }
+
+    /// The regex that is searched for.
+    pub fn regex(&self) -> &'r Regex {
+        self.0.regex
+    }
 }
 
 impl<'t> Iterator for Matches<'_, 't> {
     type Item = Result<Match<'t>>;
 
     fn next(&mut self) -> Option<Result<Match<'t>>> {
-        if self.spans.len() == 0 && self.room > 0 {
-            self.find_more();
+        if !self.0.has_next() {
+            return self.0.error.take().map(Err);
         }
-        match (self.spans.next(), self.spans.next()) {
-            (Some(start), Some(end)) => Match::of(self.text, start, end).map(Ok),
-            _ => self.error.take().map(Err),
-        }
+        let (start, end) = (self.0.found.next()?, self.0.found.next()?);
+        Match::of(self.0.text, start, end).map(Ok)
     }
 }
 
 /// Every match of a text, with its groups; see [`Regex::captures_iter`].
 #[derive(Debug)]
-pub struct CaptureMatches<'r, 't> {
-    /// The list without groups, which is asked where there are none but group 0.
-    matches: Matches<'r, 't>,
-    /// Where the next search begins; none once the list has ended.
-    pos: Option<usize>,
-    /// Where the last match of the list ended.
-    last: Option<usize>,
-}
+pub struct CaptureMatches<'r, 't>(Rows<'r, 't>);
 
 impl<'r, 't> CaptureMatches<'r, 't> {
     pub(crate) fn of(regex: &'r Regex, text: &'t str) -> CaptureMatches<'r, 't> {
-        CaptureMatches {
-            matches: Matches::of(regex, text),
-            pos: Some(0),
-            last: None,
-        }
+        let form = match regex.captures_len() {
+            1 => Form::Span,
+            _ => Form::Groups,
+        };
+        CaptureMatches(Rows::of(regex, text, form))
     }
 
     /// The text that is searched.
     pub fn text(&self) -> &'t str {
-        self.matches.text
+        self.0.text
     }
 
     /// The regex that is searched for.
     pub fn regex(&self) -> &'r Regex {
-        self.matches.regex
-    }
-
-    /// Where a search begins after one from `pos` that found this: where it ended, if it took something past where it and
-    /// its search began, or else one character further.
-    fn pos_after(&self, pos: usize, found: Match<'_>) -> Option<usize> {
-        if found.end() > found.start().max(pos) {
-            return Some(found.end());
-        }
-        let next = self.text()[found.end()..].chars().next()?;
-        Some(found.end() + next.len_utf8())
-    }
-
-    /// The next match by a search of its own. The list is that of `Matches`.
-    fn search(&mut self) -> Option<Result<Captures<'t>>> {
-        while let Some(pos) = self.pos.take() {
-            let is_continued = self.last.map_or(true, |last| last == pos);
-            let captures = match self.regex().captures_at(self.text(), pos, is_continued) {
-                Ok(captures) => captures?,
-                Err(error) => return Some(Err(error)),
-            };
-            let found = captures.whole();
-            self.pos = self.pos_after(pos, found);
-            let is_empty_again = found.start() == found.end() && self.last == Some(found.end());
-            if found.start() >= pos && !is_empty_again {
-                self.last = Some(found.end());
-                return Some(Ok(captures));
-            }
-        }
-        None
+        self.0.regex
     }
 }
 
@@ -142,12 +139,10 @@ impl<'t> Iterator for CaptureMatches<'_, 't> {
     type Item = Result<Captures<'t>>;
 
     fn next(&mut self) -> Option<Result<Captures<'t>>> {
-        let regex = self.regex();
-        if regex.captures_len() > 1 {
-            return self.search();
+        if !self.0.has_next() {
+            return self.0.error.take().map(Err);
         }
-        self.matches
-            .next()
-            .map(|found| found.map(|found| regex.captures_of(found)))
+        let spans = self.0.found.by_ref().take(self.0.width).collect();
+        Some(Ok(self.0.regex.captures_of(self.0.text, spans)))
     }
 }

@@ -1,6 +1,7 @@
 //! The handles of the library.
 
 use crate::error::{Error, Result};
+use crate::matches::Form;
 use crate::options::Options;
 use fancy_sys as sys;
 use std::ffi::c_char;
@@ -119,19 +120,24 @@ impl Program {
         is_found(&outcome)
     }
 
-    /// Writes start and end of the next matches of a list, and answers how many there are and why it is no more: an
-    /// error, or the end of the list.
+    /// Writes the rows of the next matches of a list, and answers how many there are and why it is no more: an error, or
+    /// the end of the list.
     pub(crate) fn find_all(
         &mut self,
+        form: Form,
         text: &str,
         options: &Options,
         standing: &mut sys::FancyStanding,
         spans: &mut [usize],
     ) -> (usize, Result<bool>) {
         let (at, length) = (spans.as_mut_ptr(), spans.len());
+        let call = match form {
+            Form::Span => sys::fancy_find_all,
+            Form::Groups => sys::fancy_captures_all,
+        };
         // Safety: as above.
         let outcome = unsafe {
-            sys::fancy_find_all(
+            call(
                 &mut self.0,
                 start_of(text),
                 text.len(),

@@ -2,7 +2,7 @@
 
 use crate::captures::{Captures, Match};
 use crate::error::{Error, Result};
-use crate::matches::{CaptureMatches, Matches};
+use crate::matches::{CaptureMatches, Form, Matches};
 use crate::options::Options;
 use crate::program::{Pool, Program, Source};
 use crate::replacer::Replacer;
@@ -141,7 +141,7 @@ impl Regex {
     /// If `pos` is no character boundary of the text.
     pub fn find_from_pos<'t>(&self, text: &'t str, pos: usize) -> Result<Option<Match<'t>>> {
         let mut span = [sys::FANCY_UNSET; 2];
-        let is_found = self.search(text, pos, true, &mut span)?;
+        let is_found = self.search(text, pos, &mut span)?;
         Ok(if is_found {
             Match::of(text, span[0], span[1])
         } else {
@@ -160,37 +160,17 @@ impl Regex {
     ///
     /// If `pos` is no character boundary of the text.
     pub fn captures_from_pos<'t>(&self, text: &'t str, pos: usize) -> Result<Option<Captures<'t>>> {
-        self.captures_at(text, pos, true)
-    }
-
-    /// The same; it is said whether a match ended at `pos`, or none came before.
-    pub(crate) fn captures_at<'t>(
-        &self,
-        text: &'t str,
-        pos: usize,
-        is_continued: bool,
-    ) -> Result<Option<Captures<'t>>> {
         let mut spans = vec![sys::FANCY_UNSET; 2 * self.captures_len()];
-        let is_found = self.search(text, pos, is_continued, &mut spans)?;
-        Ok(is_found.then(|| Captures::of(text, spans, Arc::clone(&self.shared.names))))
+        let is_found = self.search(text, pos, &mut spans)?;
+        Ok(is_found.then(|| self.captures_of(text, spans)))
     }
 
-    /// A match of a pattern without groups, with group 0.
-    pub(crate) fn captures_of<'t>(&self, found: Match<'t>) -> Captures<'t> {
-        Captures::of(
-            found.text(),
-            vec![found.start(), found.end()],
-            Arc::clone(&self.shared.names),
-        )
+    /// A match, by start and end of each group.
+    pub(crate) fn captures_of<'t>(&self, text: &'t str, spans: Vec<usize>) -> Captures<'t> {
+        Captures::of(text, spans, Arc::clone(&self.shared.names))
     }
 
-    fn search(
-        &self,
-        text: &str,
-        pos: usize,
-        is_continued: bool,
-        spans: &mut [usize],
-    ) -> Result<bool> {
+    fn search(&self, text: &str, pos: usize, spans: &mut [usize]) -> Result<bool> {
         assert!(
             text.is_char_boundary(pos),
             "byte {pos} is no character boundary of the text"
@@ -198,7 +178,6 @@ impl Regex {
         let pool = &self.shared.pool;
         let mut options = *pool.options();
         options.host.pos = pos;
-        options.host.not_continued |= !is_continued;
         pool.with(|program| program.find(text, &options, spans))
     }
 
@@ -222,13 +201,14 @@ impl Regex {
     /// The next matches of a list, with how many there are and why it is no more.
     pub(crate) fn next_matches(
         &self,
+        form: Form,
         text: &str,
         standing: &mut sys::FancyStanding,
         spans: &mut [usize],
     ) -> (usize, Result<bool>) {
         let pool = &self.shared.pool;
         let found =
-            pool.with(|program| Ok(program.find_all(text, pool.options(), standing, spans)));
+            pool.with(|program| Ok(program.find_all(form, text, pool.options(), standing, spans)));
         found.unwrap_or_else(|error| (0, Err(error)))
     }
 

@@ -15,7 +15,8 @@ fn spans(pattern: &str, text: &str) -> Vec<(usize, usize)> {
         .map(|it| it.unwrap())
         .map(|it| (it.start(), it.end()))
         .collect();
-    let with_groups = regex
+    let with_group = Regex::new(&format!("(?:{pattern})()")).unwrap();
+    let with_groups = with_group
         .captures_iter(text)
         .map(|it| it.unwrap().get(0).unwrap().range());
     assert_eq!(
@@ -77,6 +78,22 @@ fn all_matches() {
     assert_eq!(spans(r"a\K", "aaa"), [(1, 1), (3, 3)]);
     assert_eq!(spans("x", &"x ".repeat(1000)).len(), 1000);
     assert!(spans("x", "").is_empty());
+}
+
+#[test]
+fn all_matches_with_groups() {
+    let text = "é1 ".repeat(50_000);
+    let regex = Regex::new(r"(é)|(\d)").unwrap();
+    let mut count = 0;
+    for captures in regex.captures_iter(&text) {
+        let captures = captures.unwrap();
+        let (set, unset) = (1 + count % 2, 2 - count % 2);
+        let start = 4 * (count / 2) + 2 * (count % 2);
+        assert_eq!(captures.get(set).unwrap().start(), start);
+        assert!(captures.get(unset).is_none());
+        count += 1;
+    }
+    assert_eq!(count, 100_000);
 }
 
 #[test]

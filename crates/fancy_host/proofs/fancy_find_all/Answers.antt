@@ -1,5 +1,5 @@
 use Rattle.std.proofs.Common.{◌∙◌, sym}
-use Rattle.fancy_host.specs.Lists.{unsearched}
+use Rattle.fancy_host.specs.Lists.{span_alone, unsearched}
 use Rattle.fancy_host.proofs.Listed.{all_found_by}
 use Rattle.fancy_host.proofs.fancy_find_all.Goals as goal
 
@@ -8,7 +8,7 @@ returns-in-Err-clause-finds c = unsearched c.in-Err.ensures
 
 pub returns-clause-finds : goal.returns-clause-finds
 returns-clause-finds c =
-    all_found_by c.args.text.now c.args.options.now c.args.standing.now c.args.spans.now c.find_all-outcome.result c.in-Ok.text.now
+    all_found_by span_alone c.args.text.now c.args.options.now c.args.standing.now c.args.spans.now c.find_all-outcome.result c.in-Ok.text.now
     c.find_all-outcome.new.spans c.find_all-outcome.new.standing c.args.program.now.handle.searcher c.into_searcher-searcher.result.value
     c.deref_mut.result.now c.in-Ok.ensures.0 c.in-Ok.ensures.1
     (sym c.take.ensures.held ∙ c.into_searcher-searcher.ensures) c.deref_mut.ensures.value c.find_all-outcome.ensures.lists

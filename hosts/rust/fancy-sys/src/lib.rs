@@ -181,6 +181,16 @@ extern "C" {
         spans_length: usize,
     ) -> FancyOutcome;
 
+    pub fn fancy_captures_all(
+        program: *mut FancyProgram,
+        text: *const c_char,
+        text_length: usize,
+        options: *const FancyOptions,
+        standing: *mut FancyStanding,
+        spans: *mut usize,
+        spans_length: usize,
+    ) -> FancyOutcome;
+
     pub fn fancy_error_name(code: u32, name: *mut c_char, room: usize) -> usize;
 
     pub fn fancy_error_message(

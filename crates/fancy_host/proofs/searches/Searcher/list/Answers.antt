@@ -1,0 +1,45 @@
+use Rattle.std.proofs.Common.{◌≡◌, false, true, [], refl, sym, ap, ◌∙◌, subst}
+use Rattle.fancy_meaning.specs.Fits.{run_fits}
+use Rattle.fancy_program.specs.Programs.{prog_of}
+use Rattle.fancy_vm.specs.Tasks.{options_of as run_options_of}
+use Rattle.fancy_search.specs.Searches.{program}
+use Rattle.fancy_matches.specs.Regexes as matches
+use Rattle.fancy_host.specs.Hosted.{compiled_of}
+use Rattle.fancy_host.specs.Lists.{Lists, Writes, does_not_fit, listed, listing, standing_of}
+use Rattle.fancy_host.proofs.searches.Searcher.list.Goals as goal
+
+pub returns-then-not-fits-clause-lists : goal.returns-then-not-fits-clause-lists
+returns-then-not-fits-clause-lists g c =
+    let form = g.F.Row.form in
+    let s = c.args.self.now in
+    let text = c.args.text.now in
+    let o = c.args.options.now in
+    let from = c.args.standing.now in
+    let old = c.args.room.now in
+    let no = sym c.fits.ensures ∙ c.if-not-fits.true in
+    subst (λ x. Lists form s text o from old from old x) (sym c.unfit.ensures)
+    (does_not_fit
+    (subst (λ r. run_fits (record { program = prog_of (program (compiled_of s)); text = []; options = r }) ≡ false) c.listing-listing.ensures no))
+
+pub write_rows-outcome-requires : goal.write_rows-outcome-requires
+write_rows-outcome-requires g c k = ((refl, tt), (sym c.fits.ensures ∙ c.if-not-fits.false, c.requires))
+
+pub returns-clause-lists : goal.returns-clause-lists
+returns-clause-lists g c =
+    let form = g.F.Row.form in
+    let s = c.args.self.now in
+    let text = c.args.text.now in
+    let o = c.args.options.now in
+    let old = c.args.room.now in
+    let new = c.write_rows-outcome.new.room in
+    let outcome = c.write_rows-outcome.result in
+    let to = matches.standing_of c.write_rows-outcome.new.standing in
+    let width = c.args.width in
+    let fits = sym c.fits.ensures ∙ c.if-not-fits.false in
+    listed
+    (subst (λ r. run_fits (record { program = prog_of (program (compiled_of s)); text = []; options = r }) ≡ true) c.listing-listing.ensures fits)
+    (subst (λ w. Writes form w (compiled_of s) text (listing o text) (standing_of c.args.standing.now) old (standing_of c.of.result) new outcome) c.requires
+    (subst (λ t. Writes form width (compiled_of s) text (listing o text) (standing_of c.args.standing.now) old t new outcome) (sym c.of.ensures)
+    (subst (λ from. Writes form width (compiled_of s) text (listing o text) from old to new outcome) c.standing-list.ensures
+    (subst (λ r. Writes form width (compiled_of s) text r (matches.standing_of c.standing-list.result) old to new outcome) c.listing-listing.ensures
+    c.write_rows-outcome.ensures.writes))))
