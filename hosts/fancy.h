@@ -249,12 +249,12 @@ struct fancy_outcome fancy_captures_all(struct fancy_program *program, const cha
 /* Writes the name of a code; the answer is 0 where the number is no code. No name has more than 40 bytes. */
 size_t fancy_error_name(uint32_t code, char *name, size_t room);
 
-/* Writes what an outcome says as a sentence for a reader, with its byte and its group. The words may change from version to
- * version: programs go by the code. */
+/* Writes what an outcome says as a sentence for a reader, with its byte before it and its group behind it: "at byte 2: ..".
+ * The words may change from version to version: programs go by the code. */
 size_t fancy_error_message(const struct fancy_outcome *outcome, char *message, size_t room);
 
-/* Compiles the pattern once more, and writes why it has no program, in the words of fancy_error_message and with the text
- * of the class or the description of the group that is refused; an empty text where it has one. */
+/* Compiles the pattern once more, and writes why it has no program, in the words of fancy_error_message, and behind them
+ * the text of the class or the description of the group that is refused; an empty text where it has one. */
 size_t fancy_explain_pattern(const char *pattern, size_t pattern_length, const struct fancy_options *options,
                              char *message, size_t room);
 

@@ -173,6 +173,26 @@ static void print_message(const char *what, const char *pattern)
     printf("%s: %zu %s\n", what, length, message);
 }
 
+/* The message of each code without a place, and of one past the last; then with a byte, and with a group. */
+static void write_messages(void)
+{
+    char message[120];
+    struct fancy_outcome outcome = {0, FANCY_UNSET, FANCY_UNSET, 0, 0};
+    for (; outcome.code <= FANCY_WRONG_SIZE + 1; outcome.code++) {
+        fancy_error_message(&outcome, message, sizeof message);
+        printf("%u: %s\n", outcome.code, message);
+    }
+    outcome.code = FANCY_UNCLOSED_OPEN_PAREN;
+    outcome.byte = 12;
+    size_t length = fancy_error_message(&outcome, message, 20);
+    printf("%zu %s\n", length, message);
+    outcome.code = FANCY_INVALID_BACKREF;
+    outcome.byte = FANCY_UNSET;
+    outcome.group = 3;
+    length = fancy_error_message(&outcome, message, sizeof message);
+    printf("%zu %s\n", length, message);
+}
+
 static void write_texts(void)
 {
     char name[4];
@@ -185,7 +205,11 @@ static void write_texts(void)
     printf("the version of the header: %s\n", strcmp(version, FANCY_VERSION) == 0 ? "the same" : version);
     print_message("why a class is refused", "[b-a]");
     print_message("why a group is refused", "(?<n>\\g<n>)");
+    print_message("why a parenthesis is refused", "a(b");
+    print_message("why a reference is refused", "(a)\\2");
+    print_message("why bytes are refused", "ab\xff");
     print_message("why a pattern is not", "a");
+    write_messages();
 }
 
 int main(void)

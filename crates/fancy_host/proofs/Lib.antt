@@ -8,4 +8,5 @@ pub mod Told
 pub mod Values
 pub mod Widths
 pub mod RowsWritten
+pub mod Said
 pub mod HandleLaws

@@ -177,10 +177,6 @@ over_from at new old = take at old ++ over new (drop at old)
 abbrev pub ended : List ℕ → List ℕ → List ℕ
 ended text old = over (take (length old - 1) text ++ 0 ∷ []) old
 
--- some text is written over what is there, and so many bytes are all of it: what an error's text says is left open
-abbrev pub IsText : List ℕ → ℕ → List ℕ → Type 0
-IsText old count new = (text : List ℕ) × (count ≡ length text) × (new ≡ ended text old)
-
 -- the numbers of an answer over what is there
 abbrev pub written : Result (Option (Vec ℕ Global)) Error → List ℕ → List ℕ
 written (Ok (Some numbers)) old = over numbers.items old

@@ -16,9 +16,10 @@ mod writing;
 
 ghost use Rattle.std.specs.Prelude.{◌≡◌, None, codes, length};
 ghost use Rattle.fancy_host.specs.Codes.{name_of};
-ghost use Rattle.fancy_host.specs.Hosted.{Compiles, FindsFirst, IsText, default_options, ended, group_count, tree_of};
+ghost use Rattle.fancy_host.specs.Hosted.{Compiles, FindsFirst, default_options, ended, group_count, tree_of};
 ghost use Rattle.fancy_host.specs.Hosted as hosted;
 ghost use Rattle.fancy_host.specs.Lists.{FindsAll, all_groups, span_alone};
+ghost use Rattle.fancy_host.specs.Messages.{Explains, IsMessage, WritesText};
 ghost use Rattle.fancy_host.specs.Names.{FindsGroups, group_name};
 ghost use Rattle.fancy_host.specs.Whether.{FindsAny};
 
@@ -284,7 +285,7 @@ pub extern "C" fn fancy_error_message(
     outcome: &FancyOutcome,
     message: &mut [u8],
 ) -> usize
-    ensures { IsText message.old result message.new }
+    ensures { WritesText (IsMessage outcome.now) message.old result message.new }
 {
     write_message(alloc, outcome, message)
 }
@@ -298,7 +299,7 @@ pub extern "C" fn fancy_explain_pattern(
     options: &FancyOptions,
     message: &mut [u8],
 ) -> usize
-    ensures { IsText message.old result message.new }
+    ensures { WritesText (Explains pattern.now options.now) message.old result message.new }
 {
     write_explanation(alloc, pattern, options, message)
 }

@@ -1,114 +1,124 @@
 //! What an outcome says, as a sentence for a reader.
 
-ghost use Rattle.std.specs.Prelude.{◌≡◌, IfSome};
-ghost use Rattle.fancy_host.specs.Codes.{code_of_kind};
-ghost use Rattle.fancy_host.specs.Hosted.{IsText};
+ghost use Rattle.std.specs.Prelude.{◌≡◌, IfOk, option_map, string_bytes};
+ghost use Rattle.fancy_host.specs.Messages.{Explains, IsMessage, WritesText};
+ghost use Rattle.fancy_host.specs.Messages as messages;
 
 use crate::options::FancyOptions;
-use crate::outcome::FancyOutcome;
+use crate::outcome::{FancyOutcome, MEMORY};
 use crate::reading::text_of;
 use crate::writing::write_text;
-use fancy_expr::error::{CompileError, Error, RuntimeError};
-use fancy_pattern::error::{ErrorKind, PatternError};
+use fancy_expr::error::{CompileError, Error};
 use fancy_pattern::pattern::parse_tree;
 use fancy_search::search::Compiled;
 use std::alloc::{AllocError, Global};
 
-/// What is wrong with a pattern, by its code.
-fn kind_of(code: u32) -> Option<ErrorKind>
-    ensures { IfSome result (λ kind. code_of_kind kind ≡ code) }
+/// The sentence of a code.
+fn sentence_of(code: u32) -> &'static str
+    ensures { result.now ≡ messages.sentence_of code }
 {
-    match code {
-        21 => Some(ErrorKind::RecursionExceeded),
-        23 => Some(ErrorKind::UnclosedOpenParen),
-        24 => Some(ErrorKind::UnopenedCloseParen),
-        25 => Some(ErrorKind::InvalidRepeat),
-        26 => Some(ErrorKind::TrailingBackslash),
-        27 => Some(ErrorKind::InvalidEscape),
-        28 => Some(ErrorKind::UnclosedUnicodeName),
-        29 => Some(ErrorKind::InvalidHex),
-        30 => Some(ErrorKind::InvalidCodepointValue),
-        31 => Some(ErrorKind::InvalidClass),
-        32 => Some(ErrorKind::UnknownFlag),
-        33 => Some(ErrorKind::NonUnicodeUnsupported),
-        34 => Some(ErrorKind::InvalidGroupName),
-        35 => Some(ErrorKind::InvalidGroupNameBackref),
-        36 => Some(ErrorKind::InvalidBackref),
-        37 => Some(ErrorKind::TargetNotRepeatable),
-        38 => Some(ErrorKind::GeneralParseError),
-        _ => None,
-    }
-}
-
-/// The error of the engine that an outcome stands for, where its numbers tell all of it.
-fn error_of(outcome: &FancyOutcome) -> Option<Error> {
-    match outcome.code {
-        5 => Some(Error::Memory),
-        6 => Some(Error::TreeFault { at: outcome.byte }),
-        7 => Some(Error::RuntimeError(RuntimeError::BacktrackLimitExceeded)),
-        8 => Some(Error::RuntimeError(RuntimeError::StackOverflow)),
-        9 => Some(Error::RuntimeError(RuntimeError::StepLimitExceeded)),
-        22 => Some(Error::NestLimitExceeded),
-        _ => match refusal_of(outcome) {
-            Some(refusal) => Some(Error::CompileError(refusal)),
-            None => None,
-        },
-    }
-}
-
-/// The refusal that an outcome stands for, where its numbers tell all of it.
-fn refusal_of(outcome: &FancyOutcome) -> Option<CompileError> {
-    match outcome.code {
-        10 => Some(CompileError::NamedBackrefOnly),
-        11 => Some(CompileError::FeatureNotYetSupported),
-        12 => Some(CompileError::SubroutineCallTargetNotFound),
-        13 => Some(CompileError::UnresolvedAstNode),
-        14 => Some(CompileError::InvalidBackref(outcome.group)),
-        16 => Some(CompileError::NeverEndingRecursion),
-        17 => Some(CompileError::VariableLookBehindRequiresFeature),
-        20 => Some(CompileError::PatternTooComplex),
-        _ => None,
-    }
-}
-
-/// The sentence of a code that stands for no error of the engine, or for one with a text of its own.
-fn sentence_of(code: u32) -> &'static str {
     match code {
         0 => "there is no error",
         1 => "nothing matches",
         2 => "nothing was compiled",
         3 => "the bytes are no UTF-8",
         4 => "the options do not fit the text, or what was compiled",
+        5 => "memory ran out",
+        6 => "the tree cannot be read",
+        7 => "too many branches failed",
+        8 => "too many branches were held",
+        9 => "too many instructions were executed",
+        10 => "groups that have names are referred to by their names",
+        11 => "this is not supported yet",
+        12 => "a call names a group that is not there",
+        13 => "a node of the tree was not resolved",
+        14 => "there is no group",
         15 => "a group calls itself before anything is taken",
+        16 => "the calls never end",
+        17 => "a lookbehind takes different numbers of characters",
         18 => "a class cannot be read",
         19 => "a class is too big",
-        21 => "the tree nests deeper than the limit",
+        20 => "the program is too big",
+        21 => "parentheses nest deeper than the limit",
+        22 => "the tree nests deeper than the limit",
+        23 => "a parenthesis is not closed: `)` is wanted",
+        24 => "a `)` closes no parenthesis",
+        25 =>
+            "the counts of a loop are out of order or too large: the first is to be at most the second",
+        26 => "a backslash ends the pattern: a character is wanted behind it",
+        27 => "no escape has this letter",
+        28 => "a property has no name, or its `}` is missing",
+        29 => "a hexadecimal digit is wanted, or the `}` behind one to eight of them",
+        30 => "no character has this number",
+        31 => "a class is not closed: `]` is wanted",
+        32 => "no flag stands here: one of `imsxRUu` is wanted",
+        33 => "the flag `u` cannot be cleared",
+        34 => "this names no group: a letter or `_` is wanted, or a number, and what closes it",
+        35 => "several groups have this name, so it cannot be called",
+        36 => "the number is too large",
+        37 => "a quantifier follows nothing that can be repeated",
+        38 => "no verb goes on here, or there are more than a million groups",
         39 => "the options have the size of another version",
         _ => "no error has this code",
     }
 }
 
+/// Where it is, if it is at a byte.
+fn place_of(alloc: Global, byte: usize) -> Result<String, AllocError>
+    ensures { IfOk result (λ text. string_bytes text ≡ messages.at_byte byte) }
+{
+    if byte == usize::MAX {
+        Ok(String::new(alloc))
+    } else {
+        format!(in alloc; "at byte {byte}: ")
+    }
+}
+
+/// Which group it is, if it is of one.
+fn group_of(alloc: Global, group: usize) -> Result<String, AllocError>
+    ensures { IfOk result (λ text. string_bytes text ≡ messages.of_group group) }
+{
+    if group == usize::MAX {
+        Ok(String::new(alloc))
+    } else {
+        format!(in alloc; " {group}")
+    }
+}
+
 /// What an outcome says.
-fn message_of(alloc: Global, outcome: &FancyOutcome) -> Result<String, AllocError> {
-    if let Some(error) = error_of(outcome) {
-        return format!(in alloc; "{error}");
-    }
-    let has_byte = outcome.byte != usize::MAX;
-    let at = outcome.byte;
-    match kind_of(outcome.code) {
-        Some(kind) if has_byte => {
-            let error = PatternError::Parse { at, kind };
-            format!(in alloc; "{error}")
+fn message_of(alloc: Global, outcome: &FancyOutcome) -> Result<String, AllocError>
+    ensures { IfOk result (λ text. string_bytes text ≡ messages.message outcome.now) }
+{
+    let mut text = place_of(alloc, outcome.byte)?;
+    text.push_str(sentence_of(outcome.code))?;
+    text.push_str(group_of(alloc, outcome.group)?.as_str())?;
+    Ok(text)
+}
+
+/// What an error names that its outcome does not: a class by its text, or a group by its description.
+fn named_by(error: &Error) -> Option<&str>
+    ensures { option_map (λ text. text.now) result ≡ messages.named_by error.now }
+{
+    match error {
+        Error::CompileError(CompileError::LeftRecursiveSubroutineCall(group)) => {
+            Some(group.as_str())
         }
-        _ => {
-            let sentence = sentence_of(outcome.code);
-            if has_byte {
-                format!(in alloc; "at byte {at}: {sentence}")
-            } else {
-                format!(in alloc; "{sentence}")
-            }
-        }
+        Error::CompileError(CompileError::InnerError(class)) => Some(class.as_str()),
+        Error::CompileError(CompileError::ClassTooBig(class)) => Some(class.as_str()),
+        _ => None,
     }
+}
+
+/// What an error says, with what it names.
+fn explained(alloc: Global, error: &Error) -> Result<String, AllocError>
+    ensures { IfOk result (λ text. string_bytes text ≡ messages.explanation error.now) }
+{
+    let mut text = message_of(alloc, &FancyOutcome::of_error(error))?;
+    if let Some(named) = named_by(error) {
+        text.push_str(": ")?;
+        text.push_str(named)?;
+    }
+    Ok(text)
 }
 
 /// Why a pattern has no program; an empty text where it has one.
@@ -116,37 +126,32 @@ fn explanation_of(
     alloc: Global,
     pattern: &[u8],
     options: &FancyOptions,
-) -> Result<String, AllocError> {
+) -> Result<String, AllocError>
+    ensures { IfOk result (λ text. Explains pattern.now options.now (string_bytes text)) }
+{
     let text = match text_of(pattern, options) {
         Ok(text) => text,
         Err(outcome) => return message_of(alloc, &outcome),
     };
     let tree = match parse_tree(alloc, text, options.parsing()) {
         Ok(tree) => tree,
-        Err(error) => return format!(in alloc; "{error}"),
+        Err(error) => return message_of(alloc, &FancyOutcome::of_fault(&error)),
     };
     let request = options.request();
     match Compiled::new(alloc, &tree, request.analysis(), request.compilation()) {
         Ok(_) => Ok(String::new(alloc)),
-        Err(error) => format!(in alloc; "{error}"),
-    }
-}
-
-/// Writes a sentence, or, where there was no memory for it, that there was none.
-fn write_sentence(sentence: Result<String, AllocError>, room: &mut [u8]) -> usize
-    ensures { IsText room.old result room.new }
-{
-    match sentence {
-        Ok(text) => write_text(text.as_bytes(), room),
-        Err(_) => write_text("memory ran out".as_bytes(), room),
+        Err(error) => explained(alloc, &error),
     }
 }
 
 /// Writes what an outcome says.
 pub fn write_message(alloc: Global, outcome: &FancyOutcome, room: &mut [u8]) -> usize
-    ensures { IsText room.old result room.new }
+    ensures { WritesText (IsMessage outcome.now) room.old result room.new }
 {
-    write_sentence(message_of(alloc, outcome), room)
+    match message_of(alloc, outcome) {
+        Ok(text) => write_text(text.as_bytes(), room),
+        Err(_) => write_text(sentence_of(MEMORY).as_bytes(), room),
+    }
 }
 
 /// Writes why a pattern has no program; an empty text where it has one.
@@ -156,7 +161,10 @@ pub fn write_explanation(
     options: &FancyOptions,
     room: &mut [u8],
 ) -> usize
-    ensures { IsText room.old result room.new }
+    ensures { WritesText (Explains pattern.now options.now) room.old result room.new }
 {
-    write_sentence(explanation_of(alloc, pattern, options), room)
+    match explanation_of(alloc, pattern, options) {
+        Ok(text) => write_text(text.as_bytes(), room),
+        Err(_) => write_text(sentence_of(MEMORY).as_bytes(), room),
+    }
 }

@@ -36,7 +36,7 @@ const NOT_UTF8: u32 = 3;
 
 const UNFIT: u32 = 4;
 
-const MEMORY: u32 = 5;
+pub const MEMORY: u32 = 5;
 
 pub const TOO_DEEP: u32 = 21;
 

@@ -1,0 +1,105 @@
+-- What outcomes say as sentences for a reader, and why a pattern has no program.
+use Rattle.std.specs.Prelude.{◌≡◌, ◌==◌, ◌⊎◌, ℕ, IsTrue, IsUtf8, List, [], ◌∷◌, ◌++◌, chars, codes, decimal, length, slice_index_or, string_bytes, Option, None, Some, if◌then◌else◌}
+use Rattle.std.specs.Option.{option_map_or}
+use Rattle.fancy_meaning.specs.Numbers.{usize_max}
+use Rattle.fancy_expr.specs.declared.error.Error.{Error}
+use Rattle.fancy_expr.specs.declared.error.Error.TheVariants as error
+use Rattle.fancy_expr.specs.declared.error.CompileError.TheVariants as refusal
+use Rattle.fancy_expr.specs.declared.expr.ExprTree.{ExprTree}
+use Rattle.fancy_pattern.specs.Spelling as spelling
+use Rattle.fancy_pattern.specs.declared.error.PatternError.{PatternError}
+use Rattle.fancy_search.specs.declared.search.Compiled.{Compiled}
+use Rattle.fancy_search.specs.Searches.{IsCompiledFrom, IsNestedOver, IsRefusedAs}
+use Rattle.fancy_host.specs.declared.options.FancyOptions.{FancyOptions}
+use Rattle.fancy_host.specs.declared.outcome.FancyOutcome.{FancyOutcome}
+use Rattle.fancy_host.specs.Codes.{memory}
+use Rattle.fancy_host.specs.Hosted.{IsNoText, IsRead, asked_of, ended, failure, has_size, parsing, pattern, pattern_failure}
+
+-- the sentence of each code, from 0 up
+abbrev pub sentences : List (List ℕ)
+sentences =
+    codes "there is no error"
+    ∷ codes "nothing matches"
+    ∷ codes "nothing was compiled"
+    ∷ codes "the bytes are no UTF-8"
+    ∷ codes "the options do not fit the text, or what was compiled"
+    ∷ codes "memory ran out"
+    ∷ codes "the tree cannot be read"
+    ∷ codes "too many branches failed"
+    ∷ codes "too many branches were held"
+    ∷ codes "too many instructions were executed"
+    ∷ codes "groups that have names are referred to by their names"
+    ∷ codes "this is not supported yet"
+    ∷ codes "a call names a group that is not there"
+    ∷ codes "a node of the tree was not resolved"
+    ∷ codes "there is no group"
+    ∷ codes "a group calls itself before anything is taken"
+    ∷ codes "the calls never end"
+    ∷ codes "a lookbehind takes different numbers of characters"
+    ∷ codes "a class cannot be read"
+    ∷ codes "a class is too big"
+    ∷ codes "the program is too big"
+    ∷ codes "parentheses nest deeper than the limit"
+    ∷ codes "the tree nests deeper than the limit"
+    ∷ codes "a parenthesis is not closed: `)` is wanted"
+    ∷ codes "a `)` closes no parenthesis"
+    ∷ codes "the counts of a loop are out of order or too large: the first is to be at most the second"
+    ∷ codes "a backslash ends the pattern: a character is wanted behind it"
+    ∷ codes "no escape has this letter"
+    ∷ codes "a property has no name, or its `}` is missing"
+    ∷ codes "a hexadecimal digit is wanted, or the `}` behind one to eight of them"
+    ∷ codes "no character has this number"
+    ∷ codes "a class is not closed: `]` is wanted"
+    ∷ codes "no flag stands here: one of `imsxRUu` is wanted"
+    ∷ codes "the flag `u` cannot be cleared"
+    ∷ codes "this names no group: a letter or `_` is wanted, or a number, and what closes it"
+    ∷ codes "several groups have this name, so it cannot be called"
+    ∷ codes "the number is too large"
+    ∷ codes "a quantifier follows nothing that can be repeated"
+    ∷ codes "no verb goes on here, or there are more than a million groups"
+    ∷ codes "the options have the size of another version"
+    ∷ []
+
+abbrev pub sentence_of : ℕ → List ℕ
+sentence_of code = slice_index_or sentences code (codes "no error has this code")
+
+-- where it is, if it is at a byte
+abbrev pub at_byte : ℕ → List ℕ
+at_byte byte = if byte == usize_max then [] else codes "at byte " ++ (decimal byte ++ codes ": ")
+
+-- which group it is, if it is of one
+abbrev pub of_group : ℕ → List ℕ
+of_group group = if group == usize_max then [] else codes " " ++ decimal group
+
+-- what an outcome says
+abbrev pub message : FancyOutcome → List ℕ
+message o = at_byte o.byte ++ (sentence_of o.code ++ of_group o.group)
+
+-- what an error names that its outcome does not: a class by its text, or a group by its description
+abbrev pub named_by : Error → Option (List ℕ)
+named_by (error.CompileError (refusal.LeftRecursiveSubroutineCall group)) = Some (string_bytes group)
+named_by (error.CompileError (refusal.InnerError class)) = Some (string_bytes class)
+named_by (error.CompileError (refusal.ClassTooBig class)) = Some (string_bytes class)
+named_by e = None
+
+-- what an error says, with what it names
+abbrev pub explanation : Error → List ℕ
+explanation e = message (failure e) ++ option_map_or (λ text. codes ": " ++ text) (named_by e) []
+
+-- why these bytes have no program as a pattern; an empty text where they have one
+pub data Explains (bytes : List ℕ) (o : FancyOptions) : List ℕ → Type 0 where
+  spells_no_text : {outcome : FancyOutcome} → IsNoText bytes o outcome → Explains bytes o (message outcome)
+  unspelled : IsTrue (has_size o) → IsUtf8 bytes → (e : PatternError) → spelling.IsError (parsing o) (chars bytes) e →
+      Explains bytes o (message (pattern_failure e))
+  refused : IsTrue (has_size o) → IsUtf8 bytes → (t : ExprTree) (e : Error) → IsRead (pattern bytes) o t →
+      IsRefusedAs (asked_of t o) (Some o.max_nesting) e → Explains bytes o (explanation e)
+  has_program : IsTrue (has_size o) → IsUtf8 bytes → (t : ExprTree) (c : Compiled) → IsRead (pattern bytes) o t →
+      IsCompiledFrom (asked_of t o) c → ¬ IsNestedOver (asked_of t o) (Some o.max_nesting) → Explains bytes o []
+
+-- A text that is right, or that memory for it ran out, is written over what is there, and so many bytes are all of it.
+abbrev pub WritesText : (List ℕ → Type 0) → List ℕ → ℕ → List ℕ → Type 0
+WritesText IsRight old count new =
+    (text : List ℕ) × ((IsRight text ⊎ (text ≡ sentence_of memory)) × ((count ≡ length text) × (new ≡ ended text old)))
+
+abbrev pub IsMessage : FancyOutcome → List ℕ → Type 0
+IsMessage o text = text ≡ message o
