@@ -12,7 +12,10 @@ mod fragments;
 mod instructions;
 mod layouts;
 mod lists;
+mod pattern_scans;
 mod programs;
+mod regex_calls;
+mod regexes;
 mod replacements;
 mod rows;
 mod scans;
@@ -45,7 +48,7 @@ impl Table for Engine {
     }
 }
 
-const TABLES: [&str; 47] = [
+const TABLES: [&str; 51] = [
     "searches/example",
     "searches/answers",
     "searches/everyday",
@@ -93,6 +96,10 @@ const TABLES: [&str; 47] = [
     "syntax/returned",
     "syntax/escaped",
     "syntax/escaped_trees",
+    "regexes/calls",
+    "regexes/long_calls",
+    "regexes/messages",
+    "regexes/pattern_scans",
 ];
 
 fn main(rt: HostRuntime) -> io::Result<()> {

@@ -8,7 +8,7 @@ use fancy_tables::columns::{names_of, number, split as columns};
 use std::alloc::{AllocError, Global};
 
 /// The template, by the groups of each name.
-fn template(alloc: Global, named: &str, text: &str) -> Result<Template, AllocError> {
+pub fn template(alloc: Global, named: &str, text: &str) -> Result<Template, AllocError> {
     let names = names_of(alloc, named)?;
     Template::new(alloc, text, &names)
 }

@@ -1,7 +1,8 @@
 //! What stands in the place of a row's last column.
 
 use crate::{
-    characters, fragments, layouts, lists, programs, scans, searches, states, syntax, trees,
+    characters, fragments, layouts, lists, programs, regexes, scans, searches, states, syntax,
+    trees,
 };
 use fancy_regex_engine::error::Error;
 use fancy_regex_engine::vm::Scratch;
@@ -41,6 +42,7 @@ pub fn push_outcome(
         Some(("lists", "scans")) => scans::push_scans(line, alloc, key),
         Some(("syntax", table)) => syntax::push_pattern(line, alloc, table, key),
         Some(("lists", table)) => lists::push_list(line, alloc, table, key),
+        Some(("regexes", table)) => Ok(regexes::push_regex(line, alloc, table, key)?),
         _ => Ok(()),
     }
 }

@@ -32,7 +32,7 @@ fn scanners(alloc: Global, trees: &str) -> Result<(Scanner, Scanner), Error> {
 }
 
 /// A limit that a tree passed, with the number of the tree.
-fn push_stopped(line: &mut String, stopped: &Option<Stopped>) -> Result<(), AllocError> {
+pub fn push_stopped(line: &mut String, stopped: &Option<Stopped>) -> Result<(), AllocError> {
     let Some(stopped) = stopped else {
         return Ok(());
     };
@@ -61,7 +61,7 @@ fn push_kept(line: &mut String, scan: &mut ScanText<'_, '_>, pos: usize) -> Resu
 }
 
 /// The same, searched for from this place alone.
-fn push_found(
+pub fn push_found(
     line: &mut String,
     scanner: &mut Scanner,
     text: &str,
@@ -81,7 +81,7 @@ fn push_found(
 }
 
 /// `none`, if nothing was written since the line was so long.
-fn push_missing(line: &mut String, before: usize) -> Result<(), AllocError> {
+pub fn push_missing(line: &mut String, before: usize) -> Result<(), AllocError> {
     if line.len() > before {
         return Ok(());
     }
@@ -90,7 +90,7 @@ fn push_missing(line: &mut String, before: usize) -> Result<(), AllocError> {
 }
 
 /// What a scan of the text says, or that a search from each place alone says something else.
-fn push_agreed(line: &mut String, kept: &str, found: &str) -> Result<(), AllocError> {
+pub fn push_agreed(line: &mut String, kept: &str, found: &str) -> Result<(), AllocError> {
     if kept != found {
         return push_differ(line, "find_from");
     }

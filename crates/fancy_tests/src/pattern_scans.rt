@@ -1,0 +1,120 @@
+//! A text from place to place of many patterns.
+
+use crate::regexes::{builder_of, regex_of};
+use crate::scans::{push_agreed, push_found, push_missing, push_stopped};
+use fancy_characters::places::is_place;
+use fancy_regex::{Error, ScanText, Scanner};
+use fancy_scanner::scanner::Scanner as TreeScanner;
+use fancy_tables::columns::{number, split, with_codes};
+use fancy_tables::lists::push_numbered;
+use std::alloc::{AllocError, Global};
+
+/// What a scan says, what the engine says from each place alone, and what the groups `n` took.
+#[derive(Drop)]
+struct Said {
+    kept: String,
+    found: String,
+    named: String,
+}
+
+/// Adds a pattern, with options by these words, and to the other scanner the engine of its regex.
+fn add(
+    scanner: &mut Scanner,
+    compiled: &mut TreeScanner,
+    alloc: Global,
+    pattern: &str,
+    words: &str,
+) -> Result<(), Error> {
+    if words == "-" {
+        scanner.add(pattern)?;
+    } else {
+        scanner.add_built(&builder_of(pattern, words))?;
+    }
+    compiled.add(regex_of(alloc, pattern, words)?.into_engine())?;
+    Ok(())
+}
+
+/// Adds the patterns with ` ; ` between them.
+fn add_all(
+    scanner: &mut Scanner,
+    compiled: &mut TreeScanner,
+    alloc: Global,
+    patterns: &str,
+    words: &str,
+) -> Result<(), Error> {
+    for pattern in patterns.split(" ; ") {
+        add(scanner, compiled, alloc, pattern, words)?;
+    }
+    Ok(())
+}
+
+/// What the group `n` of the match that is kept of this pattern took, after a space.
+fn push_named(named: &mut String, scan: &ScanText<'_, '_>, index: usize) -> Result<(), Error> {
+    let Some(captures) = scan.captures(index)? else {
+        return Ok(());
+    };
+    if let Some(found) = captures.name("n") {
+        write!(named, " {}", found.as_str())?;
+    }
+    Ok(())
+}
+
+/// The match from this place on, with the number of its pattern, behind a limit that a pattern passed.
+fn push_step(said: &mut Said, scan: &mut ScanText<'_, '_>, pos: usize) -> Result<(), Error> {
+    if !is_place(scan.text().as_bytes(), pos) {
+        return Ok(());
+    }
+    let step = scan.find_from(pos)?;
+    push_stopped(&mut said.kept, &step.stopped)?;
+    let Some(first) = step.found else {
+        return Ok(());
+    };
+    push_numbered(
+        &mut said.kept,
+        first.index,
+        first.whole.start(),
+        first.whole.end(),
+    )?;
+    push_named(&mut said.named, scan, first.index)
+}
+
+/// The first match from each of these places on, or `none`: by the scan, and by the engine from each place alone.
+fn push_steps(
+    said: &mut Said,
+    scan: &mut ScanText<'_, '_>,
+    compiled: &mut TreeScanner,
+    places: &str,
+) -> Result<(), Error> {
+    for place in places.split(' ') {
+        let pos = number(place);
+        let (before, after) = (said.kept.len(), said.found.len());
+        push_found(&mut said.found, compiled, scan.text(), pos)?;
+        push_step(said, scan, pos)?;
+        push_missing(&mut said.kept, before)?;
+        push_missing(&mut said.found, after)?;
+    }
+    Ok(())
+}
+
+/// The same by the patterns of a row.
+fn push_scanned(said: &mut Said, alloc: Global, key: &str) -> Result<(), Error> {
+    let (patterns, rest) = split(key);
+    let (words, rest) = split(rest);
+    let (text, places) = split(rest);
+    let (mut scanner, mut compiled) = (Scanner::new(alloc), TreeScanner::new(alloc));
+    add_all(&mut scanner, &mut compiled, alloc, patterns, words)?;
+    push_steps(said, &mut scanner.scan(text), &mut compiled, places)
+}
+
+/// PATTERNS, options, TEXT, PLACES: from each of the places on the first match, and then what the groups `n` took.
+pub fn push_pattern_scan(line: &mut String, alloc: Global, key: &str) -> Result<(), Error> {
+    let key = with_codes(alloc, key)?;
+    let mut said = Said {
+        kept: String::new(alloc),
+        found: String::new(alloc),
+        named: String::new(alloc),
+    };
+    push_scanned(&mut said, alloc, key.as_str())?;
+    push_agreed(line, said.kept.as_str(), said.found.as_str())?;
+    Ok(line.push_str(said.named.as_str())?)
+}

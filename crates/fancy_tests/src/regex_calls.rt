@@ -1,0 +1,265 @@
+//! What the calls of a regex answer.
+
+use crate::replacements::template;
+use fancy_characters::places::is_place;
+use fancy_regex::{Captures, Error, Match, NoExpand, Part, Parts, Regex, escape};
+use fancy_tables::columns::{number, split};
+use fancy_tables::lists::push_none;
+use std::alloc::{AllocError, Global};
+use std::borrow::CowStr;
+use std::ops::Range;
+
+/// Before an item of a list.
+fn push_space(line: &mut String) -> Result<(), AllocError> {
+    if line.is_empty() {
+        return Ok(());
+    }
+    line.push(' ')
+}
+
+/// START-END, and what it took in brackets.
+pub fn push_match(line: &mut String, found: Match<'_>) -> Result<(), AllocError> {
+    let (start, end) = (found.start(), found.end());
+    write!(line, "{start}-{end}[{}]", found.as_str())
+}
+
+/// The match, or that there is none.
+fn push_found(line: &mut String, found: Option<Match<'_>>) -> Result<(), AllocError> {
+    match found {
+        Some(found) => push_match(line, found),
+        None => line.push_str("none"),
+    }
+}
+
+/// The match by all that can be asked of it.
+fn push_facts(line: &mut String, found: Match<'_>) -> Result<(), AllocError> {
+    let (len, is_empty, range) = (found.len(), found.is_empty(), found.range());
+    let (text, other): (&str, Range<usize>) = (found.into(), found.into());
+    write!(
+        line,
+        "{found:?} {len} {is_empty} {range:?} {text} {other:?}"
+    )
+}
+
+/// The first match, from the place on that the argument may name.
+fn found<'t>(regex: &mut Regex, text: &'t str, argument: &str) -> Result<Option<Match<'t>>, Error> {
+    let pos = number(argument);
+    if !argument.is_empty() && is_place(text.as_bytes(), pos) {
+        return regex.find_from_pos(text, pos);
+    }
+    regex.find(text)
+}
+
+/// Whether the first match from the place on is the first match of the text.
+fn is_first(regex: &mut Regex, text: &str, argument: &str) -> Result<bool, Error> {
+    Ok(found(regex, text, argument)? == regex.find(text)?)
+}
+
+/// Each group after a space, and `-` for one that is not set.
+fn push_groups(line: &mut String, captures: &Captures<'_>) -> Result<(), AllocError> {
+    for group in captures.iter() {
+        push_space(line)?;
+        match group {
+            Some(found) => push_match(line, found)?,
+            None => line.push('-')?,
+        }
+    }
+    Ok(())
+}
+
+/// What the call asks of the groups.
+fn push_captures(
+    line: &mut String,
+    captures: &Captures<'_>,
+    call: &str,
+    argument: &str,
+    template: &str,
+) -> Result<(), Error> {
+    match call {
+        "get" => push_found(line, captures.get(number(argument)))?,
+        "name" => push_found(line, captures.name(argument))?,
+        "get_match" => push_match(line, captures.get_match())?,
+        "len" => write!(line, "{}", captures.len())?,
+        "expand" => captures.expand(template, line)?,
+        _ => push_groups(line, captures)?,
+    }
+    Ok(())
+}
+
+/// The groups of the first match, from the place on that the argument of `captures_from_pos` names.
+fn captured<'t>(
+    regex: &mut Regex,
+    text: &'t str,
+    call: &str,
+    argument: &str,
+) -> Result<Option<Captures<'t>>, Error> {
+    let pos = number(argument);
+    if call == "captures_from_pos" && is_place(text.as_bytes(), pos) {
+        return regex.captures_from_pos(text, pos);
+    }
+    regex.captures(text)
+}
+
+/// What the call asks of the groups of the first match.
+fn push_captured(
+    line: &mut String,
+    regex: &mut Regex,
+    text: &str,
+    call: &str,
+    argument: &str,
+    template: &str,
+) -> Result<(), Error> {
+    match captured(regex, text, call, argument)? {
+        Some(captures) => push_captures(line, &captures, call, argument, template),
+        None => Ok(line.push_str("none")?),
+    }
+}
+
+/// All matches.
+fn push_matches(line: &mut String, regex: &mut Regex, text: &str) -> Result<(), Error> {
+    for found in regex.find_iter(text) {
+        push_space(line)?;
+        push_match(line, found?)?;
+    }
+    Ok(push_none(line)?)
+}
+
+/// The groups of all matches, with `;` between these.
+fn push_all_captures(line: &mut String, regex: &mut Regex, text: &str) -> Result<(), Error> {
+    for captures in regex.captures_iter(text) {
+        if !line.is_empty() {
+            line.push(';')?;
+        }
+        push_groups(line, &captures?)?;
+    }
+    Ok(push_none(line)?)
+}
+
+/// The pieces of the text, at most so many where a number is given.
+fn push_pieces(line: &mut String, regex: &mut Regex, text: &str, limit: &str) -> Result<(), Error> {
+    if limit.is_empty() {
+        for piece in regex.split(text) {
+            write!(line, "[{}]", piece?)?;
+        }
+    } else {
+        for piece in regex.splitn(text, number(limit)) {
+            write!(line, "[{}]", piece?)?;
+        }
+    }
+    Ok(push_none(line)?)
+}
+
+/// The text with matches replaced, by what the call and its argument name.
+fn replaced<'t>(
+    alloc: Global,
+    regex: &mut Regex,
+    text: &'t str,
+    call: &str,
+    argument: &str,
+    by: &str,
+) -> Result<CowStr<'t, Global>, Error> {
+    match (call, argument) {
+        ("replace", _) => regex.replace(text, by),
+        ("replacen", limit) => regex.replacen(text, number(limit), by),
+        ("replace_all", "no_expand") => regex.replace_all(text, NoExpand(by)),
+        ("replace_all", "template") => regex.replace_all(text, template(alloc, "", by)?),
+        ("replace_all", "parts") => {
+            let parts = [Part::Group(1), Part::Text(by), Part::Group(0)];
+            regex.replace_all(text, Parts(&parts))
+        }
+        _ => regex.replace_all(text, by),
+    }
+}
+
+/// The text with matches replaced.
+fn push_replaced(
+    line: &mut String,
+    alloc: Global,
+    regex: &mut Regex,
+    text: &str,
+    call: &str,
+    argument: &str,
+    by: &str,
+) -> Result<(), Error> {
+    let text = replaced(alloc, regex, text, call, argument, by)?;
+    Ok(line.push_str(text.as_ref())?)
+}
+
+/// The names of the groups after a space, and `-` for one without a name.
+fn push_names(line: &mut String, regex: &Regex) -> Result<(), AllocError> {
+    for name in regex.capture_names() {
+        push_space(line)?;
+        line.push_str(name.unwrap_or("-"))?;
+    }
+    Ok(())
+}
+
+/// What the iterators of the matches say of themselves.
+fn push_iterators(line: &mut String, regex: &mut Regex, text: &str) -> Result<(), AllocError> {
+    let matches = regex.find_iter(text);
+    line.push_str(matches.regex().as_str())?;
+    line.push_str(matches.text())?;
+    let captures = regex.captures_iter(text);
+    line.push_str(captures.regex().as_str())?;
+    line.push_str(captures.text())
+}
+
+/// What the regex says of its pattern.
+fn push_about(line: &mut String, regex: &Regex, call: &str) -> Result<(), AllocError> {
+    match call {
+        "captures_len" => write!(line, "{}", regex.captures_len()),
+        "capture_names" => push_names(line, regex),
+        "display" => write!(line, "{regex} {regex:?}"),
+        _ => line.push_str(regex.as_str()),
+    }
+}
+
+/// What a search for the first match answers.
+fn push_search(
+    line: &mut String,
+    regex: &mut Regex,
+    text: &str,
+    call: &str,
+    argument: &str,
+) -> Result<(), Error> {
+    match call {
+        "is_match" => write!(line, "{}", regex.is_match(text)?)?,
+        "is_first" => write!(line, "{}", is_first(regex, text, argument)?)?,
+        "match" => {
+            if let Some(found) = regex.find(text)? {
+                push_facts(line, found)?;
+            }
+        }
+        _ => push_found(line, found(regex, text, argument)?)?,
+    }
+    Ok(())
+}
+
+/// CALL with its argument, TEXT, and a template: what the regex answers to the call.
+pub fn push_call(
+    line: &mut String,
+    alloc: Global,
+    regex: &mut Regex,
+    columns: &str,
+) -> Result<(), Error> {
+    let (call, rest) = split(columns);
+    let (call, argument) = call.split_once(' ').unwrap_or((call, ""));
+    let (text, by) = split(rest);
+    match call {
+        "is_match" | "is_first" | "match" | "find" | "find_from_pos" => {
+            push_search(line, regex, text, call, argument)
+        }
+        "find_iter" => push_matches(line, regex, text),
+        "captures_iter" => push_all_captures(line, regex, text),
+        "split" | "splitn" => push_pieces(line, regex, text, argument),
+        "replace" | "replacen" | "replace_all" => {
+            push_replaced(line, alloc, regex, text, call, argument, by)
+        }
+        "as_str" | "display" | "captures_len" | "capture_names" => Ok(push_about(
+            line, regex, call,
+        )?),
+        "iterators" => Ok(push_iterators(line, regex, text)?),
+        "escape" => Ok(line.push_str(escape(alloc, text)?.as_str())?),
+        _ => push_captured(line, regex, text, call, argument, by),
+    }
+}

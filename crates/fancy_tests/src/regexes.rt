@@ -1,0 +1,115 @@
+//! Patterns by the names of fancy-regex: their regexes, built with the options of a row.
+
+use crate::pattern_scans::push_pattern_scan;
+use crate::regex_calls::push_call;
+use fancy_regex::{Error, Regex, RegexBuilder};
+use fancy_tables::columns::{number, push_differ, split, with_codes, written_out};
+use std::alloc::{AllocError, Global};
+
+/// The builder with one option more: the name of its setter, with a number behind `=` where it takes one.
+fn with<'p>(builder: RegexBuilder<'p>, word: &str) -> RegexBuilder<'p> {
+    let (name, value) = word.split_once('=').unwrap_or((word, ""));
+    match name {
+        "case_insensitive" => builder.case_insensitive(true),
+        "multi_line" => builder.multi_line(true),
+        "dot_matches_new_line" => builder.dot_matches_new_line(true),
+        "ignore_whitespace" => builder.ignore_whitespace(true),
+        "crlf" => builder.crlf(true),
+        "swap_greed" => builder.swap_greed(true),
+        "unicode_mode" => builder.unicode_mode(value != "false"),
+        "oniguruma_mode" => builder.oniguruma_mode(true),
+        "ignore_numbered_groups_when_named_groups_exist" => {
+            builder.ignore_numbered_groups_when_named_groups_exist(true)
+        }
+        "find_not_empty" => builder.find_not_empty(true),
+        "leftmost_longest" => builder.leftmost_longest(true),
+        "backtrack_limit" => builder.backtrack_limit(number(value)),
+        "step_limit" => builder.step_limit(number(value) as u64),
+        "max_prog_size" => builder.max_prog_size(number(value)),
+        "max_nesting" => builder.max_nesting(number(value)),
+        _ => builder,
+    }
+}
+
+/// The builder of a pattern, with options by these words.
+pub fn builder_of<'p>(pattern: &'p str, words: &str) -> RegexBuilder<'p> {
+    let mut builder = RegexBuilder::new(pattern);
+    for word in words.split_whitespace() {
+        builder = with(builder, word);
+    }
+    builder
+}
+
+/// The regex of a pattern, with options by these words.
+pub fn regex_of(alloc: Global, pattern: &str, words: &str) -> Result<Regex, Error> {
+    if words == "-" {
+        return Regex::new(alloc, pattern);
+    }
+    builder_of(pattern, words).build(alloc)
+}
+
+/// What a clone of the regex answers.
+fn push_by_clone(
+    again: &mut String,
+    alloc: Global,
+    regex: &Regex,
+    columns: &str,
+) -> Result<(), Error> {
+    push_call(again, alloc, &mut regex.try_clone()?, columns)
+}
+
+/// What the regex of the pattern answers, and what its clone does.
+fn push_both(line: &mut String, again: &mut String, alloc: Global, key: &str) -> Result<(), Error> {
+    let (pattern, rest) = split(key);
+    let (words, columns) = split(rest);
+    let mut regex = regex_of(alloc, pattern, words)?;
+    push_by_clone(again, alloc, &regex, columns)?;
+    push_call(line, alloc, &mut regex, columns)
+}
+
+/// The key, in which the table spells characters by their codes, or long texts.
+fn written(alloc: Global, table: &str, key: &str) -> Result<String, AllocError> {
+    if table == "long_calls" {
+        written_out(alloc, key)
+    } else {
+        with_codes(alloc, key)
+    }
+}
+
+/// PATTERN, options, CALL, TEXT, and a template: what the regex answers to the call, if its clone answers the same.
+fn push_answered(line: &mut String, alloc: Global, table: &str, key: &str) -> Result<(), Error> {
+    let key = written(alloc, table, key)?;
+    let mut again = String::new(alloc);
+    push_both(line, &mut again, alloc, key.as_str())?;
+    if line.as_str() != again.as_str() {
+        push_differ(line, "try_clone")?;
+    }
+    Ok(())
+}
+
+/// An error in the place of what was written before it, or its message.
+fn finish(line: &mut String, table: &str, outcome: Result<(), Error>) -> Result<(), AllocError> {
+    let Err(error) = outcome else {
+        return Ok(());
+    };
+    line.clear();
+    if table == "messages" {
+        return write!(line, "{error}");
+    }
+    write!(line, "{error:?}")
+}
+
+/// What comes out for the key of a row.
+pub fn push_regex(
+    line: &mut String,
+    alloc: Global,
+    table: &str,
+    key: &str,
+) -> Result<(), AllocError> {
+    let outcome = if table == "pattern_scans" {
+        push_pattern_scan(line, alloc, key)
+    } else {
+        push_answered(line, alloc, table, key)
+    };
+    finish(line, table, outcome)
+}
