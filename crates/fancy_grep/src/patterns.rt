@@ -85,6 +85,7 @@ pub fn regex_of(alloc: Global, pattern: &str, options: PatternOptions) -> Result
     RegexBuilder::new(whole.as_str())
         .case_insensitive(options.case_insensitive)
         .leftmost_longest(options.longest)
-        .max_nesting(MOST_NESTING)
+        .max_prog_size(None)
+        .max_nesting(Some(MOST_NESTING))
         .build(alloc)
 }

@@ -3,7 +3,7 @@ use Rattle.std.proofs.Common.{◌≡◌, ◌-◌, ◌^◌, ℕ, List, [], None, 
 use Rattle.fancy_meaning.specs.Options as plain
 use Rattle.fancy_expr.specs.Views.{parsed_of}
 use Rattle.fancy_expr.specs.declared.expr.ExprTree.{ExprTree}
-use Rattle.fancy_search.specs.Searches.{IsCompiledFrom, IsRefusedAs}
+use Rattle.fancy_search.specs.Searches.{IsCompiledFrom, IsNestedOver, IsRefusedAs}
 use Rattle.fancy_matches.specs.Listing.{options_for}
 use Rattle.fancy_matches.specs.Regexes as engine
 use Rattle.fancy_matches.specs.declared.options.RegexOptions as engine_options
@@ -45,20 +45,29 @@ module _ (asked : RegexOptions) (tree : ExprTree) where
         (subst (λ k. IsRefusedAs (record { parsed = parsed_of tree; analysis = a; options = k }) asked.max_nesting e) as_compiled
         (subst (λ m. IsRefusedAs (record { parsed = parsed_of tree; analysis = a; options = k }) m e) as_nested h))
 
+    pub within_so : (m : Option ℕ) → m ≡ asked.max_nesting →
+        ¬ IsNestedOver (record { parsed = parsed_of tree; analysis = a; options = k }) m → ¬ IsNestedOver (input tree asked) asked.max_nesting
+    within_so m as_nested h =
+        subst (λ a. ¬ IsNestedOver (record { parsed = parsed_of tree; analysis = a; options = compilation asked }) asked.max_nesting) as_analysed
+        (subst (λ k. ¬ IsNestedOver (record { parsed = parsed_of tree; analysis = a; options = k }) asked.max_nesting) as_compiled
+        (subst (λ m. ¬ IsNestedOver (record { parsed = parsed_of tree; analysis = a; options = k }) m) as_nested h))
+
   module _ (pattern : List ℕ) (spelled : IsTreeOf pattern asked tree) where
     pub built : (r : engine_regex.Regex) → ((text : List ℕ) → engine.IsRegexOf (input tree asked) text (running asked text) r) →
-        (asked.backtrack_limit ≡ None → asked.step_limit ≡ 2 ^ 64 - 1 → engine.HasNoLimits r) → (result : Result Regex Error) →
+        (asked.backtrack_limit ≡ None → asked.step_limit ≡ 2 ^ 64 - 1 → engine.HasNoLimits r) → ¬ IsNestedOver (input tree asked) asked.max_nesting →
+        (result : Result Regex Error) →
         MatchResult result (IsMadeOf pattern asked tree r) (λ e. e ≡ face.Memory) → MatchResult result (IsBuilt pattern asked) (IsRefused pattern asked)
-    built r of unlimited (Ok s) made = record {
+    built r of unlimited within (Ok s) made = record {
       tree = tree;
       spelled = spelled;
       compiled = λ text. subst (engine.IsRegexOf (input tree asked) text (running asked text)) (sym made.compiled) (of text);
+      within = within;
       unlimited = λ backtracks steps. subst engine.HasNoLimits (sym made.compiled) (unlimited backtracks steps);
       names = made.names;
       has_pattern = made.has_pattern;
       has_options = made.has_options;
     }
-    built r of unlimited (Err e) made = subst (IsRefused pattern asked) (sym made) tt
+    built r of unlimited within (Err e) made = subst (IsRefused pattern asked) (sym made) tt
 
     pub refused : (e : Error) → IsRefusedAs (input tree asked) asked.max_nesting (engine_error e) → IsRefused pattern asked e
     refused (face.ParseError at kind) h = absurd h
@@ -79,6 +88,7 @@ built_of_same pattern o r s same h = record {
   tree = h.tree;
   spelled = h.spelled;
   compiled = λ text. of_same (engine_of r) (engine_of s) (input h.tree o) text (running o text) same.engine (h.compiled text);
+  within = h.within;
   unlimited = λ backtracks steps.
       let u = h.unlimited backtracks steps in (
         ap (λ (a : engine_options.RegexOptions). a.backtrack_limit) (same.engine).1 ∙ u.0,

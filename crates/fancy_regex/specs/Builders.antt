@@ -9,7 +9,7 @@ use Rattle.fancy_matches.specs.declared.regexes.Regex as compiled_regex
 use Rattle.fancy_pattern.specs.Spelling as spelling
 use Rattle.fancy_pattern.specs.declared.error.PatternError.TheVariants as of_parser
 use Rattle.fancy_pattern.specs.declared.options.ParseOptions.{ParseOptions}
-use Rattle.fancy_search.specs.Searches.{IsRefusedAs}
+use Rattle.fancy_search.specs.Searches.{IsNestedOver, IsRefusedAs}
 use Rattle.fancy_regex.specs.Errors.{engine_error}
 use Rattle.fancy_regex.specs.Names.{group_count, names_in}
 use Rattle.fancy_regex.specs.Options.{default_options, input, running}
@@ -67,6 +67,8 @@ module _ (pattern : List ℕ) (o : RegexOptions) where
     pub tree : ExprTree
     pub spelled : IsTreeOf tree
     pub compiled : (text : List ℕ) → IsRegexOf (input tree o) text (running o text) r
+    -- the tree stands within the limit of nesting
+    pub within : ¬ IsNestedOver (input tree o) o.max_nesting
     -- where no limit was asked it has none
     pub unlimited : o.backtrack_limit ≡ None → o.step_limit ≡ 2 ^ 64 - 1 → HasNoLimits (engine_of r)
     pub names : AreNamesOf tree (names_of r)

@@ -1,6 +1,6 @@
 -- What the options of a regex ask for: how its pattern is read, how its tree is analysed and compiled, and how it is
 -- searched for.
-use Rattle.std.specs.Prelude.{◌-◌, ◌^◌, ℕ, true, false, List, None}
+use Rattle.std.specs.Prelude.{◌-◌, ◌^◌, ℕ, true, false, List, None, Some}
 use Rattle.fancy_meaning.specs.Options as plain
 use Rattle.fancy_meaning.specs.Premises.{Input}
 use Rattle.fancy_expr.specs.Views.{parsed_of}
@@ -29,8 +29,8 @@ default_options = record {
   parsing = default_parsing;
   not_empty = false;
   longest = false;
-  max_prog_size = None;
-  max_nesting = None;
+  max_prog_size = Some 100_000;
+  max_nesting = Some 500;
   backtrack_limit = None;
   step_limit = 2 ^ 64 - 1;
 }

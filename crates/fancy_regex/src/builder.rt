@@ -173,32 +173,34 @@ impl<'p> RegexBuilder<'p> {
         self
     }
 
-    /// How many instructions the program of the pattern may have; there is no bound unless set.
+    /// How many instructions the program of the pattern may have, or with `None` any number. Unless set it is 100,000. A
+    /// pattern that wants more is refused as `CompileError::PatternTooComplex`.
     #[must_use]
-    pub fn max_prog_size(self, limit: usize) -> RegexBuilder<'p>
+    pub fn max_prog_size(self, limit: Option<usize>) -> RegexBuilder<'p>
         ensures { result ≡ with_options self.entry
-            (record (options self.entry) { max_prog_size = Some limit }) }
+            (record (options self.entry) { max_prog_size = limit }) }
     {
         RegexBuilder {
             pattern: self.pattern,
             options: RegexOptions {
-                max_prog_size: Some(limit),
+                max_prog_size: limit,
                 ..self.options
             },
         }
     }
 
-    /// How many nodes of the pattern may stand in one another where they are written out, calls with them; there is no
-    /// bound unless set.
+    /// How many nodes of the pattern may stand in one another where they are written out, calls with them, or with `None`
+    /// any number. Unless set it is 500, for a stack of 2 MB. A pattern that nests deeper is refused as
+    /// `Error::NestLimitExceeded`.
     #[must_use]
-    pub fn max_nesting(self, limit: usize) -> RegexBuilder<'p>
+    pub fn max_nesting(self, limit: Option<usize>) -> RegexBuilder<'p>
         ensures { result ≡ with_options self.entry
-            (record (options self.entry) { max_nesting = Some limit }) }
+            (record (options self.entry) { max_nesting = limit }) }
     {
         RegexBuilder {
             pattern: self.pattern,
             options: RegexOptions {
-                max_nesting: Some(limit),
+                max_nesting: limit,
                 ..self.options
             },
         }

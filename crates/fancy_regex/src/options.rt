@@ -22,7 +22,9 @@ pub struct RegexOptions {
     pub(crate) not_empty: bool,
     /// The longest match at the earliest start is found.
     pub(crate) longest: bool,
+    /// How many instructions the program may have.
     pub(crate) max_prog_size: Option<usize>,
+    /// How many nodes may stand in one another where they are written out.
     pub(crate) max_nesting: Option<usize>,
     pub(crate) backtrack_limit: Option<usize>,
     pub(crate) step_limit: u64,
@@ -46,8 +48,8 @@ impl Default for RegexOptions {
             },
             not_empty: false,
             longest: false,
-            max_prog_size: None,
-            max_nesting: None,
+            max_prog_size: Some(100_000),
+            max_nesting: Some(500),
             backtrack_limit: None,
             step_limit: u64::MAX,
         }

@@ -6,6 +6,11 @@ use fancy_regex::{Error, Regex, RegexBuilder};
 use fancy_tables::columns::{number, push_differ, split, with_codes, written_out};
 use std::alloc::{AllocError, Global};
 
+/// The limit that the text spells, or none.
+fn limit(text: &str) -> Option<usize> {
+    text.parse::<usize>().ok()
+}
+
 /// The builder with one option more: the name of its setter, with a number behind `=` where it takes one.
 fn with<'p>(builder: RegexBuilder<'p>, word: &str) -> RegexBuilder<'p> {
     let (name, value) = word.split_once('=').unwrap_or((word, ""));
@@ -25,8 +30,8 @@ fn with<'p>(builder: RegexBuilder<'p>, word: &str) -> RegexBuilder<'p> {
         "leftmost_longest" => builder.leftmost_longest(true),
         "backtrack_limit" => builder.backtrack_limit(number(value)),
         "step_limit" => builder.step_limit(number(value) as u64),
-        "max_prog_size" => builder.max_prog_size(number(value)),
-        "max_nesting" => builder.max_nesting(number(value)),
+        "max_prog_size" => builder.max_prog_size(limit(value)),
+        "max_nesting" => builder.max_nesting(limit(value)),
         _ => builder,
     }
 }

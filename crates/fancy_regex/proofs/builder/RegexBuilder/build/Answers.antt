@@ -5,7 +5,7 @@ use Rattle.fancy_info.specs.Infos.{analysis_options_of}
 use Rattle.fancy_compile.specs.Compiled.{compile_options_of}
 use Rattle.fancy_regex.specs.Builders.{options}
 use Rattle.fancy_regex.specs.Options.{input}
-use Rattle.fancy_regex.proofs.Built.{built, compiled_so, refused, refused_so, unlimited_so}
+use Rattle.fancy_regex.proofs.Built.{built, compiled_so, refused, refused_so, unlimited_so, within_so}
 use Rattle.fancy_regex.proofs.builder.RegexBuilder.build.Goals as goal
 
 pub regex_of-requires : goal.regex_of-requires
@@ -22,6 +22,7 @@ returns-in-Ok c =
     built (options b) tree b.pattern.now c.in_ok-tree.ensures c.in-Ok.engine
     (compiled_so (options b) tree a k says.analysis says.compilation (run_options_of o.run) c.in-Ok.engine says.run c.in-Ok.ensures.made)
     (unlimited_so (options b) tree a k says.analysis says.compilation (run_options_of o.run) c.in-Ok.engine says.run c.in-Ok.ensures.made)
+    (within_so (options b) tree a k says.analysis says.compilation (o.compilation).max_nesting says.nesting c.in-Ok.ensures.within)
     c.regex_of.result c.regex_of.ensures
 
 pub returns-in-Err : goal.returns-in-Err
