@@ -92,7 +92,8 @@ enum fancy_code {
     FANCY_TARGET_NOT_REPEATABLE = 37,
     FANCY_GENERAL_PARSE_ERROR = 38,
 
-    FANCY_WRONG_SIZE = 39            /* size of the options is not the library's: header and library are of two versions */
+    FANCY_WRONG_SIZE = 39,           /* size of the options is not the library's: header and library are of two versions */
+    FANCY_NO_ROOM = 40               /* there is no room for the text of fancy_replace: count */
 };
 
 /* A compiled pattern or tree, or nothing. What its words say is the library's affair. Begin with FANCY_NOTHING, or with
@@ -143,7 +144,8 @@ struct fancy_outcome {
     uint32_t code; /* of enum fancy_code */
     size_t byte;   /* where the pattern, the tree or the text cannot be read */
     size_t group;  /* the group that is not there */
-    size_t count;  /* how many groups there are, with group 0; of the calls for all matches, how many were written */
+    size_t count;  /* how many groups there are, with group 0; of the calls for all matches, how many were written;
+                      of fancy_replace, how many bytes the new text has */
     size_t next;   /* of fancy_find: pos of a search for the next match; past the length of the text there is none */
 };
 
@@ -244,6 +246,23 @@ struct fancy_outcome fancy_captures_all(struct fancy_program *program, const cha
                                         const struct fancy_options *options, struct fancy_standing *standing,
                                         size_t *spans, size_t spans_length);
 
+/* ---- replacing */
+
+/* Writes the text with its first `limit` matches replaced, all of them where limit is 0; without a match the text itself.
+ * The matches are those of fancy_find_all. count says how many bytes the new text has, without the zero at its end:
+ *
+ *   FANCY_OK       it was written, with the zero
+ *   FANCY_NO_ROOM  count is room or more: nothing was written, and the call may be made again with count + 1 bytes
+ *   other codes    nothing was written; a replacement that is no UTF-8 is FANCY_NOT_UTF8 too
+ *
+ * The new text may have a zero inside. The replacement is a template: $1, ${1}, $name and ${name} write what a group took,
+ * and $$ writes a dollar. Without braces a name is the longest run of letters, digits and _ of ASCII. A group that is not
+ * set, or not there, writes nothing; of several groups with one name the first that is set is meant. With is_literal the
+ * replacement is written as it stands. */
+struct fancy_outcome fancy_replace(struct fancy_program *program, const char *text, size_t text_length,
+                                   const struct fancy_options *options, const char *replacement,
+                                   size_t replacement_length, bool is_literal, size_t limit, char *into, size_t room);
+
 /* ---- errors */
 
 /* Writes the name of a code; the answer is 0 where the number is no code. No name has more than 40 bytes. */
@@ -294,6 +313,9 @@ static inline size_t *fancy_numbers(size_t *numbers)
     fancy_find_all(program, fancy_from(text), length, options, standing, fancy_numbers(spans), spans_length)
 #define fancy_captures_all(program, text, length, options, standing, spans, spans_length) \
     fancy_captures_all(program, fancy_from(text), length, options, standing, fancy_numbers(spans), spans_length)
+#define fancy_replace(program, text, length, options, replacement, replacement_length, is_literal, limit, into, room) \
+    fancy_replace(program, fancy_from(text), length, options, fancy_from(replacement), replacement_length, is_literal, \
+                  limit, fancy_into(into), room)
 #define fancy_error_name(code, name, room) fancy_error_name(code, fancy_into(name), room)
 #define fancy_error_message(outcome, message, room) fancy_error_message(outcome, fancy_into(message), room)
 #define fancy_explain_pattern(pattern, length, options, message, room) \

@@ -77,6 +77,22 @@ static void list_with_groups(struct fancy_program *program, const char *text, si
         want(at == count && (ends == FANCY_OK || found.code == ends), "a list with groups ends otherwise");
 }
 
+/* Each match in its own place is the text, and so are the pieces that it writes by a template of all the match. */
+static void replace(struct fancy_program *program, const char *text, size_t length, const struct fancy_options *options)
+{
+    char *into = malloc(length + 1);
+    if (!into)
+        return;
+    struct fancy_outcome itself = fancy_replace(program, text, length, options, "$0", 2, false, 0, into, length + 1);
+    if (itself.code == FANCY_OK)
+        want(itself.count == length && memcmp(into, text, length) == 0 && into[length] == 0,
+             "a match in its own place changes the text");
+    want(itself.code != FANCY_NO_ROOM, "a match in its own place takes more room");
+    struct fancy_outcome small = fancy_replace(program, text, length, options, "", 0, true, 1, into, 0);
+    want(small.code != FANCY_OK, "a text with its zero is written without room");
+    free(into);
+}
+
 static void search(struct fancy_program *program, const char *text, size_t length, const struct fancy_options *options)
 {
     size_t first[ROOM], second[ROOM], many[ROOM], single[ROOM];
@@ -99,6 +115,7 @@ static void search(struct fancy_program *program, const char *text, size_t lengt
     want(memcmp(many, single, count * sizeof *many) == 0, "a list with little room has other matches");
     check_spans(text, length, many, count / 2);
     list_with_groups(program, text, length, options, many, count, ends);
+    replace(program, text, length, options);
     for (size_t at = 2; at < count; at += 2)
         want(many[at] >= many[at - 1], "two matches of a list overlap");
 }

@@ -85,6 +85,42 @@ static void list_groups(void)
     fancy_free(&program);
 }
 
+static void replace(const char *what, const char *replacement, bool is_literal, size_t limit, size_t room)
+{
+    char into[24] = "untouched";
+    const char *text = "a=1, b=22";
+    struct fancy_outcome outcome = fancy_replace(&program, text, strlen(text), &options, replacement, strlen(replacement),
+                                                 is_literal, limit, into, room);
+    print_outcome(what, outcome);
+    printf("%zu bytes: %s\n", outcome.count, into);
+}
+
+static void replace_matches(void)
+{
+    replace("a replacement without a pattern", "$1", false, 0, 24);
+    compile_pattern("names and numbers", "(?<name>[a-z])=([0-9]+)(x)?");
+    replace("all matches", "${name}:$2$3$9$$", false, 0, 24);
+    replace("the first match", "$2=$name", false, 1, 24);
+    replace("more than there are", "-", false, 3, 24);
+    replace("a template as it stands", "$1$$", true, 0, 24);
+    replace("no more than the text and its zero", "$0", false, 0, 10);
+    replace("a byte less", "$0", false, 0, 9);
+    replace("no room at all", "$0", false, 0, 0);
+    replace("by nothing", "", false, 0, 24);
+    replace("a replacement that is no UTF-8", "a\xff", false, 0, 24);
+    options.not_empty = true;
+    replace("not_empty said to the replacement alone", "-", false, 0, 24);
+    options = fancy_default_options();
+    options.step_limit = 0;
+    replace("a replacement within no step", "-", false, 0, 24);
+    options = fancy_default_options();
+    compile_pattern("what is not there", "x");
+    replace("no match", "-", false, 0, 24);
+    compile_pattern("an empty pattern", "");
+    printf("%zu bytes of nothing\n", fancy_replace(&program, NULL, 0, &options, NULL, 0, false, 0, NULL, 0).count);
+    fancy_free(&program);
+}
+
 /* So many open parentheses, and as many closed ones. */
 static void compile_nested(const char *what, size_t depth)
 {
@@ -178,7 +214,7 @@ static void write_messages(void)
 {
     char message[120];
     struct fancy_outcome outcome = {0, FANCY_UNSET, FANCY_UNSET, 0, 0};
-    for (; outcome.code <= FANCY_WRONG_SIZE + 1; outcome.code++) {
+    for (; outcome.code <= FANCY_NO_ROOM + 1; outcome.code++) {
         fancy_error_message(&outcome, message, sizeof message);
         printf("%u: %s\n", outcome.code, message);
     }
@@ -265,6 +301,7 @@ int main(void)
     find("a search in what was freed", "a");
     refuse_patterns();
     list_groups();
+    replace_matches();
     name_groups();
     write_texts();
     return 0;

@@ -1,5 +1,5 @@
 -- What the calls of a host need of each other.
-use Rattle.std.proofs.Common.{◌≡◌, ◌<◌, ◌≤◌, ℕ, Bool, true, false, List, Option, Some, None, Result, Ok, Err, MatchResult, IsFalse, IsTrue, refl, sym, ap, ◌∙◌, subst}
+use Rattle.std.proofs.Common.{◌≡◌, ℕ, Bool, true, false, List, Option, Some, None, Result, Ok, Err, MatchResult, IsFalse, IsTrue, refl, sym, ap, ◌∙◌, subst}
 use Rattle.std.specs.Prelude.{IsUtf8}
 use Rattle.std.specs.Str.Lossy.{utf8_valid_len}
 use Rattle.std.specs.Option.{is_some}
@@ -14,7 +14,6 @@ use Rattle.fancy_expr.specs.declared.expr.ExprTree.{ExprTree}
 use Rattle.fancy_info.specs.declared.context.AnalyzeContext.{AnalyzeContext}
 use Rattle.fancy_compile.specs.declared.options.CompileOptions.{CompileOptions}
 use Rattle.fancy_program.specs.Programs.{prog_of}
-use Rattle.fancy_vm.specs.Tasks.{options_of as run_options_of}
 use Rattle.fancy_search.specs.declared.search.Compiled.{Compiled}
 use Rattle.fancy_search.specs.Searches.{Bounds, IsCompiledFrom, IsNestedOver, IsRefusedAs, Promises, input_of, program}
 use Rattle.fancy_host.specs.declared.options.FancyOptions.{FancyOptions}

@@ -8,5 +8,7 @@ pub mod Told
 pub mod Values
 pub mod Widths
 pub mod RowsWritten
+pub mod TextReplaced
+pub mod TextRewritten
 pub mod Said
 pub mod HandleLaws

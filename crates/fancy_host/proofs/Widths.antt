@@ -1,12 +1,11 @@
 -- How many numbers a row has: of each match as many as of the tree's groups.
-use Rattle.std.proofs.Common.{◌≡◌, ℕ, zero, suc, ◌+◌, ◌*◌, ◌<◌, ◌≤◌, List, [], ◌∷◌, ◌++◌, length, min, flat_map, Option, Some, None, option_map, refl, sym, ap, ◌∙◌, subst, arith, length-append}
+use Rattle.std.proofs.Common.{◌≡◌, ℕ, zero, suc, ◌+◌, ◌*◌, ◌<◌, ◌≤◌, List, [], ◌∷◌, length, flat_map, Option, Some, None, option_map, refl, sym, ap, ◌∙◌, arith, length-append}
 use Rattle.std.proofs.lemmas.Option.{none-some, same_Some}
 use Rattle.fancy_meaning.specs.Answer.{Search, answer, as_numbers, search_of, span_numbers}
 use Rattle.fancy_meaning.specs.Instr as plain_program
 use Rattle.fancy_meaning.specs.Layout.{layout}
 use Rattle.fancy_meaning.specs.MatchState.{MatchState, Span}
 use Rattle.fancy_meaning.specs.Nodes.{group_count}
-use Rattle.fancy_meaning.specs.Numbers.{usize_max}
 use Rattle.fancy_meaning.specs.Options.{Plan, RunOptions}
 use Rattle.fancy_meaning.specs.Places.{range_from}
 use Rattle.fancy_meaning.specs.Premises.{Input, IsText, plan}
@@ -14,7 +13,7 @@ use Rattle.fancy_meaning.specs.WellFormed.{most_groups}
 use Rattle.fancy_laws.proofs.Orderly.{analysed_has_as_many_groups}
 use Rattle.fancy_program.specs.Programs.{prog_of}
 use Rattle.fancy_search.specs.Searches.{IsCompiledFrom, program}
-use Rattle.fancy_matches.specs.Listing.{ComesTo, Standing, by_match, found_at, options_at, past_match}
+use Rattle.fancy_matches.specs.Listing.{ComesTo, Standing, by_match, options_at, past_match}
 use Rattle.fancy_matches.proofs.Lists.{found_tells}
 use Rattle.fancy_host.specs.declared.searches.Searcher.{Searcher}
 use Rattle.fancy_host.specs.Hosted.{compiled_of}

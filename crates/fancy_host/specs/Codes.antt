@@ -32,6 +32,9 @@ too_deep = 21
 abbrev pub wrong_size : ℕ
 wrong_size = 39
 
+abbrev pub no_room : ℕ
+no_room = 40
+
 abbrev pub code_of_refusal : CompileError → ℕ
 code_of_refusal refusal.NamedBackrefOnly = 10
 code_of_refusal refusal.FeatureNotYetSupported = 11
@@ -117,6 +120,7 @@ names =
     ∷ codes "TargetNotRepeatable"
     ∷ codes "GeneralParseError"
     ∷ codes "WrongSize"
+    ∷ codes "NoRoom"
     ∷ []
 
 -- no code has a name of no letters

@@ -1,5 +1,5 @@
 -- What the calls of a host answer.
-use Rattle.std.specs.Prelude.{◌<◌, ◌≡◌, ◌≤◌, ℕ, ◌+◌, ◌-◌, ◌/◌, ◌^◌, true, false, not, Bool, IsFalse, IsTrue, IsUtf8, List, [], ◌∷◌, ◌++◌, chars, length, take, drop, min, Option, None, Some, option_map, unwrap_or, Result, Ok, Err, if◌then◌else◌, ◌==◌}
+use Rattle.std.specs.Prelude.{◌≡◌, ◌≤◌, ℕ, ◌+◌, ◌-◌, ◌/◌, ◌^◌, true, false, not, Bool, IsFalse, IsTrue, IsUtf8, List, [], ◌∷◌, ◌++◌, chars, length, take, drop, min, Option, None, Some, option_map, unwrap_or, Result, Ok, Err, if◌then◌else◌, ◌==◌}
 use Rattle.std.specs.Option.{IsSome}
 use Rattle.std.specs.Str.Lossy.{utf8_valid_len}
 use Rattle.std.specs.declared.vec.Vec.{Vec}

@@ -4,4 +4,5 @@ pub mod Lists
 pub mod Messages
 pub mod Names
 pub mod Owned
+pub mod Rewritten
 pub mod Whether

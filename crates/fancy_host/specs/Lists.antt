@@ -74,7 +74,8 @@ module _ (form : Form) (width : ℕ) (c : Compiled) (text : List ℕ) (o : RunOp
 
   -- what is written of the list that stands at `from`, where it then stands, and the outcome
   pub data Writes (from : Standing) (old : List ℕ) : Standing → List ℕ → FancyOutcome → Type 0 where
-    writes : {to : Standing} {outcome : FancyOutcome} → (rows : List (List ℕ)) → All (λ row. length row ≡ width) rows →
+    writes : {to : Standing} {outcome : FancyOutcome} → (rows : List (List ℕ)) →
+        All (λ row. length row ≡ width) rows →
         length (numbers_of rows) ≤ length old → Stops (length old) from rows to outcome →
         Writes from old to (over (numbers_of rows) old) (with_count (length rows) outcome)
 
@@ -91,7 +92,8 @@ pub data Lists (form : Form) (s : Searcher) (text : List ℕ) (o : FancyOptions)
     FancyStanding → List ℕ → FancyOutcome → Type 0 where
   does_not_fit : IsFalse (list_fits s text o) → Lists form s text o from old from old (coded unfit)
   listed : {to : FancyStanding} {new : List ℕ} {outcome : FancyOutcome} → IsTrue (list_fits s text o) →
-      Writes form (width_of form s) (compiled_of s) text (listing o text) (standing_of from) old (standing_of to) new outcome →
+      Writes form (width_of form s) (compiled_of s) text (listing o text)
+      (standing_of from) old (standing_of to) new outcome →
       Lists form s text o from old to new outcome
 
 -- what is listed by a program that may hold no tree, in bytes that may be no text

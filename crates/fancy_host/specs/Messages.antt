@@ -58,6 +58,7 @@ sentences =
     ∷ codes "a quantifier follows nothing that can be repeated"
     ∷ codes "no verb goes on here, or there are more than a million groups"
     ∷ codes "the options have the size of another version"
+    ∷ codes "there is no room for the text"
     ∷ []
 
 abbrev pub sentence_of : ℕ → List ℕ

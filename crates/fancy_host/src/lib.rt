@@ -9,6 +9,7 @@ mod options;
 mod outcome;
 mod program;
 mod reading;
+mod rewriting;
 mod rows;
 mod searches;
 mod standing;
@@ -21,6 +22,7 @@ ghost use Rattle.fancy_host.specs.Hosted as hosted;
 ghost use Rattle.fancy_host.specs.Lists.{FindsAll, all_groups, span_alone};
 ghost use Rattle.fancy_host.specs.Messages.{Explains, IsMessage, WritesText};
 ghost use Rattle.fancy_host.specs.Names.{FindsGroups, group_name};
+ghost use Rattle.fancy_host.specs.Rewritten.{ReplacesIn};
 ghost use Rattle.fancy_host.specs.Whether.{FindsAny};
 
 use messages::{write_explanation, write_message};
@@ -209,6 +211,47 @@ pub extern "C" fn fancy_captures_all(
     };
     let mut searcher = program.take(alloc).into_searcher();
     let outcome = searcher.captures_all(alloc, text, options, standing, spans);
+    *program = FancyProgram::of(searcher);
+    outcome
+}
+
+/// Writes a text, in UTF-8, with its first `limit` matches replaced, all of them where that is 0: by a text as it stands,
+/// or by what it says as a template, as `Template` reads it. The code is `FANCY_OK`, or `FANCY_NO_ROOM` where there is not
+/// room for the new text with a zero at its end; how many bytes it has is said either way. Where the code is another,
+/// nothing is written. `pos` and `not_continued` of the options say nothing here.
+#[unsafe(no_mangle)]
+pub extern "C" fn fancy_replace(
+    alloc: Global,
+    program: &mut FancyProgram,
+    text: &[u8],
+    options: &FancyOptions,
+    replacement: &[u8],
+    is_literal: bool,
+    limit: usize,
+    room: &mut [u8],
+) -> FancyOutcome
+    ensures replaces { ReplacesIn
+        text.now
+        options.now
+        limit
+        is_literal
+        replacement.now
+        room.old
+        program.old.handle.searcher
+        room.new
+        result }
+    ensures keeps { tree_of program.new.handle.searcher ≡ tree_of program.old.handle.searcher }
+{
+    let text = match searched(text, options, program) {
+        Ok(text) => text,
+        Err(outcome) => return outcome,
+    };
+    let replacement = match from_utf8(replacement) {
+        Ok(replacement) => replacement,
+        Err(fault) => return FancyOutcome::not_utf8(fault.valid_up_to()),
+    };
+    let mut searcher = program.take(alloc).into_searcher();
+    let outcome = searcher.replace(alloc, text, options, limit, is_literal, replacement, room);
     *program = FancyProgram::of(searcher);
     outcome
 }

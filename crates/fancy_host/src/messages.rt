@@ -59,6 +59,7 @@ fn sentence_of(code: u32) -> &'static str
         37 => "a quantifier follows nothing that can be repeated",
         38 => "no verb goes on here, or there are more than a million groups",
         39 => "the options have the size of another version",
+        40 => "there is no room for the text",
         _ => "no error has this code",
     }
 }

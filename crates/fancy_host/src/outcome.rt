@@ -42,6 +42,8 @@ pub const TOO_DEEP: u32 = 21;
 
 pub const WRONG_SIZE: u32 = 39;
 
+pub const NO_ROOM: u32 = 40;
+
 /// The code of a refusal.
 fn code_of_refusal(error: &CompileError) -> u32
     ensures { result ≡ codes.code_of_refusal error.now }
@@ -146,6 +148,7 @@ fn name_of(code: u32) -> &'static str
         37 => "TargetNotRepeatable",
         38 => "GeneralParseError",
         39 => "WrongSize",
+        40 => "NoRoom",
         _ => "",
     }
 }

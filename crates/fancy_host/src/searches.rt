@@ -10,6 +10,7 @@ ghost use Rattle.fancy_matches.specs.Regexes.{standing_of};
 use crate::names::{name_of, numbers_named};
 use crate::options::FancyOptions;
 use crate::outcome::{FancyOutcome, NO_MATCH, OK, write_answer};
+use crate::rewriting::{rewrite, write_whole};
 use crate::rows::{Groups, Row};
 use crate::standing::FancyStanding;
 use fancy_expr::error::Error;
@@ -19,6 +20,8 @@ use fancy_matches::searches::next_found;
 use fancy_matches::standing::Standing;
 use fancy_notation::notation::read_tree;
 use fancy_pattern::pattern::parse_tree;
+use fancy_replace::replacer::NoExpand;
+use fancy_replace::template::Template;
 use fancy_search::search::Compiled;
 use fancy_vm::vm::{RunOptions, Scratch};
 use std::alloc::Global;
@@ -44,6 +47,9 @@ impl Searcher {
     ghost use Rattle.std.specs.Prelude.{Some};
     ghost use Rattle.fancy_host.specs.Hosted.{Answers, FailsToCompile, IsMadeFrom, IsMadeOf, asked_of, compiled_of};
     ghost use Rattle.fancy_host.specs.Hosted as hosted;
+    ghost use Rattle.fancy_host.specs.Rewritten.{FailsToRewrite, IsRewritten, Replaces, writing};
+    ghost use Rattle.fancy_replace.specs.Pieces.{as_limit};
+    ghost use Rattle.std.specs.Prelude.{string_bytes};
     ghost use Rattle.fancy_host.specs.Lists.{Lists, Writes, all_groups, span_alone, width_of};
     ghost use Rattle.fancy_host.specs.Names.{name_in};
     ghost use Rattle.fancy_host.specs.Whether.{Tells};
@@ -189,7 +195,8 @@ impl Searcher {
         standing: &mut Standing,
         room: &mut [usize],
     ) -> FancyOutcome
-        requires fits { IsTrue (run_fits (task_of (program (compiled_of self.old)) [] options.now)) }
+        requires fits { IsTrue (run_fits
+            (task_of (program (compiled_of self.old)) [] options.now)) }
         requires width { width ≡ width_of F.form self.old }
         ensures writes { Writes
             F.form
@@ -310,5 +317,84 @@ impl Searcher {
     {
         let width = self.group_count().saturating_mul(2);
         self.list::<Groups>(alloc, text, options, width, standing, spans)
+    }
+
+    /// The text with its first `limit` matches replaced, all of them where that is 0: by this text as it stands, or by
+    /// what it says as a template.
+    fn replaced(
+        &mut self,
+        alloc: Global,
+        text: &str,
+        options: &RunOptions,
+        limit: usize,
+        is_literal: bool,
+        replacement: &str,
+    ) -> Result<String, Error>
+        requires { IsTrue (run_fits (task_of (program (compiled_of self.old)) [] options.now)) }
+        ensures replaced { MatchResult
+            result
+            (λ new. IsRewritten
+            (compiled_of self.old) text.now (run_options_of options.now) (as_limit limit)
+            (writing self.old is_literal replacement.now) (string_bytes new))
+            (FailsToRewrite
+            (compiled_of self.old) text.now (run_options_of options.now) (as_limit limit)) }
+        ensures keeps { self.new.tree ≡ self.old.tree }
+    {
+        let tree = &self.tree;
+        let scratch = &mut self.scratch;
+        if is_literal {
+            let replacer = NoExpand(replacement);
+            return rewrite(
+                alloc,
+                &tree.compiled,
+                text,
+                options,
+                limit,
+                &replacer,
+                scratch,
+            );
+        }
+        let template = Template::new(alloc, replacement, &tree.names)?;
+        rewrite(
+            alloc,
+            &tree.compiled,
+            text,
+            options,
+            limit,
+            &template,
+            scratch,
+        )
+    }
+
+    /// Writes that text where there is room for it with a zero at its end.
+    pub fn replace(
+        &mut self,
+        alloc: Global,
+        text: &str,
+        options: &FancyOptions,
+        limit: usize,
+        is_literal: bool,
+        replacement: &str,
+        room: &mut [u8],
+    ) -> FancyOutcome
+        ensures replaces { Replaces
+            self.old
+            text.now
+            options.now
+            limit
+            (writing self.old is_literal replacement.now)
+            room.old
+            room.new
+            result }
+        ensures keeps { self.new.tree ≡ self.old.tree }
+    {
+        let listing = options.listing(text);
+        if !self.tree.compiled.fits("", &listing) {
+            return FancyOutcome::unfit();
+        }
+        match self.replaced(alloc, text, &listing, limit, is_literal, replacement) {
+            Ok(new) => write_whole(new.as_str(), room),
+            Err(error) => FancyOutcome::of_error(&error),
+        }
     }
 }

@@ -116,6 +116,7 @@ pub const FANCY_INVALID_BACKREF_NUMBER: u32 = 36;
 pub const FANCY_TARGET_NOT_REPEATABLE: u32 = 37;
 pub const FANCY_GENERAL_PARSE_ERROR: u32 = 38;
 pub const FANCY_WRONG_SIZE: u32 = 39;
+pub const FANCY_NO_ROOM: u32 = 40;
 
 extern "C" {
     pub fn fancy_default_options() -> FancyOptions;
@@ -189,6 +190,19 @@ extern "C" {
         standing: *mut FancyStanding,
         spans: *mut usize,
         spans_length: usize,
+    ) -> FancyOutcome;
+
+    pub fn fancy_replace(
+        program: *mut FancyProgram,
+        text: *const c_char,
+        text_length: usize,
+        options: *const FancyOptions,
+        replacement: *const c_char,
+        replacement_length: usize,
+        is_literal: bool,
+        limit: usize,
+        into: *mut c_char,
+        room: usize,
     ) -> FancyOutcome;
 
     pub fn fancy_error_name(code: u32, name: *mut c_char, room: usize) -> usize;

@@ -1,4 +1,4 @@
-use Rattle.std.proofs.Common.{MatchResult, sym, subst}
+use Rattle.std.proofs.Common.{MatchResult, subst}
 use Rattle.std.proofs.lemmas.Result.{err_from_is_err_and}
 use Rattle.fancy_host.specs.Hosted.{FailsToCompile, IsMadeFrom, pattern, spells_no_text}
 use Rattle.fancy_host.proofs.Answered.{compiles_so}

@@ -9,7 +9,6 @@ use types.Part.{whole, sub, agg}
 use types.Run.{stop, fld, no_more, and_then, of_opd, returns, enter}
 use types.ByLocal.{alloc_all, pass_all, free_all, look_at, get, get_in, sets}
 use contract.Running.{tables}
-use denote.RattleType.{RattleType}
 use denote.RawPtr.{block_ptr}
 use denote.Exit.{yes}
 use denote.Steps.{nothing}

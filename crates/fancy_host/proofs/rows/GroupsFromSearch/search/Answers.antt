@@ -1,4 +1,4 @@
-use Rattle.std.proofs.Common.{◌<◌, ℕ, List, Ok, length, arith, ap, subst}
+use Rattle.std.proofs.Common.{◌<◌, Ok, length, arith, ap, subst}
 use Rattle.fancy_meaning.specs.Numbers.{usize_max}
 use Rattle.fancy_meaning.specs.Premises.{IsText}
 use Rattle.fancy_laws.proofs.Moves.{is_place_parts}

@@ -1,7 +1,6 @@
-use Rattle.std.proofs.Common.{◌≡◌, false, true, [], refl, sym, ap, ◌∙◌, subst}
+use Rattle.std.proofs.Common.{◌≡◌, false, true, [], refl, sym, ◌∙◌, subst}
 use Rattle.fancy_meaning.specs.Fits.{run_fits}
 use Rattle.fancy_program.specs.Programs.{prog_of}
-use Rattle.fancy_vm.specs.Tasks.{options_of as run_options_of}
 use Rattle.fancy_search.specs.Searches.{program}
 use Rattle.fancy_matches.specs.Regexes as matches
 use Rattle.fancy_host.specs.Hosted.{compiled_of}

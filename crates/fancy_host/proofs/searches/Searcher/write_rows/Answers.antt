@@ -1,10 +1,9 @@
-use Rattle.std.proofs.Common.{◌≡◌, ◌<◌, ◌≤◌, ◌+◌, ℕ, length, [], Ok, Some, None, Err, true, refl, sym, ap, ◌∙◌, subst, arith}
+use Rattle.std.proofs.Common.{◌<◌, length, Ok, refl, ap, ◌∙◌, subst, arith}
 use Rattle.fancy_host.specs.declared.searches.CompiledTree.{CompiledTree}
-use Rattle.fancy_meaning.specs.Fits.{run_fits}
 use Rattle.fancy_meaning.specs.Numbers.{usize_max}
 use Rattle.fancy_meaning.specs.Premises.{Input, IsText}
-use Rattle.fancy_vm.specs.Tasks.{options_of as run_options_of, task_of}
-use Rattle.fancy_search.specs.Searches.{HasSource, IsCompiledFrom, program}
+use Rattle.fancy_vm.specs.Tasks.{options_of as run_options_of}
+use Rattle.fancy_search.specs.Searches.{IsCompiledFrom}
 use Rattle.fancy_matches.specs.Regexes.{StepsBy, standing_of}
 use Rattle.fancy_host.specs.Codes.{no_match, ok}
 use Rattle.fancy_host.specs.Hosted.{coded, compiled_of, failure, with_count}
