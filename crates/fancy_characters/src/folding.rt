@@ -94,6 +94,13 @@ impl CaseiLiteral {
         CaseiLiteral { chars, unicode }
     }
 
+    /// Its characters in order, each with whether it is folded.
+    pub fn chars(&self) -> &[(char, bool)]
+        ensures { result.now ≡ literal_chars self.now }
+    {
+        self.chars.as_slice()
+    }
+
     /// Whether it can take what begins with this character. A literal of no characters can.
     pub fn can_begin_with(&self, c: u8) -> bool
         ensures { result ≡ can_begin_with (literal_tests self.now) c }
