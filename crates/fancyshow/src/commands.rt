@@ -21,6 +21,9 @@ const NODES: &str =
 const PICTURE: &str =
     "The program of the pattern as a picture, in SVG or for Graphviz, or the pattern as a railroad diagram";
 
+const HIGHLIGHT: &str =
+    "A text by the rules of a language, in the shape of a TextMate grammar, as text, colours, HTML or tokens";
+
 const BATCH: &str = "Each line of a file as a command line of its own, in which ' quotes";
 
 const WITH: &str = "What is written for a match: $1 is its group 1, $0 all of it, $$ a dollar sign";
@@ -37,6 +40,10 @@ enum Takes {
     Template,
     /// A pattern, a text and the place where the search begins.
     Place,
+    /// A text alone.
+    TextAlone,
+    /// The rules of a language and a text.
+    Rules,
     /// A file of command lines.
     Lines,
 }
@@ -45,7 +52,8 @@ impl Takes {
     /// It takes what the other one stands for.
     fn has(self, other: Takes) -> bool {
         match other {
-            Takes::Pattern => self != Takes::Lines,
+            Takes::Pattern => !matches!(self, Takes::Lines | Takes::Rules),
+            Takes::TextAlone => self.has(Takes::Text) || self == Takes::Rules,
             Takes::Text => matches!(self, Takes::Text | Takes::Template | Takes::Place),
             _ => self == other,
         }
@@ -59,11 +67,13 @@ enum Kind {
     Flag,
     Number,
     File,
+    /// A file that has to be named.
+    RequiredFile,
     Template,
 }
 
 /// Each part: its name, what it takes, and what it is for.
-const PARTS: [(&str, Takes, &str); 10] = [
+const PARTS: [(&str, Takes, &str); 11] = [
     ("find", Takes::Place, "The first match and its groups"),
     ("why", Takes::Place, WHY),
     ("all", Takes::Text, "All matches, each marked in the text"),
@@ -85,11 +95,12 @@ const PARTS: [(&str, Takes, &str); 10] = [
     ),
     ("tree", Takes::Pattern, NODES),
     ("picture", Takes::Picture, PICTURE),
+    ("highlight", Takes::Rules, HIGHLIGHT),
     ("batch", Takes::Lines, BATCH),
 ];
 
 /// Each argument: its name, the parts that take it, what is written, and what it says.
-const ARGUMENTS: [(&str, Takes, Kind, &str); 21] = [
+const ARGUMENTS: [(&str, Takes, Kind, &str); 25] = [
     ("PATTERN", Takes::Pattern, Kind::Word, "The pattern"),
     (
         "tree",
@@ -147,13 +158,13 @@ const ARGUMENTS: [(&str, Takes, Kind, &str); 21] = [
     ),
     (
         "TEXT",
-        Takes::Text,
+        Takes::TextAlone,
         Kind::Word,
         "The text; standard input for - or if it is left out",
     ),
     (
         "file",
-        Takes::Text,
+        Takes::TextAlone,
         Kind::File,
         "Read the text from a file, or for - from standard input",
     ),
@@ -201,6 +212,25 @@ const ARGUMENTS: [(&str, Takes, Kind, &str); 21] = [
         "Draw the tree as a railroad diagram in place of the program",
     ),
     (
+        "rules",
+        Takes::Rules,
+        Kind::RequiredFile,
+        "The rules of the language, in JSON",
+    ),
+    ("html", Takes::Rules, Kind::Flag, "Write a page of HTML"),
+    (
+        "tokens",
+        Takes::Rules,
+        Kind::Flag,
+        "Write each token with the names of its scopes",
+    ),
+    (
+        "ansi",
+        Takes::Rules,
+        Kind::Flag,
+        "Write colours for a terminal where the output is none",
+    ),
+    (
         "FILE",
         Takes::Lines,
         Kind::Word,
@@ -218,6 +248,7 @@ fn argument<'a>(alloc: Global, name: &'a str, kind: Kind, help: &'a str) -> Arg<
             .value_name("N")
             .value_parser(value_parser!(u64)),
         Kind::File => word.long(name).value_name("FILE"),
+        Kind::RequiredFile => word.long(name).value_name("FILE").required(true),
         Kind::Template => word
             .long(name)
             .value_name("TEMPLATE")

@@ -42,6 +42,31 @@ fn push_listed(alloc: Global, out: &mut String, insn: &Insn) -> Result<(), Alloc
     push_visible(out, listed.as_str())
 }
 
+/// Writes a literal of which some characters are folded: a run of these has an `i` before it.
+fn push_folded(out: &mut String, chars: &[(char, bool)]) -> Result<(), AllocError> {
+    out.push_str("LitCasei(")?;
+    let mut was_folded = None;
+    for (c, is_folded) in chars {
+        if was_folded != Some(*is_folded) {
+            push_turn(out, was_folded.is_some(), *is_folded)?;
+        }
+        was_folded = Some(*is_folded);
+        push_character(out, *c)?;
+    }
+    out.push_str(if was_folded.is_some() { "\")" } else { ")" })
+}
+
+/// Ends a run of characters, where there is one, and begins another.
+fn push_turn(out: &mut String, ends: bool, is_folded: bool) -> Result<(), AllocError> {
+    let mark = match (ends, is_folded) {
+        (false, false) => "\"",
+        (false, true) => "i\"",
+        (true, false) => "\" \"",
+        (true, true) => "\" i\"",
+    };
+    out.push_str(mark)
+}
+
 /// Writes the instruction alone.
 pub fn push_insn(alloc: Global, out: &mut String, insn: &Insn) -> Result<(), AllocError> {
     match insn {
@@ -50,6 +75,7 @@ pub fn push_insn(alloc: Global, out: &mut String, insn: &Insn) -> Result<(), All
             push_quoted(out, text.as_str())?;
             out.push(')')
         }
+        Insn::LitCasei(literal) => push_folded(out, literal.chars()),
         Insn::CharClass(class) => push_class(alloc, out, class, insn),
         _ => push_listed(alloc, out, insn),
     }
@@ -76,7 +102,6 @@ fn words(insn: &Insn) -> &'static str {
     match insn {
         Insn::Save(0) => "start of the match",
         Insn::Save(1) => "end of the match",
-        Insn::LitCasei(_) => "some characters folded",
         _ => "",
     }
 }

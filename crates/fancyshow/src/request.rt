@@ -149,6 +149,11 @@ fn text(rt: &HostRuntime, matches: &ArgMatches<'_>, word: Option<&str>) -> Resul
     }
 }
 
+/// A text that no pattern stands beside.
+pub fn text_alone(rt: &HostRuntime, matches: &ArgMatches<'_>) -> Result<String, Trouble> {
+    text(rt, matches, matches.get_str("TEXT"))
+}
+
 fn arguments(matches: &ArgMatches<'_>) -> Arguments {
     Arguments {
         pos: matches.get_one::<usize>("pos").unwrap_or(0),

@@ -5,6 +5,7 @@ use crate::batch::{push_outcome, words_of};
 use crate::commands::command;
 use crate::dot::dot;
 use crate::find::find;
+use crate::highlight::highlight;
 use crate::list::{Shown, list, program};
 use crate::outcome::{Outcome, Trouble};
 use crate::pieces::{pieces, replaced};
@@ -120,6 +121,7 @@ fn answer(
             let template = matches.get_str("with").unwrap_or("");
             replaced(alloc, &request, text.as_str(), template)
         }
+        "highlight" => highlight(rt, matches, colours),
         "batch" => {
             let why = "this part cannot stand in a batch";
             Err(Trouble::Words(String::from_str(alloc, why)?))

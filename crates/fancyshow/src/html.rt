@@ -9,7 +9,7 @@ const HEAD: &str = "<!DOCTYPE html>
 <html>
 <head>
 <meta charset=\"utf-8\">
-<title>fancyhighlight</title>
+<title>fancyshow highlight</title>
 <style>
 pre { font-family: monospace; color: #24292f; background: #ffffff; }
 .comment { color: #6e7781; font-style: italic; }
