@@ -97,11 +97,11 @@ none_memoized f no_bits no_sparse k = go (pair_bit f.pair_bits f.base k)
     go (Some bit) = ap (λ words. bit_is_set words bit) no_bits ∙ no_bit bit
 
 -- one more that has a bit
-pub bit_set_holds : (f : Failed) (bits : Vec ℕ Global) (m : List ℕ) (bit : ℕ) → pair_bit f.pair_bits f.base m ≡ Some bit →
+pub bit_set_holds : (f : Failed) (wanted : ℕ) (bits : Vec ℕ Global) (m : List ℕ) (bit : ℕ) → pair_bit f.pair_bits f.base m ≡ Some bit →
     ((n : ℕ) → bit_is_set bits.items n ≡ (n == bit || bit_is_set f.bits.items n)) →
-    (k : List ℕ) → has_pair (record f { bits = bits }) k ≡ (same_numbers k m || has_pair f k)
+    (k : List ℕ) → has_pair (record f { bits = bits; wanted = wanted }) k ≡ (same_numbers k m || has_pair f k)
 unfolding has_pair
-bit_set_holds f bits m bit of_m more k = go (pair_bit f.pair_bits f.base k) refl
+bit_set_holds f wanted bits m bit of_m more k = go (pair_bit f.pair_bits f.base k) refl
   where
     same_bit : (n : ℕ) → pair_bit f.pair_bits f.base k ≡ Some n → (n == bit) ≡ same_numbers k m
     same_bit n of_k = elim (cases_eq n bit) [
@@ -110,7 +110,7 @@ bit_set_holds f bits m bit of_m more k = go (pair_bit f.pair_bits f.base k) refl
     ]
 
     go : (o : Option ℕ) → pair_bit f.pair_bits f.base k ≡ o →
-        is_memoized o (record f { bits = bits }) k ≡ (same_numbers k m || is_memoized o f k)
+        is_memoized o (record f { bits = bits; wanted = wanted }) k ≡ (same_numbers k m || is_memoized o f k)
     go None of_k = sym (ap (λ b. b || is_memoized None f k) (not_same f.pair_bits f.base k m (λ e. cc)))
     go (Some n) of_k = more n ∙ ap (λ b. b || bit_is_set f.bits.items n) (same_bit n of_k)
 
@@ -126,13 +126,23 @@ sparse_added f sparse m of_m more k = go (pair_bit f.pair_bits f.base k) refl
     go None of_k = more k
     go (Some n) of_k = sym (ap (λ b. b || bit_is_set f.bits.items n) (not_same f.pair_bits f.base k m (λ e. cc)))
 
-pub same_bits : (f : Failed) (bits : Vec ℕ Global) → bits.items ≡ f.bits.items → (k : List ℕ) → has_pair (record f { bits = bits }) k ≡ has_pair f k
+pub same_bits : (f : Failed) (wanted : ℕ) (bits : Vec ℕ Global) → bits.items ≡ f.bits.items →
+    (k : List ℕ) → has_pair (record f { bits = bits; wanted = wanted }) k ≡ has_pair f k
 unfolding has_pair
-same_bits f bits same k = go (pair_bit f.pair_bits f.base k)
+same_bits f wanted bits same k = go (pair_bit f.pair_bits f.base k)
   where
-    go : (o : Option ℕ) → is_memoized o (record f { bits = bits }) k ≡ is_memoized o f k
+    go : (o : Option ℕ) → is_memoized o (record f { bits = bits; wanted = wanted }) k ≡ is_memoized o f k
     go None = refl
     go (Some bit) = ap (λ words. bit_is_set words bit) same
+
+-- what was asked for, and how much may be, say nothing of the pairs
+pub same_pairs : (f : Failed) (wanted most : ℕ) (k : List ℕ) → has_pair (record f { wanted = wanted; most = most }) k ≡ has_pair f k
+unfolding has_pair
+same_pairs f wanted most k = go (pair_bit f.pair_bits f.base k)
+  where
+    go : (o : Option ℕ) → is_memoized o (record f { wanted = wanted; most = most }) k ≡ is_memoized o f k
+    go None = refl
+    go (Some bit) = refl
 
 pub same_sparse : (f : Failed) (sparse : SparsePairs) → ((k : List ℕ) → has_sparse sparse k ≡ has_sparse f.sparse k) →
     (k : List ℕ) → has_pair (record f { sparse = sparse }) k ≡ has_pair f k

@@ -123,14 +123,14 @@ abbrev pub has_list : Lists → List ℕ → Bool
 has_list lists k = contains_by (λ v. same_numbers k v.items) lists
 
 -- one more that has none
-list_set : (s : SparsePairs) (lists : Lists) (m : List ℕ) → pair_value s.numbers s.base m ≡ None →
+list_set : (s : SparsePairs) (lists : Lists) (bytes : ℕ) (m : List ℕ) → pair_value s.numbers s.base m ≡ None →
     ((k : List ℕ) → has_list lists k ≡ (same_numbers k m || has_list s.lists k)) →
-    (k : List ℕ) → has_sparse (record s { lists = lists }) k ≡ (same_numbers k m || has_sparse s k)
+    (k : List ℕ) → has_sparse (record s { lists = lists; list_bytes = bytes }) k ≡ (same_numbers k m || has_sparse s k)
 unfolding has_sparse
-list_set s lists m of_m more k = go (pair_value s.numbers s.base k) refl
+list_set s lists bytes m of_m more k = go (pair_value s.numbers s.base k) refl
   where
     go : (o : Option ℕ) → pair_value s.numbers s.base k ≡ o →
-        is_kept o (record s { lists = lists }) k ≡ (same_numbers k m || is_kept o s k)
+        is_kept o (record s { lists = lists; list_bytes = bytes }) k ≡ (same_numbers k m || is_kept o s k)
     go None of_k = more k
     go (Some n) of_k = sym (ap (λ b. b || number_is_set s.words n) (not_same s k m (λ e. cc)))
 
@@ -146,11 +146,11 @@ list_put old new v false was puts k = ap (list_any (λ w. same_numbers k w.items
     go true same = ap (has_list old) ((bytes_decides k v.items).0 same) ∙ not-false (has_list old v.items) (sym was)
 
 -- the set after an insert of this list of numbers
-pub list_added : (s : SparsePairs) (lists : Lists) (m : List ℕ) (v : Vec ℕ Global) (added : Bool) → pair_value s.numbers s.base m ≡ None →
+pub list_added : (s : SparsePairs) (lists : Lists) (bytes : ℕ) (m : List ℕ) (v : Vec ℕ Global) (added : Bool) → pair_value s.numbers s.base m ≡ None →
     v.items ≡ m → added ≡ not (has_list s.lists v.items) → PutsKey s.lists lists v added →
-    (k : List ℕ) → has_sparse (record s { lists = lists }) k ≡ (same_numbers k m || has_sparse s k)
-list_added s lists m v added of_m same was puts =
-    list_set s lists m of_m (subst (λ l. (k : List ℕ) → has_list lists k ≡ (same_numbers k l || has_list s.lists k)) same
+    (k : List ℕ) → has_sparse (record s { lists = lists; list_bytes = bytes }) k ≡ (same_numbers k m || has_sparse s k)
+list_added s lists bytes m v added of_m same was puts =
+    list_set s lists bytes m of_m (subst (λ l. (k : List ℕ) → has_list lists k ≡ (same_numbers k l || has_list s.lists k)) same
     (list_put s.lists lists v added was puts))
 
 pub same_lists : (s : SparsePairs) (lists : Lists) → lists.keys ≡ s.lists.keys → (k : List ℕ) →

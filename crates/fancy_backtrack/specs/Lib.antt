@@ -7,3 +7,4 @@ pub mod FailedPairs
 pub mod BacktrackStack
 pub mod Loops
 pub mod Memos
+pub mod Bytes

@@ -18,6 +18,9 @@ struct Run {
     before: usize,
 }
 
+/// How many bytes a run holds.
+const RUN_BYTES: usize = 56;
+
 /// The choices on a path: the first `len` of the runs. Those behind are left from before.
 #[derive(Drop)]
 pub(crate) struct BacktrackStack {
@@ -45,7 +48,9 @@ impl StackFrame {
 
 impl BacktrackStack {
     ghost use Rattle.std.specs.Prelude.{◌≡◌, ◌≤◌, ◌++◌, [], length, OnOk};
+    ghost use Rattle.std.specs.Prelude.{◌*◌, min};
     ghost use Rattle.fancy_backtrack.specs.BacktrackStack.{Pops, choices_in, choices_of, run_choices};
+    ghost use Rattle.fancy_backtrack.specs.Bytes.{stack_bytes, saturated};
 
     pub(crate) fn new(alloc: Global) -> BacktrackStack
         ensures { choices_of result ≡ [] }
@@ -60,6 +65,27 @@ impl BacktrackStack {
         ensures { choices_of self.new ≡ [] }
     {
         self.len = 0;
+    }
+
+    /// None, and no runs are left from before. Their room stays.
+    pub(crate) fn forget(&mut self)
+        ensures { choices_of self.new ≡ [] }
+    {
+        self.runs.clear();
+        self.clear();
+    }
+
+    /// As many runs are held as there ever were since `forget`.
+    #[inline(always)]
+    pub(crate) fn is_at_peak(&self) -> bool {
+        self.len >= self.runs.len()
+    }
+
+    /// How many bytes the runs hold.
+    pub(crate) fn bytes(&self) -> usize
+        ensures { result ≡ saturated (stack_bytes self.now) }
+    {
+        self.runs.len().saturating_mul(RUN_BYTES)
     }
 
     /// One more, and such a one at each of so many bytes before it.

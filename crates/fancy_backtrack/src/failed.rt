@@ -3,10 +3,14 @@
 ghost use Rattle.std.specs.Prelude.{◌≡◌, ◌≤◌, ◌<◌, ◌+◌, ◌-◌, ◌++◌, ℕ, ◌∷◌, [], ◌||◌, ◌==◌, false, length, replicate, List, IsTrue, OnOk, OnErr};
 ghost use Rattle.fancy_backtrack.specs.FailedPairs.{bit_is_set, has_pair};
 ghost use Rattle.fancy_backtrack.specs.PairKeys.{same_numbers};
+ghost use Rattle.fancy_backtrack.specs.Bytes.{failed_bytes, saturated};
 
 use crate::pair_bits::PairBits;
 use crate::sparse_pairs::SparsePairs;
 use std::alloc::{AllocError, Global};
+
+/// How many bytes a word of bits holds.
+const WORD_BYTES: usize = 8;
 
 /// Pairs that have no way. Where states and counts are few a pair is a bit of its place; others are in a sparse set.
 #[derive(Drop)]
@@ -16,6 +20,10 @@ pub(crate) struct Failed {
     /// The place of the first bits.
     base: usize,
     bits: Vec<u64>,
+    /// How many words of bits were asked for.
+    wanted: usize,
+    /// How many bytes it may hold.
+    most: usize,
     sparse: SparsePairs,
 }
 
@@ -28,6 +36,8 @@ impl Failed {
             pair_bits,
             base,
             bits: Vec::new(alloc),
+            wanted: 0,
+            most: usize::MAX,
             sparse: SparsePairs::new(alloc, pair_bits.numbers, base),
         }
     }
@@ -39,7 +49,23 @@ impl Failed {
         self.pair_bits = pair_bits;
         self.base = base;
         self.bits.clear();
+        self.wanted = 0;
         self.sparse.clear(pair_bits.numbers, base);
+    }
+
+    /// It may hold so many bytes.
+    pub(crate) fn limit(&mut self, bytes: usize)
+        ensures { self.new ≡ record self.old { most = bytes } }
+    {
+        self.most = bytes;
+    }
+
+    /// How many bytes it holds; with words that were refused, as many as it would.
+    pub(crate) fn bytes(&self) -> usize
+        ensures { result ≡ saturated (failed_bytes self.now) }
+    {
+        let bits = self.wanted.saturating_mul(WORD_BYTES);
+        bits.saturating_add(self.sparse.bytes())
     }
 
     /// No pair was added.
@@ -79,7 +105,11 @@ impl Failed {
         ensures err { OnErr result ((k : List ℕ) → has_pair self.new k ≡ has_pair self.old k) }
     {
         match self.pair_bits.bit(self.base, pair) {
-            Some(bit) => set_bit(&mut self.bits, bit),
+            Some(bit) => {
+                ask(&mut self.wanted, self.most, bit)?;
+                set_bit(&mut self.bits, bit)
+            }
+            None if self.bytes() > self.most => Err(AllocError),
             None => self.sparse.add(alloc, pair),
         }
     }
@@ -97,7 +127,10 @@ impl Failed {
         ensures err { OnErr result ((k : List ℕ) → has_pair self.new k ≡ has_pair self.old k) }
     {
         match self.pair_bits.bit_outside(self.base, at, place) {
-            Some(bit) => set_bit(&mut self.bits, bit),
+            Some(bit) => {
+                ask(&mut self.wanted, self.most, bit)?;
+                set_bit(&mut self.bits, bit)
+            }
             None => self.add(alloc, &[at, place]),
         }
     }
@@ -110,6 +143,21 @@ fn has_bit(bits: &[u64], bit: usize) -> bool
     match bits.get(bit / 64) {
         Some(word) => word >> (bit % 64) & 1 == 1,
         None => false,
+    }
+}
+
+/// Asks for the word of this bit, and refuses it where the words up to it hold more bytes than may be.
+#[inline(always)]
+fn ask(wanted: &mut usize, most: usize, bit: usize) -> Result<(), AllocError> {
+    let words = bit / 64 + 1;
+    if words <= *wanted {
+        return Ok(());
+    }
+    *wanted = words;
+    if words > most / WORD_BYTES {
+        Err(AllocError)
+    } else {
+        Ok(())
     }
 }
 

@@ -3,6 +3,7 @@
 #![tactic(auto)]
 
 pub mod backtrack_stack;
+pub mod budget;
 mod failed;
 pub mod loops;
 pub mod memo;

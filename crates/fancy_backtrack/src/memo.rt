@@ -1,6 +1,6 @@
 //! What a search keeps: where it stands on its path, what it tries later, and the pairs that have no way.
 
-ghost use Rattle.std.specs.Prelude.{◌≡◌, ◌≤◌, ◌<◌, ◌+◌, ◌∷◌, ◌++◌, [], ℕ, List, Bool, min, true, false, length, map, take, IfOk, IfErr, IfSome, IsTrue};
+ghost use Rattle.std.specs.Prelude.{nat_lt, ◌≡◌, ◌≤◌, ◌<◌, ◌+◌, ◌∷◌, ◌++◌, [], ℕ, List, Bool, min, true, false, length, map, take, IfOk, IfErr, IfSome, IsTrue};
 ghost use Rattle.fancy_nfa.specs.NfaSearch as plain;
 ghost use Rattle.fancy_nfa.specs.NfaSearch.{Search, TakesUp, pair_of};
 ghost use Rattle.fancy_nfa.specs.NfaStates as states;
@@ -8,9 +8,11 @@ ghost use Rattle.fancy_backtrack.specs.PairKeys.{key_of, counter_numbers};
 ghost use Rattle.fancy_backtrack.specs.Paths.{HasCounters, counter_of};
 ghost use Rattle.fancy_backtrack.specs.Loops.{loop_of, Repeats};
 ghost use Rattle.fancy_backtrack.specs.BacktrackStack.{choices_of, Pops};
+ghost use Rattle.fancy_backtrack.specs.Bytes.{bytes_of};
 ghost use Rattle.fancy_backtrack.specs.Memos.{HaveFailed, IsHere, IsLoopSplitOf, IsSearch, Keeps, Continuation, Simulates, onward, run_search};
 
 use crate::backtrack_stack::{BacktrackStack, StackFrame};
+use crate::budget::Budget;
 use crate::failed::Failed;
 use crate::loops::{Loop, LoopChoice};
 use crate::pair_bits::PairBits;
@@ -28,7 +30,12 @@ pub struct Memo {
     numbers: Vec<usize>,
     /// How many states this search has taken up.
     visits: u64,
+    /// How much it may take.
+    budget: Budget,
 }
+
+/// How many entries the path gets between two looks at how many bytes are held.
+const LOOK_EVERY: usize = 256;
 
 /// What a state leads to.
 #[derive(Clone, Copy)]
@@ -85,7 +92,8 @@ fn push_counters(
 }
 
 impl Memo {
-    /// For searches by one NFA in one text, from `pos` on, where its pairs have these bits: no pair is known.
+    /// For searches by one NFA in one text, from `pos` on, where its pairs have these bits: no pair is known. They may
+    /// take as much as can be counted.
     pub fn new(alloc: Global, pair_bits: PairBits, pos: usize) -> Memo
         ensures { HaveFailed result (λ pair. false) }
     {
@@ -96,14 +104,74 @@ impl Memo {
             trail: Trail::new(alloc),
             numbers: Vec::new(alloc),
             visits: 0,
+            budget: Budget::unlimited(),
         }
     }
 
-    /// As `new` for another NFA or text, with the room of this one, in time that follows what was memoized.
+    /// As `new` for another NFA or text, with the room and the budget of this one, in time that follows what was
+    /// memoized.
     pub fn clear(&mut self, pair_bits: PairBits, pos: usize)
         ensures { HaveFailed self.new (λ pair. false) }
     {
+        self.frames.forget();
+        self.trail.truncate(0);
         self.failed.clear(pair_bits, pos);
+    }
+
+    /// The next searches may each take up so many states, and hold so many bytes with what earlier ones memoized. A
+    /// search that goes past that ends as where memory is refused; `visits` and `bytes` then say which it was.
+    pub fn limit(&mut self, budget: Budget)
+        ensures budget { self.new.budget ≡ budget }
+        ensures failed { (failed : plain.Pair → Bool) → HaveFailed self.old failed
+            → HaveFailed self.new failed }
+    {
+        self.failed.limit(budget.bytes);
+        self.budget = budget;
+    }
+
+    /// How many bytes it holds; with a request that the budget refused, as many as it would.
+    pub fn bytes(&self) -> usize
+        ensures { result ≡ bytes_of self.now }
+    {
+        let path = self.frames.bytes().saturating_add(self.trail.bytes());
+        path.saturating_add(self.failed.bytes())
+    }
+
+    /// The search has taken up more states than it may.
+    #[inline(always)]
+    pub fn is_past_visits(&self) -> bool
+        ensures { result ≡ nat_lt self.now.budget.visits self.now.visits }
+    {
+        self.visits > self.budget.visits
+    }
+
+    /// Refuses more room where more bytes are held than may be.
+    #[cold]
+    #[inline(never)]
+    fn look_at_bytes(&self) -> Result<(), AllocError> {
+        if self.bytes() > self.budget.bytes {
+            Err(AllocError)
+        } else {
+            Ok(())
+        }
+    }
+
+    /// Before one more entry of the path.
+    #[inline(always)]
+    fn look_at_path(&self) -> Result<(), AllocError> {
+        if self.trail.len() % LOOK_EVERY == LOOK_EVERY - 1 {
+            return self.look_at_bytes();
+        }
+        Ok(())
+    }
+
+    /// Before one more choice.
+    #[inline(always)]
+    fn look_at_stack(&self) -> Result<(), AllocError> {
+        if self.frames.is_at_peak() {
+            return self.look_at_bytes();
+        }
+        Ok(())
     }
 
     /// By which it takes memory.
@@ -273,6 +341,7 @@ impl Memo {
             → IsSearch continuation self.new (record f { frames = frames })) }
         ensures rest { self.new ≡ record self.old { frames = self.new.frames } }
     {
+        self.look_at_stack()?;
         let path = self.trail.len();
         let choice = StackFrame {
             config,
@@ -313,6 +382,7 @@ impl Memo {
         ensures rest { self.new
             ≡ record self.old { frames = self.new.frames; visits = self.new.visits } }
     {
+        self.look_at_stack()?;
         let end = config.place + count;
         let last = StackFrame {
             config: NfaConfig {
@@ -347,6 +417,7 @@ impl Memo {
             → IsSearch continuation self.old f → IsSearch continuation self.new f) }
         ensures rest { self.new ≡ record self.old { trail = self.new.trail } }
     {
+        self.look_at_path()?;
         let counters = self.trail.push(Entry::LoopCounter { outer, counter })?;
         Ok(NfaConfig {
             at: config.at + 1,
@@ -363,6 +434,7 @@ impl Memo {
             → Simulates continuation s f.failed
             (TakesUp (record (plain.forward s) { opened = s.place ∷ s.opened }) f) result self.new }
     {
+        self.look_at_path()?;
         let opened = self.trail.push(Entry::Opened {
             outer: config.opened,
             from: config.place,
@@ -385,6 +457,7 @@ impl Memo {
         let Some((from, outer)) = self.trail.opened(config.opened) else {
             return Ok(StepResult::Goes(config.forward()));
         };
+        self.look_at_path()?;
         self.trail.push(Entry::Closed {
             group,
             from,

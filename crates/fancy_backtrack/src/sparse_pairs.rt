@@ -4,6 +4,7 @@ ghost use Rattle.std.specs.Prelude.{◌≡◌, ℕ, List, ◌||◌, ◌==◌, fa
 ghost use Rattle.std.specs.HashMap as hash;
 ghost use Rattle.fancy_backtrack.specs.PairKeys.{same_numbers};
 ghost use Rattle.fancy_backtrack.specs.SparsePairs.{has_sparse, number_is_set, word_of};
+ghost use Rattle.fancy_backtrack.specs.Bytes.{sparse_bytes, saturated};
 
 use crate::pair_numbers::PairNumbers;
 use std::alloc::{AllocError, Global};
@@ -11,6 +12,14 @@ use std::collections::{HashMap, HashSet};
 
 /// How many times the entries that a search made their room may be, once it is over.
 const SPARE: usize = 16;
+
+/// How many bytes a word holds with its index.
+const WORD_BYTES: usize = 16;
+
+/// How many bytes a list holds beside its numbers, and each of its numbers.
+const LIST_BYTES: usize = 24;
+
+const NUMBER_BYTES: usize = 8;
 
 /// A set of pairs: a bit of a hashed word for each that has a number, else a list of its numbers.
 #[derive(Drop)]
@@ -23,6 +32,8 @@ pub(crate) struct SparsePairs {
     words: HashMap<usize, u64>,
     /// The state, the place, and of each loop around the count and whether it is to move and has not.
     lists: HashSet<Vec<usize>>,
+    /// How many bytes the lists hold.
+    list_bytes: usize,
 }
 
 impl SparsePairs {
@@ -35,6 +46,7 @@ impl SparsePairs {
             base,
             words: HashMap::new(alloc),
             lists: HashSet::new(alloc),
+            list_bytes: 0,
         }
     }
 
@@ -44,6 +56,7 @@ impl SparsePairs {
     {
         self.numbers = numbers;
         self.base = base;
+        self.list_bytes = 0;
         if self.is_empty() {
             return;
         }
@@ -61,6 +74,14 @@ impl SparsePairs {
         ensures { IsTrue result → (k : List ℕ) → has_sparse self.now k ≡ false }
     {
         self.words.is_empty() && self.lists.is_empty()
+    }
+
+    /// How many bytes the words and the lists hold.
+    pub(crate) fn bytes(&self) -> usize
+        ensures { result ≡ saturated (sparse_bytes self.now) }
+    {
+        let words = self.words.len().saturating_mul(WORD_BYTES);
+        words.saturating_add(self.list_bytes)
     }
 
     /// Whether a pair with these numbers is among them.
@@ -82,8 +103,13 @@ impl SparsePairs {
         match self.numbers.number(self.base, pair) {
             Some(number) => set_number(&mut self.words, number),
             None => {
+                let bytes = pair
+                    .len()
+                    .saturating_mul(NUMBER_BYTES)
+                    .saturating_add(LIST_BYTES);
                 let pair = Vec::from_slice(alloc, pair)?;
                 self.lists.insert(pair)?;
+                self.list_bytes = self.list_bytes.saturating_add(bytes);
                 Ok(())
             }
         }

@@ -3,6 +3,7 @@
 ghost use Rattle.std.specs.Prelude.{◌≡◌, ◌++◌, ◌∷◌, [], ◌≤◌, ◌<◌, ◌+◌, List, ℕ, take, length, option_map, Some, None, IfOk, IfSome};
 ghost use Rattle.fancy_nfa.specs.NfaSearch as plain;
 ghost use Rattle.fancy_backtrack.specs.Paths.{HasCounters, HasOpened, EndsCounters, EndsOpened};
+ghost use Rattle.fancy_backtrack.specs.Bytes.{trail_bytes, saturated};
 
 use std::alloc::{AllocError, Global};
 
@@ -73,6 +74,9 @@ impl NfaConfig {
     }
 }
 
+/// How many bytes an entry holds.
+const ENTRY_BYTES: usize = 40;
+
 /// The path.
 #[derive(Drop)]
 pub struct Trail {
@@ -92,6 +96,13 @@ impl Trail {
         ensures { result ≡ length self.now.entries.items }
     {
         self.entries.len()
+    }
+
+    /// How many bytes the entries hold.
+    pub(crate) fn bytes(&self) -> usize
+        ensures { result ≡ saturated (trail_bytes self.now) }
+    {
+        self.entries.len().saturating_mul(ENTRY_BYTES)
     }
 
     #[inline(always)]

@@ -20,5 +20,5 @@ returns-in-Some-clause-err c =
 pub returns-in_ok-insert-in-None-clause-ok : goal.returns-in_ok-insert-in-None-clause-ok
 returns-in_ok-insert-in-None-clause-ok c =
     let h = c.in_ok-insert-in-None.ensures in
-    list_added c.args.self.now c.insert.new.self c.args.pair.now c.in_ok-pair-in-None.pair _ (sym c.in-None.ensures)
+    list_added c.args.self.now c.insert.new.self _ c.args.pair.now c.in_ok-pair-in-None.pair _ (sym c.in-None.ensures)
     c.in_ok-pair-in-None.ensures.items h.added h.keys
