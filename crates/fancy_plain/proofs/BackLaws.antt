@@ -198,6 +198,16 @@ pub ends_lost : (searcher : Searcher) (k : ℕ) (n w : plain.Next) (m : Memo) �
     Advances searcher w (Ok step_result.Lost) m → EndsAs searcher n (Ok None) m
 ends_lost searcher k n w m e (j, (f, (is, h))) = (k + j, (f, (steps_then searcher k j n w e ∙ is, h)))
 
+-- as far as it came, the memo knows no other pair
+pub failed_so_far : (searcher : Searcher) (w : plain.Next) (step : StepResult) (error : AllocError) (m : Memo) →
+    Advances searcher w (Ok step) m → Advances searcher w (Err error) m
+failed_so_far searcher w (step_result.Found there) error m (j, (f, (t, (is, h, stands)))) =
+    (j, λ p. h.failed p ∙ sym (ap (λ x. (search_in x).failed p) is))
+failed_so_far searcher w step_result.Lost error m (j, (f, (is, h))) =
+    (j, λ p. h.failed p ∙ sym (ap (λ x. (search_in x).failed p) is))
+failed_so_far searcher w (step_result.Goes there) error m (j, (f, (t, (is, h, stands)))) =
+    (j, λ p. h.failed p ∙ sym (ap (λ x. (search_in x).failed p) is))
+
 pub ends_err : (searcher : Searcher) (k : ℕ) (n w : plain.Next) (error : AllocError) (m : Memo) → after_steps_of searcher k n ≡ w →
     Advances searcher w (Err error) m → EndsAs searcher n (Err error) m
 ends_err searcher k n w error m e (j, h) =

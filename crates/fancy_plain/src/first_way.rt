@@ -48,7 +48,8 @@ pub fn first_way(alloc: Global, nfa: &Nfa, text: &str, ix: usize) -> Result<Firs
     first_way_with(alloc, nfa, text, ix, &mut memo)
 }
 
-/// As `first_way`, with what earlier searches by this NFA in this text have memoized.
+/// As `first_way`, with what earlier searches by this NFA in this text have memoized. `Memory` also where the search goes
+/// past the memo's budget.
 pub fn first_way_with(
     alloc: Global,
     nfa: &Nfa,

@@ -1,6 +1,6 @@
 //! The plain search: from state to state, with what is tried later on a stack.
 
-ghost use Rattle.std.specs.Prelude.{◌≡◌, ◌<◌, ◌∷◌, [], ℕ, List, Bool, Some, slice_get};
+ghost use Rattle.std.specs.Prelude.{◌≡◌, ◌≤◌, ◌<◌, OnOk, ◌∷◌, [], ℕ, List, Bool, Some, slice_get};
 ghost use Rattle.fancy_nfa.specs.NfaSearch as plain;
 ghost use Rattle.fancy_nfa.specs.NfaSearch.{Search, TakesBack, TakesUp};
 ghost use Rattle.fancy_nfa.specs.NfaStates as states;
@@ -34,21 +34,26 @@ fn lost_visits(is_untried: bool) -> u64
 }
 
 impl Searcher<'_> {
-    /// Searches from this configuration on. After 2^64 - 1 steps, more than any machine takes, it gives up with
-    /// `Memory`.
+    /// Searches from this configuration on. It gives up, as where memory is refused, where it takes up more states than
+    /// the memo's budget allows, and after 2^64 - 1 steps, more than any machine takes.
     pub(crate) fn find(
         &self,
         m: &mut Memo,
         start: NfaConfig,
     ) -> Result<Option<NfaConfig>, AllocError>
         requires { IsSearcher self.now }
-        ensures { (s : plain.NfaConfig) (f : Search)
+        ensures ends { (s : plain.NfaConfig) (f : Search)
             → IsSearch (continuation_of self.now) m.old f → IsHere m.old start s
             → EndsAs self.now (TakesUp s f) result m.new }
+        ensures within { OnOk result (m.new.visits ≤ m.new.budget.visits) }
     {
         let mut config = self.past_tests(m, start);
         'steps: for _ in 0..u64::MAX {
-            match self.advance(m, config)? {
+            let step = self.advance(m, config)?;
+            if m.is_past_visits() {
+                return Err(AllocError);
+            }
+            match step {
                 StepResult::Found(there) => return Ok(Some(there)),
                 StepResult::Goes(next) => config = next,
                 StepResult::Lost => return Ok(None),

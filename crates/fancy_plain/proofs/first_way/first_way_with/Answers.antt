@@ -23,7 +23,7 @@ returns-in_err-found-clause-memo c =
     let is_text : IsText c.args.text.now = record { utf8 = c.utf8.text; fits = small } in
     end_refused c.deref.result c.args.text c.args.nfa.now c.args.ix c.args.memo.now c.start.new.self c.deref.ensures.value is_text
     c.requires.place c.requires.memo c.start.ensures.failed c.start.ensures.path c.start.ensures.frames c.start.ensures.visits c.in_err-found.field-0.0
-    c.find.new.m c.in_err-found.ensures
+    c.find.new.m c.in_err-found.ensures.ends
 
 -- ---- it came to its end
 
@@ -33,7 +33,7 @@ returns-in_err-spans-in-Some-clause-memo c =
     let is_text : IsText c.args.text.now = record { utf8 = c.utf8.text; fits = small } in
     memo_found c.deref.result c.args.text c.args.nfa.now c.args.ix c.args.memo.now c.start.new.self c.deref.ensures.value is_text
     c.requires.place c.requires.memo c.start.ensures.failed c.start.ensures.path c.start.ensures.frames c.start.ensures.visits c.in_ok-found.found c.find.new.m
-    c.in_ok-found.ensures
+    c.in_ok-found.ensures.ends
 
 pub returns-clause-memo : goal.returns-clause-memo
 returns-clause-memo c =
@@ -41,7 +41,7 @@ returns-clause-memo c =
     let is_text : IsText c.args.text.now = record { utf8 = c.utf8.text; fits = small } in
     memo_found c.deref.result c.args.text c.args.nfa.now c.args.ix c.args.memo.now c.start.new.self c.deref.ensures.value is_text
     c.requires.place c.requires.memo c.start.ensures.failed c.start.ensures.path c.start.ensures.frames c.start.ensures.visits c.in_ok-found.found c.find.new.m
-    c.in_ok-found.ensures
+    c.in_ok-found.ensures.ends
 
 pub returns-clause-first : goal.returns-clause-first
 returns-clause-first c =
@@ -52,7 +52,7 @@ returns-clause-first c =
     let is_text : IsText c.args.text.now = record { utf8 = c.utf8.text; fits = small } in
     let e = end_found c.deref.result c.args.text c.args.nfa.now c.args.ix c.args.memo.now c.start.new.self c.deref.ensures.value is_text
     c.requires.place c.requires.memo c.start.ensures.failed c.start.ensures.path c.start.ensures.frames c.start.ensures.visits c.in_ok-found.found c.find.new.m
-    c.in_ok-found.ensures in
+    c.in_ok-found.ensures.ends in
     elim c.match-found.branch [
       | in-Some+in_ok-spans-in-Some w ↦
           let there : Ended text c.args.nfa.now.unicode states failed c.args.ix (Some w.in-Some.config) c.find.new.m =
@@ -76,5 +76,5 @@ returns-clause-visits c = λ failed have.
     let is_text : IsText c.args.text.now = record { utf8 = c.utf8.text; fits = small } in
     let e = counted c.deref.result c.args.text c.args.nfa.now c.args.ix c.args.memo.now c.start.new.self c.deref.ensures.value is_text
     c.requires.place c.requires.memo c.start.ensures.failed c.start.ensures.path c.start.ensures.frames c.start.ensures.visits c.in_ok-found.found c.find.new.m
-    c.in_ok-found.ensures failed have in
+    c.in_ok-found.ensures.ends failed have in
     (e.steps, (e.way, (e.found, (e.ends, c.visits-visits.ensures ∙ e.visits))))
