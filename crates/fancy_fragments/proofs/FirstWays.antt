@@ -25,7 +25,7 @@ use Rattle.fancy_fragments.specs.Fragments.{nodes_of, nfa_or, joined_nfa, HasNoW
 use Rattle.fancy_fragments.proofs.EasySizes.{bound_alike}
 
 -- it can be seen in one way only
-seen-prop : (way : Option Way) (seen : Option Seen) → IsProp (IsSeenAs way seen)
+pub seen-prop : (way : Option Way) (seen : Option Seen) → IsProp (IsSeenAs way seen)
 seen-prop None None = Unit-prop
 seen-prop None (Some seen) = λ x y. elim x [ ]
 seen-prop (Some w) None = λ x y. elim x [ ]

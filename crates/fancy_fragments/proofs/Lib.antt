@@ -9,4 +9,5 @@ pub mod GroupRanges
 pub mod DelegateParts
 pub mod SameTrees
 pub mod LeadingLaws
+pub mod StartFilterLaws
 pub mod ThreadsLaws

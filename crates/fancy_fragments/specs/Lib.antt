@@ -4,3 +4,4 @@ pub mod Nodes
 pub mod Fragments
 pub mod Delegates
 pub mod Leading
+pub mod StartFilters

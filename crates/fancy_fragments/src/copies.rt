@@ -67,6 +67,17 @@ fn copies_below(alloc: Global, expr: &Expr) -> Result<Vec<Expr>, AllocError>
     Ok(copies)
 }
 
+/// The nodes once more.
+pub(crate) fn copies_of(alloc: Global, exprs: &[Expr]) -> Result<Vec<Expr>, AllocError>
+    ensures { IfOk result (λ copies. map tree_of copies.items ≡ map tree_of exprs.now) }
+{
+    let mut copies = Vec::new(alloc);
+    for expr in exprs {
+        copies.push(copy_of(alloc, expr)?)?;
+    }
+    Ok(copies)
+}
+
 #[cycle(copying)]
 fn copy_of_absent(alloc: Global, absent: &Absent) -> Result<Absent, AllocError>
     ensures { IfOk result (λ copy. absent_of copy ≡ absent_of absent.now) }

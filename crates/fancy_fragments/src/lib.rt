@@ -8,3 +8,4 @@ pub mod fragment;
 pub mod leading;
 mod same;
 mod settable;
+pub mod start_filter;
