@@ -2,7 +2,21 @@
 use denote.Param.Send.{IsSend, sendable}
 use Rattle.std.proofs.Crossing as std
 use Rattle.std.proofs.MapsCrossing as maps
+use Rattle.fancy_backtrack.specs.contracts.memo.Memo as Memo
+use Rattle.fancy_fragments.proofs.ThreadsLaws.{start_filter_sends}
+use Rattle.fancy_vm.specs.contracts.memos.Memos as Memos
 use Rattle.fancy_vm.specs.contracts.runs.Scratch as Scratch
+use Rattle.fancy_vm.specs.contracts.start_filters.StartFilters as StartFilters
+
+-- each type in turn, since a `search` through all of them at once runs out of steps
+memo_sends : IsSend Memo.the_field.row
+memo_sends = search (std.crosses, maps.crosses, sendable) depth 60 fits 20000
+
+memos_sends : IsSend Memos.the_field.row
+memos_sends = search (memo_sends, std.crosses, sendable) depth 60 fits 20000
+
+start_filters_sends : IsSend StartFilters.the_field.row
+start_filters_sends = search (start_filter_sends, std.crosses, sendable) depth 60 fits 20000
 
 pub scratch_sends : IsSend Scratch.the_field.row
-scratch_sends = search (std.crosses, maps.crosses, sendable) depth 60 fits 20000
+scratch_sends = search (memos_sends, start_filters_sends, std.crosses, sendable) depth 60 fits 20000

@@ -4,6 +4,7 @@ pub mod Memos
 pub mod Ready
 pub mod Sound
 pub mod Stops
+pub mod StartFilters
 pub mod TrailingNewlines
 pub mod LookBehindCaches
 pub mod Outcomes

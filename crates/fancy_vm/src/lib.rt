@@ -12,6 +12,7 @@ mod required_bytes;
 mod runs;
 mod single_branch;
 mod single_delegate;
+mod start_filters;
 mod starts;
 mod stepper;
 mod steps;

@@ -18,6 +18,7 @@ ghost use Rattle.fancy_vm.specs.Tasks.{IsUnused, allocator_of, default_at, defau
 use crate::longest::Longest;
 use crate::machine::{MAX_BRANCHES, Machine, Next, Stop, Task};
 use crate::memos::Memos;
+use crate::start_filters::StartFilters;
 use crate::strategy::Found;
 use fancy_characters::places::is_place;
 use fancy_expr::error::{Error, RuntimeError};
@@ -90,8 +91,9 @@ impl Default for RunOptions {
 pub struct Scratch {
     alloc: Global,
     state: Option<State>,
-    memos: Option<Memos>,
+    pub(crate) memos: Option<Memos>,
     longest: Option<Longest>,
+    pub(crate) filters: StartFilters,
 }
 
 impl Scratch {
@@ -106,6 +108,7 @@ impl Scratch {
             state: None,
             memos: None,
             longest: None,
+            filters: StartFilters::new(),
         }
     }
 }
@@ -164,7 +167,7 @@ pub fn run_into(
         options,
         alloc,
     };
-    match task.run_by_strategy()? {
+    match task.run_by_strategy(scratch)? {
         Found::Match(start, end) => {
             task.write_pair(numbers, start, end)?;
             Ok(true)
@@ -195,7 +198,7 @@ pub fn run_spans(
         options,
         alloc,
     };
-    match task.run_by_strategy()? {
+    match task.run_by_strategy(scratch)? {
         Found::Match(start, end) => Ok(Some((start.min(end), end))),
         Found::NoMatch => Ok(None),
         Found::Unknown => scratch.answer_pair(&task),
@@ -267,7 +270,7 @@ impl Scratch {
 
     /// Nothing is noted of the run.
     #[inline(always)]
-    fn renew_memos(&mut self)
+    pub(crate) fn renew_memos(&mut self)
         ensures { AreFresh self.new.memos }
     {
         let alloc = self.alloc;
