@@ -10,6 +10,12 @@ use std::simd::prelude::*;
 /// How many bytes a vector has.
 pub(crate) const VECTOR: usize = 32;
 
+/// How many bytes are scanned at once where the next candidate is far.
+const WIDE: usize = 128;
+
+/// It is taken for far behind so many bytes without one: to scan so many at once in vain costs as much as two vectors.
+const FAR: usize = 256;
+
 /// Needles: the ASCII characters from `first` to `last`, and up to two more. 128 stands for one that is missing.
 #[derive(Clone, Copy)]
 pub(crate) struct Needles {
@@ -145,6 +151,51 @@ impl NeedlePair {
             return None;
         }
         Some(candidates.trailing_zeros() as usize)
+    }
+
+    /// The first position from `pos` on that has a candidate in the next 128 bytes, or fewer bytes than that up to `end`.
+    /// It is `pos` where the last candidate, at `near`, is not far.
+    #[inline(always)]
+    pub(crate) fn past_quiet(
+        self,
+        text: &[u8],
+        near: usize,
+        pos: usize,
+        end: usize,
+        kind: ScanKind,
+    ) -> usize
+        requires order { pos < end }
+        requires room { end ≤ length text.now }
+        requires single { IsTrue kind.is_single → AreSingle self }
+        requires bare { IsTrue kind.is_bare → AreBare self }
+        ensures order { pos ≤ result }
+        ensures within { result < end }
+        ensures quiet { (k : ℕ) → pos ≤ k → k < result → is_candidate self text.now k ≡ false }
+    {
+        if pos.saturating_sub(near) < FAR {
+            return pos;
+        }
+        let mut at = pos;
+        'quiet: while WIDE < end - at && self.is_quiet(text, at, kind) {
+            at += WIDE;
+        }
+        at
+    }
+
+    /// There is no candidate in the 128 bytes from `pos` on. The byte after them is read too.
+    #[inline(always)]
+    fn is_quiet(self, text: &[u8], pos: usize, kind: ScanKind) -> bool
+        requires room { pos + WIDE < length text.now }
+        requires single { IsTrue kind.is_single → AreSingle self }
+        requires bare { IsTrue kind.is_bare → AreBare self }
+        ensures { IsTrue result → (k : ℕ) → pos ≤ k → k < pos + WIDE
+            → is_candidate self text.now k ≡ false }
+    {
+        let first = self.candidates(text, pos, kind) == 0;
+        let second = self.candidates(text, pos + VECTOR, kind) == 0;
+        let third = self.candidates(text, pos + 2 * VECTOR, kind) == 0;
+        let fourth = self.candidates(text, pos + 3 * VECTOR, kind) == 0;
+        (first & second) & (third & fourth)
     }
 
     /// A bit for each candidate of the vector.
