@@ -100,7 +100,8 @@ fn only_in(bytes: &[bool; 256]) -> Option<u8>
 
 // ---- which state every way passes
 
-/// The last state found that every way passes, behind a loop without a bound: else a search that fails is short.
+/// The last state found that every way passes, if it takes a rare character or stands behind a loop without a bound: else a
+/// search that fails is short, or finds what the state takes at once.
 fn last_passed(states: &[NfaState]) -> Option<usize>
     ensures { IfSome result (IsPassed (map state_of states.now)) }
 {
@@ -108,7 +109,8 @@ fn last_passed(states: &[NfaState]) -> Option<usize>
     let mut furthest = 0;
     let mut is_behind = false;
     'states: for at in 0..states.len() {
-        if is_behind && furthest <= at {
+        let is_worth = is_behind || takes_rare(states, at);
+        if is_worth && furthest <= at {
             last = passed_from(states, at, furthest, last);
         }
         let Some(to) = furthest_with(&states[at], at, furthest) else {
@@ -182,6 +184,16 @@ fn repeats(nfa_state: &NfaState) -> bool {
     match nfa_state {
         NfaState::LoopSplit(_, _) => true,
         NfaState::CounterLoop { bounds, .. } => bounds.hi == usize::MAX,
+        _ => false,
+    }
+}
+
+/// The state takes one character, which is none of a small letter, a digit or a space, or a letter that few words have.
+fn takes_rare(states: &[NfaState], at: usize) -> bool {
+    match states.get(at) {
+        Some(NfaState::Character(CharTest::One { c, casei })) => {
+            !*casei && !matches!(*c, 'a'..='i' | 'k'..='p' | 'r'..='w' | 'y' | '0'..='9' | ' ')
+        }
         _ => false,
     }
 }

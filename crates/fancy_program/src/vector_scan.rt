@@ -89,6 +89,11 @@ impl Needles {
         }
     }
 
+    /// There is no needle.
+    pub(crate) fn are_none(self) -> bool {
+        self.first >= 128
+    }
+
     /// The range is one character.
     fn is_single(self) -> bool
         ensures { IsTrue result → IsSingle self }
