@@ -31,7 +31,8 @@ impl LeadingAssertion {
 }
 
 impl Fragment {
-    /// The assertion with which each way begins, if it is known to be that of the start of the text or of a line.
+    /// The assertion with which each way begins, if it is known to be that of the start of the text or of a line, or a word
+    /// boundary.
     pub fn leading_assertion(&self) -> Option<LeadingAssertion>
         ensures { IfSome result (IsLeading self.now) }
     {
@@ -77,7 +78,7 @@ fn begins_with_first(expr: &Expr) -> bool
     }
 }
 
-/// The assertion, if it is that of the start of the text or of a line. Others hold at too many places to be looked for.
+/// The assertion, if it is that of the start of the text or of a line, or a word boundary.
 fn as_leading(assertion: Assertion) -> Option<Assertion>
     ensures { IfSome result (λ a. (a ≡ assertion)
         × ((w : Within) → assertion_within w (assertion_of a) ≡ assertion_of a)) }
@@ -85,6 +86,8 @@ fn as_leading(assertion: Assertion) -> Option<Assertion>
     match assertion {
         Assertion::StartText => Some(assertion),
         Assertion::StartLine { .. } => Some(assertion),
+        Assertion::WordBoundary => Some(assertion),
+        Assertion::NotWordBoundary => Some(assertion),
         _ => None,
     }
 }
