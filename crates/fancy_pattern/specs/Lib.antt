@@ -9,6 +9,7 @@ pub mod Groups
 pub mod PatternViews
 pub mod Classes
 pub mod Items
+pub mod Lone
 pub mod Lexing
 pub mod LexerViews
 pub mod Naming

@@ -1,14 +1,17 @@
 //! What stands in a class, as it is handed on.
 
-ghost use Rattle.std.specs.Prelude.{◌≡◌, ◌+◌, ◌^◌, ◌<◌, ◌≤◌, length, IfOk, option_map};
+ghost use Rattle.std.specs.Prelude.{◌≡◌, ◌+◌, ◌^◌, ◌<◌, ◌≤◌, length, Ok, IfOk, IfSome, option_map};
 ghost use Rattle.fancy_pattern.specs.Texts.{seen};
 ghost use Rattle.fancy_pattern.specs.Classes as plain;
 ghost use Rattle.fancy_pattern.specs.Classes.{inner, fixed_escape, own_piece, coded_at, kept_set_at, other_class_escape_at, class_escape_at, bracket, caret, class_item_at};
-ghost use Rattle.fancy_pattern.specs.PatternViews.{piece_text, token_of};
+ghost use Rattle.fancy_pattern.specs.Items.{IsLone};
+ghost use Rattle.fancy_pattern.specs.Lone.{class_token};
+ghost use Rattle.fancy_pattern.specs.PatternViews.{kept_of, piece_text, token_of};
 
 use crate::characters::first;
 use crate::error::{ErrorKind, Fault, fault_at};
 use crate::escapes::{hex_at, property_at};
+use crate::kept::Kept;
 use crate::tokens::{ClassPiece, Token};
 
 /// How far a class has come.
@@ -232,5 +235,68 @@ pub(crate) fn class_item_at(
         ']' => Ok((bracket(place), after)),
         '^' => Ok((class_piece(ClassPiece::Char(c), caret(place)), after)),
         _ => Ok((class_piece(ClassPiece::Char(c), inner(place)), after)),
+    }
+}
+
+/// A `]` as it is kept, and the place behind it.
+fn kept_bracket<'a>(place: ClassPlace) -> (Kept<'a>, ClassPlace)
+    ensures value { class_token (kept_of result.0) result.1 ≡ bracket place }
+    ensures lone { IsLone (kept_of result.0) }
+    ensures depth { result.1.depth ≤ place.depth }
+{
+    match place.head {
+        Head::Start => (Kept::ClassEscaped(']'), inner(place)),
+        Head::Caret => (Kept::ClassEscaped(']'), inner(place)),
+        Head::Inner => kept_closing_bracket(place),
+    }
+}
+
+fn kept_closing_bracket<'a>(place: ClassPlace) -> (Kept<'a>, ClassPlace)
+    ensures value { class_token (kept_of result.0) result.1 ≡ plain.closing_bracket place }
+    ensures lone { IsLone (kept_of result.0) }
+    ensures depth { result.1.depth ≤ place.depth }
+{
+    let outer = ClassPlace {
+        depth: place.depth.saturating_sub(1),
+        head: Head::Inner,
+    };
+    if place.depth <= 1 {
+        (Kept::ClassClose, outer)
+    } else {
+        (Kept::ClassChar(']'), outer)
+    }
+}
+
+/// The next token in a class as it is kept, the place behind it and what follows it, unless a backslash begins it.
+#[inline(always)]
+#[tactic(auto, unfolding(crate::specs::Classes::class_item_at))]
+pub(crate) fn class_char_at(
+    place: ClassPlace,
+    text: &[char],
+) -> Option<(Kept<'_>, ClassPlace, &[char])>
+    requires { place.depth < 2 ^ 63 }
+    ensures value { IfSome result (λ p. class_item_at place text.now
+        ≡ Ok (class_token (kept_of p.0) p.1, p.2.now)) }
+    ensures lone { IfSome result (λ p. IsLone (kept_of p.0)) }
+    ensures shorter { IfSome result (λ p. length p.2.now + 1 ≤ length text.now) }
+    ensures depth { IfSome result (λ p. p.1.depth + length p.2.now
+        ≤ place.depth + length text.now) }
+{
+    let (c, after) = first(text)?;
+    match c {
+        '\\' => None,
+        '[' => {
+            let nested = ClassPlace {
+                depth: place.depth + 1,
+                head: Head::Start,
+            };
+            Some((Kept::ClassChar(c), nested, after))
+        }
+        ']' => {
+            let (kept, behind) = kept_bracket(place);
+            Some((kept, behind, after))
+        }
+        '^' => Some((Kept::ClassChar(c), caret(place), after)),
+        _ => Some((Kept::ClassChar(c), inner(place), after)),
     }
 }

@@ -1,14 +1,16 @@
 //! What follows a backslash.
 
-ghost use Rattle.std.specs.Prelude.{◌≡◌, ◌^◌, ◌<◌, ◌≤◌, ◌+◌, length, IfOk, IfSome, option_map};
+ghost use Rattle.std.specs.Prelude.{◌≡◌, ◌^◌, ◌<◌, ◌≤◌, ◌+◌, length, Ok, IfOk, IfSome, option_map};
 ghost use Rattle.fancy_expr.specs.Views.{assertion_of};
 ghost use Rattle.fancy_pattern.specs.Texts.{seen};
-ghost use Rattle.fancy_pattern.specs.Escapes.{leaf_escape, char_of, hex_at, braced_hex_at, bare_hex_at, property_length, property_at, boundary_at, numbered_at, escape_at, literal_escape, own_escape, literal_at, set_at, refer_at, is_set, other_escape_at};
+ghost use Rattle.fancy_pattern.specs.Escapes.{leaf_escape, char_of, hex_at, braced_hex_at, bare_hex_at, property_length, property_at, boundary_at, numbered_at, escape_at, literal_escape, own_escape, literal_at, set, set_at, refer_at, is_set, other_escape_at};
+ghost use Rattle.fancy_pattern.specs.Tokens.{Node};
 ghost use Rattle.fancy_pattern.specs.PatternViews.{leaf_of, reference_of, token_of};
 
 use crate::characters::{Test, first, past_word, run_length, split_run};
 use crate::error::{ErrorKind, Fault, fault_at};
 use crate::flags::Flags;
+use crate::items::Lexing;
 use crate::names::{delimited_at, number_at};
 use crate::numbers::number;
 use crate::tokens::{Leaf, Naming, Reference, Target, Token};
@@ -289,6 +291,47 @@ fn other_escape_at<'a>(
         Some(leaf) => Ok((Token::Leaf(leaf), after)),
         None => Err(fault_at(ErrorKind::InvalidEscape, text)),
     }
+}
+
+/// An escape that one character tells, and that is a node without text.
+#[tactic(auto, unfolding(crate::specs::Escapes::escape_at, crate::specs::Escapes::other_escape_at))]
+pub(crate) fn leaf_escape_at<'a>(now: &Lexing, text: &'a [char]) -> Option<(Leaf, &'a [char])>
+    ensures value { IfSome result (λ p. escape_at now.now.flags now.now.opened text.now
+        ≡ Ok (Node (leaf_of p.0), p.1.now)) }
+    ensures shorter { IfSome result (λ p. length p.1.now ≤ length text.now) }
+{
+    let (c, after) = first(text)?;
+    match c {
+        'x' | 'u' | 'U' | 'p' | 'P' | 'b' | 'k' | 'g' => None,
+        _ => {
+            if is_set(c) {
+                return None;
+            }
+            if c.is_ascii_digit() {
+                return None;
+            }
+            let leaf = leaf_escape(now.flags, c)?;
+            Some((leaf, after))
+        }
+    }
+}
+
+/// A set of one letter, with the letter and what is behind it: nothing, and what follows.
+#[tactic(auto, unfolding(crate::specs::Escapes::escape_at, crate::specs::Escapes::other_escape_at))]
+pub(crate) fn set_escape_at<'a>(
+    now: &Lexing,
+    text: &'a [char],
+) -> Option<(char, &'a [char], &'a [char])>
+    ensures value { IfSome result (λ p. escape_at now.now.flags now.now.opened text.now
+        ≡ Ok (set now.now.flags p.0 p.1.now, p.2.now)) }
+    ensures shorter { IfSome result (λ p. length p.2.now ≤ length text.now) }
+{
+    let (c, after) = first(text)?;
+    if !is_set(c) {
+        return None;
+    }
+    let (none, _) = after.split_at(0);
+    Some((c, none, after))
 }
 
 /// A reference by its number.

@@ -6,17 +6,20 @@ ghost use Rattle.fancy_pattern.specs.Texts.{seen, gap_at};
 ghost use Rattle.fancy_meaning.specs.Tree.{Literal};
 ghost use Rattle.fancy_pattern.specs.Items as plain;
 ghost use Rattle.fancy_pattern.specs.Items.{any_of, start_of, end_of, quantified, brace_at, sign_token, item_at, opened_by, class_of, outside_at, within_at, IsLone, lone_found, found_at};
+ghost use Rattle.fancy_pattern.specs.Lone.{no_class, found_token, lone_in};
+ghost use Rattle.fancy_pattern.specs.Groups.{plain_group};
+ghost use Rattle.fancy_pattern.specs.Tokens.{Open};
 ghost use Rattle.fancy_pattern.specs.PatternViews.{leaf_of, kept_of, token_of, item_of, opening_of};
 
 use crate::characters::first;
-use crate::classes::{ClassPlace, Head, class_item_at};
+use crate::classes::{ClassPlace, Head, class_char_at, class_item_at};
 use crate::error::{ErrorKind, Fault, fault_at};
-use crate::escapes::escape_at;
+use crate::escapes::{escape_at, leaf_escape_at, set_escape_at};
 use crate::flags::Flags;
 use crate::groups::opening_at;
-use crate::kept::Kept;
+use crate::kept::{Kept, narrow_quantifier};
 use crate::quantifiers::counts_at;
-use crate::tokens::{Item, Leaf, Opening, Quantifier, Token};
+use crate::tokens::{Enclosing, Item, Leaf, Opening, Quantifier, Token};
 use fancy_expr::expr::Assertion;
 use fancy_expr::well_formed::MOST_GROUPS;
 
@@ -196,10 +199,27 @@ fn class_of(token: Token<'_>) -> ClassPlace
             depth: 1,
             head: Head::Start,
         },
-        _ => ClassPlace {
-            depth: 0,
-            head: Head::Inner,
-        },
+        _ => no_class(),
+    }
+}
+
+fn no_class() -> ClassPlace
+    ensures { result ≡ no_class }
+{
+    ClassPlace {
+        depth: 0,
+        head: Head::Inner,
+    }
+}
+
+/// With these flags and so many groups, where no class is open.
+fn outside(flags: Flags, opened: usize) -> Lexing
+    ensures { result ≡ record { flags = flags; opened = opened; class = no_class } }
+{
+    Lexing {
+        flags,
+        opened,
+        class: no_class(),
     }
 }
 
@@ -255,33 +275,138 @@ fn within_at(now: Lexing, text: &[char]) -> Result<(Found<'_>, &[char]), Fault>
     ))
 }
 
-/// Outside of classes and of free spacing, the token of one character at the front and what follows it, where it is a token
-/// whatever follows, and neither begins nor ends a group or a class.
-#[tactic(auto, unfolding(crate::specs::Items::found_at, crate::specs::Items::outside_at, crate::specs::Items::item_at))]
-pub(crate) fn lone_at(now: Lexing, text: &[char]) -> Option<(Kept<'_>, char, &[char])>
-    requires { now.opened ≤ most_groups }
-    ensures value { IfSome result (λ p. found_at now text.now
-        ≡ Ok (lone_found now (kept_of p.0), p.2.now)) }
+/// Outside of classes and of free spacing, the token at the front and what follows it, where that is found at once: a
+/// character, counts, or an escape of one character, and nothing that begins or ends a group or a class.
+#[inline(always)]
+#[tactic(auto, unfolding(crate::specs::Items::outside_at, crate::specs::Items::item_at, crate::specs::Items::brace_at))]
+fn lone_outside_at<'a>(now: &Lexing, text: &'a [char]) -> Option<(Kept<'a>, &'a [char])>
+    requires { now.now.opened ≤ most_groups }
+    ensures value { IfSome result (λ p. outside_at now.now text.now
+        ≡ Ok (lone_found now.now (kept_of p.0), p.1.now)) }
     ensures lone { IfSome result (λ p. IsLone (kept_of p.0)) }
-    ensures outside { IfSome result (λ p. now.class.depth ≡ 0) }
-    ensures no_gap { IfSome result (λ p. gap_at now.flags.ignore_whitespace text.now ≡ None) }
-    ensures shorter { IfSome result (λ p. length p.2.now + 1 ≤ length text.now) }
+    ensures no_gap { IfSome result (λ p. gap_at now.now.flags.ignore_whitespace text.now ≡ None) }
+    ensures shorter { IfSome result (λ p. length p.1.now + 1 ≤ length text.now) }
 {
-    if now.class.depth > 0 || now.flags.ignore_whitespace {
+    if now.flags.ignore_whitespace {
         return None;
     }
     let (c, after) = first(text)?;
     let greedy = !now.flags.swap_greed;
     match c {
-        '(' | ')' | '[' | '{' | '\\' => None,
-        '.' => Some((Kept::Leaf(any_of(now.flags)), c, after)),
-        '^' => Some((Kept::Leaf(start_of(now.flags)), c, after)),
-        '$' => Some((Kept::Leaf(end_of(now.flags)), c, after)),
-        '|' => Some((Kept::Bar, c, after)),
-        '*' => Some((Kept::Star { greedy }, c, after)),
-        '+' => Some((Kept::Plus { greedy }, c, after)),
-        '?' => Some((Kept::Question { greedy }, c, after)),
-        _ => Some((Kept::Leaf(literal_leaf(now.flags, c)), c, after)),
+        '(' | ')' | '[' => None,
+        '{' => match counts_at(after, now.flags.ignore_whitespace) {
+            Some((counts, rest)) => match counts {
+                Ok(quantifier) => Some((narrow_quantifier(quantifier, greedy), rest)),
+                Err(_) => None,
+            },
+            None => Some((Kept::Leaf(literal_leaf(now.flags, c)), after)),
+        },
+        '\\' => match leaf_escape_at(now, after) {
+            Some((leaf, rest)) => Some((Kept::Leaf(leaf), rest)),
+            None => {
+                let (letter, text, rest) = set_escape_at(now, after)?;
+                let casei = now.flags.casei;
+                Some((
+                    Kept::Set {
+                        casei,
+                        letter,
+                        text,
+                    },
+                    rest,
+                ))
+            }
+        },
+        '.' => Some((Kept::Leaf(any_of(now.flags)), after)),
+        '^' => Some((Kept::Leaf(start_of(now.flags)), after)),
+        '$' => Some((Kept::Leaf(end_of(now.flags)), after)),
+        '|' => Some((Kept::Bar, after)),
+        '*' => Some((Kept::Star { greedy }, after)),
+        '+' => Some((Kept::Plus { greedy }, after)),
+        '?' => Some((Kept::Question { greedy }, after)),
+        _ => Some((Kept::Leaf(literal_leaf(now.flags, c)), after)),
+    }
+}
+
+/// The token at the front, the class behind it and what follows it, where that is found at once.
+#[inline(always)]
+#[tactic(auto, unfolding(crate::specs::Items::found_at, crate::specs::Items::within_at))]
+pub(crate) fn lone_at<'a>(
+    now: &Lexing,
+    text: &'a [char],
+) -> Option<(Kept<'a>, ClassPlace, &'a [char])>
+    requires room { now.now.class.depth < 2 ^ 63 }
+    requires opened { now.now.opened ≤ most_groups }
+    ensures value { IfSome result (λ p. found_at now.now text.now
+        ≡ Ok (lone_in now.now (kept_of p.0) p.1, p.2.now)) }
+    ensures lone { IfSome result (λ p. IsLone (kept_of p.0)) }
+    ensures no_gap { IfSome result (λ p. now.now.class.depth ≡ 0
+        → gap_at now.now.flags.ignore_whitespace text.now ≡ None) }
+    ensures shorter { IfSome result (λ p. length p.2.now + 1 ≤ length text.now) }
+    ensures depth { IfSome result (λ p. p.1.depth + length p.2.now
+        ≤ now.now.class.depth + length text.now) }
+{
+    if now.class.depth > 0 {
+        return class_char_at(now.class, text);
+    }
+    let (kept, after) = lone_outside_at(now, text)?;
+    Some((kept, no_class(), after))
+}
+
+/// The opening parenthesis of a plain group, unless it is one group too many, and what holds behind it.
+fn plain_group<'a>(now: &Lexing) -> Option<(Kept<'a>, Lexing)>
+    requires { now.now.opened ≤ most_groups }
+    ensures group { IfSome result (λ p. kept_of p.0
+        ≡ Open (plain_group now.now.flags now.now.opened)) }
+    ensures behind { IfSome result (λ p. p.1 ≡ record {
+      flags = now.now.flags;
+      opened = now.now.opened + plain.group_opened_by (plain_group now.now.flags now.now.opened);
+      class = no_class;
+    }) }
+    ensures few { IfSome result (λ p. now.now.opened
+        + plain.group_opened_by (plain_group now.now.flags now.now.opened) ≤ most_groups) }
+    ensures opened { IfSome result (λ p. p.1.opened ≤ most_groups) }
+    ensures outside { IfSome result (λ p. p.1.class.depth ≡ 0) }
+{
+    if now.flags.named_only {
+        let kept = Kept::Enclosing(Enclosing::Plain);
+        return Some((kept, outside(now.flags, now.opened)));
+    }
+    if now.opened >= MOST_GROUPS {
+        return None;
+    }
+    let opened = now.opened + 1;
+    Some((Kept::Group(opened), outside(now.flags, opened)))
+}
+
+/// Outside of classes, the opening parenthesis of a plain group or a closing one at the front, what holds behind it, and
+/// what follows it.
+#[tactic(auto, unfolding(crate::specs::Items::found_at, crate::specs::Items::outside_at, crate::specs::Items::item_at, crate::specs::Groups::opening_at))]
+pub(crate) fn parenthesis_at<'a>(
+    now: &Lexing,
+    text: &'a [char],
+) -> Option<(Kept<'a>, Lexing, &'a [char])>
+    requires { now.now.opened ≤ most_groups }
+    ensures value { IfSome result (λ p. found_at now.now text.now
+        ≡ Ok (found_token (kept_of p.0) p.1, p.2.now)) }
+    ensures shorter { IfSome result (λ p. length p.2.now + 1 ≤ length text.now) }
+    ensures few { IfSome result (λ p. p.1.opened ≤ most_groups) }
+    ensures outside { IfSome result (λ p. p.1.class.depth ≡ 0) }
+{
+    if now.class.depth > 0 {
+        return None;
+    }
+    let (c, after) = first(text)?;
+    match c {
+        ')' => Some((Kept::Close, outside(now.flags, now.opened), after)),
+        '(' => match first(after) {
+            Some(('?', _)) => None,
+            Some(('*', _)) => None,
+            _ => {
+                let (kept, behind) = plain_group(now)?;
+                Some((kept, behind, after))
+            }
+        },
+        _ => None,
     }
 }
 

@@ -3,13 +3,13 @@
 ghost use Rattle.std.specs.Prelude.{◌≡◌, ◌+◌, ◌^◌, ◌<◌, ◌≤◌, length};
 ghost use Rattle.fancy_meaning.specs.WellFormed.{most_groups};
 
-use crate::characters::{byte_count, past_gap};
+use crate::characters::past_gap;
 use crate::classes::{ClassPlace, Head};
-use crate::error::{ErrorKind, Fault};
+use crate::error::Fault;
 use crate::flags::Flags;
-use crate::items::{Lexing, found_at, lone_at};
-use crate::kept::{Kept, Placed, keep};
-use crate::nesting::behind;
+use crate::items::{Lexing, found_at, lone_at, parenthesis_at};
+use crate::kept::{Counted, Kept, Placed, keep};
+use crate::nesting::behind_token;
 use crate::tokens::Token;
 use std::alloc::{AllocError, Global};
 
@@ -19,8 +19,7 @@ pub struct Lexer<'a> {
     pub alloc: Global,
     /// What is left to read.
     pub rest: &'a [char],
-    /// The byte where it begins.
-    pub at: usize,
+    pub counted: Counted<'a>,
     pub now: Lexing,
     /// The flags around each group that is open, the innermost last.
     pub outer: Vec<Flags>,
@@ -31,21 +30,24 @@ pub struct Lexer<'a> {
 
 impl<'a> Lexer<'a> {
     ghost use Rattle.std.specs.Prelude.{[], ◌∷◌, ◌++◌, map, Ok, IfOk, OnOk, true, false};
-    ghost use Rattle.fancy_pattern.specs.Items.{found_at, IsLone, lone_found};
+    ghost use Rattle.fancy_pattern.specs.Items.{found_at, IsLone};
+    ghost use Rattle.fancy_pattern.specs.Lone.{found_token, lone_in};
     ghost use Rattle.fancy_pattern.specs.Lexing.{at_start, IsAtToken, Lexes};
     ghost use Rattle.fancy_pattern.specs.LexerViews.{state_of, text_of, placed_in, Steps, Pushes};
-    ghost use Rattle.fancy_pattern.specs.PatternViews.{kept_of, placed_of, token_of};
+    ghost use Rattle.fancy_pattern.specs.PatternViews.{kept_of, placed_of};
     ghost use Rattle.fancy_pattern.specs.Tokens.{placed, broken};
 
-    fn new(alloc: Global, flags: Flags, chars: &'a [char]) -> Lexer<'a>
-        ensures state { state_of result ≡ at_start flags }
-        ensures text { text_of result ≡ chars.now }
-        ensures tokens { placed_in result ≡ [] }
+    /// A token takes a character at least, so there is room for all of them.
+    fn new(alloc: Global, flags: Flags, chars: &'a [char]) -> Result<Lexer<'a>, AllocError>
+        ensures state { IfOk result (λ l. state_of l ≡ at_start flags) }
+        ensures text { IfOk result (λ l. text_of l ≡ chars.now) }
+        ensures tokens { IfOk result (λ l. placed_in l ≡ []) }
     {
-        Lexer {
+        let tokens = Vec::with_capacity(alloc, chars.len())?;
+        Ok(Lexer {
             alloc,
             rest: chars,
-            at: 0,
+            counted: Counted { rest: chars, at: 0 },
             now: Lexing {
                 flags,
                 opened: 0,
@@ -55,46 +57,16 @@ impl<'a> Lexer<'a> {
                 },
             },
             outer: Vec::new(alloc),
-            tokens: Vec::new(alloc),
-        }
+            tokens,
+        })
     }
 
     #[inline(always)]
-    fn push_kept(&mut self, left: usize, kept: Kept<'a>) -> Result<(), AllocError>
+    fn push(&mut self, left: usize, kept: Kept<'a>) -> Result<(), AllocError>
         ensures { OnOk result (Pushes (placed left (kept_of kept.entry)) self.old self.new) }
     {
         self.tokens.push(Placed { left, kept })?;
         Ok(())
-    }
-
-    #[inline(always)]
-    fn push(&mut self, left: usize, token: Token<'a>) -> Result<(), AllocError>
-        ensures { OnOk result (Pushes (placed left (token_of token.entry)) self.old self.new) }
-    {
-        let kept = keep(self.alloc, self.at, token)?;
-        self.push_kept(left, kept)
-    }
-
-    /// Goes to what follows what was read, which has so many bytes.
-    fn pass_bytes(&mut self, rest: &'a [char], bytes: usize)
-        requires { length rest.now ≤ length self.old.rest.now }
-        ensures rest { text_of self.new ≡ rest.now }
-        ensures state { state_of self.new ≡ state_of self.old }
-        ensures tokens { self.new.tokens ≡ self.old.tokens }
-    {
-        self.at = self.at.saturating_add(bytes);
-        self.rest = rest;
-    }
-
-    /// Goes to what follows what was read.
-    fn pass(&mut self, rest: &'a [char])
-        requires { length rest.now ≤ length self.old.rest.now }
-        ensures rest { text_of self.new ≡ rest.now }
-        ensures state { state_of self.new ≡ state_of self.old }
-        ensures tokens { self.new.tokens ≡ self.old.tokens }
-    {
-        let passed = &self.rest[..self.rest.len() - rest.len()];
-        self.pass_bytes(rest, byte_count(passed));
     }
 
     /// What is left cannot be read.
@@ -103,32 +75,63 @@ impl<'a> Lexer<'a> {
     fn break_off(&mut self, fault: Fault) -> Result<bool, AllocError>
         ensures { IfOk result (λ more. (more ≡ false) × Pushes (broken fault) self.old self.new) }
     {
-        self.push(fault.left, Token::Broken(fault.kind))?;
+        let token = Token::Broken(fault.kind);
+        let kept = keep(self.alloc, &mut self.counted, self.rest, token)?;
+        self.push(fault.left, kept)?;
         Ok(false)
     }
 
-    /// Goes past a token of one character, outside of classes.
-    #[inline]
-    fn pass_lone(&mut self, kept: Kept<'a>, c: char, after: &'a [char]) -> Result<bool, AllocError>
+    /// Goes past a token behind which only the class changes.
+    #[inline(always)]
+    fn pass_lone(
+        &mut self,
+        kept: Kept<'a>,
+        class: ClassPlace,
+        after: &'a [char],
+    ) -> Result<bool, AllocError>
         requires token { IsAtToken (state_of self.old) (text_of self.old) }
         requires found { found_at self.old.now self.old.rest.now
-            ≡ Ok (lone_found self.old.now (kept_of kept), after.now) }
+            ≡ Ok (lone_in self.old.now (kept_of kept) class, after.now) }
         requires lone { IsLone (kept_of kept) }
         requires shorter { length after.now < length self.old.rest.now }
+        requires shallow { class.depth + length after.now < 2 ^ 63 }
         ensures steps { IfOk result (λ more. Steps more self.old self.new) }
         ensures shorter { IfOk result (λ more. length self.new.rest.now
             < length self.old.rest.now) }
     {
-        self.push_kept(self.rest.len(), kept)?;
-        self.pass_bytes(after, c.len_utf8());
-        self.now = Lexing {
-            class: ClassPlace {
-                depth: 0,
-                head: Head::Inner,
-            },
-            ..self.now
-        };
+        self.push(self.rest.len(), kept)?;
+        self.rest = after;
+        self.now.class = class;
         Ok(true)
+    }
+
+    /// Goes past the token at the front, and answers whether the text goes on.
+    fn pass(
+        &mut self,
+        kept: Kept<'a>,
+        behind: Lexing,
+        after: &'a [char],
+    ) -> Result<bool, AllocError>
+        requires token { IsAtToken (state_of self.old) (text_of self.old) }
+        requires found { found_at self.old.now self.old.rest.now
+            ≡ Ok (found_token (kept_of kept) behind, after.now) }
+        requires shorter { length after.now < length self.old.rest.now }
+        requires few { behind.opened ≤ most_groups }
+        requires shallow { behind.class.depth + length after.now < 2 ^ 63 }
+        ensures steps { IfOk result (λ more. Steps more self.old self.new) }
+        ensures shorter { IfOk result (λ more. more ≡ true
+            → length self.new.rest.now < length self.old.rest.now) }
+    {
+        let left = self.rest.len();
+        match behind_token(&mut self.outer, self.now.flags, &kept, behind, left)? {
+            Ok(now) => {
+                self.push(left, kept)?;
+                self.rest = after;
+                self.now = now;
+                Ok(true)
+            }
+            Err(fault) => self.break_off(fault),
+        }
     }
 
     /// Goes past the token at the front, and answers whether the text goes on.
@@ -138,40 +141,48 @@ impl<'a> Lexer<'a> {
         ensures shorter { IfOk result (λ more. more ≡ true
             → length self.new.rest.now < length self.old.rest.now) }
     {
-        let left = self.rest.len();
+        if let Some((kept, behind, after)) = parenthesis_at(&self.now, self.rest) {
+            return self.pass(kept, behind, after);
+        }
         match found_at(self.now, self.rest) {
-            Ok((found, after)) => match behind(&mut self.outer, self.now.flags, found, left)? {
-                Ok(now) => {
-                    self.push(left, found.token)?;
-                    self.pass(after);
-                    self.now = now;
-                    Ok(true)
-                }
-                Err(fault) => self.break_off(fault),
-            },
+            Ok((found, after)) => {
+                let kept = keep(self.alloc, &mut self.counted, self.rest, found.token)?;
+                self.pass(kept, found.behind, after)
+            }
             Err(fault) => self.break_off(fault),
         }
     }
 
     /// Goes past the gap or the token at the front, and answers whether the text goes on.
-    fn next(&mut self) -> Result<bool, AllocError>
+    #[inline(never)]
+    fn next_other(&mut self) -> Result<bool, AllocError>
         ensures steps { IfOk result (λ more. Steps more self.old self.new) }
         ensures shorter { IfOk result (λ more. more ≡ true
             → length self.new.rest.now < length self.old.rest.now) }
     {
-        if let Some((kept, c, after)) = lone_at(self.now, self.rest) {
-            return self.pass_lone(kept, c, after);
-        }
         if self.now.class.depth == 0 {
             if self.rest.is_empty() {
                 return Ok(false);
             }
             if let Some(after) = past_gap(self.rest, self.now.flags.ignore_whitespace) {
-                self.pass(after);
+                self.rest = after;
                 return Ok(true);
             }
         }
         self.next_token()
+    }
+
+    /// The same, where most tokens are found at once.
+    #[inline(always)]
+    fn next(&mut self) -> Result<bool, AllocError>
+        ensures steps { IfOk result (λ more. Steps more self.old self.new) }
+        ensures shorter { IfOk result (λ more. more ≡ true
+            → length self.new.rest.now < length self.old.rest.now) }
+    {
+        match lone_at(&self.now, self.rest) {
+            Some((kept, class, after)) => self.pass_lone(kept, class, after),
+            None => self.next_other(),
+        }
     }
 
     /// The tokens of a pattern that begins with these flags.
@@ -184,7 +195,7 @@ impl<'a> Lexer<'a> {
             (at_start flags) chars.now
             (map placed_of tokens.items)) }
     {
-        let mut lexer = Lexer::new(alloc, flags, chars);
+        let mut lexer = Lexer::new(alloc, flags, chars)?;
         while lexer.next()? {}
         Ok(lexer.tokens)
     }

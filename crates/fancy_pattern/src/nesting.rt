@@ -1,13 +1,14 @@
 //! How groups stand in one another, and the flags that hold behind them.
 
 ghost use Rattle.std.specs.Prelude.{◌≡◌, ◌≤◌, IfOk, MatchResult};
-ghost use Rattle.fancy_pattern.specs.PatternViews.{opening_of};
-ghost use Rattle.fancy_pattern.specs.Items.{found_of};
+ghost use Rattle.fancy_pattern.specs.PatternViews.{kept_of, opening_of, token_of};
+ghost use Rattle.fancy_pattern.specs.Tokens.{Open};
 ghost use Rattle.fancy_pattern.specs.Lexing.{has_two, Enters, Leaves, GoesBy};
 
 use crate::error::{ErrorKind, Fault};
 use crate::flags::Flags;
-use crate::items::{Found, Lexing};
+use crate::items::Lexing;
+use crate::kept::Kept;
 use crate::tokens::{Opening, Token};
 use std::alloc::AllocError;
 
@@ -65,21 +66,63 @@ fn leave(outer: &mut Vec<Flags>, behind: Lexing, left: usize) -> Result<Lexing, 
 }
 
 /// What holds behind a token, or why it cannot stand; `outer` has the flags around each group that is open.
-pub(crate) fn behind(
+pub(crate) fn behind_token(
     outer: &mut Vec<Flags>,
     flags: Flags,
-    found: Found<'_>,
+    kept: &Kept<'_>,
+    behind: Lexing,
     left: usize,
 ) -> Result<Result<Lexing, Fault>, AllocError>
-    ensures { IfOk result (λ r. GoesBy (found_of found.entry).token outer.old.items flags
-        found.entry.behind left r outer.new.items) }
+    ensures { IfOk result (λ r. GoesBy (kept_of kept.now) outer.old.items flags
+        behind left r outer.new.items) }
 {
-    match found.token {
-        Token::Open(opening) => match enter(outer, flags, opening, left)? {
-            Ok(()) => Ok(Ok(found.behind)),
-            Err(fault) => Ok(Err(fault)),
-        },
-        Token::Close => Ok(leave(outer, found.behind, left)),
-        _ => Ok(Ok(found.behind)),
+    match kept {
+        Kept::Enclosing(enclosing) => {
+            behind_opening(outer, flags, Opening::Enclosing(*enclosing), behind, left)
+        }
+        Kept::Group(number) => {
+            let opening = Opening::Group {
+                number: *number,
+                name: None,
+            };
+            behind_opening(outer, flags, opening, behind, left)
+        }
+        Kept::Close => Ok(leave(outer, behind, left)),
+        Kept::Wide(wide) => behind_wide(outer, flags, wide.token, behind, left),
+        _ => Ok(Ok(behind)),
+    }
+}
+
+fn behind_opening(
+    outer: &mut Vec<Flags>,
+    flags: Flags,
+    opening: Opening<'_>,
+    behind: Lexing,
+    left: usize,
+) -> Result<Result<Lexing, Fault>, AllocError>
+    ensures { IfOk result (λ r. GoesBy (Open (opening_of opening.entry)) outer.old.items flags
+        behind left r outer.new.items) }
+{
+    match enter(outer, flags, opening, left)? {
+        Ok(()) => Ok(Ok(behind)),
+        Err(fault) => Ok(Err(fault)),
+    }
+}
+
+/// The same behind a token of any width.
+fn behind_wide(
+    outer: &mut Vec<Flags>,
+    flags: Flags,
+    token: Token<'_>,
+    behind: Lexing,
+    left: usize,
+) -> Result<Result<Lexing, Fault>, AllocError>
+    ensures { IfOk result (λ r. GoesBy (token_of token.entry) outer.old.items flags
+        behind left r outer.new.items) }
+{
+    match token {
+        Token::Open(opening) => behind_opening(outer, flags, opening, behind, left),
+        Token::Close => Ok(leave(outer, behind, left)),
+        _ => Ok(Ok(behind)),
     }
 }

@@ -1,4 +1,4 @@
-use Rattle.std.proofs.Common.{◌≡◌, List, ◌++◌, length}
+use Rattle.std.proofs.Common.{List, ◌++◌, length}
 use Rattle.fancy_pattern.specs.Lexing.{Lexes, at_start}
 use Rattle.fancy_pattern.specs.LexerViews.{state_of, text_of, placed_in}
 use Rattle.fancy_pattern.specs.Tokens.{Placed}

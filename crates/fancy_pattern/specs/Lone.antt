@@ -1,0 +1,22 @@
+-- Tokens that are found at once, and what holds behind them.
+use Rattle.fancy_pattern.specs.declared.classes.ClassPlace.{ClassPlace}
+use Rattle.fancy_pattern.specs.declared.classes.Head.TheVariants as head
+use Rattle.fancy_pattern.specs.declared.items.Lexing.{Lexing}
+use Rattle.fancy_pattern.specs.Tokens.{Token}
+use Rattle.fancy_pattern.specs.Classes.{ClassItem}
+use Rattle.fancy_pattern.specs.Items.{Found}
+
+abbrev pub no_class : ClassPlace
+no_class = record { depth = 0; head = head.Inner }
+
+-- a token of a class, and the place behind it
+abbrev pub class_token : Token → ClassPlace → ClassItem
+class_token t place = record { token = t; place = place }
+
+-- a token, and what holds behind it
+abbrev pub found_token : Token → Lexing → Found
+found_token t behind = record { token = t; behind = behind }
+
+-- a token behind which only the class changes
+abbrev pub lone_in : Lexing → Token → ClassPlace → Found
+lone_in now t place = found_token t (record { flags = now.flags; opened = now.opened; class = place })
