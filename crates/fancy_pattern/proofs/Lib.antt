@@ -23,3 +23,4 @@ pub mod FoundTokens
 pub mod Counting
 pub mod DescribedTrees
 pub mod FineNodes
+pub mod Unreferring

@@ -18,7 +18,8 @@ use Rattle.fancy_expr.specs.Exprs.{below, exprs, exprs_of_each}
 use Rattle.fancy_expr.proofs.Exprs.{exprs-below, nodes-exprs}
 use Rattle.fancy_expr.proofs.Walks.{each-taken}
 use Rattle.fancy_pattern.specs.declared.survey.Survey.{Survey}
-use Rattle.fancy_pattern.specs.Described.{referred_to, Notes}
+use Rattle.fancy_pattern.specs.Described.{referred_to, references, Notes}
+use Rattle.fancy_pattern.specs.Surveyed.{IsUnreferring, IsSurveyOf}
 
 or_false : (b : Bool) → b ≡ (b || false)
 or_false true = refl
@@ -92,3 +93,13 @@ pub notes_done : (old new : Survey) (x : Expr) (n : ℕ) → length (below x) �
 notes_done old new x n h s =
     subst (λ l. Notes l old new) (sym (ap (map tree_of) (exprs-below x)) ∙ nodes-exprs x)
     (subst (λ l. Notes (tree_of x ∷ map tree_of (exprs_of_each l)) old new) (take_all n (below x) h) s)
+
+-- what was noted of the whole tree, where nothing was noted before
+pub surveyed : (e : Tree) (old new : Survey) → old.references.items ≡ [] → old.calls ≡ false → Notes (nodes e) old new → IsSurveyOf e new
+surveyed e old new none uncalled h = record {
+  references = h.references ∙ ap (λ l. l ++ references e) none;
+  calls = h.calls ∙ ap (λ b. b || list_any is_any_call (nodes e)) uncalled;
+}
+
+pub survey_of_none : (e : Tree) (s : Survey) → s.references.items ≡ [] → s.calls ≡ false → IsUnreferring e → IsSurveyOf e s
+survey_of_none e s none uncalled h = record { references = none ∙ sym h.references; calls = uncalled ∙ sym h.calls }

@@ -19,4 +19,5 @@ pub mod Described
 pub mod Spelling
 pub mod Escape
 pub mod Faults
+pub mod Surveyed
 pub mod Stuck

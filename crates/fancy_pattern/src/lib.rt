@@ -7,6 +7,7 @@ mod classes;
 pub mod error;
 pub mod escape;
 mod escapes;
+mod facts;
 mod failure;
 pub mod flags;
 mod group_names;

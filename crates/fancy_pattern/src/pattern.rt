@@ -1,20 +1,22 @@
 //! `parse_tree`: lexer, reader and survey, one after the other.
 
-ghost use Rattle.std.specs.Prelude.{◌≡◌, ◌<◌, ◌^◌, [], length, map, chars, encode_utf8_all, IfOk, IfErr, MatchResult};
-ghost use Rattle.std.specs.List.{list_any, count_by};
+ghost use Rattle.std.specs.Prelude.{◌≡◌, ◌<◌, ◌^◌, [], false, length, map, chars, encode_utf8_all, IfOk, IfErr, MatchResult};
+ghost use Rattle.std.specs.List.{list_any};
 ghost use Rattle.fancy_meaning.specs.Tree.{Tree};
 ghost use Rattle.fancy_expr.specs.Sound.{IsWellFormedTree};
 ghost use Rattle.fancy_expr.specs.Views.{tree_of};
-ghost use Rattle.fancy_pattern.specs.Described.{by_number, names_number, asks_number, is_group, opens_group, first_past, up_to, IsDescribed};
+ghost use Rattle.fancy_pattern.specs.Described.{first_past, up_to, IsDescribed};
+ghost use Rattle.fancy_pattern.specs.Surveyed.{IsUnreferring, IsSurveyOf};
 ghost use Rattle.fancy_pattern.specs.Naming.{pairs_in, named_in};
-ghost use Rattle.fancy_pattern.specs.PatternViews.{kept_of, placed_of, token_of, opening_of, target_of};
+ghost use Rattle.fancy_pattern.specs.PatternViews.{kept_of, placed_of, token_of, opening_of};
 ghost use Rattle.fancy_pattern.specs.Texts.{Text};
-ghost use Rattle.fancy_pattern.specs.Spelling.{opens_named, has_name, ignores, byte_at, HasTokens, Spells, IsTreeOf, PatternFails, IsError};
+ghost use Rattle.fancy_pattern.specs.Spelling.{opens_named, has_name, ignores, byte_at, HasTokens, Spells, IsSpelled, IsTreeOf, PatternFails, IsError};
 ghost use Rattle.fancy_pattern.specs.declared.error.PatternError.TheVariants.{Parse, Memory};
 ghost use Rattle.fancy_pattern.specs.declared.options.ParseOptions.{ParseOptions};
 
 use crate::characters::byte_count;
 use crate::error::{Fault, PatternError};
+use crate::facts::Facts;
 use crate::failure::Failure;
 use crate::group_names::GroupNames;
 use crate::kept::{Kept, Placed};
@@ -22,7 +24,7 @@ use crate::lexer::Lexer;
 use crate::options::ParseOptions;
 use crate::reader::Reader;
 use crate::survey::Survey;
-use crate::tokens::{Opening, Target, Token};
+use crate::tokens::{Opening, Token};
 use fancy_expr::expr::{Expr, ExprTree};
 use std::alloc::{AllocError, Global};
 use std::collections::BTreeSet;
@@ -173,95 +175,20 @@ fn tree_of_tokens(alloc: Global, tokens: &[Placed<'_>], ignored: bool) -> Result
     Ok(described(alloc, expr, names, tokens, ignored)?)
 }
 
-fn is_group(opening: Opening<'_>) -> bool
-    ensures { result ≡ is_group (opening_of opening.entry) }
+/// What the nodes of a tree name; it is not walked where no token names a group.
+fn surveyed(alloc: Global, expr: &Expr, names_group: bool) -> Result<Survey, AllocError>
+    requires { names_group ≡ false → IsUnreferring (tree_of expr.now) }
+    ensures { IfOk result (IsSurveyOf (tree_of expr.now)) }
 {
-    match opening {
-        Opening::Group { .. } => true,
-        _ => false,
+    let mut survey = Survey {
+        references: Vec::new(alloc),
+        calls: false,
+    };
+    if !names_group {
+        return Ok(survey);
     }
-}
-
-fn opens_group(kept: &Kept<'_>) -> bool
-    ensures { result ≡ opens_group (kept_of kept.now) }
-{
-    match kept {
-        Kept::Group(_) => true,
-        Kept::Wide(wide) => token_opens_group(wide.token),
-        _ => false,
-    }
-}
-
-fn token_opens_group(token: Token<'_>) -> bool
-    ensures { result ≡ opens_group (token_of token.entry) }
-{
-    match token {
-        Token::Open(opening) => is_group(opening),
-        _ => false,
-    }
-}
-
-/// How many groups these tokens open.
-fn group_count(tokens: &[Placed<'_>]) -> usize
-    ensures { result ≡ count_by (λ p. opens_group p.token) (map placed_of tokens.now) }
-{
-    let mut count: usize = 0;
-    for placed in tokens {
-        if opens_group(&placed.kept) {
-            count += 1;
-        }
-    }
-    count
-}
-
-fn is_by_number(target: Target<'_>) -> bool
-    ensures { result ≡ by_number (target_of target.entry) }
-{
-    match target {
-        Target::Name(_) => false,
-        _ => true,
-    }
-}
-
-fn asks_number(opening: Opening<'_>) -> bool
-    ensures { result ≡ asks_number (opening_of opening.entry) }
-{
-    match opening {
-        Opening::If(reference) => is_by_number(reference.target),
-        _ => false,
-    }
-}
-
-fn names_number(kept: &Kept<'_>) -> bool
-    ensures { result ≡ names_number (kept_of kept.now) }
-{
-    match kept {
-        Kept::Numbered { .. } => true,
-        Kept::Wide(wide) => token_names_number(wide.token),
-        _ => false,
-    }
-}
-
-fn token_names_number(token: Token<'_>) -> bool
-    ensures { result ≡ names_number (token_of token.entry) }
-{
-    match token {
-        Token::Refer(reference) => is_by_number(reference.target),
-        Token::Open(opening) => asks_number(opening),
-        _ => false,
-    }
-}
-
-/// Whether one of these tokens names a group by its number.
-fn has_numbers(tokens: &[Placed<'_>]) -> bool
-    ensures { result ≡ list_any (λ p. names_number p.token) (map placed_of tokens.now) }
-{
-    for placed in tokens {
-        if names_number(&placed.kept) {
-            return true;
-        }
-    }
-    false
+    survey.note_all(expr)?;
+    Ok(survey)
 }
 
 /// The tree with what its nodes name.
@@ -272,26 +199,23 @@ fn described(
     tokens: &[Placed<'_>],
     ignored: bool,
 ) -> Result<ExprTree, AllocError>
-    requires { pairs_in names.pairs ≡ named_in (map placed_of tokens.now) }
+    requires names { pairs_in names.pairs ≡ named_in (map placed_of tokens.now) }
+    requires spelled { IsSpelled (map placed_of tokens.now) (tree_of expr) }
     ensures same { IfOk result (λ tree. tree.expr ≡ expr) }
     ensures describes { IfOk result (IsDescribed ignored (map placed_of tokens.now)) }
 {
-    let total_groups = group_count(tokens);
-    let mut survey = Survey {
-        references: Vec::new(alloc),
-        calls: false,
-    };
-    survey.note_all(&expr)?;
-    let backrefs = within(alloc, &survey.references, total_groups)?;
+    let facts = Facts::of(tokens);
+    let survey = surveyed(alloc, &expr, facts.names_group)?;
+    let backrefs = within(alloc, &survey.references, facts.groups)?;
     Ok(ExprTree {
         expr,
         backrefs,
-        out_of_range_backref: first_past(&survey.references, total_groups),
+        out_of_range_backref: first_past(&survey.references, facts.groups),
         named_groups: names.numbers,
-        numeric_capture_group_references: has_numbers(tokens),
+        numeric_capture_group_references: facts.by_number,
         numbered_groups_ignored: ignored,
         contains_subroutines: survey.calls,
-        total_groups,
+        total_groups: facts.groups,
     })
 }
 

@@ -10,6 +10,12 @@ use Rattle.fancy_pattern.proofs.Told.{whole_fails, whole_left}
 use Rattle.fancy_pattern.proofs.Spelled.{spelled_whole, tree_made}
 use Rattle.fancy_pattern.proofs.pattern.tree_of_tokens.Goals as goal
 
+pub described-requires-clause-spelled : goal.described-requires-clause-spelled
+described-requires-clause-spelled c =
+    let start : Reader = record { alloc = c.args.alloc; rest = c.args.tokens } in
+    spelled_whole (pairs_in c.in_ok-names.names.pairs) (map placed_of c.args.tokens.now) start c.read_alternatives.new.self
+    (tree_of c.in_ok-expr.expr) c.in_ok-names.ensures refl c.in_ok-expr.ensures.spells c.in_ok-read_end.ensures.done
+
 pub returns-clause-made : goal.returns-clause-made
 returns-clause-made c = λ options text lexed.
     let ts = map placed_of c.args.tokens.now in
