@@ -14,7 +14,7 @@ use std::collections::BTreeMap;
 pub(crate) fn text_of(alloc: Global, chars: &[char]) -> Result<String, AllocError>
     ensures { IfOk result (λ s. string_bytes s ≡ encode_utf8_all chars.now) }
 {
-    let mut text = String::new(alloc);
+    let mut text = String::with_capacity(alloc, chars.len())?;
     for c in chars {
         text.push(*c)?;
     }

@@ -46,7 +46,8 @@ pub(crate) fn literal(alloc: Global, c: char, casei: bool) -> Result<Expr, Alloc
     ensures made { IfOk result (λ e. tree_of e ≡ tree.Literal c casei) }
     ensures one_char { IfOk result OneCharEach }
 {
-    let mut val = String::with_capacity(alloc, c.len_utf8())?;
+    // as many bytes as a character may have
+    let mut val = String::with_capacity(alloc, 4)?;
     val.push(c)?;
     Ok(Expr::Literal { val, casei })
 }

@@ -590,6 +590,11 @@ impl<'r, 'a> Reader<'r, 'a> {
         let Some(kept) = self.next() else {
             return Err(self.misfit(ErrorKind::TargetNotRepeatable));
         };
+        if let Some((val, casei)) = as_literal(kept) {
+            let made = literal(self.alloc, val, casei)?;
+            self.skip();
+            return Ok(made);
+        }
         match node(self.alloc, names, kept, place)? {
             Some(found) => {
                 self.skip();
