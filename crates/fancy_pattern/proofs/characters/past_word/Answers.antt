@@ -1,5 +1,4 @@
-use Rattle.std.proofs.Common.{◌≡◌, ◌<◌, ◌+◌, length, drop, arith, option_map, None, sym, ◌∙◌, ap, length-drop, ℕ, Some}
-use Rattle.fancy_pattern.specs.Texts.{uncons, past_word}
+use Rattle.std.proofs.Common.{◌<◌, length, drop, arith, sym, ◌∙◌, length-drop}
 use Rattle.fancy_pattern.proofs.Words.{no_text_left}
 use Rattle.fancy_pattern.proofs.characters.past_word.Goals as goal
 

@@ -1,4 +1,4 @@
-use Rattle.std.proofs.Common.{map, reverse, ap, ◌∙◌}
+use Rattle.std.proofs.Common.{map, ap, ◌∙◌}
 use Rattle.fancy_meaning.specs.Tree.{Alt, trees}
 use Rattle.fancy_pattern.specs.Grammar.{named}
 use Rattle.fancy_pattern.proofs.MadeNodes.{tree-alt}

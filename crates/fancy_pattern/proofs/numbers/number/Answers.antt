@@ -1,10 +1,9 @@
-use Rattle.std.proofs.Common.{refl, get_or, drop, ◌+◌, ◌*◌, ◌^◌, ◌<◌, ◌≡◌, arith, ap, nat_lt, false, sym, ◌∙◌}
+use Rattle.std.proofs.Common.{refl, get_or, drop, ◌+◌, ◌*◌, arith, ap}
 use Rattle.std.proofs.lemmas.Bool.Decides.{nat_tests}
-use Rattle.std.proofs.lemmas.Bool.{cond-false}
 use Rattle.std.proofs.lemmas.Grind.{common_steps}
 use Rattle.std.proofs.lemmas.List.{drop_all}
 use Rattle.std.specs.Char.{digit_value}
-use Rattle.std.specs.Str.Parse.{digits_value, digits_value_after}
+use Rattle.std.specs.Str.Parse.{digits_value_after}
 use Rattle.fancy_pattern.specs.Numbers.{number_of}
 use Rattle.fancy_pattern.proofs.Numerals.{digits_grow, next_digit}
 use Rattle.fancy_pattern.proofs.numbers.number.Goals as goal
