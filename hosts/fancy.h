@@ -22,7 +22,7 @@
  * may be null (see the end of this file).
  *
  * Threads: a program is used by one call at a time, and may go from thread to thread; the host orders the calls, by a lock
- * or by a thread's start or join. Threads that search for one pattern at the same time compile a program each.
+ * or by a thread's start or join. Threads that search for one pattern at the same time have a program each, by fancy_clone.
  *
  * The library is crates/fancy_host/out/libfancy_host.a (`rt lib` in crates/fancy_host). It calls malloc, realloc and
  * free, by c/liblibc_c.a of the kit, and nothing else.
@@ -189,7 +189,15 @@ struct fancy_outcome fancy_compile_pattern(const char *pattern, size_t pattern_l
 struct fancy_outcome fancy_compile(const char *tree, size_t tree_length, const struct fancy_options *options,
                                    struct fancy_program *program);
 
-/* Frees what a program holds, which is nothing then. */
+/* Makes copy hold what program holds, for another thread: both share what was compiled, and each has memory of its own for
+ * its searches, so a copy costs little and nothing is compiled. What copy held is freed; it holds the same if the code is
+ * FANCY_OK, and nothing otherwise. Each of them is freed by fancy_free, in any order. count of the outcome is how many
+ * groups there are, with group 0.
+ *
+ * Errors: FANCY_NO_PROGRAM; FANCY_MEMORY. The program holds what it held, whatever the code is. */
+struct fancy_outcome fancy_clone(struct fancy_program *program, struct fancy_program *copy);
+
+/* Frees what a program holds, which is nothing then. What copies hold stays theirs. */
 void fancy_free(struct fancy_program *program);
 
 /* ---- groups */

@@ -248,6 +248,27 @@ static void write_texts(void)
     write_messages();
 }
 
+static void copy_programs(void)
+{
+    struct fancy_program copy = FANCY_NOTHING;
+    fancy_free(&program);
+    print_outcome("a copy of nothing", fancy_clone(&program, &copy));
+    compile_pattern("a pattern to copy", "(?<n>a)b?");
+    struct fancy_outcome outcome = fancy_clone(&program, &copy);
+    print_outcome("a copy", outcome);
+    printf("%zu groups, %zu of the copy, %zu of the pattern\n", outcome.count, fancy_group_count(&copy),
+           fancy_group_count(&program));
+    fancy_free(&program);
+    find("the pattern, freed", "ab");
+    print_outcome("its copy", fancy_find(&copy, "xab", 3, &options, spans, 2));
+    printf("%zu %zu\n", spans[0], spans[1]);
+    print_outcome("a copy of the copy", fancy_clone(&copy, &program));
+    fancy_free(&copy);
+    find("the copy of the copy", "ab");
+    print_outcome("a copy of nothing over it", fancy_clone(&copy, &program));
+    find("what it held, freed", "ab");
+}
+
 int main(void)
 {
     options = fancy_default_options();
@@ -304,5 +325,6 @@ int main(void)
     replace_matches();
     name_groups();
     write_texts();
+    copy_programs();
     return 0;
 }

@@ -3,7 +3,8 @@
  * rows [--stack BYTES]   on a thread with a stack of so many bytes
  * rows --refuse          refuses each request for memory of each row in turn: the row has to end by Memory, or by its
  *                        line where it can do without; and made again to give its line. Prints how many there were.
- * rows --list ..         any of these; the matches of a pattern are listed by fancy_captures_all, and not one by one. */
+ * rows --list ..         any of these; the matches of a pattern are listed by fancy_captures_all, and not one by one.
+ * rows --copy ..         any of these, before --list; each search is by a copy, after what it was copied from was freed. */
 #define _GNU_SOURCE
 #include "fancy.h"
 #include <pthread.h>
@@ -18,6 +19,7 @@ void *__real_realloc(void *old, size_t size);
 static size_t requests, refused; /* how many so far, and which one is refused; 0 for none */
 static bool is_counted;
 static bool is_listed; /* by fancy_captures_all */
+static bool is_copied; /* before it is searched */
 
 static bool is_refused(void)
 {
@@ -198,11 +200,24 @@ static void write_list(struct fancy_program *program, const struct row *row, cha
         write_failure(outcome, start);
 }
 
+/* What was compiled, by a copy if that is asked for. */
+static struct fancy_outcome to_search(struct fancy_program *program, struct fancy_outcome outcome)
+{
+    struct fancy_program copy = FANCY_NOTHING;
+    if (!is_copied || outcome.code != FANCY_OK)
+        return outcome;
+    outcome = fancy_clone(program, &copy);
+    fancy_free(program);
+    *program = copy;
+    return outcome;
+}
+
 static void answer_pattern(const struct row *row, char *line)
 {
     struct fancy_program program = FANCY_NOTHING;
     is_counted = true;
     struct fancy_outcome outcome = fancy_compile_pattern(row->source, row->source_length, &row->options, &program);
+    outcome = to_search(&program, outcome);
     is_counted = false;
     line[0] = 0;
     if (outcome.code == FANCY_OK && is_listed)
@@ -225,6 +240,7 @@ static void answer(const struct row *row, char *line)
     }
     is_counted = true;
     struct fancy_outcome outcome = fancy_compile(row->source, row->source_length, &row->options, &program);
+    outcome = to_search(&program, outcome);
     size_t groups = fancy_group_count(&program);
     if (outcome.code == FANCY_OK)
         outcome = fancy_find(&program, row->text, row->text_length, &row->options, spans, 200);
@@ -295,6 +311,9 @@ static int refuse_rows(void)
 
 int main(int argc, char **argv)
 {
+    is_copied = argc > 1 && strcmp(argv[1], "--copy") == 0;
+    argc -= is_copied;
+    argv += is_copied;
     is_listed = argc > 1 && strcmp(argv[1], "--list") == 0;
     argc -= is_listed;
     argv += is_listed;

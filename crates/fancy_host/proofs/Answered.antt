@@ -18,14 +18,20 @@ use Rattle.fancy_search.specs.declared.search.Compiled.{Compiled}
 use Rattle.fancy_search.specs.Searches.{Bounds, IsCompiledFrom, IsNestedOver, IsRefusedAs, Promises, input_of, program}
 use Rattle.fancy_host.specs.declared.options.FancyOptions.{FancyOptions}
 use Rattle.fancy_host.specs.declared.searches.Searcher.{Searcher}
+use Rattle.fancy_host.specs.declared.tree.CompiledTree.{CompiledTree}
 use Rattle.fancy_host.specs.declared.outcome.FancyOutcome.{FancyOutcome}
 use Rattle.fancy_host.specs.Codes.{no_program, unfit, wrong_size}
-use Rattle.fancy_host.specs.Hosted.{Answers, Compiles, FailsToCompile, FindsFirst, IsFlat, IsMadeFrom, IsNoSearch, IsNoText, IsPromised, IsSearch, Source, analysis, asked_of, bytes_of, coded, compilation, compiled, compiled_of, does_not_fit, fails, for_no_tree, found, groups, has_another_size, has_size, holds, is_no_text, not_utf8, running}
+use Rattle.fancy_host.specs.Hosted.{Answers, Compiles, FailsToCompile, FindsFirst, IsFlat, IsMadeFrom, IsNoSearch, IsNoText, IsPromised, IsSearch, Source, analysis, asked_of, bytes_of, coded, compilation, compiled, compiled_of, does_not_fit, fails, for_no_tree, found, groups, has_another_size, has_size, holds, is_no_text, not_utf8, running, tree_of}
 
 -- where nothing is said to be, there is nothing
 pub none_there : {X : Type 0} → (m : Option X) (b : Bool) → is_some m ≡ b → b ≡ false → m ≡ None
 none_there None b is not = refl
 none_there (Some x) b is not = absurd (true≢false (subst (λ c. true ≡ c) not is))
+
+-- where a searcher is held, a tree is
+pub has_tree : (held : Option Searcher) → is_some (tree_of held) ≡ is_some held
+has_tree None = refl
+has_tree (Some s) = refl
 
 module _ (c : Compiled) (text : List ℕ) (o : FancyOptions) (r : plain.RunOptions) (same : r ≡ running o text) where
   pub unfit_by : run_fits (record { program = prog_of (program c); text = text; options = r }) ≡ false →
@@ -68,20 +74,20 @@ module _ (bytes : List ℕ) (o : FancyOptions) (outcome : FancyOutcome) where
   pub no_text : IsTrue (has_size o) → (byte : ℕ) → ¬ IsUtf8 bytes → outcome ≡ not_utf8 byte → byte ≡ utf8_valid_len bytes → IsNoText bytes o outcome
   no_text size byte bad is at = subst (IsNoText bytes o) (sym (is ∙ ap not_utf8 at)) (is_no_text size bad)
 
-  pub nothing_held : (held : Option Searcher) → IsTrue (has_size o) → IsUtf8 bytes → held ≡ None → outcome ≡ coded no_program →
+  pub nothing_held : (held : Option CompiledTree) → IsTrue (has_size o) → IsUtf8 bytes → held ≡ None → outcome ≡ coded no_program →
       IsNoSearch bytes o held outcome
   nothing_held held size utf8 nothing is =
       subst (λ m. IsNoSearch bytes o m outcome) (sym nothing) (subst (IsNoSearch bytes o None) (sym is) (for_no_tree size utf8))
 
 module _ (source : Source) (o : FancyOptions) (size : IsTrue (has_size o)) (utf8 : IsUtf8 (bytes_of source)) (flat : IsFlat source o) where
-  pub compiles_so : {B : Type 0} (value : B → Searcher) (result : Result B FancyOutcome) →
+  pub compiles_so : {B : Type 0} (value : B → CompiledTree) (result : Result B FancyOutcome) →
       MatchResult result (λ b. IsMadeFrom source o (value b)) (λ outcome. FailsToCompile o source outcome) →
       MatchResult result (λ b. Compiles source o (Some (value b)) (compiled (groups (value b)))) (λ outcome. Compiles source o None outcome)
   compiles_so value (Ok b) h = holds size utf8 flat h
   compiles_so value (Err outcome) h = fails size utf8 flat h
 
-module _ (source : Source) (o : FancyOptions) (held : Option Searcher) (outcome : FancyOutcome) where
-  pub compiled_so : (s : Searcher) → held ≡ Some s → outcome ≡ compiled (groups s) → Compiles source o (Some s) (compiled (groups s)) →
+module _ (source : Source) (o : FancyOptions) (held : Option CompiledTree) (outcome : FancyOutcome) where
+  pub compiled_so : (s : CompiledTree) → held ≡ Some s → outcome ≡ compiled (groups s) → Compiles source o (Some s) (compiled (groups s)) →
       Compiles source o held outcome
   compiled_so s there is h = subst (λ m. Compiles source o m outcome) (sym there) (subst (Compiles source o (Some s)) (sym is) h)
 
@@ -89,14 +95,14 @@ module _ (source : Source) (o : FancyOptions) (held : Option Searcher) (outcome 
   failed_so nothing h = subst (λ m. Compiles source o m outcome) (sym nothing) h
 
 module _ (text : List ℕ) (o : FancyOptions) (outcome : FancyOutcome) (old : List ℕ) where
-  pub found_by : (read new : List ℕ) (held : Option Searcher) (s taken : Searcher) → read ≡ text → IsSearch text o held → held ≡ Some s → taken ≡ s →
+  pub found_by : (read new : List ℕ) (held : Option CompiledTree) (s taken : CompiledTree) → read ≡ text → IsSearch text o held → held ≡ Some s → taken ≡ s →
       Answers taken read o old new outcome → FindsFirst text o old held new outcome
   found_by read new held s taken same search there is h =
       subst (λ m. FindsFirst text o old m new outcome) (sym there)
       (found (subst (IsSearch text o) there search)
       (subst (λ t. Answers s t o old new outcome) same (subst (λ x. Answers x read o old new outcome) is h)))
 
-  pub unfit_answers : (s : Searcher) (r : plain.RunOptions) → r ≡ running o text →
+  pub unfit_answers : (s : CompiledTree) (r : plain.RunOptions) → r ≡ running o text →
       run_fits (record { program = prog_of (program (compiled_of s)); text = text; options = r }) ≡ false → outcome ≡ coded unfit →
       Answers s text o old old outcome
   unfit_answers s r same h is =

@@ -3,24 +3,27 @@ use base.Fraction.{full_share}
 use base.Shift.{Keyless}
 use mir.Raw.{raw}
 use denote.Memory.{lone}
-use denote.Param.Send.{IsSend, part_keyless, sendable}
+use denote.Param.Send.{IsSend, IsSync, part_keyless, sendable}
 use denote.RattleType.{RattleType}
 use denote.RawPtr.{Ptr, block_ptr, null_ptr, lies_at}
 use Rattle.std.specs.Prelude.{Option, None, Some}
 use Rattle.std.specs.Global.{Global}
 use Rattle.std.proofs.Crossing as std
 use Rattle.std.proofs.MapsCrossing as maps
-use Rattle.fancy_program.proofs.ThreadsLaws.{prog_sends}
+use Rattle.fancy_program.proofs.ThreadsLaws.{prog_sends, prog_syncs}
 use Rattle.fancy_vm.proofs.ThreadsLaws.{scratch_sends}
 use Rattle.fancy_host.specs.Owned.{owned}
 use Rattle.fancy_host.specs.contracts.searches.Searcher as Searcher
-use Rattle.fancy_host.specs.contracts.searches.CompiledTree as CompiledTree
+use Rattle.fancy_host.specs.contracts.tree.CompiledTree as CompiledTree
 
 tree_sends : IsSend CompiledTree.the_field.row
 tree_sends = search (prog_sends, std.crosses, maps.crosses, sendable) depth 60 fits 20000
 
+tree_syncs : IsSync CompiledTree.the_field.row
+tree_syncs = search (prog_syncs, std.crosses, maps.crosses, sendable) depth 60 fits 20000
+
 searcher_sends : IsSend Searcher.the_row
-searcher_sends = search (tree_sends, scratch_sends, std.crosses, sendable) depth 60 fits 20000
+searcher_sends = search (tree_sends, tree_syncs, scratch_sends, std.crosses, sendable) depth 60 fits 20000
 
 lies : (R : RattleType) → IsSend R → (p : Ptr) (x : R.Denot) → Keyless (lies_at R full_share p x)
 lies R s (block_ptr b o) x = part_keyless R s full_share x b o

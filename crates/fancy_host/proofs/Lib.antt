@@ -5,6 +5,7 @@ pub mod Listed
 pub mod HeldGroups
 pub mod NamedGroups
 pub mod Told
+pub mod Copied
 pub mod Values
 pub mod Widths
 pub mod RowsWritten

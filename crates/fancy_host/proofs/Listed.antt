@@ -2,13 +2,13 @@
 use Rattle.std.proofs.Common.{◌≡◌, ℕ, List, Option, Some, sym, subst}
 use Rattle.fancy_host.specs.declared.options.FancyOptions.{FancyOptions}
 use Rattle.fancy_host.specs.declared.outcome.FancyOutcome.{FancyOutcome}
-use Rattle.fancy_host.specs.declared.searches.Searcher.{Searcher}
+use Rattle.fancy_host.specs.declared.tree.CompiledTree.{CompiledTree}
 use Rattle.fancy_host.specs.declared.standing.FancyStanding.{FancyStanding}
 use Rattle.fancy_host.specs.Hosted.{IsSearch}
 use Rattle.fancy_host.specs.Lists.{FindsAll, Form, Lists, found}
 
 module _ (form : Form) (text : List ℕ) (o : FancyOptions) (from : FancyStanding) (old : List ℕ) (outcome : FancyOutcome) where
-  pub all_found_by : (read new : List ℕ) (to : FancyStanding) (held : Option Searcher) (s taken : Searcher) → read ≡ text → IsSearch text o held →
+  pub all_found_by : (read new : List ℕ) (to : FancyStanding) (held : Option CompiledTree) (s taken : CompiledTree) → read ≡ text → IsSearch text o held →
       held ≡ Some s → taken ≡ s → Lists form taken read o from old to new outcome → FindsAll form text o from old held to new outcome
   all_found_by read new to held s taken same search there is h =
       subst (λ m. FindsAll form text o from old m to new outcome) (sym there)

@@ -14,7 +14,7 @@ use Rattle.fancy_matches.specs.Listing.{ComesTo, Standing, stays}
 use Rattle.fancy_matches.specs.Regexes.{StepsBy}
 use Rattle.fancy_matches.proofs.Lists.{comes_left, comes_more}
 use Rattle.fancy_host.specs.declared.outcome.FancyOutcome.{FancyOutcome}
-use Rattle.fancy_host.specs.declared.searches.Searcher.{Searcher}
+use Rattle.fancy_host.specs.declared.tree.CompiledTree.{CompiledTree}
 use Rattle.fancy_host.specs.Codes.{no_match, ok}
 use Rattle.fancy_host.specs.Hosted.{coded, compiled_of, failure, over, over_from, with_count}
 use Rattle.fancy_host.specs.Lists.{ComesBy, Form, Stops, Writes, fails, has_ended, is_full, numbers_of, row_of, width_of, writes}
@@ -103,7 +103,7 @@ module _ (form : Form) (width : ℕ) (c : Compiled) (text : List ℕ) (o : RunOp
           let one = steps_so (Ok (Some x)) was i h in
           (one.numbers ∷ [], (ap (λ r. r ∷ []) (sym (tells one.numbers one.shows)), one.comes))
 
-      pub is_wide : (s : Searcher) → compiled_of s ≡ c → width ≡ width_of form s → HasSource c → length row ≡ width
+      pub is_wide : (s : CompiledTree) → compiled_of s ≡ c → width ≡ width_of form s → HasSource c → length row ≡ width
       is_wide s of wide source =
           ∥∥₁_elim source (Prim.hlevel props) (λ i.
           let one = steps_so (Ok (Some x)) was i.0 i.1 in

@@ -3,12 +3,12 @@ use Rattle.std.proofs.Common.{◌≡◌, ℕ, Bool, List, Option, Some, sym, sub
 use Rattle.std.specs.Prelude.{IsUtf8}
 use Rattle.fancy_host.specs.declared.options.FancyOptions.{FancyOptions}
 use Rattle.fancy_host.specs.declared.outcome.FancyOutcome.{FancyOutcome}
-use Rattle.fancy_host.specs.declared.searches.Searcher.{Searcher}
+use Rattle.fancy_host.specs.declared.tree.CompiledTree.{CompiledTree}
 use Rattle.fancy_host.specs.Hosted.{IsSearch}
 use Rattle.fancy_host.specs.Rewritten.{Replaces, ReplacesIn, found, writing}
 
 module _ (text : List ℕ) (o : FancyOptions) (limit : ℕ) (is_literal : Bool) (replacement old : List ℕ) (outcome : FancyOutcome) where
-  pub replaced_by : (read reading after : List ℕ) (held : Option Searcher) (s taken : Searcher) → read ≡ text → IsSearch text o held →
+  pub replaced_by : (read reading after : List ℕ) (held : Option CompiledTree) (s taken : CompiledTree) → read ≡ text → IsSearch text o held →
       reading ≡ replacement → IsUtf8 replacement → held ≡ Some s → taken ≡ s →
       Replaces taken read o limit (writing taken is_literal reading) old after outcome →
       ReplacesIn text o limit is_literal replacement old held after outcome

@@ -15,7 +15,7 @@ use Rattle.fancy_program.specs.Programs.{prog_of}
 use Rattle.fancy_search.specs.Searches.{IsCompiledFrom, program}
 use Rattle.fancy_matches.specs.Listing.{ComesTo, Standing, by_match, options_at, past_match}
 use Rattle.fancy_matches.proofs.Lists.{found_tells}
-use Rattle.fancy_host.specs.declared.searches.Searcher.{Searcher}
+use Rattle.fancy_host.specs.declared.tree.CompiledTree.{CompiledTree}
 use Rattle.fancy_host.specs.Hosted.{compiled_of}
 use Rattle.fancy_host.specs.Lists.{Form, all_groups, row_of, span_alone, width_of}
 
@@ -55,7 +55,7 @@ module _ (p : Plan) (text : List ℕ) (o : RunOptions) (is : IsText text) where
 
 -- ---- a row
 
-groups_are_few : (i : Input) (s : Searcher) → IsCompiledFrom i (compiled_of s) →
+groups_are_few : (i : Input) (s : CompiledTree) → IsCompiledFrom i (compiled_of s) →
     ((prog_of (program (compiled_of s))).total_groups ≡ group_count (plan i).analysis.tree) × (group_count (plan i).analysis.tree ≤ most_groups)
 unfolding layout
 groups_are_few i s from = (
@@ -64,7 +64,7 @@ groups_are_few i s from = (
       let few = (from.well_formed).not_too_many in omega (arith, same, few),
 )
 
-pub row_is_wide : (form : Form) (s : Searcher) (i : Input) → IsCompiledFrom i (compiled_of s) → (m : List ℕ) →
+pub row_is_wide : (form : Form) (s : CompiledTree) (i : Input) → IsCompiledFrom i (compiled_of s) → (m : List ℕ) →
     length m ≡ 2 * (group_count (plan i).analysis.tree + 1) → length (row_of form m) ≡ width_of form s
 row_is_wide span_alone s i from m wide = refl
 row_is_wide all_groups s i from m wide =
@@ -73,6 +73,6 @@ row_is_wide all_groups s i from m wide =
     let most = few.1 in omega (arith, wide, same, most)
 
 -- no row is empty
-pub width_is_some : (form : Form) (s : Searcher) (width : ℕ) → width ≡ width_of form s → 0 < width
+pub width_is_some : (form : Form) (s : CompiledTree) (width : ℕ) → width ≡ width_of form s → 0 < width
 width_is_some span_alone s width is = omega (arith, is)
 width_is_some all_groups s width is = omega (arith, is)

@@ -1,5 +1,6 @@
 -- What the calls of a host answer.
 use Rattle.std.specs.Prelude.{◌≡◌, ◌≤◌, ℕ, ◌+◌, ◌-◌, ◌/◌, ◌^◌, true, false, not, Bool, IsFalse, IsTrue, IsUtf8, List, [], ◌∷◌, ◌++◌, chars, length, take, drop, min, Option, None, Some, option_map, unwrap_or, Result, Ok, Err, if◌then◌else◌, ◌==◌}
+use Rattle.std.specs.Arc.{arc_value}
 use Rattle.std.specs.Option.{IsSome}
 use Rattle.std.specs.Str.Lossy.{utf8_valid_len}
 use Rattle.std.specs.declared.vec.Vec.{Vec}
@@ -38,7 +39,7 @@ use Rattle.fancy_search.specs.Searches.{Bounds, IsCompiledFrom, IsNestedOver, Is
 use Rattle.fancy_host.specs.declared.options.FancyOptions.{FancyOptions}
 use Rattle.fancy_host.specs.declared.outcome.FancyOutcome.{FancyOutcome}
 use Rattle.fancy_host.specs.declared.searches.Searcher.{Searcher}
-use Rattle.fancy_host.specs.declared.searches.CompiledTree.{CompiledTree}
+use Rattle.fancy_host.specs.declared.tree.CompiledTree.{CompiledTree}
 use Rattle.fancy_host.specs.Codes.{ok, no_match, no_program, no_text, unfit, memory, too_deep, wrong_size, code_of, code_of_kind}
 
 -- ---- options
@@ -185,22 +186,26 @@ written answer old = old
 -- ---- what a host holds
 
 -- what was compiled, and the names of its groups
-abbrev pub compiled_of : Searcher → Compiled
-compiled_of s = s.tree.compiled
+abbrev pub compiled_of : CompiledTree → Compiled
+compiled_of t = t.compiled
 
-abbrev pub names_of : Searcher → Names
-names_of s = analysis_names.names_of s.tree.names.entries
+abbrev pub names_of : CompiledTree → Names
+names_of t = analysis_names.names_of t.names.entries
 
 -- how many groups the tree has, with group 0
-abbrev pub groups : Searcher → ℕ
-groups s = min usize_max ((prog_of (program (compiled_of s))).total_groups + 1)
+abbrev pub groups : CompiledTree → ℕ
+groups t = min usize_max ((prog_of (program (compiled_of t))).total_groups + 1)
 
-abbrev pub group_count : Option Searcher → ℕ
+abbrev pub group_count : Option CompiledTree → ℕ
 group_count None = 0
-group_count (Some s) = groups s
+group_count (Some t) = groups t
+
+-- the tree, which several may share
+abbrev pub tree_in : Searcher → CompiledTree
+tree_in s = arc_value s.tree
 
 abbrev pub tree_of : Option Searcher → Option CompiledTree
-tree_of = option_map (λ (s : Searcher). s.tree)
+tree_of = option_map tree_in
 
 -- ---- compiling
 
@@ -223,16 +228,16 @@ abbrev pub asked_of : ExprTree → FancyOptions → Input
 asked_of t o = input_of t (analysis o) (compilation o)
 
 -- it was compiled from the tree, and has the names of its groups
-pub record IsMadeOf (tree : ExprTree) (o : FancyOptions) (s : Searcher) : Type 0 where
-  pub from : IsCompiledFrom (asked_of tree o) (compiled_of s)
+pub record IsMadeOf (tree : ExprTree) (o : FancyOptions) (t : CompiledTree) : Type 0 where
+  pub from : IsCompiledFrom (asked_of tree o) (compiled_of t)
   pub within : ¬ IsNestedOver (asked_of tree o) (Some o.max_nesting)
-  pub names : names_of s ≡ (views.parsed_of tree).named_groups
+  pub names : names_of t ≡ (views.parsed_of tree).named_groups
 
 -- it was compiled from the tree that is spelled
-pub record IsMadeFrom (source : Source) (o : FancyOptions) (s : Searcher) : Type 0 where
+pub record IsMadeFrom (source : Source) (o : FancyOptions) (t : CompiledTree) : Type 0 where
   pub tree : ExprTree
   pub read : IsRead source o tree
-  pub made : IsMadeOf tree o s
+  pub made : IsMadeOf tree o t
 
 -- no tree is spelled, the tree that is spelled is refused, or memory was
 pub data FailsToCompile (o : FancyOptions) : Source → FancyOutcome → Type 0 where
@@ -254,14 +259,20 @@ pub data IsNoText (bytes : List ℕ) (o : FancyOptions) : FancyOutcome → Type 
   is_no_text : IsTrue (has_size o) → ¬ IsUtf8 bytes → IsNoText bytes o (not_utf8 (utf8_valid_len bytes))
 
 -- what a program holds after something was to be compiled, and the outcome
-pub data Compiles (source : Source) (o : FancyOptions) : Option Searcher → FancyOutcome → Type 0 where
+pub data Compiles (source : Source) (o : FancyOptions) : Option CompiledTree → FancyOutcome → Type 0 where
   spells_no_text : {outcome : FancyOutcome} → IsNoText (bytes_of source) o outcome → Compiles source o None outcome
   nests_too_deep : IsTrue (has_size o) → IsUtf8 (bytes_of source) → ¬ IsFlat source o →
       Compiles source o None (coded too_deep)
   fails : {outcome : FancyOutcome} → IsTrue (has_size o) → IsUtf8 (bytes_of source) → IsFlat source o →
       FailsToCompile o source outcome → Compiles source o None outcome
-  holds : {s : Searcher} → IsTrue (has_size o) → IsUtf8 (bytes_of source) → IsFlat source o → IsMadeFrom source o s →
-      Compiles source o (Some s) (compiled (groups s))
+  holds : {t : CompiledTree} → IsTrue (has_size o) → IsUtf8 (bytes_of source) → IsFlat source o →
+      IsMadeFrom source o t → Compiles source o (Some t) (compiled (groups t))
+
+-- what a copy of a program holds, and the outcome: what the program holds, or nothing where memory is wanted
+pub data Clones : Option CompiledTree → Option CompiledTree → FancyOutcome → Type 0 where
+  holds_nothing : Clones None None (coded no_program)
+  lacks_memory : {t : CompiledTree} → Clones (Some t) None (coded memory)
+  holds_the_same : {t : CompiledTree} → Clones (Some t) (Some t) (compiled (groups t))
 
 -- ---- searches
 
@@ -271,31 +282,33 @@ IsPromised c text o answer =
     (i : Input) → IsCompiledFrom i c → Promises i text (running o text) answer × Bounds i text (running o text) answer
 
 -- the options fit the program and the text
-abbrev pub fits : Searcher → List ℕ → FancyOptions → Bool
-fits s text o = run_fits (record { program = prog_of (program (compiled_of s)); text = text; options = running o text })
+abbrev pub fits : CompiledTree → List ℕ → FancyOptions → Bool
+fits t text o = run_fits (record { program = prog_of (program (compiled_of t)); text = text; options = running o text })
 
 -- what a search writes, and its outcome: it is unfit exactly where the options do not fit the program and the text
-pub data Answers (s : Searcher) (text : List ℕ) (o : FancyOptions) (old : List ℕ) : List ℕ → FancyOutcome → Type 0 where
-  does_not_fit : IsFalse (fits s text o) → Answers s text o old old (coded unfit)
-  answered : IsTrue (fits s text o) → (answer : Result (Option (Vec ℕ Global)) Error) →
-      IsPromised (compiled_of s) text o answer →
-      Answers s text o old (written answer old) (outcome_of text answer)
+pub data Answers (t : CompiledTree) (text : List ℕ) (o : FancyOptions) (old : List ℕ) :
+    List ℕ → FancyOutcome → Type 0 where
+  does_not_fit : IsFalse (fits t text o) → Answers t text o old old (coded unfit)
+  answered : IsTrue (fits t text o) → (answer : Result (Option (Vec ℕ Global)) Error) →
+      IsPromised (compiled_of t) text o answer →
+      Answers t text o old (written answer old) (outcome_of text answer)
 
 -- No search is made: the options have another size, the bytes are no text, or the program holds no tree.
-pub data IsNoSearch (text : List ℕ) (o : FancyOptions) : Option Searcher → FancyOutcome → Type 0 where
-  in_no_text : {held : Option Searcher} {outcome : FancyOutcome} → IsNoText text o outcome → IsNoSearch text o held outcome
+pub data IsNoSearch (text : List ℕ) (o : FancyOptions) : Option CompiledTree → FancyOutcome → Type 0 where
+  in_no_text : {held : Option CompiledTree} {outcome : FancyOutcome} → IsNoText text o outcome →
+      IsNoSearch text o held outcome
   for_no_tree : IsTrue (has_size o) → IsUtf8 text → IsNoSearch text o None (coded no_program)
 
 -- a search is made for a tree that is held
-pub record IsSearch (text : List ℕ) (o : FancyOptions) (held : Option Searcher) : Type 0 where
+pub record IsSearch (text : List ℕ) (o : FancyOptions) (held : Option CompiledTree) : Type 0 where
   pub size : IsTrue (has_size o)
   pub utf8 : IsUtf8 text
-  pub searcher : IsSome held
+  pub tree : IsSome held
 
 -- what a search answers by a program that may hold no tree, in bytes that may be no text
 pub data FindsFirst (text : List ℕ) (o : FancyOptions) (old : List ℕ) :
-    Option Searcher → List ℕ → FancyOutcome → Type 0 where
-  unsearched : {held : Option Searcher} {outcome : FancyOutcome} → IsNoSearch text o held outcome →
+    Option CompiledTree → List ℕ → FancyOutcome → Type 0 where
+  unsearched : {held : Option CompiledTree} {outcome : FancyOutcome} → IsNoSearch text o held outcome →
       FindsFirst text o old held old outcome
-  found : {s : Searcher} {new : List ℕ} {outcome : FancyOutcome} → IsSearch text o (Some s) →
-      Answers s text o old new outcome → FindsFirst text o old (Some s) new outcome
+  found : {t : CompiledTree} {new : List ℕ} {outcome : FancyOutcome} → IsSearch text o (Some t) →
+      Answers t text o old new outcome → FindsFirst text o old (Some t) new outcome

@@ -14,7 +14,7 @@ use Rattle.fancy_matches.specs.Listing.{ComesTo, Standing, begun_at, left}
 use Rattle.fancy_matches.specs.Regexes.{FailsAt}
 use Rattle.fancy_host.specs.declared.options.FancyOptions.{FancyOptions}
 use Rattle.fancy_host.specs.declared.outcome.FancyOutcome.{FancyOutcome}
-use Rattle.fancy_host.specs.declared.searches.Searcher.{Searcher}
+use Rattle.fancy_host.specs.declared.tree.CompiledTree.{CompiledTree}
 use Rattle.fancy_host.specs.declared.standing.FancyStanding.{FancyStanding}
 use Rattle.fancy_host.specs.Codes.{ok, no_match, unfit}
 use Rattle.fancy_host.specs.Hosted.{IsNoSearch, IsSearch, coded, compiled_of, failure, groups, over, running, with_count}
@@ -38,9 +38,9 @@ row_of span_alone numbers = (first_pair numbers).0 ∷ (first_pair numbers).1 �
 row_of all_groups numbers = numbers
 
 -- how many numbers a row has
-abbrev pub width_of : Form → Searcher → ℕ
-width_of span_alone s = 2
-width_of all_groups s = min usize_max (2 * groups s)
+abbrev pub width_of : Form → CompiledTree → ℕ
+width_of span_alone t = 2
+width_of all_groups t = min usize_max (2 * groups t)
 
 -- the numbers of all rows, one row after the other
 abbrev pub numbers_of : List (List ℕ) → List ℕ
@@ -82,24 +82,24 @@ module _ (form : Form) (width : ℕ) (c : Compiled) (text : List ℕ) (o : RunOp
 -- ---- calls
 
 -- the options fit the program and the list
-abbrev pub list_fits : Searcher → List ℕ → FancyOptions → Bool
-list_fits s text o =
-    run_fits (record { program = prog_of (program (compiled_of s)); text = []; options = listing o text })
+abbrev pub list_fits : CompiledTree → List ℕ → FancyOptions → Bool
+list_fits t text o =
+    run_fits (record { program = prog_of (program (compiled_of t)); text = []; options = listing o text })
 
 -- what a program writes of a list, where the list then stands, and the outcome: it is unfit exactly where the options do
 -- not fit the program
-pub data Lists (form : Form) (s : Searcher) (text : List ℕ) (o : FancyOptions) (from : FancyStanding) (old : List ℕ) :
-    FancyStanding → List ℕ → FancyOutcome → Type 0 where
-  does_not_fit : IsFalse (list_fits s text o) → Lists form s text o from old from old (coded unfit)
-  listed : {to : FancyStanding} {new : List ℕ} {outcome : FancyOutcome} → IsTrue (list_fits s text o) →
-      Writes form (width_of form s) (compiled_of s) text (listing o text)
+pub data Lists (form : Form) (t : CompiledTree) (text : List ℕ) (o : FancyOptions) (from : FancyStanding)
+    (old : List ℕ) : FancyStanding → List ℕ → FancyOutcome → Type 0 where
+  does_not_fit : IsFalse (list_fits t text o) → Lists form t text o from old from old (coded unfit)
+  listed : {to : FancyStanding} {new : List ℕ} {outcome : FancyOutcome} → IsTrue (list_fits t text o) →
+      Writes form (width_of form t) (compiled_of t) text (listing o text)
       (standing_of from) old (standing_of to) new outcome →
-      Lists form s text o from old to new outcome
+      Lists form t text o from old to new outcome
 
 -- what is listed by a program that may hold no tree, in bytes that may be no text
 pub data FindsAll (form : Form) (text : List ℕ) (o : FancyOptions) (from : FancyStanding) (old : List ℕ) :
-    Option Searcher → FancyStanding → List ℕ → FancyOutcome → Type 0 where
-  unsearched : {held : Option Searcher} {outcome : FancyOutcome} → IsNoSearch text o held outcome →
+    Option CompiledTree → FancyStanding → List ℕ → FancyOutcome → Type 0 where
+  unsearched : {held : Option CompiledTree} {outcome : FancyOutcome} → IsNoSearch text o held outcome →
       FindsAll form text o from old held from old outcome
-  found : {s : Searcher} {to : FancyStanding} {new : List ℕ} {outcome : FancyOutcome} → IsSearch text o (Some s) →
-      Lists form s text o from old to new outcome → FindsAll form text o from old (Some s) to new outcome
+  found : {t : CompiledTree} {to : FancyStanding} {new : List ℕ} {outcome : FancyOutcome} → IsSearch text o (Some t) →
+      Lists form t text o from old to new outcome → FindsAll form text o from old (Some t) to new outcome

@@ -13,7 +13,7 @@ use Rattle.fancy_replace.specs.Reading.{expansion}
 use Rattle.fancy_replace.specs.Replacements.{FailsAfter, to_replace}
 use Rattle.fancy_host.specs.declared.options.FancyOptions.{FancyOptions}
 use Rattle.fancy_host.specs.declared.outcome.FancyOutcome.{FancyOutcome}
-use Rattle.fancy_host.specs.declared.searches.Searcher.{Searcher}
+use Rattle.fancy_host.specs.declared.tree.CompiledTree.{CompiledTree}
 use Rattle.fancy_host.specs.Codes.{no_room, ok, unfit}
 use Rattle.fancy_host.specs.Hosted.{IsNoSearch, IsSearch, coded, compiled_of, ended, failure, names_of, not_utf8, with_count}
 use Rattle.fancy_host.specs.Lists.{list_fits, listing}
@@ -24,9 +24,9 @@ most_of limit = if limit == 0 then usize_max else limit
 
 -- What is written in the place of a match, by the text and the numbers of its groups: the replacement as it stands, or
 -- what it says as a template.
-abbrev pub writing : Searcher → Bool → List ℕ → List ℕ → List ℕ → List ℕ
-writing s is_literal replacement =
-    if is_literal then (λ text numbers. replacement) else expansion (names_of s) replacement
+abbrev pub writing : CompiledTree → Bool → List ℕ → List ℕ → List ℕ → List ℕ
+writing t is_literal replacement =
+    if is_literal then (λ text numbers. replacement) else expansion (names_of t) replacement
 
 -- a tree that is compiled, a text, the options of all searches, how many matches are replaced, and what is written for
 -- each
@@ -46,23 +46,23 @@ pub data WritesWhole (new old : List ℕ) : List ℕ → FancyOutcome → Type 0
   has_no_room : length old ≤ length new → WritesWhole new old old (with_count (length new) (coded no_room))
 
 -- what a program writes of the new text, and the outcome: it is unfit exactly where the options do not fit the program
-pub data Replaces (s : Searcher) (text : List ℕ) (o : FancyOptions) (limit : ℕ) (write : List ℕ → List ℕ → List ℕ)
+pub data Replaces (t : CompiledTree) (text : List ℕ) (o : FancyOptions) (limit : ℕ) (write : List ℕ → List ℕ → List ℕ)
     (old : List ℕ) : List ℕ → FancyOutcome → Type 0 where
-  does_not_fit : IsFalse (list_fits s text o) → Replaces s text o limit write old old (coded unfit)
-  replaced : {after : List ℕ} {outcome : FancyOutcome} → IsTrue (list_fits s text o) → (new : List ℕ) →
-      IsRewritten (compiled_of s) text (listing o text) (as_limit limit) write new → WritesWhole new old after outcome →
-      Replaces s text o limit write old after outcome
-  fails : IsTrue (list_fits s text o) → (e : Error) →
-      FailsToRewrite (compiled_of s) text (listing o text) (as_limit limit) e →
-      Replaces s text o limit write old old (failure e)
+  does_not_fit : IsFalse (list_fits t text o) → Replaces t text o limit write old old (coded unfit)
+  replaced : {after : List ℕ} {outcome : FancyOutcome} → IsTrue (list_fits t text o) → (new : List ℕ) →
+      IsRewritten (compiled_of t) text (listing o text) (as_limit limit) write new → WritesWhole new old after outcome →
+      Replaces t text o limit write old after outcome
+  fails : IsTrue (list_fits t text o) → (e : Error) →
+      FailsToRewrite (compiled_of t) text (listing o text) (as_limit limit) e →
+      Replaces t text o limit write old old (failure e)
 
 -- what is replaced by a program that may hold no tree, in bytes that may be no text, by bytes that may be none
 pub data ReplacesIn (text : List ℕ) (o : FancyOptions) (limit : ℕ) (is_literal : Bool) (replacement old : List ℕ) :
-    Option Searcher → List ℕ → FancyOutcome → Type 0 where
-  unsearched : {held : Option Searcher} {outcome : FancyOutcome} → IsNoSearch text o held outcome →
+    Option CompiledTree → List ℕ → FancyOutcome → Type 0 where
+  unsearched : {held : Option CompiledTree} {outcome : FancyOutcome} → IsNoSearch text o held outcome →
       ReplacesIn text o limit is_literal replacement old held old outcome
-  by_no_text : {held : Option Searcher} → IsSearch text o held → ¬ IsUtf8 replacement →
+  by_no_text : {held : Option CompiledTree} → IsSearch text o held → ¬ IsUtf8 replacement →
       ReplacesIn text o limit is_literal replacement old held old (not_utf8 (utf8_valid_len replacement))
-  found : {s : Searcher} {new : List ℕ} {outcome : FancyOutcome} → IsSearch text o (Some s) → IsUtf8 replacement →
-      Replaces s text o limit (writing s is_literal replacement) old new outcome →
-      ReplacesIn text o limit is_literal replacement old (Some s) new outcome
+  found : {t : CompiledTree} {new : List ℕ} {outcome : FancyOutcome} → IsSearch text o (Some t) → IsUtf8 replacement →
+      Replaces t text o limit (writing t is_literal replacement) old new outcome →
+      ReplacesIn text o limit is_literal replacement old (Some t) new outcome

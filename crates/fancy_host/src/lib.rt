@@ -13,11 +13,12 @@ mod rewriting;
 mod rows;
 mod searches;
 mod standing;
+mod tree;
 mod writing;
 
 ghost use Rattle.std.specs.Prelude.{◌≡◌, None, codes, length};
 ghost use Rattle.fancy_host.specs.Codes.{name_of};
-ghost use Rattle.fancy_host.specs.Hosted.{Compiles, FindsFirst, default_options, ended, group_count, tree_of};
+ghost use Rattle.fancy_host.specs.Hosted.{Clones, Compiles, FindsFirst, default_options, ended, group_count, tree_of};
 ghost use Rattle.fancy_host.specs.Hosted as hosted;
 ghost use Rattle.fancy_host.specs.Lists.{FindsAll, all_groups, span_alone};
 ghost use Rattle.fancy_host.specs.Messages.{Explains, IsMessage, WritesText};
@@ -27,7 +28,7 @@ ghost use Rattle.fancy_host.specs.Whether.{FindsAny};
 
 use messages::{write_explanation, write_message};
 use options::FancyOptions;
-use outcome::{FancyOutcome, write_name};
+use outcome::{FancyOutcome, MEMORY, NO_PROGRAM, write_name};
 use program::FancyProgram;
 use reading::{compile_notation, compile_pattern, searched};
 use standing::FancyStanding;
@@ -67,7 +68,7 @@ pub extern "C" fn fancy_compile_pattern(
     program: &mut FancyProgram,
 ) -> FancyOutcome
     ensures { Compiles
-        (hosted.pattern pattern.now) options.now program.new.handle.searcher result }
+        (hosted.pattern pattern.now) options.now (tree_of program.new.handle.searcher) result }
 {
     program.take(alloc).free();
     match compile_pattern(alloc, pattern, options) {
@@ -87,12 +88,38 @@ pub extern "C" fn fancy_compile(
     program: &mut FancyProgram,
 ) -> FancyOutcome
     ensures { Compiles
-        (hosted.notation tree.now) options.now program.new.handle.searcher result }
+        (hosted.notation tree.now) options.now (tree_of program.new.handle.searcher) result }
 {
     program.take(alloc).free();
     match compile_notation(alloc, tree, options) {
         Ok(searcher) => program.hold(searcher),
         Err(outcome) => outcome,
+    }
+}
+
+/// Makes a program that holds what another holds, for a thread of its own: both share what was compiled, and each has
+/// memory of its own for its searches. What the copy held before is freed; it holds the same if the code is `FANCY_OK`,
+/// and nothing otherwise.
+#[unsafe(no_mangle)]
+pub extern "C" fn fancy_clone(
+    alloc: Global,
+    program: &mut FancyProgram,
+    copy: &mut FancyProgram,
+) -> FancyOutcome
+    ensures clones { Clones
+        (tree_of program.old.handle.searcher) (tree_of copy.new.handle.searcher) result }
+    ensures keeps { program.new.handle.searcher ≡ program.old.handle.searcher }
+{
+    copy.take(alloc).free();
+    if !program.is_set {
+        return FancyOutcome::coded(NO_PROGRAM);
+    }
+    let searcher = program.take(alloc).into_searcher();
+    let copied = searcher.try_clone(alloc);
+    *program = FancyProgram::of(searcher);
+    match copied {
+        Ok(copied) => copy.hold(copied),
+        Err(_) => FancyOutcome::coded(MEMORY),
     }
 }
 
@@ -104,7 +131,8 @@ pub extern "C" fn fancy_is_match(
     text: &[u8],
     options: &FancyOptions,
 ) -> FancyOutcome
-    ensures finds { FindsAny text.now options.now program.old.handle.searcher result }
+    ensures finds { FindsAny
+        text.now options.now (tree_of program.old.handle.searcher) result }
     ensures keeps { tree_of program.new.handle.searcher ≡ tree_of program.old.handle.searcher }
 {
     let text = match searched(text, options, program) {
@@ -131,7 +159,7 @@ pub extern "C" fn fancy_find(
         text.now
         options.now
         spans.old
-        program.old.handle.searcher
+        (tree_of program.old.handle.searcher)
         spans.new
         result }
     ensures keeps { tree_of program.new.handle.searcher ≡ tree_of program.old.handle.searcher }
@@ -166,7 +194,7 @@ pub extern "C" fn fancy_find_all(
         options.now
         standing.old
         spans.old
-        program.old.handle.searcher
+        (tree_of program.old.handle.searcher)
         standing.new
         spans.new
         result }
@@ -199,7 +227,7 @@ pub extern "C" fn fancy_captures_all(
         options.now
         standing.old
         spans.old
-        program.old.handle.searcher
+        (tree_of program.old.handle.searcher)
         standing.new
         spans.new
         result }
@@ -237,7 +265,7 @@ pub extern "C" fn fancy_replace(
         is_literal
         replacement.now
         room.old
-        program.old.handle.searcher
+        (tree_of program.old.handle.searcher)
         room.new
         result }
     ensures keeps { tree_of program.new.handle.searcher ≡ tree_of program.old.handle.searcher }
@@ -259,7 +287,7 @@ pub extern "C" fn fancy_replace(
 /// How many groups the tree that a program holds has, with group 0; none without a tree.
 #[unsafe(no_mangle)]
 pub extern "C" fn fancy_group_count(program: &FancyProgram) -> usize
-    ensures { result ≡ group_count program.now.handle.searcher }
+    ensures { result ≡ group_count (tree_of program.now.handle.searcher) }
 {
     program.groups
 }
@@ -272,15 +300,16 @@ pub extern "C" fn fancy_group_name(
     group: usize,
     name: &mut [u8],
 ) -> usize
-    ensures length { result ≡ length (group_name program.old.handle.searcher group) }
-    ensures name { name.new ≡ ended (group_name program.old.handle.searcher group) name.old }
+    ensures length { result ≡ length (group_name (tree_of program.old.handle.searcher) group) }
+    ensures name { name.new
+        ≡ ended (group_name (tree_of program.old.handle.searcher) group) name.old }
     ensures keeps { program.new.handle.searcher ≡ program.old.handle.searcher }
 {
     if !program.is_set {
         return write_text("".as_bytes(), name);
     }
     let searcher = program.take(alloc).into_searcher();
-    let length = write_text(searcher.group_name(group).as_bytes(), name);
+    let length = write_text(searcher.tree().group_name(group).as_bytes(), name);
     *program = FancyProgram::of(searcher);
     length
 }
@@ -295,7 +324,7 @@ pub extern "C" fn fancy_groups_named(
     groups: &mut [usize],
 ) -> usize
     ensures finds { FindsGroups
-        program.old.handle.searcher name.now groups.old result groups.new }
+        (tree_of program.old.handle.searcher) name.now groups.old result groups.new }
     ensures keeps { program.new.handle.searcher ≡ program.old.handle.searcher }
 {
     let Ok(name) = from_utf8(name) else {
@@ -305,7 +334,7 @@ pub extern "C" fn fancy_groups_named(
         return 0;
     }
     let searcher = program.take(alloc).into_searcher();
-    let numbers = searcher.groups_named(name);
+    let numbers = searcher.tree().groups_named(name);
     write_over(numbers, groups);
     let count = numbers.len();
     *program = FancyProgram::of(searcher);

@@ -3,7 +3,7 @@
 ghost use Rattle.std.specs.Prelude.{◌≡◌, None, Option, Some};
 ghost use Rattle.std.specs.Option.{IsSome, is_some};
 ghost use Rattle.fancy_host.specs.declared.searches.Searcher.{Searcher};
-ghost use Rattle.fancy_host.specs.Hosted.{compiled, group_count, groups};
+ghost use Rattle.fancy_host.specs.Hosted.{compiled, group_count, groups, tree_in, tree_of};
 ghost use Rattle.fancy_host.specs.Owned.{owned, searcher_coded};
 
 use crate::loose::Loose;
@@ -71,7 +71,7 @@ pub struct FancyProgram {
     pub groups: usize,
     pub handle: Handle,
     pub ghost agrees: { is_some handle.searcher ≡ is_set },
-    pub ghost counts: { group_count handle.searcher ≡ groups },
+    pub ghost counts: { group_count (tree_of handle.searcher) ≡ groups },
 }
 
 /// A value of this type may go to another thread.
@@ -94,7 +94,7 @@ impl FancyProgram {
     {
         FancyProgram {
             is_set: true,
-            groups: searcher.group_count(),
+            groups: searcher.tree().group_count(),
             handle: Handle::of_loose(Loose::of(searcher)),
         }
     }
@@ -118,7 +118,7 @@ impl FancyProgram {
     pub fn hold(&mut self, searcher: Box<Searcher>) -> FancyOutcome
         requires { self.old.handle.searcher ≡ None }
         ensures held { self.new.handle.searcher ≡ Some searcher.value }
-        ensures says { result ≡ compiled (groups searcher.value) }
+        ensures says { result ≡ compiled (groups (tree_in searcher.value)) }
     {
         *self = FancyProgram::of(searcher);
         FancyOutcome::compiled(self.groups)

@@ -1,7 +1,7 @@
 //! What a host gives: bytes that are a text, options of the right size, a program that holds something.
 
 ghost use Rattle.std.specs.Prelude.{◌≡◌, IsTrue, IsUtf8, MatchResult, None, Some};
-ghost use Rattle.fancy_host.specs.Hosted.{Compiles, IsNoSearch, IsNoText, IsSearch, compiled, groups, has_size};
+ghost use Rattle.fancy_host.specs.Hosted.{Compiles, IsNoSearch, IsNoText, IsSearch, compiled, groups, has_size, tree_in, tree_of};
 ghost use Rattle.fancy_host.specs.Hosted as hosted;
 
 use crate::options::FancyOptions;
@@ -37,8 +37,9 @@ pub fn searched<'t>(
     ensures { MatchResult
         result
         (λ text. (text.now ≡ bytes.now)
-        × IsSearch bytes.now options.now program.now.handle.searcher)
-        (λ outcome. IsNoSearch bytes.now options.now program.now.handle.searcher outcome) }
+        × IsSearch bytes.now options.now (tree_of program.now.handle.searcher))
+        (λ outcome. IsNoSearch
+        bytes.now options.now (tree_of program.now.handle.searcher) outcome) }
 {
     let text = text_of(bytes, options)?;
     if !program.is_set {
@@ -55,8 +56,9 @@ pub fn compile_notation(
 ) -> Result<Box<Searcher>, FancyOutcome>
     ensures { MatchResult
         result
-        (λ searcher. Compiles (hosted.notation tree.now) options.now (Some searcher.value)
-        (compiled (groups searcher.value)))
+        (λ searcher. Compiles
+        (hosted.notation tree.now) options.now (Some (tree_in searcher.value))
+        (compiled (groups (tree_in searcher.value))))
         (λ outcome. Compiles (hosted.notation tree.now) options.now None outcome) }
 {
     let text = text_of(tree, options)?;
@@ -74,8 +76,9 @@ pub fn compile_pattern(
 ) -> Result<Box<Searcher>, FancyOutcome>
     ensures { MatchResult
         result
-        (λ searcher. Compiles (hosted.pattern pattern.now) options.now (Some searcher.value)
-        (compiled (groups searcher.value)))
+        (λ searcher. Compiles
+        (hosted.pattern pattern.now) options.now (Some (tree_in searcher.value))
+        (compiled (groups (tree_in searcher.value))))
         (λ outcome. Compiles (hosted.pattern pattern.now) options.now None outcome) }
 {
     let text = text_of(pattern, options)?;

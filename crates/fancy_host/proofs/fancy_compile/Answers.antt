@@ -1,11 +1,15 @@
-use Rattle.fancy_host.specs.Hosted.{notation}
+use Rattle.std.proofs.Common.{ap}
+use Rattle.fancy_host.specs.Hosted.{notation, tree_in, tree_of}
 use Rattle.fancy_host.proofs.Answered.{compiled_so, failed_so}
 use Rattle.fancy_host.proofs.fancy_compile.Goals as goal
 
 pub returns-in-Ok : goal.returns-in-Ok
 returns-in-Ok c =
-    compiled_so (notation c.args.tree.now) c.args.options.now c.hold.new.self.handle.searcher c.hold.result c.in-Ok.searcher.value c.hold.ensures.held
+    compiled_so (notation c.args.tree.now) c.args.options.now (tree_of c.hold.new.self.handle.searcher) c.hold.result (tree_in c.in-Ok.searcher.value)
+    (ap tree_of c.hold.ensures.held)
     c.hold.ensures.says c.in-Ok.ensures
 
 pub returns-in-Err : goal.returns-in-Err
-returns-in-Err c = failed_so (notation c.args.tree.now) c.args.options.now c.take.new.self.handle.searcher c.in-Err.outcome c.take.ensures.nothing c.in-Err.ensures
+returns-in-Err c =
+    failed_so (notation c.args.tree.now) c.args.options.now (tree_of c.take.new.self.handle.searcher) c.in-Err.outcome
+    (ap tree_of c.take.ensures.nothing) c.in-Err.ensures

@@ -1,5 +1,6 @@
-use Rattle.std.proofs.Common.{◌∙◌, sym}
+use Rattle.std.proofs.Common.{◌∙◌, sym, ap}
 use Rattle.fancy_host.specs.Lists.{span_alone, unsearched}
+use Rattle.fancy_host.specs.Hosted.{tree_in, tree_of}
 use Rattle.fancy_host.proofs.Listed.{all_found_by}
 use Rattle.fancy_host.proofs.fancy_find_all.Goals as goal
 
@@ -9,6 +10,6 @@ returns-in-Err-clause-finds c = unsearched c.in-Err.ensures
 pub returns-clause-finds : goal.returns-clause-finds
 returns-clause-finds c =
     all_found_by span_alone c.args.text.now c.args.options.now c.args.standing.now c.args.spans.now c.find_all-outcome.result c.in-Ok.text.now
-    c.find_all-outcome.new.spans c.find_all-outcome.new.standing c.args.program.now.handle.searcher c.into_searcher-searcher.result.value
-    c.deref_mut.result.now c.in-Ok.ensures.0 c.in-Ok.ensures.1
-    (sym c.take.ensures.held ∙ c.into_searcher-searcher.ensures) c.deref_mut.ensures.value c.find_all-outcome.ensures.lists
+    c.find_all-outcome.new.spans c.find_all-outcome.new.standing (tree_of c.args.program.now.handle.searcher) (tree_in c.into_searcher-searcher.result.value)
+    (tree_in c.deref_mut.result.now) c.in-Ok.ensures.0 c.in-Ok.ensures.1
+    (ap tree_of (sym c.take.ensures.held ∙ c.into_searcher-searcher.ensures)) (ap tree_in c.deref_mut.ensures.value) c.find_all-outcome.ensures.lists

@@ -1,5 +1,6 @@
-use Rattle.std.proofs.Common.{◌∙◌, sym}
+use Rattle.std.proofs.Common.{◌∙◌, sym, ap}
 use Rattle.fancy_host.specs.Whether.{unsearched}
+use Rattle.fancy_host.specs.Hosted.{tree_in, tree_of}
 use Rattle.fancy_host.proofs.Told.{any_found_by}
 use Rattle.fancy_host.proofs.fancy_is_match.Goals as goal
 
@@ -9,5 +10,6 @@ returns-in-Err-clause-finds c = unsearched c.in-Err.ensures
 pub returns-clause-finds : goal.returns-clause-finds
 returns-clause-finds c =
     any_found_by c.args.text.now c.args.options.now c.is_match-outcome.result c.in-Ok.text.now
-    c.args.program.now.handle.searcher c.into_searcher-searcher.result.value c.deref_mut.result.now c.in-Ok.ensures.0 c.in-Ok.ensures.1
-    (sym c.take.ensures.held ∙ c.into_searcher-searcher.ensures) c.deref_mut.ensures.value c.is_match-outcome.ensures.tells
+    (tree_of c.args.program.now.handle.searcher) (tree_in c.into_searcher-searcher.result.value) (tree_in c.deref_mut.result.now)
+    c.in-Ok.ensures.0 c.in-Ok.ensures.1
+    (ap tree_of (sym c.take.ensures.held ∙ c.into_searcher-searcher.ensures)) (ap tree_in c.deref_mut.ensures.value) c.is_match-outcome.ensures.tells

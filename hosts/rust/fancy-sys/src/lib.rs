@@ -137,6 +137,8 @@ extern "C" {
         program: *mut FancyProgram,
     ) -> FancyOutcome;
 
+    pub fn fancy_clone(program: *mut FancyProgram, copy: *mut FancyProgram) -> FancyOutcome;
+
     pub fn fancy_free(program: *mut FancyProgram);
 
     pub fn fancy_group_count(program: *const FancyProgram) -> usize;

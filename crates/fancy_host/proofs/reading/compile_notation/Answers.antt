@@ -1,7 +1,7 @@
 use Rattle.std.proofs.Common.{◌<◌, ◌≤◌, MatchResult, None, sym, subst, arith}
 use Rattle.std.proofs.lemmas.Result.{err_from_is_err_and}
 use Rattle.fancy_notation.specs.Depth.{depth}
-use Rattle.fancy_host.specs.Hosted.{Compiles, FailsToCompile, IsMadeFrom, nests_too_deep, notation, spells_no_text}
+use Rattle.fancy_host.specs.Hosted.{Compiles, FailsToCompile, IsMadeFrom, nests_too_deep, notation, spells_no_text, tree_in}
 use Rattle.fancy_host.proofs.Answered.{compiles_so}
 use Rattle.fancy_host.proofs.reading.compile_notation.Goals as goal
 
@@ -24,5 +24,6 @@ returns c =
     let same = c.in_ok-text.ensures.0 in
     let result = c.of_notation.result in
     compiles_so (notation c.args.tree.now) o c.in_ok-text.ensures.1 c.in_ok-text.ensures.2 (subst (λ t. depth t ≤ c.args.options.now.max_depth) same
-    (subst (λ n. n ≤ c.args.options.now.max_depth) c.depth.ensures.value c.if-depth-options.false)) (λ b. b.value) result
-    (subst (λ t. MatchResult result (λ b. IsMadeFrom (notation t) o b.value) (λ outcome. FailsToCompile o (notation t) outcome)) same c.of_notation.ensures)
+    (subst (λ n. n ≤ c.args.options.now.max_depth) c.depth.ensures.value c.if-depth-options.false)) (λ b. tree_in b.value) result
+    (subst (λ t. MatchResult result (λ b. IsMadeFrom (notation t) o (tree_in b.value)) (λ outcome. FailsToCompile o (notation t) outcome)) same
+    c.of_notation.ensures)

@@ -1,6 +1,6 @@
 use Rattle.std.proofs.Common.{MatchResult, subst}
 use Rattle.std.proofs.lemmas.Result.{err_from_is_err_and}
-use Rattle.fancy_host.specs.Hosted.{FailsToCompile, IsMadeFrom, pattern, spells_no_text}
+use Rattle.fancy_host.specs.Hosted.{FailsToCompile, IsMadeFrom, pattern, spells_no_text, tree_in}
 use Rattle.fancy_host.proofs.Answered.{compiles_so}
 use Rattle.fancy_host.proofs.reading.compile_pattern.Goals as goal
 
@@ -14,5 +14,6 @@ returns c =
     let o = c.args.options.now in
     let same = c.in_ok-text.ensures.0 in
     let result = c.of_pattern.result in
-    compiles_so (pattern c.args.pattern.now) o c.in_ok-text.ensures.1 c.in_ok-text.ensures.2 tt (λ b. b.value) result
-    (subst (λ t. MatchResult result (λ b. IsMadeFrom (pattern t) o b.value) (λ outcome. FailsToCompile o (pattern t) outcome)) same c.of_pattern.ensures)
+    compiles_so (pattern c.args.pattern.now) o c.in_ok-text.ensures.1 c.in_ok-text.ensures.2 tt (λ b. tree_in b.value) result
+    (subst (λ t. MatchResult result (λ b. IsMadeFrom (pattern t) o (tree_in b.value)) (λ outcome. FailsToCompile o (pattern t) outcome)) same
+    c.of_pattern.ensures)

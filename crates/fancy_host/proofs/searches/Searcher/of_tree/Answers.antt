@@ -2,7 +2,7 @@ use Rattle.std.proofs.Common.{sym, ap, ◌∙◌, subst}
 use Rattle.std.proofs.lemmas.Result.{err_from_is_err_and}
 use Rattle.fancy_search.specs.Requests as asked
 use Rattle.fancy_search.specs.Searches.{IsCompiledFrom}
-use Rattle.fancy_host.specs.Hosted.{asked_of, compiled_of, names_of}
+use Rattle.fancy_host.specs.Hosted.{asked_of, compiled_of, names_of, tree_in}
 use Rattle.fancy_host.proofs.Answered.{compiled_by, refused_by, within_by}
 use Rattle.fancy_host.proofs.searches.Searcher.of_tree.Goals as goal
 
@@ -20,9 +20,9 @@ returns c =
     let as_compiled = c.compilation.ensures ∙ ap asked.compilation c.request-request.ensures in
     let from = compiled_by c.args.tree c.args.options.now c.analysis.result c.compilation.result as_analysed as_compiled c.in_ok-compiled.compiled
     c.in_ok-compiled.ensures.made in
-    let kept = ap compiled_of c.in_ok-new.ensures.ok in
+    let kept = ap tree_in c.in_ok-new-2.ensures.ok ∙ c.in_ok-new.ensures.ok in
     record {
-      from = subst (λ x. IsCompiledFrom (asked_of c.args.tree c.args.options.now) x) (sym kept) from;
-      names = ap names_of c.in_ok-new.ensures.ok;
+      from = subst (λ x. IsCompiledFrom (asked_of c.args.tree c.args.options.now) x) (sym (ap compiled_of kept)) from;
+      names = ap names_of kept;
       within = within_by c.args.tree c.args.options.now c.analysis.result c.compilation.result as_analysed as_compiled c.in_ok-compiled.ensures.within;
     }

@@ -1,47 +1,9 @@
-use Rattle.std.proofs.Common.{◌≡◌, false, true, [], string_bytes, sym, ◌∙◌, subst}
-use Rattle.fancy_meaning.specs.Fits.{run_fits}
-use Rattle.fancy_program.specs.Programs.{prog_of}
-use Rattle.fancy_search.specs.Searches.{program}
-use Rattle.fancy_replace.specs.Pieces.{as_limit}
-use Rattle.fancy_host.specs.Hosted.{compiled_of}
-use Rattle.fancy_host.specs.Rewritten.{FailsToRewrite, IsRewritten, Replaces, WritesWhole, does_not_fit, fails, replaced, writing}
+use Rattle.std.proofs.Common.{subst}
+use Rattle.fancy_host.specs.Rewritten.{Replaces, writing}
 use Rattle.fancy_host.proofs.searches.Searcher.replace.Goals as goal
 
-pub returns-then-not-fits-clause-replaces : goal.returns-then-not-fits-clause-replaces
-returns-then-not-fits-clause-replaces c =
-    let s = c.args.self.now in
-    let text = c.args.text.now in
-    let o = c.args.options.now in
-    let old = c.args.room.now in
-    let no = sym c.fits.ensures ∙ c.if-not-fits.true in
-    subst (λ x. Replaces s text o c.args.limit (writing s c.args.is_literal c.args.replacement.now) old old x) (sym c.unfit.ensures)
-    (does_not_fit
-    (subst (λ r. run_fits (record { program = prog_of (program (compiled_of s)); text = []; options = r }) ≡ false) c.listing-listing.ensures no))
-
-pub returns-in-Ok-clause-replaces : goal.returns-in-Ok-clause-replaces
-returns-in-Ok-clause-replaces c =
-    let s = c.args.self.now in
-    let text = c.args.text.now in
-    let o = c.args.options.now in
-    let old = c.args.room.now in
-    let write = writing s c.args.is_literal c.args.replacement.now in
-    let new = string_bytes c.in-Ok.new in
-    let yes = sym c.fits.ensures ∙ c.if-not-fits.false in
-    replaced
-    (subst (λ r. run_fits (record { program = prog_of (program (compiled_of s)); text = []; options = r }) ≡ true) c.listing-listing.ensures yes) new
-    (subst (λ r. IsRewritten (compiled_of s) text r (as_limit c.args.limit) write new) c.listing-listing.ensures c.in-Ok.ensures.replaced)
-    (subst (λ t. WritesWhole t old c.write_whole.new.room c.write_whole.result) c.as_str.ensures.value c.write_whole.ensures)
-
-pub returns-in-Err-clause-replaces : goal.returns-in-Err-clause-replaces
-returns-in-Err-clause-replaces c =
-    let s = c.args.self.now in
-    let text = c.args.text.now in
-    let o = c.args.options.now in
-    let old = c.args.room.now in
-    let write = writing s c.args.is_literal c.args.replacement.now in
-    let yes = sym c.fits.ensures ∙ c.if-not-fits.false in
-    subst (λ x. Replaces s text o c.args.limit write old old x) (sym c.of_error.ensures)
-    (fails
-    (subst (λ r. run_fits (record { program = prog_of (program (compiled_of s)); text = []; options = r }) ≡ true) c.listing-listing.ensures yes)
-    c.in-Err.error
-    (subst (λ r. FailsToRewrite (compiled_of s) text r (as_limit c.args.limit) c.in-Err.error) c.listing-listing.ensures c.in-Err.ensures.replaced))
+pub returns-clause-replaces : goal.returns-clause-replaces
+returns-clause-replaces c =
+    let a = c.args in
+    subst (λ t. Replaces t a.text.now a.options.now a.limit (writing t a.is_literal a.replacement.now) a.room.now c.replace.new.room c.replace.result)
+    c.deref.ensures c.replace.ensures

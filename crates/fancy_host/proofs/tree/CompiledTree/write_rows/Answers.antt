@@ -1,25 +1,23 @@
-use Rattle.std.proofs.Common.{◌<◌, length, Ok, refl, ap, ◌∙◌, subst, arith}
-use Rattle.fancy_host.specs.declared.searches.CompiledTree.{CompiledTree}
+use Rattle.std.proofs.Common.{◌<◌, length, Ok, refl, ap, ◌∙◌, arith}
 use Rattle.fancy_meaning.specs.Numbers.{usize_max}
-use Rattle.fancy_meaning.specs.Premises.{Input, IsText}
+use Rattle.fancy_meaning.specs.Premises.{IsText}
 use Rattle.fancy_vm.specs.Tasks.{options_of as run_options_of}
-use Rattle.fancy_search.specs.Searches.{IsCompiledFrom}
-use Rattle.fancy_matches.specs.Regexes.{StepsBy, standing_of}
+use Rattle.fancy_matches.specs.Regexes.{standing_of}
 use Rattle.fancy_host.specs.Codes.{no_match, ok}
 use Rattle.fancy_host.specs.Hosted.{coded, compiled_of, failure, with_count}
 use Rattle.fancy_host.proofs.RowsWritten.{is_wide, none_written, one_written, stops_ended, stops_failed, stops_full, writes_so}
 use Rattle.fancy_host.proofs.Widths.{width_is_some}
-use Rattle.fancy_host.proofs.searches.Searcher.write_rows.Goals as goal
+use Rattle.fancy_host.proofs.tree.CompiledTree.write_rows.Goals as goal
 
 pub rows-init : goal.rows-init
 rows-init g c = (
   none_written g.F.Row.form c.args.width (compiled_of c.args.self.now) c.args.text.now (run_options_of c.args.options.now)
       (standing_of c.args.standing.now) c.args.room.now,
-  (refl, refl),
+  refl,
 )
 
-pub returns-in-Ok-None-clause-writes : goal.returns-in-Ok-None-clause-writes
-returns-in-Ok-None-clause-writes g c =
+pub returns-in-Ok-None : goal.returns-in-Ok-None
+returns-in-Ok-None g c =
     let form = g.F.Row.form in
     let width = c.args.width in
     let compiled = compiled_of c.args.self.now in
@@ -35,15 +33,14 @@ returns-in-Ok-None-clause-writes g c =
     let is : IsText text = record { utf8 = c.utf8.text; fits = small } in
     let show = g.F.FromSearch.show in
     let seen = g.F.FromSearch.seen text in
-    let steps = subst (λ (x : CompiledTree). (i : Input) → IsCompiledFrom i x.compiled → StepsBy i text o show seen at c.next_found.result to)
-    l.invariant.1.0 c.next_found.ensures.steps in
+    let steps = c.next_found.ensures.steps in
     writes_so form width compiled text o from old l.count l.at at to l.room w (coded no_match) c.with_count.result
     (stops_ended form width compiled text o is from old l.count l.at at to l.room w show seen c.next_found.result steps
     (c.in-Ok-None.is ∙ ap Ok c.in-Ok-None.field-0-is))
     (c.with_count.ensures ∙ ap (with_count l.count) c.coded.ensures)
 
-pub returns-in-Err-clause-writes : goal.returns-in-Err-clause-writes
-returns-in-Err-clause-writes g c =
+pub returns-in-Err : goal.returns-in-Err
+returns-in-Err g c =
     let form = g.F.Row.form in
     let width = c.args.width in
     let compiled = compiled_of c.args.self.now in
@@ -59,8 +56,7 @@ returns-in-Err-clause-writes g c =
     let is : IsText text = record { utf8 = c.utf8.text; fits = small } in
     let show = g.F.FromSearch.show in
     let seen = g.F.FromSearch.seen text in
-    let steps = subst (λ (x : CompiledTree). (i : Input) → IsCompiledFrom i x.compiled → StepsBy i text o show seen at c.next_found.result to)
-    l.invariant.1.0 c.next_found.ensures.steps in
+    let steps = c.next_found.ensures.steps in
     writes_so form width compiled text o from old l.count l.at at to l.room w (failure c.in-Err.error) c.with_count-in-Err.result
     (stops_failed form width compiled text o is from old l.count l.at at to l.room w show seen c.next_found.result steps c.in-Err.error c.in-Err.is)
     (c.with_count-in-Err.ensures ∙ ap (with_count l.count) c.of_error.ensures)
@@ -83,23 +79,22 @@ rows-preserved g c =
     let is : IsText text = record { utf8 = c.utf8.text; fits = small } in
     let show = g.F.FromSearch.show in
     let seen = g.F.FromSearch.seen text in
-    let steps = subst (λ (x : CompiledTree). (i : Input) → IsCompiledFrom i x.compiled → StepsBy i text o show seen at c.next_found.result to)
-    l.invariant.1.0 c.next_found.ensures.steps in
+    let steps = c.next_found.ensures.steps in
     let found = c.in-Ok-Some.found in
     let was = c.in-Ok-Some.is ∙ ap Ok c.in-Ok-Some.field-0-is in
     let row = g.F.Row.row found in
     let tells = c.write.ensures.tells text in
     let wide = width_is_some form s width c.requires.width in
     let long = is_wide form width compiled text o is from old l.count l.at at to l.room w show seen c.next_found.result steps found was row tells
-    s refl c.requires.width s.tree.source in
-    let same = l.invariant.1.1 in (
+    s refl c.requires.width s.source in
+    let same = l.invariant.1 in (
       one_written form width compiled text o is from old l.count l.at at to l.room w show seen c.next_found.result steps found was row tells
           long wide (omega (arith, same)) c.write.new.room c.write.ensures.written,
-      (l.invariant.1.0, omega (arith, same)),
+      omega (arith, same),
     )
 
-pub returns-clause-writes : goal.returns-clause-writes
-returns-clause-writes g c =
+pub returns : goal.returns
+returns g c =
     let form = g.F.Row.form in
     let width = c.args.width in
     let compiled = compiled_of c.args.self.now in
@@ -110,7 +105,7 @@ returns-clause-writes g c =
     let l = c.rows in
     let at = standing_of l.standing in
     let w = l.invariant.0 in
-    let same = l.invariant.1.1 in
+    let same = l.invariant.1 in
     writes_so form width compiled text o from old l.count l.at at at l.room w (coded ok) c.with_count-2.result
     (stops_full form width compiled text o from old l.count l.at at at l.room w (omega (arith, same)))
     (c.with_count-2.ensures ∙ ap (with_count l.count) c.coded-2.ensures)

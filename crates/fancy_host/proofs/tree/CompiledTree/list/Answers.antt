@@ -5,10 +5,10 @@ use Rattle.fancy_search.specs.Searches.{program}
 use Rattle.fancy_matches.specs.Regexes as matches
 use Rattle.fancy_host.specs.Hosted.{compiled_of}
 use Rattle.fancy_host.specs.Lists.{Lists, Writes, does_not_fit, listed, listing, standing_of}
-use Rattle.fancy_host.proofs.searches.Searcher.list.Goals as goal
+use Rattle.fancy_host.proofs.tree.CompiledTree.list.Goals as goal
 
-pub returns-then-not-fits-clause-lists : goal.returns-then-not-fits-clause-lists
-returns-then-not-fits-clause-lists g c =
+pub returns-then-not-fits : goal.returns-then-not-fits
+returns-then-not-fits g c =
     let form = g.F.Row.form in
     let s = c.args.self.now in
     let text = c.args.text.now in
@@ -23,8 +23,8 @@ returns-then-not-fits-clause-lists g c =
 pub write_rows-outcome-requires : goal.write_rows-outcome-requires
 write_rows-outcome-requires g c k = ((refl, tt), (sym c.fits.ensures ∙ c.if-not-fits.false, c.requires))
 
-pub returns-clause-lists : goal.returns-clause-lists
-returns-clause-lists g c =
+pub returns : goal.returns
+returns g c =
     let form = g.F.Row.form in
     let s = c.args.self.now in
     let text = c.args.text.now in
@@ -41,4 +41,4 @@ returns-clause-lists g c =
     (subst (λ t. Writes form width (compiled_of s) text (listing o text) (standing_of c.args.standing.now) old t new outcome) (sym c.of.ensures)
     (subst (λ from. Writes form width (compiled_of s) text (listing o text) from old to new outcome) c.standing-list.ensures
     (subst (λ r. Writes form width (compiled_of s) text r (matches.standing_of c.standing-list.result) old to new outcome) c.listing-listing.ensures
-    c.write_rows-outcome.ensures.writes))))
+    c.write_rows-outcome.ensures))))

@@ -3,13 +3,13 @@ use Rattle.fancy_vm.specs.Tasks.{options_of as run_options_of}
 use Rattle.fancy_matches.specs.Regexes.{standing_of}
 use Rattle.fancy_host.specs.Hosted.{compiled_of}
 use Rattle.fancy_host.proofs.RowsWritten.{Written}
-use Rattle.fancy_host.proofs.searches.Searcher.write_rows.Given as goal
+use Rattle.fancy_host.proofs.tree.CompiledTree.write_rows.Given as goal
 
 abbrev pub invariant-rows : goal.invariant-rows
 invariant-rows g l =
-    Written g.F.Row.form l.width (compiled_of l.fn.self) l.text (run_options_of l.options) (standing_of l.fn.standing) l.fn.room l.count l.at
+    Written g.F.Row.form l.width (compiled_of l.self) l.text (run_options_of l.options) (standing_of l.fn.standing) l.fn.room l.count l.at
     (standing_of l.standing) l.room
-    × ((l.self.tree ≡ l.fn.self.tree) × (length l.room ≡ length l.fn.room))
+    × (length l.room ≡ length l.fn.room)
 
 abbrev pub decreases-rows : goal.decreases-rows
 decreases-rows g l = length l.room - l.at

@@ -4,10 +4,10 @@ use Rattle.fancy_replace.specs.Pieces.{as_limit}
 use Rattle.fancy_replace.specs.Reading.{expansion}
 use Rattle.fancy_host.specs.Hosted.{compiled_of, names_of}
 use Rattle.fancy_host.specs.Rewritten.{FailsToRewrite, IsRewritten}
-use Rattle.fancy_host.proofs.searches.Searcher.replaced.Goals as goal
+use Rattle.fancy_host.proofs.tree.CompiledTree.replaced.Goals as goal
 
-pub returns-clause-replaced : goal.returns-clause-replaced
-returns-clause-replaced c =
+pub returns : goal.returns
+returns c =
     let s = c.args.self.now in
     let text = c.args.text.now in
     let o = run_options_of c.args.options.now in

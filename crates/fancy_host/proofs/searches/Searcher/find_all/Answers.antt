@@ -1,0 +1,9 @@
+use Rattle.std.proofs.Common.{subst}
+use Rattle.fancy_host.specs.Lists.{Lists, span_alone}
+use Rattle.fancy_host.proofs.searches.Searcher.find_all.Goals as goal
+
+pub returns-clause-lists : goal.returns-clause-lists
+returns-clause-lists c =
+    let a = c.args in
+    subst (λ t. Lists span_alone t a.text.now a.options.now a.standing.now a.spans.now c.find_all.new.standing c.find_all.new.spans c.find_all.result)
+    c.deref.ensures c.find_all.ensures

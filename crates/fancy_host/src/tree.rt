@@ -1,0 +1,313 @@
+//! A tree that was compiled, and its searches.
+
+ghost use Rattle.std.specs.Prelude.{◌≡◌, [], IsTrue, MatchResult, string_bytes};
+ghost use Rattle.fancy_meaning.specs.Fits.{run_fits};
+ghost use Rattle.fancy_vm.specs.Tasks.{options_of as run_options_of, task_of};
+ghost use Rattle.fancy_search.specs.Searches.{HasSource, program};
+ghost use Rattle.fancy_matches.specs.Regexes.{standing_of};
+ghost use Rattle.fancy_replace.specs.Pieces.{as_limit};
+ghost use Rattle.fancy_replace.specs.Reading.{groups_named};
+
+use crate::names::{name_of, numbers_named};
+use crate::options::FancyOptions;
+use crate::outcome::{FancyOutcome, NO_MATCH, OK, write_answer};
+use crate::rewriting::{rewrite, write_whole};
+use crate::rows::{Groups, Row};
+use crate::standing::FancyStanding;
+use fancy_expr::error::Error;
+use fancy_matches::found::Match;
+use fancy_matches::searches::next_found;
+use fancy_matches::standing::Standing;
+use fancy_replace::replacer::NoExpand;
+use fancy_replace::template::Template;
+use fancy_search::search::Compiled;
+use fancy_vm::vm::{RunOptions, Scratch};
+use std::alloc::Global;
+use std::collections::BTreeMap;
+
+/// What a pattern or a tree was compiled to, and the numbers of each name of its groups.
+#[derive(Drop)]
+pub struct CompiledTree {
+    pub compiled: Compiled,
+    pub names: BTreeMap<String, Vec<usize>>,
+    ghost source: { HasSource compiled },
+}
+
+impl CompiledTree {
+    ghost use Rattle.fancy_host.specs.Hosted.{Answers, compiled_of};
+    ghost use Rattle.fancy_host.specs.Hosted as hosted;
+    ghost use Rattle.fancy_host.specs.Lists.{Lists, Writes, all_groups, span_alone, width_of};
+    ghost use Rattle.fancy_host.specs.Names.{name_in};
+    ghost use Rattle.fancy_host.specs.Rewritten.{FailsToRewrite, IsRewritten, Replaces, writing};
+    ghost use Rattle.fancy_host.specs.Whether.{Tells};
+
+    /// The name of a group; empty where it has none.
+    pub fn group_name(&self, group: usize) -> &str
+        ensures { result.now ≡ name_in (hosted.names_of self.now) group }
+    {
+        name_of(&self.names, group)
+    }
+
+    /// The numbers of the groups with this name.
+    pub fn groups_named(&self, name: &str) -> &[usize]
+        ensures { result.now ≡ groups_named (hosted.names_of self.now) name.now }
+    {
+        numbers_named(&self.names, name)
+    }
+
+    /// How many groups the tree has, with group 0.
+    pub fn group_count(&self) -> usize
+        ensures { result ≡ hosted.groups self.now }
+    {
+        self.compiled.program().total_groups().saturating_add(1)
+    }
+
+    /// Searches the text, and writes the numbers of the answer as far as there is room.
+    pub fn find(
+        &self,
+        alloc: Global,
+        text: &str,
+        options: &FancyOptions,
+        spans: &mut [usize],
+        scratch: &mut Scratch,
+    ) -> FancyOutcome
+        ensures { Answers self.now text.now options.now spans.old spans.new result }
+    {
+        let running = options.running(text);
+        if !self.compiled.fits(text, &running) {
+            return FancyOutcome::unfit();
+        }
+        let answer = self.compiled.search(alloc, text, &running, scratch);
+        write_answer(&answer, spans);
+        FancyOutcome::of_answer(text.as_bytes(), &answer)
+    }
+
+    /// Whether there is a match.
+    pub fn is_match(
+        &self,
+        alloc: Global,
+        text: &str,
+        options: &FancyOptions,
+        scratch: &mut Scratch,
+    ) -> FancyOutcome
+        ensures { Tells self.now text.now options.now result }
+    {
+        let running = options.running(text);
+        if !self.compiled.fits(text, &running) {
+            return FancyOutcome::unfit();
+        }
+        let found = self.compiled.search(alloc, text, &running, scratch);
+        FancyOutcome::of_found(&found)
+    }
+
+    /// Writes the rows of the matches of the list that stands so, as many as there is room for.
+    fn write_rows<'t, F: Row<'t>>(
+        &self,
+        alloc: Global,
+        text: &'t str,
+        options: &RunOptions,
+        width: usize,
+        standing: &mut Standing,
+        room: &mut [usize],
+        scratch: &mut Scratch,
+    ) -> FancyOutcome
+        requires fits { IsTrue (run_fits
+            (task_of (program (compiled_of self.now)) [] options.now)) }
+        requires width { width ≡ width_of F.form self.now }
+        ensures { Writes
+            F.form
+            width
+            (compiled_of self.now)
+            text.now
+            (run_options_of options.now)
+            (standing_of standing.old)
+            room.old
+            (standing_of standing.new)
+            room.new
+            result }
+    {
+        let mut at = 0;
+        let mut count = 0;
+        'rows: while room.len() - at >= width {
+            match next_found::<F>(alloc, &self.compiled, text, options, standing, scratch) {
+                Ok(None) => return FancyOutcome::coded(NO_MATCH).with_count(count),
+                Ok(Some(found)) => {
+                    found.write(at, room);
+                    at += width;
+                    count += 1;
+                }
+                Err(error) => return FancyOutcome::of_error(&error).with_count(count),
+            }
+        }
+        FancyOutcome::coded(OK).with_count(count)
+    }
+
+    /// Writes the rows of the matches of the list that stands so, of such a width, as many as there is room for; it then
+    /// stands after them.
+    fn list<'t, F: Row<'t>>(
+        &self,
+        alloc: Global,
+        text: &'t str,
+        options: &FancyOptions,
+        width: usize,
+        standing: &mut FancyStanding,
+        room: &mut [usize],
+        scratch: &mut Scratch,
+    ) -> FancyOutcome
+        requires { width ≡ width_of F.form self.now }
+        ensures { Lists
+            F.form
+            self.now
+            text.now
+            options.now
+            standing.old
+            room.old
+            standing.new
+            room.new
+            result }
+    {
+        let listing = options.listing(text);
+        if !self.compiled.fits("", &listing) {
+            return FancyOutcome::unfit();
+        }
+        let mut list = standing.standing();
+        let outcome = self.write_rows::<F>(alloc, text, &listing, width, &mut list, room, scratch);
+        *standing = FancyStanding::of(&list);
+        outcome
+    }
+
+    /// Writes the spans of the matches of the list that stands so, as many as there is room for; it then stands after
+    /// them.
+    pub fn find_all(
+        &self,
+        alloc: Global,
+        text: &str,
+        options: &FancyOptions,
+        standing: &mut FancyStanding,
+        spans: &mut [usize],
+        scratch: &mut Scratch,
+    ) -> FancyOutcome
+        ensures { Lists
+            span_alone
+            self.now
+            text.now
+            options.now
+            standing.old
+            spans.old
+            standing.new
+            spans.new
+            result }
+    {
+        self.list::<Match<'_>>(alloc, text, options, 2, standing, spans, scratch)
+    }
+
+    /// Writes the spans of all groups of these matches, so many numbers for each match; the list then stands after them.
+    pub fn captures_all(
+        &self,
+        alloc: Global,
+        text: &str,
+        options: &FancyOptions,
+        standing: &mut FancyStanding,
+        spans: &mut [usize],
+        scratch: &mut Scratch,
+    ) -> FancyOutcome
+        ensures { Lists
+            all_groups
+            self.now
+            text.now
+            options.now
+            standing.old
+            spans.old
+            standing.new
+            spans.new
+            result }
+    {
+        let width = self.group_count().saturating_mul(2);
+        self.list::<Groups>(alloc, text, options, width, standing, spans, scratch)
+    }
+
+    /// The text with its first `limit` matches replaced, all of them where that is 0: by this text as it stands, or by
+    /// what it says as a template.
+    fn replaced(
+        &self,
+        alloc: Global,
+        text: &str,
+        options: &RunOptions,
+        limit: usize,
+        is_literal: bool,
+        replacement: &str,
+        scratch: &mut Scratch,
+    ) -> Result<String, Error>
+        requires { IsTrue (run_fits (task_of (program (compiled_of self.now)) [] options.now)) }
+        ensures { MatchResult
+            result
+            (λ new. IsRewritten
+            (compiled_of self.now) text.now (run_options_of options.now) (as_limit limit)
+            (writing self.now is_literal replacement.now) (string_bytes new))
+            (FailsToRewrite
+            (compiled_of self.now) text.now (run_options_of options.now) (as_limit limit)) }
+    {
+        if is_literal {
+            let replacer = NoExpand(replacement);
+            return rewrite(
+                alloc,
+                &self.compiled,
+                text,
+                options,
+                limit,
+                &replacer,
+                scratch,
+            );
+        }
+        let template = Template::new(alloc, replacement, &self.names)?;
+        rewrite(
+            alloc,
+            &self.compiled,
+            text,
+            options,
+            limit,
+            &template,
+            scratch,
+        )
+    }
+
+    /// Writes that text where there is room for it with a zero at its end.
+    pub fn replace(
+        &self,
+        alloc: Global,
+        text: &str,
+        options: &FancyOptions,
+        limit: usize,
+        is_literal: bool,
+        replacement: &str,
+        room: &mut [u8],
+        scratch: &mut Scratch,
+    ) -> FancyOutcome
+        ensures { Replaces
+            self.now
+            text.now
+            options.now
+            limit
+            (writing self.now is_literal replacement.now)
+            room.old
+            room.new
+            result }
+    {
+        let listing = options.listing(text);
+        if !self.compiled.fits("", &listing) {
+            return FancyOutcome::unfit();
+        }
+        match self.replaced(
+            alloc,
+            text,
+            &listing,
+            limit,
+            is_literal,
+            replacement,
+            scratch,
+        ) {
+            Ok(new) => write_whole(new.as_str(), room),
+            Err(error) => FancyOutcome::of_error(&error),
+        }
+    }
+}
