@@ -6,6 +6,7 @@ import os
 from ctypes import CDLL, POINTER, Structure, c_bool, c_char_p, c_size_t, c_uint32, c_uint64, c_void_p
 from ctypes import create_string_buffer, sizeof
 from pathlib import Path
+from threading import Lock
 from typing import Any, Callable, Dict, List, Mapping, Optional, Tuple
 
 from ._errors import LimitError, error
@@ -93,6 +94,7 @@ _CALLS = {
     "fancy_default_options": (_Options, ()),
     "fancy_version": (c_size_t, _ROOM),
     "fancy_compile_pattern": (_Outcome, (*_TEXT, _OPTIONS, _PROGRAM)),
+    "fancy_clone": (_Outcome, (_PROGRAM, _PROGRAM)),
     "fancy_free": (None, (_PROGRAM,)),
     "fancy_group_count": (c_size_t, (_PROGRAM,)),
     "fancy_group_name": (c_size_t, (_PROGRAM, c_size_t, *_ROOM)),
@@ -216,25 +218,35 @@ class _Handle:
 
 
 class Program:
-    """A pattern that was compiled. Threads may search with it at the same time: each takes a handle of its own, for which the
-    pattern is compiled again where none is idle."""
+    """A pattern that was compiled. Threads may search with it at the same time: each takes a handle of its own, and those share
+    what was compiled."""
 
-    __slots__ = ("pattern", "groups", "_options", "_idle")
+    __slots__ = ("pattern", "groups", "_options", "_original", "_copying", "_idle")
 
     def __init__(self, pattern: str, options: Options) -> None:
         self.pattern = pattern
         self._options = options
-        first = self._compiled()
-        self.groups = len(first.spans) // 2
-        self._idle = [first]
+        # nothing is searched with it, so there is always one to copy, by one thread at a time
+        self._original = self._compiled()
+        self._copying = Lock()
+        self.groups = len(self._original.spans) // 2
+        self._idle: List[_Handle] = []
 
     def _compiled(self) -> _Handle:
-        """A new handle. What compiled once compiles again, but for want of memory."""
+        """A handle of the pattern."""
         text = self.pattern.encode()
         handle = _Handle(self._options)
         outcome = _library.fancy_compile_pattern(text, len(text), handle.options, handle.program)
         if outcome.code != OK:
             raise self._refusal(text, outcome, handle.options)
+        handle.make_room()
+        return handle
+
+    def _copied(self) -> _Handle:
+        """A new handle. Only memory may be wanted."""
+        handle = _Handle(self._options)
+        with self._copying:
+            self._expect_answer(_library.fancy_clone(self._original.program, handle.program))
         handle.make_room()
         return handle
 
@@ -266,7 +278,7 @@ class Program:
             return self._idle.pop()
         except IndexError:
             pass
-        return self._compiled()
+        return self._copied()
 
     def _expect_answer(self, outcome: _Outcome) -> None:
         """Raises where there is no answer. A match and none are answers."""

@@ -153,7 +153,7 @@ class Threads(unittest.TestCase):
         program = pattern._programs["search"]
         while program._idle:
             program._idle.pop()
-        # with no handle that is idle the pattern is compiled again
+        # with no handle that is idle there is one more copy
         self.assertEqual(pattern.sub(r"<\g<n>>", "abc"), "<a><>c")
         self.assertEqual(len(program._idle), 1)
 

@@ -75,6 +75,17 @@ impl Program {
         }
     }
 
+    /// A program that shares what was compiled, with memory of its own for its searches. The only error is want of memory.
+    fn try_clone(&mut self) -> Result<Program> {
+        let mut copy = Program(sys::FANCY_NOTHING);
+        // Safety: as above.
+        let outcome = unsafe { sys::fancy_clone(&mut self.0, &mut copy.0) };
+        match outcome.code {
+            sys::FANCY_OK => Ok(copy),
+            _ => Err(Error::of(&outcome, String::new)),
+        }
+    }
+
     /// How many groups there are, with group 0.
     pub(crate) fn group_count(&self) -> usize {
         // Safety: as above.
@@ -173,21 +184,30 @@ fn message(source: &Source, options: &Options, outcome: &sys::FancyOutcome) -> S
     }
 }
 
-/// Programs of one pattern or tree: a call takes one that is idle, and compiles a new one where none is.
+/// Programs of one pattern or tree, which share what was compiled: a call takes one that is idle, and a new copy where none
+/// is.
 pub(crate) struct Pool {
     source: Source,
     options: Options,
+    /// No call searches with it, so there is always one to copy.
+    original: Mutex<Program>,
     idle: Mutex<Vec<Program>>,
 }
 
+/// Nothing panics while one of these locks is held, so what a poisoned one guards is whole too.
+fn locked<T>(lock: &Mutex<T>) -> MutexGuard<'_, T> {
+    lock.lock().unwrap_or_else(PoisonError::into_inner)
+}
+
 impl Pool {
-    /// A pool with one program.
+    /// A pool without copies yet.
     pub(crate) fn of(source: Source, options: Options) -> Result<Pool> {
-        let first = Program::compile(&source, &options)?;
+        let original = Program::compile(&source, &options)?;
         Ok(Pool {
             source,
             options,
-            idle: Mutex::new(vec![first]),
+            original: Mutex::new(original),
+            idle: Mutex::new(Vec::new()),
         })
     }
 
@@ -200,21 +220,15 @@ impl Pool {
         &self.options
     }
 
-    fn idle(&self) -> MutexGuard<'_, Vec<Program>> {
-        // Nothing panics while it is held, so what a poisoned lock guards is whole too.
-        self.idle.lock().unwrap_or_else(PoisonError::into_inner)
-    }
-
-    /// Lets a call have a program to itself. What compiled once compiles again, but for want of memory, which is an error.
+    /// Lets a call have a program to itself. The only error of a copy is want of memory.
     pub(crate) fn with<T>(&self, call: impl FnOnce(&mut Program) -> Result<T>) -> Result<T> {
-        // Others may take and give programs while this one is compiled.
-        let idle = self.idle().pop();
+        let idle = locked(&self.idle).pop();
         let mut program = match idle {
             Some(program) => program,
-            None => Program::compile(&self.source, &self.options)?,
+            None => locked(&self.original).try_clone()?,
         };
         let answer = call(&mut program);
-        self.idle().push(program);
+        locked(&self.idle).push(program);
         answer
     }
 }
@@ -239,7 +253,7 @@ mod tests {
                 })
             });
             assert_eq!(found, Ok(((2, 2), (true, false))));
-            assert_eq!(pool.idle().len(), 2);
+            assert_eq!(locked(&pool.idle).len(), 2);
         }
     }
 

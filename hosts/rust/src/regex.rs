@@ -16,8 +16,8 @@ use std::sync::Arc;
 
 /// A pattern that was compiled.
 ///
-/// Threads may share it: each search takes a program of its own from a pool. A clone shares the pool. Where all programs are
-/// in use, a search compiles the pattern once more, so its thread needs the stack for that: 2 MB, or what `max_nesting` allows.
+/// Threads may share it: each search takes a program of its own from a pool, and a copy where all are in use. Copies share
+/// what was compiled. A clone shares the pool.
 ///
 /// ```
 /// # fn main() -> fancy::Result<()> {
