@@ -83,7 +83,7 @@ module _ (searcher : Searcher) (test : CharTest) where
 
 -- ---- from iteration to iteration
 
-module _ (searcher : Searcher) (bounds : code.Loop) (head after : ℕ) (test : CharTest)
+module _ (base : plain.NfaConfig) (searcher : Searcher) (bounds : code.Loop) (head after : ℕ) (test : CharTest)
     (there : slice_get (searcher.states).now head ≡ Some (nfa_state.CounterLoop bounds after)) (body : IsBody (searcher.states).now head (head + 1) test)
     (greedy : bounds.greedy ≡ true) (asks : bounds.asks_moved ≡ false) where
   abbrev loop : states.Loop
@@ -94,10 +94,10 @@ module _ (searcher : Searcher) (bounds : code.Loop) (head after : ℕ) (test : C
 
   -- at the head, behind so many iterations
   abbrev at_head : (c place : ℕ) → plain.NfaConfig
-  at_head c place = record { at = head; place = place; counters = counter c ∷ []; opened = []; spans = [] }
+  at_head c place = record (config_at base head place) { counters = counter c ∷ base.counters }
 
   abbrev at_body : (c place : ℕ) → plain.NfaConfig
-  at_body c place = record { at = head + 1; place = place; counters = counter c ∷ []; opened = []; spans = [] }
+  at_body c place = record (config_at base (head + 1) place) { counters = counter c ∷ base.counters }
 
   abbrev counts : ℕ → ℕ
   counts n = counted loop.lo loop.hi n
@@ -111,17 +111,17 @@ module _ (searcher : Searcher) (bounds : code.Loop) (head after : ℕ) (test : C
       Walks searcher true (at_head c place) (at_body (next_count loop.lo loop.hi c) place)
   goes_in c place goes few =
       tries_only searcher (nfa_state.CounterLoop bounds after) (at_head c place) there (at_body (next_count loop.lo loop.hi c) place)
-      (counter_loop_by loop after (at_head c place) (counter c) [] place (counter c ∷ []) loop_choice.In refl refl (goes, few)
-      ∙ ap (λ t. plain.Tries true (record (at_body c place) { counters = t ∷ [] }) []) (next_is c place))
+      (counter_loop_by loop after (at_head c place) (counter c) base.counters place (counter c ∷ base.counters) loop_choice.In refl refl (goes, few)
+      ∙ ap (λ t. plain.Tries true (record (at_body c place) { counters = t ∷ base.counters }) []) (next_is c place))
 
   -- one past those
   goes_on : (c place : ℕ) → is_last loop.hi c ≡ false → nat_lt c loop.lo ≡ false →
       Walks searcher false (at_head c place) (at_body (next_count loop.lo loop.hi c) place)
   goes_on c place goes enough =
       tries_first searcher (nfa_state.CounterLoop bounds after) (at_head c place) there true (at_body (next_count loop.lo loop.hi c) place)
-      (config_at after place ∷ [])
-      (counter_loop_by loop after (at_head c place) (counter c) [] place (counter c ∷ []) loop_choice.InOrOut refl refl (goes, enough, greedy)
-      ∙ ap (λ t. plain.Tries true (record (at_body c place) { counters = t ∷ [] }) (config_at after place ∷ [])) (next_is c place))
+      (config_at base after place ∷ [])
+      (counter_loop_by loop after (at_head c place) (counter c) base.counters place (counter c ∷ base.counters) loop_choice.InOrOut refl refl (goes, enough, greedy)
+      ∙ ap (λ t. plain.Tries true (record (at_body c place) { counters = t ∷ base.counters }) (config_at base after place ∷ [])) (next_is c place))
 
   -- the character, and back to the head
   goes_round : (c i j : ℕ) → past_char (searcher.text).now (Test searcher test) i ≡ Some j → Walks searcher true (at_body c i) (at_head c j)
@@ -165,19 +165,19 @@ module _ (searcher : Searcher) (bounds : code.Loop) (head after : ℕ) (test : C
   -- ---- out of the loop
 
   -- where as many were made as may be
-  leaves_last : (c place : ℕ) → is_last loop.hi c ≡ true → Walks searcher true (at_head c place) (config_at after place)
+  leaves_last : (c place : ℕ) → is_last loop.hi c ≡ true → Walks searcher true (at_head c place) (config_at base after place)
   leaves_last c place last =
-      tries_only searcher (nfa_state.CounterLoop bounds after) (at_head c place) there (config_at after place)
-      (counter_loop_by loop after (at_head c place) (counter c) [] place (counter c ∷ []) loop_choice.Out refl refl last)
+      tries_only searcher (nfa_state.CounterLoop bounds after) (at_head c place) there (config_at base after place)
+      (counter_loop_by loop after (at_head c place) (counter c) base.counters place (counter c ∷ base.counters) loop_choice.Out refl refl last)
 
   -- where no character passes
   leaves : (c place : ℕ) → is_last loop.hi c ≡ false → nat_lt c loop.lo ≡ false → Excludes searcher test place →
-      Walks searcher true (at_head c place) (config_at after place)
+      Walks searcher true (at_head c place) (config_at base after place)
   leaves c place goes enough refused =
       tries_memoized searcher (nfa_state.CounterLoop bounds after) (at_head c place) there (at_body (next_count loop.lo loop.hi c) place)
-      (config_at after place)
-      (counter_loop_by loop after (at_head c place) (counter c) [] place (counter c ∷ []) loop_choice.InOrOut refl refl (goes, enough, greedy)
-      ∙ ap (λ t. plain.Tries true (record (at_body c place) { counters = t ∷ [] }) (config_at after place ∷ [])) (next_is c place))
+      (config_at base after place)
+      (counter_loop_by loop after (at_head c place) (counter c) base.counters place (counter c ∷ base.counters) loop_choice.InOrOut refl refl (goes, enough, greedy)
+      ∙ ap (λ t. plain.Tries true (record (at_body c place) { counters = t ∷ base.counters }) (config_at base after place ∷ [])) (next_is c place))
       (fails_at_once searcher (head + 1) place (test_fails searcher test (head + 1) place body.0 refused))
 
   -- where one had to
@@ -195,26 +195,26 @@ module _ (searcher : Searcher) (bounds : code.Loop) (head after : ℕ) (test : C
     abbrev made : ℕ
     made = bounds.hi - left
 
-    begins_at : Walks searcher true (config_at enter from) (at_head 0 from)
+    begins_at : Walks searcher true (config_at base enter from) (at_head 0 from)
     begins_at =
-        subst (λ i. Walks searcher true (config_at enter from) (record (at_head 0 from) { at = i })) behind
-        (goes searcher nfa_state.CounterBegin (config_at enter from) begins (record (at_head 0 from) { at = enter + 1 }) refl)
+        subst (λ i. Walks searcher true (config_at base enter from) (record (at_head 0 from) { at = i })) behind
+        (goes searcher nfa_state.CounterBegin (config_at base enter from) begins (record (at_head 0 from) { at = enter + 1 }) refl)
 
-    comes : (sure : Bool) → (sure ≡ true → made ≤ loop.lo) → Walks searcher sure (config_at enter from) (at_head (counts made) to)
+    comes : (sure : Bool) → (sure ≡ true → made ≤ loop.lo) → Walks searcher sure (config_at base enter from) (at_head (counts made) to)
     comes sure few =
-        joined searcher true sure sure (config_at enter from) (at_head 0 from) (at_head (counts made) to) (λ e. (refl, e)) begins_at
+        joined searcher true sure sure (config_at base enter from) (at_head 0 from) (at_head (counts made) to) (λ e. (refl, e)) begins_at
         (iterates_all made from to sure few (omega arith) most.1)
 
-    pub falls_short : 0 < left → made < bounds.lo → Loses searcher (config_at enter from)
+    pub falls_short : 0 < left → made < bounds.lo → Loses searcher (config_at base enter from)
     falls_short some few =
-        loses_behind searcher (config_at enter from) (at_head (counts made) to) (comes true (λ e. omega (arith, few)))
+        loses_behind searcher (config_at base enter from) (at_head (counts made) to) (comes true (λ e. omega (arith, few)))
         (fails_short (counts made) to (may_go_on loop.lo bounds.hi made (let le = most.0 in omega (arith, some, le)))
         (counted_few loop.lo loop.hi made few) (most.2 some))
 
     pub comes_past : (sure : Bool) → (sure ≡ true → made ≤ loop.lo) → (0 < left → bounds.lo ≤ made) → length (searcher.text).now < usize_max →
-        bounds.hi ≤ usize_max → Walks searcher sure (config_at enter from) (config_at after to)
+        bounds.hi ≤ usize_max → Walks searcher sure (config_at base enter from) (config_at base after to)
     comes_past sure few enough fits small =
-        onward searcher sure (config_at enter from) (at_head (counts made) to) (config_at after to) (comes sure few)
+        onward searcher sure (config_at base enter from) (at_head (counts made) to) (config_at base after to) (comes sure few)
         (⊎_elim (λ none. leaves_last (counts made) to (all_made none)) (λ some.
         leaves (counts made) to (may_go_on loop.lo bounds.hi made (let le = most.0 in omega (arith, some, le)))
         (counted_enough loop.lo loop.hi made (enough some)) (most.2 some)) (cases_lt left 1))

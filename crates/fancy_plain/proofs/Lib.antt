@@ -12,6 +12,7 @@ pub mod ReadStates
 pub mod KeptLaws
 pub mod FirstSetLaws
 pub mod RequiredBytesLaws
+pub mod GroupSpansLaws
 pub mod OnePassLaws
 pub mod CountedLaws
 pub mod ThreadsLaws

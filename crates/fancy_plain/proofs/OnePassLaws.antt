@@ -13,7 +13,8 @@ use Rattle.fancy_laws.proofs.Moves.{past_char_tells}
 use Rattle.fancy_nfa.specs.NfaStates as states
 use Rattle.fancy_nfa.specs.NfaSearch as plain
 use Rattle.fancy_nfa.specs.NfaSearch.{Ends, Fails, Goes, Lost, Other, Search, TakesBack, TakesUp, first_search, goes_to, pair_of, passes}
-use Rattle.fancy_nfa.specs.FirstWays.{first_seen, no_pairs, searched, seen_of}
+use Rattle.fancy_nfa.specs.FirstWays.{Seen, first_seen, no_pairs, searched, seen_of, spans_of}
+use Rattle.fancy_meaning.specs.MatchState.{Span}
 use Rattle.fancy_backtrack.specs.declared.trail.NfaConfig.{NfaConfig}
 use Rattle.fancy_plain.specs.declared.nfa_state.CharTest.{CharTest}
 use Rattle.fancy_plain.specs.declared.nfa_state.NfaState.{NfaState}
@@ -25,7 +26,12 @@ use Rattle.fancy_plain.specs.declared.nfa.Nfa.{Nfa}
 use Rattle.fancy_plain.specs.AsciiRuns.{AllPass}
 use Rattle.fancy_plain.specs.Runs.{FailsFrom, IsBody, Passes}
 use Rattle.fancy_plain.specs.Searches.{after_steps_of, next_of}
-use Rattle.fancy_plain.specs.OnePass.{AreFails, EndsOnePass, Finds, IsBlank, IsOnePass, Loses, RunsOn, RunsPast, Walks, config_at}
+use Rattle.fancy_plain.specs.OnePass.{AreFails, EndsOnePass, EndsOnePassWith, Finds, IsBlank, IsOnePass, IsOnePassWay, IsSeenWay, Loses, RunsOn, RunsPast, Succeeds, Walks, closed_at, config_at, opened_at}
+use Rattle.fancy_plain.specs.declared.counted_ways.Passed.{Passed}
+use Rattle.fancy_plain.specs.declared.counted_ways.Passed.TheVariants as passed
+use Rattle.fancy_plain.specs.declared.group_spans.GroupSpans.{GroupSpans}
+use Rattle.fancy_plain.specs.GroupSpans.{AreGroupsOf, spans_in}
+use Rattle.fancy_plain.specs.CountedWays.{ComesPast}
 use Rattle.fancy_plain.specs.Nfas.{IsNfaOf}
 use Rattle.fancy_plain.specs.Views.{state_of, test_of}
 use Rattle.fancy_plain.proofs.BackLaws.{steps_then}
@@ -109,16 +115,19 @@ module _ (searcher : Searcher) where
       let x = goes_back frames (plain.with_failed p (record f { frames = frames })) refl h in
       (suc x.0, (x.1.0, ap (λ l. after_steps_of searcher x.0 (plain.back_to l f)) e ∙ x.1.1))
 
-  pub finds_none : (ix : ℕ) (s : plain.NfaConfig) → Walks searcher true (config_at 0 ix) s → Loses searcher s → Finds searcher ix None
+  pub finds_none : (ix : ℕ) (s : plain.NfaConfig) → Walks searcher true (plain.first_config ix) s → Loses searcher s → Finds searcher ix None
   finds_none ix s w v =
-      let x = loses_behind (config_at 0 ix) s w v (first_search (λ q. false)) (λ q. refl) in
+      let x = loses_behind (plain.first_config ix) s w v (first_search (λ q. false)) (λ q. refl) in
       let y = goes_back x.1.0.frames x.1.0 refl (x.1.1.1 tt) in (
         x.0 + y.0,
         (
           y.1.0,
-          steps_then searcher x.0 y.0 (TakesUp (config_at 0 ix) (first_search (λ q. false))) (TakesBack x.1.0) x.1.1.0 ∙ y.1.1,
+          steps_then searcher x.0 y.0 (TakesUp (plain.first_config ix) (first_search (λ q. false))) (TakesBack x.1.0) x.1.1.0 ∙ y.1.1,
         ),
       )
+
+  pub unsure_by : (b : Bool) (s t : plain.NfaConfig) → Walks searcher b s t → Walks searcher false s t
+  unsure_by b s t w = joined b true false s t t (λ e. not_sure e) w (stays t)
 
   -- on with one
   pub by_choice : (b c : Bool) (s t u : plain.NfaConfig) → Walks searcher b s t → Walks searcher c t u → Walks searcher false s u
@@ -158,13 +167,13 @@ module _ (searcher : Searcher) where
 
     -- where it is the end
     pub ends : (b : Bool) (ix : ℕ) → plain.step_by (searcher.text).now searcher.unicode (state_of p) s ≡ plain.Found →
-        Walks searcher b (config_at 0 ix) s → Finds searcher ix (Some s)
+        Walks searcher b (plain.first_config ix) s → Finds searcher ix (Some s)
     ends b ix leads w =
         let x = w (first_search (λ q. false)) (λ q. refl) in (
           x.0 + 1,
           (
             plain.visited (Some (state_of p)) x.1.0,
-            steps_then searcher x.0 1 (TakesUp (config_at 0 ix) (first_search (λ q. false))) (TakesUp s x.1.0) x.1.1.0
+            steps_then searcher x.0 1 (TakesUp (plain.first_config ix) (first_search (λ q. false))) (TakesUp s x.1.0) x.1.1.0
                 ∙ stepped x.1.0 plain.Found leads,
           ),
         )
@@ -175,7 +184,7 @@ module _ (searcher : Searcher) where
         (1, (plain.visited (Some (state_of p)) f, (stepped f Lost leads, counted_fails (plain.is_counted (Some (state_of p))) f)))
 
     pub lost : (ix : ℕ) → plain.step_by (searcher.text).now searcher.unicode (state_of p) s ≡ Lost →
-        Walks searcher true (config_at 0 ix) s → Finds searcher ix None
+        Walks searcher true (plain.first_config ix) s → Finds searcher ix None
     lost ix leads w = finds_none ix s w (loses leads)
 
     -- on at the only way, where the pair is one that is memoized
@@ -262,27 +271,80 @@ module _ (searcher : Searcher) where
           ),
         )
 
+  -- the end, perhaps behind a jump
+  pub succeeds : (base : plain.NfaConfig) (at place : ℕ) → slice_get (searcher.states).now at ≡ Some nfa_state.Match →
+      Succeeds searcher (config_at base at place)
+  succeeds base at place there f blank =
+      (at, (1, (plain.visited (Some states.Match) f, stepped nfa_state.Match (config_at base at place) there f plain.Found refl)))
+
+  -- a walk to the end finds it
+  pub finds_end : (b : Bool) (ix : ℕ) (s : plain.NfaConfig) → Walks searcher b (plain.first_config ix) s → (e : Succeeds searcher s) →
+      (at : ℕ) × Finds searcher ix (Some (config_at s at s.place))
+  finds_end b ix s w e =
+      let x = w (first_search (λ q. false)) (λ q. refl) in
+      let y = e x.1.0 x.1.1.1 in (
+        y.0,
+        (
+          x.0 + y.1.0,
+          (
+            y.1.1.0,
+            steps_then searcher x.0 y.1.0 (TakesUp (plain.first_config ix) (first_search (λ q. false))) (TakesUp s x.1.0) x.1.1.0 ∙ y.1.1.1,
+          ),
+        ),
+      )
+
+  -- ---- a state behind a jump
+
+  pub comes_behind : (at to place : ℕ) (p : Passed) → ((s : plain.NfaConfig) → Walks searcher true (config_at s at place) (config_at s to place)) →
+      ComesPast searcher to place p → ComesPast searcher at place p
+  comes_behind at to place (passed.On next end is_sure) w c = λ s.
+      joined true is_sure is_sure (config_at s at place) (config_at s to place) (config_at s next end) (λ e. (refl, e)) (w s) (c s)
+  comes_behind at to place passed.Ends w c = λ s f blank.
+      let x = w s f blank in
+      let y = c s x.1.0 x.1.1.1 in (
+        y.0,
+        (
+          x.0 + y.1.0,
+          (
+            y.1.1.0,
+            steps_then searcher x.0 y.1.0 (TakesUp (config_at s at place) f) (TakesUp (config_at s to place) x.1.0) x.1.1.0 ∙ y.1.1.1,
+          ),
+        ),
+      )
+  comes_behind at to place (passed.Opens next) w c = λ s.
+      onward true (config_at s at place) (config_at s to place) (opened_at s next place) (w s) (c s)
+  comes_behind at to place (passed.Closes group next) w c = λ s from opened e.
+      onward true (config_at s at place) (config_at s to place) (closed_at s group from opened next place) (w s) (c s from opened e)
+  comes_behind at to place passed.Fails w c = λ s. loses_behind (config_at s at place) (config_at s to place) (w s) (c s)
+  comes_behind at to place passed.Unknown w c = tt
+
+  pub comes_behind_answered : (at to place : ℕ) (r : Result Passed AllocError) →
+      ((s : plain.NfaConfig) → Walks searcher true (config_at s at place) (config_at s to place)) →
+      IfOk r (ComesPast searcher to place) → IfOk r (ComesPast searcher at place)
+  comes_behind_answered at to place (Ok p) w c = comes_behind at to place p w c
+  comes_behind_answered at to place (Err e) w c = tt
+
   -- ---- choices
 
   -- at a choice that is not memoized, where the first way fails or not
-  pub chosen_of : (p : NfaState) (head first second place : ℕ) (is_lost : Bool) → slice_get (searcher.states).now head ≡ Some p →
-      plain.step_by (searcher.text).now searcher.unicode (state_of p) (config_at head place)
-      ≡ plain.Tries false (config_at first place) (config_at second place ∷ []) →
+  pub chosen_of : (base : plain.NfaConfig) (p : NfaState) (head first second place : ℕ) (is_lost : Bool) → slice_get (searcher.states).now head ≡ Some p →
+      plain.step_by (searcher.text).now searcher.unicode (state_of p) (config_at base head place)
+      ≡ plain.Tries false (config_at base first place) (config_at base second place ∷ []) →
       (is_lost ≡ true → FailsFrom searcher first place) →
-      Walks searcher is_lost (config_at head place) (config_at (if is_lost then second else first) place)
-  chosen_of p head first second place true there leads fails =
-      tries_second p (config_at head place) there (config_at first place) (config_at second place) leads (fails refl)
-  chosen_of p head first second place false there leads fails =
-      tries_first p (config_at head place) there false (config_at first place) (config_at second place ∷ []) leads
+      Walks searcher is_lost (config_at base head place) (config_at base (if is_lost then second else first) place)
+  chosen_of base p head first second place true there leads fails =
+      tries_second p (config_at base head place) there (config_at base first place) (config_at base second place) leads (fails refl)
+  chosen_of base p head first second place false there leads fails =
+      tries_first p (config_at base head place) there false (config_at base first place) (config_at base second place ∷ []) leads
 
   -- at the head of a loop
-  pub chosen_at_counter_loop : (head first second place : ℕ) (is_lost : Bool) → slice_get (searcher.states).now head ≡ Some (nfa_state.LoopSplit first second) →
+  pub chosen_at_counter_loop : (base : plain.NfaConfig) (head first second place : ℕ) (is_lost : Bool) → slice_get (searcher.states).now head ≡ Some (nfa_state.LoopSplit first second) →
       (is_lost ≡ true → FailsFrom searcher first place) →
-      Walks searcher is_lost (config_at head place) (config_at (if is_lost then second else first) place)
-  chosen_at_counter_loop head first second place true there fails =
-      tries_memoized (nfa_state.LoopSplit first second) (config_at head place) there (config_at first place) (config_at second place) refl (fails refl)
-  chosen_at_counter_loop head first second place false there fails =
-      tries_first (nfa_state.LoopSplit first second) (config_at head place) there true (config_at first place) (config_at second place ∷ []) refl
+      Walks searcher is_lost (config_at base head place) (config_at base (if is_lost then second else first) place)
+  chosen_at_counter_loop base head first second place true there fails =
+      tries_memoized (nfa_state.LoopSplit first second) (config_at base head place) there (config_at base first place) (config_at base second place) refl (fails refl)
+  chosen_at_counter_loop base head first second place false there fails =
+      tries_first (nfa_state.LoopSplit first second) (config_at base head place) there true (config_at base first place) (config_at base second place ∷ []) refl
 
   -- sure as long as it was, and as long as what was chosen is
   pub both_sure : (b c : Bool) (s t u : plain.NfaConfig) → Walks searcher b s t → Walks searcher c t u → Walks searcher (b && c) s u
@@ -298,6 +360,21 @@ module _ (searcher : Searcher) where
         (
           x.1.0,
           steps_then searcher 1 x.0 (TakesUp s f) (TakesUp (goes_to to s) f) (next_there searcher (nfa_state.Jump to) (at_state at) s (sym is) there f) ∙ x.1.1,
+        ),
+      )
+
+  -- what fails, where a group begins before it
+  pub open_fails : (at place : ℕ) → slice_get (searcher.states).now at ≡ Some nfa_state.Open → FailsFrom searcher (at + 1) place → FailsFrom searcher at place
+  open_fails at place there fails s f is here =
+      let on : plain.NfaConfig = opened_at s (s.at + 1) s.place in
+      let v : Search = record f { visits = f.visits + 1 } in
+      let x = fails on v (ap (λ i. i + 1) is) here in
+      let visits : f.visits + 1 + x.1.0 ≡ f.visits + (1 + x.1.0) = omega arith in (
+        1 + x.0,
+        (
+          1 + x.1.0,
+          steps_then searcher 1 x.0 (TakesUp s f) (TakesUp on v) (next_there searcher nfa_state.Open (at_state at) s (sym is) there f) ∙ x.1.1
+              ∙ ap (λ n. TakesBack (record f { visits = n })) visits,
         ),
       )
 
@@ -330,43 +407,43 @@ module _ (searcher : Searcher) where
 
   -- ---- a loop over one test
 
-  module _ (test : CharTest) (head first second : ℕ) (loop_split : slice_get (searcher.states).now head ≡ Some (nfa_state.LoopSplit first second))
+  module _ (base : plain.NfaConfig) (test : CharTest) (head first second : ℕ) (loop_split : slice_get (searcher.states).now head ≡ Some (nfa_state.LoopSplit first second))
       (body : IsBody (searcher.states).now head first test) where
     abbrev taken : ℕ → Search → Search
     taken i f = record f {
-      frames = Other (config_at second i) ∷ Fails (pair_of (config_at head i)) ∷ f.frames;
+      frames = Other (config_at base second i) ∷ Fails (pair_of (config_at base head i)) ∷ f.frames;
       visits = f.visits + 1;
     }
 
     loop_splits : (i : ℕ) (f : Search) → IsBlank f →
-        next_of searcher (TakesUp (config_at head i) f) ≡ TakesUp (config_at first i) (taken i f)
+        next_of searcher (TakesUp (config_at base head i) f) ≡ TakesUp (config_at base first i) (taken i f)
     loop_splits i f blank =
-        next_there searcher (nfa_state.LoopSplit first second) (at_state head) (config_at head i) refl loop_split f
-        ∙ cond-false (f.failed (pair_of (config_at head i))) _ _ (blank (pair_of (config_at head i)))
+        next_there searcher (nfa_state.LoopSplit first second) (at_state head) (config_at base head i) refl loop_split f
+        ∙ cond-false (f.failed (pair_of (config_at base head i))) _ _ (blank (pair_of (config_at base head i)))
 
-    goes_in : (i : ℕ) → Walks searcher false (config_at head i) (config_at first i)
+    goes_in : (i : ℕ) → Walks searcher false (config_at base head i) (config_at base first i)
     goes_in i f blank = (1, (taken i f, (loop_splits i f blank, blank, λ e. not_sure e)))
 
     -- a character that passes
-    pub iterates : (i j : ℕ) → past_char (searcher.text).now (Test test) i ≡ Some j → Walks searcher false (config_at head i) (config_at head j)
+    pub iterates : (i j : ℕ) → past_char (searcher.text).now (Test test) i ≡ Some j → Walks searcher false (config_at base head i) (config_at base head j)
     iterates i j past =
-        let took : Walks searcher true (config_at first i) (config_at (first + 1) j) =
-        goes (nfa_state.Character test) (config_at first i) body.0 (config_at (first + 1) j) (ap (plain.goes_past (config_at first i)) past) in
-        let back : Walks searcher true (config_at (first + 1) j) (config_at head j) =
-        goes (nfa_state.Jump head) (config_at (first + 1) j) body.1 (config_at head j) refl in
-        onward false (config_at head i) (config_at (first + 1) j) (config_at head j)
-        (onward false (config_at head i) (config_at first i) (config_at (first + 1) j) (goes_in i) took) back
+        let took : Walks searcher true (config_at base first i) (config_at base (first + 1) j) =
+        goes (nfa_state.Character test) (config_at base first i) body.0 (config_at base (first + 1) j) (ap (plain.goes_past (config_at base first i)) past) in
+        let back : Walks searcher true (config_at base (first + 1) j) (config_at base head j) =
+        goes (nfa_state.Jump head) (config_at base (first + 1) j) body.1 (config_at base head j) refl in
+        onward false (config_at base head i) (config_at base (first + 1) j) (config_at base head j)
+        (onward false (config_at base head i) (config_at base first i) (config_at base (first + 1) j) (goes_in i) took) back
 
     -- none that passes
-    pub exits : (i : ℕ) → past_char (searcher.text).now (Test test) i ≡ None → Walks searcher false (config_at head i) (config_at second i)
+    pub exits : (i : ℕ) → past_char (searcher.text).now (Test test) i ≡ None → Walks searcher false (config_at base head i) (config_at base second i)
     exits i none f blank =
         let g = taken i f in
-        let gone : next_of searcher (TakesUp (config_at first i) g) ≡ TakesBack (record g { visits = g.visits + 1 }) =
-        next_there searcher (nfa_state.Character test) (at_state first) (config_at first i) refl body.0 g
-        ∙ ap (λ o. plain.next_by (plain.goes_past (config_at first i) o) (Some (states.Character (test_of test))) (config_at first i) g) none in (
+        let gone : next_of searcher (TakesUp (config_at base first i) g) ≡ TakesBack (record g { visits = g.visits + 1 }) =
+        next_there searcher (nfa_state.Character test) (at_state first) (config_at base first i) refl body.0 g
+        ∙ ap (λ o. plain.next_by (plain.goes_past (config_at base first i) o) (Some (states.Character (test_of test))) (config_at base first i) g) none in (
           3,
           (
-            record f { frames = Fails (pair_of (config_at head i)) ∷ f.frames; visits = f.visits + 1 + 1 },
+            record f { frames = Fails (pair_of (config_at base head i)) ∷ f.frames; visits = f.visits + 1 + 1 },
             (ap (after_steps_of searcher 2) (loop_splits i f blank) ∙ ap (next_of searcher) gone, blank, λ e. not_sure e),
           ),
         )
@@ -374,19 +451,19 @@ module _ (searcher : Searcher) where
   -- over a character more
   pub runs_further : (test : CharTest) (from i j : ℕ) → RunsOn searcher test from i → past_char (searcher.text).now (Test test) i ≡ Some j →
       RunsOn searcher test from j
-  runs_further test from i j on past = λ head first second loop_split body.
-      by_choice false false (config_at head from) (config_at head i) (config_at head j) (on head first second loop_split body)
-      (iterates test head first second loop_split body i j past)
+  runs_further test from i j on past = λ base head first second loop_split body.
+      by_choice false false (config_at base head from) (config_at base head i) (config_at base head j) (on base head first second loop_split body)
+      (iterates base test head first second loop_split body i j past)
 
   pub runs_both : (test : CharTest) (from i j : ℕ) → RunsOn searcher test from i → RunsOn searcher test i j → RunsOn searcher test from j
-  runs_both test from i j on more = λ head first second loop_split body.
-      by_choice false false (config_at head from) (config_at head i) (config_at head j) (on head first second loop_split body)
-      (more head first second loop_split body)
+  runs_both test from i j on more = λ base head first second loop_split body.
+      by_choice false false (config_at base head from) (config_at base head i) (config_at base head j) (on base head first second loop_split body)
+      (more base head first second loop_split body)
 
   -- over none
   pub runs_none : (test : CharTest) (i : ℕ) → RunsOn searcher test i i
-  runs_none test i = λ head first second loop_split body.
-      by_choice true true (config_at head i) (config_at head i) (config_at head i) (stays (config_at head i)) (stays (config_at head i))
+  runs_none test i = λ base head first second loop_split body.
+      by_choice true true (config_at base head i) (config_at base head i) (config_at base head i) (stays (config_at base head i)) (stays (config_at base head i))
 
   -- over each character up to a place
   pub runs_over : (test : CharTest) (from n : ℕ) → ((i : ℕ) → from ≤ i → i < from + n → Passes searcher test i) → RunsOn searcher test from (from + n)
@@ -408,9 +485,9 @@ module _ (searcher : Searcher) where
   -- and out of the loop
   pub runs_out : (test : CharTest) (from i : ℕ) → RunsOn searcher test from i → past_char (searcher.text).now (Test test) i ≡ None →
       RunsPast searcher test from i
-  runs_out test from i on none = λ head first second loop_split body.
-      by_choice false false (config_at head from) (config_at head i) (config_at second i) (on head first second loop_split body)
-      (exits test head first second loop_split body i none)
+  runs_out test from i on none = λ base head first second loop_split body.
+      by_choice false false (config_at base head from) (config_at base head i) (config_at base second i) (on base head first second loop_split body)
+      (exits base test head first second loop_split body i none)
 
 -- ---- what a walk to the end answers
 
@@ -430,10 +507,41 @@ module _ (states : Bor (List NfaState)) (text : Bor (List ℕ)) (f : Nfa) (place
       (sym (same_end text.now f place (λ p. false) is_text at no_pairs a es h pos continued steps way g ended))
 
   pub one_pass_is : (r : OnePass) → EndsOnePass nfa_searcher place r → IsOnePass text.now f place r
-  one_pass_is (one_pass.Ends end) (i, h) = first_at (Some (config_at i end)) h
+  one_pass_is (one_pass.Ends end) (i, h) = first_at (Some (config_at (plain.first_config place) i end)) h
   one_pass_is one_pass.Fails h = first_at None h
   one_pass_is one_pass.Unknown h = tt
 
   pub one_pass_answered : (r : Result OnePass AllocError) → IfOk r (EndsOnePass nfa_searcher place) → IfOk r (IsOnePass text.now f place)
   one_pass_answered (Ok r) h = one_pass_is r h
   one_pass_answered (Err e) h = tt
+
+  -- a way that is seen so
+  seen_way : (s : plain.NfaConfig) (end : ℕ) (spans : ℕ → Option Span) (o : Option Seen) → s.place ≡ end →
+      ((g : ℕ) → spans g ≡ spans_of s.spans g) → o ≡ Some (seen_of s) → IsSeenWay end spans o
+  seen_way s end spans o place same e =
+      subst (IsSeenWay end spans) (sym e) (sym place, same)
+
+  pub one_pass_way_is : (groups : GroupSpans) (r : OnePass) → EndsOnePassWith nfa_searcher place groups r →
+      IsOnePassWay text.now f place (spans_in groups) r
+  one_pass_way_is groups (one_pass.Ends end) (s, (found, ends, same)) = λ a es h pos continued.
+      seen_way s end (spans_in groups) _ ends same (first_at (Some s) found a es h pos continued)
+  one_pass_way_is groups one_pass.Fails h = first_at None h
+  one_pass_way_is groups one_pass.Unknown h = tt
+
+  pub one_pass_way_answered : (groups : GroupSpans) (r : Result OnePass AllocError) → IfOk r (EndsOnePassWith nfa_searcher place groups) →
+      IfOk r (IsOnePassWay text.now f place (spans_in groups))
+  one_pass_way_answered groups (Ok r) h = one_pass_way_is groups r h
+  one_pass_way_answered groups (Err e) h = tt
+
+-- ---- a way that sets no group
+
+module _ (text : List ℕ) (f : Nfa) (place : ℕ) (groups : GroupSpans) (none : AreGroupsOf groups [] []) where
+  sets_none : (r : OnePass) → IsOnePass text f place r → IsOnePassWay text f place (spans_in groups) r
+  sets_none (one_pass.Ends end) h = λ a es is pos continued.
+      subst (IsSeenWay end (spans_in groups)) (sym (h a es is pos continued)) (refl, none.1)
+  sets_none one_pass.Fails h = h
+  sets_none one_pass.Unknown h = tt
+
+  pub way_of_none : (r : Result OnePass AllocError) → IfOk r (IsOnePass text f place) → IfOk r (IsOnePassWay text f place (spans_in groups))
+  way_of_none (Ok r) h = sets_none r h
+  way_of_none (Err e) h = tt

@@ -1,5 +1,5 @@
 -- Loops that count over one character, where no choice in them is taken back.
-use Rattle.std.specs.Prelude.{◌≡◌, ◌≤◌, ◌<◌, ◌-◌, ℕ, zero, suc, Some}
+use Rattle.std.specs.Prelude.{◌≡◌, ◌≤◌, ◌<◌, ◌-◌, ℕ, zero, suc, true, List, ◌∷◌, Some}
 use Rattle.fancy_meaning.specs.Moves.{past_char}
 use Rattle.fancy_nfa.specs.NfaSearch.{NfaConfig, passes}
 use Rattle.fancy_plain.specs.declared.counted_ways.Passed.{Passed}
@@ -7,7 +7,7 @@ use Rattle.fancy_plain.specs.declared.counted_ways.Passed.TheVariants as passed
 use Rattle.fancy_plain.specs.declared.nfa_state.CharTest.{CharTest}
 use Rattle.fancy_plain.specs.declared.search.Searcher.{Searcher}
 use Rattle.fancy_plain.specs.Runs.{Excludes}
-use Rattle.fancy_plain.specs.OnePass.{Loses, Walks, config_at}
+use Rattle.fancy_plain.specs.OnePass.{Loses, Succeeds, Walks, closed_at, config_at, opened_at}
 use Rattle.fancy_plain.specs.Views.{test_of}
 
 -- so many characters that pass stand between these places
@@ -22,8 +22,14 @@ abbrev pub PassesMost : Searcher → CharTest → (most : ℕ) → (from to left
 PassesMost t test most from to left =
     (left ≤ most) × PassesSome t test (most - left) from to × (0 < left → Excludes t test to)
 
--- what a search that knows of no pair comes to from the configuration
-abbrev pub ComesPast : Searcher → (from : NfaConfig) → Passed → Type 0
-ComesPast t from (passed.On at place is_sure) = Walks t is_sure from (config_at at place)
-ComesPast t from passed.Fails = Loses t from
-ComesPast t from passed.Unknown = Unit {0}
+-- what a search that knows of no pair comes to from this state and place, whatever loops and groups are around
+abbrev pub ComesPast : Searcher → (at place : ℕ) → Passed → Type 0
+ComesPast t at place (passed.On next end is_sure) =
+    (s : NfaConfig) → Walks t is_sure (config_at s at place) (config_at s next end)
+ComesPast t at place passed.Ends = (s : NfaConfig) → Succeeds t (config_at s at place)
+ComesPast t at place (passed.Opens next) = (s : NfaConfig) → Walks t true (config_at s at place) (opened_at s next place)
+ComesPast t at place (passed.Closes group next) = (s : NfaConfig) (from : ℕ) (opened : List ℕ) →
+    s.opened ≡ from ∷ opened →
+    Walks t true (config_at s at place) (closed_at s group from opened next place)
+ComesPast t at place passed.Fails = (s : NfaConfig) → Loses t (config_at s at place)
+ComesPast t at place passed.Unknown = Unit {0}

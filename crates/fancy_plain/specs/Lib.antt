@@ -8,6 +8,7 @@ pub mod Shapes
 pub mod Layouts
 pub mod Nfas
 pub mod FirstSets
+pub mod GroupSpans
 pub mod OnePass
 pub mod AsciiRuns
 pub mod CountedWays

@@ -2,8 +2,8 @@
 use Rattle.std.specs.Prelude.{◌≡◌, ℕ, Bool, true, false, List, [], ◌∷◌, Option, Some, None, slice_get}
 use Rattle.fancy_meaning.specs.Tree.{Tree}
 use Rattle.fancy_meaning.specs.Options.{Analysis}
-use Rattle.fancy_nfa.specs.NfaSearch.{Ends, Fails, Frame, Other, Pair, Search, NfaConfig, TakesBack, TakesUp, first_search}
-use Rattle.fancy_nfa.specs.FirstWays.{first_seen}
+use Rattle.fancy_nfa.specs.NfaSearch.{Ends, Fails, Frame, Other, Pair, Search, NfaConfig, TakesBack, TakesUp, first_config, first_search}
+use Rattle.fancy_nfa.specs.FirstWays.{Seen, first_seen, spans_of}
 use Rattle.fancy_plain.specs.declared.nfa_state.CharTest.{CharTest}
 use Rattle.fancy_plain.specs.declared.nfa_state.NfaState.TheVariants as nfa_state
 use Rattle.fancy_plain.specs.declared.search.Searcher.{Searcher}
@@ -14,10 +14,22 @@ use Rattle.fancy_plain.specs.Runs.{IsBody}
 use Rattle.fancy_plain.specs.Searches.{after_steps_of}
 use Rattle.fancy_plain.specs.Nfas.{IsNfaOf}
 use Rattle.fancy_plain.specs.Ways.{HasNoWayAt}
+use Rattle.fancy_plain.specs.declared.group_spans.GroupSpans.{GroupSpans}
+use Rattle.fancy_plain.specs.GroupSpans.{spans_in}
+use Rattle.fancy_meaning.specs.MatchState.{Span}
 
--- at this state and place, in no loop that counts and in no group, and none was closed
-abbrev pub config_at : (at place : ℕ) → NfaConfig
-config_at at place = record { at = at; place = place; counters = []; opened = []; spans = [] }
+-- at this state and place, in the same loops and groups
+abbrev pub config_at : NfaConfig → (at place : ℕ) → NfaConfig
+config_at s at place = record s { at = at; place = place }
+
+-- a group begins here, and the search goes on at this state
+abbrev pub opened_at : NfaConfig → (at place : ℕ) → NfaConfig
+opened_at s at place = record (config_at s at place) { opened = place ∷ s.opened }
+
+-- this group, which began there, ends here
+abbrev pub closed_at : NfaConfig → (group from : ℕ) → (opened : List ℕ) → (at place : ℕ) → NfaConfig
+closed_at s group from opened at place =
+    record (config_at s at place) { opened = opened; spans = (group, (from, place)) ∷ s.spans }
 
 -- no pair is known to have no way
 abbrev pub IsBlank : Search → Type 0
@@ -37,6 +49,12 @@ Walks t is_sure from to =
     (steps : ℕ) × ((g : Search) × ((after_steps_of t steps (TakesUp from f) ≡ TakesUp to g)
     × IsBlank g × (is_sure ≡ true → AreFails f.frames → AreFails g.frames)))
 
+-- it comes to the end, perhaps at another state
+abbrev pub Succeeds : Searcher → (from : NfaConfig) → Type 0
+Succeeds t from =
+    (f : Search) → IsBlank f → (at : ℕ) × ((steps : ℕ) × ((g : Search) ×
+    (after_steps_of t steps (TakesUp from f) ≡ Ends (Some (config_at from at from.place)) g)))
+
 -- it goes back from the configuration, and keeps no way for later
 abbrev pub Loses : Searcher → NfaConfig → Type 0
 Loses t from =
@@ -47,27 +65,34 @@ Loses t from =
 -- it goes so over a loop over this test, from its head to its head
 abbrev pub RunsOn : Searcher → CharTest → (from to : ℕ) → Type 0
 RunsOn t test from to =
-    (head first second : ℕ) → slice_get (t.states).now head ≡ Some (nfa_state.LoopSplit first second) →
-    IsBody (t.states).now head first test → Walks t false (config_at head from) (config_at head to)
+    (s : NfaConfig) (head first second : ℕ) → slice_get (t.states).now head ≡ Some (nfa_state.LoopSplit first second) →
+    IsBody (t.states).now head first test → Walks t false (config_at s head from) (config_at s head to)
 
 -- and to what stands behind it
 abbrev pub RunsPast : Searcher → CharTest → (from to : ℕ) → Type 0
 RunsPast t test from to =
-    (head first second : ℕ) → slice_get (t.states).now head ≡ Some (nfa_state.LoopSplit first second) →
-    IsBody (t.states).now head first test → Walks t false (config_at head from) (config_at second to)
+    (s : NfaConfig) (head first second : ℕ) → slice_get (t.states).now head ≡ Some (nfa_state.LoopSplit first second) →
+    IsBody (t.states).now head first test → Walks t false (config_at s head from) (config_at s second to)
 
 -- a search that knows of no pair ends so
 abbrev pub Finds : Searcher → (place : ℕ) → Option NfaConfig → Type 0
 Finds t place way =
     (steps : ℕ) × ((g : Search) ×
-    (after_steps_of t steps (TakesUp (config_at 0 place) (first_search (λ p. false))) ≡ Ends way g))
+    (after_steps_of t steps (TakesUp (first_config place) (first_search (λ p. false))) ≡ Ends way g))
 
 abbrev pub EndsOnePass : Searcher → (place : ℕ) → OnePass → Type 0
-EndsOnePass t place (one_pass.Ends end) = (at : ℕ) × Finds t place (Some (config_at at end))
+EndsOnePass t place (one_pass.Ends end) = (at : ℕ) × Finds t place (Some (config_at (first_config place) at end))
 EndsOnePass t place one_pass.Fails = Finds t place None
 EndsOnePass t place one_pass.Unknown = Unit {0}
 
--- the first way of the nodes, wherever the search of the whole pattern began, as far as it is known
+-- and where groups may be set it sets these
+abbrev pub EndsOnePassWith : Searcher → (place : ℕ) → GroupSpans → OnePass → Type 0
+EndsOnePassWith t place groups (one_pass.Ends end) =
+    (s : NfaConfig) × (Finds t place (Some s) × (s.place ≡ end) × ((g : ℕ) → spans_in groups g ≡ spans_of s.spans g))
+EndsOnePassWith t place groups one_pass.Fails = Finds t place None
+EndsOnePassWith t place groups one_pass.Unknown = Unit {0}
+
+-- the first way of the nodes, wherever the search of the whole pattern began, as far as it is known and sets no group
 abbrev pub IsOnePass : (text : List ℕ) → Nfa → (place : ℕ) → OnePass → Type 0
 IsOnePass text f place (one_pass.Ends end) = (a : Analysis) (es : List Tree) → IsNfaOf a es f.unicode f →
     (pos : ℕ) (continued : Bool) →
@@ -75,3 +100,17 @@ IsOnePass text f place (one_pass.Ends end) = (a : Analysis) (es : List Tree) →
     ≡ Some (end, λ g. None)
 IsOnePass text f place one_pass.Fails = HasNoWayAt text f place
 IsOnePass text f place one_pass.Unknown = Unit {0}
+
+-- a way that ends there and sets the groups so is the one that is seen
+abbrev pub IsSeenWay : (end : ℕ) → (spans : ℕ → Option Span) → Option Seen → Type 0
+IsSeenWay end spans None = ⊥
+IsSeenWay end spans (Some way) = (end ≡ way.0) × ((g : ℕ) → spans g ≡ way.1 g)
+
+-- as `IsOnePass`, of nodes with groups
+abbrev pub IsOnePassWay : (text : List ℕ) → Nfa → (place : ℕ) → (spans : ℕ → Option Span) → OnePass → Type 0
+IsOnePassWay text f place spans (one_pass.Ends end) = (a : Analysis) (es : List Tree) → IsNfaOf a es f.unicode f →
+    (pos : ℕ) (continued : Bool) →
+    IsSeenWay end spans
+    (first_seen (record { text = text; pos = pos; continued = continued; unicode = f.unicode }) es place)
+IsOnePassWay text f place spans one_pass.Fails = HasNoWayAt text f place
+IsOnePassWay text f place spans one_pass.Unknown = Unit {0}

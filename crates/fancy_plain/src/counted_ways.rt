@@ -5,7 +5,6 @@ ghost use Rattle.fancy_plain.specs.declared.nfa_state.NfaState.TheVariants as nf
 ghost use Rattle.fancy_plain.specs.CountedWays.{ComesPast, PassesMost, PassesSome};
 ghost use Rattle.fancy_plain.specs.Runs.{IsBody};
 ghost use Rattle.fancy_plain.specs.Searches.{IsSearcher};
-ghost use Rattle.fancy_plain.specs.OnePass.{config_at};
 ghost use Rattle.fancy_plain.specs.Views.{IsReadBy};
 
 use crate::nfa_state::{CharTest, NfaState};
@@ -13,16 +12,27 @@ use crate::search::Searcher;
 use fancy_backtrack::loops::Loop;
 use std::alloc::{AllocError, Global};
 
-/// What a loop comes to.
+/// What a state leads to, or a loop over one character, where no choice is taken back.
 #[derive(Clone, Copy)]
 pub(crate) enum Passed {
-    /// On at this state and place. That is sure where it took no more characters than it has to.
+    /// On at this state and place. That is sure where no way was kept for later.
     On {
         at: usize,
         place: usize,
         is_sure: bool,
     },
-    /// Too few characters pass.
+    /// The end.
+    Ends,
+    /// A group begins, and the search goes on at this state.
+    Opens {
+        at: usize,
+    },
+    /// This group ends.
+    Closes {
+        group: usize,
+        at: usize,
+    },
+    /// It leads nowhere: too few characters pass.
     Fails,
     /// It is another kind of loop.
     Unknown,
@@ -52,7 +62,7 @@ impl Searcher<'_> {
     ) -> Result<Passed, AllocError>
         requires searcher { IsSearcher self.now }
         requires at { slice_get self.now.states.now enter ≡ Some nfa_state.CounterBegin }
-        ensures { IfOk result (ComesPast self.now (config_at enter place)) }
+        ensures { IfOk result (ComesPast self.now enter place) }
     {
         let searcher = Searcher { ..*self };
         searcher.past_counter_begin(alloc, enter, place)
@@ -68,7 +78,7 @@ impl Searcher<'_> {
     ) -> Result<Passed, AllocError>
         requires searcher { IsSearcher self.now }
         requires at { slice_get self.now.states.now enter ≡ Some nfa_state.CounterBegin }
-        ensures { IfOk result (ComesPast self.now (config_at enter place)) }
+        ensures { IfOk result (ComesPast self.now enter place) }
     {
         let head = enter + 1;
         let Some(NfaState::CounterLoop { bounds, after }) = self.states.get(head) else {

@@ -5,6 +5,7 @@ mod ascii_runs;
 mod counted_ways;
 mod first_sets;
 pub mod first_way;
+pub mod group_spans;
 mod layout;
 pub mod nfa;
 mod nfa_state;

@@ -34,8 +34,10 @@ pub struct Nfa {
     pub(crate) pair_bits: PairBits,
     /// The ASCII characters that can stand at a way's first places, level by level, beside any others.
     pub(crate) first_sets: Vec<[bool; 128]>,
-    /// Whether ways seem to need no choice.
+    /// Whether ways seem to need no choice and set no group.
     pub(crate) is_one_pass: bool,
+    /// Where ways seem to need no choice and set groups, the first of these.
+    pub(crate) one_pass_group: Option<usize>,
     /// Bytes of which every way takes one, if some are known.
     pub(crate) required_bytes: Option<[bool; 256]>,
     /// That byte, where it is one alone.
@@ -103,13 +105,15 @@ impl Nfa {
             unicode,
             text: "",
         };
-        let is_one_pass = searcher.is_one_pass();
+        let seems_one_pass = searcher.seems_one_pass();
+        let group = first_group(&states);
         Ok(Nfa {
             states,
             unicode,
             pair_bits,
             first_sets,
-            is_one_pass,
+            is_one_pass: seems_one_pass && group.is_none(),
+            one_pass_group: if seems_one_pass { group } else { None },
             required_bytes,
             required_byte,
         })
@@ -155,7 +159,7 @@ impl Nfa {
         may_begin(&self.first_sets, text.as_bytes(), ix)
     }
 
-    /// Ways seem to need no choice.
+    /// Ways seem to need no choice, and set no group.
     pub fn is_one_pass(&self) -> bool
         ensures { result ≡ self.now.is_one_pass }
     {
@@ -184,6 +188,17 @@ impl Nfa {
             Some(second) => byte < 128 && !second[byte as usize],
         }
     }
+}
+
+/// The least number of a group that ends at one of these states.
+fn first_group(states: &[NfaState]) -> Option<usize> {
+    let mut first = None;
+    for nfa_state in states {
+        if let NfaState::Close(group) = nfa_state {
+            first = Some(first.unwrap_or(*group).min(*group));
+        }
+    }
+    first
 }
 
 /// What the loops among these states ask for.

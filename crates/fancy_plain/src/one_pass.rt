@@ -1,15 +1,20 @@
 //! One-pass matches, which need no choice: each test passes where it stands, and each loop takes what it can.
 
-ghost use Rattle.std.specs.Prelude.{◌≡◌, ◌≤◌, ◌&&◌, if◌then◌else◌, ℕ, IfOk, IfSome, IsTrue, None, true};
+ghost use Rattle.std.specs.Prelude.{◌≡◌, ◌≤◌, ◌&&◌, [], if◌then◌else◌, ℕ, IfOk, IfSome, IsTrue, None, true};
 ghost use Rattle.fancy_meaning.specs.Places.{is_place};
 ghost use Rattle.fancy_plain.specs.declared.search.Searcher as searcher_view;
+ghost use Rattle.fancy_plain.specs.declared.group_spans.GroupSpans as group_spans;
 ghost use Rattle.fancy_plain.specs.Runs.{FailsFrom};
 ghost use Rattle.fancy_plain.specs.Searches.{IsSearcher};
-ghost use Rattle.fancy_plain.specs.OnePass.{EndsOnePass, Finds, IsOnePass, RunsOn, RunsPast, Walks, config_at};
+ghost use Rattle.fancy_nfa.specs.NfaSearch.{NfaConfig};
+ghost use Rattle.fancy_plain.specs.CountedWays.{ComesPast};
+ghost use Rattle.fancy_plain.specs.GroupSpans.{AreGroupsOf, spans_in};
+ghost use Rattle.fancy_plain.specs.OnePass.{EndsOnePass, EndsOnePassWith, Finds, IsOnePass, IsOnePassWay, RunsOn, RunsPast, Walks, config_at};
 ghost use Rattle.fancy_plain.specs.Views.{IsReadBy};
 ghost use Rattle.fancy_plain.specs.Ways.{IsOfNodes};
 
 use crate::counted_ways::Passed;
+use crate::group_spans::GroupSpans;
 use crate::nfa::Nfa;
 use crate::nfa_state::{CharTest, NfaState};
 use crate::search::Searcher;
@@ -20,7 +25,7 @@ use std::alloc::{AllocError, Global};
 /// What one pass tells of the first way.
 #[derive(Clone, Copy, Debug)]
 pub enum OnePass {
-    /// It ends here, in bytes, and sets no group.
+    /// It ends here, in bytes.
     Ends(usize),
     /// There is none.
     Fails,
@@ -29,8 +34,8 @@ pub enum OnePass {
 }
 
 impl Nfa {
-    /// The first way of its nodes from `ix`, a character boundary of the text, as far as no choice is needed for it.
-    /// An error is a request for memory that was refused.
+    /// The first way of its nodes from `ix`, a character boundary of the text, as far as no choice is needed for it and
+    /// it sets no group. An error is a request for memory that was refused.
     pub fn one_pass_end(&self, alloc: Global, text: &str, ix: usize) -> Result<OnePass, AllocError>
         requires place { IsTrue (is_place text.now ix) }
         requires nodes { ∥ IsOfNodes self.now ∥₁ }
@@ -46,12 +51,41 @@ impl Nfa {
         };
         searcher.walk(alloc, ix)
     }
+
+    /// As `one_pass_end`, also of nodes with groups: the spans of the groups that the way sets are written over these.
+    #[inline(always)]
+    pub fn one_pass_way(
+        &self,
+        alloc: Global,
+        text: &str,
+        ix: usize,
+        groups: &mut GroupSpans,
+    ) -> Result<OnePass, AllocError>
+        requires place { IsTrue (is_place text.now ix) }
+        requires nodes { ∥ IsOfNodes self.now ∥₁ }
+        ensures { IfOk result (IsOnePassWay text.now self.now ix (spans_in groups.new)) }
+    {
+        if self.is_one_pass {
+            groups.begin(0);
+            return self.one_pass_end(alloc, text, ix);
+        }
+        let Some(first) = self.one_pass_group else {
+            return Ok(OnePass::Unknown);
+        };
+        groups.begin(first);
+        let searcher = Searcher {
+            states: &self.states,
+            unicode: self.unicode,
+            text,
+        };
+        searcher.walk_groups(alloc, ix, groups)
+    }
 }
 
 impl Searcher<'_> {
-    /// Ways seem to need no choice that is taken back: there are no groups, loops that count are over one character,
-    /// and what may be tried at one place begins with other characters each.
-    pub(crate) fn is_one_pass(&self) -> bool
+    /// Ways seem to need no choice that is taken back: loops that count are over one character, and what may be tried at
+    /// one place begins with other characters each.
+    pub(crate) fn seems_one_pass(&self) -> bool
         requires { IsSearcher self.now }
     {
         'states: for at in 0..self.states.len() {
@@ -59,7 +93,6 @@ impl Searcher<'_> {
                 Some(NfaState::LoopSplit(first, second)) => self.are_apart(*first, *second),
                 Some(NfaState::Split(first, second)) => self.are_apart(*first, *second),
                 Some(NfaState::CounterLoop { bounds, after }) => self.is_alone(at, *bounds, *after),
-                Some(NfaState::Open | NfaState::Close(_)) => false,
                 _ => true,
             };
             if !is_one_pass {
@@ -78,11 +111,15 @@ impl Searcher<'_> {
             && (bounds.lo == bounds.hi || self.are_apart(head + 1, self.behind_joins(after)))
     }
 
-    /// Behind the ends and the heads of loops from this state on, on into the last of these.
+    /// Behind the ends and the heads of loops and the ends of groups from this state on, on into the last loop or group.
     fn behind_joins(&self, at: usize) -> usize {
         let mut next = at;
         'joins: while let Some(
-            NfaState::Join | NfaState::CounterBegin | NfaState::CounterLoop { .. },
+            NfaState::Join
+            | NfaState::CounterBegin
+            | NfaState::CounterLoop { .. }
+            | NfaState::Open
+            | NfaState::Close(_),
         ) = self.states.get(next)
         {
             next += 1;
@@ -94,7 +131,10 @@ impl Searcher<'_> {
     fn are_apart(&self, first: usize, second: usize) -> bool
         requires { IsSearcher self.now }
     {
-        if matches!(self.states.get(second), Some(NfaState::Match)) {
+        if matches!(
+            self.states.get(self.behind_groups(second)),
+            Some(NfaState::Match)
+        ) {
             return true;
         }
         let mut taken = [false; 128];
@@ -132,18 +172,27 @@ impl Searcher<'_> {
         true
     }
 
-    /// The test at this state, perhaps behind a jump.
+    /// Behind where groups begin or end, from this state on.
+    fn behind_groups(&self, at: usize) -> usize {
+        let mut next = at;
+        'groups: while let Some(NfaState::Open | NfaState::Close(_)) = self.states.get(next) {
+            next += 1;
+        }
+        next
+    }
+
+    /// The test at this state, perhaps behind a jump and where groups begin or end.
     fn test_at(&self, at: usize) -> Option<&CharTest>
         requires { IsSearcher self.now }
         ensures { IfSome result (λ test. IsReadBy self.now.unicode test.now) }
     {
-        match self.states.get(self.behind_jump(at)) {
+        match self.states.get(self.behind_groups(self.behind_jump(at))) {
             Some(NfaState::Character(test)) => Some(test),
             _ => None,
         }
     }
 
-    /// From state to state. What is tried first is left only where it fails at its first test.
+    /// From state to state, where there is no group.
     fn walk(&self, alloc: Global, ix: usize) -> Result<OnePass, AllocError>
         requires { IsSearcher self.now }
         ensures { IfOk result (EndsOnePass self.now ix) }
@@ -152,70 +201,154 @@ impl Searcher<'_> {
         let mut place = ix;
         let mut is_sure = true;
         'states: for _ in 0..usize::MAX {
-            let head = self.behind_jump(at);
-            match self.states.get(head) {
-                Some(NfaState::Match) => return Ok(OnePass::Ends(place)),
-                Some(NfaState::Character(test)) => {
-                    let Some(next) = test.past(alloc, self.unicode, self.text, place)? else {
-                        return Ok(without_a_way(is_sure));
-                    };
-                    place = next;
-                    at = head + 1;
+            match self.past(alloc, at, place)? {
+                Passed::On {
+                    at: after,
+                    place: end,
+                    is_sure: is_exact,
+                } => {
+                    at = after;
+                    place = end;
+                    is_sure = are_both(is_sure, is_exact);
                     continue 'states;
                 }
-                Some(NfaState::Holds(assertion)) => {
-                    if !holds(*assertion, self.unicode, self.text, place) {
-                        return Ok(without_a_way(is_sure));
-                    }
-                    at = head + 1;
-                    continue 'states;
-                }
-                Some(NfaState::LoopSplit(first, second)) => {
-                    is_sure = false;
-                    if let Some(test) = self.body_at(*first, head) {
-                        place = self.past_all(alloc, test, place)?;
-                        at = *second;
-                        continue 'states;
-                    }
-                    at = chosen(self.fails_from(*first, place), *first, *second);
-                    continue 'states;
-                }
-                Some(NfaState::Split(first, second)) => {
-                    let is_lost = self.fails_from(*first, place);
-                    at = chosen(is_lost, *first, *second);
-                    is_sure = are_both(is_sure, is_lost);
-                    continue 'states;
-                }
-                Some(NfaState::BranchSplit(first, second)) => {
-                    let is_lost = self.fails_from(*first, place);
-                    at = chosen(is_lost, *first, *second);
-                    is_sure = are_both(is_sure, is_lost);
-                    continue 'states;
-                }
-                Some(NfaState::Join) => {
-                    at = head + 1;
-                    continue 'states;
-                }
-                Some(NfaState::CounterBegin) => {
-                    match self.past_counted(alloc, head, place)? {
-                        Passed::Unknown => return Ok(OnePass::Unknown),
-                        Passed::Fails => return Ok(without_a_way(is_sure)),
-                        Passed::On {
-                            at: after,
-                            place: end,
-                            is_sure: is_exact,
-                        } => {
-                            at = after;
-                            place = end;
-                            is_sure = are_both(is_sure, is_exact);
-                            continue 'states;
-                        }
-                    }
-                }
+                Passed::Ends => return Ok(OnePass::Ends(place)),
+                Passed::Fails => return Ok(without_a_way(is_sure)),
                 _ => return Ok(OnePass::Unknown),
             }
         }
         Ok(OnePass::Unknown)
+    }
+
+    /// From state to state, with the spans of groups.
+    fn walk_groups(
+        &self,
+        alloc: Global,
+        ix: usize,
+        groups: &mut GroupSpans,
+    ) -> Result<OnePass, AllocError>
+        requires searcher { IsSearcher self.now }
+        requires groups { AreGroupsOf groups.old [] [] }
+        ensures { IfOk result (EndsOnePassWith self.now ix groups.new) }
+    {
+        let mut at = 0;
+        let mut here = ix;
+        let mut is_sure = true;
+        'states: for _ in 0..usize::MAX {
+            match self.past(alloc, at, here)? {
+                Passed::On {
+                    at: after,
+                    place: end,
+                    is_sure: is_exact,
+                } => {
+                    at = after;
+                    here = end;
+                    is_sure = are_both(is_sure, is_exact);
+                    continue 'states;
+                }
+                Passed::Opens { at: after } => {
+                    groups.open(here)?;
+                    at = after;
+                    continue 'states;
+                }
+                Passed::Closes { group, at: after } => {
+                    if !groups.close(group, here)? {
+                        return Ok(OnePass::Unknown);
+                    }
+                    at = after;
+                    continue 'states;
+                }
+                Passed::Ends => return Ok(OnePass::Ends(here)),
+                Passed::Fails => return Ok(without_a_way(is_sure)),
+                Passed::Unknown => return Ok(OnePass::Unknown),
+            }
+        }
+        Ok(OnePass::Unknown)
+    }
+
+    /// Past this state, perhaps behind a jump, or past a loop over one character.
+    #[inline(always)]
+    fn past(&self, alloc: Global, at: usize, place: usize) -> Result<Passed, AllocError>
+        requires { IsSearcher self.now }
+        ensures { IfOk result (ComesPast self.now at place) }
+    {
+        self.past_state(alloc, self.behind_jump(at), place)
+    }
+
+    /// Past this state, or past a loop over one character. What is tried first is left only where it fails at its first
+    /// test.
+    #[inline(always)]
+    fn past_state(&self, alloc: Global, at: usize, place: usize) -> Result<Passed, AllocError>
+        requires { IsSearcher self.now }
+        ensures { IfOk result (ComesPast self.now at place) }
+    {
+        match self.states.get(at) {
+            Some(NfaState::Match) => Ok(Passed::Ends),
+            Some(NfaState::Character(test)) => {
+                let Some(next) = test.past(alloc, self.unicode, self.text, place)? else {
+                    return Ok(Passed::Fails);
+                };
+                Ok(Passed::On {
+                    at: at + 1,
+                    place: next,
+                    is_sure: true,
+                })
+            }
+            Some(NfaState::Holds(assertion)) => {
+                if !holds(*assertion, self.unicode, self.text, place) {
+                    return Ok(Passed::Fails);
+                }
+                Ok(Passed::On {
+                    at: at + 1,
+                    place,
+                    is_sure: true,
+                })
+            }
+            Some(NfaState::LoopSplit(first, second)) => {
+                if let Some(test) = self.body_at(*first, at) {
+                    let end = self.past_all(alloc, test, place)?;
+                    return Ok(Passed::On {
+                        at: *second,
+                        place: end,
+                        is_sure: false,
+                    });
+                }
+                let next = chosen(self.fails_from(*first, place), *first, *second);
+                Ok(Passed::On {
+                    at: next,
+                    place,
+                    is_sure: false,
+                })
+            }
+            Some(NfaState::Split(first, second)) => {
+                let is_lost = self.fails_from(*first, place);
+                Ok(Passed::On {
+                    at: chosen(is_lost, *first, *second),
+                    place,
+                    is_sure: is_lost,
+                })
+            }
+            Some(NfaState::BranchSplit(first, second)) => {
+                let is_lost = self.fails_from(*first, place);
+                Ok(Passed::On {
+                    at: chosen(is_lost, *first, *second),
+                    place,
+                    is_sure: is_lost,
+                })
+            }
+            Some(NfaState::Join) => Ok(Passed::On {
+                at: at + 1,
+                place,
+                is_sure: true,
+            }),
+            Some(NfaState::Open) => Ok(Passed::Opens { at: at + 1 }),
+            Some(NfaState::Close(group)) => Ok(Passed::Closes {
+                group: *group,
+                at: at + 1,
+            }),
+            Some(NfaState::CounterBegin) => self.past_counted(alloc, at, place),
+            _ => Ok(Passed::Unknown),
+        }
     }
 
     /// From this state on a test comes first, or one for each of several branches, and the character there passes none.
@@ -247,20 +380,25 @@ impl Searcher<'_> {
         false
     }
 
-    /// A test is at this state, perhaps behind a jump, and the character at the place does not pass it.
+    /// A test is at this state, perhaps behind a jump and where groups begin or end, and the character at the place does
+    /// not pass it.
     #[inline(always)]
     fn fails_behind_jump(&self, at: usize, place: usize) -> bool
         requires { IsSearcher self.now }
         ensures { IsTrue result → FailsFrom self.now at place }
     {
-        self.fails_at(self.behind_jump(at), place)
+        let mut next = self.behind_jump(at);
+        'groups: while let Some(NfaState::Open) = self.states.get(next) {
+            next += 1;
+        }
+        self.fails_at(next, place)
     }
 
     /// Where the jump at this state leads, or else this state.
     #[inline(always)]
     fn behind_jump(&self, at: usize) -> usize
-        ensures walks { (place : ℕ)
-            → Walks self.now true (config_at at place) (config_at result place) }
+        ensures walks { (s : NfaConfig) (place : ℕ)
+            → Walks self.now true (config_at s at place) (config_at s result place) }
         ensures fails { (place : ℕ)
             → FailsFrom self.now result place → FailsFrom self.now at place }
     {
@@ -296,9 +434,12 @@ impl Searcher<'_> {
 
 /// What a test that fails says, where no loop was passed before, or else where one was.
 fn without_a_way(is_sure: bool) -> OnePass
-    ensures { (searcher : searcher_view.Searcher) (place : ℕ) → (IsTrue is_sure
+    ensures bare { (searcher : searcher_view.Searcher) (place : ℕ) → (IsTrue is_sure
         → Finds searcher place None)
         → EndsOnePass searcher place result }
+    ensures grouped { (searcher : searcher_view.Searcher) (place : ℕ)
+        (groups : group_spans.GroupSpans) → (IsTrue is_sure → Finds searcher place None)
+        → EndsOnePassWith searcher place groups result }
 {
     if is_sure {
         OnePass::Fails

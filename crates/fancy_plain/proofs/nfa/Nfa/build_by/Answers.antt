@@ -27,8 +27,8 @@ required_bytes-required_bytes-requires c = λ i p at.
     one_read c.args.may_join c.requires.0 c.args.infos.now s c.lay_each.new.self c.new-states.ensures.items
     (c.in_ok-lay_each.ensures c.requires.0 c.requires.1) c.push.new.self.items c.in_ok-push.ensures.items _ c.deref-3.ensures.value i p at
 
-pub is_one_pass-is_one_pass-requires : goal.is_one_pass-is_one_pass-requires
-is_one_pass-is_one_pass-requires c = λ i p at.
+pub seems_one_pass-seems_one_pass-requires : goal.seems_one_pass-seems_one_pass-requires
+seems_one_pass-seems_one_pass-requires c = λ i p at.
     let s : Layout = record { alloc = c.args.alloc; unicode = c.args.unicode; states = c.new-states.result } in
     one_read c.args.may_join c.requires.0 c.args.infos.now s c.lay_each.new.self c.new-states.ensures.items
     (c.in_ok-lay_each.ensures c.requires.0 c.requires.1) c.push.new.self.items c.in_ok-push.ensures.items _ c.deref-4.ensures.value i p at

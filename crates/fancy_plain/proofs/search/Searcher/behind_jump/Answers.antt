@@ -7,14 +7,14 @@ use Rattle.fancy_plain.proofs.OnePassLaws.{goes, jump_fails, stays}
 use Rattle.fancy_plain.proofs.search.Searcher.behind_jump.Goals as goal
 
 pub returns-in-Some-Jump-clause-walks : goal.returns-in-Some-Jump-clause-walks
-returns-in-Some-Jump-clause-walks c = λ place.
+returns-in-Some-Jump-clause-walks c = λ s place.
     let states = c.args.self.now.states.now in
     let at = c.args.at in
     let to = c.in-Some-Jump.to in
     let found = c.in-Some-Jump.ensures.lookup in
     let there = slice_get_read states (length states) at c.in-Some-Jump.field-0.now refl (ltb-true at (length states) (sym found.0)) found.1
     ∙ ap Some c.in-Some-Jump.field-0-is in
-    goes c.args.self.now (nfa_state.Jump to) (config_at at place) there (config_at to place) refl
+    goes c.args.self.now (nfa_state.Jump to) (config_at s at place) there (config_at s to place) refl
 
 pub returns-in-Some-Jump-clause-fails : goal.returns-in-Some-Jump-clause-fails
 returns-in-Some-Jump-clause-fails c = λ place.
@@ -27,7 +27,7 @@ returns-in-Some-Jump-clause-fails c = λ place.
     jump_fails c.args.self.now at to place there
 
 pub returns-in_default-clause-walks : goal.returns-in_default-clause-walks
-returns-in_default-clause-walks c = λ place. stays c.args.self.now (config_at c.args.at place)
+returns-in_default-clause-walks c = λ s place. stays c.args.self.now (config_at s c.args.at place)
 
 pub returns-in_default-2-clause-walks : goal.returns-in_default-2-clause-walks
-returns-in_default-2-clause-walks c = λ place. stays c.args.self.now (config_at c.args.at place)
+returns-in_default-2-clause-walks c = λ s place. stays c.args.self.now (config_at s c.args.at place)

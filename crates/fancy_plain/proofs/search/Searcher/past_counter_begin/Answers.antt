@@ -19,7 +19,7 @@ returns-then-count-bounds c =
     let found = c.in-Some-CounterLoop.ensures.lookup in
     let there = slice_get_read states (length states) head c.in-Some-CounterLoop.field-0.now refl (ltb-true head (length states) (sym found.0)) found.1
     ∙ ap Some c.in-Some-CounterLoop.field-0-is in
-    falls_short searcher c.in-Some-CounterLoop.bounds head c.in-Some-CounterLoop.after c.in-Some.test.now there c.in-Some.ensures.body c.in-Some.ensures.greedy
+    λ base. falls_short base searcher c.in-Some-CounterLoop.bounds head c.in-Some-CounterLoop.after c.in-Some.test.now there c.in-Some.ensures.body c.in-Some.ensures.greedy
     c.in-Some.ensures.asks c.args.enter c.requires.at refl c.args.place c.in_ok-end.end c.in_ok-end.left c.in_ok-end.ensures
     c.if-left-gt0.true c.if-count-bounds.true
 
@@ -32,7 +32,7 @@ returns c =
     let found = c.in-Some-CounterLoop.ensures.lookup in
     let there = slice_get_read states (length states) head c.in-Some-CounterLoop.field-0.now refl (ltb-true head (length states) (sym found.0)) found.1
     ∙ ap Some c.in-Some-CounterLoop.field-0-is in
-    comes_past searcher bounds head c.in-Some-CounterLoop.after c.in-Some.test.now there c.in-Some.ensures.body c.in-Some.ensures.greedy
+    λ base. comes_past base searcher bounds head c.in-Some-CounterLoop.after c.in-Some.test.now there c.in-Some.ensures.body c.in-Some.ensures.greedy
     c.in-Some.ensures.asks c.args.enter c.requires.at refl c.args.place c.in_ok-end.end c.in_ok-end.left c.in_ok-end.ensures _
     (leb-true _ bounds.lo)
     (elim c.else-left-gt0.branch [

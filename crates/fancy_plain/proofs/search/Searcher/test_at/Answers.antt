@@ -8,7 +8,7 @@ pub returns-in-Some-Character : goal.returns-in-Some-Character
 returns-in-Some-Character c =
     let searcher = c.args.self.now in
     let states = searcher.states.now in
-    let at = c.behind_jump.result in
+    let at = c.behind_groups.result in
     let found = c.in-Some-Character.ensures.lookup in
     subst (IsStateReadBy searcher.unicode) c.in-Some-Character.field-0-is
     (c.requires at c.in-Some-Character.field-0.now
