@@ -49,12 +49,17 @@ enum Takes {
 }
 
 impl Takes {
+    /// It takes a pattern and a text.
+    fn has_pattern_and_text(self) -> bool {
+        matches!(self, Takes::Text | Takes::Template | Takes::Place)
+    }
+
     /// It takes what the other one stands for.
     fn has(self, other: Takes) -> bool {
         match other {
             Takes::Pattern => !matches!(self, Takes::Lines | Takes::Rules),
-            Takes::TextAlone => self.has(Takes::Text) || self == Takes::Rules,
-            Takes::Text => matches!(self, Takes::Text | Takes::Template | Takes::Place),
+            Takes::TextAlone => self == Takes::Rules || self.has_pattern_and_text(),
+            Takes::Text => self.has_pattern_and_text(),
             _ => self == other,
         }
     }
