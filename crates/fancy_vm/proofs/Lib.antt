@@ -13,3 +13,4 @@ pub mod PairsLaws
 pub mod SingleDelegateLaws
 pub mod SingleBranchLaws
 pub mod RequiredLaws
+pub mod SearchLimitsLaws

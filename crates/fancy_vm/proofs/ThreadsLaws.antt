@@ -5,6 +5,7 @@ use Rattle.std.proofs.MapsCrossing as maps
 use Rattle.fancy_backtrack.specs.contracts.memo.Memo as Memo
 use Rattle.fancy_fragments.proofs.ThreadsLaws.{start_filter_sends}
 use Rattle.fancy_vm.specs.contracts.memos.Memos as Memos
+use Rattle.fancy_vm.specs.contracts.runs.Room as Room
 use Rattle.fancy_vm.specs.contracts.runs.Scratch as Scratch
 use Rattle.fancy_vm.specs.contracts.start_filters.StartFilters as StartFilters
 
@@ -18,5 +19,8 @@ memos_sends = search (memo_sends, std.crosses, sendable) depth 60 fits 20000
 start_filters_sends : IsSend StartFilters.the_field.row
 start_filters_sends = search (start_filter_sends, std.crosses, sendable) depth 60 fits 20000
 
+room_sends : IsSend Room.the_field.row
+room_sends = search (memos_sends, start_filters_sends, std.crosses, sendable) depth 60 fits 20000
+
 pub scratch_sends : IsSend Scratch.the_field.row
-scratch_sends = search (memos_sends, start_filters_sends, std.crosses, sendable) depth 60 fits 20000
+scratch_sends = search (room_sends, std.crosses, sendable) depth 60 fits 20000

@@ -13,4 +13,5 @@ pub mod Bounds
 pub mod Steppers
 pub mod StepperSteps
 pub mod Founds
+pub mod SearchLimits
 pub mod SingleBranch

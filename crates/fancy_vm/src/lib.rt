@@ -10,6 +10,7 @@ mod machine;
 mod memos;
 mod required_bytes;
 mod runs;
+mod search_limits;
 mod single_branch;
 mod single_delegate;
 mod start_filters;

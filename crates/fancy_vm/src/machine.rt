@@ -11,6 +11,7 @@ ghost use Rattle.fancy_vm.specs.TrailingNewlines.{AreTrailingNewlines};
 use crate::longest::Longest;
 use crate::look_behind_cache::LookBehindCache;
 use crate::runs::RunOptions;
+use crate::search_limits::SearchLimits;
 use crate::trailing_newlines::TrailingNewlines;
 use fancy_expr::error::{Error, RuntimeError};
 use fancy_program::insn::Prog;
@@ -27,6 +28,8 @@ pub(crate) struct Task<'a> {
     pub(crate) text: &'a str,
     pub(crate) options: &'a RunOptions,
     pub(crate) alloc: Global,
+    /// How much its delegates may take.
+    pub(crate) limits: SearchLimits,
 }
 
 /// Where a run of a task stands.

@@ -7,9 +7,9 @@ ghost use Rattle.fancy_plain.specs.Ways.{HasAscending};
 ghost use Rattle.fancy_vm.specs.MemoRuns.{AddsNoMemo, AreOfRuns};
 
 use crate::machine::Task;
+use crate::search_limits::SearchCost;
 use fancy_backtrack::memo::Memo;
 use fancy_expr::error::Error;
-use fancy_fragments::first_way::first_way_joined;
 use fancy_fragments::fragment::Fragment;
 use fancy_plain::first_way::FirstWay;
 use std::alloc::{AllocError, Global};
@@ -28,6 +28,8 @@ pub(crate) struct Memos {
     by_place: Vec<Option<RunMemo>>,
     /// The number of this run.
     run: u64,
+    /// What its searches took.
+    cost: SearchCost,
     ghost of_runs: { AreOfRuns run by_place.items },
 }
 
@@ -54,6 +56,7 @@ fn take_out(by_place: &mut Vec<Option<RunMemo>>, pc: usize) -> Option<RunMemo>
 impl Memos {
     ghost use Rattle.fancy_vm.specs.declared.machine.Task as tasks;
     ghost use Rattle.fancy_vm.specs.Memos.{AreMemosOf, fragment_at};
+    ghost use Rattle.fancy_vm.specs.SearchLimits.{no_cost};
 
     /// Nothing is noted.
     pub(crate) fn new(alloc: Global) -> Memos
@@ -62,14 +65,30 @@ impl Memos {
         Memos {
             by_place: Vec::new(alloc),
             run: 0,
+            cost: SearchCost::none(),
         }
     }
 
-    /// For another run, of which nothing is noted yet.
+    /// What the searches of this run took.
+    pub(crate) fn cost(&self) -> SearchCost
+        ensures { result ≡ self.now.cost }
+    {
+        self.cost
+    }
+
+    /// The searches of this run took nothing yet.
+    pub(crate) fn forget_cost(&mut self)
+        ensures { self.new.cost ≡ no_cost }
+    {
+        self.cost = SearchCost::none();
+    }
+
+    /// For another run, of which nothing is noted yet. What was taken up counts on.
     #[inline(always)]
     pub(crate) fn restart(&mut self, alloc: Global)
         ensures { (task : tasks.Task) → AreMemosOf task self.new }
     {
+        self.cost.bytes = 0;
         match self.run.checked_add(1) {
             None => *self = Memos::new(alloc),
             Some(run) => self.run = run,
@@ -107,7 +126,7 @@ impl Memos {
             });
         }
         let mut memo = self.memo_for(task, fragment, pc)?;
-        let way = first_way_joined(task.alloc, fragment, task.text, ix, &mut *memo);
+        let way = self.cost.first_way(task, fragment, ix, &mut *memo);
         let run = self.run;
         self.by_place[pc] = Some(RunMemo { memo, run });
         way

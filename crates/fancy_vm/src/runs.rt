@@ -5,11 +5,13 @@ ghost use Rattle.fancy_meaning.specs.Config as config;
 ghost use Rattle.fancy_meaning.specs.Places.{is_place};
 ghost use Rattle.fancy_meaning.specs.Machine as machine;
 ghost use Rattle.fancy_meaning.specs.Fits.{run_fits};
+ghost use Rattle.fancy_meaning.specs.Premises.{IsText};
 ghost use Rattle.fancy_vm.specs.Bounds.{IfLimit, RunMayPass};
 ghost use Rattle.fancy_vm.specs.Memos.{AreMemosOf};
 ghost use Rattle.fancy_vm.specs.Means.{IsMeaning, IsMeaningPair, answer_in, numbers_of};
 ghost use Rattle.fancy_vm.specs.Outcomes.{RunEnds, RunAnswers, RunAnswersPair, config_of, ending, held_match, plain_task};
 ghost use Rattle.fancy_vm.specs.Ready.{AreFresh, IsReady};
+ghost use Rattle.fancy_vm.specs.SearchLimits.{StaysWithin, limits_of, no_limits, passed_of};
 ghost use Rattle.fancy_state.specs.Held.{first_held};
 ghost use Rattle.fancy_state.specs.Refused.{IsMemory};
 ghost use Rattle.fancy_program.specs.Programs.{prog_of};
@@ -18,6 +20,7 @@ ghost use Rattle.fancy_vm.specs.Tasks.{IsUnused, allocator_of, default_at, defau
 use crate::longest::Longest;
 use crate::machine::{MAX_BRANCHES, Machine, Next, Stop, Task};
 use crate::memos::Memos;
+use crate::search_limits::{SearchCost, SearchLimit, SearchLimits};
 use crate::start_filters::StartFilters;
 use crate::strategy::Found;
 use fancy_characters::places::is_place;
@@ -86,9 +89,17 @@ impl Default for RunOptions {
     }
 }
 
-/// Memory that runs use again, of this allocator. No answer depends on it.
+/// Memory that runs use again, of this allocator, and how much the delegates of a run may take. No answer depends on
+/// it: a run that passes a limit has none.
 #[derive(Drop)]
 pub struct Scratch {
+    limits: SearchLimits,
+    room: Room,
+}
+
+/// The memory of a scratch.
+#[derive(Drop)]
+pub(crate) struct Room {
     alloc: Global,
     state: Option<State>,
     pub(crate) memos: Option<Memos>,
@@ -97,19 +108,55 @@ pub struct Scratch {
 }
 
 impl Scratch {
-    /// Holds no memory yet, and takes none.
+    ghost use Rattle.fancy_vm.specs.SearchLimits.{cost_of};
+
+    /// Holds no memory yet, and takes none. There is no limit.
     pub fn new(alloc: Global) -> Scratch
         ensures alloc { allocator_of result ≡ alloc }
         ensures unused { IsUnused result }
+        ensures limits { limits_of result ≡ no_limits }
     {
         crosses_threads::<Scratch>();
         Scratch {
-            alloc,
-            state: None,
-            memos: None,
-            longest: None,
-            filters: StartFilters::new(),
+            limits: SearchLimits::none(),
+            room: Room {
+                alloc,
+                state: None,
+                memos: None,
+                longest: None,
+                filters: StartFilters::new(),
+            },
         }
+    }
+
+    /// The delegates of each later run may take so much together.
+    pub fn limit(&mut self, limits: SearchLimits)
+        ensures limits { limits_of self.new ≡ limits }
+        ensures passed { passed_of self.new ≡ None }
+    {
+        self.limits = limits;
+        self.room.forget_cost();
+    }
+
+    /// How much the delegates of a run may take.
+    pub fn limits(&self) -> SearchLimits
+        ensures { result ≡ limits_of self.now }
+    {
+        self.limits
+    }
+
+    /// The limit that the last run passed; its answer was `Memory` then. There is none where memory was refused.
+    pub fn passed(&self) -> Option<SearchLimit>
+        ensures { result ≡ passed_of self.now }
+    {
+        self.limits.passed_by(self.room.cost())
+    }
+
+    /// What the delegates of the last run took.
+    pub fn cost(&self) -> SearchCost
+        ensures { result ≡ cost_of self.now }
+    {
+        self.room.cost()
     }
 }
 
@@ -118,9 +165,9 @@ impl Scratch {
 /// these are the numbers of the first admitted way that the tree has in the text, or of the longest one where
 /// `leftmost_longest` asks for it.
 ///
-/// A `RuntimeError` tells which limit was passed, and `Memory` that a request for memory was refused. The scratch may
-/// be used again after either. Where the whole tree is easy, limits of one backtrack and eight instructions for each
-/// start are never passed.
+/// A `RuntimeError` tells which limit was passed. `Memory` tells that a request for memory was refused, or that a limit
+/// of the scratch was passed, which the scratch then names. The scratch may be used again after either. Where the whole
+/// tree is easy, limits of one backtrack and eight instructions for each start are never passed.
 pub fn run(
     alloc: Global,
     prog: &Prog,
@@ -134,6 +181,8 @@ pub fn run(
         IsMeaning (prog_of prog.now) text.now (options_of options.now) (numbers_of found)) }
     ensures bounds { IfLimit result
         (RunMayPass (prog_of prog.now) text.now (options_of options.now)) }
+    ensures limits { limits_of scratch.new ≡ limits_of scratch.old }
+    ensures stays { StaysWithin result (passed_of scratch.new) }
 {
     let mut numbers = Vec::new(alloc);
     if !run_into(alloc, prog, text, options, scratch, &mut numbers)? {
@@ -160,20 +209,20 @@ pub fn run_into(
         IsMeaning (prog_of prog.now) text.now (options_of options.now) (numbers_of found)) }
     ensures bounds { IfLimit (answer_in result numbers.new)
         (RunMayPass (prog_of prog.now) text.now (options_of options.now)) }
+    ensures limits { limits_of scratch.new ≡ limits_of scratch.old }
+    ensures stays { StaysWithin result (passed_of scratch.new) }
 {
     let task = Task {
         prog,
         text,
         options,
         alloc,
+        limits: scratch.limits,
     };
-    match task.run_by_strategy(scratch)? {
-        Found::Match(start, end) => {
-            task.write_pair(numbers, start, end)?;
-            Ok(true)
-        }
-        Found::NoMatch => Ok(false),
-        Found::Unknown => scratch.answer(&task, numbers),
+    let answer = task.run_into(&mut scratch.room, numbers);
+    match scratch.passed() {
+        None => answer,
+        Some(_) => Err(Error::Memory),
     }
 }
 
@@ -191,17 +240,20 @@ pub fn run_spans(
         (IsMeaningPair (prog_of prog.now) text.now (options_of options.now)) }
     ensures bounds { IfLimit result
         (RunMayPass (prog_of prog.now) text.now (options_of options.now)) }
+    ensures limits { limits_of scratch.new ≡ limits_of scratch.old }
+    ensures stays { StaysWithin result (passed_of scratch.new) }
 {
     let task = Task {
         prog,
         text,
         options,
         alloc,
+        limits: scratch.limits,
     };
-    match task.run_by_strategy(scratch)? {
-        Found::Match(start, end) => Ok(Some((start.min(end), end))),
-        Found::NoMatch => Ok(None),
-        Found::Unknown => scratch.answer_pair(&task),
+    let answer = task.run_spans(&mut scratch.room);
+    match scratch.passed() {
+        None => answer,
+        Some(_) => Err(Error::Memory),
     }
 }
 
@@ -222,7 +274,62 @@ pub fn run_default(
     run(alloc, prog, text, &RunOptions::from_pos(pos), &mut scratch)
 }
 
-impl Scratch {
+impl Task<'_> {
+    /// Whether there is a match. Its numbers are written over these.
+    fn run_into(&self, room: &mut Room, numbers: &mut Vec<usize>) -> Result<bool, Error>
+        requires text { IsText self.now.text.now }
+        requires fits { IsTrue (run_fits (plain_task self.now)) }
+        ensures { RunAnswers (machine.run (plain_task self.now)) (answer_in result numbers.new) }
+    {
+        room.forget_cost();
+        match self.run_by_strategy(room)? {
+            Found::Match(start, end) => {
+                self.write_pair(numbers, start, end)?;
+                Ok(true)
+            }
+            Found::NoMatch => Ok(false),
+            Found::Unknown => room.answer(self, numbers),
+        }
+    }
+
+    /// The first pair of the numbers.
+    fn run_spans(&self, room: &mut Room) -> Result<Option<(usize, usize)>, Error>
+        requires text { IsText self.now.text.now }
+        requires fits { IsTrue (run_fits (plain_task self.now)) }
+        ensures { RunAnswersPair (machine.run (plain_task self.now)) result }
+    {
+        room.forget_cost();
+        match self.run_by_strategy(room)? {
+            Found::Match(start, end) => Ok(Some((start.min(end), end))),
+            Found::NoMatch => Ok(None),
+            Found::Unknown => room.answer_pair(self),
+        }
+    }
+}
+
+impl Room {
+    ghost use Rattle.fancy_vm.specs.SearchLimits.{no_cost, cost_in};
+
+    /// What the delegates of the last run took.
+    #[inline(always)]
+    pub(crate) fn cost(&self) -> SearchCost
+        ensures { result ≡ cost_in self.now.memos }
+    {
+        match &self.memos {
+            None => SearchCost::none(),
+            Some(memos) => memos.cost(),
+        }
+    }
+
+    /// The delegates of this run took nothing yet.
+    fn forget_cost(&mut self)
+        ensures { cost_in self.new.memos ≡ no_cost }
+    {
+        if let Some(memos) = &mut self.memos {
+            memos.forget_cost();
+        }
+    }
+
     /// The machine's answer, whose numbers are written over these.
     #[inline(never)]
     fn answer(&mut self, task: &Task<'_>, numbers: &mut Vec<usize>) -> Result<bool, Error>
@@ -230,7 +337,7 @@ impl Scratch {
         ensures { RunAnswers (machine.run (plain_task task.now)) (answer_in result numbers.new) }
     {
         let slots = task.prog.parts.slots;
-        self.renew(slots)?;
+        self.renew(task)?;
         let mut m = Machine::begin(task, self.take_state(slots), self.take_longest());
         let Some(memos) = &mut self.memos else {
             unreachable!()
@@ -247,7 +354,7 @@ impl Scratch {
         ensures { RunAnswersPair (machine.run (plain_task task.now)) result }
     {
         let slots = task.prog.parts.slots;
-        self.renew(slots)?;
+        self.renew(task)?;
         let mut m = Machine::begin(task, self.take_state(slots), self.take_longest());
         let Some(memos) = &mut self.memos else {
             unreachable!()
@@ -257,15 +364,19 @@ impl Scratch {
         answer
     }
 
-    /// What a run of a program of so many slots begins with, in the memory that is there.
+    /// What the machine of the task begins with, in the memory that is there. `Memory` too where the run passed a limit
+    /// before it came to the machine.
     #[inline(always)]
-    fn renew(&mut self, slots: usize) -> Result<(), Error>
-        ensures state { OnOk result (IsReady slots self.new.state) }
+    fn renew(&mut self, task: &Task<'_>) -> Result<(), Error>
+        ensures state { OnOk result (IsReady task.now.prog.now.parts.slots self.new.state) }
         ensures memos { OnOk result (AreFresh self.new.memos) }
         ensures err { IfErr result IsMemory }
     {
+        if task.limits.passed_by(self.cost()).is_some() {
+            return Err(Error::Memory);
+        }
         self.renew_memos();
-        self.renew_state(slots)
+        self.renew_state(task.prog.parts.slots)
     }
 
     /// Nothing is noted of the run.

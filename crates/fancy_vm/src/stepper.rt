@@ -12,6 +12,7 @@ use crate::longest::Longest;
 use crate::machine::{MAX_BRANCHES, Machine, Next, Task};
 use crate::memos::Memos;
 use crate::runs::RunOptions;
+use crate::search_limits::SearchLimits;
 use fancy_expr::error::{Error, RuntimeError};
 use fancy_program::insn::Prog;
 use fancy_state::state::State;
@@ -70,6 +71,7 @@ impl<'a> Stepper<'a> {
             text,
             options,
             alloc,
+            limits: SearchLimits::none(),
         };
         let state = State::new(alloc, prog.parts.slots, MAX_BRANCHES)?;
         Ok(Stepper {

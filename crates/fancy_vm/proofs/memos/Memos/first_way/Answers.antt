@@ -23,7 +23,7 @@ returns-clause-memos c = record {
       let text = task.text.now in
       let fragment_is = same_Some _ _ (sym c.requires.here ∙ ap (fragment_at task) (sym new.0) ∙ here) in
       subst (λ g. IsJoinedMemoFor text g memo.memo.value) fragment_is
-      (subst (λ m. IsJoinedMemoFor text c.args.fragment.now m.memo.value) new.1 c.first_way_joined-way.ensures.memo))
+      (subst (λ m. IsJoinedMemoFor text c.args.fragment.now m.memo.value) new.1 c.first_way-way.ensures.memo))
       (λ before. c.memo_for.ensures.memos.each pc memo before same)
       (put_tells _ c.args.pc _ pc memo stands);
 }

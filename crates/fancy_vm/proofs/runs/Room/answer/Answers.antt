@@ -5,7 +5,7 @@ use Rattle.fancy_vm.specs.Means.{answer_in}
 use Rattle.fancy_vm.specs.Outcomes.{RunAnswers, plain_task}
 use Rattle.fancy_vm.specs.declared.machine.Task.{Task}
 use Rattle.fancy_program.proofs.FitsLaws.{run_implicit, run_place}
-use Rattle.fancy_vm.proofs.runs.Scratch.answer.Goals as goal
+use Rattle.fancy_vm.proofs.runs.Room.answer.Goals as goal
 
 pub begin-m-requires-clause-implicit : goal.begin-m-requires-clause-implicit
 begin-m-requires-clause-implicit c = run_implicit (plain_task c.args.task.now) c.requires

@@ -4,7 +4,7 @@ use Rattle.fancy_meaning.specs.Places.{is_place}
 use Rattle.fancy_vm.specs.Outcomes.{RunAnswersPair, plain_task}
 use Rattle.fancy_vm.specs.declared.machine.Task.{Task}
 use Rattle.fancy_program.proofs.FitsLaws.{run_implicit, run_place}
-use Rattle.fancy_vm.proofs.runs.Scratch.answer_pair.Goals as goal
+use Rattle.fancy_vm.proofs.runs.Room.answer_pair.Goals as goal
 
 pub begin-m-requires-clause-implicit : goal.begin-m-requires-clause-implicit
 begin-m-requires-clause-implicit c = run_implicit (plain_task c.args.task.now) c.requires

@@ -1,0 +1,7 @@
+use Rattle.std.proofs.Common.{◌∙◌, ap}
+use Rattle.fancy_vm.specs.SearchLimits.{passed_by}
+use Rattle.fancy_vm.proofs.SearchLimitsLaws.{no_cost_passes}
+use Rattle.fancy_vm.proofs.runs.Scratch.limit.Goals as goal
+
+pub returns-clause-passed : goal.returns-clause-passed
+returns-clause-passed c = ap (passed_by c.args.limits) c.forget_cost.ensures ∙ no_cost_passes c.args.limits
