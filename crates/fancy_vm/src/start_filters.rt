@@ -16,6 +16,8 @@ const GREATEST_PATIENCE: usize = 1_024;
 const FIRST_PATIENCE: usize = 64;
 /// Attempts that fail at fewer starts than one in so many bytes cost less than the filter.
 const BYTES: usize = 16;
+/// An attempt that takes up so many states counts as one more.
+const VISITS: u64 = 32;
 /// To ask costs about as much as so many attempts.
 const ASKING: usize = 8;
 /// To make a filter costs about as much as so many attempts.
@@ -25,7 +27,7 @@ const MAKING: usize = 4_096;
 #[derive(Drop)]
 pub(crate) struct StartFilters {
     filter: Option<StartFilter>,
-    /// How many attempts fail before the filter is asked.
+    /// How many attempts fail before the filter is asked; one that takes up many states counts as several.
     patience: usize,
     /// How many of these are still to fail, and where they began.
     left: usize,
@@ -33,6 +35,8 @@ pub(crate) struct StartFilters {
     /// How many attempts failed for want of a filter, and after how many one is made.
     failures: usize,
     making: usize,
+    /// How many states the run had taken up when the last attempt failed.
+    visits: u64,
 }
 
 impl StartFilters {
@@ -49,13 +53,17 @@ impl StartFilters {
             begun: 0,
             failures: 0,
             making: MAKING,
+            visits: 0,
         }
     }
 
-    /// Notes that an attempt failed. Tells whether the filter is to be asked.
+    /// Notes that an attempt failed, after which the run has taken up so many states. Tells whether the filter is to be
+    /// asked.
     #[inline(always)]
-    pub(crate) fn are_due(&mut self) -> bool {
-        self.left = self.left.saturating_sub(1);
+    pub(crate) fn are_due(&mut self, visits: u64) -> bool {
+        let taken = visits.saturating_sub(self.visits) / VISITS;
+        self.visits = visits;
+        self.left = self.left.saturating_sub(taken.saturating_add(1) as usize);
         self.left == 0
     }
 
