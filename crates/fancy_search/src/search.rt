@@ -8,6 +8,7 @@ ghost use Rattle.fancy_info.specs.Infos.{analysis_options_of};
 ghost use Rattle.fancy_compile.specs.Compiled.{compile_options_of};
 ghost use Rattle.fancy_expr.specs.Sound.{IsWellFormedTree};
 ghost use Rattle.fancy_vm.specs.Means.{answer_in};
+ghost use Rattle.fancy_vm.specs.SearchLimits.{StaysWithin, limits_of, passed_of};
 ghost use Rattle.fancy_vm.specs.Tasks.{default_at, options_of as run_options_of, task_of};
 ghost use Rattle.fancy_search.specs.Searches.{Bounds, IsCompiledFrom, IsMadeWithin, IsNestedOver, IsRefusedAs, Promises, PromisesWithin, input_of, program, search_fits};
 ghost use Rattle.fancy_search.specs.Searches as searches;
@@ -141,8 +142,8 @@ impl Compiled {
     /// Searches the text from `options.pos` on, a byte of it, for the tree that was compiled: start and end of each
     /// group from 0 up, in bytes of the text, with `usize::MAX` for a group that is not set, or none.
     ///
-    /// A `RuntimeError` tells which limit was passed, and `Memory` that a request for memory was refused. The scratch
-    /// may be used again after either. Where the whole tree is easy, limits of one backtrack and eight instructions for
+    /// A `RuntimeError` tells which limit was passed, and `Memory` that a request for memory was refused or a limit of
+    /// the scratch was passed. The scratch may be used again after either. Where the whole tree is easy, limits of one backtrack and eight instructions for
     /// each start are never passed.
     pub fn search(
         &self,
@@ -158,6 +159,8 @@ impl Compiled {
         ensures bounds { (i : Input)
             → IsCompiledFrom i self.now
             → Bounds i text.now (run_options_of options.now) result }
+        ensures limits { limits_of scratch.new ≡ limits_of scratch.old }
+        ensures stays { StaysWithin result (passed_of scratch.new) }
     {
         run(alloc, &self.prog, text, options, scratch)
     }
@@ -179,6 +182,8 @@ impl Compiled {
         ensures bounds { (i : Input)
             → IsCompiledFrom i self.now
             → Bounds i text.now (run_options_of options.now) (answer_in result numbers.new) }
+        ensures limits { limits_of scratch.new ≡ limits_of scratch.old }
+        ensures stays { StaysWithin result (passed_of scratch.new) }
     {
         run_into(alloc, &self.prog, text, options, scratch, numbers)
     }
