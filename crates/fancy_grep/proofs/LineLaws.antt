@@ -1,8 +1,9 @@
 -- The lines of a text, one after the other.
-use Rattle.std.proofs.Common.{◌++◌, ◌-◌, ◌≤◌, ◌⊎◌, inl, inr, get_or, length-append, ◌≡◌, ℕ, zero, suc, ◌+◌, ◌<◌, Bool, true, false, not, cond, List, [], ◌∷◌, length, take, drop, refl, sym, ap, ap₂, ⊎_elim, drop_of_length-le, length-take, length-drop, ◌∙◌, if◌then◌else◌, arith}
+use Rattle.std.proofs.Common.{◌++◌, ◌-◌, ◌≤◌, take_all, ◌⊎◌, inl, inr, get_or, length-append, ◌≡◌, ℕ, zero, suc, ◌+◌, ◌<◌, Bool, true, false, not, cond, List, [], ◌∷◌, length, take, drop, refl, sym, ap, ap₂, ⊎_elim, drop_of_length-le, length-take, length-drop, ◌∙◌, if◌then◌else◌, arith}
 use Rattle.std.specs.List.{after_first, before_first, position_or_len, prefix_len}
 use Rattle.std.proofs.lemmas.Bool.{cases_lt}
-use Rattle.std.proofs.lemmas.List.Sums.{split_at_first}
+use Rattle.std.proofs.lemmas.List.Sums.{position_or_len_is, split_at_first}
+use Rattle.memchr.specs.Find.{Nowhere, NoneBefore, Passes, is_byte}
 use Rattle.fancy_grep.specs.Lines.{Line, begun_by, is_newline, lines, numbered}
 
 module _ (p : ℕ → Bool) (b : ℕ) (text : List ℕ) where
@@ -108,3 +109,33 @@ pub numbered_counts : (n s : ℕ) (ls : List (List ℕ)) → AreCounted n (numbe
 unfolding numbered
 numbered_counts n s [] = tt
 numbered_counts n s (line ∷ ls) = (refl, numbered_counts (suc n) (s + length line + 1) ls)
+
+-- ---- the first "\n", as `memchr` finds it
+
+-- it stands here
+abbrev pub IsFirstNewline : List ℕ → ℕ → Type 0
+IsFirstNewline text at = NoneBefore (Passes (is_byte 10) text) 0 (length text) at × Passes (is_byte 10) text at
+
+-- there is none
+abbrev pub HasNoNewline : List ℕ → Type 0
+HasNoNewline text = Nowhere (Passes (is_byte 10) text) 0 (length text)
+
+none_here : (b : Bool) → ¬ (b ≡ true) → b ≡ false
+none_here true none = absurd (none refl)
+none_here false none = refl
+
+module _ (text : List ℕ) where
+  none_to : (n : ℕ) → Nowhere (Passes (is_byte 10) text) 0 n → (k : ℕ) → k < n → is_newline (get_or text k 0) ≡ false
+  none_to n none k lt = none_here (is_newline (get_or text k 0)) (none k (omega arith) lt)
+
+  pub newline_at : (at : ℕ) → IsFirstNewline text at → position_or_len is_newline text ≡ at
+  newline_at at h = position_or_len_is is_newline text at 0 (omega (arith, h.0.high)) (none_to at h.0.before) (λ lt. h.1)
+
+  no_newline : HasNoNewline text → position_or_len is_newline text ≡ length text
+  no_newline none = position_or_len_is is_newline text (length text) 0 (omega arith) (none_to (length text) none) (λ lt. absurd (omega (arith, lt)))
+
+  pub all_before : HasNoNewline text → text ≡ before_first is_newline text
+  all_before none = sym (take_all (position_or_len is_newline text) text (omega (arith, no_newline none)))
+
+  pub nothing_after : HasNoNewline text → [] ≡ after_first is_newline text
+  nothing_after none = sym (drop_of_length-le text (omega (arith, no_newline none)))

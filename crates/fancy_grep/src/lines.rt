@@ -4,6 +4,8 @@ ghost use Rattle.std.specs.Prelude.{◌≡◌, ◌+◌, ◌-◌, ◌^◌, ◌<�
 ghost use Rattle.std.specs.Iterator.{YieldsFirstBy, at_most};
 ghost use Rattle.std.specs.List.{after_first, before_first};
 
+use memchr::memchr;
+
 /// A line of a text.
 #[derive(Clone, Copy)]
 pub struct Line<'t> {
@@ -47,7 +49,10 @@ impl<'t> Lines<'t> {
         ensures line { result.0.now ≡ before_first is_newline self.now.rest.now }
         ensures rest { result.1.now ≡ after_first is_newline self.now.rest.now }
     {
-        self.rest.split_once('\n').unwrap_or((self.rest, ""))
+        match memchr(b'\n', self.rest.as_bytes()) {
+            None => (self.rest, ""),
+            Some(at) => (&self.rest[..at], &self.rest[at + 1..]),
+        }
     }
 }
 
