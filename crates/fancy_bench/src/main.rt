@@ -6,8 +6,6 @@ mod timing;
 
 use crate::passes::Passes;
 use crate::timing::{print_compiling, print_searching};
-use std::rt::Files;
-use std::time::Clock;
 use std::{env, fs, io};
 
 /// The number at this place among the words; `otherwise` where there is none.
@@ -19,7 +17,7 @@ fn number_at(words: &[String], index: usize, otherwise: usize) -> usize {
 }
 
 /// MODE PATTERNFILE TEXTFILE POS ITERS [REPS].
-fn measure(rt: &(impl Files + Print + Clock + AllocGlobal), words: &[String]) -> io::Result<()> {
+fn measure(rt: &HostRuntime, words: &[String]) -> io::Result<()> {
     let [mode, tree_file, text_file, numbers @ ..] = words else {
         return println!(rt; "usage: fancy_bench MODE PATTERNFILE TEXTFILE POS ITERS [REPS]");
     };

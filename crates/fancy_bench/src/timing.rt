@@ -9,7 +9,7 @@ use fancy_search::search::Compiled;
 use fancy_vm::vm::Scratch;
 use std::alloc::Global;
 use std::io;
-use std::time::{Clock, Instant};
+use std::time::Instant;
 
 /// From the text of a tree to its program.
 fn compiled(alloc: Global, tree: &str) -> Result<Compiled, Error> {
@@ -22,11 +22,11 @@ fn compiled(alloc: Global, tree: &str) -> Result<Compiled, Error> {
     )
 }
 
-fn print_refusal(rt: &impl Print, error: &Error) -> io::Result<()> {
+fn print_refusal(rt: &HostRuntime, error: &Error) -> io::Result<()> {
     println!(rt; "error:compile - - 0 0 0 # {error}")
 }
 
-fn print_tally(rt: &impl Print, outcome: &Result<Tally, Error>, nanos: u128) -> io::Result<()> {
+fn print_tally(rt: &HostRuntime, outcome: &Result<Tally, Error>, nanos: u128) -> io::Result<()> {
     match outcome {
         Ok(
             Tally {
@@ -43,7 +43,7 @@ fn print_tally(rt: &impl Print, outcome: &Result<Tally, Error>, nanos: u128) -> 
 
 /// A line for each time that the tree is compiled, and let go, so often.
 pub fn print_compiling(
-    rt: &(impl Print + Clock + AllocGlobal),
+    rt: &HostRuntime,
     tree: &str,
     passes: usize,
     repetitions: usize,
@@ -62,22 +62,35 @@ pub fn print_compiling(
 }
 
 /// A line for each time that the passes are made.
-pub fn print_searching(
-    rt: &(impl Print + Clock + AllocGlobal),
-    tree: &str,
+fn print_passes(
+    rt: &HostRuntime,
+    compiled: &Compiled,
+    scratch: &mut Scratch,
     passes: &Passes<'_>,
     repetitions: usize,
 ) -> io::Result<()> {
-    let compiled = match compiled(rt.alloc(), tree) {
-        Ok(compiled) => compiled,
-        Err(error) => return print_refusal(rt, &error),
-    };
-    let mut scratch = Scratch::new(rt.alloc());
     for _ in 0..repetitions {
         let start = Instant::now(rt)?;
-        let outcome = passes.run(rt.alloc(), &compiled, &mut scratch);
+        let outcome = passes.run(rt.alloc(), compiled, scratch);
         let nanos = start.elapsed(rt)?.as_nanos();
         print_tally(rt, &outcome, nanos)?;
     }
     Ok(())
+}
+
+/// The same for the tree of this text. What is compiled, and the memory of its searches, are let go in one place: that
+/// keeps the proof short.
+pub fn print_searching(
+    rt: &HostRuntime,
+    tree: &str,
+    passes: &Passes<'_>,
+    repetitions: usize,
+) -> io::Result<()> {
+    match compiled(rt.alloc(), tree) {
+        Err(error) => print_refusal(rt, &error),
+        Ok(compiled) => {
+            let mut scratch = Scratch::new(rt.alloc());
+            print_passes(rt, &compiled, &mut scratch, passes, repetitions)
+        }
+    }
 }
