@@ -14,7 +14,7 @@ use Rattle.fancy_pattern.specs.declared.tokens.Suffix.{Suffix}
 use Rattle.fancy_pattern.specs.declared.tokens.Enclosing.{Enclosing}
 use Rattle.fancy_pattern.specs.Tokens.{Reference, Token, Node, Placed, Opening, Around, Group, AbsentBar, If, IfPattern, IfLook}
 use Rattle.fancy_pattern.specs.PatternViews.{placed_of}
-use Rattle.fancy_pattern.specs.Grammar.{Names, Takes, first_gives, gives_some, is_at, is_branch_end, is_empty, is_repeatable, bar, closing, quantifier, class_text, class_close, class_of, joined, alternated, suffixed, SpellsSuffix, SpellsClass, class_end, class_piece, class_open, opening, node_of, reference, enclosed, SpellsAtom, node, class, opened, SpellsOpened, around, group, stopper, expression, if_group, if_pattern, if_look, SpellsBodies, one_body, two_bodies, SpellsPiece, plain, quantified, SpellsPieces, no_piece, piece, SpellsBranch, branch, SpellsBars, no_bar, barred, SpellsAlternatives, branches}
+use Rattle.fancy_pattern.specs.Grammar.{Names, Takes, first_gives, gives_some, is_at, is_branch_end, is_empty, is_repeatable, bar, closing, quantifier, class_text, class_close, class_of, joined, branch_of, alternated, suffixed, SpellsSuffix, SpellsClass, class_end, class_piece, class_open, opening, node_of, reference, enclosed, SpellsAtom, node, class, opened, SpellsOpened, around, group, stopper, expression, if_group, if_pattern, if_look, SpellsBodies, one_body, two_bodies, SpellsPiece, plain, quantified, SpellsPieces, no_piece, piece, SpellsBranch, branch, SpellsBars, no_bar, barred, SpellsAlternatives, branches}
 use Rattle.fancy_pattern.proofs.MadeNodes.{text_added, one_char}
 use Rattle.fancy_expr.specs.Each.{Each}
 use Rattle.fancy_pattern.proofs.OneChars.{no_parts, with_part}
@@ -59,6 +59,15 @@ piece_spelled names e r x y z a (by may t more) = quantified a may t more
 pub branch_spelled : (names : Names) (x y : List Placed) (es : List Tree) (made : List Tree) (r : Tree) → SpellsPieces names x y es →
     made ≡ filter (λ e. not (is_empty e)) es → r ≡ joined made → SpellsBranch names x y r
 branch_spelled names x y es made r s are is = subst (SpellsBranch names x y) (sym (is ∙ ap joined are)) (branch s)
+
+-- one piece alone
+pub piece_alone : (names : Names) (x y : List Placed) (e : Tree) → is_branch_end x ≡ false → SpellsPiece names x y e → is_branch_end y ≡ true →
+    SpellsBranch names x y e
+piece_alone names x y e on p end = subst (SpellsBranch names x y) (itself e) (branch (piece on p (no_piece end)))
+  where
+    itself : (e : Tree) → branch_of (e ∷ []) ≡ e
+    itself tree.Empty = refl
+    itself e = refl
 
 pub one_given : (e : Expr) (none given : List Expr) → none ≡ [] → given ≡ none ++ e ∷ [] → map tree_of given ≡ tree_of e ∷ []
 one_given e none given nothing is = ap (map tree_of) (is ∙ ap (λ l. l ++ e ∷ []) nothing)

@@ -1,8 +1,9 @@
 -- Tokens that are found at once, and what holds behind them.
+use Rattle.std.specs.Prelude.{◌+◌, None}
 use Rattle.fancy_pattern.specs.declared.classes.ClassPlace.{ClassPlace}
 use Rattle.fancy_pattern.specs.declared.classes.Head.TheVariants as head
 use Rattle.fancy_pattern.specs.declared.items.Lexing.{Lexing}
-use Rattle.fancy_pattern.specs.Tokens.{Token}
+use Rattle.fancy_pattern.specs.Tokens.{Token, Open, Group}
 use Rattle.fancy_pattern.specs.Classes.{ClassItem}
 use Rattle.fancy_pattern.specs.Items.{Found}
 
@@ -20,3 +21,9 @@ found_token t behind = record { token = t; behind = behind }
 -- a token behind which only the class changes
 abbrev pub lone_in : Lexing → Token → ClassPlace → Found
 lone_in now t place = found_token t (record { flags = now.flags; opened = now.opened; class = place })
+
+-- the next group, without a name
+abbrev pub next_group : Lexing → Found
+next_group now =
+    found_token (Open (Group (now.opened + 1) None))
+    (record { flags = now.flags; opened = now.opened + 1; class = no_class })

@@ -1,5 +1,5 @@
 -- The contracts of the reader's calls: what each reads.
-use Rattle.std.specs.Prelude.{◌≡◌, ℕ, Bool, true, false, not, List, [], ◌∷◌, ◌++◌, map, filter, IfOk, Option, Some, if◌then◌else◌, Vec, Result}
+use Rattle.std.specs.Prelude.{◌≡◌, ℕ, Bool, true, false, List, [], ◌∷◌, ◌++◌, map, IfOk, Option, Some, if◌then◌else◌, Vec, Result}
 use Rattle.std.specs.declared.alloc.Global.{Global}
 use Rattle.fancy_meaning.specs.Tree.{Tree}
 use Rattle.fancy_expr.specs.Each.{Each}
@@ -12,7 +12,7 @@ use Rattle.fancy_pattern.specs.declared.reader.Reader.{Reader}
 use Rattle.fancy_pattern.specs.declared.tokens.Quantifier.{Quantifier}
 use Rattle.fancy_pattern.specs.declared.tokens.Suffix.{Suffix}
 use Rattle.fancy_pattern.specs.Tokens.{Token, Placed}
-use Rattle.fancy_pattern.specs.Grammar.{Names, first_gives, is_at, is_empty, is_repeatable, quantifier, closing, class_of, suffixed, Takes, SpellsSuffix, SpellsClass, SpellsPieces, SpellsBars, SpellsAlternatives}
+use Rattle.fancy_pattern.specs.Grammar.{Names, first_gives, is_at, is_empty, is_repeatable, quantifier, closing, class_of, suffixed, Takes, SpellsSuffix, SpellsClass, SpellsBars, SpellsAlternatives}
 use Rattle.fancy_pattern.specs.PatternViews.{placed_of}
 
 -- the tokens that are left
@@ -50,12 +50,6 @@ ReadsClass casei old new r =
 -- a piece that is something
 abbrev pub some_of : Tree → List Tree
 some_of e = if is_empty e then [] else e ∷ []
-
--- pieces were read, and those that are nothing left out
-abbrev pub ReadsPieces : Names → Reader → Reader → Result (Vec Expr Global) Failure → Type 0
-ReadsPieces names old new r =
-    IfOk r (λ v. (es : List Tree) × SpellsPieces names (point_of old) (point_of new) es
-    × (map tree_of v.items ≡ filter (λ e. not (is_empty e)) es))
 
 -- branches were read behind those given
 abbrev pub ReadsBars : Names → List Expr → Reader → Reader → Result (Vec Expr Global) Failure → Type 0

@@ -6,9 +6,8 @@ ghost use Rattle.fancy_pattern.specs.Texts.{seen, gap_at};
 ghost use Rattle.fancy_meaning.specs.Tree.{Literal};
 ghost use Rattle.fancy_pattern.specs.Items as plain;
 ghost use Rattle.fancy_pattern.specs.Items.{any_of, start_of, end_of, quantified, brace_at, sign_token, item_at, opened_by, class_of, outside_at, within_at, IsLone, lone_found, found_at};
-ghost use Rattle.fancy_pattern.specs.Lone.{no_class, found_token, lone_in};
-ghost use Rattle.fancy_pattern.specs.Groups.{plain_group};
-ghost use Rattle.fancy_pattern.specs.Tokens.{Open};
+ghost use Rattle.fancy_pattern.specs.Lone.{no_class, lone_in, next_group};
+ghost use Rattle.fancy_pattern.specs.Tokens.{Close};
 ghost use Rattle.fancy_pattern.specs.PatternViews.{leaf_of, kept_of, token_of, item_of, opening_of};
 
 use crate::characters::first;
@@ -19,7 +18,7 @@ use crate::flags::Flags;
 use crate::groups::opening_at;
 use crate::kept::{Kept, narrow_quantifier};
 use crate::quantifiers::counts_at;
-use crate::tokens::{Enclosing, Item, Leaf, Opening, Quantifier, Token};
+use crate::tokens::{Item, Leaf, Opening, Quantifier, Token};
 use fancy_expr::expr::Assertion;
 use fancy_expr::well_formed::MOST_GROUPS;
 
@@ -203,23 +202,12 @@ fn class_of(token: Token<'_>) -> ClassPlace
     }
 }
 
-fn no_class() -> ClassPlace
+pub(crate) fn no_class() -> ClassPlace
     ensures { result ≡ no_class }
 {
     ClassPlace {
         depth: 0,
         head: Head::Inner,
-    }
-}
-
-/// With these flags and so many groups, where no class is open.
-fn outside(flags: Flags, opened: usize) -> Lexing
-    ensures { result ≡ record { flags = flags; opened = opened; class = no_class } }
-{
-    Lexing {
-        flags,
-        opened,
-        class: no_class(),
     }
 }
 
@@ -352,61 +340,47 @@ pub(crate) fn lone_at<'a>(
     Some((kept, no_class(), after))
 }
 
-/// The opening parenthesis of a plain group, unless it is one group too many, and what holds behind it.
-fn plain_group<'a>(now: &Lexing) -> Option<(Kept<'a>, Lexing)>
+/// Outside of classes, what follows the parenthesis at the front that ends a group.
+#[inline(always)]
+#[tactic(auto, unfolding(crate::specs::Items::found_at, crate::specs::Items::outside_at, crate::specs::Items::item_at))]
+pub(crate) fn closing_at<'a>(now: &Lexing, text: &'a [char]) -> Option<&'a [char]>
     requires { now.now.opened ≤ most_groups }
-    ensures group { IfSome result (λ p. kept_of p.0
-        ≡ Open (plain_group now.now.flags now.now.opened)) }
-    ensures behind { IfSome result (λ p. p.1 ≡ record {
-      flags = now.now.flags;
-      opened = now.now.opened + plain.group_opened_by (plain_group now.now.flags now.now.opened);
-      class = no_class;
-    }) }
-    ensures few { IfSome result (λ p. now.now.opened
-        + plain.group_opened_by (plain_group now.now.flags now.now.opened) ≤ most_groups) }
-    ensures opened { IfSome result (λ p. p.1.opened ≤ most_groups) }
-    ensures outside { IfSome result (λ p. p.1.class.depth ≡ 0) }
-{
-    if now.flags.named_only {
-        let kept = Kept::Enclosing(Enclosing::Plain);
-        return Some((kept, outside(now.flags, now.opened)));
-    }
-    if now.opened >= MOST_GROUPS {
-        return None;
-    }
-    let opened = now.opened + 1;
-    Some((Kept::Group(opened), outside(now.flags, opened)))
-}
-
-/// Outside of classes, the opening parenthesis of a plain group or a closing one at the front, what holds behind it, and
-/// what follows it.
-#[tactic(auto, unfolding(crate::specs::Items::found_at, crate::specs::Items::outside_at, crate::specs::Items::item_at, crate::specs::Groups::opening_at))]
-pub(crate) fn parenthesis_at<'a>(
-    now: &Lexing,
-    text: &'a [char],
-) -> Option<(Kept<'a>, Lexing, &'a [char])>
-    requires { now.now.opened ≤ most_groups }
-    ensures value { IfSome result (λ p. found_at now.now text.now
-        ≡ Ok (found_token (kept_of p.0) p.1, p.2.now)) }
-    ensures shorter { IfSome result (λ p. length p.2.now + 1 ≤ length text.now) }
-    ensures few { IfSome result (λ p. p.1.opened ≤ most_groups) }
-    ensures outside { IfSome result (λ p. p.1.class.depth ≡ 0) }
+    ensures value { IfSome result (λ t. found_at now.now text.now
+        ≡ Ok (lone_found now.now Close, t.now)) }
+    ensures no_gap { IfSome result (λ t. gap_at now.now.flags.ignore_whitespace text.now ≡ None) }
+    ensures shorter { IfSome result (λ t. length t.now + 1 ≤ length text.now) }
 {
     if now.class.depth > 0 {
         return None;
     }
-    let (c, after) = first(text)?;
-    match c {
-        ')' => Some((Kept::Close, outside(now.flags, now.opened), after)),
-        '(' => match first(after) {
-            Some(('?', _)) => None,
-            Some(('*', _)) => None,
-            _ => {
-                let (kept, behind) = plain_group(now)?;
-                Some((kept, behind, after))
-            }
-        },
+    match first(text)? {
+        (')', after) => Some(after),
         _ => None,
+    }
+}
+
+/// Outside of classes, what follows the parenthesis at the front that begins a plain group, where that captures and is
+/// not one too many.
+#[inline(always)]
+#[tactic(auto, unfolding(crate::specs::Items::found_at, crate::specs::Items::outside_at, crate::specs::Items::item_at, crate::specs::Groups::opening_at))]
+pub(crate) fn group_at<'a>(now: &Lexing, text: &'a [char]) -> Option<&'a [char]>
+    requires { now.now.opened ≤ most_groups }
+    ensures value { IfSome result (λ t. found_at now.now text.now ≡ Ok (next_group now.now, t.now)) }
+    ensures few { IfSome result (λ t. now.now.opened + 1 ≤ most_groups) }
+    ensures no_gap { IfSome result (λ t. gap_at now.now.flags.ignore_whitespace text.now ≡ None) }
+    ensures shorter { IfSome result (λ t. length t.now + 1 ≤ length text.now) }
+{
+    if now.class.depth > 0 || now.flags.named_only || now.opened >= MOST_GROUPS {
+        return None;
+    }
+    let (c, after) = first(text)?;
+    if c != '(' {
+        return None;
+    }
+    match first(after) {
+        Some(('?', _)) => None,
+        Some(('*', _)) => None,
+        _ => Some(after),
     }
 }
 

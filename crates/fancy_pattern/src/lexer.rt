@@ -5,12 +5,12 @@ ghost use Rattle.fancy_meaning.specs.WellFormed.{most_groups};
 
 use crate::characters::past_gap;
 use crate::classes::{ClassPlace, Head};
-use crate::error::Fault;
+use crate::error::{ErrorKind, Fault};
 use crate::flags::Flags;
-use crate::items::{Lexing, found_at, lone_at, parenthesis_at};
+use crate::items::{Lexing, closing_at, found_at, group_at, lone_at, no_class};
 use crate::kept::{Counted, Kept, Placed, keep};
-use crate::nesting::behind_token;
-use crate::tokens::Token;
+use crate::nesting::{behind_token, enter};
+use crate::tokens::{Opening, Token};
 use std::alloc::{AllocError, Global};
 
 /// What is known when a pattern has been read up to some character.
@@ -30,12 +30,12 @@ pub struct Lexer<'a> {
 
 impl<'a> Lexer<'a> {
     ghost use Rattle.std.specs.Prelude.{[], ◌∷◌, ◌++◌, map, Ok, IfOk, OnOk, true, false};
-    ghost use Rattle.fancy_pattern.specs.Items.{found_at, IsLone};
-    ghost use Rattle.fancy_pattern.specs.Lone.{found_token, lone_in};
+    ghost use Rattle.fancy_pattern.specs.Items.{found_at, lone_found, IsLone};
+    ghost use Rattle.fancy_pattern.specs.Lone.{found_token, lone_in, next_group};
     ghost use Rattle.fancy_pattern.specs.Lexing.{at_start, IsAtToken, Lexes};
     ghost use Rattle.fancy_pattern.specs.LexerViews.{state_of, text_of, placed_in, Steps, Pushes};
     ghost use Rattle.fancy_pattern.specs.PatternViews.{kept_of, placed_of};
-    ghost use Rattle.fancy_pattern.specs.Tokens.{placed, broken};
+    ghost use Rattle.fancy_pattern.specs.Tokens.{Close, placed, broken};
 
     /// A token takes a character at least, so there is room for all of them.
     fn new(alloc: Global, flags: Flags, chars: &'a [char]) -> Result<Lexer<'a>, AllocError>
@@ -141,13 +141,64 @@ impl<'a> Lexer<'a> {
         ensures shorter { IfOk result (λ more. more ≡ true
             → length self.new.rest.now < length self.old.rest.now) }
     {
-        if let Some((kept, behind, after)) = parenthesis_at(&self.now, self.rest) {
-            return self.pass(kept, behind, after);
-        }
         match found_at(self.now, self.rest) {
             Ok((found, after)) => {
                 let kept = keep(self.alloc, &mut self.counted, self.rest, found.token)?;
                 self.pass(kept, found.behind, after)
+            }
+            Err(fault) => self.break_off(fault),
+        }
+    }
+
+    /// Goes past the parenthesis at the front that ends a group, and answers whether the text goes on.
+    #[inline(always)]
+    fn pass_closing(&mut self, after: &'a [char]) -> Result<bool, AllocError>
+        requires token { IsAtToken (state_of self.old) (text_of self.old) }
+        requires found { found_at self.old.now self.old.rest.now
+            ≡ Ok (lone_found self.old.now Close, after.now) }
+        requires shorter { length after.now < length self.old.rest.now }
+        ensures steps { IfOk result (λ more. Steps more self.old self.new) }
+        ensures shorter { IfOk result (λ more. more ≡ true
+            → length self.new.rest.now < length self.old.rest.now) }
+    {
+        let left = self.rest.len();
+        match self.outer.pop() {
+            Some(flags) => {
+                self.push(left, Kept::Close)?;
+                self.rest = after;
+                self.now.flags = flags;
+                self.now.class = no_class();
+                Ok(true)
+            }
+            None => self.break_off(Fault {
+                left,
+                kind: ErrorKind::UnopenedCloseParen,
+            }),
+        }
+    }
+
+    /// Goes past the parenthesis at the front that begins a plain group, and answers whether the text goes on.
+    #[inline(always)]
+    fn pass_group(&mut self, after: &'a [char]) -> Result<bool, AllocError>
+        requires token { IsAtToken (state_of self.old) (text_of self.old) }
+        requires found { found_at self.old.now self.old.rest.now
+            ≡ Ok (next_group self.old.now, after.now) }
+        requires few { self.old.now.opened + 1 ≤ most_groups }
+        requires shorter { length after.now < length self.old.rest.now }
+        ensures steps { IfOk result (λ more. Steps more self.old self.new) }
+        ensures shorter { IfOk result (λ more. more ≡ true
+            → length self.new.rest.now < length self.old.rest.now) }
+    {
+        let left = self.rest.len();
+        let number = self.now.opened + 1;
+        let opening = Opening::Group { number, name: None };
+        match enter(&mut self.outer, self.now.flags, opening, left)? {
+            Ok(()) => {
+                self.push(left, Kept::Group(number))?;
+                self.rest = after;
+                self.now.opened = number;
+                self.now.class = no_class();
+                Ok(true)
             }
             Err(fault) => self.break_off(fault),
         }
@@ -172,6 +223,22 @@ impl<'a> Lexer<'a> {
         self.next_token()
     }
 
+    /// The same, where parentheses of plain groups are found at once.
+    #[inline(always)]
+    fn next_parenthesis(&mut self) -> Result<bool, AllocError>
+        ensures steps { IfOk result (λ more. Steps more self.old self.new) }
+        ensures shorter { IfOk result (λ more. more ≡ true
+            → length self.new.rest.now < length self.old.rest.now) }
+    {
+        if let Some(after) = closing_at(&self.now, self.rest) {
+            return self.pass_closing(after);
+        }
+        match group_at(&self.now, self.rest) {
+            Some(after) => self.pass_group(after),
+            None => self.next_other(),
+        }
+    }
+
     /// The same, where most tokens are found at once.
     #[inline(always)]
     fn next(&mut self) -> Result<bool, AllocError>
@@ -181,7 +248,7 @@ impl<'a> Lexer<'a> {
     {
         match lone_at(&self.now, self.rest) {
             Some((kept, class, after)) => self.pass_lone(kept, class, after),
-            None => self.next_other(),
+            None => self.next_parenthesis(),
         }
     }
 

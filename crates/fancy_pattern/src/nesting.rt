@@ -27,7 +27,8 @@ fn has_two(opening: Opening<'_>) -> bool
 }
 
 /// A group is entered: the flags around it are kept, once for each parenthesis.
-fn enter(
+#[inline(always)]
+pub(crate) fn enter(
     outer: &mut Vec<Flags>,
     flags: Flags,
     opening: Opening<'_>,

@@ -4,12 +4,12 @@ ghost use Rattle.std.specs.Prelude.{◌≡◌, ◌+◌, ◌<◌, ◌≤◌, ◌+
 ghost use Rattle.std.specs.Option.{option_map};
 ghost use Rattle.fancy_expr.specs.Each.{Each};
 ghost use Rattle.fancy_expr.specs.Views.{tree_of};
-ghost use Rattle.fancy_pattern.specs.Grammar.{Names, is_at, is_branch_end, bar, closing, quantifier as quantifier_of, suffix, suffix_of, opening, class_open, class_text, class_close, gives_some, first_gives, node_of, Takes, reference, SpellsClass, SpellsSuffix, SpellsAtom, SpellsOpened, SpellsBodies, SpellsPiece, SpellsPieces, SpellsBranch, SpellsBars, SpellsAlternatives};
+ghost use Rattle.fancy_pattern.specs.Grammar.{Names, is_at, is_branch_end, bar, closing, quantifier as quantifier_of, suffix, suffix_of, opening, class_open, class_text, class_close, gives_some, first_gives, node_of, Takes, reference, SpellsClass, SpellsSuffix, SpellsAtom, SpellsOpened, SpellsBodies, SpellsPiece, SpellsBranch, SpellsBars, SpellsAlternatives};
 ghost use Rattle.fancy_pattern.specs.Faults.{Tells};
 ghost use Rattle.fancy_pattern.specs.Stuck.{is_end, is_calm, anything, Fails, FailsOpened, IsMisfit};
 ghost use Rattle.fancy_pattern.specs.Naming.{pairs_in};
 ghost use Rattle.fancy_pattern.specs.PatternViews.{kept_of, token_of, opening_of, reference_of, piece_text};
-ghost use Rattle.fancy_pattern.specs.Reading.{OneCharEach, point_of, next_token, Skips, ReadsTree, ReadsLast, SpellsLast, ReadsClass, ReadsPieces, ReadsBars, Quantifies, some_of};
+ghost use Rattle.fancy_pattern.specs.Reading.{OneCharEach, point_of, next_token, Skips, ReadsTree, ReadsLast, SpellsLast, ReadsClass, ReadsBars, Quantifies, some_of};
 ghost use Rattle.fancy_meaning.specs.Tree.{Literal};
 ghost use Rattle.fancy_pattern.specs.Tokens.{AbsentBar, If, Node};
 ghost use Rattle.fancy_pattern.specs.declared.failure.Failure.TheVariants.{Memory};
@@ -388,7 +388,7 @@ impl<'r, 'a> Reader<'r, 'a> {
         Ok(branches)
     }
 
-    /// The pieces up to a bar, a closing parenthesis or the end, as one node.
+    /// The pieces up to a bar, a closing parenthesis or the end, as one node; those that are nothing are left out.
     #[cycle(reading)]
     fn read_branch(&mut self, names: &GroupNames) -> Result<Expr, Failure>
         ensures spells { ReadsTree (SpellsBranch (pairs_in names.now.pairs))
@@ -399,23 +399,17 @@ impl<'r, 'a> Reader<'r, 'a> {
         ensures shorter { IfOk result (λ e. length self.new.rest.now
             ≤ length self.old.rest.now) }
     {
-        let pieces = self.read_pieces(names)?;
-        Ok(joined(pieces))
-    }
-
-    /// The pieces up to a bar, a closing parenthesis or the end; those that are nothing are left out.
-    #[cycle(reading)]
-    fn read_pieces(&mut self, names: &GroupNames) -> Result<Vec<Expr>, Failure>
-        ensures spells { ReadsPieces (pairs_in names.now.pairs) self.old self.new result }
-        ensures fails { IfErr result (Fails (pairs_in names.now.pairs) anything
-            (SpellsPieces (pairs_in names.now.pairs)) (point_of self.old)) }
-        ensures one_char { IfOk result (λ v. Each OneCharEach v.items) }
-        ensures shorter { IfOk result (λ e. length self.new.rest.now
-            ≤ length self.old.rest.now) }
-    {
+        if self.is_branch_end() {
+            return Ok(Expr::Empty);
+        }
+        let first = self.read_piece(names)?;
+        if self.is_branch_end() {
+            return Ok(first);
+        }
         let mut pieces = Vec::new(self.alloc);
+        push_some(&mut pieces, first)?;
         while !self.is_branch_end() {
-            match self.next_literal() {
+            match self.next_alone() {
                 Some((val, casei)) => {
                     pieces.push(literal(self.alloc, val, casei)?)?;
                     self.skip();
@@ -426,7 +420,7 @@ impl<'r, 'a> Reader<'r, 'a> {
                 }
             }
         }
-        Ok(pieces)
+        Ok(joined(pieces))
     }
 
     /// An atom, and its quantifier where it has one.
@@ -492,8 +486,17 @@ impl<'r, 'a> Reader<'r, 'a> {
         Ok(suffixed(self.alloc, atom, quantifier, greedy, suffix)?)
     }
 
-    /// The literal that is next, if it has no quantifier.
+    /// The literal that is next.
     fn next_literal(&self) -> Option<(char, bool)>
+        ensures value { (names : Names) → IfSome result (λ p. first_gives (node_of names)
+            (point_of self.now) ≡ Some (Literal p.0 p.1)) }
+        ensures some { IfSome result (λ p. 0 < length self.now.rest.now) }
+    {
+        as_literal(self.next()?)
+    }
+
+    /// The literal that is next, if it has no quantifier.
+    fn next_alone(&self) -> Option<(char, bool)>
         ensures value { (names : Names) → IfSome result (λ p. SpellsPiece names
             (point_of self.now) (drop 1 (point_of self.now)) (Literal p.0 p.1)) }
         ensures some { IfSome result (λ p. 0 < length self.now.rest.now) }
@@ -564,6 +567,11 @@ impl<'r, 'a> Reader<'r, 'a> {
         ensures shorter { IfOk result (λ e. length self.new.rest.now + 1
             ≤ length self.old.rest.now) }
     {
+        if let Some((val, casei)) = self.next_literal() {
+            let made = literal(self.alloc, val, casei)?;
+            self.skip();
+            return Ok(made);
+        }
         if let Some(opening) = self.next_opening() {
             let place = self.place();
             self.skip();
@@ -590,11 +598,6 @@ impl<'r, 'a> Reader<'r, 'a> {
         let Some(kept) = self.next() else {
             return Err(self.misfit(ErrorKind::TargetNotRepeatable));
         };
-        if let Some((val, casei)) = as_literal(kept) {
-            let made = literal(self.alloc, val, casei)?;
-            self.skip();
-            return Ok(made);
-        }
         match node(self.alloc, names, kept, place)? {
             Some(found) => {
                 self.skip();

@@ -1,14 +1,15 @@
-use Rattle.std.proofs.Common.{sym, map, ap, option_map, ◌∙◌, subst, arith}
+use Rattle.std.proofs.Common.{[], sym, map, ap, option_map, ◌∙◌, subst, arith}
 use Rattle.std.proofs.lemmas.Result.{err_from_is_err_and}
 use Rattle.fancy_meaning.specs.Tree.{Literal}
 use Rattle.fancy_expr.specs.Views.{tree_of, look_of}
-use Rattle.fancy_pattern.specs.Grammar.{bar, closing, opening, class_open, SpellsOpened, asked, no_bar, branches}
+use Rattle.fancy_pattern.specs.Grammar.{bar, closing, opening, class_open, SpellsAtom, SpellsOpened, asked, no_bar, branch, no_piece, branches, node, node_of}
 use Rattle.fancy_pattern.specs.Naming.{pairs_in}
 use Rattle.fancy_pattern.specs.PatternViews.{opening_of, reference_of}
 use Rattle.fancy_pattern.specs.Reading.{point_of, ReadsTree}
 use Rattle.fancy_pattern.specs.Tokens.{Around, Group, IfPattern, IfLook}
-use Rattle.fancy_pattern.proofs.OneChars.{one_part, with_part, reference_chars}
+use Rattle.fancy_pattern.proofs.OneChars.{no_parts, one_part, with_part, reference_chars}
 use Rattle.fancy_pattern.proofs.Points as points
+use Rattle.fancy_pattern.proofs.Rows.{none_read}
 use Rattle.fancy_pattern.proofs.WhereStuck as stuck
 use Rattle.fancy_pattern.proofs.reader.Reader.+reading.Goals as goal
 
@@ -56,41 +57,56 @@ read_bars-returns-clause-spells t c =
     points.bars_done (pairs_in c.args.names.now.pairs) c.args.self.now c.loop-self.self c.args.given.items c.loop-self.branches.items c.loop-self.invariant
     (sym c.is_at_bar.ensures.value ∙ c.loop-self-test.false)
 
+pub read_branch-returns-then-is_branch_end-clause-spells : goal.read_branch-returns-then-is_branch_end-clause-spells
+read_branch-returns-then-is_branch_end-clause-spells t c = branch (no_piece (sym c.is_branch_end.ensures ∙ c.if-is_branch_end.true))
+
+pub read_branch-returns-then-is_branch_end-2-clause-spells : goal.read_branch-returns-then-is_branch_end-2-clause-spells
+read_branch-returns-then-is_branch_end-2-clause-spells t c =
+    points.piece_alone (pairs_in c.args.names.now.pairs) (point_of c.args.self.now) (point_of c.read_piece.new.self) (tree_of c.in_ok-first.first)
+    (sym c.is_branch_end.ensures ∙ c.if-is_branch_end.false) c.in_ok-first.ensures.spells
+    (sym c.is_branch_end-2.ensures ∙ c.if-is_branch_end-2.true)
+
 pub read_branch-returns-clause-spells : goal.read_branch-returns-clause-spells
 read_branch-returns-clause-spells t c =
-    let s = c.in_ok-pieces.ensures.spells in
-    points.branch_spelled (pairs_in c.args.names.now.pairs) (point_of c.args.self.now) (point_of c.read_pieces.new.self) s.0
-    (map tree_of c.in_ok-pieces.pieces.items) _ s.1 s.2 c.joined.ensures.made
+    let names = pairs_in c.args.names.now.pairs in
+    let s =
+    points.pieces_done names c.args.self.now c.loop-self.self c.loop-self.pieces.items c.loop-self.invariant
+    (sym c.is_branch_end-in-loop-self.ensures ∙ c.loop-self-test.false) in
+    points.branch_spelled names (point_of c.args.self.now) (point_of c.loop-self.self) s.0 (map tree_of c.loop-self.pieces.items) _ s.1 s.2
+    c.joined.ensures.made
 
 -- ---- pieces
 
-pub read_pieces-loop-self-init : goal.read_pieces-loop-self-init
-read_pieces-loop-self-init t c = points.pieces_begin (pairs_in c.args.names.now.pairs) c.args.self.now _ c.new-pieces.ensures.items
+pub read_branch-loop-self-init : goal.read_branch-loop-self-init
+read_branch-loop-self-init t c =
+    let names = pairs_in c.args.names.now.pairs in
+    let first = c.in_ok-first.ensures in
+    let none = c.new-pieces.ensures.items in
+    let pushed = c.in_ok-push_some.ensures in
+    points.pieces_next names c.args.self.now c.args.self.now c.read_piece.new.self c.new-pieces.result.items c.push_some.new.pieces.items
+    (tree_of c.in_ok-first.first) (points.pieces_begin names c.args.self.now _ none) (sym c.is_branch_end.ensures ∙ c.if-is_branch_end.false)
+    first.spells pushed.pushed (let a = first.shorter in omega (arith, a)) (pushed.one_char (no_parts _ none) first.one_char)
 
-pub read_pieces-loop-self-preserved : goal.read_pieces-loop-self-preserved
-read_pieces-loop-self-preserved t c =
-    points.pieces_next (pairs_in c.args.names.now.pairs) c.args.self.now c.loop-self.self c.read_piece.new.self c.loop-self.pieces.items
-    c.push_some.new.pieces.items (tree_of c.in_ok-piece-in-None.piece) c.loop-self.invariant (sym c.is_branch_end.ensures ∙ c.loop-self-test.true)
-    c.in_ok-piece-in-None.ensures.spells c.in_ok-push_some-in-None.ensures.pushed (let a = c.in_ok-piece-in-None.ensures.shorter in omega (arith, a))
+pub read_branch-loop-self-preserved : goal.read_branch-loop-self-preserved
+read_branch-loop-self-preserved t c =
+    points.pieces_next (pairs_in c.args.names.now.pairs) c.args.self.now c.loop-self.self c.read_piece-in-None.new.self c.loop-self.pieces.items
+    c.push_some-in-None.new.pieces.items (tree_of c.in_ok-piece-in-None.piece) c.loop-self.invariant
+    (sym c.is_branch_end-in-loop-self.ensures ∙ c.loop-self-test.true) c.in_ok-piece-in-None.ensures.spells
+    c.in_ok-push_some-in-None.ensures.pushed (let a = c.in_ok-piece-in-None.ensures.shorter in omega (arith, a))
     (c.in_ok-push_some-in-None.ensures.one_char c.loop-self.invariant.one_char c.in_ok-piece-in-None.ensures.one_char)
 
-pub read_pieces-loop-self-preserved-in-Some : goal.read_pieces-loop-self-preserved-in-Some
-read_pieces-loop-self-preserved-in-Some t c =
+pub read_branch-loop-self-preserved-in-Some : goal.read_branch-loop-self-preserved-in-Some
+read_branch-loop-self-preserved-in-Some t c =
     let names = pairs_in c.args.names.now.pairs in
     let made = c.in_ok-literal-in-Some in
     let pushed = c.in_ok-push-in-Some.ensures.items in
     points.pieces_next names c.args.self.now c.loop-self.self c.skip.new.self c.loop-self.pieces.items c.push.new.self.items
-    (Literal c.in-Some.val c.in-Some.casei) c.loop-self.invariant (sym c.is_branch_end.ensures ∙ c.loop-self-test.true)
+    (Literal c.in-Some.val c.in-Some.casei) c.loop-self.invariant (sym c.is_branch_end-in-loop-self.ensures ∙ c.loop-self-test.true)
     (points.literal_passed names c.loop-self.self c.skip.new.self (Literal c.in-Some.val c.in-Some.casei) (c.in-Some.ensures.value names)
     c.skip.ensures.skips)
     (points.literal_pushed c.loop-self.pieces.items c.push.new.self.items made.field-0 c.in-Some.val c.in-Some.casei pushed made.ensures.made)
     (let a = c.skip.ensures.shorter in omega (arith, a))
     (with_part c.loop-self.pieces.items c.push.new.self.items made.field-0 pushed made.ensures.one_char c.loop-self.invariant.one_char)
-
-pub read_pieces-returns-clause-spells : goal.read_pieces-returns-clause-spells
-read_pieces-returns-clause-spells t c =
-    points.pieces_done (pairs_in c.args.names.now.pairs) c.args.self.now c.loop-self.self c.loop-self.pieces.items c.loop-self.invariant
-    (sym c.is_branch_end.ensures ∙ c.loop-self-test.false)
 
 pub read_piece-returns-clause-spells : goal.read_piece-returns-clause-spells
 read_piece-returns-clause-spells t c =
@@ -101,8 +117,15 @@ read_piece-returns-clause-spells t c =
 
 pub read_atom-returns-in-Some-clause-spells : goal.read_atom-returns-in-Some-clause-spells
 read_atom-returns-in-Some-clause-spells t c =
-    points.atom_opened (pairs_in c.args.names.now.pairs) c.args.self.now c.skip.new.self c.read_opened.new.self (opening_of c.in-Some.opening)
-    c.read_opened.result (sym c.in-Some.ensures.value) c.skip.ensures.skips c.read_opened.ensures.spells
+    let names = pairs_in c.args.names.now.pairs in
+    subst (SpellsAtom names (point_of c.args.self.now) (point_of c.skip.new.self)) (sym c.in_ok-made.ensures.made)
+    (node (points.takes_next (node_of names) (Literal c.in-Some.val c.in-Some.casei) c.args.self.now c.skip.new.self (c.in-Some.ensures.value names)
+    c.skip.ensures.skips))
+
+pub read_atom-returns-in-Some-next_opening-clause-spells : goal.read_atom-returns-in-Some-next_opening-clause-spells
+read_atom-returns-in-Some-next_opening-clause-spells t c =
+    points.atom_opened (pairs_in c.args.names.now.pairs) c.args.self.now c.skip-in-Some-next_opening.new.self c.read_opened.new.self (opening_of c.in-Some-next_opening.opening)
+    c.read_opened.result (sym c.in-Some-next_opening.ensures.value) c.skip-in-Some-next_opening.ensures.skips c.read_opened.ensures.spells
 
 pub read_atom-returns-in-Some-next_class-clause-spells : goal.read_atom-returns-in-Some-next_class-clause-spells
 read_atom-returns-in-Some-next_class-clause-spells t c =
@@ -211,11 +234,11 @@ read_alternatives-returns-in_err-branches-clause-fails t c =
     (tree_of c.in_ok-first.first) _ c.in_ok-first.ensures.spells
     c.in_err-branches.ensures.fails)
 
-pub read_atom-returns-in-Some-clause-fails : goal.read_atom-returns-in-Some-clause-fails
-read_atom-returns-in-Some-clause-fails t c =
-    stuck.atom_opened_fails (pairs_in c.args.names.now.pairs) (point_of c.args.self.now) (point_of c.skip.new.self)
-    (opening_of c.in-Some.opening) c.read_opened.result
-    (points.takes_next opening (opening_of c.in-Some.opening) c.args.self.now c.skip.new.self (sym c.in-Some.ensures.value) c.skip.ensures.skips)
+pub read_atom-returns-in-Some-next_opening-clause-fails : goal.read_atom-returns-in-Some-next_opening-clause-fails
+read_atom-returns-in-Some-next_opening-clause-fails t c =
+    stuck.atom_opened_fails (pairs_in c.args.names.now.pairs) (point_of c.args.self.now) (point_of c.skip-in-Some-next_opening.new.self)
+    (opening_of c.in-Some-next_opening.opening) c.read_opened.result
+    (points.takes_next opening (opening_of c.in-Some-next_opening.opening) c.args.self.now c.skip-in-Some-next_opening.new.self (sym c.in-Some-next_opening.ensures.value) c.skip-in-Some-next_opening.ensures.skips)
     c.read_opened.ensures.fails
 
 pub read_atom-returns-in-Some-next_class-clause-fails : goal.read_atom-returns-in-Some-next_class-clause-fails
@@ -229,7 +252,7 @@ read_atom-returns-in-Some-next_class-clause-fails t c =
 
 pub read_atom-returns-clause-fails : goal.read_atom-returns-clause-fails
 read_atom-returns-clause-fails t c =
-    stuck.atom_node_fails (pairs_in c.args.names.now.pairs) (point_of c.args.self.now) c.read_node.result (sym c.in_default.ensures.value)
+    stuck.atom_node_fails (pairs_in c.args.names.now.pairs) (point_of c.args.self.now) c.read_node.result (sym c.in_default-next_opening.ensures.value)
     (sym c.in_default-next_class.ensures.value)
     c.read_node.ensures.fails
 
@@ -264,10 +287,19 @@ read_bodies-returns-in_err-read_close-clause-fails t c =
     (tree_of c.in_ok-true_branch.true_branch) _ c.in_ok-true_branch.ensures.spells
     (sym c.is_at_bar.ensures.value ∙ c.if-is_at_bar.false) c.in_err-read_close.ensures.fails.0 c.in_err-read_close.ensures.fails.1)
 
-pub read_branch-returns-in_err-pieces-clause-fails : goal.read_branch-returns-in_err-pieces-clause-fails
-read_branch-returns-in_err-pieces-clause-fails t c =
+pub read_branch-returns-in_err-first-clause-fails : goal.read_branch-returns-in_err-first-clause-fails
+read_branch-returns-in_err-first-clause-fails t c =
     let p = err_from_is_err_and c.from_residual.result c.from_residual.ensures.1 in
-    rw (p.1, p.2) (stuck.branch_of_pieces (pairs_in c.args.names.now.pairs) (point_of c.args.self.now) _ c.in_err-pieces.ensures.fails)
+    rw (p.1, p.2) (stuck.branch_of_pieces (pairs_in c.args.names.now.pairs) (point_of c.args.self.now) _
+    (stuck.pieces_fail (pairs_in c.args.names.now.pairs) (point_of c.args.self.now) (point_of c.args.self.now) [] _ none_read
+    (sym c.is_branch_end.ensures ∙ c.if-is_branch_end.false) c.in_err-first.ensures.fails))
+
+pub read_branch-returns-in_err-piece-in-None-clause-fails : goal.read_branch-returns-in_err-piece-in-None-clause-fails
+read_branch-returns-in_err-piece-in-None-clause-fails t c =
+    let p = err_from_is_err_and c.from_residual-in_err-piece-in-None.result c.from_residual-in_err-piece-in-None.ensures.1 in
+    rw (p.1, p.2) (stuck.branch_of_pieces (pairs_in c.args.names.now.pairs) (point_of c.args.self.now) _
+    (stuck.pieces_fail (pairs_in c.args.names.now.pairs) (point_of c.args.self.now) (point_of c.loop-self.self) c.loop-self.invariant.so_far _
+    c.loop-self.invariant.row (sym c.is_branch_end-in-loop-self.ensures ∙ c.loop-self-test.true) c.in_err-piece-in-None.ensures.fails))
 
 pub read_if-returns-in_err-condition-clause-fails : goal.read_if-returns-in_err-condition-clause-fails
 read_if-returns-in_err-condition-clause-fails t c =
@@ -345,13 +377,6 @@ read_piece-returns-clause-fails t c =
     stuck.piece_fails (pairs_in c.args.names.now.pairs) (point_of c.args.self.now) (point_of c.read_atom.new.self)
     (tree_of c.in_ok-atom.atom) c.read_quantifier.result
     c.in_ok-atom.ensures.spells (c.read_quantifier.ensures.fails (pairs_in c.args.names.now.pairs))
-
-pub read_pieces-returns-in_err-piece-in-None-clause-fails : goal.read_pieces-returns-in_err-piece-in-None-clause-fails
-read_pieces-returns-in_err-piece-in-None-clause-fails t c =
-    let p = err_from_is_err_and c.from_residual-in_err-piece-in-None.result c.from_residual-in_err-piece-in-None.ensures.1 in
-    rw (p.1, p.2) (stuck.pieces_fail (pairs_in c.args.names.now.pairs) (point_of c.args.self.now)
-    (point_of c.loop-self.self) c.loop-self.invariant.so_far _ c.loop-self.invariant.row
-    (sym c.is_branch_end.ensures ∙ c.loop-self-test.true) c.in_err-piece-in-None.ensures.fails)
 
 -- ---- literals of one character
 

@@ -12,9 +12,6 @@ decreases-read_bars l = 12 * length l.self.now.rest.now + 1
 abbrev pub decreases-read_branch : goal.decreases-read_branch
 decreases-read_branch l = 12 * length l.self.now.rest.now + 4
 
-abbrev pub decreases-read_pieces : goal.decreases-read_pieces
-decreases-read_pieces l = 12 * length l.self.now.rest.now + 3
-
 abbrev pub decreases-read_piece : goal.decreases-read_piece
 decreases-read_piece l = 12 * length l.self.now.rest.now + 2
 
@@ -36,11 +33,11 @@ decreases-read_if l = 12 * length l.self.now.rest.now + 9
 abbrev pub decreases-read_bodies : goal.decreases-read_bodies
 decreases-read_bodies l = 12 * length l.self.now.rest.now + 8
 
-abbrev pub invariant-read_pieces-loop-self : goal.invariant-read_pieces-loop-self
-invariant-read_pieces-loop-self l = PiecesRead (pairs_in l.names.pairs) l.fn.self l.self l.pieces.items
+abbrev pub invariant-read_branch-loop-self : goal.invariant-read_branch-loop-self
+invariant-read_branch-loop-self l = PiecesRead (pairs_in l.names.pairs) l.fn.self l.self l.pieces.items
 
-abbrev pub decreases-read_pieces-loop-self : goal.decreases-read_pieces-loop-self
-decreases-read_pieces-loop-self l = length l.self.rest.now
+abbrev pub decreases-read_branch-loop-self : goal.decreases-read_branch-loop-self
+decreases-read_branch-loop-self l = length l.self.rest.now
 
 abbrev pub invariant-read_bars-loop-self : goal.invariant-read_bars-loop-self
 invariant-read_bars-loop-self l = BarsRead (pairs_in l.names.pairs) l.fn.self l.self l.fn.given.items l.branches.items

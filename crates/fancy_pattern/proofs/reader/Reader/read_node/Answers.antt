@@ -16,7 +16,7 @@ returns-in_default-clause-fails c =
 
 pub returns-in_err-found-clause-fails : goal.returns-in_err-found-clause-fails
 returns-in_err-found-clause-fails c =
-    let p = err_from_is_err_and c.from_residual-in_err-found.result c.from_residual-in_err-found.ensures.1 in
+    let p = err_from_is_err_and c.from_residual.result c.from_residual.ensures.1 in
     rw (p.1, p.2) (unnamed_atom (pairs_in c.args.names.now.pairs) (point_of c.args.self.now) (kept_of c.in-Some.kept.now) _ (sym c.in-Some.ensures.value)
     c.in_err-found.ensures.fails)
 

@@ -1,6 +1,6 @@
 use Rattle.std.proofs.Common.{sym, ◌∙◌}
 use Rattle.fancy_pattern.proofs.Points.{literal_alone}
-use Rattle.fancy_pattern.proofs.reader.Reader.next_literal.Goals as goal
+use Rattle.fancy_pattern.proofs.reader.Reader.next_alone.Goals as goal
 
 pub returns-clause-value : goal.returns-clause-value
 returns-clause-value c = λ names.
