@@ -1,6 +1,6 @@
 //! Loops whose iterations are counted, and which ways on there are at the head of one.
 
-ghost use Rattle.std.specs.Prelude.{◌≡◌, ◌<◌, ◌+◌, false, if◌then◌else◌};
+ghost use Rattle.std.specs.Prelude.{◌≡◌, ◌==◌, ◌<◌, ◌+◌, false, min, if◌then◌else◌};
 ghost use Rattle.fancy_nfa.specs.NfaSearch as plain;
 ghost use Rattle.fancy_backtrack.specs.Loops.{loop_of, ChoosesBy};
 ghost use Rattle.fancy_backtrack.specs.Paths.{counter_of};
@@ -79,7 +79,10 @@ impl Loop {
     }
 
     /// How many different counts there are before its iterations.
-    pub fn counts(self) -> usize {
+    pub fn counts(self) -> usize
+        ensures { result ≡ min usize.MAX
+            ((if self.hi == usize.MAX then self.lo else self.hi) + 1) }
+    {
         let most = if self.hi == usize::MAX {
             self.lo
         } else {

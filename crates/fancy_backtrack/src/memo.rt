@@ -176,7 +176,9 @@ impl Memo {
 
     /// By which it takes memory.
     #[inline(always)]
-    pub fn alloc(&self) -> Global {
+    pub fn alloc(&self) -> Global
+        ensures { result ≡ self.now.alloc }
+    {
         self.alloc
     }
 
@@ -186,6 +188,7 @@ impl Memo {
         ensures path { self.new.trail.entries.items ≡ [] }
         ensures visits { self.new.visits ≡ 0 }
         ensures failed { self.new.failed ≡ self.old.failed }
+        ensures budget { self.new.budget ≡ self.old.budget }
     {
         self.frames.clear();
         self.trail.truncate(0);
