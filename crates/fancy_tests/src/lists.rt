@@ -109,15 +109,26 @@ fn push_pieces(line: &mut String, regex: &mut Regex, text: &str, limit: &str) ->
     Ok(push_none(line)?)
 }
 
+fn push_answer(
+    line: &mut String,
+    alloc: Global,
+    table: &str,
+    regex: &mut Regex,
+    text: &str,
+    rest: &str,
+) -> Result<(), Error> {
+    match table {
+        "matches" => push_matches(line, alloc, regex, text),
+        "splits" => push_pieces(line, regex, text, rest),
+        _ => push_replacement(line, alloc, regex, text, rest),
+    }
+}
+
 /// TREE, TEXT, and more: what the table asks of the regex of the tree.
 pub fn push_list(line: &mut String, alloc: Global, table: &str, key: &str) -> Result<(), Error> {
     let (tree, rest) = columns(key);
     let (text, rest) = columns(rest);
     let words = if table == "matches" { rest } else { "" };
     let mut regex = regex(alloc, tree, words)?;
-    match table {
-        "matches" => push_matches(line, alloc, &mut regex, text),
-        "splits" => push_pieces(line, &mut regex, text, rest),
-        _ => push_replacement(line, alloc, &mut regex, text, rest),
-    }
+    push_answer(line, alloc, table, &mut regex, text, rest)
 }

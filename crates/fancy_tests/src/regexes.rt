@@ -63,13 +63,24 @@ fn push_by_clone(
     push_call(again, alloc, &mut regex.try_clone()?, columns)
 }
 
-/// What the regex of the pattern answers, and what its clone does.
+/// What the regex answers, and what its clone does.
+fn push_twice(
+    line: &mut String,
+    again: &mut String,
+    alloc: Global,
+    regex: &mut Regex,
+    columns: &str,
+) -> Result<(), Error> {
+    push_by_clone(again, alloc, regex, columns)?;
+    push_call(line, alloc, regex, columns)
+}
+
+/// The same of the regex of the pattern.
 fn push_both(line: &mut String, again: &mut String, alloc: Global, key: &str) -> Result<(), Error> {
     let (pattern, rest) = split(key);
     let (words, columns) = split(rest);
     let mut regex = regex_of(alloc, pattern, words)?;
-    push_by_clone(again, alloc, &regex, columns)?;
-    push_call(line, alloc, &mut regex, columns)
+    push_twice(line, again, alloc, &mut regex, columns)
 }
 
 /// The key, in which the table spells characters by their codes, or long texts.

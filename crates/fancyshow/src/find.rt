@@ -61,10 +61,11 @@ pub struct Searcher {
 /// The tree that is asked about, compiled for searches.
 pub fn searcher_of(alloc: Global, request: &Request) -> Result<Searcher, Trouble> {
     let tree = read(alloc, request)?;
+    let groups = Groups::of(alloc, &tree)?;
     let regex = regex(alloc, request, &tree)?;
     Ok(Searcher {
         regex,
-        groups: Groups::of(alloc, &tree)?,
+        groups,
         numbers: tree.named_groups,
     })
 }
