@@ -4,6 +4,7 @@ use Rattle.std.proofs.Math.Logic.{∥∥₁_elim, ∥∥₁_map}
 use Rattle.std.specs.Coded.{×_prop, Π_prop, Unit-prop, le_prop, Coded-set, coded_option, coded×, coded_ℕ}
 use Rattle.std.proofs.Props.{props}
 use Rattle.fancy_expr.specs.declared.error.Error.{Error}
+use Rattle.fancy_meaning.specs.MatchState.{Span}
 use Rattle.fancy_meaning.specs.Ways.{Setting}
 use Rattle.fancy_nfa.specs.FirstWays.{Seen, first_seen}
 use Rattle.fancy_joining.specs.JoinedLoops.{joined}
@@ -13,7 +14,7 @@ use Rattle.fancy_plain.specs.declared.first_way.FirstWay.{FirstWay}
 use Rattle.fancy_plain.specs.declared.first_way.Way.{Way}
 use Rattle.fancy_plain.specs.declared.one_pass.OnePass.{OnePass}
 use Rattle.fancy_plain.specs.declared.one_pass.OnePass.TheVariants as one_pass
-use Rattle.fancy_plain.specs.OnePass.{IsOnePass}
+use Rattle.fancy_plain.specs.OnePass.{IsOnePass, IsOnePassWay, IsSeenWay}
 use Rattle.fancy_plain.specs.Nfas.{IsNfaOf}
 use Rattle.fancy_plain.specs.Ways.{CountsVisits, HasNoWayAt, IsFirstWay, IsMemoOf, IsOfNodes, IsSeenAs}
 use Rattle.fancy_nfa.specs.NfaSearch.{Pair}
@@ -21,7 +22,7 @@ use Rattle.fancy_backtrack.specs.declared.memo.Memo.{Memo}
 use Rattle.fancy_backtrack.specs.Memos.{HaveFailed}
 use Rattle.fancy_fragments.specs.declared.fragment.Fragment.{Fragment}
 use Rattle.fancy_fragments.specs.Nodes.{IsLaidOut}
-use Rattle.fancy_fragments.specs.Fragments.{nodes_of, nfa_or, joined_nfa, HasNoWayFrom, IsFirstWayOf, IsOnePassOf}
+use Rattle.fancy_fragments.specs.Fragments.{nodes_of, nfa_or, joined_nfa, HasNoWayFrom, IsFirstWayOf, IsOnePassOf, IsOnePassWayOf}
 use Rattle.fancy_fragments.proofs.EasySizes.{bound_alike}
 
 -- it can be seen in one way only
@@ -30,6 +31,10 @@ seen-prop None None = Unit-prop
 seen-prop None (Some seen) = λ x y. elim x [ ]
 seen-prop (Some w) None = λ x y. elim x [ ]
 seen-prop (Some w) (Some seen) = ×_prop (search props) (Π_prop (λ g. Coded-set (coded_option (coded× coded_ℕ coded_ℕ)) _ _))
+
+way-prop : (end : ℕ) (spans : ℕ → Option Span) (seen : Option Seen) → IsProp (IsSeenWay end spans seen)
+way-prop end spans None = λ x y. elim x [ ]
+way-prop end spans (Some seen) = ×_prop (search props) (Π_prop (λ g. Coded-set (coded_option (coded× coded_ℕ coded_ℕ)) _ _))
 
 le_then : {l m n : ℕ} → l ≤ m → m ≤ n → l ≤ n
 le_then a b = omega (arith, a, b)
@@ -76,6 +81,17 @@ module _ (f : Fragment) where
       (h laid.0 (nodes_of f) (by_option laid) pos continued))
   one_pass_from text place one_pass.Fails h = no_way_from text place h
   one_pass_from text place one_pass.Unknown h = h
+
+  pub one_pass_way_from : (text : List ℕ) (place : ℕ) (spans : ℕ → Option Span) (s : OnePass) → IsOnePassWay text f.nfa place spans s →
+      IsOnePassWayOf text f place spans s
+  one_pass_way_from text place spans (one_pass.Ends end) h = λ pos continued.
+      ∥∥₁_elim f.laid_out (way-prop end spans _) (λ laid.
+      subst
+      (λ u. IsSeenWay end spans (first_seen (record { text = text; pos = pos; continued = continued; unicode = u }) (nodes_of f) place))
+      laid.1.unicode
+      (h laid.0 (nodes_of f) (by_option laid) pos continued))
+  one_pass_way_from text place spans one_pass.Fails h = no_way_from text place h
+  one_pass_way_from text place spans one_pass.Unknown h = h
 
 -- ---- with loops joined
 

@@ -5,6 +5,7 @@ use Rattle.fancy_meaning.specs.Tree.{Tree}
 use Rattle.fancy_meaning.specs.Instr as plain
 use Rattle.fancy_meaning.specs.Options.{Analysis}
 use Rattle.fancy_meaning.specs.FragmentStates.{visit_bound}
+use Rattle.fancy_meaning.specs.MatchState.{Span}
 use Rattle.fancy_nfa.specs.FirstWays.{AreEasy, first_seen}
 use Rattle.fancy_expr.specs.Walk.{within_of}
 use Rattle.fancy_plain.specs.declared.first_way.FirstWay.{FirstWay}
@@ -12,6 +13,7 @@ use Rattle.fancy_backtrack.specs.declared.memo.Memo.{Memo}
 use Rattle.fancy_plain.specs.declared.nfa.Nfa.{Nfa}
 use Rattle.fancy_plain.specs.declared.one_pass.OnePass.{OnePass}
 use Rattle.fancy_plain.specs.declared.one_pass.OnePass.TheVariants as one_pass
+use Rattle.fancy_plain.specs.OnePass.{IsSeenWay}
 use Rattle.fancy_plain.specs.Ways.{IsMemoOf, IsSeenAs}
 use Rattle.fancy_fragments.specs.declared.fragment.Fragment.{Fragment}
 use Rattle.fancy_fragments.specs.Nodes.{nodes_over}
@@ -45,6 +47,18 @@ IsOnePassOf text f place (one_pass.Ends end) = (pos : ℕ) (continued : Bool) �
     ≡ Some (end, λ g. None)
 IsOnePassOf text f place one_pass.Fails = HasNoWayFrom text f place
 IsOnePassOf text f place one_pass.Unknown = Unit {0}
+
+-- the first way ends there and sets the groups so, wherever the search of the whole pattern began
+abbrev pub IsWayTo : (text : List ℕ) → Fragment → (place end : ℕ) → (spans : ℕ → Option Span) → Type 0
+IsWayTo text f place end spans = (pos : ℕ) (continued : Bool) →
+    IsSeenWay end spans
+    (first_seen (record { text = text; pos = pos; continued = continued; unicode = f.unicode }) (nodes_of f) place)
+
+-- as `IsOnePassOf`, of nodes with groups
+abbrev pub IsOnePassWayOf : (text : List ℕ) → Fragment → (place : ℕ) → (spans : ℕ → Option Span) → OnePass → Type 0
+IsOnePassWayOf text f place spans (one_pass.Ends end) = IsWayTo text f place end spans
+IsOnePassWayOf text f place spans one_pass.Fails = HasNoWayFrom text f place
+IsOnePassWayOf text f place spans one_pass.Unknown = Unit {0}
 
 -- it knows what searches of this fragment in this text have memoized, and no more
 abbrev pub IsMemoFor : (text : List ℕ) → Fragment → Memo → Type 0

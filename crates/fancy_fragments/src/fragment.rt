@@ -1,13 +1,14 @@
 //! Fragments: neighbouring easy nodes that are searched for plainly.
 
-ghost use Rattle.std.specs.Prelude.{◌≡◌, ◌*◌, ℕ, List, false, true, IfOk, IfErr, IfSome, map, nat_le};
+ghost use Rattle.std.specs.Prelude.{◌≡◌, ◌*◌, ℕ, List, Option, false, true, IfOk, IfErr, IfSome, map, nat_le};
 ghost use Rattle.fancy_joining.specs.JoinedLoops.{joined};
 ghost use Rattle.std.proofs.Props.{props};
 ghost use Rattle.fancy_meaning.specs.Fits.{fragment_fits};
 ghost use Rattle.fancy_expr.specs.Views.{tree_of};
 ghost use Rattle.fancy_expr.specs.Walk.{within_of};
 ghost use Rattle.fancy_info.specs.Infos.{info_tree};
-ghost use Rattle.fancy_plain.specs.OnePass.{IsOnePass};
+ghost use Rattle.fancy_meaning.specs.MatchState.{Span};
+ghost use Rattle.fancy_plain.specs.OnePass.{IsOnePass, IsOnePassWay};
 ghost use Rattle.fancy_plain.specs.Neighbours.{AreNeighbours};
 ghost use Rattle.fancy_plain.specs.Nfas.{HaveClasses, IsRefusedFor};
 ghost use Rattle.fancy_backtrack.specs.Memos.{HaveFailed};
@@ -48,7 +49,7 @@ pub struct Fragment {
 }
 
 impl Fragment {
-    ghost use Rattle.fancy_fragments.specs.Fragments.{HasNoWayFrom, IsJoinedMemoFor, IsMemoFor, IsOnePassOf, fragment_of, joined_nfa};
+    ghost use Rattle.fancy_fragments.specs.Fragments.{HasNoWayFrom, IsJoinedMemoFor, IsMemoFor, IsOnePassOf, IsOnePassWayOf, fragment_of, joined_nfa};
 
     /// The fragment of neighbouring nodes of one analysed tree, none of them hard.
     ///
@@ -92,6 +93,8 @@ impl Fragment {
             → HasNoWayAt text result.now ix → HasNoWayFrom text self.now ix }
         ensures one_pass { (text : List ℕ) (ix : ℕ) (end : OnePass)
             → IsOnePass text result.now ix end → IsOnePassOf text self.now ix end }
+        ensures one_pass_way { (text : List ℕ) (ix : ℕ) (spans : ℕ → Option Span) (end : OnePass)
+            → IsOnePassWay text result.now ix spans end → IsOnePassWayOf text self.now ix spans end }
     {
         &self.nfa
     }

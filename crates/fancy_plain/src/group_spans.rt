@@ -3,6 +3,7 @@
 ghost use Rattle.std.specs.Prelude.{◌≡◌, ◌∷◌, ◌<◌, [], length, ℕ, List, IfOk, IsTrue, OnOk};
 ghost use Rattle.fancy_meaning.specs.MatchState.{Span};
 ghost use Rattle.fancy_plain.specs.GroupSpans.{span_from};
+ghost use Rattle.fancy_plain.specs.Ways.{Ascends, listed};
 
 use std::alloc::{AllocError, Global};
 
@@ -41,6 +42,20 @@ impl GroupSpans {
         ensures { (g : ℕ) → span_from self.now.first result.now g ≡ spans_in self.now g }
     {
         &self.spans
+    }
+
+    /// Holds these spans of groups, for each the number, the start and the end, and no others.
+    pub fn hold(&mut self, spans: &[(usize, usize, usize)]) -> Result<(), AllocError>
+        requires { Ascends spans.now }
+        ensures { OnOk result ((g : ℕ) → spans_in self.new g ≡ listed spans.now g) }
+    {
+        self.first = 0;
+        self.spans.clear();
+        'groups: for (group, from, to) in spans {
+            grow(&mut self.spans, *group)?;
+            self.spans[*group] = Some((*from, *to));
+        }
+        Ok(())
     }
 
     /// No group is open or has a span, and this is the first that may have one.
