@@ -14,11 +14,12 @@ use Rattle.fancy_scanner.specs.Kept.{found_in, kept_captures, shown_whole}
 use Rattle.fancy_scanner.specs.Scanning.{AreTreesOf, EachReplies, FailsForOne, IsRuleAt, MayFail, Rule, here, stopped_view, trees_of}
 use Rattle.fancy_scanner.specs.Scans.{AreAnswersOf, GoesOn, HasRoom, IsScanOf, IsWholeIn, KeepsHeld, answers_of, captures_result, earlier_match, found_match, holds_for, is_held, text_of}
 use Rattle.fancy_scanner.specs.declared.answers.Answer.{Answer}
+use Rattle.fancy_scanner.specs.declared.lasting.Lasting.{Lasting}
 use Rattle.fancy_scanner.specs.declared.scan_text.ScanText.{ScanText}
 use Rattle.fancy_scanner.specs.declared.scan_text.TreeMatch.{TreeMatch}
 use Rattle.fancy_scanner.specs.declared.scanner.ScanTree.{ScanTree}
 use Rattle.fancy_scanner.specs.declared.scanner.Stopped.{Stopped}
-use Rattle.fancy_scanner.proofs.Kept.{goes_twice, held_still, room_left}
+use Rattle.fancy_scanner.proofs.Kept.{goes_twice, held, held_still, room_left}
 use Rattle.fancy_scanner.proofs.Rules.{IsScanFrom, RuleAt, back_past_limit, back_past_none, back_past_some, fails_at}
 use Rattle.fancy_scanner.proofs.Steps.{IsSeen, groups_of, none_kept, told}
 
@@ -291,6 +292,26 @@ module _ (text : List ℕ) where
       go (q ∷ rules) (x ∷ xs) [] trees h = tt
       go (q ∷ rules) (x ∷ xs) (None ∷ answers) trees h = go rules xs answers trees.1 h
       go (q ∷ rules) (x ∷ xs) (Some a ∷ answers) trees h = (h.0, go rules xs answers trees.1 h.1)
+
+lasting_within : (xs : List ScanTree) (k : ℕ) (lasting : Lasting) → option_map (λ x. x.lasting) (slice_get xs k) ≡ Some lasting → k < length xs
+lasting_within [] k lasting e = absurd (none-some lasting e)
+lasting_within (x ∷ xs) zero lasting e = omega arith
+lasting_within (x ∷ xs) (suc k) lasting e =
+    let lt = lasting_within xs k lasting e in omega (arith, lt)
+
+get_taken : {X : Type 0} (xs : List X) (n k : ℕ) → k < n → slice_get (take n xs) k ≡ slice_get xs k
+get_taken xs zero k lt = absurd (omega (arith, lt))
+get_taken [] (suc n) k lt = refl
+get_taken (x ∷ xs) (suc n) zero lt = refl
+get_taken (x ∷ xs) (suc n) (suc k) lt = get_taken xs n k (omega (arith, lt))
+
+-- what is held of a tree stays where no more answers than trees are kept
+pub held_taken : (s : ScanText) (pos n k : ℕ) → n ≡ length (trees_of s.scanner.now) → is_held s k pos ≡ true →
+    slice_get (take n (answers_of s)) k ≡ slice_get (answers_of s) k
+held_taken s pos n k count e =
+    let now = held s k pos e in
+    let within = lasting_within (trees_of s.scanner.now) k now.lasting now.lasts in
+    get_taken (answers_of s) n k (omega (arith, within, count))
 
 -- ---- what stands in the order
 

@@ -1,11 +1,11 @@
 //! A scan for some of the trees of a scanner, in an order of their own; and one more tree for a scan.
 
-ghost use Rattle.std.specs.Prelude.{◌≡◌, ◌++◌, ◌∷◌, [], IfErr, IfOk, IfSome, IsTrue, List, OnErr, OnOk};
+ghost use Rattle.std.specs.Prelude.{◌≡◌, ◌<◌, ◌^◌, ◌++◌, ◌∷◌, [], ℕ, IfErr, IfOk, IfSome, IsTrue, List, None, OnErr, OnOk, length};
 ghost use Rattle.fancy_meaning.specs.Places as places;
 ghost use Rattle.fancy_expr.specs.Sound.{IsWellFormedTree};
 ghost use Rattle.fancy_search.specs.Searches.{IsRefusedAs, input_of, search_fits};
 ghost use Rattle.fancy_scanner.specs.Among.{ArePicked, answers_among, among_result};
-ghost use Rattle.fancy_scanner.specs.Scanning.{Rule, Scans, rule_of};
+ghost use Rattle.fancy_scanner.specs.Scanning.{AreEasy, Rule, Scans, rule_of};
 ghost use Rattle.fancy_scanner.specs.Scans as scans;
 ghost use Rattle.fancy_scanner.specs.Scans.{GoesOn, IsScanOf, KeepsHeld, scanner_of, text_of};
 
@@ -29,6 +29,10 @@ impl<'t> ScanText<'_, 't> {
             → Scans (text_of self.old) pos picked (among_result self.new order.now result) }
         ensures whole { IfOk result (λ step. IfSome step.found
             (scans.IsWholeIn (answers_among self.new order.now))) }
+        ensures easy { (rules picked : List Rule)
+            → IsScanOf rules self.old → ArePicked rules order.now picked
+            → AreEasy (text_of self.old) picked → length (text_of self.old) < 2 ^ 60
+            → IfOk result (λ step. step.stopped ≡ None) }
         ensures held { KeepsHeld pos self.old self.new }
         ensures goes_on { GoesOn self.old self.new }
     {
@@ -81,6 +85,7 @@ impl<'t> ScanText<'_, 't> {
             options.now.compilation.max_nesting) }
         ensures err { OnErr result ((rules : List Rule)
             → IsScanOf rules self.old → IsScanOf rules self.new) }
+        ensures held { (pos : ℕ) → KeepsHeld pos self.old self.new }
         ensures within { text_of self.new ≡ text_of self.old }
         ensures name { (scanner_of self.new).ghost_name ≡ (scanner_of self.old).ghost_name }
     {

@@ -1,7 +1,8 @@
-use Rattle.std.proofs.Common.{◌++◌, ◌∷◌, [], OnOk, OnErr, Result, Ok, Err, subst, sym}
+use Rattle.std.proofs.Common.{◌++◌, ◌∷◌, [], OnOk, OnErr, Result, Ok, Err, ap, ◌∙◌, subst, sym}
+use Rattle.std.specs.Prelude.{slice_get}
 use Rattle.fancy_scanner.specs.Scanning.{Rule, rule_of, trees_of}
 use Rattle.fancy_scanner.specs.Scans.{AreAnswersOf, answers_of, text_of}
-use Rattle.fancy_scanner.proofs.OrderSteps.{answers_of_more, answers_taken}
+use Rattle.fancy_scanner.proofs.OrderSteps.{answers_of_more, answers_taken, held_taken}
 use Rattle.fancy_scanner.proofs.scan_text.ScanText.add_tree.Goals as goal
 
 on_ok : {A E P Q : Type 0} (r : Result A E) → (P → Q) → OnOk r P → OnOk r Q
@@ -38,3 +39,8 @@ returns-clause-err c =
           (answers_taken text rules (answers_of s) c.tree_count.result h.answers);
     })
     c.add_tree.ensures.err
+
+pub returns-clause-held : goal.returns-clause-held
+returns-clause-held c = λ pos k e.
+    ap (λ answers. slice_get answers k) c.truncate.ensures.items
+    ∙ held_taken c.args.self.now pos c.tree_count.result k c.tree_count.ensures e

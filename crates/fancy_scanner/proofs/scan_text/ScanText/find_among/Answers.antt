@@ -4,7 +4,7 @@ use Rattle.fancy_meaning.specs.Places.{is_place}
 use Rattle.fancy_scanner.specs.Among.{answers_among}
 use Rattle.fancy_scanner.specs.Scans.{found_match, text_of}
 use Rattle.fancy_scanner.proofs.Kept.{goes_twice, held_still}
-use Rattle.fancy_scanner.proofs.Rules.{IsScanFrom}
+use Rattle.fancy_scanner.proofs.Rules.{IsScanFrom, easy_never_stops}
 use Rattle.fancy_scanner.proofs.OrderSteps.{fails_among_so, limit_among_so, no_memory_among, none_among, none_among_so, read_or, skipped_so, some_among_so, some_of, whole_among}
 use Rattle.fancy_scanner.proofs.scan_text.ScanText.find_among.Goals as goal
 
@@ -89,6 +89,15 @@ returns-clause-promise c = λ rules picked h picks.
     (λ n. IsScanFrom (text_of c.args.self.now) c.args.pos picked n (found_match (answers_among c.trees.self c.args.order.now) c.trees.found) c.trees.stopped)
     none (c.trees.invariant.scanned rules picked h picks) in
     (all.replies, all.each, all.first, all.stops)
+
+pub returns-clause-easy : goal.returns-clause-easy
+returns-clause-easy c = λ rules picked h picks easy small.
+    let none : c.trees.index ≡ 0 = omega (arith, c.trees-test.false) in
+    easy_never_stops (text_of c.args.self.now) c.args.pos picked (found_match (answers_among c.trees.self c.args.order.now) c.trees.found)
+    c.trees.stopped small easy
+    (subst
+    (λ n. IsScanFrom (text_of c.args.self.now) c.args.pos picked n (found_match (answers_among c.trees.self c.args.order.now) c.trees.found) c.trees.stopped)
+    none (c.trees.invariant.scanned rules picked h picks))
 
 pub returns-clause-whole : goal.returns-clause-whole
 returns-clause-whole c = whole_among c.args.pos c.args.order.now c.trees.self c.trees.found c.trees.invariant.seen
