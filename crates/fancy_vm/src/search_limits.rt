@@ -2,10 +2,9 @@
 
 ghost use Rattle.std.specs.Prelude.{◌≡◌, ◌+◌, ◌-◌, ℕ, min, None, IfOk, IsTrue, OnOk};
 ghost use Rattle.fancy_meaning.specs.Places.{is_place};
-ghost use Rattle.fancy_backtrack.specs.Bytes.{bytes_of};
 ghost use Rattle.fancy_fragments.specs.Fragments.{IsFirstWayOf, IsJoinedMemoFor};
 ghost use Rattle.fancy_plain.specs.Ways.{HasAscending};
-ghost use Rattle.fancy_vm.specs.SearchLimits.{left_of, no_cost, no_limits, passed_by};
+ghost use Rattle.fancy_vm.specs.SearchLimits.{held_by, left_of, no_cost, no_limits, passed_by};
 
 use crate::machine::Task;
 use fancy_backtrack::budget::Budget;
@@ -37,7 +36,7 @@ pub enum SearchLimit {
 pub struct SearchCost {
     /// How many states they took up.
     pub visits: u64,
-    /// How many bytes what they keep holds.
+    /// How many bytes what they keep holds, where these are limited; they are not counted where they are not.
     pub bytes: usize,
 }
 
@@ -53,6 +52,7 @@ impl SearchLimits {
     }
 
     /// The limit that is passed by such a cost, that on visits where both are.
+    #[inline(always)]
     pub fn passed_by(&self, cost: SearchCost) -> Option<SearchLimit>
         ensures { result ≡ passed_by self.now cost }
     {
@@ -69,7 +69,19 @@ impl SearchLimits {
         None
     }
 
+    /// How many bytes the memo holds, where these are limited.
+    #[inline(always)]
+    fn held(&self, memo: &Memo) -> usize
+        ensures { result ≡ held_by self.now memo.now }
+    {
+        match self.bytes {
+            None => 0,
+            Some(_) => memo.bytes(),
+        }
+    }
+
     /// What a search may take behind others of this cost.
+    #[inline(always)]
     fn left(&self, cost: SearchCost) -> Budget
         ensures visits { result.visits ≡ left_of u64.MAX self.now.visits cost.visits }
         ensures bytes { result.bytes ≡ left_of usize.MAX self.now.bytes cost.bytes }
@@ -100,6 +112,7 @@ impl SearchCost {
 
     /// The first way from `ix` of the fragment, by what this memo has noted and within what the limits leave, which adds to
     /// the cost. It is `Memory` where a limit is passed.
+    #[inline(always)]
     pub(crate) fn first_way(
         &mut self,
         task: &Task<'_>,
@@ -115,10 +128,10 @@ impl SearchCost {
         ensures within { OnOk result (passed_by task.now.limits self.new ≡ None) }
         ensures visits { IfOk result
             (λ found. self.new.visits ≡ min u64.MAX (self.old.visits + found.visits)) }
-        ensures bytes { self.new.bytes
-            ≡ min usize.MAX (self.old.bytes - bytes_of memo.old + bytes_of memo.new) }
+        ensures bytes { self.new.bytes ≡ min usize.MAX
+            (self.old.bytes - held_by task.now.limits memo.old + held_by task.now.limits memo.new) }
     {
-        self.bytes = self.bytes.saturating_sub(memo.bytes());
+        self.bytes = self.bytes.saturating_sub(task.limits.held(memo));
         memo.limit(task.limits.left(*self));
         let way = first_way_joined(task.alloc, fragment, task.text, ix, memo);
         let visits = match &way {
@@ -126,7 +139,7 @@ impl SearchCost {
             Err(_) => memo.visits(),
         };
         self.visits = self.visits.saturating_add(visits);
-        self.bytes = self.bytes.saturating_add(memo.bytes());
+        self.bytes = self.bytes.saturating_add(task.limits.held(memo));
         if task.limits.passed_by(*self).is_some() {
             return Err(Error::Memory);
         }
