@@ -17,12 +17,13 @@
  * written, then the zero, and nothing where room is 0. The call answers how many bytes the whole text has without the
  * zero, so it was cut where that is room or more. It may be cut inside a character.
  *
- * Memory: a program's memory is the library's, until fancy_free. No call keeps a pointer of the host. Each pointer
- * points to its own memory, which no other pointer of the same call reaches. Where a length or a room is 0 the pointer
- * may be null (see the end of this file).
+ * Memory: a program's memory is the library's, until fancy_free, and a scanner's until fancy_scanner_free. No call keeps
+ * a pointer of the host. Each pointer points to its own memory, which no other pointer of the same call reaches. Where a
+ * length or a room is 0 the pointer may be null (see the end of this file).
  *
- * Threads: a program is used by one call at a time, and may go from thread to thread; the host orders the calls, by a lock
- * or by a thread's start or join. Threads that search for one pattern at the same time have a program each, by fancy_clone.
+ * Threads: a program or a scanner is used by one call at a time, and may go from thread to thread; the host orders the
+ * calls, by a lock or by a thread's start or join. Threads that search for one pattern at the same time have a program each,
+ * by fancy_clone; threads that scan at the same time have a scanner each, to which the patterns are added.
  *
  * The library is crates/fancy_host/out/libfancy_host.a (`rt lib` in crates/fancy_host). It calls malloc, realloc and
  * free, by c/liblibc_c.a of the kit, and nothing else.
@@ -41,7 +42,7 @@
 extern "C" {
 #endif
 
-/* A group that is not set, a detail that an outcome does not have, and a limit of backtracks that is not given. */
+/* A group that is not set, a detail that an outcome or a row does not have, and a limit of backtracks that is not given. */
 #define FANCY_UNSET SIZE_MAX
 
 /* What an outcome says. Numbers keep their meaning from version to version, and new ones may come. */
@@ -102,6 +103,12 @@ struct fancy_program {
     uintptr_t words[3];
 };
 
+/* Patterns that are searched for together, or none. What its words say is the library's affair, as for a program. */
+struct fancy_scanner {
+    uintptr_t words[3];
+};
+
+/* For a program and for a scanner. */
 #define FANCY_NOTHING {{0, 0, 0}}
 
 /* The options of the compiler and of a search. Begin with fancy_default_options(), which has all that is false or 0 here
@@ -143,7 +150,7 @@ struct fancy_options {
 struct fancy_outcome {
     uint32_t code; /* of enum fancy_code */
     size_t byte;   /* where the pattern, the tree or the text cannot be read */
-    size_t group;  /* the group that is not there */
+    size_t group;  /* the group that is not there; of fancy_scan, the pattern that passed a limit */
     size_t count;  /* how many groups there are, with group 0; of the calls for all matches, how many were written;
                       of fancy_replace, how many bytes the new text has */
     size_t next;   /* of fancy_find: pos of a search for the next match; past the length of the text there is none */
@@ -254,6 +261,63 @@ struct fancy_outcome fancy_captures_all(struct fancy_program *program, const cha
                                         const struct fancy_options *options, struct fancy_standing *standing,
                                         size_t *spans, size_t spans_length);
 
+/* ---- many patterns
+ *
+ *     struct fancy_scanner scanner = FANCY_NOTHING;
+ *     size_t rows[16 * FANCY_ROW_WIDTH(1)], pos = 0;
+ *     fancy_scanner_add(&scanner, "\"[^\"]*\"", 9, &options);
+ *     fancy_scanner_add(&scanner, "[a-z]+", 6, &options);
+ *     do {
+ *         outcome = fancy_scan(&scanner, text, strlen(text), &pos, 1, rows, sizeof rows / sizeof *rows);
+ *         for (size_t i = 0; i < outcome.count; i++)
+ *             use(rows + i * FANCY_ROW_WIDTH(1));
+ *     } while (outcome.code == FANCY_OK);
+ *     fancy_scanner_free(&scanner);
+ */
+
+/* Where the numbers of a match stand in its row. */
+enum fancy_row {
+    FANCY_ROW_PATTERN = 0, /* the pattern: how many were added before it */
+    FANCY_ROW_STOPPED = 1, /* the first pattern whose search passed a limit, or FANCY_UNSET */
+    FANCY_ROW_LIMIT = 2,   /* the code of that limit, or FANCY_OK */
+    FANCY_ROW_SPANS = 3    /* start and end of each group from 0 up */
+};
+
+/* How many numbers a row with so many groups has. */
+#define FANCY_ROW_WIDTH(groups) (2 * (size_t)(groups) + FANCY_ROW_SPANS)
+
+/* Adds a pattern to a scanner, after the others: it is read and compiled as by fancy_compile_pattern, and searched for with
+ * these options, of which pos says nothing. count of the outcome is how many groups it has, with group 0.
+ *
+ * Errors: those of fancy_compile_pattern. After one the scanner has the patterns that it had. */
+struct fancy_outcome fancy_scanner_add(struct fancy_scanner *scanner, const char *pattern, size_t pattern_length,
+                                       const struct fancy_options *options);
+
+/* Searches a text for the patterns of a scanner, from match to match, from *pos on. From each place on it finds the match
+ * that begins first, of the first matches of all patterns, and of several that begin there that of the pattern that was
+ * added first. The next search begins where the match ends, and one character further where that took nothing. So an empty
+ * match may stand where the one before it ended.
+ *
+ * A row is written for each match, as many as there is room for, and count says how many. A row has FANCY_ROW_WIDTH(groups)
+ * numbers, in the order of enum fancy_row, with the spans of so many groups. A group that is not set, or that the pattern
+ * does not have, has FANCY_UNSET twice. *pos then stands behind the matches, and the same call again goes on:
+ *
+ *   FANCY_OK        there was no room for one more
+ *   FANCY_NO_MATCH  no pattern has a match from *pos on, or *pos is no place of the text
+ *   a limit         no other pattern has a match from *pos on, and the pattern `group` passed this limit
+ *   FANCY_NOT_UTF8  of the text, at byte
+ *   FANCY_MEMORY
+ *
+ * A pattern that passes a limit does not hide the matches of the others: their row tells the first such pattern. What is
+ * found of a pattern is kept for the rest of the call, as long as it holds, so that a call goes over the text once for each
+ * pattern. Room for many rows thus saves time where a pattern matches far on or nowhere. A scanner without patterns finds
+ * nothing. The scanner has the patterns that it had, whatever the code is. */
+struct fancy_outcome fancy_scan(struct fancy_scanner *scanner, const char *text, size_t text_length, size_t *pos,
+                                size_t groups, size_t *rows, size_t rows_length);
+
+/* Frees what a scanner holds, which has no patterns then. */
+void fancy_scanner_free(struct fancy_scanner *scanner);
+
 /* ---- replacing */
 
 /* Writes the text with its first `limit` matches replaced, all of them where limit is 0; without a match the text itself.
@@ -321,6 +385,10 @@ static inline size_t *fancy_numbers(size_t *numbers)
     fancy_find_all(program, fancy_from(text), length, options, standing, fancy_numbers(spans), spans_length)
 #define fancy_captures_all(program, text, length, options, standing, spans, spans_length) \
     fancy_captures_all(program, fancy_from(text), length, options, standing, fancy_numbers(spans), spans_length)
+#define fancy_scanner_add(scanner, pattern, length, options) \
+    fancy_scanner_add(scanner, fancy_from(pattern), length, options)
+#define fancy_scan(scanner, text, length, pos, groups, rows, rows_length) \
+    fancy_scan(scanner, fancy_from(text), length, pos, groups, fancy_numbers(rows), rows_length)
 #define fancy_replace(program, text, length, options, replacement, replacement_length, is_literal, limit, into, room) \
     fancy_replace(program, fancy_from(text), length, options, fancy_from(replacement), replacement_length, is_literal, \
                   limit, fancy_into(into), room)

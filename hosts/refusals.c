@@ -269,6 +269,61 @@ static void copy_programs(void)
     find("what it held, freed", "ab");
 }
 
+static struct fancy_scanner scanner = FANCY_NOTHING;
+
+static void add(const char *what, const char *pattern)
+{
+    struct fancy_outcome outcome = fancy_scanner_add(&scanner, pattern, strlen(pattern), &options);
+    print_outcome(what, outcome);
+    printf("%zu groups\n", outcome.count);
+}
+
+static void scan(const char *what, const char *text, size_t pos, size_t groups, size_t room)
+{
+    size_t rows[24];
+    struct fancy_outcome outcome = fancy_scan(&scanner, text, strlen(text), &pos, groups, rows, room);
+    print_outcome(what, outcome);
+    printf("%zu written, then from %zu:", outcome.count, pos);
+    for (size_t i = 0; i < FANCY_ROW_WIDTH(groups) * outcome.count; i++)
+        printf(rows[i] == FANCY_UNSET ? " -" : " %zu", rows[i]);
+    putchar('\n');
+}
+
+static void scan_texts(void)
+{
+    size_t pos = 0;
+    scan("a scan without patterns", "ab", 0, 1, 24);
+    add("the first pattern", "(a)(b)?");
+    add("a pattern that is not closed", "(a");
+    add("a pattern that is no UTF-8", "\xff");
+    add("a pattern that is refused", "(a)\\2");
+    options.size -= 8;
+    add("options of another size", "a");
+    options = fancy_default_options();
+    add("the second pattern", "ab|\xc3\xa9");
+    scan("of equals the first pattern", "xab\xc3\xa9", 0, 3, 24);
+    scan("from a later place", "xab\xc3\xa9", 2, 1, 24);
+    scan("room for one row and not for two", "aa", 0, 1, 9);
+    scan("no room for a row", "aa", 0, 1, 4);
+    scan("rows without groups", "aa", 0, 0, 6);
+    scan("more groups than there is room for", "aa", 0, SIZE_MAX, 24);
+    scan("from the end", "aa", 2, 1, 24);
+    scan("from behind the text", "aa", 3, 1, 24);
+    scan("from a place inside a character", "\xc3\xa9", 1, 1, 24);
+    scan("a text that is no UTF-8", "ab\xff", 0, 1, 24);
+    add("a pattern that takes nothing", "(?=b)");
+    scan("a match that takes nothing", "cbb", 0, 1, 24);
+    options.step_limit = 0;
+    add("a pattern that passes its limit", "c");
+    options = fancy_default_options();
+    scan("a limit beside a match", "cabc", 0, 1, 24);
+    scan("a limit and no match", "c", 0, 1, 24);
+    printf("%zu rows, no room at all\n", fancy_scan(&scanner, NULL, 0, &pos, 1, NULL, 0).count);
+    fancy_scanner_free(&scanner);
+    scan("a scan by what was freed", "ab", 0, 1, 24);
+    fancy_scanner_free(&scanner);
+}
+
 int main(void)
 {
     options = fancy_default_options();
@@ -326,5 +381,6 @@ int main(void)
     name_groups();
     write_texts();
     copy_programs();
+    scan_texts();
     return 0;
 }

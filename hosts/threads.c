@@ -1,4 +1,5 @@
-/* Threads that search for one pattern at the same time, each with a copy of its own: prints how many matches each found. */
+/* Threads that search for one pattern at the same time, each with a copy of its own, and scan for two, each with a scanner
+ * that was made in the first thread: prints how many matches each found. */
 #include "fancy.h"
 #include <pthread.h>
 #include <stdio.h>
@@ -11,9 +12,22 @@ enum { THREADS = 4, SENTENCES = 250 };
 
 struct task {
     struct fancy_program program;
+    struct fancy_scanner scanner;
     const char *text;
-    size_t length, found;
+    size_t length, found, scanned;
 };
+
+/* Counts the matches of the scan, and frees the scanner. */
+static void count_rows(struct task *task)
+{
+    struct fancy_outcome outcome;
+    size_t rows[8 * FANCY_ROW_WIDTH(1)], pos = 0;
+    do {
+        outcome = fancy_scan(&task->scanner, task->text, task->length, &pos, 1, rows, sizeof rows / sizeof *rows);
+        task->scanned += outcome.count;
+    } while (outcome.code == FANCY_OK);
+    fancy_scanner_free(&task->scanner);
+}
 
 /* Counts the matches of the text, and frees the copy. */
 static void *count_matches(void *given)
@@ -28,7 +42,16 @@ static void *count_matches(void *given)
         task->found += outcome.count;
     } while (outcome.code == FANCY_OK);
     fancy_free(&task->program);
+    count_rows(task);
     return NULL;
+}
+
+/* A scanner of two patterns. */
+static uint32_t make_scanner(struct fancy_scanner *scanner)
+{
+    struct fancy_options options = fancy_default_options();
+    uint32_t code = fancy_scanner_add(scanner, "\\bit\\b", 6, &options).code;
+    return code != FANCY_OK ? code : fancy_scanner_add(scanner, "[.]", 3, &options).code;
 }
 
 int main(void)
@@ -44,8 +67,8 @@ int main(void)
     if (fancy_compile_pattern(pattern, strlen(pattern), &options, &program).code != FANCY_OK)
         return 1;
     for (size_t i = 0; i < THREADS; i++) {
-        tasks[i] = (struct task){FANCY_NOTHING, text, sizeof text / THREADS * (i + 1), 0};
-        if (fancy_clone(&program, &tasks[i].program).code != FANCY_OK)
+        tasks[i] = (struct task){FANCY_NOTHING, FANCY_NOTHING, text, sizeof text / THREADS * (i + 1), 0, 0};
+        if (fancy_clone(&program, &tasks[i].program).code != FANCY_OK || make_scanner(&tasks[i].scanner) != FANCY_OK)
             return 1;
         if (pthread_create(&threads[i], NULL, count_matches, &tasks[i]) != 0)
             return 1;
@@ -53,7 +76,7 @@ int main(void)
     fancy_free(&program);
     for (size_t i = 0; i < THREADS; i++) {
         pthread_join(threads[i], NULL);
-        printf("%zu\n", tasks[i].found);
+        printf("%zu %zu\n", tasks[i].found, tasks[i].scanned);
     }
     return 0;
 }

@@ -12,7 +12,10 @@ use Rattle.std.proofs.Crossing as std
 use Rattle.std.proofs.MapsCrossing as maps
 use Rattle.fancy_program.proofs.ThreadsLaws.{prog_sends, prog_syncs}
 use Rattle.fancy_vm.proofs.ThreadsLaws.{scratch_sends}
-use Rattle.fancy_host.specs.Owned.{owned}
+use Rattle.fancy_matches.proofs.ThreadsLaws.{regex_sends}
+use Rattle.fancy_scanner.specs.contracts.scanner.ScanTree as ScanTree
+use Rattle.fancy_scanner.specs.contracts.scanner.Scanner as Scanner
+use Rattle.fancy_host.specs.Owned.{owned, owned_scanner}
 use Rattle.fancy_host.specs.contracts.searches.Searcher as Searcher
 use Rattle.fancy_host.specs.contracts.tree.CompiledTree as CompiledTree
 
@@ -25,6 +28,12 @@ tree_syncs = search (prog_syncs, std.crosses, maps.crosses, sendable) depth 60 f
 searcher_sends : IsSend Searcher.the_row
 searcher_sends = search (tree_sends, tree_syncs, scratch_sends, std.crosses, sendable) depth 60 fits 20000
 
+rule_sends : IsSend ScanTree.the_field.row
+rule_sends = search (regex_sends, std.crosses, sendable) depth 60 fits 20000
+
+scanner_sends : IsSend Scanner.the_row
+scanner_sends = search (rule_sends, std.crosses, sendable) depth 60 fits 20000
+
 lies : (R : RattleType) → IsSend R → (p : Ptr) (x : R.Denot) → Keyless (lies_at R full_share p x)
 lies R s (block_ptr b o) x = part_keyless R s full_share x b o
 lies R s null_ptr x = tt
@@ -32,3 +41,7 @@ lies R s null_ptr x = tt
 pub owned_keyless : (alloc : Global) (at : Ptr) (searcher : Option (Searcher.the_row).Denot) → Keyless (owned alloc at searcher)
 owned_keyless alloc at None = tt
 owned_keyless alloc at (Some x) = (lies Searcher.the_row searcher_sends at x, std.frees.frees alloc (raw (lone (Searcher.the_row).mir)) at)
+
+pub scanner_keyless : (alloc : Global) (at : Ptr) (scanner : Option (Scanner.the_row).Denot) → Keyless (owned_scanner alloc at scanner)
+scanner_keyless alloc at None = tt
+scanner_keyless alloc at (Some x) = (lies Scanner.the_row scanner_sends at x, std.frees.frees alloc (raw (lone (Scanner.the_row).mir)) at)

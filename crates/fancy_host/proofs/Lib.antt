@@ -1,6 +1,9 @@
 pub mod Answered
 pub mod Ended
 pub mod HandleRows
+pub mod ScannerRows
+pub mod RowsScanned
+pub mod PatternsHeld
 pub mod Listed
 pub mod HeldGroups
 pub mod NamedGroups

@@ -22,7 +22,7 @@ use Rattle.fancy_host.proofs.Widths.{first_is_wide, row_is_wide}
 
 -- ---- numbers over what is there
 
-over_is : {X : Type 0} (new old : List X) → length new ≤ length old → over new old ≡ new ++ drop (length new) old
+pub over_is : {X : Type 0} (new old : List X) → length new ≤ length old → over new old ≡ new ++ drop (length new) old
 over_is new old fits = ap (λ xs. xs ++ drop (length new) old) (take_all (length old) new fits)
 
 pub over_more : (new old : List ℕ) (x : ℕ) → length new < length old → set (over new old) (length new) x ≡ over (new ++ x ∷ []) old

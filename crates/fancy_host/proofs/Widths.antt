@@ -21,7 +21,7 @@ use Rattle.fancy_host.specs.Lists.{Form, all_groups, row_of, span_alone, width_o
 
 -- ---- an answer
 
-pair_has_two : (span : Option Span) → length (span_numbers span) ≡ 2
+pub pair_has_two : (span : Option Span) → length (span_numbers span) ≡ 2
 pair_has_two None = refl
 pair_has_two (Some (i, j)) = refl
 

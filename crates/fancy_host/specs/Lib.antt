@@ -5,4 +5,5 @@ pub mod Messages
 pub mod Names
 pub mod Owned
 pub mod Rewritten
+pub mod Scanned
 pub mod Whether

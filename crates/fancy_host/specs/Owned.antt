@@ -1,4 +1,4 @@
--- What a handle owns: a compiled tree in a box, or nothing.
+-- What a handle owns: a compiled tree or a scanner in a box, or nothing.
 use base.Fml.{Fml, ftrue}
 use base.Stored.{Coded}
 use denote.RawPtr.{Ptr}
@@ -7,6 +7,7 @@ use Rattle.std.specs.Coded.{coded_option}
 use Rattle.std.specs.Box.Ownership.{box_owns}
 use Rattle.std.specs.Global.{Global}
 use Rattle.std.specs.contracts.impls.GlobalAllocator.TheImpl.{ghosts}
+use Rattle.fancy_scanner.specs.contracts.scanner.Scanner as of_scanner
 use Rattle.fancy_host.specs.contracts.searches.Searcher.{the_row}
 
 abbrev pub owned : Global → Ptr → Option the_row.Denot → Fml
@@ -15,3 +16,10 @@ owned alloc at (Some searcher) = box_owns (ghosts.dealloc_token alloc) the_row a
 
 abbrev pub searcher_coded : Coded (Option the_row.Denot)
 searcher_coded = coded_option the_row.coded
+
+abbrev pub owned_scanner : Global → Ptr → Option (of_scanner.the_row).Denot → Fml
+owned_scanner alloc at None = ftrue
+owned_scanner alloc at (Some scanner) = box_owns (ghosts.dealloc_token alloc) of_scanner.the_row at scanner
+
+abbrev pub scanner_coded : Coded (Option (of_scanner.the_row).Denot)
+scanner_coded = coded_option (of_scanner.the_row).coded

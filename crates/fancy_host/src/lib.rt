@@ -11,6 +11,8 @@ mod program;
 mod reading;
 mod rewriting;
 mod rows;
+mod scanner;
+mod scans;
 mod searches;
 mod standing;
 mod tree;
@@ -24,13 +26,17 @@ ghost use Rattle.fancy_host.specs.Lists.{FindsAll, all_groups, span_alone};
 ghost use Rattle.fancy_host.specs.Messages.{Explains, IsMessage, WritesText};
 ghost use Rattle.fancy_host.specs.Names.{FindsGroups, group_name};
 ghost use Rattle.fancy_host.specs.Rewritten.{ReplacesIn};
+ghost use Rattle.fancy_host.specs.Scanned.{Adds, HoldsSame, ScansIn};
 ghost use Rattle.fancy_host.specs.Whether.{FindsAny};
 
+use fancy_scanner::scanner::Scanner;
 use messages::{write_explanation, write_message};
 use options::FancyOptions;
 use outcome::{FancyOutcome, MEMORY, NO_PROGRAM, write_name};
 use program::FancyProgram;
 use reading::{compile_notation, compile_pattern, searched};
+use scanner::FancyScanner;
+use scans::{compile_rule, scan};
 use standing::FancyStanding;
 use std::alloc::Global;
 use std::str::from_utf8;
@@ -382,4 +388,74 @@ pub extern "C" fn fancy_free(alloc: Global, program: &mut FancyProgram)
     ensures { program.new.handle.searcher ≡ None }
 {
     program.take(alloc).free();
+}
+
+/// Adds a pattern to a scanner, after the others. After an error the scanner has the patterns that it had.
+#[unsafe(no_mangle)]
+pub extern "C" fn fancy_scanner_add(
+    alloc: Global,
+    scanner: &mut FancyScanner,
+    pattern: &[u8],
+    options: &FancyOptions,
+) -> FancyOutcome
+    ensures { Adds
+        pattern.now options.now scanner.old.handle.scanner scanner.new.handle.scanner result }
+{
+    let rule = match compile_rule(alloc, pattern, options) {
+        Ok(rule) => rule,
+        Err(outcome) => return outcome,
+    };
+    let mut held = match scanner.take_or_new(alloc) {
+        Ok(held) => held,
+        Err(_) => return FancyOutcome::coded(MEMORY),
+    };
+    let added = held.push(rule.compiled);
+    *scanner = FancyScanner::of(held);
+    match added {
+        Ok(()) => FancyOutcome::compiled(rule.groups),
+        Err(_) => FancyOutcome::coded(MEMORY),
+    }
+}
+
+/// Searches a text, in UTF-8, for the patterns of a scanner, from match to match: of several patterns the match that
+/// begins first, and of several that begin there that of the pattern that was added first.
+#[unsafe(no_mangle)]
+pub extern "C" fn fancy_scan(
+    alloc: Global,
+    scanner: &mut FancyScanner,
+    text: &[u8],
+    pos: &mut usize,
+    groups: usize,
+    rows: &mut [usize],
+) -> FancyOutcome
+    ensures scans { ScansIn
+        text.now
+        groups
+        pos.old
+        rows.old
+        scanner.old.handle.scanner
+        pos.new
+        rows.new
+        result }
+    ensures keeps { HoldsSame scanner.old.handle.scanner scanner.new.handle.scanner }
+{
+    let text = match from_utf8(text) {
+        Ok(text) => text,
+        Err(fault) => return FancyOutcome::not_utf8(fault.valid_up_to()),
+    };
+    if !scanner.is_set {
+        return scan(&mut Scanner::new(alloc), text, pos, groups, rows);
+    }
+    let mut held = scanner.take(alloc).into_scanner();
+    let outcome = scan(&mut held, text, pos, groups, rows);
+    *scanner = FancyScanner::of(held);
+    outcome
+}
+
+/// Frees what a scanner holds.
+#[unsafe(no_mangle)]
+pub extern "C" fn fancy_scanner_free(alloc: Global, scanner: &mut FancyScanner)
+    ensures { scanner.new.handle.scanner ≡ None }
+{
+    scanner.take(alloc).free();
 }

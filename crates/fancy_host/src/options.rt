@@ -152,7 +152,7 @@ impl FancyOptions {
     }
 
     /// The limit of backtracks, if the host gives one.
-    fn backtracks(&self) -> Option<usize>
+    pub fn backtracks(&self) -> Option<usize>
         ensures { result ≡ hosted.given_backtracks self.now }
     {
         if self.backtrack_limit == usize::MAX {

@@ -174,7 +174,7 @@ pub fn write_answer(answer: &Result<Option<Vec<usize>>, Error>, room: &mut [usiz
 
 /// Where a search for the next match begins: at the end of the one that was found, or, if that took nothing, past the
 /// character there.
-fn next_start(text: &[u8], numbers: &[usize]) -> usize
+pub fn next_start(text: &[u8], numbers: &[usize]) -> usize
     ensures { result ≡ hosted.next_start text.now numbers.now }
 {
     let Some((start, others)) = numbers.split_first() else {

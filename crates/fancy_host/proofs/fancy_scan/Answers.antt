@@ -1,0 +1,39 @@
+use Rattle.std.proofs.Common.{sym, ap, ◌∙◌, subst}
+use Rattle.fancy_scanner.specs.Scanning.{IsScannerOf}
+use Rattle.fancy_host.specs.Hosted.{not_utf8}
+use Rattle.fancy_host.specs.Scanned.{ScansIn, Writes, in_no_utf8, scanned}
+use Rattle.fancy_host.proofs.Answered.{none_there}
+use Rattle.fancy_host.proofs.PatternsHeld.{same_as_held, same_as_none}
+use Rattle.fancy_host.proofs.fancy_scan.Goals as goal
+
+pub returns-in-Err-clause-scans : goal.returns-in-Err-clause-scans
+returns-in-Err-clause-scans c =
+    let a = c.args in
+    subst (ScansIn a.text.now a.groups a.pos.now a.rows.now a.scanner.now.handle.scanner a.pos.now a.rows.now)
+    (sym (c.not_utf8.ensures ∙ ap not_utf8 (c.valid_up_to.ensures ∙ c.in-Err.ensures.valid_len))) (in_no_utf8 c.in-Err.ensures.cases.0)
+
+pub returns-then-not-scanner-clause-scans : goal.returns-then-not-scanner-clause-scans
+returns-then-not-scanner-clause-scans c =
+    let a = c.args in
+    let held = a.scanner.now.handle.scanner in
+    let same = c.in-Ok.ensures.cases.0 in
+    scanned c.in-Ok.ensures.cases.1
+    (λ rules h.
+    subst (λ t. Writes rules t a.groups a.pos.now a.rows.now c.scan.new.pos c.scan.new.room c.scan.result) same
+    (c.scan.ensures.writes rules
+    (subst (λ t. IsScannerOf rules t c.new.result) (sym same)
+    (same_as_none held c.new.result (none_there held a.scanner.now.is_set a.scanner.now.agrees c.if-not-scanner.true) c.new.ensures rules a.text.now h))))
+
+pub returns-clause-scans : goal.returns-clause-scans
+returns-clause-scans c =
+    let a = c.args in
+    let held = a.scanner.now.handle.scanner in
+    let same = c.in-Ok.ensures.cases.0 in
+    let v = c.into_scanner-held.result.value in
+    scanned c.in-Ok.ensures.cases.1
+    (λ rules h.
+    subst (λ t. Writes rules t a.groups a.pos.now a.rows.now c.scan-outcome.new.pos c.scan-outcome.new.room c.scan-outcome.result) same
+    (c.scan-outcome.ensures.writes rules
+    (subst (λ t. IsScannerOf rules t c.deref_mut.result.now) (sym same)
+    (subst (IsScannerOf rules a.text.now) (sym c.deref_mut.ensures.value)
+    (same_as_held held v (sym c.take.ensures.held ∙ c.into_scanner-held.ensures) rules a.text.now h)))))

@@ -1,0 +1,58 @@
+use Rattle.std.proofs.Common.{sym, subst, arith}
+use Rattle.std.proofs.lemmas.Result.{err_from_is_err_and}
+use Rattle.std.specs.Prelude.{chars}
+use Rattle.fancy_expr.specs.Sound.{IsWellFormedTree}
+use Rattle.fancy_vm.specs.Tasks.{options_of as run_options_of}
+use Rattle.fancy_pattern.specs.Spelling.{IsError, IsTreeOf}
+use Rattle.fancy_scanner.specs.Scanning.{IsTreeOf as IsScanTreeOf}
+use Rattle.fancy_host.specs.Hosted.{FailsToCompile, pattern, refused, unspelled}
+use Rattle.fancy_host.specs.Scanned.{fails, in_no_text}
+use Rattle.fancy_host.proofs.Answered.{refused_by}
+use Rattle.fancy_host.proofs.PatternsHeld.{rule_so}
+use Rattle.fancy_host.proofs.scans.compile_rule.Goals as goal
+
+pub returns-in_err-text : goal.returns-in_err-text
+returns-in_err-text c =
+    let p = err_from_is_err_and c.from_residual.result c.from_residual.ensures.1 in
+    rw (p.1, p.2) (in_no_text c.in_err-text.ensures)
+
+pub returns-in-Err : goal.returns-in-Err
+returns-in-Err c =
+    let bytes = c.args.pattern.now in
+    let o = c.args.options.now in
+    let told = subst (λ t. IsError c.parsing.result (chars t) c.in-Err.error) c.in_ok-text.ensures.0 c.in-Err.ensures.answer in
+    fails c.in_ok-text.ensures.1 c.in_ok-text.ensures.2
+    (subst (FailsToCompile o (pattern bytes)) (sym c.of_fault.ensures)
+    (unspelled c.in-Err.error (subst (λ p. IsError p (chars bytes) c.in-Err.error) c.parsing.ensures told)))
+
+pub returns-in-Ok-new : goal.returns-in-Ok-new
+returns-in-Ok-new c =
+    let bytes = c.args.pattern.now in
+    let o = c.args.options.now in
+    let tree = c.in-Ok.tree in
+    let s = c.search_options-search in
+    let read = subst (λ t. IsTreeOf c.parsing.result (chars t) tree × IsWellFormedTree tree) c.in_ok-text.ensures.0 c.in-Ok.ensures.answer in
+    record {
+      size = c.in_ok-text.ensures.1;
+      utf8 = c.in_ok-text.ensures.2;
+      tree = tree;
+      read = subst (λ p. IsTreeOf p (chars bytes) tree × IsWellFormedTree tree) c.parsing.ensures read;
+      made = λ text.
+          subst (λ r. IsScanTreeOf r text c.in-Ok-new.compiled)
+          (rule_so tree o text s.result.analysis s.result.compilation (run_options_of s.result.run) c.backtracks.result s.ensures.analysis
+          s.ensures.compilation s.ensures.run c.backtracks.ensures)
+          (c.in-Ok-new.ensures text);
+      counts = omega (arith, c.saturating_add-groups.ensures);
+    }
+
+pub returns : goal.returns
+returns c =
+    let bytes = c.args.pattern.now in
+    let o = c.args.options.now in
+    let tree = c.in-Ok.tree in
+    let s = c.search_options-search in
+    let read = subst (λ t. IsTreeOf c.parsing.result (chars t) tree × IsWellFormedTree tree) c.in_ok-text.ensures.0 c.in-Ok.ensures.answer in
+    fails c.in_ok-text.ensures.1 c.in_ok-text.ensures.2
+    (subst (FailsToCompile o (pattern bytes)) (sym c.of_error.ensures)
+    (refused tree c.in-Err-new.error (subst (λ p. IsTreeOf p (chars bytes) tree × IsWellFormedTree tree) c.parsing.ensures read)
+    (refused_by tree o s.result.analysis s.result.compilation s.ensures.analysis s.ensures.compilation c.in-Err-new.error c.in-Err-new.ensures)))
