@@ -17,10 +17,11 @@ from ._errors import LimitError, error
 from ._flags import RegexFlag
 from ._library import version
 from ._patterns import Match, Pattern, Replacement, last_text
+from ._scanner import Found, Scanner
 
 __all__ = [
-    "A", "ASCII", "DOTALL", "I", "IGNORECASE", "LimitError", "M", "MULTILINE", "Match", "NOFLAG", "Pattern", "RegexFlag", "S",
-    "U", "UNICODE", "VERBOSE", "X", "compile", "error", "escape", "findall", "finditer", "fullmatch", "match", "purge",
+    "A", "ASCII", "DOTALL", "Found", "I", "IGNORECASE", "LimitError", "M", "MULTILINE", "Match", "NOFLAG", "Pattern", "RegexFlag", "S",
+    "Scanner", "U", "UNICODE", "VERBOSE", "X", "compile", "error", "escape", "findall", "finditer", "fullmatch", "match", "purge",
     "search", "split", "sub", "subn", "version",
 ]  # fmt: skip
 

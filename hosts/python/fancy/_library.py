@@ -18,10 +18,16 @@ VERSION = "0.3"
 NAMES = (f"libfancy.so.{VERSION}", "libfancy.so")
 
 OK, NO_MATCH, MEMORY = 0, 1, 5
+# how many numbers of a row stand before the spans of its groups
+ROW_SPANS = 3
 LIMITS = range(7, 10)
 
 
 class _Program(Structure):
+    _fields_ = [("words", c_size_t * 3)]
+
+
+class _Scanner(Structure):
     _fields_ = [("words", c_size_t * 3)]
 
 
@@ -89,6 +95,7 @@ def _loaded() -> CDLL:
 
 
 _PROGRAM, _OPTIONS, _NUMBERS, _ROOM = POINTER(_Program), POINTER(_Options), POINTER(c_size_t), (c_void_p, c_size_t)
+_SCANNER = POINTER(_Scanner)
 _TEXT = (c_char_p, c_size_t)
 _CALLS = {
     "fancy_default_options": (_Options, ()),
@@ -101,6 +108,9 @@ _CALLS = {
     "fancy_find": (_Outcome, (_PROGRAM, *_TEXT, _OPTIONS, _NUMBERS, c_size_t)),
     "fancy_find_all": (_Outcome, (_PROGRAM, *_TEXT, _OPTIONS, POINTER(Standing), _NUMBERS, c_size_t)),
     "fancy_captures_all": (_Outcome, (_PROGRAM, *_TEXT, _OPTIONS, POINTER(Standing), _NUMBERS, c_size_t)),
+    "fancy_scanner_add": (_Outcome, (_SCANNER, *_TEXT, _OPTIONS)),
+    "fancy_scan": (_Outcome, (_SCANNER, *_TEXT, _NUMBERS, c_size_t, _NUMBERS, c_size_t)),
+    "fancy_scanner_free": (None, (_SCANNER,)),
     "fancy_error_name": (c_size_t, (c_uint32, *_ROOM)),
     "fancy_error_message": (c_size_t, (POINTER(_Outcome), *_ROOM)),
     "fancy_explain_pattern": (c_size_t, (*_TEXT, _OPTIONS, *_ROOM)),
@@ -199,6 +209,17 @@ class Options:
 # ---- Programs
 
 
+def _fault(outcome: _Outcome, pattern: Optional[str]) -> Optional[Exception]:
+    """Why there is no answer. A match and none are answers."""
+    if outcome.code in (OK, NO_MATCH):
+        return None
+    if outcome.code == MEMORY:
+        return MemoryError()
+    name = _written(_library.fancy_error_name, outcome.code)
+    kind = LimitError if outcome.code in LIMITS else error
+    return kind(_written(_library.fancy_error_message, outcome), pattern, None, name)
+
+
 class _Handle:
     """A program of the library with what one search at a time writes to; it is freed with the handle."""
 
@@ -281,14 +302,10 @@ class Program:
         return self._copied()
 
     def _expect_answer(self, outcome: _Outcome) -> None:
-        """Raises where there is no answer. A match and none are answers."""
-        if outcome.code in (OK, NO_MATCH):
-            return
-        if outcome.code == MEMORY:
-            raise MemoryError
-        name = _written(_library.fancy_error_name, outcome.code)
-        kind = LimitError if outcome.code in LIMITS else error
-        raise kind(_written(_library.fancy_error_message, outcome), self.pattern, None, name)
+        """Raises where there is no answer."""
+        fault = _fault(outcome, self.pattern)
+        if fault is not None:
+            raise fault
 
     def find(self, text: bytes, length: int, pos: int, is_anchored: bool) -> Optional[List[int]]:
         """Start and end of each group of the first match, in bytes; None if there is no match."""
@@ -312,10 +329,40 @@ class Program:
         handle.options.anchored = handle.options.not_continued = False
         outcome = call(handle.program, text, length, handle.options, standing, spans, len(spans))
         self._idle.append(handle)
-        fault = None
-        try:
-            self._expect_answer(outcome)
-        except (error, MemoryError) as raised:
-            fault = raised
         rows = [spans[at : at + width] for at in range(0, width * outcome.count, width)]
-        return rows, fault, outcome.code == OK
+        return rows, _fault(outcome, self.pattern), outcome.code == OK
+
+
+# ---- Many patterns
+
+
+class Patterns:
+    """A scanner of the library, freed with this. The caller lets one call at a time use it."""
+
+    __slots__ = ("scanner",)
+
+    def __init__(self) -> None:
+        self.scanner = _Scanner()
+
+    def __del__(self, free: Callable[..., None] = _library.fancy_scanner_free) -> None:
+        free(self.scanner)
+
+    def add(self, pattern: str, options: Options) -> None:
+        """Adds a pattern that was compiled with these options before. Only memory may be wanted."""
+        text = pattern.encode()
+        fault = _fault(_library.fancy_scanner_add(self.scanner, text, len(text), options._struct()), pattern)
+        if fault is not None:
+            raise fault
+
+    def scan(
+        self, text: bytes, length: int, pos: int, groups: int, room: int
+    ) -> Tuple[List[List[int]], int, int, Optional[Exception], bool]:
+        """The rows of the next matches, at most so many, each with so many groups, and where the scan then stands; the
+        pattern that passed a limit, where that is why there is no more; why there is no more, if that is an error; and
+        whether there may be more."""
+        width = ROW_SPANS + 2 * groups
+        rows = (c_size_t * (width * room))()
+        at = c_size_t(pos)
+        outcome = _library.fancy_scan(self.scanner, text, length, at, groups, rows, len(rows))
+        numbers = [rows[start : start + width] for start in range(0, width * outcome.count, width)]
+        return numbers, at.value, outcome.group, _fault(outcome, None), outcome.code == OK

@@ -175,5 +175,48 @@ class Threads(unittest.TestCase):
         self.assertLess(used() - before, 2000, "pages of 4 kB")
 
 
+class Scanners(unittest.TestCase):
+    def scanner(self, *patterns, **options):
+        return fancy.Scanner([fancy.compile(it, **options) for it in patterns])
+
+    def spans(self, scanner, *arguments):
+        return [(it.index, it.match.span(), it.stopped) for it in scanner.scan(*arguments)]
+
+    def test_the_first_of_many(self):
+        scanner = self.scanner('"[^"]*"', "(?<word>[a-zé]+)(?<digit>[0-9])?", "[a-z]")
+        self.assertEqual(self.spans(scanner, 'é1 "b c" d'), [(1, (0, 2), None), (0, (3, 8), None), (1, (9, 10), None)])
+        found = scanner.search("é1 b", 2)
+        self.assertEqual((found.index, found.match.groupdict()), (1, {"word": "b", "digit": None}))
+        self.assertIs(found.match.re, scanner.patterns[1])
+        self.assertIsNone(scanner.search("1"))
+        self.assertIsNone(scanner.search("ab", 2))
+        self.assertEqual(self.spans(scanner, "ab cd", 1, 4), [(1, (1, 2), None), (1, (3, 4), None)])
+        self.assertEqual(self.spans(scanner, "ab", 2, 1), [])
+        self.assertEqual(len(self.spans(scanner, "a " * 1000)), 1000)
+
+    def test_without_patterns(self):
+        self.assertEqual(self.spans(self.scanner(), "a"), [])
+
+    def test_matches_of_nothing(self):
+        self.assertEqual(self.spans(self.scanner("a", "(?=b)|$"), "abc"), [(0, (0, 1), None), (1, (1, 1), None), (1, (3, 3), None)])
+
+    def test_beside_a_limit(self):
+        scanner = fancy.Scanner([fancy.compile("c", step_limit=0), fancy.compile("a|(?=b)")])
+        scan = scanner.scan("abc")
+        self.assertEqual(next(scan)[::2], (1, 0))
+        self.assertEqual(next(scan).match.span(), (1, 1))
+        with self.assertRaises(fancy.LimitError) as raised:
+            next(scan)
+        self.assertEqual((raised.exception.name, raised.exception.pattern), ("StepLimitExceeded", "c"))
+
+    def test_as_each_pattern_says(self):
+        patterns = [fancy.compile(it) for it in ("a+", "(?<=a)b", "c|ab", "é*", r"(.)\1")]
+        for text in ("aabab cc é", "ab" * 40, "ééé a", ""):
+            for place in range(len(text) + 1):
+                firsts = [(match.start(), number) for number, it in enumerate(patterns) if (match := it.search(text, place))]
+                found = fancy.Scanner(patterns).search(text, place)
+                self.assertEqual((found.match.start(), found.index), min(firsts))
+
+
 if __name__ == "__main__":
     unittest.main()

@@ -209,7 +209,7 @@ impl CompileError {
 }
 
 impl RuntimeError {
-    fn of(code: u32) -> Option<RuntimeError> {
+    pub(crate) fn of(code: u32) -> Option<RuntimeError> {
         Some(match code {
             sys::FANCY_STACK_OVERFLOW => RuntimeError::StackOverflow,
             sys::FANCY_BACKTRACK_LIMIT_EXCEEDED => RuntimeError::BacktrackLimitExceeded,

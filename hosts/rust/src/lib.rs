@@ -20,6 +20,7 @@
 //! - [`Error`] has the variant `Memory`. The kinds of errors carry no text, but for those that say so.
 //! - `ParseError::UnopenedCloseParen`, `CompileError::NestLimitExceeded` and `RuntimeError::StepLimitExceeded` are new.
 //! - [`Options`] and [`Regex::of_tree`] are new, for trees and for the options of `fancy.h`.
+//! - [`Scanner`] is new: many patterns that are searched for together.
 //! - A search from a byte that is no character boundary panics.
 //! - Of several groups with one name, [`Captures::name`] gives the first that is set.
 
@@ -33,6 +34,7 @@ mod options;
 mod program;
 mod regex;
 mod replacer;
+mod scanner;
 mod splits;
 
 pub use crate::captures::{Captures, Match, SubCaptureMatches};
@@ -42,6 +44,7 @@ pub use crate::matches::{CaptureMatches, Matches};
 pub use crate::options::{Options, RegexBuilder};
 pub use crate::regex::{CaptureNames, Regex};
 pub use crate::replacer::{NoExpand, Replacer, ReplacerRef};
+pub use crate::scanner::{Scan, ScanMatch, Scanner, Stopped};
 pub use crate::splits::{Split, SplitN};
 
 use std::borrow::Cow;

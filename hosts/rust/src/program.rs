@@ -162,6 +162,65 @@ impl Program {
     }
 }
 
+/// Patterns that were compiled for a scanner, with the memory of their searches: a scanner of the library, freed when it is
+/// dropped.
+pub(crate) struct Patterns(sys::FancyScanner);
+
+// Safety: `fancy.h` says that a scanner may go from thread to thread, used by one call at a time. A call has it by `&mut`.
+unsafe impl Send for Patterns {}
+
+// Safety: what is shared is not used.
+unsafe impl Sync for Patterns {}
+
+impl Default for Patterns {
+    fn default() -> Patterns {
+        Patterns(sys::FANCY_NO_PATTERNS)
+    }
+}
+
+impl Drop for Patterns {
+    fn drop(&mut self) {
+        // Safety: the scanner is the library's, and no other call has it.
+        unsafe { sys::fancy_scanner_free(&mut self.0) }
+    }
+}
+
+impl Patterns {
+    /// Adds a pattern that was compiled with these options before. The only error is want of memory.
+    pub(crate) fn add(&mut self, pattern: &str, options: &Options) -> Result<()> {
+        // Safety, here and below: each pointer is that of a reference, with its length, and none is null.
+        let outcome = unsafe {
+            sys::fancy_scanner_add(&mut self.0, start_of(pattern), pattern.len(), &options.host)
+        };
+        is_found(&outcome).map(|_| ())
+    }
+
+    /// Writes the rows of the next matches of a scan, each with so many groups, and answers how many there are and why it is
+    /// no more: an error, or the end of the scan.
+    pub(crate) fn scan(
+        &mut self,
+        text: &str,
+        pos: &mut usize,
+        groups: usize,
+        rows: &mut [usize],
+    ) -> (usize, Result<bool>) {
+        let (at, length) = (rows.as_mut_ptr(), rows.len());
+        // Safety: as above.
+        let outcome = unsafe {
+            sys::fancy_scan(
+                &mut self.0,
+                start_of(text),
+                text.len(),
+                pos,
+                groups,
+                at,
+                length,
+            )
+        };
+        (outcome.count, is_found(&outcome))
+    }
+}
+
 fn is_found(outcome: &sys::FancyOutcome) -> Result<bool> {
     match outcome.code {
         sys::FANCY_OK => Ok(true),

@@ -60,6 +60,11 @@ impl Names {
         Names { of_groups, numbers }
     }
 
+    /// How many groups there are, with group 0.
+    pub(crate) fn len(&self) -> usize {
+        self.of_groups.len()
+    }
+
     /// The groups of a name, in the order in which they open.
     pub(crate) fn numbers(&self, name: &str) -> impl Iterator<Item = usize> + '_ {
         self.numbers.get(name).into_iter().flatten().copied()
@@ -103,12 +108,16 @@ impl Regex {
 
     /// How many groups there are, with group 0.
     pub fn captures_len(&self) -> usize {
-        self.shared.names.of_groups.len()
+        self.shared.names.len()
     }
 
     /// The name of each group, group 0 first, which has none.
     pub fn capture_names(&self) -> CaptureNames<'_> {
         CaptureNames(self.shared.names.of_groups.iter())
+    }
+
+    pub(crate) fn names(&self) -> Arc<Names> {
+        Arc::clone(&self.shared.names)
     }
 
     pub(crate) fn has_names(&self) -> bool {

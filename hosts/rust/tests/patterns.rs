@@ -2,7 +2,7 @@
 
 use fancy::{
     escape, Captures, CompileError, Error, Expander, NoExpand, Options, ParseError, Regex,
-    RegexBuilder, Replacer, Result, RuntimeError,
+    RegexBuilder, Replacer, Result, RuntimeError, Scanner, Stopped,
 };
 use std::borrow::Cow;
 use std::fmt::Debug;
@@ -425,6 +425,76 @@ fn escaped_texts() {
         assert_eq!(found.as_str(), text);
     }
     assert!(matches!(escape("abc"), Cow::Borrowed("abc")));
+}
+
+/// Each match of a scan: its pattern, where it lies, and which pattern passed a limit.
+fn scanned(scanner: &mut Scanner, text: &str) -> Vec<(usize, usize, usize, Option<usize>)> {
+    let all = scanner.scan(text).map(|it| {
+        let it = it.unwrap();
+        let whole = it.captures.get(0).unwrap();
+        (
+            it.index,
+            whole.start(),
+            whole.end(),
+            it.stopped.map(|it| it.index),
+        )
+    });
+    all.collect()
+}
+
+#[test]
+fn scans() {
+    let mut scanner = Scanner::new();
+    assert!(scanner.is_empty() && scanner.scan("a").next().is_none());
+    scanner.add("\"[^\"]*\"").unwrap();
+    scanner.add("(?<word>[a-zé]+)(?<digit>[0-9])?").unwrap();
+    let fault = scanner.add("(").unwrap_err();
+    assert_eq!(fault, Error::ParseError(1, ParseError::UnclosedOpenParen));
+    scanner.add("[a-z]").unwrap();
+    assert_eq!(scanner.len(), 3);
+    assert_eq!(
+        scanned(&mut scanner, "é1 \"b c\" d"),
+        [(1, 0, 3, None), (0, 4, 9, None), (1, 10, 11, None)]
+    );
+    let found = scanner.find_from_pos("é1 b", 3).unwrap().unwrap();
+    assert_eq!((found.index, &found.captures["word"]), (1, "b"));
+    assert_eq!(
+        (found.captures.len(), found.captures.name("digit")),
+        (3, None)
+    );
+    let found = scanner.find_from_pos("ab", 0).unwrap().unwrap();
+    assert_eq!(found.captures.len(), 3);
+    assert!(scanner.find_from_pos("1", 0).unwrap().is_none());
+    assert_eq!(scanned(&mut scanner, &"a ".repeat(1000)).len(), 1000);
+}
+
+#[test]
+fn scans_with_limits() {
+    let mut scanner = Scanner::new();
+    scanner
+        .add_with_options("c", Options::default().step_limit(0))
+        .unwrap();
+    scanner.add("a|(?=b)").unwrap();
+    let limit = RuntimeError::StepLimitExceeded;
+    let mut scan = scanner.scan("abc");
+    let first = scan.next().unwrap().unwrap();
+    assert_eq!(first.captures.get(0).unwrap().range(), 0..1);
+    assert_eq!(first.stopped, Some(Stopped { index: 0, limit }));
+    assert_eq!(
+        scan.next()
+            .unwrap()
+            .unwrap()
+            .captures
+            .get(0)
+            .unwrap()
+            .range(),
+        1..1
+    );
+    assert_eq!(
+        scan.next().unwrap().unwrap_err(),
+        Error::RuntimeError(limit)
+    );
+    assert!(scan.next().is_none());
 }
 
 #[test]

@@ -17,6 +17,22 @@ pub struct FancyProgram {
 /// A program that holds nothing: each begins with it.
 pub const FANCY_NOTHING: FancyProgram = FancyProgram { words: [0; 3] };
 
+/// What `fancy_scanner` holds: patterns that are searched for together, or none. Its words are the library's affair.
+#[repr(C)]
+#[derive(Debug)]
+pub struct FancyScanner {
+    pub words: [usize; 3],
+}
+
+/// A scanner without patterns: each begins with it.
+pub const FANCY_NO_PATTERNS: FancyScanner = FancyScanner { words: [0; 3] };
+
+/// Where the numbers of a match stand in its row.
+pub const FANCY_ROW_PATTERN: usize = 0;
+pub const FANCY_ROW_STOPPED: usize = 1;
+pub const FANCY_ROW_LIMIT: usize = 2;
+pub const FANCY_ROW_SPANS: usize = 3;
+
 /// The options of the compiler and of a search; begin with [`fancy_default_options`].
 #[repr(C)]
 #[derive(Clone, Copy, Debug, PartialEq, Eq)]
@@ -193,6 +209,25 @@ extern "C" {
         spans: *mut usize,
         spans_length: usize,
     ) -> FancyOutcome;
+
+    pub fn fancy_scanner_add(
+        scanner: *mut FancyScanner,
+        pattern: *const c_char,
+        pattern_length: usize,
+        options: *const FancyOptions,
+    ) -> FancyOutcome;
+
+    pub fn fancy_scan(
+        scanner: *mut FancyScanner,
+        text: *const c_char,
+        text_length: usize,
+        pos: *mut usize,
+        groups: usize,
+        rows: *mut usize,
+        rows_length: usize,
+    ) -> FancyOutcome;
+
+    pub fn fancy_scanner_free(scanner: *mut FancyScanner);
 
     pub fn fancy_replace(
         program: *mut FancyProgram,

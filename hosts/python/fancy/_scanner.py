@@ -1,0 +1,82 @@
+"""Many patterns that are searched for together."""
+
+from __future__ import annotations
+
+import sys
+from threading import Lock
+from typing import Iterable, Iterator, List, NamedTuple, Optional
+
+from ._errors import LimitError
+from ._library import ROW_SPANS, UNSET, Patterns
+from ._patterns import Match, Pattern, last_text
+
+# For how many numbers a call has room, at most, or for one match.
+_MOST_ROOM = 1 << 17
+
+
+class Found(NamedTuple):
+    """A match of a scanner.
+
+    index    of which pattern it is
+    match    the match
+    stopped  the first pattern that passed a limit, by its index, or None: it may have a match that begins before this one
+    """
+
+    index: int
+    match: Match
+    stopped: Optional[int]
+
+
+class Scanner:
+    """Patterns that are searched for together: of several the match that begins first, and of several that begin there that
+    of the first pattern. One thread at a time searches with it; others wait."""
+
+    __module__ = "fancy"
+    __slots__ = ("patterns", "_patterns", "_groups", "_lock", "__weakref__")
+
+    def __init__(self, patterns: Iterable[Pattern]) -> None:
+        self.patterns = tuple(patterns)
+        self._patterns = Patterns()
+        for pattern in self.patterns:
+            self._patterns.add(pattern.pattern, pattern._options)
+        self._groups = 1 + max((pattern.groups for pattern in self.patterns), default=0)
+        self._lock = Lock()
+
+    def search(self, string: str, pos: int = 0, endpos: int = sys.maxsize) -> Optional[Found]:
+        """The first match that begins at pos or later. A LimitError says that a pattern passed a limit, and no other has a
+        match."""
+        return next(self._found(string, pos, endpos, 1), None)
+
+    def scan(self, string: str, pos: int = 0, endpos: int = sys.maxsize) -> Iterator[Found]:
+        """Every match, from left to right: each search begins where the match before ended, or one character further where
+        that took nothing. What is found of a pattern is kept as long as it holds."""
+        return self._found(string, pos, endpos, _MOST_ROOM // self._width())
+
+    def _width(self) -> int:
+        return ROW_SPANS + 2 * self._groups
+
+    def _found(self, string: str, pos: int, endpos: int, most: int) -> Iterator[Found]:
+        """Each call asks for twice as many matches as the one before, since each searches for each pattern once more."""
+        text = last_text.of(string)
+        endpos = max(0, min(endpos, len(string)))
+        pos = max(0, min(pos, len(string)))
+        if pos > endpos:
+            return
+        at, end = text.byte_of(pos), text.byte_of(endpos)
+        room, has_more = 1, True
+        while has_more:
+            with self._lock:
+                rows, at, stopped, fault, has_more = self._patterns.scan(text.utf8, end, at, self._groups, room)
+            for row in rows:
+                pattern = self.patterns[row[0]]
+                spans: List[int] = row[ROW_SPANS : ROW_SPANS + 2 * (pattern.groups + 1)]
+                match = Match(pattern, text, pos, endpos, spans)
+                yield Found(row[0], match, None if row[1] == UNSET else row[1])
+            if isinstance(fault, LimitError):
+                raise LimitError(fault.msg, self.patterns[stopped].pattern, None, fault.name)
+            if fault is not None:
+                raise fault
+            room = min(2 * room, max(1, most))
+
+    def __repr__(self) -> str:
+        return f"fancy.Scanner({list(self.patterns)!r})"
