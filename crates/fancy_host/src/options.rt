@@ -8,7 +8,7 @@ ghost use Rattle.fancy_host.specs.Lists as lists;
 use fancy_matches::options::RegexOptions;
 use fancy_pattern::options::ParseOptions;
 use fancy_search::request::Request;
-use fancy_vm::vm::RunOptions;
+use fancy_vm::vm::{RunOptions, SearchLimits};
 
 /// How many bytes the options have.
 const SIZE: usize = 104;
@@ -171,6 +171,7 @@ impl FancyOptions {
         let options = RegexOptions {
             run,
             backtrack_limit,
+            limits: SearchLimits::none(),
         };
         options.for_text(text)
     }

@@ -10,7 +10,10 @@ use Rattle.fancy_meaning.specs.Options as plain
 use Rattle.fancy_meaning.specs.Places.{is_place}
 use Rattle.fancy_meaning.specs.Premises.{Input, plan, IsText}
 use Rattle.fancy_vm.specs.Outcomes.{first_pair}
+use Rattle.fancy_vm.specs.SearchLimits.{StaysWithin, cost_of, limits_of, passed_by, passed_of}
 use Rattle.fancy_vm.specs.Tasks.{options_of as run_options_of, task_of}
+use Rattle.fancy_vm.specs.declared.runs.Scratch.{Scratch}
+use Rattle.fancy_vm.specs.declared.search_limits.SearchLimits.{SearchLimits}
 use Rattle.fancy_vm.specs.declared.runs.RunOptions.{RunOptions}
 use Rattle.fancy_search.specs.Searches.{HasSource, IsCompiledFrom, program}
 use Rattle.fancy_search.specs.declared.search.Compiled.{Compiled}
@@ -201,3 +204,10 @@ module _ {A B : Type 0} (show : A → B) (seen : List ℕ → B) (r : Regex) (te
   easy_step e was =
       easy_error r text (options_at here to) (ap (λ o. o.backtrack_limit) asked) (ap (λ o. o.step_limit) asked) e
       (λ i of. (subst (λ x. StepsBy i text here show seen from x to) was (steps_of i of)).1.bounds)
+
+-- ---- the limits of the delegates
+
+-- which are those of the scratch
+pub stays_limited : {A : Type 0} (result : Result A Error) (s : Scratch) (l : SearchLimits) → limits_of s ≡ l → StaysWithin result (passed_of s) →
+    StaysWithin result (passed_by l (cost_of s))
+stays_limited result s l same h = subst (λ l. StaysWithin result (passed_by l (cost_of s))) same h

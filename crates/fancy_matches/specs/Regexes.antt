@@ -11,7 +11,9 @@ use Rattle.fancy_meaning.specs.Premises.{Input, plan, IsAccepted}
 use Rattle.fancy_expr.specs.declared.error.Error.{Error}
 use Rattle.fancy_expr.specs.declared.error.Error.TheVariants as error
 use Rattle.fancy_vm.specs.Outcomes.{first_pair}
+use Rattle.fancy_vm.specs.SearchLimits.{StaysWithin, cost_of, passed_by}
 use Rattle.fancy_vm.specs.Tasks.{options_of as run_options_of}
+use Rattle.fancy_vm.specs.declared.search_limits.SearchLimit.{SearchLimit}
 use Rattle.fancy_search.specs.Searches.{Bounds, IsCompiledFrom, Promises, instructions_of}
 use Rattle.fancy_search.specs.declared.search.Compiled.{Compiled}
 use Rattle.fancy_matches.specs.Listing.{AreApart, ComesTo, Standing, all_matches, all_spans, at_start, left, options_at, options_for}
@@ -91,6 +93,19 @@ compiled_of r = arc_value r.compiled
 -- the options of its searches of this text but where they begin
 abbrev pub options_in : Regex → List ℕ → plain.RunOptions
 options_in r text = options_for (run_options_of r.options.run) r.options.backtrack_limit text
+
+-- the limit of the delegates that its last search passed
+abbrev pub passed_in : Regex → Option SearchLimit
+passed_in r = passed_by r.options.limits (cost_of r.scratch)
+
+-- a search that left it so passed no such limit, or answers `Memory`
+abbrev pub StaysIn : {A : Type 0} → Result A Error → Regex → Type 0
+StaysIn result r = StaysWithin result (passed_in r)
+
+-- so did the searches for an item of a list
+abbrev pub StaysInStep : {A : Type 0} → Option (Result A Error) → Regex → Type 0
+StaysInStep None r = passed_in r ≡ None
+StaysInStep (Some item) r = StaysIn item r
 
 -- it was compiled from the tree, and its searches of this text have these options but where they begin
 pub record IsRegexOf (i : Input) (text : List ℕ) (o : plain.RunOptions) (r : Regex) : Type 0 where

@@ -4,7 +4,7 @@ ghost use Rattle.std.specs.Prelude.{◌≡◌};
 ghost use Rattle.fancy_vm.specs.Tasks.{options_of as run_options_of};
 ghost use Rattle.fancy_matches.specs.Listing as list;
 
-use fancy_vm::vm::RunOptions;
+use fancy_vm::vm::{RunOptions, SearchLimits};
 
 /// How the searches of a regex are made.
 #[derive(Clone, Copy, Debug)]
@@ -15,6 +15,8 @@ pub struct RegexOptions {
     /// How often a search may fall back to a branch. None is 1,000,000 times, and once more for each byte of the text
     /// and for its end: a start that fails is one such time, and a text has no more starts than that.
     pub backtrack_limit: Option<usize>,
+    /// How much the delegates of a search may take together.
+    pub limits: SearchLimits,
 }
 
 impl RegexOptions {

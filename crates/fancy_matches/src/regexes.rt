@@ -8,6 +8,7 @@ ghost use Rattle.fancy_meaning.specs.Places as places;
 ghost use Rattle.fancy_meaning.specs.Premises.{Input};
 ghost use Rattle.fancy_expr.specs.Sound.{IsWellFormedTree};
 ghost use Rattle.fancy_vm.specs.Tasks.{options_of as run_options_of, task_of};
+ghost use Rattle.fancy_vm.specs.SearchLimits.{no_limits};
 ghost use Rattle.fancy_search.specs.Searches.{HasSource, IsNestedOver, IsRefusedAs, input_of, program, search_fits};
 ghost use Rattle.fancy_matches.specs.Listing as list;
 
@@ -20,7 +21,7 @@ use fancy_expr::error::Error;
 use fancy_expr::expr::ExprTree;
 use fancy_program::threads::crosses_threads;
 use fancy_search::search::{Compiled, SearchOptions};
-use fancy_vm::vm::{RunOptions, Scratch};
+use fancy_vm::vm::{RunOptions, Scratch, SearchLimit, SearchLimits};
 use std::alloc::{AllocError, Global};
 use std::sync::Arc;
 
@@ -37,7 +38,7 @@ pub struct Regex {
 }
 
 impl Regex {
-    ghost use Rattle.fancy_matches.specs.Regexes.{AreAllApart, Begins, FindsCaptures, FindsMatch, FindsWhether, GivesBy, GivesCaptures, GivesMatch, IsMadeBy, IsNoLimitWhereEasy, IsRegexOf, IsSame, Shows, captures_iteration, matches_iteration, options_in, standing_of};
+    ghost use Rattle.fancy_matches.specs.Regexes.{AreAllApart, Begins, FindsCaptures, FindsMatch, FindsWhether, GivesBy, GivesCaptures, GivesMatch, IsMadeBy, IsNoLimitWhereEasy, IsRegexOf, IsSame, Shows, StaysIn, StaysInStep, captures_iteration, compiled_of, matches_iteration, options_in, passed_in, standing_of};
 
     /// Analyses and compiles the tree, which has passed `is_well_formed`. The options fit a text that is empty, so they
     /// begin at 0; where a search begins, and whether it is continued, each search sets for itself.
@@ -67,6 +68,7 @@ impl Regex {
         ensures within { IfOk result (λ _. ¬ IsNestedOver
             (input_of tree.now options.now.analysis options.now.compilation)
             options.now.compilation.max_nesting) }
+        ensures limits { IfOk result (λ made. made.options.limits ≡ no_limits) }
     {
         crosses_threads::<Regex>();
         let compiled = Compiled::new(alloc, tree, options.analysis, options.compilation)?;
@@ -76,6 +78,7 @@ impl Regex {
             options: RegexOptions {
                 run: options.run,
                 backtrack_limit,
+                limits: SearchLimits::none(),
             },
             scratch: Scratch::new(alloc),
         })
@@ -92,6 +95,22 @@ impl Regex {
             options: self.options,
             scratch: Scratch::new(self.alloc),
         })
+    }
+
+    /// The delegates of each later search may take so much together, and there is no such limit before. A search that
+    /// passes one is `Error::Memory`, and `passed` tells which.
+    pub fn limit(&mut self, limits: SearchLimits)
+        ensures compiled { compiled_of self.new ≡ compiled_of self.old }
+        ensures options { self.new.options ≡ record self.old.options { limits = limits } }
+    {
+        self.options.limits = limits;
+    }
+
+    /// The limit of the delegates that the last search passed.
+    pub fn passed(&self) -> Option<SearchLimit>
+        ensures { result ≡ passed_in self.now }
+    {
+        self.options.limits.passed_by(self.scratch.cost())
     }
 
     /// The options of a search of the text from this place on.
@@ -117,8 +136,10 @@ impl Regex {
             → Shows i text.now (list.begun_at o pos) F.show (F.seen text.now) result }
         ensures easy { IfErr result (IsNoLimitWhereEasy self.old text.now) }
         ensures same { IsSame self.old self.new }
+        ensures stays { StaysIn result self.new }
     {
         let options = self.begun_at(text, pos);
+        self.scratch.limit(self.options.limits);
         F::search(
             self.alloc,
             &self.compiled,
@@ -141,6 +162,7 @@ impl Regex {
             → FindsCaptures i text.now (list.begun_at o pos) result }
         ensures easy { IfErr result (IsNoLimitWhereEasy self.old text.now) }
         ensures same { IsSame self.old self.new }
+        ensures stays { StaysIn result self.new }
     {
         self.found_from(text, pos)
     }
@@ -153,6 +175,7 @@ impl Regex {
             → FindsCaptures i text.now (list.begun_at o 0) result }
         ensures easy { IfErr result (IsNoLimitWhereEasy self.old text.now) }
         ensures same { IsSame self.old self.new }
+        ensures stays { StaysIn result self.new }
     {
         self.captures_from(text, 0)
     }
@@ -166,6 +189,7 @@ impl Regex {
             → FindsMatch i text.now (list.begun_at o pos) result }
         ensures easy { IfErr result (IsNoLimitWhereEasy self.old text.now) }
         ensures same { IsSame self.old self.new }
+        ensures stays { StaysIn result self.new }
     {
         self.found_from(text, pos)
     }
@@ -178,6 +202,7 @@ impl Regex {
             → FindsMatch i text.now (list.begun_at o 0) result }
         ensures easy { IfErr result (IsNoLimitWhereEasy self.old text.now) }
         ensures same { IsSame self.old self.new }
+        ensures stays { StaysIn result self.new }
     {
         self.find_from(text, 0)
     }
@@ -190,6 +215,7 @@ impl Regex {
             → FindsWhether i text.now (list.begun_at o 0) result }
         ensures easy { IfErr result (IsNoLimitWhereEasy self.old text.now) }
         ensures same { IsSame self.old self.new }
+        ensures stays { StaysIn result self.new }
     {
         match self.find(text) {
             Ok(found) => Ok(found.is_some()),
@@ -215,8 +241,10 @@ impl Regex {
             < suc (length text.now) - standing.old.pos) }
         ensures easy { IfSome result (λ item. IfErr item (IsNoLimitWhereEasy self.old text.now)) }
         ensures same { IsSame self.old self.new }
+        ensures stays { StaysInStep result self.new }
     {
         let options = self.options.for_text(text);
+        self.scratch.limit(self.options.limits);
         match next_found(
             self.alloc,
             &self.compiled,
@@ -251,6 +279,7 @@ impl Regex {
             < suc (length text.now) - standing.old.pos) }
         ensures easy { IfSome result (λ item. IfErr item (IsNoLimitWhereEasy self.old text.now)) }
         ensures same { IsSame self.old self.new }
+        ensures stays { StaysInStep result self.new }
     {
         self.next_found(text, standing)
     }
@@ -272,6 +301,7 @@ impl Regex {
             < suc (length text.now) - standing.old.pos) }
         ensures easy { IfSome result (λ item. IfErr item (IsNoLimitWhereEasy self.old text.now)) }
         ensures same { IsSame self.old self.new }
+        ensures stays { StaysInStep result self.new }
     {
         self.next_found(text, standing)
     }

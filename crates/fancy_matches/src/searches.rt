@@ -1,9 +1,10 @@
 //! Searches by a compiled tree: the first match from a place on, and the next one of a list.
 
-ghost use Rattle.std.specs.Prelude.{◌≡◌, ◌-◌, ◌<◌, ℕ, [], IfOk, IfSome, IsTrue, List, length, suc};
+ghost use Rattle.std.specs.Prelude.{◌≡◌, ◌-◌, ◌<◌, ℕ, [], IfOk, IfSome, IsTrue, List, None, length, suc};
 ghost use Rattle.fancy_meaning.specs.Fits.{run_fits};
 ghost use Rattle.fancy_meaning.specs.MatchState.{Span};
 ghost use Rattle.fancy_meaning.specs.Premises.{Input};
+ghost use Rattle.fancy_vm.specs.SearchLimits.{StaysWithin, limits_of, passed_of};
 ghost use Rattle.fancy_vm.specs.Tasks.{options_of as run_options_of, task_of};
 ghost use Rattle.fancy_vm.specs.Outcomes.{first_pair};
 ghost use Rattle.fancy_search.specs.Searches.{HasSource, IsCompiledFrom, program};
@@ -48,7 +49,9 @@ pub trait FromSearch<'t>: Sized + Drop {
         // what is shown tells where the match is
         ensures spans { IfOk result (λ found. IfSome found (λ x. (numbers : List ℕ)
             → show x ≡ seen text.now numbers
-            → span x ≡ first_pair numbers)) };
+            → span x ≡ first_pair numbers)) }
+        ensures limits { limits_of scratch.new ≡ limits_of scratch.old }
+        ensures stays { StaysWithin result (passed_of scratch.new) };
 
     /// Where it begins and ends, in bytes of the text.
     fn span(&self) -> (usize, usize)
@@ -131,6 +134,8 @@ pub fn next_found<'t, F: FromSearch<'t>>(
         (standing_of standing.old) result (standing_of standing.new) }
     ensures further { IfOk result (λ found. IfSome found (λ x.
         suc (length text.now) - standing.new.pos < suc (length text.now) - standing.old.pos)) }
+    ensures limits { limits_of scratch.new ≡ limits_of scratch.old }
+    ensures stays { passed_of scratch.old ≡ None → StaysWithin result (passed_of scratch.new) }
 {
     'searches: while is_place(text.as_bytes(), standing.pos) {
         let here = standing.options(options);
@@ -167,6 +172,8 @@ pub fn next_match<'t>(
         (standing_of standing.old) result (standing_of standing.new) }
     ensures further { IfOk result (λ found. IfSome found (λ m.
         suc (length text.now) - standing.new.pos < suc (length text.now) - standing.old.pos)) }
+    ensures limits { limits_of scratch.new ≡ limits_of scratch.old }
+    ensures stays { passed_of scratch.old ≡ None → StaysWithin result (passed_of scratch.new) }
 {
     next_found(alloc, compiled, text, options, standing, scratch)
 }

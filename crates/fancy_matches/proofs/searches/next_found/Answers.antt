@@ -13,7 +13,11 @@ use Rattle.fancy_matches.proofs.Stepping.{GoesOn, at_first, found_further, none_
 use Rattle.fancy_matches.proofs.searches.next_found.Goals as goal
 
 pub searches-init : goal.searches-init
-searches-init g c = at_first c.args.compiled.now c.args.text.now (run_options_of c.args.options.now) (standing_of c.args.standing.now)
+searches-init g c = record {
+  goes = at_first c.args.compiled.now c.args.text.now (run_options_of c.args.options.now) (standing_of c.args.standing.now);
+  limits = refl;
+  stays = λ none. none;
+}
 
 pub search-requires : goal.search-requires
 search-requires g c k =
@@ -42,7 +46,7 @@ returns-in_err-search-clause-steps g c =
     let form = g.F.FromSearch in
     let p = err_from_is_err_and c.from_residual.result c.from_residual.ensures.1 in
     rw (p.1, p.2)
-    (search_error compiled text is base here from st at c.options-here.ensures c.searches.invariant form.show (form.seen text)
+    (search_error compiled text is base here from st at c.options-here.ensures c.searches.invariant.goes form.show (form.seen text)
     (Err c.in_err-search.field-0.0) c.in_err-search.ensures.promise c.in_err-search.field-0.0 refl)
 
 pub returns-in-None-clause-steps : goal.returns-in-None-clause-steps
@@ -61,7 +65,7 @@ returns-in-None-clause-steps g c =
     subst (λ f. Shows i text (run_options_of here) form.show (form.seen text) (Ok f)) c.in-None.is (c.in_ok-search.ensures.promise i of) in
     subst (λ to. (i : Input) → IsCompiledFrom i compiled → StepsBy i text (run_options_of base) form.show (form.seen text) from (Ok None) to)
     (sym c.end.ensures)
-    (search_none compiled text is base here from st at c.options-here.ensures c.searches.invariant form.show (form.seen text)
+    (search_none compiled text is base here from st at c.options-here.ensures c.searches.invariant.goes form.show (form.seen text)
     (Ok None) found refl)
 
 pub pass-requires : goal.pass-requires
@@ -91,7 +95,7 @@ returns-then-pass-clause-steps g c =
     let tells = ap (is_listed st) (sym c.span-start.ensures) ∙ sym c.if-pass.ensures.listed in
     subst (λ t. (i : Input) → IsCompiledFrom i compiled → StepsBy i text (run_options_of base) form.show (form.seen text) from (Ok (Some c.in-Some.found)) t)
     (sym to)
-    (search_listed compiled text is base here from st at c.options-here.ensures c.searches.invariant form.show (form.seen text)
+    (search_listed compiled text is base here from st at c.options-here.ensures c.searches.invariant.goes form.show (form.seen text)
     (Ok (Some c.in-Some.found)) found c.in-Some.found (form.span c.in-Some.found) spans refl tells)
 
 pub returns-then-pass-clause-further : goal.returns-then-pass-clause-further
@@ -106,7 +110,7 @@ returns-then-pass-clause-further g c =
     let on = subst (λ f. IfSome f (λ x. EndsOn text here.pos (g.F.FromSearch.span x))) c.in-Some.is c.in_ok-search.ensures.on in
     let passed = passed_on c.args.compiled.now text is c.args.options.now here (standing_of c.args.standing.now) st at c.options-here.ensures span on
     (standing_of c.pass.new.self) (c.pass.ensures.after ∙ ap (after text st) c.span-start.ensures) in
-    let so_far = c.searches.invariant.on in
+    let so_far = c.searches.invariant.goes.on in
     omega (arith, passed.0, passed.1, so_far)
 
 pub searches-smaller : goal.searches-smaller
@@ -143,9 +147,21 @@ searches-preserved g c =
     c.in_ok-search.ensures.spans in
     let to = c.pass.ensures.after ∙ ap (after text st) c.span-start.ensures in
     let tells = ap (is_listed st) (sym c.span-start.ensures) ∙ sym c.if-pass.ensures.listed in
-    subst (GoesOn compiled text (run_options_of base) from) (sym to)
-    (search_past compiled text is base here from st at c.options-here.ensures c.searches.invariant form.show (form.seen text)
-    (Ok (Some c.in-Some.found)) found c.in-Some.found (form.span c.in-Some.found) spans refl tells further)
+    record {
+      goes = subst (GoesOn compiled text (run_options_of base) from) (sym to)
+          (search_past compiled text is base here from st at c.options-here.ensures c.searches.invariant.goes form.show (form.seen text)
+          (Ok (Some c.in-Some.found)) found c.in-Some.found (form.span c.in-Some.found) spans refl tells further);
+      limits = c.in_ok-search.ensures.limits ∙ c.searches.invariant.limits;
+      stays = λ none. c.in_ok-search.ensures.stays;
+    }
+
+pub returns-in_err-search-clause-limits : goal.returns-in_err-search-clause-limits
+returns-in_err-search-clause-limits g c = c.in_err-search.ensures.limits ∙ c.searches.invariant.limits
+
+pub returns-in_err-search-clause-stays : goal.returns-in_err-search-clause-stays
+returns-in_err-search-clause-stays g c none =
+    let p = err_from_is_err_and c.from_residual.result c.from_residual.ensures.1 in
+    rw (p.1, p.2) c.in_err-search.ensures.stays
 
 pub returns-clause-steps : goal.returns-clause-steps
 returns-clause-steps g c =
@@ -155,4 +171,4 @@ returns-clause-steps g c =
     let is : IsText text = record { utf8 = c.utf8.text; fits = small } in
     let no_place = sym (subst (λ t. false ≡ is_place t st.pos) c.as_bytes.ensures.value c.searches-test.ensures) in
     none_at_end g.F.FromSearch.show (g.F.FromSearch.seen text) c.args.compiled.now text is (run_options_of c.args.options.now)
-    (standing_of c.args.standing.now) st c.searches.invariant no_place
+    (standing_of c.args.standing.now) st c.searches.invariant.goes no_place

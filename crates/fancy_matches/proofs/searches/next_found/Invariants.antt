@@ -1,11 +1,16 @@
-use Rattle.std.proofs.Common.{◌-◌, suc, length}
+use Rattle.std.proofs.Common.{◌≡◌, ◌-◌, None, suc, length}
+use Rattle.fancy_vm.specs.SearchLimits.{limits_of, passed_of}
 use Rattle.fancy_vm.specs.Tasks.{options_of as run_options_of}
 use Rattle.fancy_matches.specs.Regexes.{standing_of}
 use Rattle.fancy_matches.proofs.Stepping.{GoesOn}
 use Rattle.fancy_matches.proofs.searches.next_found.Given as goal
 
 abbrev pub invariant-searches : goal.invariant-searches
-invariant-searches g l = GoesOn l.compiled l.text (run_options_of l.options) (standing_of l.fn.standing) (standing_of l.standing)
+invariant-searches g l = record {
+  goes : GoesOn l.compiled l.text (run_options_of l.options) (standing_of l.fn.standing) (standing_of l.standing);
+  limits : limits_of l.scratch ≡ limits_of l.fn.scratch;
+  stays : passed_of l.fn.scratch ≡ None → passed_of l.scratch ≡ None;
+}
 
 abbrev pub decreases-searches : goal.decreases-searches
 decreases-searches g l = suc (length l.text) - l.standing.pos

@@ -1,4 +1,4 @@
-use Rattle.std.proofs.Common.{◌≡◌, [], true, ap, option_map, refl, subst, sym}
+use Rattle.std.proofs.Common.{◌≡◌, ◌∙◌, [], true, ap, option_map, refl, subst, sym}
 use Rattle.fancy_meaning.specs.Fits.{run_fits}
 use Rattle.fancy_search.specs.Searches.{HasSource, IsCompiledFrom, program}
 use Rattle.fancy_matches.specs.Listing.{begun_at}
@@ -6,6 +6,7 @@ use Rattle.fancy_matches.specs.Regexes.{Shows}
 use Rattle.fancy_vm.specs.Tasks.{options_of as run_options_of, task_of}
 use Rattle.fancy_matches.proofs.Easy.{easy_search}
 use Rattle.fancy_matches.proofs.Searching.{fits_begun}
+use Rattle.fancy_matches.proofs.Stepping.{stays_limited}
 use Rattle.fancy_matches.proofs.regexes.Regex.found_from.Goals as goal
 
 pub search-requires : goal.search-requires
@@ -33,3 +34,7 @@ returns-clause-easy g c =
     easy_search c.args.self.now text (run_options_of c.begun_at-options.result) (ap (λ o. o.backtrack_limit) c.begun_at-options.ensures)
     (ap (λ o. o.step_limit) c.begun_at-options.ensures) (λ numbers found. option_map g.F.FromSearch.show found ≡ option_map (g.F.FromSearch.seen text) numbers)
     c.search.result (λ i of. c.search.ensures.promise i (subst (IsCompiledFrom i) (sym c.deref.ensures) of))
+
+pub returns-clause-stays : goal.returns-clause-stays
+returns-clause-stays g c =
+    stays_limited c.search.result c.search.new.scratch c.args.self.now.options.limits (c.search.ensures.limits ∙ c.limit.ensures.limits) c.search.ensures.stays

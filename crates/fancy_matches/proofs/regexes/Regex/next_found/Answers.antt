@@ -2,10 +2,11 @@ use Rattle.std.proofs.Common.{◌≡◌, ◌<◌, [], true, length, Some, Ok, Er
 use Rattle.fancy_meaning.specs.Fits.{run_fits}
 use Rattle.fancy_meaning.specs.Numbers.{usize_max}
 use Rattle.fancy_search.specs.Searches.{HasSource, program}
+use Rattle.fancy_vm.specs.SearchLimits.{StaysWithin, cost_of, passed_by}
 use Rattle.fancy_vm.specs.Tasks.{options_of as run_options_of, task_of}
 use Rattle.fancy_matches.specs.Regexes.{GivesBy, standing_of}
 use Rattle.fancy_matches.proofs.Searching.{fits_listed}
-use Rattle.fancy_matches.proofs.Stepping.{easy_step, error_within, gives_error, gives_none, gives_some}
+use Rattle.fancy_matches.proofs.Stepping.{easy_step, error_within, gives_error, gives_none, gives_some, stays_limited}
 use Rattle.fancy_matches.proofs.regexes.Regex.next_found.Goals as goal
 
 pub returns-in-Ok-None-clause-list : goal.returns-in-Ok-None-clause-list
@@ -70,3 +71,21 @@ next_found-requires g c k =
         subst HasSource (sym c.deref.ensures) regex.source,
       ),
     )
+
+pub returns-in-Ok-None-clause-stays : goal.returns-in-Ok-None-clause-stays
+returns-in-Ok-None-clause-stays g c =
+    subst (λ r. StaysWithin r (passed_by c.args.self.now.options.limits (cost_of c.next_found.new.scratch))) (c.in-Ok-None.is ∙ ap Ok c.in-Ok-None.field-0-is)
+    (stays_limited c.next_found.result c.next_found.new.scratch c.args.self.now.options.limits (c.next_found.ensures.limits ∙ c.limit.ensures.limits)
+    (c.next_found.ensures.stays c.limit.ensures.passed))
+
+pub returns-in-Ok-Some-clause-stays : goal.returns-in-Ok-Some-clause-stays
+returns-in-Ok-Some-clause-stays g c =
+    subst (λ r. StaysWithin r (passed_by c.args.self.now.options.limits (cost_of c.next_found.new.scratch))) (c.in-Ok-Some.is ∙ ap Ok c.in-Ok-Some.field-0-is)
+    (stays_limited c.next_found.result c.next_found.new.scratch c.args.self.now.options.limits (c.next_found.ensures.limits ∙ c.limit.ensures.limits)
+    (c.next_found.ensures.stays c.limit.ensures.passed))
+
+pub returns-in-Err-clause-stays : goal.returns-in-Err-clause-stays
+returns-in-Err-clause-stays g c =
+    subst (λ r. StaysWithin r (passed_by c.args.self.now.options.limits (cost_of c.next_found.new.scratch))) c.in-Err.is
+    (stays_limited c.next_found.result c.next_found.new.scratch c.args.self.now.options.limits (c.next_found.ensures.limits ∙ c.limit.ensures.limits)
+    (c.next_found.ensures.stays c.limit.ensures.passed))
