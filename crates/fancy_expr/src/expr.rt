@@ -57,7 +57,7 @@ pub enum BacktrackingControlVerb {
 }
 
 /// A node that takes what holds no match of a part.
-#[derive(Drop, Debug)]
+#[derive(Debug)]
 #[cycle(expr)]
 pub enum Absent {
     Repeater(Box<Expr>),
@@ -67,7 +67,7 @@ pub enum Absent {
 }
 
 /// A node of a tree, with all below it; "docs/MEANING.md" says what each matches.
-#[derive(Drop, Debug)]
+#[derive(Debug)]
 #[cycle(expr)]
 pub enum Expr {
     Empty,
@@ -136,7 +136,6 @@ pub enum Expr {
 }
 
 /// A tree, with what its reader says of it; `is_well_formed` tests whether it may be handed in.
-#[derive(Drop)]
 pub struct ExprTree {
     pub expr: Expr,
     /// The groups that back references name.
@@ -150,4 +149,102 @@ pub struct ExprTree {
     pub contains_subroutines: bool,
     /// How many groups the tree has.
     pub total_groups: usize,
+}
+
+impl ExprTree {
+    ghost use Rattle.std.specs.Prelude.{◌≡◌};
+
+    /// The numbers of each name.
+    pub fn into_named_groups(self) -> BTreeMap<String, Vec<usize>>
+        ensures { result ≡ self.named_groups }
+    {
+        let ExprTree {
+            expr: _,
+            backrefs: _,
+            out_of_range_backref: _,
+            named_groups,
+            numeric_capture_group_references: _,
+            numbered_groups_ignored: _,
+            contains_subroutines: _,
+            total_groups: _,
+        } = self;
+        named_groups
+    }
+}
+
+// These drops are written by hand, and do what a derived one does: whoever owns a tree calls them, where the parts of
+// a derived one would be proved again in each function that does.
+
+impl Drop for Absent {
+    #[cycle(drop)]
+    fn drop(self) {
+        match self {
+            Absent::Repeater(_) => {}
+            Absent::Expression { absent: _, exp: _ } => {}
+            Absent::Stopper(_) => {}
+            Absent::Clear => {}
+        }
+    }
+}
+
+impl Drop for Expr {
+    #[cycle(drop)]
+    fn drop(self) {
+        match self {
+            Expr::Empty | Expr::KeepOut | Expr::ContinueFromPreviousMatchEnd => {}
+            Expr::Any {
+                newline: _,
+                crlf: _,
+            } => {}
+            Expr::Assertion(_) => {}
+            Expr::GeneralNewline { unicode: _ } => {}
+            Expr::Literal { val: _, casei: _ } => {}
+            Expr::LiteralBytes { bytes: _ } => {}
+            Expr::Concat(_) | Expr::Alt(_) => {}
+            Expr::Group(_) | Expr::AtomicGroup(_) => {}
+            Expr::LookAround(_, _) => {}
+            Expr::Repeat {
+                child: _,
+                lo: _,
+                hi: _,
+                greedy: _,
+            } => {}
+            Expr::Delegate { inner: _, casei: _ } => {}
+            Expr::Backref { group: _, casei: _ } => {}
+            Expr::BackrefWithRelativeRecursionLevel {
+                group: _,
+                relative_level: _,
+                casei: _,
+            } => {}
+            Expr::BackrefExistsCondition {
+                group: _,
+                relative_recursion_level: _,
+            } => {}
+            Expr::BacktrackingControlVerb(_) => {}
+            Expr::Conditional {
+                condition: _,
+                true_branch: _,
+                false_branch: _,
+            } => {}
+            Expr::SubroutineCall(_) => {}
+            Expr::Absent(_) => {}
+            Expr::DefineGroup { definitions: _ } => {}
+            Expr::AstNode(_, _) => {}
+        }
+    }
+}
+
+impl Drop for ExprTree {
+    fn drop(self) {
+        let ExprTree {
+            expr: _,
+            backrefs: _,
+            out_of_range_backref: _,
+            named_groups: _,
+            numeric_capture_group_references: _,
+            numbered_groups_ignored: _,
+            contains_subroutines: _,
+            total_groups: _,
+        } = self;
+    }
 }

@@ -28,7 +28,6 @@ use std::alloc::{AllocError, Global};
 use std::fmt;
 
 /// Neighbouring easy nodes that are searched for plainly.
-#[derive(Drop)]
 pub struct Fragment {
     pub(crate) exprs: Vec<Expr>,
     /// The number of the first group that opens in them or behind them.
@@ -46,6 +45,21 @@ pub struct Fragment {
         ∥ IsLaidOut (map (joined true) (nodes_over exprs.items first_group (within_of within))) unicode n.value ∥₁) } by { Prim.hlevel props },
     ghost fits: { (slots : ℕ) → fits_over slots (nodes_over exprs.items first_group (within_of within))
         ≡ nat_le (2 * settable) slots },
+}
+
+// Not derived: whoever owns one calls this drop, and would prove a derived one again (docs/GATE.md).
+impl Drop for Fragment {
+    fn drop(self) {
+        let Fragment {
+            exprs: _,
+            first_group: _,
+            within: _,
+            unicode: _,
+            nfa: _,
+            of_joined: _,
+            settable: _,
+        } = self;
+    }
 }
 
 impl Fragment {

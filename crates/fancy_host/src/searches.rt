@@ -49,7 +49,7 @@ impl Searcher {
         let compiled = Compiled::new(alloc, &tree, request.analysis(), request.compilation())?;
         let compiled_tree = CompiledTree {
             compiled,
-            names: tree.named_groups,
+            names: tree.into_named_groups(),
         };
         let searcher = Searcher {
             tree: Arc::new(alloc, compiled_tree)?,

@@ -26,11 +26,20 @@ use std::alloc::Global;
 use std::collections::BTreeMap;
 
 /// What a pattern or a tree was compiled to, and the numbers of each name of its groups.
-#[derive(Drop)]
 pub struct CompiledTree {
     pub compiled: Compiled,
     pub names: BTreeMap<String, Vec<usize>>,
     ghost source: { HasSource compiled },
+}
+
+// Not derived: whoever owns one calls this drop, and would prove a derived one again (docs/GATE.md).
+impl Drop for CompiledTree {
+    fn drop(self) {
+        let CompiledTree {
+            compiled: _,
+            names: _,
+        } = self;
+    }
 }
 
 impl CompiledTree {

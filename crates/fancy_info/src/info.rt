@@ -9,7 +9,7 @@ use fancy_expr::expr::Expr;
 use fancy_expr::walk::Within;
 
 /// A node with what the analysis found.
-#[derive(Debug, Drop)]
+#[derive(Debug)]
 pub struct Info<'a> {
     pub expr: &'a Expr,
     pub children: Vec<Info<'a>>,
@@ -20,6 +20,23 @@ pub struct Info<'a> {
     pub is_read: bool,
     pub within: Within,
     pub context: AnalyzeContext,
+}
+
+// Not derived: whoever owns one calls this drop, and would prove a derived one again (docs/GATE.md).
+impl Drop for Info<'_> {
+    fn drop(self) {
+        let Info {
+            expr: _,
+            children: _,
+            start_group: _,
+            end_group: _,
+            size: _,
+            hard: _,
+            is_read: _,
+            within: _,
+            context: _,
+        } = self;
+    }
 }
 
 /// What `analyze` says of a node, by the rules of "docs/MEANING.md". Sizes are numbers of characters. No reader takes

@@ -26,7 +26,6 @@ use fancy_info::info::Info;
 use std::alloc::Global;
 
 /// Neighbouring easy nodes, laid out as states.
-#[derive(Drop)]
 pub struct Nfa {
     pub(crate) states: Vec<NfaState>,
     pub(crate) unicode: bool,
@@ -45,6 +44,22 @@ pub struct Nfa {
     ghost begin: { AreFirstSets unicode (map state_of states.items) first_sets.items },
     ghost need: { IfSome required_bytes (AreRequired unicode (map state_of states.items)) } by { Prim.hlevel props },
     ghost only: { ForSome required_byte (IsOnlyOf required_bytes) },
+}
+
+// Not derived: whoever owns one calls this drop, and would prove a derived one again (docs/GATE.md).
+impl Drop for Nfa {
+    fn drop(self) {
+        let Nfa {
+            states: _,
+            unicode: _,
+            pair_bits: _,
+            first_sets: _,
+            is_one_pass: _,
+            one_pass_group: _,
+            required_bytes: _,
+            required_byte: _,
+        } = self;
+    }
 }
 
 impl Nfa {

@@ -245,7 +245,7 @@ impl<'p> RegexBuilder<'p> {
         GroupNames {
             alloc,
             count: tree.total_groups + 1,
-            numbers: tree.named_groups,
+            numbers: tree.into_named_groups(),
         }
     }
 

@@ -114,10 +114,19 @@ impl fmt::Debug for Match<'_> {
 }
 
 /// The groups of a match.
-#[derive(Drop)]
 pub struct Captures<'t> {
     pub(crate) groups: engine::Captures<'t>,
     pub(crate) names: Arc<GroupNames>,
+}
+
+// Not derived: whoever owns one calls this drop, and would prove a derived one again (docs/GATE.md).
+impl Drop for Captures<'_> {
+    fn drop(self) {
+        let Captures {
+            groups: _,
+            names: _,
+        } = self;
+    }
 }
 
 impl<'t> Captures<'t> {

@@ -36,12 +36,23 @@ use std::fmt;
 use std::sync::Arc;
 
 /// A pattern that is compiled once and searched for many times, with the memory that its searches use again.
-#[derive(Drop)]
 pub struct Regex {
     pub(crate) pattern: String,
     pub(crate) options: RegexOptions,
     pub(crate) names: Arc<GroupNames>,
     pub(crate) engine: Engine,
+}
+
+// Not derived: whoever owns one calls this drop, and would prove a derived one again (docs/GATE.md).
+impl Drop for Regex {
+    fn drop(self) {
+        let Regex {
+            pattern: _,
+            options: _,
+            names: _,
+            engine: _,
+        } = self;
+    }
 }
 
 impl Regex {
@@ -146,7 +157,13 @@ impl Regex {
     pub fn into_engine(self) -> Engine
         ensures { result ≡ engine_of self }
     {
-        self.engine
+        let Regex {
+            pattern: _,
+            options: _,
+            names: _,
+            engine,
+        } = self;
+        engine
     }
 
     /// Whether there is a match.

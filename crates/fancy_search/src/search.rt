@@ -86,9 +86,15 @@ impl Default for SearchOptions {
 }
 
 /// A tree that was compiled for searches: its program.
-#[derive(Drop)]
 pub struct Compiled {
     prog: Prog,
+}
+
+// Not derived: whoever owns one calls this drop, and would prove a derived one again (docs/GATE.md).
+impl Drop for Compiled {
+    fn drop(self) {
+        let Compiled { prog: _ } = self;
+    }
 }
 
 impl Compiled {
@@ -128,7 +134,8 @@ impl Compiled {
     pub fn into_program(self) -> Prog
         ensures { result ≡ program self }
     {
-        self.prog
+        let Compiled { prog } = self;
+        prog
     }
 
     /// A search of the text with these options may be made: `pos` is a character boundary of the text, and

@@ -21,7 +21,6 @@ pub(crate) struct Branch {
 
 /// Slots, an explicit stack and branches. The slots and the stack are cells; what a cell held before a change is logged
 /// once for each branch, and `pop` takes it back.
-#[derive(Drop)]
 pub struct State {
     alloc: Global,
     slot_count: usize,
@@ -29,6 +28,19 @@ pub struct State {
     cells: Cells,
     branches: Vec<Branch>,
     max_stack: usize,
+}
+
+// Not derived: whoever owns one calls this drop, and would prove a derived one again (docs/GATE.md).
+impl Drop for State {
+    fn drop(self) {
+        let State {
+            alloc: _,
+            slot_count: _,
+            cells: _,
+            branches: _,
+            max_stack: _,
+        } = self;
+    }
 }
 
 impl Model for State {
@@ -81,7 +93,7 @@ impl State {
             slot_count,
             mut cells,
             mut branches,
-            ..
+            max_stack: _,
         } = self;
         branches.clear();
         if n_saves == slot_count {

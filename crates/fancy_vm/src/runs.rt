@@ -91,20 +91,38 @@ impl Default for RunOptions {
 
 /// Memory that runs use again, of this allocator, and how much the delegates of a run may take. No answer depends on
 /// it: a run that passes a limit has none.
-#[derive(Drop)]
 pub struct Scratch {
     limits: SearchLimits,
     room: Room,
 }
 
+// Not derived: whoever owns one calls this drop, and would prove a derived one again (docs/GATE.md).
+impl Drop for Scratch {
+    fn drop(self) {
+        let Scratch { limits: _, room: _ } = self;
+    }
+}
+
 /// The memory of a scratch.
-#[derive(Drop)]
 pub(crate) struct Room {
     alloc: Global,
     state: Option<State>,
     pub(crate) memos: Option<Memos>,
     longest: Option<Longest>,
     pub(crate) filters: StartFilters,
+}
+
+// Not derived: whoever owns one calls this drop, and would prove a derived one again (docs/GATE.md).
+impl Drop for Room {
+    fn drop(self) {
+        let Room {
+            alloc: _,
+            state: _,
+            memos: _,
+            longest: _,
+            filters: _,
+        } = self;
+    }
 }
 
 impl Scratch {

@@ -66,7 +66,7 @@ pub fn searcher_of(alloc: Global, request: &Request) -> Result<Searcher, Trouble
     Ok(Searcher {
         regex,
         groups,
-        numbers: tree.named_groups,
+        numbers: tree.into_named_groups(),
     })
 }
 

@@ -23,6 +23,7 @@ returns c =
     let kept = ap tree_in c.in_ok-new-2.ensures.ok ∙ c.in_ok-new.ensures.ok in
     record {
       from = subst (λ x. IsCompiledFrom (asked_of c.args.tree c.args.options.now) x) (sym (ap compiled_of kept)) from;
-      names = ap names_of kept;
+      names = ap names_of kept ∙ ap (λ n. names_of record { compiled = c.in_ok-compiled.compiled; names = n; source = c.new-arg-1.given.0 })
+          c.into_named_groups.ensures;
       within = within_by c.args.tree c.args.options.now c.analysis.result c.compilation.result as_analysed as_compiled c.in_ok-compiled.ensures.within;
     }
