@@ -22,7 +22,9 @@ impl GroupSpans {
     ghost use Rattle.fancy_plain.specs.GroupSpans.{AreGroupsOf, spans_in, span_from};
 
     /// Of no group. It takes no memory.
-    pub fn new(alloc: Global) -> GroupSpans {
+    pub fn new(alloc: Global) -> GroupSpans
+        ensures { AreGroupsOf result [] [] }
+    {
         GroupSpans {
             opened: Vec::new(alloc),
             first: 0,
