@@ -111,7 +111,8 @@ impl Memo {
     /// As `new` for another NFA or text, with the room and the budget of this one, in time that follows what was
     /// memoized.
     pub fn clear(&mut self, pair_bits: PairBits, pos: usize)
-        ensures { HaveFailed self.new (λ pair. false) }
+        ensures failed { HaveFailed self.new (λ pair. false) }
+        ensures budget { self.new.budget ≡ self.old.budget }
     {
         self.frames.forget();
         self.trail.truncate(0);

@@ -150,6 +150,7 @@ impl Fragment {
     pub fn clear(&self, memo: &mut Memo, pos: usize)
         ensures memo { (text : List ℕ) → IsMemoFor text self.now memo.new }
         ensures knows { HaveFailed memo.new (λ pair. false) }
+        ensures budget { memo.new.budget ≡ memo.old.budget }
     {
         self.nfa.clear(memo, pos);
     }

@@ -160,6 +160,7 @@ impl Nfa {
     pub fn clear(&self, memo: &mut Memo, pos: usize)
         ensures memo { (text : List ℕ) → IsMemoOf text self.now memo.new }
         ensures knows { HaveFailed memo.new (λ pair. false) }
+        ensures budget { memo.new.budget ≡ memo.old.budget }
     {
         memo.clear(self.pair_bits, pos);
     }
