@@ -65,7 +65,7 @@ pub(crate) fn required_bytes(states: &[NfaState], unicode: bool) -> Option<[bool
     requires { (i : ℕ) (p : NfaState) → slice_get states.now i ≡ Some p → IsStateReadBy unicode p }
     ensures { IfSome result (AreRequired unicode (map state_of states.now)) }
 {
-    let passed = last_passed(states)?;
+    let passed = rarest_passed(states)?;
     match states.get(passed) {
         Some(NfaState::Character(test)) => Some(first_bytes(test, unicode)),
         _ => None,
@@ -100,47 +100,65 @@ fn only_in(bytes: &[bool; 256]) -> Option<u8>
 
 // ---- which state every way passes
 
-/// The last state found that every way passes, if it takes a rare character or stands behind a loop without a bound: else a
-/// search that fails is short, or finds what the state takes at once.
-fn last_passed(states: &[NfaState]) -> Option<usize>
+/// The state with the rarest characters among those found that every way passes, of equals the last. It takes rare ones or
+/// stands behind a loop without a bound: else a search that fails is short, or finds what the state takes at once.
+fn rarest_passed(states: &[NfaState]) -> Option<usize>
     ensures { IfSome result (IsPassed (map state_of states.now)) }
 {
-    let mut last = None;
+    let mut rarest = None;
     let mut furthest = 0;
     let mut is_behind = false;
     'states: for at in 0..states.len() {
-        let is_worth = is_behind || takes_rare(states, at);
-        if is_worth && furthest <= at {
-            last = passed_from(states, at, furthest, last);
+        if furthest <= at {
+            rarest = rarer(states, at, furthest, is_behind, rarest);
         }
         let Some(to) = furthest_with(&states[at], at, furthest) else {
-            return last;
+            return rarest;
         };
         furthest = to;
         is_behind = is_behind || repeats(&states[at]);
     }
-    last
+    rarest
 }
 
-/// The state to which the one at `at` jumps or which it is, if it tells ways apart, and else the last one.
-fn passed_from(
+/// The state to which the one at `at` jumps or which it is, if it takes no commoner characters than the one kept, and else
+/// that one.
+fn rarer(
     states: &[NfaState],
     at: usize,
     furthest: usize,
-    last: Option<usize>,
+    is_behind: bool,
+    kept: Option<usize>,
 ) -> Option<usize>
     requires inside { at < length states.now }
     requires before { (i : ℕ) → i < at
         → StepsFrom (λ to. to ≤ furthest) i (slice_get (map state_of states.now) i) }
     requires here { furthest ≤ at }
-    requires last { IfSome last (IsPassed (map state_of states.now)) }
+    requires kept { IfSome kept (IsPassed (map state_of states.now)) }
     ensures { IfSome result (IsPassed (map state_of states.now)) }
 {
     let passed = jumps_to(states, at);
-    if tells(states, passed) {
+    if is_rarer(states, passed, is_behind, kept) {
         Some(passed)
     } else {
-        last
+        kept
+    }
+}
+
+/// The state takes no commoner characters than the one kept, and rare ones or stands behind a loop without a bound.
+fn is_rarer(states: &[NfaState], passed: usize, is_behind: bool, kept: Option<usize>) -> bool {
+    let Some(new) = commonness(states, passed) else {
+        return false;
+    };
+    if !is_behind && new > 0 {
+        return false;
+    }
+    match kept {
+        None => true,
+        Some(kept) => match commonness(states, kept) {
+            None => true,
+            Some(old) => new <= old,
+        },
     }
 }
 
@@ -188,25 +206,26 @@ fn repeats(nfa_state: &NfaState) -> bool {
     }
 }
 
-/// The state takes one character, which is none of a small letter, a digit or a space, or a letter that few words have.
-fn takes_rare(states: &[NfaState], at: usize) -> bool {
+/// How common in texts the characters are that the state takes, from 0 for a rare one; none where it takes no character
+/// or nearly each text has some: a class with the commonest ones.
+fn commonness(states: &[NfaState], at: usize) -> Option<u8> {
     match states.get(at) {
         Some(NfaState::Character(CharTest::One { c, casei })) => {
-            !*casei && !matches!(*c, 'a'..='i' | 'k'..='p' | 'r'..='w' | 'y' | '0'..='9' | ' ')
+            Some(if *casei || is_common(*c) { 3 } else { 0 })
         }
-        _ => false,
+        Some(NfaState::Character(CharTest::Class(class))) => {
+            if class.takes_ascii(b'e') || class.takes_ascii(b' ') {
+                return None;
+            }
+            Some(if class.takes_ascii(b'0') { 2 } else { 1 })
+        }
+        _ => None,
     }
 }
 
-/// The state takes one character, or one of a class that not every text is full of.
-fn tells(states: &[NfaState], at: usize) -> bool {
-    match states.get(at) {
-        Some(NfaState::Character(CharTest::One { .. })) => true,
-        Some(NfaState::Character(CharTest::Class(class))) => {
-            !class.takes_ascii(b'e') && !class.takes_ascii(b' ')
-        }
-        _ => false,
-    }
+/// A digit, a space, or a small letter that many words have.
+fn is_common(c: char) -> bool {
+    matches!(c, 'a'..='i' | 'k'..='p' | 'r'..='w' | 'y' | '0'..='9' | ' ')
 }
 
 // ---- which bytes it takes
