@@ -2,7 +2,8 @@
 
 ghost use Rattle.std.specs.Prelude.{◌≡◌, ◌<◌, Some, None, length, slice_get, slice_set, IfOk, IsTrue, OnOk};
 ghost use Rattle.fancy_meaning.specs.Places.{is_place};
-ghost use Rattle.fancy_fragments.specs.Fragments.{IsFirstWayOf, IsJoinedMemoFor};
+ghost use Rattle.fancy_fragments.specs.Fragments.{IsFirstWayOf, IsJoinedMemoFor, IsOnePassWayOf};
+ghost use Rattle.fancy_plain.specs.GroupSpans.{spans_in};
 ghost use Rattle.fancy_plain.specs.Ways.{HasAscending};
 ghost use Rattle.fancy_vm.specs.MemoRuns.{AddsNoMemo, AreOfRuns};
 
@@ -12,7 +13,12 @@ use fancy_backtrack::memo::Memo;
 use fancy_expr::error::Error;
 use fancy_fragments::fragment::Fragment;
 use fancy_plain::first_way::FirstWay;
+use fancy_plain::group_spans::GroupSpans;
+use fancy_plain::one_pass::OnePass;
 use std::alloc::{AllocError, Global};
+
+/// So often one pass over fragments with groups may tell nothing in a run.
+const MOST_UNKNOWN: usize = 16;
 
 /// A memo, in a box since it goes to a search and back, and the run that wrote it.
 #[derive(Drop)]
@@ -29,6 +35,10 @@ pub(crate) struct Memos {
     run: u64,
     /// What its searches took.
     cost: SearchCost,
+    /// The groups of the last way that took one pass.
+    groups: GroupSpans,
+    /// How often one pass over a fragment with groups told nothing in this run.
+    unknown: usize,
     ghost of_runs: { AreOfRuns run by_place.items },
 }
 
@@ -39,6 +49,8 @@ impl Drop for Memos {
             by_place: _,
             run: _,
             cost: _,
+            groups: _,
+            unknown: _,
         } = self;
     }
 }
@@ -76,6 +88,8 @@ impl Memos {
             by_place: Vec::new(alloc),
             run: 0,
             cost: SearchCost::none(),
+            groups: GroupSpans::new(alloc),
+            unknown: 0,
         }
     }
 
@@ -99,6 +113,7 @@ impl Memos {
         ensures { (task : tasks.Task) → AreMemosOf task self.new }
     {
         self.cost.bytes = 0;
+        self.unknown = 0;
         match self.run.checked_add(1) {
             None => *self = Memos::new(alloc),
             Some(run) => self.run = run,
@@ -112,6 +127,41 @@ impl Memos {
             Some(Some(memo)) => memo.run == self.run,
             _ => false,
         }
+    }
+
+    /// The groups of the last way that took one pass.
+    #[inline(always)]
+    pub(crate) fn groups(&self) -> &GroupSpans
+        ensures { result.now ≡ self.now.groups }
+    {
+        &self.groups
+    }
+
+    /// The first way from `ix` of a fragment with groups, where it takes one pass: its groups are held. Where that told
+    /// nothing often in this run it is not asked for, so that no part of the text is passed in vain again and again.
+    #[inline(always)]
+    pub(crate) fn one_pass_way(
+        &mut self,
+        task: &Task<'_>,
+        fragment: &Fragment,
+        ix: usize,
+    ) -> Result<OnePass, AllocError>
+        requires place { IsTrue (is_place task.now.text.now ix) }
+        requires memos { AreMemosOf task.now self.old }
+        ensures way { IfOk result
+            (IsOnePassWayOf task.now.text.now fragment.now ix (spans_in self.new.groups)) }
+        ensures memos { AreMemosOf task.now self.new }
+    {
+        if fragment.nfa().is_one_pass() || self.unknown >= MOST_UNKNOWN {
+            return Ok(OnePass::Unknown);
+        }
+        let way = fragment
+            .nfa()
+            .one_pass_way(task.alloc, task.text, ix, &mut self.groups)?;
+        if matches!(way, OnePass::Unknown) {
+            self.unknown += 1;
+        }
+        Ok(way)
     }
 
     /// The first way from `ix` of the fragment at `pc` of the program, by what this run noted of it.

@@ -15,11 +15,11 @@ pairs-preserved c =
     let cut : drop i spans ≡ x ∷ drop (i + 1) spans = drop-cons spans i (0, 0, 0) c.pairs-test.true ∙ ap (λ n. x ∷ drop n spans) one in
     let on = ascend_on x (drop (i + 1) spans) (subst Ascends cut c.pairs.invariant.ascend) in
     record {
-      task = c.in_ok-put-2.ensures.task ∙ c.in_ok-put.ensures.task ∙ c.pairs.invariant.task;
-      slots = c.in_ok-put-2.ensures.slots ∙ c.in_ok-put.ensures.slots ∙ c.pairs.invariant.slots;
+      task = c.in_ok-set_pair.ensures.task ∙ c.pairs.invariant.task;
+      slots = c.in_ok-set_pair.ensures.slots ∙ c.pairs.invariant.slots;
       ascend = on.1;
-      same = pairs_of_one (config_of c.pairs.self) (config_of c.put.new.self) (config_of c.put-in-pairs.new.self) x.0 x.1 x.2 (drop (i + 1) spans)
-          c.in_ok-put.ensures.ok c.in_ok-put-2.ensures.ok on.0
+      same = pairs_of_one (config_of c.pairs.self) (config_of c.set_pair.new.self) x.0 x.1 x.2 (listed (drop (i + 1) spans))
+          c.in_ok-set_pair.ensures.ok on.0
           ∙ ap (λ l. config.with_slots (config.with_pairs (listed l) (config_of c.pairs.self).slots) (config_of c.pairs.self)) (sym cut)
           ∙ c.pairs.invariant.same;
     }
