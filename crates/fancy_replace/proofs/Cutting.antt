@@ -1,5 +1,5 @@
 -- The next match of a text lies ahead of the last one, and after it lie all others.
-use Rattle.std.proofs.Common.{◌≡◌, ◌≤◌, ◌-◌, ℕ, zero, suc, List, [], ◌∷◌, map, take, Option, Some, None, Result, Ok, Err, option_map, true, refl, sym, ap, ap₂, ◌∙◌, subst, arith, ne_eqb, ◌==◌, if◌then◌else◌}
+use Rattle.std.proofs.Common.{◌≡◌, ◌≤◌, ◌-◌, ℕ, zero, suc, List, [], ◌∷◌, map, take, Option, Some, None, Result, Ok, Err, option_map, true, refl, sym, ap, ap₂, ◌∙◌, subst, arith, ne_eqb, ◌==◌, ◌⊎◌, inl, inr, ⊎_elim, if◌then◌else◌}
 use Rattle.std.proofs.Math.Logic.{∥∥₁_elim}
 use Rattle.std.proofs.Props.{props}
 use Rattle.std.specs.Coded.{le_prop}
@@ -11,12 +11,12 @@ use Rattle.fancy_expr.specs.declared.error.Error.{Error}
 use Rattle.fancy_search.specs.Searches.{IsCompiledFrom}
 use Rattle.fancy_vm.specs.Outcomes.{first_pair}
 use Rattle.fancy_matches.specs.Listing.{AreApart, ComesTo, Standing, all_matches}
-use Rattle.fancy_matches.specs.Regexes.{FailsBy, GivesCaptures, IsRegexOf, captures_text, compiled_of, left_of, numbers_in, options_in, standing_of}
+use Rattle.fancy_matches.specs.Regexes.{FailsBy, GivesCaptures, IsRegexOf, captures_text, compiled_of, left_of, numbers_in, options_in, passed_in, standing_of}
 use Rattle.fancy_matches.specs.declared.found.Captures.{Captures}
 use Rattle.fancy_matches.specs.declared.regexes.Regex.{Regex}
 use Rattle.fancy_matches.proofs.Lists.{matches_apart}
 use Rattle.fancy_replace.specs.Pieces.{at_most_pieces, pieces_between, take_limit}
-use Rattle.fancy_replace.specs.Steps.{AreAhead, HasAllCuts, IsAhead, IsNextCut, cuts_left, rest_of}
+use Rattle.fancy_replace.specs.Steps.{AreAhead, HasAllCuts, IsAhead, IsNextCut, StaysInCut, all_left, cuts_left, rest_of}
 use Rattle.fancy_replace.specs.declared.cuts.Cut.{Cut}
 use Rattle.fancy_replace.specs.declared.cuts.Cuts.{Cuts}
 
@@ -41,6 +41,26 @@ pub take_limit-cons : (limit : Option ℕ) (m : List ℕ) (ms : List (List ℕ))
 take_limit-cons None m ms some = refl
 take_limit-cons (Some zero) m ms some = absurd (some refl)
 take_limit-cons (Some (suc n)) m ms some = ap (λ k. m ∷ take k ms) (omega arith)
+
+take_limit-nil : (limit : Option ℕ) → take_limit {A = List ℕ} limit [] ≡ []
+take_limit-nil None = refl
+take_limit-nil (Some zero) = refl
+take_limit-nil (Some (suc n)) = refl
+
+-- no match is left, whatever the limit
+pub no_cuts : (i : Input) (o : plain.RunOptions) (s : Cuts) → all_left i o s ≡ [] → cuts_left i o s ≡ []
+no_cuts i o s none = ap (take_limit s.limit) none ∙ take_limit-nil s.limit
+
+-- ---- the limits inside easy parts
+
+pub is_spent : (limit : Option ℕ) → (limit ≡ Some 0) ⊎ (¬ (limit ≡ Some 0))
+is_spent None = inr (λ e. cc)
+is_spent (Some zero) = inl refl
+is_spent (Some (suc n)) = inr (λ e. cc)
+
+-- where no match is left, a search passed none of them or there was no search
+pub stays_last : (s : Cuts) (r q : Regex) → StaysInCut s (Ok None) q → (s.limit ≡ Some 0 → q ≡ r) → (passed_in q ≡ None) ⊎ (q ≡ r)
+stays_last s r q stays spent = ⊎_elim (λ e. inr (spent e)) (λ some. inl (stays some)) (is_spent s.limit)
 
 -- ---- a step
 

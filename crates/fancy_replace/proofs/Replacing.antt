@@ -1,26 +1,28 @@
 -- A replacement goes on from match to match.
-use Rattle.std.proofs.Common.{IfErr, Result, Ok, Err, ◌≡◌, ◌≤◌, ◌<◌, ◌-◌, ℕ, zero, suc, Bool, true, false, List, [], ◌∷◌, ◌++◌, length, take, map, Option, Some, None, option_map, ⊎_elim, refl, sym, ap, ap₂, ◌∙◌, subst, arith, append_assoc, append-nil, slice_range}
+use Rattle.std.proofs.Common.{IfErr, Result, Ok, Err, ◌≡◌, ◌≤◌, ◌<◌, ◌-◌, ℕ, zero, suc, Bool, true, false, List, [], ◌∷◌, ◌++◌, length, take, map, Option, Some, None, option_map, ⊎_elim, refl, sym, ap, ap₂, ◌∙◌, subst, arith, ne_eqb, append_assoc, append-nil, if◌then◌else◌, slice_range}
 use Rattle.std.proofs.lemmas.Bool.{cases_lt}
+use Rattle.std.proofs.lemmas.Option.{none-some}
 use Rattle.std.proofs.lemmas.List.{drop_all, length-append, length-take-le, take-map, take_at}
 use Rattle.std.proofs.lemmas.List.Folds.{drop_split}
 use Rattle.fancy_meaning.specs.Options as plain
 use Rattle.fancy_meaning.specs.Premises.{Input, IsText, plan}
 use Rattle.fancy_expr.specs.declared.error.Error.{Error}
 use Rattle.fancy_vm.specs.Outcomes.{first_pair}
+use Rattle.fancy_vm.specs.SearchLimits.{EndsBy}
 use Rattle.fancy_matches.specs.Listing.{AreApart, ComesTo, PiecesJoin, all_matches, all_spans, at_start, in_turn, part, stays}
-use Rattle.fancy_matches.specs.Regexes.{FailsBy, IsNoLimitWhereEasy, IsRegexOf, IsSame, captures_text, left_of, numbers_in, standing_of}
+use Rattle.fancy_matches.specs.Regexes.{FailsBy, IsNoLimitWhereEasy, IsRegexOf, IsSame, captures_text, left_of, numbers_in, passed_in, standing_of}
 use Rattle.fancy_matches.specs.declared.regexes.Regex.{Regex}
-use Rattle.fancy_replace.specs.Pieces.{IsBelow, pieces_between, rewrite, take_limit}
+use Rattle.fancy_replace.specs.Pieces.{IsBelow, as_limit, pieces_between, rewrite, take_limit}
 use Rattle.fancy_replace.specs.Replacements.{FailsAfter, KeepsBefore, WritesMatch, to_replace}
 use Rattle.fancy_replace.specs.Splits.{most_pieces}
-use Rattle.fancy_replace.specs.Steps.{HasAllCuts, IsAhead, IsNextCut, NextCut, StepsToCut, cuts_left, rest_of}
+use Rattle.fancy_replace.specs.Steps.{HasAllCuts, IsAhead, IsNextCut, NextCut, StaysInCut, StepsToCut, cuts_left, rest_of}
 use Rattle.fancy_replace.specs.declared.cuts.Cut.{Cut}
 use Rattle.fancy_replace.specs.declared.cuts.Cuts.{Cuts}
 use Rattle.fancy_laws.proofs.Moves.{is_place_parts}
 use Rattle.fancy_matches.proofs.Easy.{easy_of_same}
 use Rattle.fancy_matches.proofs.Lists.{comes_more, matches_apart, spans_join}
 use Rattle.fancy_matches.proofs.Stepping.{of_same, same_twice}
-use Rattle.fancy_replace.proofs.Cutting.{take_limit-cons}
+use Rattle.fancy_replace.proofs.Cutting.{is_spent, take_limit-cons}
 
 abbrev left_in : Input → plain.RunOptions → List ℕ → Cuts → List (List ℕ)
 left_in i o text s = take_limit s.limit (left_of i text o (standing_of s.standing))
@@ -39,12 +41,13 @@ pub record IsDone (i : Input) (o : plain.RunOptions) (text : List ℕ) (most : O
   pub fresh : is_same ≡ true → left_in i o text s ≡ to_replace i o text most
   pub some : is_same ≡ false → ¬ (to_replace i o text most ≡ [])
 
--- and the regex is of the same tree
+-- the regex is of the same tree, and a search was made where no more are to be
 pub record GoesOn (r q : Regex) (text : List ℕ) (most : Option ℕ) (replacement : List ℕ → List ℕ) (s : Cuts)
     (out : List ℕ) (is_same : Bool) : Type 0 where
   pub same : IsSame r q
   pub within : s.text.now ≡ text
   pub ahead : IsAhead q s
+  pub searched : s.limit ≡ Some 0 → passed_in q ≡ None
   pub done : (i : Input) (o : plain.RunOptions) → IsRegexOf i text o r → IsDone i o text most replacement s out is_same
 
 less_none : (most : Option ℕ) → most ≡ option_map (λ n. n - 0) most
@@ -62,12 +65,20 @@ below_limit (Some n) limit count e some =
 
 -- ---- at the start
 
-pub at_first : (r : Regex) (text : List ℕ) (most : Option ℕ) (replacement : List ℕ → List ℕ) (s : Cuts) (out : List ℕ) → HasAllCuts text most s →
-    out ≡ [] → GoesOn r r text most replacement s out true
-at_first r text most replacement s out h none = record {
+-- at least one match is looked for
+as_limit_some : (limit : ℕ) → ¬ (as_limit limit ≡ Some 0)
+as_limit_some zero e = none-some 0 e
+as_limit_some (suc n) e =
+    let is : as_limit (suc n) ≡ Some (suc n) = ap (λ b. if b then None else Some (suc n)) (ne_eqb (suc n) 0 (λ z. absurd (omega (arith, z)))) in
+    let both : Some (suc n) ≡ Some 0 = sym is ∙ e in cc
+
+pub at_first : (r : Regex) (text : List ℕ) (limit : ℕ) (replacement : List ℕ → List ℕ) (s : Cuts) (out : List ℕ) →
+    HasAllCuts text (as_limit limit) s → out ≡ [] → GoesOn r r text (as_limit limit) replacement s out true
+at_first r text limit replacement s out h none = let most = as_limit limit in record {
   same = (refl, refl);
   within = h.within;
   ahead = h.ahead r;
+  searched = λ e. absurd (as_limit_some limit (sym h.limit ∙ e));
   done = λ i o of.
       let all : left_of i text o (standing_of s.standing) ≡ all_matches (plan i) text o = ap (left_of i text o) h.first in
       let left : left_in i o text s ≡ to_replace i o text most = ap₂ take_limit h.limit all in
@@ -183,6 +194,7 @@ module _ (r q p : Regex) (text : List ℕ) (most : Option ℕ) (write : List ℕ
     same = same_twice r q p so_far.same next.same;
     within = to;
     ahead = ahead;
+    searched = λ _. subst (λ x. StaysInCut s x p) is next.stays;
     done = λ i o of. further i o text most write s t c out is_same so_far.within to (steps _ is i o of) (so_far.done i o of) new e;
   }
 
@@ -193,6 +205,13 @@ module _ (r q p : Regex) (text : List ℕ) (most : Option ℕ) (write : List ℕ
   next_easy e is =
       easy_of_same r q text e so_far.same
       (subst (λ u. IsNoLimitWhereEasy q u e) so_far.within (subst (λ x. IfErr x (IsNoLimitWhereEasy q s.text.now)) is next.easy))
+
+  pub next_stays : (e : Error) → found ≡ Err e → EndsBy e (passed_in p)
+  next_stays e is = subst (λ x. StaysInCut s x p) is next.stays
+
+  pub last_stays : found ≡ Ok None → passed_in p ≡ None
+  last_stays is =
+      ⊎_elim (λ e. ap passed_in (next.spent e) ∙ so_far.searched e) (subst (λ x. StaysInCut s x p) is next.stays) (is_spent s.limit)
 
   -- no match is left
   module _ (is : found ≡ Ok None) (i : Input) (o : plain.RunOptions) (of : IsRegexOf i text o r) where

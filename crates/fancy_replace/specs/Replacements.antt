@@ -9,7 +9,7 @@ use Rattle.fancy_expr.specs.declared.error.Error.{Error}
 use Rattle.fancy_expr.specs.declared.error.Error.TheVariants.{Memory}
 use Rattle.fancy_vm.specs.Outcomes.{first_pair}
 use Rattle.fancy_matches.specs.Listing.{ComesTo, Standing, all_matches, at_start, part}
-use Rattle.fancy_matches.specs.Regexes.{FailsAt, IsNoLimitWhereEasy, IsRegexOf, IsSame}
+use Rattle.fancy_matches.specs.Regexes.{FailsAt, IsNoLimitWhereEasy, IsRegexOf, IsSame, StaysIn}
 use Rattle.fancy_matches.specs.declared.regexes.Regex.{Regex}
 use Rattle.fancy_replace.specs.Pieces.{IsBelow, rewrite, take_limit}
 
@@ -55,3 +55,5 @@ pub record IsReplacement (r : Regex) (text : List ℕ) (limit : Option ℕ) (wri
       IfOk result (λ v. cow_str_bytes v ≡ text)
   pub easy : IfErr result (IsNoLimitWhereEasy r text)
   pub same : IsSame r q
+  -- its last search passed no limit inside easy parts, or `Memory` is answered
+  pub stays : StaysIn result q

@@ -1,11 +1,12 @@
 -- What clauses see of the pieces of a text that are left.
-use Rattle.std.specs.Prelude.{◌≡◌, ◌<◌, ◌-◌, ℕ, suc, false, IfErr, IfSome, List, [], ◌∷◌, map, take, Option, Some, None, Result, Ok, Err, if◌then◌else◌}
+use Rattle.std.specs.Prelude.{◌≡◌, ◌<◌, ◌-◌, ◌⊎◌, ℕ, suc, false, IfErr, IfSome, List, [], ◌∷◌, map, take, Option, Some, None, Result, Ok, Err, if◌then◌else◌}
 use Rattle.std.specs.Borrow.{MutBor}
 use Rattle.fancy_meaning.specs.Options as plain
 use Rattle.fancy_meaning.specs.Premises.{Input, plan}
 use Rattle.fancy_expr.specs.declared.error.Error.{Error}
+use Rattle.fancy_vm.specs.SearchLimits.{EndsBy}
 use Rattle.fancy_matches.specs.Listing.{ComesTo, PiecesJoin, all_matches, all_spans, at_start, in_turn, part}
-use Rattle.fancy_matches.specs.Regexes.{FailsBy, IsNoLimitWhereEasy, IsRegexOf, IsSame, standing_of}
+use Rattle.fancy_matches.specs.Regexes.{FailsBy, IsNoLimitWhereEasy, IsRegexOf, IsSame, passed_in, standing_of}
 use Rattle.fancy_matches.specs.declared.regexes.Regex.{Regex}
 use Rattle.fancy_replace.specs.Pieces.{at_most_pieces, pieces_between}
 use Rattle.fancy_replace.specs.Steps.{IsAhead, cuts_left, places_left}
@@ -40,6 +41,12 @@ module _ (i : Input) (o : plain.RunOptions) where
   StepsToPiece shown s (Some (Err e)) t =
       FailsBy i (text_of s) o (standing_of s.cuts.standing) e × (pieces_left t ≡ [])
 
+-- The search for a piece passed no limit inside easy parts, or answers `Memory`; or none was made, and the regex is as it
+-- was.
+abbrev pub StaysInPiece : {P : Type 0} → Regex → Option (Result P Error) → Regex → Type 0
+StaysInPiece r (Some (Err e)) q = EndsBy e (passed_in q)
+StaysInPiece r item q = (passed_in q ≡ None) ⊎ (q ≡ r)
+
 -- so it steps by this regex, whatever that was compiled from, and text and regex stay
 pub record GivesPiece {P : Type 0} (shown : P → List ℕ) (r : Regex) (s : Pieces) (item : Option (Result P Error)) (q : Regex)
     (t : Pieces) : Type 0 where
@@ -47,6 +54,7 @@ pub record GivesPiece {P : Type 0} (shown : P → List ℕ) (r : Regex) (s : Pie
   pub easy : IfSome item (λ found. IfErr found (IsNoLimitWhereEasy r (text_of s)))
   pub within : text_of t ≡ text_of s
   pub same : IsSame r q
+  pub stays : StaysInPiece r item q
 
 -- what is left to its regex lies ahead
 abbrev pub CanGoOn : Regex → Pieces → Type 0

@@ -7,7 +7,7 @@ use Rattle.fancy_meaning.specs.Premises.{Input, IsSpan, plan}
 use Rattle.fancy_expr.specs.declared.error.Error.{Error}
 use Rattle.fancy_vm.specs.Outcomes.{first_pair}
 use Rattle.fancy_matches.specs.Listing.{ComesTo, at_start}
-use Rattle.fancy_matches.specs.Regexes.{FailsBy, IsNoLimitWhereEasy, IsRegexOf, IsSame, captures_text, left_of, numbers_in, standing_of}
+use Rattle.fancy_matches.specs.Regexes.{FailsBy, IsNoLimitWhereEasy, IsRegexOf, IsSame, StaysIn, captures_text, left_of, numbers_in, passed_in, standing_of}
 use Rattle.fancy_matches.specs.declared.regexes.Regex.{Regex}
 use Rattle.fancy_replace.specs.Pieces.{take_limit}
 use Rattle.fancy_replace.specs.declared.cuts.Cut.{Cut}
@@ -68,6 +68,12 @@ pub record IsAhead (r : Regex) (s : Cuts) : Type 0 where
   pub spans : (i : Input) (o : plain.RunOptions) → IsRegexOf i s.text.now o r →
       AreAhead s.text.now s.from (map first_pair (all_left i o s))
 
+-- The search for it passed no limit inside easy parts, or answers `Memory`; where no more matches are gone through, there
+-- is none.
+abbrev pub StaysInCut : Cuts → Result (Option Cut) Error → Regex → Type 0
+StaysInCut s (Ok None) q = ¬ (s.limit ≡ Some 0) → passed_in q ≡ None
+StaysInCut s found q = StaysIn found q
+
 -- the next match is found by this regex, and text and regex stay
 pub record NextCut (r : Regex) (s : Cuts) (found : Result (Option Cut) Error) (q : Regex) (t : Cuts) : Type 0 where
   pub steps : (i : Input) (o : plain.RunOptions) → IsRegexOf i s.text.now o r → StepsToCut i o s found t
@@ -75,6 +81,8 @@ pub record NextCut (r : Regex) (s : Cuts) (found : Result (Option Cut) Error) (q
   pub within : t.text.now ≡ s.text.now
   pub same : IsSame r q
   pub further : IsFurther s found t
+  pub stays : StaysInCut s found q
+  pub spent : s.limit ≡ Some 0 → q ≡ r
 
 -- nothing was gone through yet
 pub record HasAllCuts (text : List ℕ) (most : Option ℕ) (s : Cuts) : Type 0 where

@@ -8,13 +8,13 @@ use Rattle.fancy_meaning.specs.Premises.{Input, IsText}
 use Rattle.fancy_matches.specs.Regexes.{IsRegexOf}
 use Rattle.fancy_matches.proofs.Stepping.{same_twice}
 use Rattle.fancy_replace.specs.Replacements.{KeepsBefore}
-use Rattle.fancy_replace.proofs.Replacing.{at_first, before, goes_on, itself, new_text, next_easy, next_fails, same_text, some_replaced}
+use Rattle.fancy_replace.proofs.Replacing.{at_first, before, goes_on, itself, last_stays, new_text, next_easy, next_fails, next_stays, same_text, some_replaced}
 use Rattle.fancy_replace.proofs.replace.replacen.Goals as goal
 
 pub matches-init : goal.matches-init
 matches-init g c =
     let text = c.args.text.now in
-    at_first c.args.regex.now text (as_limit c.args.limit) (g.R.Replacer.replacement_text c.args.replacement.now text) c.new-cuts.result
+    at_first c.args.regex.now text c.args.limit (g.R.Replacer.replacement_text c.args.replacement.now text) c.new-cuts.result
     (string_bytes c.new-out.result) (subst (λ limit. HasAllCuts text limit c.new-cuts.result) c.limit_of.ensures c.new-cuts.ensures) c.new-out.ensures.bytes
 
 pub returns-in_err-cut : goal.returns-in_err-cut
@@ -33,6 +33,10 @@ returns-in_err-cut g c =
           (g.R.Replacer.replacement_text c.args.replacement.now) l.cuts c.next.new.self (string_bytes l.out) l.is_same l.invariant c.next.result
           c.next.ensures.next _ c.in_err-cut.was;
       same = same_twice c.args.regex.now l.regex c.next.new.regex l.invariant.same c.next.ensures.next.same;
+      stays =
+          next_stays c.args.regex.now l.regex c.next.new.regex c.args.text.now (as_limit c.args.limit)
+          (g.R.Replacer.replacement_text c.args.replacement.now) l.cuts c.next.new.self (string_bytes l.out) l.is_same l.invariant c.next.result
+          c.next.ensures.next _ c.in_err-cut.was;
     })
 
 pub matches-preserved : goal.matches-preserved
@@ -57,6 +61,10 @@ returns-then-is_same g c =
       itself = λ i o h w. refl;
       easy = tt;
       same = same_twice c.args.regex.now l.regex c.next.new.regex l.invariant.same c.next.ensures.next.same;
+      stays =
+          last_stays c.args.regex.now l.regex c.next.new.regex c.args.text.now (as_limit c.args.limit)
+          (g.R.Replacer.replacement_text c.args.replacement.now) l.cuts c.next.new.self (string_bytes l.out) l.is_same l.invariant c.next.result
+          c.next.ensures.next (c.in_ok-cut.was ∙ ap Ok c.in_default.is);
     }
 
 pub returns : goal.returns
@@ -82,4 +90,7 @@ returns g c =
       itself = λ i o h w. value i o h ∙ itself i o text limit write is w;
       easy = tt;
       same = same_twice c.args.regex.now l.regex c.next.new.regex l.invariant.same c.next.ensures.next.same;
+      stays =
+          last_stays c.args.regex.now l.regex c.next.new.regex text limit write l.cuts c.next.new.self (string_bytes l.out) l.is_same
+          l.invariant c.next.result c.next.ensures.next was;
     }

@@ -2,10 +2,11 @@ use Rattle.std.proofs.Common.{◌≡◌, ◌≤◌, IfErr, IfSome, true, true≢
 use Rattle.fancy_laws.proofs.Characters.{cut_of_place}
 use Rattle.fancy_meaning.specs.Places.{is_place}
 use Rattle.fancy_vm.specs.Outcomes.{first_pair}
-use Rattle.fancy_matches.specs.Regexes.{IsNoLimitWhereEasy, left_of, standing_of}
+use Rattle.fancy_matches.specs.Regexes.{GivesCaptures, IsNoLimitWhereEasy, StaysInStep, left_of, standing_of}
 use Rattle.fancy_matches.proofs.Stepping.{of_same}
-use Rattle.fancy_replace.specs.Steps.{AreAhead}
-use Rattle.fancy_replace.proofs.Cutting.{fails, next_begins, next_comes, next_ends_at_place, next_is, next_starts_at_place, next_text, none_ahead, rest_ahead}
+use Rattle.fancy_replace.specs.Pieces.{take_limit}
+use Rattle.fancy_replace.specs.Steps.{AreAhead, all_left}
+use Rattle.fancy_replace.proofs.Cutting.{fails, next_begins, next_comes, next_ends_at_place, next_is, next_starts_at_place, next_text, no_cuts, none_ahead, rest_ahead}
 use Rattle.fancy_replace.proofs.cuts.Cuts.next.Goals as goal
 
 pub range-piece-requires-clause-start_le_end : goal.range-piece-requires-clause-start_le_end
@@ -44,6 +45,8 @@ returns-in-Some-Err-clause-next c =
       within = refl;
       same = c.next_captures.ensures.same;
       further = tt;
+      stays = subst (λ item. StaysInStep item c.next_captures.new.self) was c.next_captures.ensures.stays;
+      spent = λ e. absurd (true≢false (sym (c.is_spent.ensures.1 e) ∙ c.if-is_spent.false));
     }
 
 pub returns-in-Some-Err-clause-ahead : goal.returns-in-Some-Err-clause-ahead
@@ -79,6 +82,8 @@ returns-in-Some-Ok-clause-next c =
       within = refl;
       same = c.next_captures.ensures.same;
       further = c.in-Some-Ok.ensures.further;
+      stays = subst (λ item. StaysInStep item c.next_captures.new.self) was c.next_captures.ensures.stays;
+      spent = λ e. absurd (true≢false (sym (c.is_spent.ensures.1 e) ∙ c.if-is_spent.false));
     }
 
 pub returns-in-Some-Ok-clause-ahead : goal.returns-in-Some-Ok-clause-ahead
@@ -96,4 +101,36 @@ returns-in-Some-Ok-clause-ahead c =
           subst (λ n. AreAhead s.text.now n (map first_pair (left_of i s.text.now o to))) (sym ends)
           (rest_ahead r s c.requires c.next_captures.result to c.next_captures.ensures.list c.in-Some-Ok.captures was i o
           (of_same c.next_captures.new.self r i c.args.self.now.text.now o (sym c.next_captures.ensures.same.0, sym c.next_captures.ensures.same.1) h));
+    }
+
+pub returns-then-is_spent-clause-next : goal.returns-then-is_spent-clause-next
+returns-then-is_spent-clause-next c =
+    let s = c.args.self.now in
+    let none = c.is_spent.ensures.0 c.if-is_spent.true in
+    record {
+      steps = λ i o h. (ap (λ limit. take_limit limit (all_left i o s)) none, refl);
+      easy = tt;
+      within = refl;
+      same = (refl, refl);
+      further = tt;
+      stays = λ some. absurd (some none);
+      spent = λ _. refl;
+    }
+
+pub returns-in-None-clause-next : goal.returns-in-None-clause-next
+returns-in-None-clause-next c =
+    let s = c.args.self.now in
+    record {
+      steps = λ i o h. (
+        no_cuts i o s
+            (subst (λ x. GivesCaptures i s.text.now o (standing_of s.standing) x (standing_of c.next_captures.new.standing)) c.in-None.is
+            (c.next_captures.ensures.list i o h)).0,
+        refl,
+      );
+      easy = tt;
+      within = refl;
+      same = c.next_captures.ensures.same;
+      further = tt;
+      stays = λ _. subst (λ item. StaysInStep item c.next_captures.new.self) c.in-None.is c.next_captures.ensures.stays;
+      spent = λ e. absurd (true≢false (sym (c.is_spent.ensures.1 e) ∙ c.if-is_spent.false));
     }

@@ -1,8 +1,8 @@
-use Rattle.std.proofs.Common.{[], ◌∷◌, Ok, refl, sym, ap, ◌∙◌, subst, true≢false, if◌then◌else◌}
+use Rattle.std.proofs.Common.{[], ◌∷◌, Ok, inl, refl, sym, ap, ◌∙◌, subst, true≢false, if◌then◌else◌}
 use Rattle.fancy_matches.specs.Regexes.{numbers_in}
 use Rattle.fancy_replace.specs.Pieces.{pieces_between}
-use Rattle.fancy_replace.specs.Steps.{StepsToCut, cuts_left}
-use Rattle.fancy_replace.proofs.Cutting.{piece_last, piece_next}
+use Rattle.fancy_replace.specs.Steps.{StaysInCut, StepsToCut, cuts_left}
+use Rattle.fancy_replace.proofs.Cutting.{piece_last, piece_next, stays_last}
 use Rattle.fancy_replace.proofs.pieces.Pieces.next.Goals as goal
 
 pub returns-in-Ok-Some-clause-gives : goal.returns-in-Ok-Some-clause-gives
@@ -22,6 +22,7 @@ returns-in-Ok-Some-clause-gives c =
       easy = tt;
       within = c.next.ensures.next.within;
       same = c.next.ensures.next.same;
+      stays = inl (subst (λ x. StaysInCut s x c.next.new.regex) was c.next.ensures.next.stays);
     }
 
 pub returns-in-Ok-None-clause-gives : goal.returns-in-Ok-None-clause-gives
@@ -39,6 +40,9 @@ returns-in-Ok-None-clause-gives c =
       easy = tt;
       within = c.next.ensures.next.within;
       same = c.next.ensures.next.same;
+      stays =
+          stays_last s c.args.regex.now c.next.new.regex (subst (λ x. StaysInCut s x c.next.new.regex) was c.next.ensures.next.stays)
+          c.next.ensures.next.spent;
     }
 
 pub returns-in-Err-clause-gives : goal.returns-in-Err-clause-gives
@@ -47,4 +51,5 @@ returns-in-Err-clause-gives c = record {
   easy = c.in-Err.ensures.next.easy;
   within = c.in-Err.ensures.next.within;
   same = c.in-Err.ensures.next.same;
+  stays = c.in-Err.ensures.next.stays;
 }
