@@ -1,6 +1,6 @@
 //! `Highlighter`: the rules of a language, ready to be applied.
 
-ghost use Rattle.std.specs.Prelude.{IfOk};
+ghost use Rattle.std.specs.Prelude.{◌≡◌, IfOk, option_map, slice_get, string_bytes};
 ghost use Rattle.fancy_highlight.specs.Tokens.{Covers};
 
 use crate::error::{GrammarError, HighlightError};
@@ -35,7 +35,10 @@ impl Highlighter {
     }
 
     /// The name with this number.
-    pub fn name(&self, number: usize) -> Option<&str> {
+    pub fn name(&self, number: usize) -> Option<&str>
+        ensures { option_map (λ name. name.now) result
+            ≡ option_map string_bytes (slice_get self.now.grammar.names.items number) }
+    {
         match self.grammar.names.get(number) {
             Some(name) => Some(name.as_str()),
             None => None,

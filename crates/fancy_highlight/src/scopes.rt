@@ -1,5 +1,8 @@
 //! Scopes: names, each within the names before it.
 
+ghost use Rattle.std.specs.Prelude.{◌≡◌, ◌∷◌, [], MatchOption, Some, length};
+ghost use Rattle.fancy_highlight.specs.Scopes.{names_left, names_within};
+
 use std::alloc::{AllocError, Global};
 
 /// A name within another scope.
@@ -45,7 +48,10 @@ impl Scopes {
     }
 
     /// The numbers of a scope's names, the innermost first.
-    pub fn names(&self, scope: usize) -> Names<'_> {
+    pub fn names(&self, scope: usize) -> Names<'_>
+        ensures { names_left result
+            ≡ names_within self.now.scopes.items (length self.now.scopes.items) (Some scope) }
+    {
         Names {
             scopes: &self.scopes,
             next: Some(scope),
@@ -65,7 +71,12 @@ pub struct Names<'s> {
 
 impl Names<'_> {
     /// The next name further out.
-    pub fn next_out(&mut self) -> Option<usize> {
+    pub fn next_out(&mut self) -> Option<usize>
+        ensures { MatchOption
+            result
+            (names_left self.old ≡ [])
+            (λ name. names_left self.old ≡ name ∷ names_left self.new) }
+    {
         if self.left == 0 {
             return None;
         }
