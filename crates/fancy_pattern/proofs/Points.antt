@@ -12,6 +12,7 @@ use Rattle.fancy_pattern.specs.declared.kept.Placed.{Placed as Code}
 use Rattle.fancy_pattern.specs.declared.tokens.Quantifier.{Quantifier}
 use Rattle.fancy_pattern.specs.declared.tokens.Suffix.{Suffix}
 use Rattle.fancy_pattern.specs.declared.tokens.Enclosing.{Enclosing}
+use Rattle.fancy_pattern.specs.declared.tokens.Enclosing.TheVariants.{Plain}
 use Rattle.fancy_pattern.specs.Tokens.{Reference, Token, Node, Placed, Opening, Around, Group, AbsentBar, If, IfPattern, IfLook}
 use Rattle.fancy_pattern.specs.PatternViews.{placed_of}
 use Rattle.fancy_pattern.specs.Grammar.{Names, Takes, first_gives, gives_some, is_at, is_branch_end, is_empty, is_repeatable, bar, closing, quantifier, class_text, class_close, class_of, joined, branch_of, alternated, suffixed, SpellsSuffix, SpellsClass, class_end, class_piece, class_open, opening, node_of, reference, enclosed, SpellsAtom, node, class, opened, SpellsOpened, around, group, stopper, expression, if_group, if_pattern, if_look, SpellsBodies, one_body, two_bodies, SpellsPiece, plain, quantified, SpellsPieces, no_piece, piece, SpellsBranch, branch, SpellsBars, no_bar, barred, SpellsAlternatives, branches}
@@ -19,7 +20,7 @@ use Rattle.fancy_pattern.proofs.MadeNodes.{text_added, one_char}
 use Rattle.fancy_expr.specs.Each.{Each}
 use Rattle.fancy_pattern.proofs.OneChars.{no_parts, with_part}
 use Rattle.fancy_pattern.proofs.Rows.{Row, none_read, row_more, BarRow, none_barred, bar_row_more, TextRow, none_text, text_row_more}
-use Rattle.fancy_pattern.specs.Reading.{OneCharEach, point_of, Skips, ReadsTree, ReadsClass, SpellsLast, Quantifies, alone, by, some_of}
+use Rattle.fancy_pattern.specs.Reading.{OneCharEach, point_of, Skips, ReadsTree, ReadsLast, ReadsClass, SpellsLast, Quantifies, alone, by, some_of}
 
 pub skipped : (old new : Reader) → 0 < length old.rest.now → new.rest.now ≡ drop 1 old.rest.now → Skips old new
 skipped old new h rest = let p = front old.rest.now new.rest.now h rest in record { first = p.0; tokens = p.1 }
@@ -125,6 +126,13 @@ literal_pushed old new e c casei is made =
 pub around_spelled : (names : Names) (f : Enclosing) (x z : List Placed) (e r : Tree) → SpellsLast names x z e → r ≡ enclosed f e →
     SpellsOpened names (Around f) x z r
 around_spelled names f x z e r h is = subst (SpellsOpened names (Around f) x z) (sym is) (around h.1 h.2)
+
+-- a plain one
+pub plain_read : (names : Names) (f : Enclosing) (old new : Reader) (r : Result Expr Failure) → f ≡ Plain → ReadsLast names old new r →
+    ReadsTree (SpellsOpened names (Around f)) old new r
+plain_read names f old new (Ok e) is h =
+    around_spelled names f (point_of old) (point_of new) (tree_of e) (tree_of e) h (ap (λ g. enclosed g (tree_of e)) (sym is))
+plain_read names f old new (Err x) is h = tt
 
 pub group_spelled : (names : Names) (number : ℕ) (name : Option (List ℕ)) (x z : List Placed) (e r : Tree) → SpellsLast names x z e → r ≡ tree.Group 0 e →
     SpellsOpened names (Group number name) x z r

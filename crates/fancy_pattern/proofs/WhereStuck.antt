@@ -539,6 +539,11 @@ around_of_last names g x (failure.Fault f) s = behind (stuck_first [] (λ z end.
     part_of x' z w same (around a c) = (_, _, (_, a, c))
 around_of_last names g x failure.Memory s = tt
 
+pub around_fails : (names : Names) (g : Enclosing) (x : List Placed) (r : Result Expr Failure) → IfErr r (Fails names anything (SpellsLast names) x) →
+    IfErr r (FailsOpened names (Around g) x)
+around_fails names g x (Ok e) h = tt
+around_fails names g x (Err e) h = around_of_last names g x e h
+
 pub group_of_last : (names : Names) (number : ℕ) (name : Option (List ℕ)) (x : List Placed) (e : Failure) → Fails names anything (SpellsLast names) x e →
     FailsOpened names (Group number name) x e
 group_of_last names number name x (failure.Fault f) s = behind (stuck_first [] (λ z end. end) part_of (λ x' z u end l. (_, group l.1 l.2)) s)

@@ -1,5 +1,5 @@
 -- The contracts of the reader's calls: what each reads.
-use Rattle.std.specs.Prelude.{◌≡◌, ℕ, Bool, true, false, List, [], ◌∷◌, ◌++◌, map, IfOk, Option, Some, if◌then◌else◌, Vec, Result}
+use Rattle.std.specs.Prelude.{◌≡◌, ℕ, Bool, true, false, List, [], ◌∷◌, ◌++◌, map, IfOk, Option, Some, if◌then◌else◌, Vec, Box, Result}
 use Rattle.std.specs.declared.alloc.Global.{Global}
 use Rattle.fancy_meaning.specs.Tree.{Tree}
 use Rattle.fancy_expr.specs.Each.{Each}
@@ -41,6 +41,10 @@ SpellsLast names x z e = (y : List Placed) × SpellsAlternatives names x y e × 
 
 abbrev pub ReadsLast : Names → Reader → Reader → Result Expr Failure → Type 0
 ReadsLast names old new r = ReadsTree (SpellsLast names) old new r
+
+-- the same, with the tree in a box
+abbrev pub ReadsBoxed : Names → Reader → Reader → Result (Box Expr Global) Failure → Type 0
+ReadsBoxed names old new r = IfOk r (λ b. SpellsLast names (point_of old) (point_of new) (tree_of b.value))
 
 -- the rest of a class was read
 abbrev pub ReadsClass : Bool → Reader → Reader → Result Expr Failure → Type 0

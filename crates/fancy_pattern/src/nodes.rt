@@ -1,13 +1,14 @@
 //! The nodes of the tree that is made.
 
-ghost use Rattle.std.specs.Prelude.{◌≡◌, ◌++◌, ◌∷◌, [], map, reverse, not, filter, false, IfOk, IfErr, IfSome, OnOk, encode_utf8_all, string_bytes, Some, if◌then◌else◌};
+ghost use Rattle.std.specs.Prelude.{◌≡◌, ◌++◌, ◌∷◌, [], map, reverse, not, filter, true, false, IfOk, IfErr, IfSome, OnOk, encode_utf8_all, string_bytes, Some, if◌then◌else◌};
 ghost use Rattle.fancy_meaning.specs.Tree as tree;
 ghost use Rattle.fancy_meaning.specs.Tree.{trees};
-ghost use Rattle.fancy_expr.specs.Views.{tree_of, look_of};
+ghost use Rattle.fancy_expr.specs.Views.{tree_of};
 ghost use Rattle.std.specs.Option.{option_map};
 ghost use Rattle.fancy_pattern.specs.Grammar as grammar;
 ghost use Rattle.fancy_pattern.specs.Naming.{pairs_in};
 ghost use Rattle.fancy_pattern.specs.Grammar.{is_repeatable, lo_of, hi_of, named, unresolved};
+ghost use Rattle.fancy_pattern.specs.declared.tokens.Enclosing.TheVariants.{Plain};
 ghost use Rattle.fancy_pattern.specs.declared.tokens.Naming.TheVariants as naming;
 ghost use Rattle.fancy_expr.specs.Each.{Each};
 ghost use Rattle.fancy_pattern.specs.Reading.{OneCharEach};
@@ -21,7 +22,7 @@ use crate::group_names::GroupNames;
 use crate::kept::Kept;
 use crate::named::text_of;
 use crate::tokens::{Enclosing, Leaf, Naming, Quantifier, Reference, Suffix, Target, Token};
-use fancy_expr::expr::{Absent, AstNode, CaptureGroupTarget, Expr, LookAround};
+use fancy_expr::expr::{Absent, AstNode, CaptureGroupTarget, Expr};
 use std::alloc::{AllocError, Global};
 
 /// The node of an atom without text.
@@ -202,7 +203,7 @@ fn several(alloc: Global, reference: Reference<'_>, groups: &[usize]) -> Result<
 }
 
 /// The node for what names a group; `place` is the byte where it stands.
-pub(crate) fn reference(
+fn reference(
     alloc: Global,
     names: &GroupNames,
     reference: Reference<'_>,
@@ -222,6 +223,23 @@ pub(crate) fn reference(
         Target::Number(group) => Ok(named(reference.naming, reference.level, group)),
         Target::Nowhere => Ok(unresolved(reference.naming, CaptureGroupTarget::Relative(0), place)),
     }
+}
+
+/// The same in a box.
+#[inline(never)]
+pub(crate) fn boxed_reference(
+    alloc: Global,
+    names: &GroupNames,
+    found: Reference<'_>,
+    place: usize,
+) -> Result<Box<Expr>, Failure>
+    ensures made { IfOk result (λ b. Some (tree_of b.value)
+        ≡ grammar.reference (pairs_in names.now.pairs) (reference_of found.entry)) }
+    ensures fails { IfErr result (NoNode
+        (grammar.reference (pairs_in names.now.pairs) (reference_of found.entry))
+        found.entry.left) }
+{
+    Ok(Box::new(alloc, reference(alloc, names, found, place)?)?)
 }
 
 /// Whether a node is nothing.
@@ -289,74 +307,47 @@ pub(crate) fn atomic(alloc: Global, e: Expr) -> Result<Expr, AllocError>
     Ok(Expr::AtomicGroup(Box::new(alloc, e)?))
 }
 
-pub(crate) fn group(alloc: Global, e: Expr) -> Result<Expr, AllocError>
-    ensures made { IfOk result (λ r. tree_of r ≡ tree.Group 0 (tree_of e)) }
-    ensures one_char { OneCharEach e → IfOk result OneCharEach }
+/// Whether this adds no node.
+pub(crate) fn is_plain(enclosing: Enclosing) -> bool
+    ensures { result ≡ true → enclosing ≡ Plain }
 {
-    Ok(Expr::Group(Box::new(alloc, e)?))
-}
-
-pub(crate) fn look_around(alloc: Global, look: LookAround, e: Expr) -> Result<Expr, AllocError>
-    ensures made { IfOk result (λ r. tree_of r ≡ tree.LookAround (look_of look) (tree_of e)) }
-    ensures one_char { OneCharEach e → IfOk result OneCharEach }
-{
-    Ok(Expr::LookAround(Box::new(alloc, e)?, look))
-}
-
-pub(crate) fn stopper(alloc: Global, e: Expr) -> Result<Expr, AllocError>
-    ensures made { IfOk result (λ r. tree_of r ≡ tree.AbsentStopper (tree_of e)) }
-    ensures one_char { OneCharEach e → IfOk result OneCharEach }
-{
-    Ok(Expr::Absent(Absent::Stopper(Box::new(alloc, e)?)))
-}
-
-pub(crate) fn absent_expression(alloc: Global, absent: Expr, exp: Expr) -> Result<Expr, AllocError>
-    ensures made { IfOk result (λ r. tree_of r
-        ≡ tree.AbsentExpression (tree_of absent) (tree_of exp)) }
-    ensures one_char { OneCharEach absent → OneCharEach exp → IfOk result OneCharEach }
-{
-    let absent = Box::new(alloc, absent)?;
-    let exp = Box::new(alloc, exp)?;
-    Ok(Expr::Absent(Absent::Expression { absent, exp }))
+    match enclosing {
+        Enclosing::Plain => true,
+        _ => false,
+    }
 }
 
 /// What stands around a node, as its opening says.
-pub(crate) fn enclosed(alloc: Global, enclosing: Enclosing, e: Expr) -> Result<Expr, AllocError>
-    ensures made { IfOk result (λ r. tree_of r ≡ grammar.enclosed enclosing (tree_of e)) }
-    ensures one_char { OneCharEach e → IfOk result OneCharEach }
+pub(crate) fn enclosed(enclosing: Enclosing, e: Box<Expr>) -> Expr
+    ensures made { tree_of result ≡ grammar.enclosed enclosing (tree_of e.value) }
+    ensures one_char { OneCharEach e.value → OneCharEach result }
 {
     match enclosing {
-        Enclosing::Plain => Ok(e),
-        Enclosing::Atomic => atomic(alloc, e),
-        Enclosing::Define => Ok(Expr::DefineGroup {
-            definitions: Box::new(alloc, e)?,
-        }),
-        Enclosing::Look(look) => look_around(alloc, look, e),
-        Enclosing::AbsentRepeater => Ok(Expr::Absent(Absent::Repeater(Box::new(alloc, e)?))),
+        Enclosing::Plain => Box::into_inner(e),
+        Enclosing::Atomic => Expr::AtomicGroup(e),
+        Enclosing::Define => Expr::DefineGroup { definitions: e },
+        Enclosing::Look(look) => Expr::LookAround(e, look),
+        Enclosing::AbsentRepeater => Expr::Absent(Absent::Repeater(e)),
     }
 }
 
 pub(crate) fn conditional(
-    alloc: Global,
-    condition: Expr,
-    true_branch: Expr,
-    false_branch: Expr,
-) -> Result<Expr, AllocError>
-    ensures made { IfOk result (λ r. tree_of r
-        ≡ tree.Conditional (tree_of condition) (tree_of true_branch) (tree_of false_branch)) }
-    ensures one_char { OneCharEach condition
-        → OneCharEach true_branch
-        → OneCharEach false_branch
-        → IfOk result OneCharEach }
+    condition: Box<Expr>,
+    true_branch: Box<Expr>,
+    false_branch: Box<Expr>,
+) -> Expr
+    ensures made { tree_of result ≡ tree.Conditional (tree_of condition.value)
+        (tree_of true_branch.value) (tree_of false_branch.value) }
+    ensures one_char { OneCharEach condition.value
+        → OneCharEach true_branch.value
+        → OneCharEach false_branch.value
+        → OneCharEach result }
 {
-    let condition = Box::new(alloc, condition)?;
-    let true_branch = Box::new(alloc, true_branch)?;
-    let false_branch = Box::new(alloc, false_branch)?;
-    Ok(Expr::Conditional {
+    Expr::Conditional {
         condition,
         true_branch,
         false_branch,
-    })
+    }
 }
 
 /// No piece is nothing, one is itself, more are a sequence.

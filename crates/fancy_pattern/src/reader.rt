@@ -9,9 +9,9 @@ ghost use Rattle.fancy_pattern.specs.Faults.{Tells};
 ghost use Rattle.fancy_pattern.specs.Stuck.{is_end, is_calm, anything, Fails, FailsOpened, IsMisfit};
 ghost use Rattle.fancy_pattern.specs.Naming.{pairs_in};
 ghost use Rattle.fancy_pattern.specs.PatternViews.{kept_of, token_of, opening_of, reference_of, piece_text};
-ghost use Rattle.fancy_pattern.specs.Reading.{OneCharEach, point_of, next_token, Skips, ReadsTree, ReadsLast, SpellsLast, ReadsClass, ReadsBars, Quantifies, some_of};
+ghost use Rattle.fancy_pattern.specs.Reading.{OneCharEach, point_of, next_token, Skips, ReadsTree, ReadsLast, ReadsBoxed, SpellsLast, ReadsClass, ReadsBars, Quantifies, some_of};
 ghost use Rattle.fancy_meaning.specs.Tree.{Literal};
-ghost use Rattle.fancy_pattern.specs.Tokens.{AbsentBar, If, Node};
+ghost use Rattle.fancy_pattern.specs.Tokens.{AbsentBar, Around, If, Node};
 ghost use Rattle.fancy_pattern.specs.declared.failure.Failure.TheVariants.{Memory};
 
 use crate::class_text::push_piece;
@@ -20,11 +20,11 @@ use crate::failure::Failure;
 use crate::group_names::GroupNames;
 use crate::kept::{Kept, Placed};
 use crate::nodes::{
-    absent_expression, alternated, conditional, enclosed, group, is_empty, is_repeatable, joined,
-    literal, look_around, node, reference, stopper, suffixed,
+    alternated, boxed_reference, conditional, enclosed, is_empty, is_plain, is_repeatable, joined,
+    literal, node, suffixed,
 };
-use crate::tokens::{ClassPiece, Leaf, Opening, Quantifier, Reference, Suffix, Token};
-use fancy_expr::expr::Expr;
+use crate::tokens::{ClassPiece, Enclosing, Leaf, Opening, Quantifier, Reference, Suffix, Token};
+use fancy_expr::expr::{Absent, Expr};
 use std::alloc::Global;
 
 /// What is left to read.
@@ -423,6 +423,21 @@ impl<'r, 'a> Reader<'r, 'a> {
         Ok(joined(pieces))
     }
 
+    /// The same, in a box.
+    #[cycle(reading)]
+    fn read_boxed_branch(&mut self, names: &GroupNames) -> Result<Box<Expr>, Failure>
+        ensures spells { IfOk result (λ b. SpellsBranch (pairs_in names.now.pairs)
+            (point_of self.old) (point_of self.new) (tree_of b.value)) }
+        ensures fails { IfErr result (Fails (pairs_in names.now.pairs) anything
+            (SpellsBranch (pairs_in names.now.pairs)) (point_of self.old)) }
+        ensures one_char { IfOk result (λ b. OneCharEach b.value) }
+        ensures shorter { IfOk result (λ e. length self.new.rest.now
+            ≤ length self.old.rest.now) }
+    {
+        let branch = self.read_branch(names)?;
+        Ok(Box::new(self.alloc, branch)?)
+    }
+
     /// An atom, and its quantifier where it has one.
     #[cycle(reading)]
     fn read_piece(&mut self, names: &GroupNames) -> Result<Expr, Failure>
@@ -666,26 +681,40 @@ impl<'r, 'a> Reader<'r, 'a> {
             ≤ length self.old.rest.now) }
     {
         match opening {
-            Opening::Enclosing(enclosing) => {
-                let body = self.read_last(names)?;
-                Ok(enclosed(self.alloc, enclosing, body)?)
-            }
-            Opening::Group { .. } => {
-                let body = self.read_last(names)?;
-                Ok(group(self.alloc, body)?)
-            }
+            Opening::Enclosing(enclosing) => self.read_enclosed(names, enclosing),
+            Opening::Group { .. } => Ok(Expr::Group(self.read_boxed(names)?)),
             Opening::AbsentBar => self.read_absent(names),
             Opening::If(found) => self.read_if(names, found, place),
             Opening::IfPattern => {
-                let condition = self.read_last(names)?;
+                let condition = self.read_boxed(names)?;
                 self.read_bodies(names, condition)
             }
             Opening::IfLook(look) => {
-                let body = self.read_last(names)?;
-                let condition = look_around(self.alloc, look, body)?;
+                let body = self.read_boxed(names)?;
+                let condition = Box::new(self.alloc, Expr::LookAround(body, look))?;
                 self.read_bodies(names, condition)
             }
         }
+    }
+
+    /// The rest of a group that captures nothing.
+    #[cycle(reading)]
+    fn read_enclosed(&mut self, names: &GroupNames, enclosing: Enclosing) -> Result<Expr, Failure>
+        ensures spells { ReadsTree
+            (SpellsOpened (pairs_in names.now.pairs) (Around enclosing))
+            self.old self.new result }
+        ensures fails { IfErr result (FailsOpened (pairs_in names.now.pairs)
+            (Around enclosing) (point_of self.old)) }
+        ensures one_char { IfOk result OneCharEach }
+        ensures shorter { IfOk result (λ e. length self.new.rest.now
+            ≤ length self.old.rest.now) }
+    {
+        // a plain group adds no node, so its body needs no box
+        if is_plain(enclosing) {
+            return self.read_last(names);
+        }
+        let body = self.read_boxed(names)?;
+        Ok(enclosed(enclosing, body))
     }
 
     /// Alternatives, and the closing parenthesis behind them.
@@ -703,7 +732,22 @@ impl<'r, 'a> Reader<'r, 'a> {
         Ok(body)
     }
 
+    /// The same, in a box.
+    #[cycle(reading)]
+    fn read_boxed(&mut self, names: &GroupNames) -> Result<Box<Expr>, Failure>
+        ensures spells { ReadsBoxed (pairs_in names.now.pairs) self.old self.new result }
+        ensures fails { IfErr result (Fails (pairs_in names.now.pairs) anything
+            (SpellsLast (pairs_in names.now.pairs)) (point_of self.old)) }
+        ensures one_char { IfOk result (λ b. OneCharEach b.value) }
+        ensures shorter { IfOk result (λ e. length self.new.rest.now
+            ≤ length self.old.rest.now) }
+    {
+        let body = self.read_last(names)?;
+        Ok(Box::new(self.alloc, body)?)
+    }
+
     /// What follows `(?~|`.
+    #[inline(never)]
     #[cycle(reading)]
     fn read_absent(&mut self, names: &GroupNames) -> Result<Expr, Failure>
         ensures spells { ReadsTree (SpellsOpened (pairs_in names.now.pairs) AbsentBar)
@@ -714,17 +758,18 @@ impl<'r, 'a> Reader<'r, 'a> {
         ensures shorter { IfOk result (λ e. length self.new.rest.now
             ≤ length self.old.rest.now) }
     {
-        let absent = self.read_branch(names)?;
+        let absent = self.read_boxed_branch(names)?;
         if self.is_at_bar() {
             self.skip();
-            let exp = self.read_last(names)?;
-            return Ok(absent_expression(self.alloc, absent, exp)?);
+            let exp = self.read_boxed(names)?;
+            return Ok(Expr::Absent(Absent::Expression { absent, exp }));
         }
         self.read_close()?;
-        Ok(stopper(self.alloc, absent)?)
+        Ok(Expr::Absent(Absent::Stopper(absent)))
     }
 
     /// A conditional that asks for a group; without branches the condition alone.
+    #[inline(never)]
     #[cycle(reading)]
     fn read_if(
         &mut self,
@@ -741,34 +786,36 @@ impl<'r, 'a> Reader<'r, 'a> {
         ensures shorter { IfOk result (λ e. length self.new.rest.now
             ≤ length self.old.rest.now) }
     {
-        let condition = reference(self.alloc, names, found, place)?;
+        let condition = boxed_reference(self.alloc, names, found, place)?;
         if self.is_at_close() {
             self.skip();
-            return Ok(condition);
+            return Ok(Box::into_inner(condition));
         }
         self.read_bodies(names, condition)
     }
 
     /// The branches of a conditional, up to its closing parenthesis.
     #[cycle(reading)]
-    fn read_bodies(&mut self, names: &GroupNames, condition: Expr) -> Result<Expr, Failure>
+    fn read_bodies(&mut self, names: &GroupNames, condition: Box<Expr>) -> Result<Expr, Failure>
         ensures spells { ReadsTree
-            (SpellsBodies (pairs_in names.now.pairs) (tree_of condition))
+            (SpellsBodies (pairs_in names.now.pairs) (tree_of condition.value))
             self.old self.new result }
         ensures fails { IfErr result (Fails (pairs_in names.now.pairs) anything
-            (SpellsBodies (pairs_in names.now.pairs) (tree_of condition)) (point_of self.old)) }
-        ensures one_char { OneCharEach condition → IfOk result OneCharEach }
+            (SpellsBodies (pairs_in names.now.pairs) (tree_of condition.value))
+            (point_of self.old)) }
+        ensures one_char { OneCharEach condition.value → IfOk result OneCharEach }
         ensures shorter { IfOk result (λ e. length self.new.rest.now
             ≤ length self.old.rest.now) }
     {
-        let true_branch = self.read_branch(names)?;
+        let true_branch = self.read_boxed_branch(names)?;
         if self.is_at_bar() {
             self.skip();
-            let false_branch = self.read_last(names)?;
-            return Ok(conditional(self.alloc, condition, true_branch, false_branch)?);
+            let false_branch = self.read_boxed(names)?;
+            return Ok(conditional(condition, true_branch, false_branch));
         }
         self.read_close()?;
-        Ok(conditional(self.alloc, condition, true_branch, Expr::Empty)?)
+        let false_branch = Box::new(self.alloc, Expr::Empty)?;
+        Ok(conditional(condition, true_branch, false_branch))
     }
 }
 

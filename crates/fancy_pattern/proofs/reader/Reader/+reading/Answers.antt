@@ -1,11 +1,12 @@
-use Rattle.std.proofs.Common.{[], sym, map, ap, option_map, ◌∙◌, subst, arith}
+use Rattle.std.proofs.Common.{[], Some, refl, sym, map, ap, option_map, ◌∙◌, subst, arith}
 use Rattle.std.proofs.lemmas.Result.{err_from_is_err_and}
+use Rattle.fancy_meaning.specs.Tree as tree
 use Rattle.fancy_meaning.specs.Tree.{Literal}
 use Rattle.fancy_expr.specs.Views.{tree_of, look_of}
 use Rattle.fancy_pattern.specs.Grammar.{bar, closing, opening, class_open, SpellsAtom, SpellsOpened, asked, no_bar, branch, no_piece, branches, node, node_of}
 use Rattle.fancy_pattern.specs.Naming.{pairs_in}
 use Rattle.fancy_pattern.specs.PatternViews.{opening_of, reference_of}
-use Rattle.fancy_pattern.specs.Reading.{point_of, ReadsTree}
+use Rattle.fancy_pattern.specs.Reading.{point_of, OneCharEach, ReadsTree}
 use Rattle.fancy_pattern.specs.Tokens.{Around, Group, IfPattern, IfLook}
 use Rattle.fancy_pattern.proofs.OneChars.{no_parts, one_part, with_part, reference_chars}
 use Rattle.fancy_pattern.proofs.Points as points
@@ -17,15 +18,15 @@ use Rattle.fancy_pattern.proofs.reader.Reader.+reading.Goals as goal
 
 pub read_absent-returns-then-is_at_bar-clause-spells : goal.read_absent-returns-then-is_at_bar-clause-spells
 read_absent-returns-then-is_at_bar-clause-spells t c =
-    points.expression_spelled (pairs_in c.args.names.now.pairs) (point_of c.args.self.now) (point_of c.read_branch.new.self) (point_of c.skip.new.self)
-    (point_of c.read_last.new.self) (tree_of c.in_ok-absent.absent) (tree_of c.in_ok-exp.exp) _ c.in_ok-absent.ensures.spells
-    (points.takes_at bar c.read_branch.new.self c.skip.new.self (sym c.is_at_bar.ensures.value ∙ c.if-is_at_bar.true) c.skip.ensures.skips)
-    c.in_ok-exp.ensures.spells c.in_ok-absent_expression.ensures.made
+    points.expression_spelled (pairs_in c.args.names.now.pairs) (point_of c.args.self.now) (point_of c.read_boxed_branch.new.self) (point_of c.skip.new.self)
+    (point_of c.read_boxed.new.self) (tree_of c.in_ok-absent.absent.value) (tree_of c.in_ok-exp.exp.value) _ c.in_ok-absent.ensures.spells
+    (points.takes_at bar c.read_boxed_branch.new.self c.skip.new.self (sym c.is_at_bar.ensures.value ∙ c.if-is_at_bar.true) c.skip.ensures.skips)
+    c.in_ok-exp.ensures.spells refl
 
 pub read_absent-returns-clause-spells : goal.read_absent-returns-clause-spells
 read_absent-returns-clause-spells t c =
-    points.stopper_spelled (pairs_in c.args.names.now.pairs) (point_of c.args.self.now) (point_of c.read_branch.new.self) (point_of c.read_close.new.self)
-    (tree_of c.in_ok-absent.absent) _ c.in_ok-absent.ensures.spells c.in_ok-read_close.ensures.takes c.in_ok-stopper.ensures.made
+    points.stopper_spelled (pairs_in c.args.names.now.pairs) (point_of c.args.self.now) (point_of c.read_boxed_branch.new.self) (point_of c.read_close.new.self)
+    (tree_of c.in_ok-absent.absent.value) _ c.in_ok-absent.ensures.spells c.in_ok-read_close.ensures.takes refl
 
 -- ---- alternatives
 
@@ -141,53 +142,45 @@ read_atom-returns-clause-spells t c =
 
 pub read_bodies-returns-then-is_at_bar-clause-spells : goal.read_bodies-returns-then-is_at_bar-clause-spells
 read_bodies-returns-then-is_at_bar-clause-spells t c =
-    points.two_bodies_spelled (pairs_in c.args.names.now.pairs) (tree_of c.args.condition) (point_of c.args.self.now) (point_of c.read_branch.new.self)
-    (point_of c.skip.new.self) (point_of c.read_last.new.self) (tree_of c.in_ok-true_branch.true_branch) (tree_of c.in_ok-false_branch.false_branch) _
+    points.two_bodies_spelled (pairs_in c.args.names.now.pairs) (tree_of c.args.condition.value) (point_of c.args.self.now) (point_of c.read_boxed_branch.new.self)
+    (point_of c.skip.new.self) (point_of c.read_boxed.new.self) (tree_of c.in_ok-true_branch.true_branch.value) (tree_of c.in_ok-false_branch.false_branch.value) _
     c.in_ok-true_branch.ensures.spells
-    (points.takes_at bar c.read_branch.new.self c.skip.new.self (sym c.is_at_bar.ensures.value ∙ c.if-is_at_bar.true) c.skip.ensures.skips)
-    c.in_ok-false_branch.ensures.spells c.in_ok-conditional.ensures.made
+    (points.takes_at bar c.read_boxed_branch.new.self c.skip.new.self (sym c.is_at_bar.ensures.value ∙ c.if-is_at_bar.true) c.skip.ensures.skips)
+    c.in_ok-false_branch.ensures.spells c.conditional.ensures.made
 
 pub read_bodies-returns-clause-spells : goal.read_bodies-returns-clause-spells
 read_bodies-returns-clause-spells t c =
-    points.one_body_spelled (pairs_in c.args.names.now.pairs) (tree_of c.args.condition) (point_of c.args.self.now) (point_of c.read_branch.new.self)
-    (point_of c.read_close.new.self) (tree_of c.in_ok-true_branch.true_branch) _ c.in_ok-true_branch.ensures.spells c.in_ok-read_close.ensures.takes
-    c.in_ok-conditional-2.ensures.made
+    points.one_body_spelled (pairs_in c.args.names.now.pairs) (tree_of c.args.condition.value) (point_of c.args.self.now) (point_of c.read_boxed_branch.new.self)
+    (point_of c.read_close.new.self) (tree_of c.in_ok-true_branch.true_branch.value) _ c.in_ok-true_branch.ensures.spells c.in_ok-read_close.ensures.takes
+    (c.conditional-2.ensures.made ∙ ap (λ b. tree.Conditional (tree_of c.args.condition.value) (tree_of c.in_ok-true_branch.true_branch.value) (tree_of b)) c.in_ok-false_branch-2.ensures.ok)
 
 pub read_if-returns-then-is_at_close-clause-spells : goal.read_if-returns-then-is_at_close-clause-spells
 read_if-returns-then-is_at_close-clause-spells t c =
-    asked (sym c.in_ok-condition.ensures.made)
+    asked (sym c.in_ok-condition.ensures.made ∙ ap (λ e. Some (tree_of e)) (sym c.into_inner.ensures))
     (points.takes_at closing c.args.self.now c.skip.new.self (sym c.is_at_close.ensures.value ∙ c.if-is_at_close.true) c.skip.ensures.skips)
 
 pub read_if-returns-clause-spells : goal.read_if-returns-clause-spells
 read_if-returns-clause-spells t c =
-    points.if_group_read (pairs_in c.args.names.now.pairs) (reference_of c.args.found) (tree_of c.in_ok-condition.condition) c.args.self.now
+    points.if_group_read (pairs_in c.args.names.now.pairs) (reference_of c.args.found) (tree_of c.in_ok-condition.condition.value) c.args.self.now
     c.read_bodies.new.self c.read_bodies.result c.in_ok-condition.ensures.made (sym c.if-is_at_close.false ∙ c.is_at_close.ensures.value)
     c.read_bodies.ensures.spells
 
 -- ---- groups
 
-pub read_opened-returns-in_ok-enclosed-in-Enclosing-clause-spells : goal.read_opened-returns-in_ok-enclosed-in-Enclosing-clause-spells
-read_opened-returns-in_ok-enclosed-in-Enclosing-clause-spells t c =
-    subst (λ o. SpellsOpened (pairs_in c.args.names.now.pairs) (opening_of o) (point_of c.args.self.now) (point_of c.read_last.new.self)
-    (tree_of c.in_ok-enclosed-in-Enclosing.field-0))
-    (sym c.in-Enclosing.is)
-    (points.around_spelled (pairs_in c.args.names.now.pairs) c.in-Enclosing.enclosing (point_of c.args.self.now) (point_of c.read_last.new.self)
-    (tree_of c.in_ok-body-in-Enclosing.body) _ c.in_ok-body-in-Enclosing.ensures.spells c.in_ok-enclosed-in-Enclosing.ensures.made)
-
-pub read_opened-returns-in_ok-group-in-Group-clause-spells : goal.read_opened-returns-in_ok-group-in-Group-clause-spells
-read_opened-returns-in_ok-group-in-Group-clause-spells t c =
-    subst (λ o. SpellsOpened (pairs_in c.args.names.now.pairs) (opening_of o) (point_of c.args.self.now) (point_of c.read_last-in-Group.new.self)
-    (tree_of c.in_ok-group-in-Group.field-0))
+pub read_opened-returns-in_ok-read_boxed-in-Group-clause-spells : goal.read_opened-returns-in_ok-read_boxed-in-Group-clause-spells
+read_opened-returns-in_ok-read_boxed-in-Group-clause-spells t c =
+    subst (λ o. SpellsOpened (pairs_in c.args.names.now.pairs) (opening_of o) (point_of c.args.self.now) (point_of c.read_boxed.new.self)
+    (tree.Group 0 (tree_of c.in_ok-read_boxed-in-Group.field-0.value)))
     (sym c.in-Group.is)
     (points.group_spelled (pairs_in c.args.names.now.pairs) c.in-Group.number (option_map (λ n. n.now) c.in-Group.name) (point_of c.args.self.now)
-    (point_of c.read_last-in-Group.new.self) (tree_of c.in_ok-body-in-Group.body) _ c.in_ok-body-in-Group.ensures.spells c.in_ok-group-in-Group.ensures.made)
+    (point_of c.read_boxed.new.self) (tree_of c.in_ok-read_boxed-in-Group.field-0.value) _ c.in_ok-read_boxed-in-Group.ensures.spells refl)
 
 pub read_opened-returns-in_ok-condition-in-IfPattern-clause-spells : goal.read_opened-returns-in_ok-condition-in-IfPattern-clause-spells
 read_opened-returns-in_ok-condition-in-IfPattern-clause-spells t c =
     subst (λ o. ReadsTree (SpellsOpened (pairs_in c.args.names.now.pairs) (opening_of o)) c.args.self.now c.read_bodies.new.self c.read_bodies.result)
     (sym c.in-IfPattern.is)
-    (points.if_pattern_read (pairs_in c.args.names.now.pairs) (tree_of c.in_ok-condition-in-IfPattern.condition) c.args.self.now
-    c.read_last-in-IfPattern.new.self c.read_bodies.new.self c.read_bodies.result c.in_ok-condition-in-IfPattern.ensures.spells
+    (points.if_pattern_read (pairs_in c.args.names.now.pairs) (tree_of c.in_ok-condition-in-IfPattern.condition.value) c.args.self.now
+    c.read_boxed-in-IfPattern.new.self c.read_bodies.new.self c.read_bodies.result c.in_ok-condition-in-IfPattern.ensures.spells
     c.read_bodies.ensures.spells)
 
 pub read_opened-returns-in_ok-condition-in-IfLook-clause-spells : goal.read_opened-returns-in_ok-condition-in-IfLook-clause-spells
@@ -195,11 +188,30 @@ read_opened-returns-in_ok-condition-in-IfLook-clause-spells t c =
     subst (λ o. ReadsTree (SpellsOpened (pairs_in c.args.names.now.pairs) (opening_of o)) c.args.self.now c.read_bodies-in-IfLook.new.self
     c.read_bodies-in-IfLook.result)
     (sym c.in-IfLook.is)
-    (points.if_look_read (pairs_in c.args.names.now.pairs) (look_of c.in-IfLook.look) (tree_of c.in_ok-body-in-IfLook.body)
-    (tree_of c.in_ok-condition-in-IfLook.condition) c.args.self.now c.read_last-in-IfLook.new.self c.read_bodies-in-IfLook.new.self
-    c.read_bodies-in-IfLook.result c.in_ok-body-in-IfLook.ensures.spells c.in_ok-condition-in-IfLook.ensures.made c.read_bodies-in-IfLook.ensures.spells)
+    (points.if_look_read (pairs_in c.args.names.now.pairs) (look_of c.in-IfLook.look) (tree_of c.in_ok-body-in-IfLook.body.value)
+    (tree_of c.in_ok-condition-in-IfLook.condition.value) c.args.self.now c.read_boxed-in-IfLook.new.self c.read_bodies-in-IfLook.new.self
+    c.read_bodies-in-IfLook.result c.in_ok-body-in-IfLook.ensures.spells (ap tree_of c.in_ok-condition-in-IfLook.ensures.ok) c.read_bodies-in-IfLook.ensures.spells)
+
+pub read_enclosed-returns-then-is_plain-clause-spells : goal.read_enclosed-returns-then-is_plain-clause-spells
+read_enclosed-returns-then-is_plain-clause-spells t c =
+    points.plain_read (pairs_in c.args.names.now.pairs) c.args.enclosing c.args.self.now c.read_last.new.self c.read_last.result
+    (c.is_plain.ensures c.if-is_plain.true) c.read_last.ensures.spells
+
+pub read_enclosed-returns-clause-spells : goal.read_enclosed-returns-clause-spells
+read_enclosed-returns-clause-spells t c =
+    points.around_spelled (pairs_in c.args.names.now.pairs) c.args.enclosing (point_of c.args.self.now) (point_of c.read_boxed.new.self)
+    (tree_of c.in_ok-body.body.value) _ c.in_ok-body.ensures.spells c.enclosed.ensures.made
 
 -- ---- where they fail
+
+pub read_enclosed-returns-then-is_plain-clause-fails : goal.read_enclosed-returns-then-is_plain-clause-fails
+read_enclosed-returns-then-is_plain-clause-fails t c =
+    stuck.around_fails (pairs_in c.args.names.now.pairs) c.args.enclosing (point_of c.args.self.now) c.read_last.result c.read_last.ensures.fails
+
+pub read_enclosed-returns-in_err-body-clause-fails : goal.read_enclosed-returns-in_err-body-clause-fails
+read_enclosed-returns-in_err-body-clause-fails t c =
+    let p = err_from_is_err_and c.from_residual.result c.from_residual.ensures.1 in
+    rw (p.1, p.2) (stuck.around_of_last (pairs_in c.args.names.now.pairs) c.args.enclosing (point_of c.args.self.now) _ c.in_err-body.ensures.fails)
 
 pub read_absent-returns-in_err-absent-clause-fails : goal.read_absent-returns-in_err-absent-clause-fails
 read_absent-returns-in_err-absent-clause-fails t c =
@@ -209,17 +221,17 @@ read_absent-returns-in_err-absent-clause-fails t c =
 pub read_absent-returns-in_err-exp-clause-fails : goal.read_absent-returns-in_err-exp-clause-fails
 read_absent-returns-in_err-exp-clause-fails t c =
     let p = err_from_is_err_and c.from_residual-in_err-exp.result c.from_residual-in_err-exp.ensures.1 in
-    rw (p.1, p.2) (stuck.absent_of_last (pairs_in c.args.names.now.pairs) (point_of c.args.self.now) (point_of c.read_branch.new.self)
-    (point_of c.skip.new.self) (tree_of c.in_ok-absent.absent) _
+    rw (p.1, p.2) (stuck.absent_of_last (pairs_in c.args.names.now.pairs) (point_of c.args.self.now) (point_of c.read_boxed_branch.new.self)
+    (point_of c.skip.new.self) (tree_of c.in_ok-absent.absent.value) _
     c.in_ok-absent.ensures.spells
-    (points.takes_at bar c.read_branch.new.self c.skip.new.self (sym c.is_at_bar.ensures.value ∙ c.if-is_at_bar.true) c.skip.ensures.skips)
+    (points.takes_at bar c.read_boxed_branch.new.self c.skip.new.self (sym c.is_at_bar.ensures.value ∙ c.if-is_at_bar.true) c.skip.ensures.skips)
     c.in_err-exp.ensures.fails)
 
 pub read_absent-returns-in_err-read_close-clause-fails : goal.read_absent-returns-in_err-read_close-clause-fails
 read_absent-returns-in_err-read_close-clause-fails t c =
     let p = err_from_is_err_and c.from_residual-in_err-read_close.result c.from_residual-in_err-read_close.ensures.1 in
-    rw (p.1, p.2) (stuck.absent_of_close (pairs_in c.args.names.now.pairs) (point_of c.args.self.now) (point_of c.read_branch.new.self)
-    (tree_of c.in_ok-absent.absent) _ c.in_ok-absent.ensures.spells
+    rw (p.1, p.2) (stuck.absent_of_close (pairs_in c.args.names.now.pairs) (point_of c.args.self.now) (point_of c.read_boxed_branch.new.self)
+    (tree_of c.in_ok-absent.absent.value) _ c.in_ok-absent.ensures.spells
     (sym c.is_at_bar.ensures.value ∙ c.if-is_at_bar.false) c.in_err-read_close.ensures.fails.0 c.in_err-read_close.ensures.fails.1)
 
 pub read_alternatives-returns-in_err-first-clause-fails : goal.read_alternatives-returns-in_err-first-clause-fails
@@ -267,24 +279,24 @@ read_bars-returns-in_err-read_branch-clause-fails t c =
 pub read_bodies-returns-in_err-true_branch-clause-fails : goal.read_bodies-returns-in_err-true_branch-clause-fails
 read_bodies-returns-in_err-true_branch-clause-fails t c =
     let p = err_from_is_err_and c.from_residual.result c.from_residual.ensures.1 in
-    rw (p.1, p.2) (stuck.bodies_of_branch (pairs_in c.args.names.now.pairs) (tree_of c.args.condition)
+    rw (p.1, p.2) (stuck.bodies_of_branch (pairs_in c.args.names.now.pairs) (tree_of c.args.condition.value)
     (point_of c.args.self.now) _ c.in_err-true_branch.ensures.fails)
 
 pub read_bodies-returns-in_err-false_branch-clause-fails : goal.read_bodies-returns-in_err-false_branch-clause-fails
 read_bodies-returns-in_err-false_branch-clause-fails t c =
     let p = err_from_is_err_and c.from_residual-in_err-false_branch.result c.from_residual-in_err-false_branch.ensures.1 in
-    rw (p.1, p.2) (stuck.bodies_of_last (pairs_in c.args.names.now.pairs) (tree_of c.args.condition) (point_of c.args.self.now)
-    (point_of c.read_branch.new.self) (point_of c.skip.new.self)
-    (tree_of c.in_ok-true_branch.true_branch) _ c.in_ok-true_branch.ensures.spells
-    (points.takes_at bar c.read_branch.new.self c.skip.new.self (sym c.is_at_bar.ensures.value ∙ c.if-is_at_bar.true) c.skip.ensures.skips)
+    rw (p.1, p.2) (stuck.bodies_of_last (pairs_in c.args.names.now.pairs) (tree_of c.args.condition.value) (point_of c.args.self.now)
+    (point_of c.read_boxed_branch.new.self) (point_of c.skip.new.self)
+    (tree_of c.in_ok-true_branch.true_branch.value) _ c.in_ok-true_branch.ensures.spells
+    (points.takes_at bar c.read_boxed_branch.new.self c.skip.new.self (sym c.is_at_bar.ensures.value ∙ c.if-is_at_bar.true) c.skip.ensures.skips)
     c.in_err-false_branch.ensures.fails)
 
 pub read_bodies-returns-in_err-read_close-clause-fails : goal.read_bodies-returns-in_err-read_close-clause-fails
 read_bodies-returns-in_err-read_close-clause-fails t c =
     let p = err_from_is_err_and c.from_residual-in_err-read_close.result c.from_residual-in_err-read_close.ensures.1 in
-    rw (p.1, p.2) (stuck.bodies_of_close (pairs_in c.args.names.now.pairs) (tree_of c.args.condition) (point_of c.args.self.now)
-    (point_of c.read_branch.new.self)
-    (tree_of c.in_ok-true_branch.true_branch) _ c.in_ok-true_branch.ensures.spells
+    rw (p.1, p.2) (stuck.bodies_of_close (pairs_in c.args.names.now.pairs) (tree_of c.args.condition.value) (point_of c.args.self.now)
+    (point_of c.read_boxed_branch.new.self)
+    (tree_of c.in_ok-true_branch.true_branch.value) _ c.in_ok-true_branch.ensures.spells
     (sym c.is_at_bar.ensures.value ∙ c.if-is_at_bar.false) c.in_err-read_close.ensures.fails.0 c.in_err-read_close.ensures.fails.1)
 
 pub read_branch-returns-in_err-first-clause-fails : goal.read_branch-returns-in_err-first-clause-fails
@@ -309,7 +321,7 @@ read_if-returns-in_err-condition-clause-fails t c =
 
 pub read_if-returns-clause-fails : goal.read_if-returns-clause-fails
 read_if-returns-clause-fails t c =
-    stuck.if_fails (pairs_in c.args.names.now.pairs) (reference_of c.args.found) (tree_of c.in_ok-condition.condition)
+    stuck.if_fails (pairs_in c.args.names.now.pairs) (reference_of c.args.found) (tree_of c.in_ok-condition.condition.value)
     (point_of c.args.self.now) c.read_bodies.result
     c.in_ok-condition.ensures.made (sym c.if-is_at_close.false ∙ c.is_at_close.ensures.value) c.read_bodies.ensures.fails
 
@@ -325,20 +337,13 @@ read_last-returns-in_err-read_close-clause-fails t c =
     (tree_of c.in_ok-body.body) _ c.in_ok-body.ensures.spells
     c.in_err-read_close.ensures.fails.0 c.in_err-read_close.ensures.fails.1)
 
-pub read_opened-returns-in_err-body-in-Enclosing-clause-fails : goal.read_opened-returns-in_err-body-in-Enclosing-clause-fails
-read_opened-returns-in_err-body-in-Enclosing-clause-fails t c =
+pub read_opened-returns-in_err-read_boxed-in-Group-clause-fails : goal.read_opened-returns-in_err-read_boxed-in-Group-clause-fails
+read_opened-returns-in_err-read_boxed-in-Group-clause-fails t c =
     let p = err_from_is_err_and c.from_residual.result c.from_residual.ensures.1 in
-    rw (p.1, p.2) (stuck.of_form (pairs_in c.args.names.now.pairs) (opening_of c.args.opening) (Around c.in-Enclosing.enclosing) (point_of c.args.self.now) _
-    (ap opening_of c.in-Enclosing.is)
-    (stuck.around_of_last (pairs_in c.args.names.now.pairs) c.in-Enclosing.enclosing (point_of c.args.self.now) _ c.in_err-body-in-Enclosing.ensures.fails))
-
-pub read_opened-returns-in_err-body-in-Group-clause-fails : goal.read_opened-returns-in_err-body-in-Group-clause-fails
-read_opened-returns-in_err-body-in-Group-clause-fails t c =
-    let p = err_from_is_err_and c.from_residual-in_err-body-in-Group.result c.from_residual-in_err-body-in-Group.ensures.1 in
     rw (p.1, p.2) (stuck.of_form (pairs_in c.args.names.now.pairs) (opening_of c.args.opening) (Group c.in-Group.number (option_map
     (λ n. n.now) c.in-Group.name)) (point_of c.args.self.now) _ (ap opening_of c.in-Group.is)
     (stuck.group_of_last (pairs_in c.args.names.now.pairs) c.in-Group.number (option_map (λ n. n.now) c.in-Group.name)
-    (point_of c.args.self.now) _ c.in_err-body-in-Group.ensures.fails))
+    (point_of c.args.self.now) _ c.in_err-read_boxed-in-Group.ensures.fails))
 
 pub read_opened-returns-in_err-condition-in-IfPattern-clause-fails : goal.read_opened-returns-in_err-condition-in-IfPattern-clause-fails
 read_opened-returns-in_err-condition-in-IfPattern-clause-fails t c =
@@ -356,16 +361,16 @@ read_opened-returns-in_err-body-in-IfLook-clause-fails t c =
 
 pub read_opened-returns-in_ok-condition-in-IfPattern-clause-fails : goal.read_opened-returns-in_ok-condition-in-IfPattern-clause-fails
 read_opened-returns-in_ok-condition-in-IfPattern-clause-fails t c =
-    stuck.pattern_fails (pairs_in c.args.names.now.pairs) (tree_of c.in_ok-condition-in-IfPattern.condition) (point_of c.args.self.now)
-    (point_of c.read_last-in-IfPattern.new.self) (opening_of c.args.opening) c.read_bodies.result (ap opening_of c.in-IfPattern.is)
+    stuck.pattern_fails (pairs_in c.args.names.now.pairs) (tree_of c.in_ok-condition-in-IfPattern.condition.value) (point_of c.args.self.now)
+    (point_of c.read_boxed-in-IfPattern.new.self) (opening_of c.args.opening) c.read_bodies.result (ap opening_of c.in-IfPattern.is)
     c.in_ok-condition-in-IfPattern.ensures.spells c.read_bodies.ensures.fails
 
 pub read_opened-returns-in_ok-condition-in-IfLook-clause-fails : goal.read_opened-returns-in_ok-condition-in-IfLook-clause-fails
 read_opened-returns-in_ok-condition-in-IfLook-clause-fails t c =
-    stuck.look_fails (pairs_in c.args.names.now.pairs) (look_of c.in-IfLook.look) (tree_of c.in_ok-body-in-IfLook.body)
-    (tree_of c.in_ok-condition-in-IfLook.condition) (point_of c.args.self.now) (point_of c.read_last-in-IfLook.new.self)
+    stuck.look_fails (pairs_in c.args.names.now.pairs) (look_of c.in-IfLook.look) (tree_of c.in_ok-body-in-IfLook.body.value)
+    (tree_of c.in_ok-condition-in-IfLook.condition.value) (point_of c.args.self.now) (point_of c.read_boxed-in-IfLook.new.self)
     (opening_of c.args.opening) c.read_bodies-in-IfLook.result
-    (ap opening_of c.in-IfLook.is) c.in_ok-body-in-IfLook.ensures.spells c.in_ok-condition-in-IfLook.ensures.made c.read_bodies-in-IfLook.ensures.fails
+    (ap opening_of c.in-IfLook.is) c.in_ok-body-in-IfLook.ensures.spells (ap tree_of c.in_ok-condition-in-IfLook.ensures.ok) c.read_bodies-in-IfLook.ensures.fails
 
 pub read_piece-returns-in_err-atom-clause-fails : goal.read_piece-returns-in_err-atom-clause-fails
 read_piece-returns-in_err-atom-clause-fails t c =
@@ -392,9 +397,10 @@ read_bars-returns-clause-one_char t c = c.loop-self.invariant.one_char
 
 pub read_if-returns-then-is_at_close-clause-one_char : goal.read_if-returns-then-is_at_close-clause-one_char
 read_if-returns-then-is_at_close-clause-one_char t c =
-    reference_chars (pairs_in c.args.names.now.pairs) (reference_of c.args.found) c.in_ok-condition.condition c.in_ok-condition.ensures.made
+    subst OneCharEach (sym c.into_inner.ensures)
+    (reference_chars (pairs_in c.args.names.now.pairs) (reference_of c.args.found) c.in_ok-condition.condition.value c.in_ok-condition.ensures.made)
 
 pub read_if-returns-clause-one_char : goal.read_if-returns-clause-one_char
 read_if-returns-clause-one_char t c =
     c.read_bodies.ensures.one_char
-    (reference_chars (pairs_in c.args.names.now.pairs) (reference_of c.args.found) c.in_ok-condition.condition c.in_ok-condition.ensures.made)
+    (reference_chars (pairs_in c.args.names.now.pairs) (reference_of c.args.found) c.in_ok-condition.condition.value c.in_ok-condition.ensures.made)

@@ -24,6 +24,15 @@ decreases-read_opened l = 12 * length l.self.now.rest.now + 10
 abbrev pub decreases-read_last : goal.decreases-read_last
 decreases-read_last l = 12 * length l.self.now.rest.now + 6
 
+abbrev pub decreases-read_boxed : goal.decreases-read_boxed
+decreases-read_boxed l = 12 * length l.self.now.rest.now + 7
+
+abbrev pub decreases-read_boxed_branch : goal.decreases-read_boxed_branch
+decreases-read_boxed_branch l = 12 * length l.self.now.rest.now + 5
+
+abbrev pub decreases-read_enclosed : goal.decreases-read_enclosed
+decreases-read_enclosed l = 12 * length l.self.now.rest.now + 9
+
 abbrev pub decreases-read_absent : goal.decreases-read_absent
 decreases-read_absent l = 12 * length l.self.now.rest.now + 7
 
