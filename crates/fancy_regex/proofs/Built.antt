@@ -1,8 +1,13 @@
 -- What a tree is compiled to, with its names, is the regex of its pattern.
 use Rattle.std.proofs.Common.{◌≡◌, ◌-◌, ◌^◌, ℕ, List, [], None, Option, Result, Ok, Err, MatchResult, chars, ap, ◌∙◌, sym, subst}
 use Rattle.fancy_meaning.specs.Options as plain
+use Rattle.fancy_meaning.specs.Premises.{Input}
 use Rattle.fancy_expr.specs.Views.{parsed_of}
 use Rattle.fancy_expr.specs.declared.expr.ExprTree.{ExprTree}
+use Rattle.std.proofs.lemmas.Option.{none-some}
+use Rattle.fancy_vm.specs.Tasks.{options_of as run_options_of}
+use Rattle.fancy_vm.specs.declared.search_limits.SearchLimit.TheVariants as limit
+use Rattle.fancy_vm.specs.declared.search_limits.SearchLimits.{SearchLimits}
 use Rattle.fancy_search.specs.Searches.{IsCompiledFrom, IsNestedOver, IsRefusedAs}
 use Rattle.fancy_matches.specs.Listing.{options_for}
 use Rattle.fancy_matches.specs.Regexes as engine
@@ -13,13 +18,22 @@ use Rattle.fancy_pattern.specs.declared.error.PatternError.TheVariants as of_par
 use Rattle.fancy_pattern.specs.Spelling.{IsError}
 use Rattle.fancy_matches.proofs.Stepping.{of_same}
 use Rattle.fancy_regex.specs.Builders.{AreNamesOf, IsBuilt, IsMadeOf, IsRefused, IsTreeOf}
-use Rattle.fancy_regex.specs.Errors.{engine_error, of_pattern}
-use Rattle.fancy_regex.specs.Options.{analysis, compilation, input, running}
+use Rattle.fancy_regex.specs.Errors.{engine_error, limit_told, of_pattern}
+use Rattle.fancy_regex.specs.Options.{analysis, compilation, input, limits, running}
 use Rattle.fancy_regex.specs.Regexes.{IsSame, engine_of}
 use Rattle.fancy_regex.specs.declared.error.Error.{Error}
 use Rattle.fancy_regex.specs.declared.error.Error.TheVariants as face
 use Rattle.fancy_regex.specs.declared.options.RegexOptions.{RegexOptions}
 use Rattle.fancy_regex.specs.declared.regexes.Regex.{Regex}
+
+-- a regex with limits inside easy parts is made as it was without them
+pub limited_so : (i : Input) (o : plain.RunOptions) (asked : Option ℕ) (r s : engine_regex.Regex) (l : SearchLimits) →
+    engine.compiled_of s ≡ engine.compiled_of r → s.options ≡ record r.options { limits = l } → engine.IsMadeBy i o asked r → engine.IsMadeBy i o asked s
+limited_so i o asked r s l compiled options h = record {
+  compiled = subst (IsCompiledFrom i) (sym compiled) h.compiled;
+  options = ap (λ (a : engine_options.RegexOptions). run_options_of a.run) options ∙ h.options;
+  backtracks = ap (λ (a : engine_options.RegexOptions). a.backtrack_limit) options ∙ h.backtracks;
+}
 
 module _ (asked : RegexOptions) (tree : ExprTree) where
   module _ (a : plain.AnalysisOptions) (k : plain.CompileOptions) (as_analysed : a ≡ analysis asked) (as_compiled : k ≡ compilation asked) where
@@ -55,26 +69,31 @@ module _ (asked : RegexOptions) (tree : ExprTree) where
   module _ (pattern : List ℕ) (spelled : IsTreeOf pattern asked tree) where
     pub built : (r : engine_regex.Regex) → ((text : List ℕ) → engine.IsRegexOf (input tree asked) text (running asked text) r) →
         (asked.backtrack_limit ≡ None → asked.step_limit ≡ 2 ^ 64 - 1 → engine.HasNoLimits r) → ¬ IsNestedOver (input tree asked) asked.max_nesting →
+        (r.options).limits ≡ limits asked →
         (result : Result Regex Error) →
         MatchResult result (IsMadeOf pattern asked tree r) (λ e. e ≡ face.Memory) → MatchResult result (IsBuilt pattern asked) (IsRefused pattern asked)
-    built r of unlimited within (Ok s) made = record {
+    built r of unlimited within limited (Ok s) made = record {
       tree = tree;
       spelled = spelled;
       compiled = λ text. subst (engine.IsRegexOf (input tree asked) text (running asked text)) (sym made.compiled) (of text);
       within = within;
       unlimited = λ backtracks steps. subst engine.HasNoLimits (sym made.compiled) (unlimited backtracks steps);
+      limited = ap (λ (e : engine_regex.Regex). (e.options).limits) made.compiled ∙ limited;
       names = made.names;
       has_pattern = made.has_pattern;
       has_options = made.has_options;
     }
-    built r of unlimited within (Err e) made = subst (IsRefused pattern asked) (sym made) tt
+    built r of unlimited within limited (Err e) made = subst (IsRefused pattern asked) (sym made) tt
 
-    pub refused : (e : Error) → IsRefusedAs (input tree asked) asked.max_nesting (engine_error e) → IsRefused pattern asked e
-    refused (face.ParseError at kind) h = absurd h
-    refused (face.CompileError e) h = record { tree = tree; spelled = spelled; refused = h }
-    refused (face.RuntimeError e) h = h
-    refused face.NestLimitExceeded h = record { tree = tree; spelled = spelled; refused = h }
-    refused face.Memory h = tt
+    pub refused : (e : Error) → limit_told e ≡ None → IsRefusedAs (input tree asked) asked.max_nesting (engine_error e) →
+        IsRefused pattern asked e
+    refused (face.ParseError at kind) none h = absurd h
+    refused (face.CompileError e) none h = record { tree = tree; spelled = spelled; refused = h }
+    refused (face.RuntimeError e) none h = h
+    refused face.NestLimitExceeded none h = record { tree = tree; spelled = spelled; refused = h }
+    refused face.VisitLimitExceeded none h = absurd (none-some limit.Visits (sym none))
+    refused face.MemoryLimitExceeded none h = absurd (none-some limit.Bytes (sym none))
+    refused face.Memory none h = tt
 
 -- a pattern that cannot be read is refused as it is told
 pub refused_pattern : (pattern : List ℕ) (asked : RegexOptions) (e : PatternError) → IsError asked.parsing (chars pattern) e →
@@ -94,6 +113,7 @@ built_of_same pattern o r s same h = record {
         ap (λ (a : engine_options.RegexOptions). a.backtrack_limit) (same.engine).1 ∙ u.0,
         ap (λ (a : engine_options.RegexOptions). (a.run).step_limit) (same.engine).1 ∙ u.1,
       );
+  limited = ap (λ (a : engine_options.RegexOptions). a.limits) (same.engine).1 ∙ h.limited;
   names = subst (AreNamesOf h.tree) (sym same.names) h.names;
   has_pattern = same.pattern ∙ h.has_pattern;
   has_options = same.options ∙ h.has_options;

@@ -1,5 +1,5 @@
 -- What the engine promises of a reply is promised of it with the errors of this crate.
-use Rattle.std.proofs.Common.{◌≡◌, ℕ, Bool, true, false, List, ◌∷◌, Option, Some, None, Result, Ok, Err, IfErr, MatchResult, option_map, if◌then◌else◌, refl, sym, subst, ◌∙◌}
+use Rattle.std.proofs.Common.{◌≡◌, ℕ, Bool, true, false, List, ◌∷◌, Option, Some, None, Result, Ok, Err, IfErr, MatchResult, option_map, if◌then◌else◌, ◌⊎◌, inl, inr, ⊎_elim, refl, sym, ap, subst, ◌∙◌}
 use Rattle.std.proofs.lemmas.Option.{none-some}
 use Rattle.fancy_meaning.specs.Answer.{answer, search_of}
 use Rattle.fancy_meaning.specs.Options as plain
@@ -7,12 +7,15 @@ use Rattle.fancy_meaning.specs.Places.{is_place}
 use Rattle.fancy_meaning.specs.Premises.{Input, plan, IsText}
 use Rattle.fancy_expr.specs.declared.error.Error as engine
 use Rattle.fancy_expr.specs.declared.error.Error.TheVariants.{Memory}
+use Rattle.fancy_expr.specs.declared.error.Error.TheVariants as of_engine
+use Rattle.fancy_vm.specs.SearchLimits.{EndsBy}
+use Rattle.fancy_vm.specs.declared.search_limits.SearchLimit.{SearchLimit}
 use Rattle.fancy_matches.specs.Listing.{ComesTo, Standing, by_match, ended, options_at, past_match, stays}
-use Rattle.fancy_matches.specs.Regexes.{FailsBy, FindsCaptures as FindsGroups, GivesBy, IsNoLimit, IsNoLimitWhereEasy, Shows, shown_captures as engine_shown, with_numbers}
+use Rattle.fancy_matches.specs.Regexes.{FailsBy, FindsCaptures as FindsGroups, GivesBy, IsNoLimit, IsNoLimitWhereEasy, Shows, passed_in, shown_captures as engine_shown, with_numbers}
 use Rattle.fancy_matches.specs.declared.found.Captures.{Captures as Groups}
 use Rattle.fancy_matches.specs.declared.regexes.Regex as engine_regex
 use Rattle.fancy_matches.proofs.Lists.{no_place_ends}
-use Rattle.fancy_regex.specs.Errors.{engine_error}
+use Rattle.fancy_regex.specs.Errors.{engine_error, limit_in, limit_told}
 use Rattle.fancy_regex.specs.Found.{shown_captures}
 use Rattle.fancy_regex.specs.Regexes.{FindsCaptures}
 use Rattle.fancy_regex.specs.declared.error.Error.{Error}
@@ -55,6 +58,27 @@ module _ (r : engine_regex.Regex) (text : List ℕ) where
       IfErr result (λ e. IsNoLimitWhereEasy r text (engine_error e))
   easy_names P (Ok x) h = tt
   easy_names P (Err e) h = easy_memory e h
+
+-- ---- the limits inside easy parts
+
+-- where the groups have no names for want of memory, that tells of no limit
+pub names_told : {A : Type 0} (P : A → Type 0) (result : Result A Error) → MatchResult result P (λ e. e ≡ face.Memory) →
+    (passed : Option SearchLimit) → passed ≡ None → limit_in result ≡ passed
+names_told P (Ok x) h passed none = sym none
+names_told P (Err e) h passed none = ap limit_told h ∙ sym none
+
+-- no limit is told of where a search passed none, or there was no search
+pub told_none : (r q : engine_regex.Regex) → (passed_in q ≡ None) ⊎ (q ≡ r) →
+    (◌≡◌ {A = Option SearchLimit} None (passed_in q)) ⊎ ((◌≡◌ {A = Option SearchLimit} None None) × (q ≡ r))
+told_none r q h = ⊎_elim (λ none. inl (sym none)) (λ same. inr (refl, same)) h
+
+-- want of memory tells of no limit where no limit was passed
+pub ends_without : (e : engine.Error) → EndsBy e None
+ends_without (of_engine.CompileError e) = refl
+ends_without (of_engine.RuntimeError e) = refl
+ends_without (of_engine.TreeFault at) = refl
+ends_without of_engine.NestLimitExceeded = refl
+ends_without of_engine.Memory = tt
 
 -- ---- want of memory after a match of a list was found
 

@@ -12,7 +12,7 @@ use Rattle.fancy_pattern.specs.declared.options.ParseOptions.{ParseOptions}
 use Rattle.fancy_search.specs.Searches.{IsNestedOver, IsRefusedAs}
 use Rattle.fancy_regex.specs.Errors.{engine_error}
 use Rattle.fancy_regex.specs.Names.{group_count, names_in}
-use Rattle.fancy_regex.specs.Options.{default_options, input, running}
+use Rattle.fancy_regex.specs.Options.{default_options, input, limits, running}
 use Rattle.fancy_regex.specs.Regexes.{IsRegexOf, engine_of, names_of, options_of, pattern_of}
 use Rattle.fancy_regex.specs.declared.builder.RegexBuilder.{RegexBuilder}
 use Rattle.fancy_regex.specs.declared.error.Error.{Error}
@@ -69,8 +69,10 @@ module _ (pattern : List ℕ) (o : RegexOptions) where
     pub compiled : (text : List ℕ) → IsRegexOf (input tree o) text (running o text) r
     -- the tree stands within the limit of nesting
     pub within : ¬ IsNestedOver (input tree o) o.max_nesting
-    -- where no limit was asked it has none
+    -- where no limit of backtracks or instructions was asked it has none
     pub unlimited : o.backtrack_limit ≡ None → o.step_limit ≡ 2 ^ 64 - 1 → HasNoLimits (engine_of r)
+    -- its searches of easy parts have these limits
+    pub limited : ((engine_of r).options).limits ≡ limits o
     pub names : AreNamesOf tree (names_of r)
     pub has_pattern : pattern_of r ≡ pattern
     pub has_options : options_of r ≡ o
@@ -87,4 +89,6 @@ module _ (pattern : List ℕ) (o : RegexOptions) where
   IsRefused (face.CompileError e) = IsRefusedTree (face.CompileError e)
   IsRefused (face.RuntimeError e) = ⊥
   IsRefused face.NestLimitExceeded = IsRefusedTree face.NestLimitExceeded
+  IsRefused face.VisitLimitExceeded = ⊥
+  IsRefused face.MemoryLimitExceeded = ⊥
   IsRefused face.Memory = Unit {0}

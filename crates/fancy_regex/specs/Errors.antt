@@ -2,18 +2,29 @@
 use Rattle.std.specs.Prelude.{Option, Some, None, Result, Ok, Err}
 use Rattle.fancy_expr.specs.declared.error.Error as engine
 use Rattle.fancy_expr.specs.declared.error.Error.TheVariants as of_engine
+use Rattle.fancy_vm.specs.declared.search_limits.SearchLimit.{SearchLimit}
+use Rattle.fancy_vm.specs.declared.search_limits.SearchLimit.TheVariants as limit
 use Rattle.fancy_pattern.specs.declared.error.PatternError.{PatternError}
 use Rattle.fancy_pattern.specs.declared.error.PatternError.TheVariants as of_parser
 use Rattle.fancy_regex.specs.declared.error.Error.{Error}
 use Rattle.fancy_regex.specs.declared.error.Error.TheVariants as face
 
--- The error as the engine has it. The engine reads no pattern: no search answers what stands for a `ParseError`.
+-- The error as the engine has it, to which a limit inside easy parts is want of memory. The engine reads no pattern: no
+-- search answers what stands for a `ParseError`.
 abbrev pub engine_error : Error → engine.Error
 engine_error (face.ParseError at kind) = of_engine.TreeFault at
 engine_error (face.CompileError e) = of_engine.CompileError e
 engine_error (face.RuntimeError e) = of_engine.RuntimeError e
 engine_error face.NestLimitExceeded = of_engine.NestLimitExceeded
+engine_error face.VisitLimitExceeded = of_engine.Memory
+engine_error face.MemoryLimitExceeded = of_engine.Memory
 engine_error face.Memory = of_engine.Memory
+
+-- the limit inside easy parts that it tells of
+abbrev pub limit_told : Error → Option SearchLimit
+limit_told face.VisitLimitExceeded = Some limit.Visits
+limit_told face.MemoryLimitExceeded = Some limit.Bytes
+limit_told e = None
 
 -- the error of a pattern that was not read
 abbrev pub of_pattern : PatternError → Error
@@ -25,7 +36,17 @@ abbrev pub reply_of : {A : Type 0} → Result A Error → Result A engine.Error
 reply_of (Ok x) = Ok x
 reply_of (Err e) = Err (engine_error e)
 
+-- the limit inside easy parts that a reply tells of
+abbrev pub limit_in : {A : Type 0} → Result A Error → Option SearchLimit
+limit_in (Ok x) = None
+limit_in (Err e) = limit_told e
+
 -- an item of a list as the engine has it
 abbrev pub item_of : {A : Type 0} → Option (Result A Error) → Option (Result A engine.Error)
 item_of None = None
 item_of (Some reply) = Some (reply_of reply)
+
+-- and the limit that it tells of
+abbrev pub limit_of_item : {A : Type 0} → Option (Result A Error) → Option SearchLimit
+limit_of_item None = None
+limit_of_item (Some reply) = limit_in reply

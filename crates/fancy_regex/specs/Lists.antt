@@ -7,7 +7,7 @@ use Rattle.fancy_matches.specs.Listing.{Standing, at_start}
 use Rattle.fancy_matches.specs.Regexes.{GivesBy, standing_of, with_numbers, with_span}
 use Rattle.fancy_regex.specs.Errors.{item_of}
 use Rattle.fancy_regex.specs.Found.{captures_names, shown_captures, shown_match}
-use Rattle.fancy_regex.specs.Regexes.{IsNoLimitWhereEasy, IsRegexOf, IsSameLoan, names_of}
+use Rattle.fancy_regex.specs.Regexes.{IsNoLimitWhereEasy, IsRegexOf, IsSameLoan, TellsLimitsInStep, names_of}
 use Rattle.fancy_regex.specs.declared.error.Error.{Error}
 use Rattle.fancy_regex.specs.declared.found.Captures.{Captures}
 use Rattle.fancy_regex.specs.declared.found.Match.{Match}
@@ -55,6 +55,7 @@ pub record Goes {A : Type 0} (Gives : Input → List ℕ → plain.RunOptions �
   pub easy : IfSome item (λ found. IfErr found (IsNoLimitWhereEasy s.regex.now s.text))
   pub within : t.text ≡ s.text
   pub regex : IsSameLoan s.regex t.regex
+  pub limits : TellsLimitsInStep item t.regex.now
 
 pub record NextCaptures (s : CaptureMatches) (item : Option (Result Captures Error)) (t : CaptureMatches) : Type 0 where
   pub goes : Goes (λ i text o from to. GivesCaptures i text o from item to) (captures_iteration s) item (captures_iteration t)

@@ -6,6 +6,7 @@ use Rattle.fancy_meaning.specs.Premises.{Input}
 use Rattle.fancy_expr.specs.Views.{parsed_of}
 use Rattle.fancy_expr.specs.declared.expr.ExprTree.{ExprTree}
 use Rattle.fancy_matches.specs.Listing.{backtracks_for}
+use Rattle.fancy_vm.specs.declared.search_limits.SearchLimits.{SearchLimits}
 use Rattle.fancy_pattern.specs.declared.options.ParseOptions.{ParseOptions}
 use Rattle.fancy_regex.specs.declared.options.RegexOptions.{RegexOptions}
 
@@ -33,6 +34,8 @@ default_options = record {
   max_nesting = Some 500;
   backtrack_limit = None;
   step_limit = 2 ^ 64 - 1;
+  visit_limit = Some 100_000_000;
+  memory_limit = Some 268_435_456;
 }
 
 -- how the tree is analysed
@@ -65,6 +68,10 @@ running o text = record {
   backtrack_limit = backtracks_for o.backtrack_limit text;
   step_limit = o.step_limit;
 }
+
+-- how much its searches of easy parts may take together
+abbrev pub limits : RegexOptions → SearchLimits
+limits o = record { visits = o.visit_limit; bytes = o.memory_limit }
 
 -- a tree with these options
 abbrev pub input : ExprTree → RegexOptions → Input

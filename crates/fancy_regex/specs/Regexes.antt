@@ -1,5 +1,5 @@
 -- What clauses see of a regex, and of what it finds: that of the engine, with the errors of this crate.
-use Rattle.std.specs.Prelude.{◌≡◌, ℕ, Bool, List, Option, Result, string_bytes}
+use Rattle.std.specs.Prelude.{◌≡◌, ◌⊎◌, ℕ, Bool, List, Option, None, Result, string_bytes}
 use Rattle.std.specs.Arc.{arc_value}
 use Rattle.std.specs.Borrow.{MutBor}
 use Rattle.std.specs.declared.alloc.Global.{Global}
@@ -10,7 +10,8 @@ use Rattle.fancy_matches.specs.Regexes as engine
 use Rattle.fancy_matches.specs.declared.regexes.Regex as engine_regex
 use Rattle.fancy_matches.specs.Regexes.{Shows, with_numbers, with_span}
 use Rattle.fancy_replace.specs.Replacements as replacements
-use Rattle.fancy_regex.specs.Errors.{engine_error, reply_of}
+use Rattle.fancy_vm.specs.declared.search_limits.SearchLimit.{SearchLimit}
+use Rattle.fancy_regex.specs.Errors.{engine_error, limit_in, limit_of_item, reply_of}
 use Rattle.fancy_regex.specs.Found.{shown_captures, shown_match}
 use Rattle.fancy_regex.specs.declared.error.Error.{Error}
 use Rattle.fancy_regex.specs.declared.found.Captures.{Captures}
@@ -54,7 +55,25 @@ pub record IsSameLoan (r s : MutBor Regex) : Type 0 where
 abbrev pub AreAllApart : Regex → List ℕ → Type 0
 AreAllApart r text = engine.AreAllApart r.engine text
 
--- Where no limit was asked and the whole tree is easy, no limit is passed in a text of fewer than 2 ^ 60 bytes.
+-- the limit inside easy parts that its last search passed
+abbrev pub passed_in : Regex → Option SearchLimit
+passed_in r = engine.passed_in r.engine
+
+-- A search that left it so told of a limit inside easy parts exactly where it passed that.
+abbrev pub TellsLimits : {A : Type 0} → Result A Error → Regex → Type 0
+TellsLimits result r = limit_in result ≡ passed_in r
+
+-- so did the searches for an item of a list
+abbrev pub TellsLimitsInStep : {A : Type 0} → Option (Result A Error) → Regex → Type 0
+TellsLimitsInStep item r = limit_of_item item ≡ passed_in r
+
+-- This was told of a limit inside easy parts by a call that left the regex so: the limit that its last search passed; where
+-- it made no search, none.
+abbrev pub IsToldBy : Option SearchLimit → (r q : Regex) → Type 0
+IsToldBy told r q = (told ≡ passed_in q) ⊎ ((told ≡ None) × (q.engine ≡ r.engine))
+
+-- Where no limit of backtracks or instructions was asked and the whole tree is easy, neither is passed in a text of fewer
+-- than 2 ^ 60 bytes. A limit inside easy parts may be.
 abbrev pub IsNoLimitWhereEasy : Regex → List ℕ → Error → Type 0
 IsNoLimitWhereEasy r text e = engine.IsNoLimitWhereEasy r.engine text (engine_error e)
 
@@ -77,3 +96,4 @@ pub record IsReplacement (r : Regex) (text : List ℕ) (limit : Option ℕ) (wri
     (result : Result (CowStr Global) Error) (q : Regex) : Type 0 where
   pub replaced : replacements.IsReplacement r.engine text limit write (reply_of result) q.engine
   pub same : IsSame r q
+  pub limits : IsToldBy (limit_in result) r q

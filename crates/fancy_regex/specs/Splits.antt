@@ -5,8 +5,8 @@ use Rattle.fancy_meaning.specs.Options as plain
 use Rattle.fancy_meaning.specs.Premises.{Input}
 use Rattle.fancy_replace.specs.Splits as parts
 use Rattle.fancy_replace.specs.declared.pieces.Pieces.{Pieces}
-use Rattle.fancy_regex.specs.Errors.{item_of}
-use Rattle.fancy_regex.specs.Regexes.{IsSame, engine_of}
+use Rattle.fancy_regex.specs.Errors.{item_of, limit_of_item}
+use Rattle.fancy_regex.specs.Regexes.{IsSame, IsToldBy, engine_of}
 use Rattle.fancy_regex.specs.declared.error.Error.{Error}
 use Rattle.fancy_regex.specs.declared.regexes.Regex.{Regex}
 use Rattle.fancy_regex.specs.declared.splits.Split.{Split}
@@ -20,6 +20,7 @@ pub record GivesPiece {P : Type 0} (shown : P → List ℕ) (r : Regex) (s : Pie
     (t : Pieces) : Type 0 where
   pub gives : parts.GivesPiece shown (engine_of r) s (item_of item) (engine_of q) t
   pub same : IsSame r q
+  pub limits : IsToldBy (limit_of_item item) r q
 
 -- it holds this regex, and all these pieces of the text are left
 pub record BeginsSplit (r : MutBor Regex) (text : List ℕ) (all : Input → plain.RunOptions → List (List ℕ)) (s : Split) :

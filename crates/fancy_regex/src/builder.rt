@@ -206,6 +206,43 @@ impl<'p> RegexBuilder<'p> {
         }
     }
 
+    /// How many states a search may visit in plain parts of the pattern, those that are searched without backtracking, or
+    /// with `None` any number. Unless set it is 100,000,000. A search that visits more is `Error::VisitLimitExceeded`. It
+    /// bounds the work of a search, and with `step_limit` all of it.
+    ///
+    /// A `Scanner` has no such limit.
+    #[must_use]
+    pub fn visit_limit(self, limit: Option<usize>) -> RegexBuilder<'p>
+        ensures { result ≡ with_options self.entry
+            (record (options self.entry) { visit_limit = limit }) }
+    {
+        RegexBuilder {
+            pattern: self.pattern,
+            options: RegexOptions {
+                visit_limit: limit,
+                ..self.options
+            },
+        }
+    }
+
+    /// How many bytes a search may keep at one time for plain parts of the pattern, or with `None` any number. Unless set it
+    /// is 256 MiB. A search that keeps more is `Error::MemoryLimitExceeded`.
+    ///
+    /// A `Scanner` has no such limit.
+    #[must_use]
+    pub fn memory_limit(self, limit: Option<usize>) -> RegexBuilder<'p>
+        ensures { result ≡ with_options self.entry
+            (record (options self.entry) { memory_limit = limit }) }
+    {
+        RegexBuilder {
+            pattern: self.pattern,
+            options: RegexOptions {
+                memory_limit: limit,
+                ..self.options
+            },
+        }
+    }
+
     /// The tree of the pattern.
     fn tree(&self, alloc: Global) -> Result<ExprTree, Error>
         ensures { MatchResult
@@ -232,7 +269,11 @@ impl<'p> RegexBuilder<'p> {
         let tree = self.tree(alloc)?;
         let search = self.options.search_options();
         match Engine::new(alloc, &tree, &search, self.options.backtrack_limit) {
-            Ok(engine) => self.regex_of(alloc, tree, engine),
+            Ok(engine) => {
+                let mut engine = engine;
+                engine.limit(self.options.search_limits());
+                self.regex_of(alloc, tree, engine)
+            }
             Err(error) => Err(Error::from(error)),
         }
     }

@@ -1,13 +1,16 @@
 //! Why a pattern has no regex, and why a search has no answer.
 
-ghost use Rattle.std.specs.Prelude.{◌≡◌};
-ghost use Rattle.fancy_regex.specs.Errors.{engine_error, of_pattern};
+ghost use Rattle.std.specs.Prelude.{◌≡◌, None};
+ghost use Rattle.fancy_expr.specs.declared.error.Error.TheVariants as engine;
+ghost use Rattle.fancy_vm.specs.SearchLimits.{EndsBy};
+ghost use Rattle.fancy_regex.specs.Errors.{engine_error, limit_told, of_pattern};
 ghost use Rattle.fancy_regex.specs.declared.error.Error.TheVariants.{Memory};
 
 use fancy_expr::error::Error as EngineError;
 pub use fancy_expr::error::{CompileError, RuntimeError};
 pub use fancy_pattern::error::ErrorKind as ParseErrorKind;
 use fancy_pattern::error::PatternError;
+use fancy_vm::vm::SearchLimit;
 use std::alloc::{AllocError, AllocFailed};
 use std::fmt;
 
@@ -22,8 +25,44 @@ pub enum Error {
     RuntimeError(RuntimeError),
     /// More nodes of the pattern stand in one another, where they are written out, than the limit allows.
     NestLimitExceeded,
+    /// A search visited more states of plain parts of the pattern than `visit_limit` allows.
+    VisitLimitExceeded,
+    /// A search kept more bytes for plain parts of the pattern than `memory_limit` allows.
+    MemoryLimitExceeded,
     /// A request for memory was refused.
     Memory,
+}
+
+impl Error {
+    /// What `Memory` of a search that passed this limit, or none, is to a caller.
+    fn of_memory(passed: Option<SearchLimit>) -> Error
+        ensures engine { engine_error result ≡ engine.Memory }
+        ensures limit { limit_told result ≡ passed }
+    {
+        match passed {
+            Some(SearchLimit::Visits) => Error::VisitLimitExceeded,
+            Some(SearchLimit::Bytes) => Error::MemoryLimitExceeded,
+            None => Error::Memory,
+        }
+    }
+
+    /// The error of a search that passed this limit of its delegates, or none.
+    pub(crate) fn of_search(error: EngineError, passed: Option<SearchLimit>) -> Error
+        ensures engine { engine_error result ≡ error }
+        ensures limit { EndsBy error passed → limit_told result ≡ passed }
+    {
+        match error {
+            EngineError::CompileError(error) => Error::CompileError(error),
+            EngineError::RuntimeError(error) => Error::RuntimeError(error),
+            // The engine reads no pattern here.
+            EngineError::TreeFault { at } => Error::ParseError(
+                at,
+                ParseErrorKind::GeneralParseError,
+            ),
+            EngineError::NestLimitExceeded => Error::NestLimitExceeded,
+            EngineError::Memory => Error::of_memory(passed),
+        }
+    }
 }
 
 impl From<AllocError> for Error {
@@ -43,20 +82,10 @@ impl<T: Drop> From<AllocFailed<T>> for Error {
 }
 
 impl From<EngineError> for Error {
-    ghost from_gives = { λ engine e. engine_error e ≡ engine };
+    ghost from_gives = { λ engine e. (engine_error e ≡ engine) × (limit_told e ≡ None) };
 
     fn from(engine: EngineError) -> Error {
-        match engine {
-            EngineError::CompileError(error) => Error::CompileError(error),
-            EngineError::RuntimeError(error) => Error::RuntimeError(error),
-            // The engine reads no pattern here.
-            EngineError::TreeFault { at } => Error::ParseError(
-                at,
-                ParseErrorKind::GeneralParseError,
-            ),
-            EngineError::NestLimitExceeded => Error::NestLimitExceeded,
-            EngineError::Memory => Error::Memory,
-        }
+        Error::of_search(engine, None)
     }
 }
 
@@ -84,6 +113,8 @@ impl fmt::Display for Error {
             Error::CompileError(error) => write!(f, "{error}"),
             Error::RuntimeError(error) => write!(f, "{error}"),
             Error::NestLimitExceeded => write!(f, "the pattern nests deeper than the limit"),
+            Error::VisitLimitExceeded => write!(f, "too many states were visited"),
+            Error::MemoryLimitExceeded => write!(f, "too many bytes were kept"),
             Error::Memory => write!(f, "memory ran out"),
         }
     }

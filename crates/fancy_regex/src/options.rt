@@ -6,13 +6,13 @@ ghost use Rattle.fancy_compile.specs.Compiled.{compile_options_of};
 ghost use Rattle.fancy_vm.specs.Tasks.{options_of as run_options_of};
 ghost use Rattle.fancy_search.specs.Searches.{search_fits};
 ghost use Rattle.fancy_matches.specs.Listing.{options_for};
-ghost use Rattle.fancy_regex.specs.Options.{analysis, compilation, default_options, running};
+ghost use Rattle.fancy_regex.specs.Options.{analysis, compilation, default_options, limits, running};
 
 use fancy_analysis::analyze::AnalyzeContext;
 use fancy_compile::compile::{BytesMode, CompileOptions};
 use fancy_pattern::options::ParseOptions;
 use fancy_search::search::SearchOptions;
-use fancy_vm::vm::RunOptions;
+use fancy_vm::vm::{RunOptions, SearchLimits};
 
 /// How a pattern is read and compiled, and how its regex searches.
 #[derive(Clone, Copy, Debug)]
@@ -28,6 +28,10 @@ pub struct RegexOptions {
     pub(crate) max_nesting: Option<usize>,
     pub(crate) backtrack_limit: Option<usize>,
     pub(crate) step_limit: u64,
+    /// How many states of easy parts a search may visit.
+    pub(crate) visit_limit: Option<usize>,
+    /// How many bytes a search may keep for easy parts at one time.
+    pub(crate) memory_limit: Option<usize>,
 }
 
 impl Default for RegexOptions {
@@ -52,11 +56,26 @@ impl Default for RegexOptions {
             max_nesting: Some(500),
             backtrack_limit: None,
             step_limit: u64::MAX,
+            visit_limit: Some(100_000_000),
+            memory_limit: Some(268_435_456),
         }
     }
 }
 
 impl RegexOptions {
+    /// How much the searches of easy parts may take together.
+    pub(crate) fn search_limits(&self) -> SearchLimits
+        ensures { result ≡ limits self.now }
+    {
+        SearchLimits {
+            visits: match self.visit_limit {
+                Some(most) => Some(most as u64),
+                None => None,
+            },
+            bytes: self.memory_limit,
+        }
+    }
+
     /// The options of the analysis, the compilation and the searches.
     pub(crate) fn search_options(&self) -> SearchOptions
         ensures fits { IsTrue (search_fits result []) }

@@ -10,12 +10,13 @@ ghost use Rattle.fancy_matches.specs.Regexes.{standing_of};
 ghost use Rattle.fancy_replace.specs.Pieces.{as_limit};
 ghost use Rattle.fancy_matches.specs.declared.regexes.Regex as engine_regex;
 ghost use Rattle.fancy_regex.specs.Builders.{IsBuilt, IsRefused};
-ghost use Rattle.fancy_regex.specs.Errors.{engine_error};
+ghost use Rattle.fancy_vm.specs.SearchLimits.{EndsBy};
+ghost use Rattle.fancy_regex.specs.Errors.{engine_error, limit_told};
 ghost use Rattle.fancy_regex.specs.Found.{captures_names, shown_captures, shown_match};
 ghost use Rattle.fancy_regex.specs.Lists.{Begins, HaveNames, GivesCaptures, GivesMatch, captures_iteration, matches_iteration};
 ghost use Rattle.fancy_regex.specs.Names.{group_count, names_in};
 ghost use Rattle.fancy_regex.specs.Options.{default_options};
-ghost use Rattle.fancy_regex.specs.Regexes.{AreAllApart, FindsCaptures, FindsMatch, FindsWhether, IsNoLimitWhereEasy, IsRegexOf, IsReplacement, IsSame, engine_of, names_of, pattern_of};
+ghost use Rattle.fancy_regex.specs.Regexes.{AreAllApart, FindsCaptures, FindsMatch, FindsWhether, IsNoLimitWhereEasy, IsRegexOf, IsReplacement, IsSame, TellsLimits, TellsLimitsInStep, engine_of, names_of, pattern_of};
 ghost use Rattle.fancy_regex.specs.declared.options.RegexOptions.{RegexOptions};
 
 use crate::builder::RegexBuilder;
@@ -130,6 +131,38 @@ impl Regex {
         }
     }
 
+    /// The error of the last search of the engine.
+    pub(crate) fn told(&self, error: EngineError) -> Error
+        ensures engine { engine_error result ≡ error }
+        ensures limit { EndsBy error (engine.passed_in (engine_of self.now))
+            → limit_told result ≡ engine.passed_in (engine_of self.now) }
+    {
+        Error::of_search(error, self.engine.passed())
+    }
+
+    /// What a search of the engine found.
+    fn matched<'t>(
+        &self,
+        found: Result<Option<Found<'t>>, EngineError>,
+    ) -> Result<Option<Match<'t>>, Error>
+        ensures promise { (i : Input)
+            → (text : List ℕ)
+            → (o : plain.RunOptions)
+            → engine.FindsMatch i text o found.entry
+            → FindsMatch i text o result }
+        ensures easy { (r : engine_regex.Regex)
+            → (text : List ℕ)
+            → IfErr found.entry (engine.IsNoLimitWhereEasy r text)
+            → IfErr result (λ e. engine.IsNoLimitWhereEasy r text (engine_error e)) }
+        ensures limits { engine.StaysIn found.entry (engine_of self.now)
+            → TellsLimits result self.now }
+    {
+        match found {
+            Ok(found) => Ok(some_match(found)),
+            Err(error) => Err(self.told(error)),
+        }
+    }
+
     /// What a search of the engine found, with the names of the groups.
     fn captured<'t>(
         &self,
@@ -146,10 +179,12 @@ impl Regex {
             → IfErr result (λ e. engine.IsNoLimitWhereEasy r text (engine_error e)) }
         ensures names { IfOk result (λ found. IfSome found (λ c.
             captures_names c ≡ names_of self.now)) }
+        ensures limits { engine.StaysIn found.entry (engine_of self.now)
+            → TellsLimits result self.now }
     {
         match found {
             Ok(found) => self.found_with_names(found),
-            Err(error) => Err(Error::from(error)),
+            Err(error) => Err(self.told(error)),
         }
     }
 
@@ -174,10 +209,11 @@ impl Regex {
             → FindsWhether i text.now (list.begun_at o 0) result }
         ensures easy { IfErr result (IsNoLimitWhereEasy self.old text.now) }
         ensures same { IsSame self.old self.new }
+        ensures limits { TellsLimits result self.new }
     {
         match self.engine.is_match(text) {
             Ok(found) => Ok(found),
-            Err(error) => Err(Error::from(error)),
+            Err(error) => Err(self.told(error)),
         }
     }
 
@@ -189,8 +225,10 @@ impl Regex {
             → FindsMatch i text.now (list.begun_at o 0) result }
         ensures easy { IfErr result (IsNoLimitWhereEasy self.old text.now) }
         ensures same { IsSame self.old self.new }
+        ensures limits { TellsLimits result self.new }
     {
-        matched(self.engine.find(text))
+        let found = self.engine.find(text);
+        self.matched(found)
     }
 
     /// The first match from this place on, a byte of the text. What stands before it is seen by look-behind, and
@@ -207,8 +245,10 @@ impl Regex {
             → FindsMatch i text.now (list.begun_at o pos) result }
         ensures easy { IfErr result (IsNoLimitWhereEasy self.old text.now) }
         ensures same { IsSame self.old self.new }
+        ensures limits { TellsLimits result self.new }
     {
-        matched(self.engine.find_from(text, pos))
+        let found = self.engine.find_from(text, pos);
+        self.matched(found)
     }
 
     /// The groups of the first match.
@@ -221,6 +261,7 @@ impl Regex {
         ensures names { IfOk result (λ found. IfSome found (λ c.
             captures_names c ≡ names_of self.old)) }
         ensures same { IsSame self.old self.new }
+        ensures limits { TellsLimits result self.new }
     {
         let found = self.engine.captures(text);
         self.captured(found)
@@ -241,6 +282,7 @@ impl Regex {
         ensures names { IfOk result (λ found. IfSome found (λ c.
             captures_names c ≡ names_of self.old)) }
         ensures same { IsSame self.old self.new }
+        ensures limits { TellsLimits result self.new }
     {
         let found = self.engine.captures_from(text, pos);
         self.captured(found)
@@ -264,6 +306,7 @@ impl Regex {
             (λ item. suc (length text.now) - standing.new.pos
             < suc (length text.now) - standing.old.pos) }
         ensures same { IsSame self.old self.new }
+        ensures limits { TellsLimitsInStep result self.new }
     {
         match self.engine.next_captures(text, standing) {
             None => None,
@@ -274,7 +317,7 @@ impl Regex {
                     Some(Err(Error::from(error)))
                 }
             },
-            Some(Err(error)) => Some(Err(Error::from(error))),
+            Some(Err(error)) => Some(Err(self.told(error))),
         }
     }
 
@@ -295,11 +338,12 @@ impl Regex {
             (λ item. suc (length text.now) - standing.new.pos
             < suc (length text.now) - standing.old.pos) }
         ensures same { IsSame self.old self.new }
+        ensures limits { TellsLimitsInStep result self.new }
     {
         match self.engine.next_match(text, standing) {
             None => None,
             Some(Ok(found)) => Some(Ok(Match { found })),
-            Some(Err(error)) => Some(Err(Error::from(error))),
+            Some(Err(error)) => Some(Err(self.told(error))),
         }
     }
 
@@ -373,7 +417,7 @@ impl Regex {
         let replacer = by.replacer(alloc, &self.names.numbers)?;
         match replacen(alloc, &mut self.engine, text, limit, &replacer) {
             Ok(text) => Ok(text),
-            Err(error) => Err(Error::from(error)),
+            Err(error) => Err(self.told(error)),
         }
     }
 }
@@ -402,23 +446,5 @@ fn some_match<'t>(found: Option<Found<'t>>) -> Option<Match<'t>>
     match found {
         Some(found) => Some(Match { found }),
         None => None,
-    }
-}
-
-/// What a search of the engine found.
-fn matched<'t>(found: Result<Option<Found<'t>>, EngineError>) -> Result<Option<Match<'t>>, Error>
-    ensures promise { (i : Input)
-        → (text : List ℕ)
-        → (o : plain.RunOptions)
-        → engine.FindsMatch i text o found.entry
-        → FindsMatch i text o result }
-    ensures easy { (r : engine_regex.Regex)
-        → (text : List ℕ)
-        → IfErr found.entry (engine.IsNoLimitWhereEasy r text)
-        → IfErr result (λ e. engine.IsNoLimitWhereEasy r text (engine_error e)) }
-{
-    match found {
-        Ok(found) => Ok(some_match(found)),
-        Err(error) => Err(Error::from(error)),
     }
 }

@@ -52,7 +52,7 @@ impl Regex {
         match pieces.next(&mut self.engine) {
             None => None,
             Some(Ok(piece)) => Some(Ok(piece)),
-            Some(Err(error)) => Some(Err(Error::from(error))),
+            Some(Err(error)) => Some(Err(self.told(error))),
         }
     }
 

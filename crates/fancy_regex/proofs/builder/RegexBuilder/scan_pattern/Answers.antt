@@ -35,7 +35,7 @@ returns-in-Err c =
     let tree = c.in_ok-tree.tree in
     let o = c.search_options-search.result in
     let says = c.search_options-search.ensures in
-    refused (options b) tree b.pattern.now c.in_ok-tree.ensures c.from.result
-    (subst (IsRefusedAs (input tree (options b)) (options b).max_nesting) (sym c.from.ensures)
+    refused (options b) tree b.pattern.now c.in_ok-tree.ensures c.from.result c.from.ensures.1
+    (subst (IsRefusedAs (input tree (options b)) (options b).max_nesting) (sym c.from.ensures.0)
     (refused_so (options b) tree (analysis_options_of o.analysis) (compile_options_of o.compilation) says.analysis says.compilation (o.compilation).max_nesting
     c.in-Err.error says.nesting c.in-Err.ensures))

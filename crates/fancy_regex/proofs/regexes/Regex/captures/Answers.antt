@@ -6,3 +6,6 @@ returns-clause-promise c i o h = c.captured.ensures.promise i c.args.text.now (b
 
 pub returns-clause-easy : goal.returns-clause-easy
 returns-clause-easy c = c.captured.ensures.easy c.args.self.now.engine c.args.text.now c.captures-found.ensures.easy
+
+pub returns-clause-limits : goal.returns-clause-limits
+returns-clause-limits c = c.captured.ensures.limits c.captures-found.ensures.stays

@@ -1,8 +1,8 @@
 use Rattle.std.proofs.Common.{◌<◌, ◌-◌, suc, length, Some, Ok, Err, IfErr, IfSome, ap, ◌∙◌, sym, subst, arith}
 use Rattle.fancy_meaning.specs.Numbers.{usize_max}
 use Rattle.fancy_matches.specs.Listing.{ended}
-use Rattle.fancy_matches.specs.Regexes.{GivesBy, IsNoLimitWhereEasy, shown_captures as engine_shown, standing_of, with_numbers}
-use Rattle.fancy_regex.specs.Errors.{engine_error}
+use Rattle.fancy_matches.specs.Regexes.{GivesBy, IsNoLimitWhereEasy, StaysInStep, shown_captures as engine_shown, standing_of, with_numbers}
+use Rattle.fancy_regex.specs.Errors.{engine_error, limit_told}
 use Rattle.fancy_regex.specs.Found.{shown_captures}
 use Rattle.fancy_regex.proofs.Replies.{easy_error, easy_memory, list_fails, list_wants_memory}
 use Rattle.fancy_regex.proofs.regexes.Regex.next_captures.Goals as goal
@@ -51,8 +51,8 @@ returns-in-Some-Err-clause-list c i o h =
     let text = c.args.text.now in
     let from = standing_of c.args.standing.now in
     let to = standing_of c.next_captures.new.standing in
-    list_fails engine_shown (with_numbers text) shown_captures (with_numbers text) i text o from to c.in-Some-Err.error c.from-in-Some-Err.result
-    c.from-in-Some-Err.ensures
+    list_fails engine_shown (with_numbers text) shown_captures (with_numbers text) i text o from to c.in-Some-Err.error c.told.result
+    c.told.ensures.engine
     (subst (λ item. GivesBy i text o engine_shown (with_numbers text) from item to)
     (c.in-Some-Err.is ∙ ap Some c.in-Some-Err.field-0-is) (c.next_captures.ensures.list i o h))
 
@@ -63,5 +63,22 @@ pub returns-in-Some-Err-clause-easy : goal.returns-in-Some-Err-clause-easy
 returns-in-Some-Err-clause-easy c =
     let r = c.args.self.now.engine in
     let text = c.args.text.now in
-    easy_error r text c.in-Some-Err.error c.from-in-Some-Err.result c.in-Some-Err.field-0 c.from-in-Some-Err.ensures c.in-Some-Err.field-0-is
+    easy_error r text c.in-Some-Err.error c.told.result c.in-Some-Err.field-0 c.told.ensures.engine c.in-Some-Err.field-0-is
     (subst (λ item. IfSome item (λ found. IfErr found (IsNoLimitWhereEasy r text))) c.in-Some-Err.is c.next_captures.ensures.easy)
+
+pub returns-in-None-clause-limits : goal.returns-in-None-clause-limits
+returns-in-None-clause-limits c = sym (subst (λ item. StaysInStep item c.next_captures.new.self) c.in-None.is c.next_captures.ensures.stays)
+
+pub returns-in-Ok-clause-limits : goal.returns-in-Ok-clause-limits
+returns-in-Ok-clause-limits c =
+    sym (subst (λ item. StaysInStep item c.next_captures.new.self) (c.in-Some-Ok.is ∙ ap Some c.in-Some-Ok.field-0-is) c.next_captures.ensures.stays)
+
+pub returns-in-Err-clause-limits : goal.returns-in-Err-clause-limits
+returns-in-Err-clause-limits c =
+    ap limit_told c.from.ensures
+    ∙ sym (subst (λ item. StaysInStep item c.next_captures.new.self) (c.in-Some-Ok.is ∙ ap Some c.in-Some-Ok.field-0-is) c.next_captures.ensures.stays)
+
+pub returns-in-Some-Err-clause-limits : goal.returns-in-Some-Err-clause-limits
+returns-in-Some-Err-clause-limits c =
+    c.told.ensures.limit
+    (subst (λ item. StaysInStep item c.next_captures.new.self) (c.in-Some-Err.is ∙ ap Some c.in-Some-Err.field-0-is) c.next_captures.ensures.stays)

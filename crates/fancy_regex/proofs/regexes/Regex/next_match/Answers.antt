@@ -1,5 +1,5 @@
-use Rattle.std.proofs.Common.{IfErr, IfSome, Some, ap, ◌∙◌, subst}
-use Rattle.fancy_matches.specs.Regexes.{GivesBy, IsNoLimitWhereEasy, shown_match as engine_shown, standing_of, with_span}
+use Rattle.std.proofs.Common.{IfErr, IfSome, Some, ap, ◌∙◌, sym, subst}
+use Rattle.fancy_matches.specs.Regexes.{GivesBy, IsNoLimitWhereEasy, StaysInStep, shown_match as engine_shown, standing_of, with_span}
 use Rattle.fancy_regex.specs.Found.{shown_match}
 use Rattle.fancy_regex.proofs.Replies.{easy_error, list_fails}
 use Rattle.fancy_regex.proofs.regexes.Regex.next_match.Goals as goal
@@ -25,7 +25,7 @@ returns-in-Some-Err-clause-list c i o h =
     let text = c.args.text.now in
     let from = standing_of c.args.standing.now in
     let to = standing_of c.next_match.new.standing in
-    list_fails engine_shown (with_span text) shown_match (with_span text) i text o from to c.in-Some-Err.error c.from.result c.from.ensures
+    list_fails engine_shown (with_span text) shown_match (with_span text) i text o from to c.in-Some-Err.error c.told.result c.told.ensures.engine
     (subst (λ item. GivesBy i text o engine_shown (with_span text) from item to)
     (c.in-Some-Err.is ∙ ap Some c.in-Some-Err.field-0-is) (c.next_match.ensures.list i o h))
 
@@ -33,5 +33,17 @@ pub returns-in-Some-Err-clause-easy : goal.returns-in-Some-Err-clause-easy
 returns-in-Some-Err-clause-easy c =
     let r = c.args.self.now.engine in
     let text = c.args.text.now in
-    easy_error r text c.in-Some-Err.error c.from.result c.in-Some-Err.field-0 c.from.ensures c.in-Some-Err.field-0-is
+    easy_error r text c.in-Some-Err.error c.told.result c.in-Some-Err.field-0 c.told.ensures.engine c.in-Some-Err.field-0-is
     (subst (λ item. IfSome item (λ found. IfErr found (IsNoLimitWhereEasy r text))) c.in-Some-Err.is c.next_match.ensures.easy)
+
+pub returns-in-None-clause-limits : goal.returns-in-None-clause-limits
+returns-in-None-clause-limits c = sym (subst (λ item. StaysInStep item c.next_match.new.self) c.in-None.is c.next_match.ensures.stays)
+
+pub returns-in-Some-Ok-clause-limits : goal.returns-in-Some-Ok-clause-limits
+returns-in-Some-Ok-clause-limits c =
+    sym (subst (λ item. StaysInStep item c.next_match.new.self) (c.in-Some-Ok.is ∙ ap Some c.in-Some-Ok.field-0-is) c.next_match.ensures.stays)
+
+pub returns-in-Some-Err-clause-limits : goal.returns-in-Some-Err-clause-limits
+returns-in-Some-Err-clause-limits c =
+    c.told.ensures.limit
+    (subst (λ item. StaysInStep item c.next_match.new.self) (c.in-Some-Err.is ∙ ap Some c.in-Some-Err.field-0-is) c.next_match.ensures.stays)

@@ -1,5 +1,6 @@
-use Rattle.std.proofs.Common.{Some, Err, refl, ap, ◌∙◌, sym, subst}
+use Rattle.std.proofs.Common.{Some, Err, inl, refl, ap, ◌∙◌, sym, subst}
 use Rattle.fancy_replace.specs.Splits as parts
+use Rattle.fancy_regex.proofs.Replies.{told_none}
 use Rattle.fancy_regex.proofs.regexes.Regex.next_piece.Goals as goal
 
 pub returns-in-None-clause-gives : goal.returns-in-None-clause-gives
@@ -8,6 +9,7 @@ returns-in-None-clause-gives c = record {
       subst (λ item. parts.GivesPiece (λ piece. piece.now) c.args.self.now.engine c.args.pieces.now item c.next.new.regex c.next.new.self)
       c.in-None.is c.next.ensures.gives;
   same = record { engine = c.next.ensures.gives.same; names = refl; pattern = refl; options = refl };
+  limits = told_none c.args.self.now.engine c.next.new.regex (subst (λ item. parts.StaysInPiece c.args.self.now.engine item c.next.new.regex) c.in-None.is c.next.ensures.gives.stays);
 }
 
 pub returns-in-Some-Ok-clause-gives : goal.returns-in-Some-Ok-clause-gives
@@ -16,14 +18,16 @@ returns-in-Some-Ok-clause-gives c = record {
       subst (λ item. parts.GivesPiece (λ piece. piece.now) c.args.self.now.engine c.args.pieces.now item c.next.new.regex c.next.new.self)
       (c.in-Some-Ok.is ∙ ap Some c.in-Some-Ok.field-0-is) c.next.ensures.gives;
   same = record { engine = c.next.ensures.gives.same; names = refl; pattern = refl; options = refl };
+  limits = told_none c.args.self.now.engine c.next.new.regex (subst (λ item. parts.StaysInPiece c.args.self.now.engine item c.next.new.regex) (c.in-Some-Ok.is ∙ ap Some c.in-Some-Ok.field-0-is) c.next.ensures.gives.stays);
 }
 
 pub returns-in-Some-Err-clause-gives : goal.returns-in-Some-Err-clause-gives
 returns-in-Some-Err-clause-gives c = record {
   gives =
       subst (λ e. parts.GivesPiece (λ piece. piece.now) c.args.self.now.engine c.args.pieces.now (Some (Err e)) c.next.new.regex c.next.new.self)
-      (sym c.from.ensures)
+      (sym c.told.ensures.engine)
       (subst (λ item. parts.GivesPiece (λ piece. piece.now) c.args.self.now.engine c.args.pieces.now item c.next.new.regex c.next.new.self)
       (c.in-Some-Err.is ∙ ap Some c.in-Some-Err.field-0-is) c.next.ensures.gives);
   same = record { engine = c.next.ensures.gives.same; names = refl; pattern = refl; options = refl };
+  limits = inl (c.told.ensures.limit (subst (λ item. parts.StaysInPiece c.args.self.now.engine item c.next.new.regex) (c.in-Some-Err.is ∙ ap Some c.in-Some-Err.field-0-is) c.next.ensures.gives.stays));
 }
