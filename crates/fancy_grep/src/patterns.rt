@@ -11,6 +11,12 @@ use std::alloc::{AllocError, Global};
 /// How many nodes of the pattern may stand in one another, calls with them.
 const MOST_NESTING: usize = 4_000;
 
+/// How many states of plain parts of the pattern a search of a line may visit, unless said otherwise.
+pub const MOST_VISITS: usize = 100_000_000;
+
+/// How many bytes it may keep for them at one time, unless said otherwise.
+pub const MOST_MEMORY: usize = 268_435_456;
+
 /// What of a line a match may be.
 #[derive(Clone, Copy)]
 pub enum Extent {
@@ -31,6 +37,10 @@ pub struct PatternOptions {
     /// The longest match at the earliest start is found, and not the first.
     pub longest: bool,
     pub extent: Extent,
+    /// How many states of plain parts of the pattern a search of a line may visit.
+    pub visit_limit: usize,
+    /// How many bytes it may keep for them at one time.
+    pub memory_limit: usize,
 }
 
 /// The pattern for matches that are such parts of a line.
@@ -87,5 +97,7 @@ pub fn regex_of(alloc: Global, pattern: &str, options: PatternOptions) -> Result
         .leftmost_longest(options.longest)
         .max_prog_size(None)
         .max_nesting(Some(MOST_NESTING))
+        .visit_limit(Some(options.visit_limit))
+        .memory_limit(Some(options.memory_limit))
         .build(alloc)
 }

@@ -15,13 +15,14 @@ file as a command line, in which ' quotes. Status 0: a line is selected; 1: none
 enum Kind {
     Flag,
     Number,
+    Bytes,
     Text,
     /// A text after `=`, or nothing.
     When,
 }
 
 /// Each option: its name, its letter if it has one, what is written, and what it says.
-const OPTIONS: [(&str, Option<char>, Kind, &str); 17] = [
+const OPTIONS: [(&str, Option<char>, Kind, &str); 19] = [
     (
         "fixed-strings",
         Some('F'),
@@ -124,6 +125,18 @@ const OPTIONS: [(&str, Option<char>, Kind, &str); 17] = [
         Kind::Flag,
         "Search folders, but for hidden and binary files",
     ),
+    (
+        "visits",
+        None,
+        Kind::Number,
+        "Visit so many states in a line at most [if left out 100000000]",
+    ),
+    (
+        "memory",
+        None,
+        Kind::Bytes,
+        "Keep so many bytes for them at most [if left out 268435456]",
+    ),
 ];
 
 fn argument<'a>(
@@ -141,6 +154,7 @@ fn argument<'a>(
     match kind {
         Kind::Flag => word.action(ArgAction::SetTrue),
         Kind::Number => word.value_name("N").value_parser(value_parser!(u64)),
+        Kind::Bytes => word.value_name("BYTES").value_parser(value_parser!(u64)),
         Kind::Text => word.value_name("TEMPLATE").allow_hyphen_values(true),
         Kind::When => word
             .value_name("WHEN")

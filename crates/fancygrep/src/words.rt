@@ -5,7 +5,7 @@ use crate::commands::command;
 use clap::{ArgMatches, Error};
 use fancy_grep::context::Context;
 use fancy_grep::files::search;
-use fancy_grep::patterns::{Extent, PatternOptions};
+use fancy_grep::patterns::{Extent, MOST_MEMORY, MOST_VISITS, PatternOptions};
 use fancy_grep::settings::{Report, Settings};
 use std::alloc::{AllocError, Global};
 use std::env;
@@ -37,6 +37,8 @@ fn pattern(matches: &ArgMatches<'_>) -> PatternOptions {
         case_insensitive: matches.get_flag("ignore-case"),
         longest: matches.get_flag("longest"),
         extent: extent(matches),
+        visit_limit: matches.get_one::<usize>("visits").unwrap_or(MOST_VISITS),
+        memory_limit: matches.get_one::<usize>("memory").unwrap_or(MOST_MEMORY),
     }
 }
 
