@@ -4,7 +4,7 @@ use crate::excerpt::{columns, push_shown, push_times};
 use crate::find::{Groups, Searcher, push_found, searcher_of};
 use crate::no_match::no_match;
 use crate::outcome::Trouble;
-use crate::refusals::refusal;
+use crate::refusals::search_refusal;
 use crate::request::Request;
 use fancy_expr::error::Error;
 use fancy_matches::found::Captures;
@@ -167,13 +167,14 @@ fn page(alloc: Global, found: &Found, text: &str, colours: bool) -> Result<Strin
 
 /// All matches: the lines in which they stand, and then each with its groups.
 pub fn all(alloc: Global, request: &Request, text: &str, colours: bool) -> Result<String, Trouble> {
-    let found = {
+    let (found, passed) = {
         let mut searcher = searcher_of(alloc, request)?;
-        found_by(alloc, &mut searcher, text)
+        let found = found_by(alloc, &mut searcher, text);
+        (found, searcher.regex.passed())
     };
     match found {
         Ok(found) if found.spans.is_empty() => no_match(alloc, request),
         Ok(found) => Ok(page(alloc, &found, text, colours)?),
-        Err(error) => Err(refusal(alloc, request.source.as_str(), &error)),
+        Err(error) => Err(search_refusal(alloc, request.source.as_str(), &error, passed)),
     }
 }

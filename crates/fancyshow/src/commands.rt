@@ -40,6 +40,10 @@ enum Takes {
     Template,
     /// A pattern, a text and the place where the search begins.
     Place,
+    /// The same, and a run is shown that has no limits on its delegates.
+    Run,
+    /// A pattern and a text, and a search has limits on its delegates.
+    Search,
     /// A text alone.
     TextAlone,
     /// The rules of a language and a text.
@@ -51,6 +55,11 @@ enum Takes {
 impl Takes {
     /// It takes a pattern and a text.
     fn has_pattern_and_text(self) -> bool {
+        self == Takes::Run || self.has_search()
+    }
+
+    /// It searches a text for a pattern.
+    fn has_search(self) -> bool {
         matches!(self, Takes::Text | Takes::Template | Takes::Place)
     }
 
@@ -60,6 +69,8 @@ impl Takes {
             Takes::Pattern => !matches!(self, Takes::Lines | Takes::Rules),
             Takes::TextAlone => self == Takes::Rules || self.has_pattern_and_text(),
             Takes::Text => self.has_pattern_and_text(),
+            Takes::Search => self.has_search(),
+            Takes::Place => matches!(self, Takes::Place | Takes::Run),
             _ => self == other,
         }
     }
@@ -71,6 +82,7 @@ enum Kind {
     Word,
     Flag,
     Number,
+    Bytes,
     File,
     /// A file that has to be named.
     RequiredFile,
@@ -92,7 +104,7 @@ const PARTS: [(&str, Takes, &str); 11] = [
         Takes::Template,
         "The text with its matches replaced",
     ),
-    ("trace", Takes::Place, TRACE),
+    ("trace", Takes::Run, TRACE),
     (
         "list",
         Takes::Pattern,
@@ -105,7 +117,7 @@ const PARTS: [(&str, Takes, &str); 11] = [
 ];
 
 /// Each argument: its name, the parts that take it, what is written, and what it says.
-const ARGUMENTS: [(&str, Takes, Kind, &str); 25] = [
+const ARGUMENTS: [(&str, Takes, Kind, &str); 27] = [
     ("PATTERN", Takes::Pattern, Kind::Word, "The pattern"),
     (
         "tree",
@@ -198,6 +210,18 @@ const ARGUMENTS: [(&str, Takes, Kind, &str); 25] = [
         "At most so many instructions",
     ),
     (
+        "visits",
+        Takes::Search,
+        Kind::Number,
+        "At most so many states of easy parts in a search",
+    ),
+    (
+        "memory",
+        Takes::Search,
+        Kind::Bytes,
+        "At most so many bytes that a search keeps for them",
+    ),
+    (
         "pos",
         Takes::Place,
         Kind::Number,
@@ -251,6 +275,10 @@ fn argument<'a>(alloc: Global, name: &'a str, kind: Kind, help: &'a str) -> Arg<
         Kind::Number => word
             .long(name)
             .value_name("N")
+            .value_parser(value_parser!(u64)),
+        Kind::Bytes => word
+            .long(name)
+            .value_name("BYTES")
             .value_parser(value_parser!(u64)),
         Kind::File => word.long(name).value_name("FILE"),
         Kind::RequiredFile => word.long(name).value_name("FILE").required(true),

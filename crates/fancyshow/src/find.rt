@@ -5,7 +5,7 @@ ghost use Rattle.fancy_expr.specs.Sound.{IsWellFormedTree};
 use crate::excerpt::push_times;
 use crate::no_match::no_match;
 use crate::outcome::Trouble;
-use crate::refusals::refusal;
+use crate::refusals::{refusal, search_refusal};
 use crate::request::Request;
 use crate::source::read;
 use fancy_characters::places::is_place;
@@ -28,7 +28,11 @@ fn regex(alloc: Global, request: &Request, tree: &ExprTree) -> Result<Regex, Tro
         return Err(Trouble::Words(String::from_str(alloc, "these options do not fit together")?));
     }
     match Regex::new(alloc, tree, &options, request.arguments.backtracks) {
-        Ok(regex) => Ok(regex),
+        Ok(regex) => {
+            let mut regex = regex;
+            regex.limit(request.limits);
+            Ok(regex)
+        }
         Err(error) => Err(refusal(alloc, request.source.as_str(), &error)),
     }
 }
@@ -125,13 +129,14 @@ pub fn captures<'t>(
     if !is_place(text.as_bytes(), pos) {
         return Err(no_place(alloc, pos)?);
     }
-    let (found, groups) = {
+    let (found, passed, groups) = {
         let mut searcher = searcher_of(alloc, request)?;
-        (searcher.regex.captures_from(text, pos), searcher.groups)
+        let found = searcher.regex.captures_from(text, pos);
+        (found, searcher.regex.passed(), searcher.groups)
     };
     match found {
         Ok(found) => Ok((found, groups)),
-        Err(error) => Err(refusal(alloc, request.source.as_str(), &error)),
+        Err(error) => Err(search_refusal(alloc, request.source.as_str(), &error, passed)),
     }
 }
 

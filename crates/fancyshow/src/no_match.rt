@@ -7,6 +7,7 @@ use crate::request::Request;
 use crate::source::read;
 use fancy_command::arguments::Arguments;
 use fancy_expr::expr::Expr;
+use fancy_vm::vm::SearchLimits;
 use std::alloc::{AllocError, Global};
 
 /// So many classes of a tree are looked at.
@@ -51,6 +52,7 @@ fn takes_nothing(
         source: notation(alloc, class)?,
         is_tree: true,
         arguments: plain(&request.arguments),
+        limits: SearchLimits::none(),
     };
     let (found, _) = captures(alloc, &alone, text)?;
     Ok(found.is_none())

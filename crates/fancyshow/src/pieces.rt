@@ -2,7 +2,7 @@
 
 use crate::find::{Searcher, searcher_of};
 use crate::outcome::Trouble;
-use crate::refusals::refusal;
+use crate::refusals::search_refusal;
 use crate::request::Request;
 use fancy_expr::error::Error;
 use fancy_replace::replace::replace_all;
@@ -75,14 +75,15 @@ pub fn replaced(
     text: &str,
     template: &str,
 ) -> Result<String, Trouble> {
-    let replaced = {
+    let (replaced, passed) = {
         let mut searcher = searcher_of(alloc, request)?;
-        replaced_by(alloc, &mut searcher, text, template)
+        let replaced = replaced_by(alloc, &mut searcher, text, template);
+        (replaced, searcher.regex.passed())
     };
     match replaced {
         Ok(out) if out.as_str().ends_with('\n') => warned(alloc, out, template),
         Ok(out) => warned(alloc, format!(in alloc; "{out}\n")?, template),
-        Err(error) => Err(refusal(alloc, request.source.as_str(), &error)),
+        Err(error) => Err(search_refusal(alloc, request.source.as_str(), &error, passed)),
     }
 }
 
@@ -104,12 +105,13 @@ fn written(alloc: Global, searcher: &mut Searcher, text: &str) -> Result<String,
 
 /// The pieces between the matches.
 pub fn pieces(alloc: Global, request: &Request, text: &str) -> Result<String, Trouble> {
-    let written = {
+    let (written, passed) = {
         let mut searcher = searcher_of(alloc, request)?;
-        written(alloc, &mut searcher, text)
+        let written = written(alloc, &mut searcher, text);
+        (written, searcher.regex.passed())
     };
     match written {
         Ok(out) => Ok(out),
-        Err(error) => Err(refusal(alloc, request.source.as_str(), &error)),
+        Err(error) => Err(search_refusal(alloc, request.source.as_str(), &error, passed)),
     }
 }

@@ -5,6 +5,7 @@ use crate::outcome::Trouble;
 use crate::wants::{Wanted, wanted_at};
 use fancy_expr::error::{Error, RuntimeError};
 use fancy_pattern::error::PatternError;
+use fancy_vm::vm::SearchLimit;
 use std::alloc::{AllocError, Global};
 
 /// Where the tree cannot be read on, and what was wanted there.
@@ -45,6 +46,34 @@ pub fn refusal(alloc: Global, tree: &str, error: &Error) -> Trouble {
     match explained(alloc, tree, error) {
         Ok(trouble) => trouble,
         Err(_) => Trouble::Memory,
+    }
+}
+
+/// What is said of a limit of delegates that was passed, and what may help.
+fn passed_text(limit: SearchLimit) -> &'static str {
+    match limit {
+        SearchLimit::Visits => {
+            "too many states were visited (VisitLimitExceeded)\n  --visits N allows more"
+        }
+        SearchLimit::Bytes => {
+            "too many bytes were kept (MemoryLimitExceeded)\n  --memory BYTES allows more"
+        }
+    }
+}
+
+/// The trouble that an error of a search is, which passed this limit of its delegates, or none.
+pub fn search_refusal(
+    alloc: Global,
+    tree: &str,
+    error: &Error,
+    passed: Option<SearchLimit>,
+) -> Trouble {
+    match (error, passed) {
+        (Error::Memory, Some(limit)) => match String::from_str(alloc, passed_text(limit)) {
+            Ok(text) => Trouble::Refusal(text),
+            Err(_) => Trouble::Memory,
+        },
+        _ => refusal(alloc, tree, error),
     }
 }
 

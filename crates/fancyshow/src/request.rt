@@ -4,6 +4,7 @@ use crate::outcome::Trouble;
 use clap::ArgMatches;
 use fancy_command::arguments::Arguments;
 use fancy_search::search::SearchOptions;
+use fancy_vm::vm::SearchLimits;
 use std::alloc::{AllocError, Global};
 use std::{fs, io};
 
@@ -14,6 +15,8 @@ pub struct Request {
     /// The source is a tree, and no pattern.
     pub is_tree: bool,
     pub arguments: Arguments,
+    /// How much the delegates of a search may take together.
+    pub limits: SearchLimits,
 }
 
 impl Request {
@@ -130,6 +133,7 @@ fn read_request<'a>(
         source: prepared(rt.alloc(), source, is_tree)?,
         is_tree,
         arguments: arguments(matches),
+        limits: limits(matches),
     };
     Ok((request, word))
 }
@@ -167,6 +171,13 @@ fn arguments(matches: &ArgMatches<'_>) -> Arguments {
         backtracks: matches.get_one::<usize>("backtracks"),
         steps: matches.get_one::<u64>("steps"),
         max_prog: matches.get_one::<usize>("max-prog"),
+    }
+}
+
+fn limits(matches: &ArgMatches<'_>) -> SearchLimits {
+    SearchLimits {
+        visits: matches.get_one::<u64>("visits"),
+        bytes: matches.get_one::<usize>("memory"),
     }
 }
 

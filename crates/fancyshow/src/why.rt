@@ -152,6 +152,7 @@ fn explain_tree(
         source,
         is_tree: true,
         arguments: watched(&request.arguments),
+        limits: request.limits,
     };
     let mut out = String::from_str(alloc, "no match\n")?;
     if let Some(furthest) = watch(alloc, &marked, text)? {
