@@ -94,7 +94,11 @@ enum fancy_code {
     FANCY_GENERAL_PARSE_ERROR = 38,
 
     FANCY_WRONG_SIZE = 39,           /* size of the options is not the library's: header and library are of two versions */
-    FANCY_NO_ROOM = 40               /* there is no room for the text of fancy_replace: count */
+    FANCY_NO_ROOM = 40,              /* there is no room for the text of fancy_replace: count */
+
+    /* a search passed a limit of the options of this name */
+    FANCY_VISIT_LIMIT_EXCEEDED = 41,
+    FANCY_MEMORY_LIMIT_EXCEEDED = 42
 };
 
 /* A compiled pattern or tree, or nothing. What its words say is the library's affair. Begin with FANCY_NOTHING, or with
@@ -115,7 +119,19 @@ struct fancy_scanner {
  * unless it says otherwise.
  *
  * With backtrack_limit left at FANCY_UNSET a search may fall back 1,000,000 times, and once more for each byte of the text
- * and for its end. A start that fails is one such time, so a search for a tree that is easy never stops at that. */
+ * and for its end. A start that fails is one such time, so a search for a tree that is easy never stops at that.
+ *
+ * Parts of a pattern without look-around, references and the like are searched for by an automaton, and a search that may
+ * take long is one of these parts: no limit of steps or of backtracks reaches into it. visit_limit says how many states
+ * all these parts may take up in one search together, and memory_limit how many bytes what they keep may hold at one time.
+ * A state costs some 20 to 100 ns, so the default of 100,000,000 bounds a search to several seconds at worst; everyday
+ * patterns need a few for each byte of the text, if any. A search that passes one of both is FANCY_VISIT_LIMIT_EXCEEDED
+ * or FANCY_MEMORY_LIMIT_EXCEEDED. With both unset an easy tree passes no limit but those of its own steps and backtracks,
+ * which it passes only where they were set lower; then it may take as long and as much memory as it needs.
+ *
+ * Both are for each search: of the calls for all matches, of fancy_replace and of fancy_scan, for each match. 0 and
+ * UINT64_MAX, or SIZE_MAX, are no limit. A host that was built by a header without them, in which they were reserved,
+ * has them from fancy_default_options, and without it none, by its zeros. */
 struct fancy_options {
     size_t size;            /* sizeof(struct fancy_options); a call with another is FANCY_WRONG_SIZE */
     size_t pos;             /* where the search begins, a byte of the text: for fancy_find and fancy_is_match */
@@ -144,7 +160,11 @@ struct fancy_options {
     bool oniguruma;            /* under m a line begins where Oniguruma has it */
     bool named_groups_only;    /* where a group has a name, a plain ( ) captures nothing */
 
-    uint64_t reserved[4];      /* 0: room for options to come, so that the struct keeps its size */
+    /* of searches: see above */
+    uint64_t visit_limit;      /* how many states a search may visit in parts that an automaton searches for; 100,000,000 */
+    size_t memory_limit;       /* how many bytes it may keep for that; 268,435,456 (256 MiB) */
+
+    uint64_t reserved[2];      /* 0: room for options to come, so that the struct keeps its size */
 };
 
 struct fancy_outcome {
@@ -227,8 +247,9 @@ size_t fancy_groups_named(struct fancy_program *program, const char *name, size_
  * `$` too. To begin it later, set pos: what lies before is there, for look-behind and `^`.
  *
  * Errors of each search: FANCY_WRONG_SIZE; FANCY_NOT_UTF8 of the text at byte; FANCY_NO_PROGRAM; FANCY_UNFIT;
- * FANCY_BACKTRACK_LIMIT_EXCEEDED, FANCY_STACK_OVERFLOW, FANCY_STEP_LIMIT_EXCEEDED; FANCY_MEMORY. The program holds what it
- * held, whatever the code is. */
+ * FANCY_BACKTRACK_LIMIT_EXCEEDED, FANCY_STACK_OVERFLOW, FANCY_STEP_LIMIT_EXCEEDED, FANCY_VISIT_LIMIT_EXCEEDED,
+ * FANCY_MEMORY_LIMIT_EXCEEDED; FANCY_MEMORY, where a request for memory was refused. The program holds what it held, whatever
+ * the code is. */
 
 /* Whether there is a match: FANCY_OK or FANCY_NO_MATCH. */
 struct fancy_outcome fancy_is_match(struct fancy_program *program, const char *text, size_t text_length,

@@ -214,7 +214,7 @@ static void write_messages(void)
 {
     char message[120];
     struct fancy_outcome outcome = {0, FANCY_UNSET, FANCY_UNSET, 0, 0};
-    for (; outcome.code <= FANCY_NO_ROOM + 1; outcome.code++) {
+    for (; outcome.code <= FANCY_MEMORY_LIMIT_EXCEEDED + 1; outcome.code++) {
         fancy_error_message(&outcome, message, sizeof message);
         printf("%u: %s\n", outcome.code, message);
     }
@@ -324,6 +324,54 @@ static void scan_texts(void)
     fancy_scanner_free(&scanner);
 }
 
+/* An a or an ab, and then a c or a bcd: a search has to choose, keeps its choice, and takes up more than one state. */
+static const char *const CHOICES = "(?:a|ab)(?:c|bcd)";
+
+static void pass_limits(void)
+{
+    size_t numbers[14];
+    struct fancy_standing first = FANCY_FIRST;
+    options = fancy_default_options();
+    printf("%llu visits, %zu bytes\n", (unsigned long long)options.visit_limit, options.memory_limit);
+    compile_pattern("a pattern with choices", CHOICES);
+    options.visit_limit = 1;
+    find("more than one visit", "xabcd");
+    is_match("whether there is a match, within one visit", "xabcd");
+    standing = first;
+    find_all("all matches within one visit", "xabcd", 2);
+    captures_all("all groups within one visit", "xabcd", numbers, 14);
+    compile_pattern("choices in the text of the replacements", "(?:b|b=)(?:2|=22)");
+    replace("a replacement within one visit", "-", false, 0, 24);
+    compile_pattern("the first of both again", CHOICES);
+    options.memory_limit = 1;
+    find("both limits: the first is told", "xabcd");
+    options.visit_limit = UINT64_MAX;
+    find("more than one byte", "xabcd");
+    find_all("all matches within one byte", "xabcd", 2);
+    options.memory_limit = 0;
+    find("no limit", "xabcd");
+    printf("%zu %zu\n", spans[0], spans[1]);
+    options.visit_limit = 0;
+    find("0 is no limit", "xabcd");
+    options = fancy_default_options();
+    options.visit_limit = 1;
+    add("a pattern that passes its limit of visits", CHOICES);
+    options.visit_limit = 0;
+    options.memory_limit = 1;
+    add("a pattern that passes its limit of memory", CHOICES);
+    options = fancy_default_options();
+    add("a pattern that passes none", "x");
+    scan("limits beside a match", "xabcd", 0, 1, 24);
+    fancy_scanner_free(&scanner);
+    options.visit_limit = 0;
+    options.memory_limit = 1;
+    add("a pattern that passes its limit of memory", CHOICES);
+    options = fancy_default_options();
+    scan("a limit of memory and no match", "xabcd", 0, 1, 24);
+    fancy_scanner_free(&scanner);
+    fancy_free(&program);
+}
+
 int main(void)
 {
     options = fancy_default_options();
@@ -382,5 +430,6 @@ int main(void)
     write_texts();
     copy_programs();
     scan_texts();
+    pass_limits();
     return 0;
 }

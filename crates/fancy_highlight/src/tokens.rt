@@ -1,7 +1,7 @@
 //! The tokens of a text.
 
 use crate::scopes::Scopes;
-use fancy_expr::error::RuntimeError;
+use fancy_scanner::scan_limit::ScanLimit;
 
 /// A part of a text, which begins and ends between characters.
 #[derive(Clone, Copy, Debug, PartialEq, Eq)]
@@ -19,7 +19,7 @@ pub struct Token {
 pub struct LeftOut {
     /// The byte from which the rule was searched for.
     pub at: usize,
-    pub limit: RuntimeError,
+    pub limit: ScanLimit,
 }
 
 /// The tokens of a text, which cover it.

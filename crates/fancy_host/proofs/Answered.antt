@@ -16,6 +16,7 @@ use Rattle.fancy_compile.specs.declared.options.CompileOptions.{CompileOptions}
 use Rattle.fancy_program.specs.Programs.{prog_of}
 use Rattle.fancy_search.specs.declared.search.Compiled.{Compiled}
 use Rattle.fancy_search.specs.Searches.{Bounds, IsCompiledFrom, IsNestedOver, IsRefusedAs, Promises, input_of, program}
+use Rattle.fancy_vm.specs.declared.search_limits.SearchLimit.{SearchLimit}
 use Rattle.fancy_host.specs.declared.options.FancyOptions.{FancyOptions}
 use Rattle.fancy_host.specs.declared.searches.Searcher.{Searcher}
 use Rattle.fancy_host.specs.declared.tree.CompiledTree.{CompiledTree}
@@ -94,16 +95,16 @@ module _ (source : Source) (o : FancyOptions) (held : Option CompiledTree) (outc
   pub failed_so : held ≡ None → Compiles source o None outcome → Compiles source o held outcome
   failed_so nothing h = subst (λ m. Compiles source o m outcome) (sym nothing) h
 
-module _ (text : List ℕ) (o : FancyOptions) (outcome : FancyOutcome) (old : List ℕ) where
+module _ (text : List ℕ) (o : FancyOptions) (passed : Option SearchLimit) (outcome : FancyOutcome) (old : List ℕ) where
   pub found_by : (read new : List ℕ) (held : Option CompiledTree) (s taken : CompiledTree) → read ≡ text → IsSearch text o held → held ≡ Some s → taken ≡ s →
-      Answers taken read o old new outcome → FindsFirst text o old held new outcome
+      Answers taken read o passed old new outcome → FindsFirst text o passed old held new outcome
   found_by read new held s taken same search there is h =
-      subst (λ m. FindsFirst text o old m new outcome) (sym there)
+      subst (λ m. FindsFirst text o passed old m new outcome) (sym there)
       (found (subst (IsSearch text o) there search)
-      (subst (λ t. Answers s t o old new outcome) same (subst (λ x. Answers x read o old new outcome) is h)))
+      (subst (λ t. Answers s t o passed old new outcome) same (subst (λ x. Answers x read o passed old new outcome) is h)))
 
   pub unfit_answers : (s : CompiledTree) (r : plain.RunOptions) → r ≡ running o text →
       run_fits (record { program = prog_of (program (compiled_of s)); text = text; options = r }) ≡ false → outcome ≡ coded unfit →
-      Answers s text o old old outcome
+      Answers s text o passed old old outcome
   unfit_answers s r same h is =
-      subst (λ x. Answers s text o old old x) (sym is) (does_not_fit (unfit_by (compiled_of s) text o r same h))
+      subst (λ x. Answers s text o passed old old x) (sym is) (does_not_fit (unfit_by (compiled_of s) text o r same h))

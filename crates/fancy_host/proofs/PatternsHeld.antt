@@ -20,7 +20,7 @@ use Rattle.fancy_scanner.specs.declared.scanner.Scanner.{Scanner}
 use Rattle.fancy_host.specs.declared.options.FancyOptions.{FancyOptions}
 use Rattle.fancy_host.specs.declared.outcome.FancyOutcome.{FancyOutcome}
 use Rattle.fancy_host.specs.Codes.{memory}
-use Rattle.fancy_host.specs.Hosted.{analysis, coded, compilation, compiled, given_backtracks, refused, request}
+use Rattle.fancy_host.specs.Hosted.{analysis, coded, compilation, compiled, given_backtracks, limits, refused, request}
 use Rattle.fancy_host.specs.Scanned.{Adds, HoldsSame, IsHeldBy, IsRuleFrom, fails, holds, keeps, rule_for}
 
 none_or : (n : Bool) → (not n || n) ≡ true
@@ -47,9 +47,9 @@ asked_fits o s as_analysed as_compiled as_run =
 -- the rule of a tree, by the options that are handed to the scanner
 pub rule_so : (tree : ExprTree) (o : FancyOptions) (text : List ℕ) (a : AnalyzeContext) (k : CompileOptions) (r : plain.RunOptions) (b : Option ℕ) →
     a ≡ analysis o → k ≡ compilation o → r ≡ begun_at (requests.running (request o)) 0 → b ≡ given_backtracks o →
-    record { input = input_of tree a k; options = options_for r b text } ≡ rule_for tree o text
+    record { input = input_of tree a k; options = options_for r b text; limits = limits o } ≡ rule_for tree o text
 rule_so tree o text a k r b ea ek er eb =
-    ap₂ (λ i p. record { input = i; options = p }) (ap₂ (input_of tree) ea ek) (ap₂ (λ s l. options_for s l text) er eb)
+    ap₂ (λ i p. record { input = i; options = p; limits = limits o }) (ap₂ (input_of tree) ea ek) (ap₂ (λ s l. options_for s l text) er eb)
 
 -- nothing, and a scanner without patterns
 pub same_as_none : (held : Option Scanner) (s : Scanner) → held ≡ None → ((text : List ℕ) → IsScannerOf [] text s) → HoldsSame held (Some s)

@@ -8,6 +8,8 @@ use Rattle.std.proofs.lemmas.List.Elements.{All-append, All-nil}
 use Rattle.fancy_meaning.specs.Options.{RunOptions}
 use Rattle.fancy_meaning.specs.Premises.{Input, IsText, plan}
 use Rattle.fancy_expr.specs.declared.error.Error.{Error}
+use Rattle.fancy_vm.specs.SearchLimits.{EndsBy}
+use Rattle.fancy_vm.specs.declared.search_limits.SearchLimit.{SearchLimit}
 use Rattle.fancy_search.specs.Searches.{HasSource, IsCompiledFrom}
 use Rattle.fancy_search.specs.declared.search.Compiled.{Compiled}
 use Rattle.fancy_matches.specs.Listing.{ComesTo, Standing, stays}
@@ -16,7 +18,7 @@ use Rattle.fancy_matches.proofs.Lists.{comes_left, comes_more}
 use Rattle.fancy_host.specs.declared.outcome.FancyOutcome.{FancyOutcome}
 use Rattle.fancy_host.specs.declared.tree.CompiledTree.{CompiledTree}
 use Rattle.fancy_host.specs.Codes.{no_match, ok}
-use Rattle.fancy_host.specs.Hosted.{coded, compiled_of, failure, over, over_from, with_count}
+use Rattle.fancy_host.specs.Hosted.{coded, compiled_of, failure_by, over, over_from, with_count}
 use Rattle.fancy_host.specs.Lists.{ComesBy, Form, Stops, Writes, fails, has_ended, is_full, numbers_of, row_of, width_of, writes}
 use Rattle.fancy_host.proofs.Widths.{first_is_wide, row_is_wide}
 
@@ -132,16 +134,19 @@ module _ (form : Form) (width : ℕ) (c : Compiled) (text : List ℕ) (o : RunOp
                 ∙ ap (λ xs. over xs old) numbers;
           }
 
-    pub stops_ended : result ≡ Ok None → Stops form width c text o (length old) from w.rows to (coded no_match)
-    stops_ended was =
+    pub stops_ended : (passed : Option SearchLimit) → passed ≡ None → result ≡ Ok None →
+        Stops form width c text o passed (length old) from w.rows to (coded no_match)
+    stops_ended passed none_passed was =
         has_ended
         (λ i h. let a = w.comes i h in
         let none = (steps_so (Ok None) was i h).0 in
         ap (map (row_of form)) (comes_left (plan i) text o is a.1.1 ∙ ap (λ rest. a.0 ++ rest) none ∙ append-nil a.0) ∙ a.1.0)
         (λ i h. ap (map (row_of form)) (steps_so (Ok None) was i h).1)
+        none_passed
 
-    pub stops_failed : (e : Error) → result ≡ Err e → Stops form width c text o (length old) from w.rows to (failure e)
-    stops_failed e was =
+    pub stops_failed : (passed : Option SearchLimit) (e : Error) → EndsBy e passed → result ≡ Err e →
+        Stops form width c text o passed (length old) from w.rows to (failure_by passed e)
+    stops_failed passed e ends was =
         fails e
         (λ i h. let a = w.comes i h in (
           a.0,
@@ -152,14 +157,17 @@ module _ (form : Form) (width : ℕ) (c : Compiled) (text : List ℕ) (o : RunOp
           ),
         ))
         (λ i h. (steps_so (Err e) was i h).1)
+        ends
 
   module _ (from : Standing) (old : List ℕ) (n place : ℕ) (at to : Standing) (new : List ℕ) (w : Written from old n place at new) where
-    pub stops_full : length old < place + width → Stops form width c text o (length old) from w.rows at (coded ok)
-    stops_full full = is_full (let ends = w.ends in omega (arith, ends, full)) w.comes
+    pub stops_full : (passed : Option SearchLimit) → passed ≡ None → length old < place + width →
+        Stops form width c text o passed (length old) from w.rows at (coded ok)
+    stops_full passed none_passed full = is_full (let ends = w.ends in omega (arith, ends, full)) w.comes none_passed
 
-    pub writes_so : (reason outcome : FancyOutcome) → Stops form width c text o (length old) from w.rows to reason →
-        outcome ≡ with_count n reason → Writes form width c text o from old to new outcome
-    writes_so reason outcome stop is =
-        subst (λ xs. Writes form width c text o from old to xs outcome) (sym w.are)
-        (subst (λ x. Writes form width c text o from old to (over (numbers_of w.rows) old) x) (ap (λ k. with_count k reason) w.counts ∙ sym is)
+    pub writes_so : (passed : Option SearchLimit) (reason outcome : FancyOutcome) →
+        Stops form width c text o passed (length old) from w.rows to reason →
+        outcome ≡ with_count n reason → Writes form width c text o passed from old to new outcome
+    writes_so passed reason outcome stop is =
+        subst (λ xs. Writes form width c text o passed from old to xs outcome) (sym w.are)
+        (subst (λ x. Writes form width c text o passed from old to (over (numbers_of w.rows) old) x) (ap (λ k. with_count k reason) w.counts ∙ sym is)
         (writes w.rows w.wide (let within = w.within in let ends = w.ends in omega (arith, ends, within)) stop))

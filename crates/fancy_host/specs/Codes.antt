@@ -5,6 +5,10 @@ use Rattle.fancy_expr.specs.declared.error.Error.TheVariants as error
 use Rattle.fancy_expr.specs.declared.error.RuntimeError.TheVariants as limit
 use Rattle.fancy_expr.specs.declared.error.CompileError.{CompileError}
 use Rattle.fancy_expr.specs.declared.error.CompileError.TheVariants as refusal
+use Rattle.fancy_vm.specs.declared.search_limits.SearchLimit.{SearchLimit}
+use Rattle.fancy_vm.specs.declared.search_limits.SearchLimit.TheVariants as search
+use Rattle.fancy_scanner.specs.declared.scan_limit.ScanLimit.{ScanLimit}
+use Rattle.fancy_scanner.specs.declared.scan_limit.ScanLimit.TheVariants as scan
 use Rattle.fancy_pattern.specs.declared.error.ErrorKind.{ErrorKind}
 use Rattle.fancy_pattern.specs.declared.error.ErrorKind.TheVariants as kind
 
@@ -56,6 +60,19 @@ code_of (error.RuntimeError limit.StackOverflow) = 8
 code_of (error.RuntimeError limit.StepLimitExceeded) = 9
 code_of (error.CompileError e) = code_of_refusal e
 code_of error.NestLimitExceeded = 22
+
+-- a limit of the delegates of a search
+abbrev pub code_of_limit : SearchLimit → ℕ
+code_of_limit search.Visits = 41
+code_of_limit search.Bytes = 42
+
+-- a limit that stopped the search for a pattern of a scanner
+abbrev pub code_of_scan_limit : ScanLimit → ℕ
+code_of_scan_limit scan.BacktrackLimitExceeded = 7
+code_of_scan_limit scan.StackOverflow = 8
+code_of_scan_limit scan.StepLimitExceeded = 9
+code_of_scan_limit scan.VisitLimitExceeded = 41
+code_of_scan_limit scan.MemoryLimitExceeded = 42
 
 -- what is wrong with a pattern
 abbrev pub code_of_kind : ErrorKind → ℕ
@@ -121,6 +138,8 @@ names =
     ∷ codes "GeneralParseError"
     ∷ codes "WrongSize"
     ∷ codes "NoRoom"
+    ∷ codes "VisitLimitExceeded"
+    ∷ codes "MemoryLimitExceeded"
     ∷ []
 
 -- no code has a name of no letters

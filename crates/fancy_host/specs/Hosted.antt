@@ -1,5 +1,5 @@
 -- What the calls of a host answer.
-use Rattle.std.specs.Prelude.{◌≡◌, ◌≤◌, ℕ, ◌+◌, ◌-◌, ◌/◌, ◌^◌, true, false, not, Bool, IsFalse, IsTrue, IsUtf8, List, [], ◌∷◌, ◌++◌, chars, length, take, drop, min, Option, None, Some, option_map, unwrap_or, Result, Ok, Err, if◌then◌else◌, ◌==◌}
+use Rattle.std.specs.Prelude.{◌≡◌, ◌≤◌, ℕ, ◌+◌, ◌-◌, ◌/◌, ◌^◌, true, false, not, Bool, IsFalse, IsTrue, IsUtf8, List, [], ◌∷◌, ◌++◌, chars, length, take, drop, min, Option, None, Some, option_and_then, option_map, unwrap_or, Result, Ok, Err, if◌then◌else◌, ◌==◌}
 use Rattle.std.specs.Arc.{arc_value}
 use Rattle.std.specs.Option.{IsSome}
 use Rattle.std.specs.Str.Lossy.{utf8_valid_len}
@@ -30,6 +30,10 @@ use Rattle.fancy_analysis.specs.Names as analysis_names
 use Rattle.fancy_info.specs.declared.context.AnalyzeContext.{AnalyzeContext}
 use Rattle.fancy_compile.specs.declared.options.CompileOptions.{CompileOptions}
 use Rattle.fancy_matches.specs.Listing.{options_for}
+use Rattle.fancy_vm.specs.SearchLimits.{StaysWithin, cost_of, passed_by}
+use Rattle.fancy_vm.specs.declared.runs.Scratch.{Scratch}
+use Rattle.fancy_vm.specs.declared.search_limits.SearchLimit.{SearchLimit}
+use Rattle.fancy_vm.specs.declared.search_limits.SearchLimits.{SearchLimits}
 use Rattle.fancy_search.specs.declared.request.Request.{Request}
 use Rattle.fancy_search.specs.Requests as asked
 use Rattle.fancy_program.specs.Programs.{prog_of}
@@ -40,7 +44,7 @@ use Rattle.fancy_host.specs.declared.options.FancyOptions.{FancyOptions}
 use Rattle.fancy_host.specs.declared.outcome.FancyOutcome.{FancyOutcome}
 use Rattle.fancy_host.specs.declared.searches.Searcher.{Searcher}
 use Rattle.fancy_host.specs.declared.tree.CompiledTree.{CompiledTree}
-use Rattle.fancy_host.specs.Codes.{ok, no_match, no_program, no_text, unfit, memory, too_deep, wrong_size, code_of, code_of_kind}
+use Rattle.fancy_host.specs.Codes.{ok, no_match, no_program, no_text, unfit, memory, too_deep, wrong_size, code_of, code_of_kind, code_of_limit}
 
 -- ---- options
 
@@ -72,7 +76,9 @@ default_options = record {
   swap_greed = false;
   oniguruma = false;
   named_groups_only = false;
-  reserved = record { first = 0; second = 0; third = 0; fourth = 0 };
+  visit_limit = 100_000_000;
+  memory_limit = 2 ^ 28;
+  reserved = record { first = 0; second = 0 };
 }
 
 -- they have the size that the library gives them
@@ -120,6 +126,14 @@ compilation o = asked.compilation (request o)
 abbrev pub given_backtracks : FancyOptions → Option ℕ
 given_backtracks o = if o.backtrack_limit == usize_max then None else Some o.backtrack_limit
 
+-- a limit of visits or bytes, if the host gives one
+abbrev pub given_limit : ℕ → Option ℕ
+given_limit limit = if limit == 0 then None else Some limit
+
+-- how much the delegates of a search may take together
+abbrev pub limits : FancyOptions → SearchLimits
+limits o = record { visits = given_limit o.visit_limit; bytes = given_limit o.memory_limit }
+
 -- how the program of the tree is run on this text
 abbrev pub running : FancyOptions → List ℕ → plain.RunOptions
 running o text = options_for (asked.running (request o)) (given_backtracks o) text
@@ -148,6 +162,11 @@ failure (error.CompileError (refusal.InvalidBackref group)) =
     record (coded (code_of (error.CompileError (refusal.InvalidBackref group)))) { group = group }
 failure e = coded (code_of e)
 
+-- the error of a search whose delegates passed this limit, or none: the limit is told
+abbrev pub failure_by : (passed : Option SearchLimit) → Error → FancyOutcome
+failure_by None e = failure e
+failure_by (Some limit) e = coded (code_of_limit limit)
+
 -- why a pattern cannot be read, with the byte
 abbrev pub pattern_failure : PatternError → FancyOutcome
 pattern_failure (of_parser.Parse at kind) = record (coded (code_of_kind kind)) { byte = at }
@@ -160,11 +179,12 @@ next_start text (start ∷ end ∷ others) =
     if start == end then unwrap_or (past_char text (any_takes true false) end) (min usize_max (end + 1)) else end
 next_start text numbers = usize_max
 
-abbrev pub outcome_of : List ℕ → Result (Option (Vec ℕ Global)) Error → FancyOutcome
-outcome_of text (Ok None) = coded no_match
-outcome_of text (Ok (Some numbers)) =
+-- the answer of a search whose delegates passed this limit, or none
+abbrev pub outcome_of : List ℕ → (passed : Option SearchLimit) → Result (Option (Vec ℕ Global)) Error → FancyOutcome
+outcome_of text passed (Ok None) = coded no_match
+outcome_of text passed (Ok (Some numbers)) =
     record (coded ok) { count = length numbers.items / 2; next = next_start text numbers.items }
-outcome_of text (Err e) = failure e
+outcome_of text passed (Err e) = failure_by passed e
 
 -- what is written into memory over what is there, as far as there is room
 abbrev pub over : {X : Type 0} → List X → List X → List X
@@ -206,6 +226,13 @@ tree_in s = arc_value s.tree
 
 abbrev pub tree_of : Option Searcher → Option CompiledTree
 tree_of = option_map tree_in
+
+-- the limit of these options that the delegates of the last search passed
+abbrev pub passed_in : FancyOptions → Scratch → Option SearchLimit
+passed_in o s = passed_by (limits o) (cost_of s)
+
+abbrev pub passed_of : FancyOptions → Option Searcher → Option SearchLimit
+passed_of o = option_and_then (λ s. passed_in o s.scratch)
 
 -- ---- compiling
 
@@ -285,13 +312,14 @@ IsPromised c text o answer =
 abbrev pub fits : CompiledTree → List ℕ → FancyOptions → Bool
 fits t text o = run_fits (record { program = prog_of (program (compiled_of t)); text = text; options = running o text })
 
--- what a search writes, and its outcome: it is unfit exactly where the options do not fit the program and the text
-pub data Answers (t : CompiledTree) (text : List ℕ) (o : FancyOptions) (old : List ℕ) :
+-- What a search writes whose delegates passed this limit, or none, and its outcome: it is unfit exactly where the options
+-- do not fit the program and the text, and a limit of the delegates is told exactly where it was passed.
+pub data Answers (t : CompiledTree) (text : List ℕ) (o : FancyOptions) (passed : Option SearchLimit) (old : List ℕ) :
     List ℕ → FancyOutcome → Type 0 where
-  does_not_fit : IsFalse (fits t text o) → Answers t text o old old (coded unfit)
+  does_not_fit : IsFalse (fits t text o) → Answers t text o passed old old (coded unfit)
   answered : IsTrue (fits t text o) → (answer : Result (Option (Vec ℕ Global)) Error) →
-      IsPromised (compiled_of t) text o answer →
-      Answers t text o old (written answer old) (outcome_of text answer)
+      IsPromised (compiled_of t) text o answer → StaysWithin answer passed →
+      Answers t text o passed old (written answer old) (outcome_of text passed answer)
 
 -- No search is made: the options have another size, the bytes are no text, or the program holds no tree.
 pub data IsNoSearch (text : List ℕ) (o : FancyOptions) : Option CompiledTree → FancyOutcome → Type 0 where
@@ -306,9 +334,9 @@ pub record IsSearch (text : List ℕ) (o : FancyOptions) (held : Option Compiled
   pub tree : IsSome held
 
 -- what a search answers by a program that may hold no tree, in bytes that may be no text
-pub data FindsFirst (text : List ℕ) (o : FancyOptions) (old : List ℕ) :
+pub data FindsFirst (text : List ℕ) (o : FancyOptions) (passed : Option SearchLimit) (old : List ℕ) :
     Option CompiledTree → List ℕ → FancyOutcome → Type 0 where
   unsearched : {held : Option CompiledTree} {outcome : FancyOutcome} → IsNoSearch text o held outcome →
-      FindsFirst text o old held old outcome
+      FindsFirst text o passed old held old outcome
   found : {t : CompiledTree} {new : List ℕ} {outcome : FancyOutcome} → IsSearch text o (Some t) →
-      Answers t text o old new outcome → FindsFirst text o old (Some t) new outcome
+      Answers t text o passed old new outcome → FindsFirst text o passed old (Some t) new outcome

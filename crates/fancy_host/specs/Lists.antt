@@ -7,6 +7,8 @@ use Rattle.fancy_meaning.specs.Options.{RunOptions}
 use Rattle.fancy_meaning.specs.Premises.{Input, plan}
 use Rattle.fancy_expr.specs.declared.error.Error.{Error}
 use Rattle.fancy_vm.specs.Outcomes.{first_pair}
+use Rattle.fancy_vm.specs.SearchLimits.{EndsBy}
+use Rattle.fancy_vm.specs.declared.search_limits.SearchLimit.{SearchLimit}
 use Rattle.fancy_program.specs.Programs.{prog_of}
 use Rattle.fancy_search.specs.declared.search.Compiled.{Compiled}
 use Rattle.fancy_search.specs.Searches.{IsCompiledFrom, program}
@@ -17,7 +19,7 @@ use Rattle.fancy_host.specs.declared.outcome.FancyOutcome.{FancyOutcome}
 use Rattle.fancy_host.specs.declared.tree.CompiledTree.{CompiledTree}
 use Rattle.fancy_host.specs.declared.standing.FancyStanding.{FancyStanding}
 use Rattle.fancy_host.specs.Codes.{ok, no_match, unfit}
-use Rattle.fancy_host.specs.Hosted.{IsNoSearch, IsSearch, coded, compiled_of, failure, groups, over, running, with_count}
+use Rattle.fancy_host.specs.Hosted.{IsNoSearch, IsSearch, coded, compiled_of, failure_by, groups, over, running, with_count}
 
 -- where the list of a host stands
 abbrev pub standing_of : FancyStanding → Standing
@@ -63,21 +65,25 @@ module _ (form : Form) (width : ℕ) (c : Compiled) (text : List ℕ) (o : RunOp
   abbrev pub Fails : Standing → Error → Type 0
   Fails s e = (i : Input) → IsCompiledFrom i c → FailsAt i text o s e
 
-  -- Why these rows are written and no more, where there is room for so many numbers: there is no room for one more row,
-  -- and the list stands after them; they are all, and the list has ended; or the list comes after them to a search that
-  -- fails, and stands before it.
-  pub data Stops (room : ℕ) (from : Standing) (rows : List (List ℕ)) : Standing → FancyOutcome → Type 0 where
-    is_full : {to : Standing} → room < length (numbers_of rows) + width → ComesBy from rows to →
-        Stops room from rows to (coded ok)
-    has_ended : {to : Standing} → AreAll from rows → AreAll to [] → Stops room from rows to (coded no_match)
-    fails : {to : Standing} (e : Error) → ComesBy from rows to → Fails to e → Stops room from rows to (failure e)
+  -- Why these rows are written and no more, where there is room for so many numbers, and the delegates of the last search
+  -- passed this limit, or none: there is no room for one more row, and the list stands after them; they are all, and the
+  -- list has ended; or the list comes after them to a search that fails, and stands before it.
+  pub data Stops (passed : Option SearchLimit) (room : ℕ) (from : Standing) (rows : List (List ℕ)) :
+      Standing → FancyOutcome → Type 0 where
+    is_full : {to : Standing} → room < length (numbers_of rows) + width → ComesBy from rows to → passed ≡ None →
+        Stops passed room from rows to (coded ok)
+    has_ended : {to : Standing} → AreAll from rows → AreAll to [] → passed ≡ None →
+        Stops passed room from rows to (coded no_match)
+    fails : {to : Standing} (e : Error) → ComesBy from rows to → Fails to e → EndsBy e passed →
+        Stops passed room from rows to (failure_by passed e)
 
   -- what is written of the list that stands at `from`, where it then stands, and the outcome
-  pub data Writes (from : Standing) (old : List ℕ) : Standing → List ℕ → FancyOutcome → Type 0 where
+  pub data Writes (passed : Option SearchLimit) (from : Standing) (old : List ℕ) :
+      Standing → List ℕ → FancyOutcome → Type 0 where
     writes : {to : Standing} {outcome : FancyOutcome} → (rows : List (List ℕ)) →
         All (λ row. length row ≡ width) rows →
-        length (numbers_of rows) ≤ length old → Stops (length old) from rows to outcome →
-        Writes from old to (over (numbers_of rows) old) (with_count (length rows) outcome)
+        length (numbers_of rows) ≤ length old → Stops passed (length old) from rows to outcome →
+        Writes passed from old to (over (numbers_of rows) old) (with_count (length rows) outcome)
 
 -- ---- calls
 
@@ -86,20 +92,21 @@ abbrev pub list_fits : CompiledTree → List ℕ → FancyOptions → Bool
 list_fits t text o =
     run_fits (record { program = prog_of (program (compiled_of t)); text = []; options = listing o text })
 
--- what a program writes of a list, where the list then stands, and the outcome: it is unfit exactly where the options do
--- not fit the program
-pub data Lists (form : Form) (t : CompiledTree) (text : List ℕ) (o : FancyOptions) (from : FancyStanding)
-    (old : List ℕ) : FancyStanding → List ℕ → FancyOutcome → Type 0 where
-  does_not_fit : IsFalse (list_fits t text o) → Lists form t text o from old from old (coded unfit)
+-- What a program writes of a list, where the list then stands, and the outcome, where the delegates of the last search
+-- passed this limit, or none: it is unfit exactly where the options do not fit the program, and a limit of the delegates is
+-- told exactly where it was passed.
+pub data Lists (form : Form) (t : CompiledTree) (text : List ℕ) (o : FancyOptions) (passed : Option SearchLimit)
+    (from : FancyStanding) (old : List ℕ) : FancyStanding → List ℕ → FancyOutcome → Type 0 where
+  does_not_fit : IsFalse (list_fits t text o) → Lists form t text o passed from old from old (coded unfit)
   listed : {to : FancyStanding} {new : List ℕ} {outcome : FancyOutcome} → IsTrue (list_fits t text o) →
-      Writes form (width_of form t) (compiled_of t) text (listing o text)
+      Writes form (width_of form t) (compiled_of t) text (listing o text) passed
       (standing_of from) old (standing_of to) new outcome →
-      Lists form t text o from old to new outcome
+      Lists form t text o passed from old to new outcome
 
 -- what is listed by a program that may hold no tree, in bytes that may be no text
-pub data FindsAll (form : Form) (text : List ℕ) (o : FancyOptions) (from : FancyStanding) (old : List ℕ) :
-    Option CompiledTree → FancyStanding → List ℕ → FancyOutcome → Type 0 where
+pub data FindsAll (form : Form) (text : List ℕ) (o : FancyOptions) (passed : Option SearchLimit) (from : FancyStanding)
+    (old : List ℕ) : Option CompiledTree → FancyStanding → List ℕ → FancyOutcome → Type 0 where
   unsearched : {held : Option CompiledTree} {outcome : FancyOutcome} → IsNoSearch text o held outcome →
-      FindsAll form text o from old held from old outcome
+      FindsAll form text o passed from old held from old outcome
   found : {t : CompiledTree} {to : FancyStanding} {new : List ℕ} {outcome : FancyOutcome} → IsSearch text o (Some t) →
-      Lists form t text o from old to new outcome → FindsAll form text o from old (Some t) to new outcome
+      Lists form t text o passed from old to new outcome → FindsAll form text o passed from old (Some t) to new outcome

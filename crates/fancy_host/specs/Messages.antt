@@ -59,6 +59,8 @@ sentences =
     ∷ codes "no verb goes on here, or there are more than a million groups"
     ∷ codes "the options have the size of another version"
     ∷ codes "there is no room for the text"
+    ∷ codes "too many states were visited"
+    ∷ codes "too much memory was held"
     ∷ []
 
 abbrev pub sentence_of : ℕ → List ℕ

@@ -1,5 +1,5 @@
 -- What a host is answered that asks for a text with matches replaced.
-use Rattle.std.specs.Prelude.{◌≡◌, ◌≤◌, ◌<◌, ◌==◌, ◌⊎◌, ℕ, Bool, IsFalse, IsTrue, IsUtf8, List, length, Option, Some, if◌then◌else◌}
+use Rattle.std.specs.Prelude.{◌≡◌, ◌≤◌, ◌<◌, ◌==◌, ◌⊎◌, ℕ, Bool, IsFalse, IsTrue, IsUtf8, List, length, Option, None, Some, if◌then◌else◌}
 use Rattle.std.specs.Str.Lossy.{utf8_valid_len}
 use Rattle.fancy_meaning.specs.Numbers.{usize_max}
 use Rattle.fancy_meaning.specs.Options.{RunOptions}
@@ -8,6 +8,8 @@ use Rattle.fancy_expr.specs.declared.error.Error.{Error}
 use Rattle.fancy_expr.specs.declared.error.Error.TheVariants.{Memory}
 use Rattle.fancy_search.specs.declared.search.Compiled.{Compiled}
 use Rattle.fancy_search.specs.Searches.{IsCompiledFrom}
+use Rattle.fancy_vm.specs.SearchLimits.{EndsBy}
+use Rattle.fancy_vm.specs.declared.search_limits.SearchLimit.{SearchLimit}
 use Rattle.fancy_replace.specs.Pieces.{as_limit, rewrite}
 use Rattle.fancy_replace.specs.Reading.{expansion}
 use Rattle.fancy_replace.specs.Replacements.{FailsAfter, to_replace}
@@ -15,7 +17,7 @@ use Rattle.fancy_host.specs.declared.options.FancyOptions.{FancyOptions}
 use Rattle.fancy_host.specs.declared.outcome.FancyOutcome.{FancyOutcome}
 use Rattle.fancy_host.specs.declared.tree.CompiledTree.{CompiledTree}
 use Rattle.fancy_host.specs.Codes.{no_room, ok, unfit}
-use Rattle.fancy_host.specs.Hosted.{IsNoSearch, IsSearch, coded, compiled_of, ended, failure, names_of, not_utf8, with_count}
+use Rattle.fancy_host.specs.Hosted.{IsNoSearch, IsSearch, coded, compiled_of, ended, failure_by, names_of, not_utf8, with_count}
 use Rattle.fancy_host.specs.Lists.{list_fits, listing}
 
 -- how many matches are replaced at most: 0 is no limit, and no text has so many matches as a word counts
@@ -45,24 +47,26 @@ pub data WritesWhole (new old : List ℕ) : List ℕ → FancyOutcome → Type 0
   written : length new < length old → WritesWhole new old (ended new old) (with_count (length new) (coded ok))
   has_no_room : length old ≤ length new → WritesWhole new old old (with_count (length new) (coded no_room))
 
--- what a program writes of the new text, and the outcome: it is unfit exactly where the options do not fit the program
-pub data Replaces (t : CompiledTree) (text : List ℕ) (o : FancyOptions) (limit : ℕ) (write : List ℕ → List ℕ → List ℕ)
-    (old : List ℕ) : List ℕ → FancyOutcome → Type 0 where
-  does_not_fit : IsFalse (list_fits t text o) → Replaces t text o limit write old old (coded unfit)
+-- What a program writes of the new text, and the outcome, where the delegates of the last search passed this limit, or
+-- none: it is unfit exactly where the options do not fit the program, and a limit of the delegates is told exactly where it
+-- was passed.
+pub data Replaces (t : CompiledTree) (text : List ℕ) (o : FancyOptions) (passed : Option SearchLimit) (limit : ℕ)
+    (write : List ℕ → List ℕ → List ℕ) (old : List ℕ) : List ℕ → FancyOutcome → Type 0 where
+  does_not_fit : IsFalse (list_fits t text o) → Replaces t text o passed limit write old old (coded unfit)
   replaced : {after : List ℕ} {outcome : FancyOutcome} → IsTrue (list_fits t text o) → (new : List ℕ) →
       IsRewritten (compiled_of t) text (listing o text) (as_limit limit) write new → WritesWhole new old after outcome →
-      Replaces t text o limit write old after outcome
+      passed ≡ None → Replaces t text o passed limit write old after outcome
   fails : IsTrue (list_fits t text o) → (e : Error) →
-      FailsToRewrite (compiled_of t) text (listing o text) (as_limit limit) e →
-      Replaces t text o limit write old old (failure e)
+      FailsToRewrite (compiled_of t) text (listing o text) (as_limit limit) e → EndsBy e passed →
+      Replaces t text o passed limit write old old (failure_by passed e)
 
 -- what is replaced by a program that may hold no tree, in bytes that may be no text, by bytes that may be none
-pub data ReplacesIn (text : List ℕ) (o : FancyOptions) (limit : ℕ) (is_literal : Bool) (replacement old : List ℕ) :
-    Option CompiledTree → List ℕ → FancyOutcome → Type 0 where
+pub data ReplacesIn (text : List ℕ) (o : FancyOptions) (passed : Option SearchLimit) (limit : ℕ) (is_literal : Bool)
+    (replacement old : List ℕ) : Option CompiledTree → List ℕ → FancyOutcome → Type 0 where
   unsearched : {held : Option CompiledTree} {outcome : FancyOutcome} → IsNoSearch text o held outcome →
-      ReplacesIn text o limit is_literal replacement old held old outcome
+      ReplacesIn text o passed limit is_literal replacement old held old outcome
   by_no_text : {held : Option CompiledTree} → IsSearch text o held → ¬ IsUtf8 replacement →
-      ReplacesIn text o limit is_literal replacement old held old (not_utf8 (utf8_valid_len replacement))
+      ReplacesIn text o passed limit is_literal replacement old held old (not_utf8 (utf8_valid_len replacement))
   found : {t : CompiledTree} {new : List ℕ} {outcome : FancyOutcome} → IsSearch text o (Some t) → IsUtf8 replacement →
-      Replaces t text o limit (writing t is_literal replacement) old new outcome →
-      ReplacesIn text o limit is_literal replacement old (Some t) new outcome
+      Replaces t text o passed limit (writing t is_literal replacement) old new outcome →
+      ReplacesIn text o passed limit is_literal replacement old (Some t) new outcome

@@ -6,7 +6,6 @@ use Rattle.fancy_meaning.specs.MatchState.{Span}
 use Rattle.fancy_meaning.specs.Numbers.{usize_max}
 use Rattle.fancy_meaning.specs.Places.{is_place}
 use Rattle.fancy_expr.specs.declared.error.Error.{Error}
-use Rattle.fancy_expr.specs.declared.error.Error.TheVariants as error
 use Rattle.fancy_expr.specs.declared.expr.ExprTree.{ExprTree}
 use Rattle.fancy_vm.specs.Outcomes.{first_pair}
 use Rattle.fancy_matches.specs.Listing.{group_span}
@@ -19,15 +18,15 @@ use Rattle.fancy_scanner.specs.declared.scanner.Scanner.{Scanner}
 use Rattle.fancy_scanner.specs.declared.scanner.Stopped.{Stopped}
 use Rattle.fancy_host.specs.declared.options.FancyOptions.{FancyOptions}
 use Rattle.fancy_host.specs.declared.outcome.FancyOutcome.{FancyOutcome}
-use Rattle.fancy_host.specs.Codes.{ok, no_match}
-use Rattle.fancy_host.specs.Hosted.{FailsToCompile, IsNoText, IsRead, asked_of, coded, compiled, failure, has_size, next_start, not_utf8, over, pattern, with_count}
+use Rattle.fancy_host.specs.Codes.{ok, no_match, code_of_scan_limit}
+use Rattle.fancy_host.specs.Hosted.{FailsToCompile, IsNoText, IsRead, asked_of, coded, compiled, failure, has_size, limits, next_start, not_utf8, over, pattern, with_count}
 use Rattle.fancy_host.specs.Lists.{listing, numbers_of}
 
 -- ---- patterns
 
 -- how a tree is compiled and searched for in this text, by the options of a host; `pos` says nothing
 abbrev pub rule_for : ExprTree → FancyOptions → List ℕ → Rule
-rule_for t o text = record { input = asked_of t o; options = listing o text }
+rule_for t o text = record { input = asked_of t o; options = listing o text; limits = limits o }
 
 -- the patterns of a scanner, or of nothing, are searched for in this text by these rules
 abbrev pub IsHeldBy : List Rule → List ℕ → Option Scanner → Type 0
@@ -72,7 +71,7 @@ pub data Adds (bytes : List ℕ) (o : FancyOptions) (s : Option Scanner) : Optio
 -- the first pattern that passed a limit, with the code of the limit; or that there is none
 abbrev pub stopped_numbers : Option Stopped → ℕ × ℕ
 stopped_numbers None = (usize_max, ok)
-stopped_numbers (Some s) = (s.index, (failure (error.RuntimeError s.limit)).code)
+stopped_numbers (Some s) = (s.index, code_of_scan_limit s.limit)
 
 -- start and end of the first groups, so many; of a group that is not set, or not there, `usize_max` twice
 abbrev pub group_numbers : List ℕ → ℕ → List ℕ
@@ -97,7 +96,7 @@ next_place text pos span =
 -- the outcome where none of the patterns that answered has a match: the first one that passed a limit is told
 abbrev pub of_none : Option Stopped → FancyOutcome
 of_none None = coded no_match
-of_none (Some s) = record (failure (error.RuntimeError s.limit)) { group = s.index }
+of_none (Some s) = record (coded (code_of_scan_limit s.limit)) { group = s.index }
 
 -- ---- rules, a text, and how many groups a row has
 

@@ -138,7 +138,11 @@ pub extern "C" fn fancy_is_match(
     options: &FancyOptions,
 ) -> FancyOutcome
     ensures finds { FindsAny
-        text.now options.now (tree_of program.old.handle.searcher) result }
+        text.now
+        options.now
+        (hosted.passed_of options.now program.new.handle.searcher)
+        (tree_of program.old.handle.searcher)
+        result }
     ensures keeps { tree_of program.new.handle.searcher ≡ tree_of program.old.handle.searcher }
 {
     let text = match searched(text, options, program) {
@@ -164,6 +168,7 @@ pub extern "C" fn fancy_find(
     ensures finds { FindsFirst
         text.now
         options.now
+        (hosted.passed_of options.now program.new.handle.searcher)
         spans.old
         (tree_of program.old.handle.searcher)
         spans.new
@@ -198,6 +203,7 @@ pub extern "C" fn fancy_find_all(
         span_alone
         text.now
         options.now
+        (hosted.passed_of options.now program.new.handle.searcher)
         standing.old
         spans.old
         (tree_of program.old.handle.searcher)
@@ -231,6 +237,7 @@ pub extern "C" fn fancy_captures_all(
         all_groups
         text.now
         options.now
+        (hosted.passed_of options.now program.new.handle.searcher)
         standing.old
         spans.old
         (tree_of program.old.handle.searcher)
@@ -267,6 +274,7 @@ pub extern "C" fn fancy_replace(
     ensures replaces { ReplacesIn
         text.now
         options.now
+        (hosted.passed_of options.now program.new.handle.searcher)
         limit
         is_literal
         replacement.now

@@ -60,6 +60,8 @@ fn sentence_of(code: u32) -> &'static str
         38 => "no verb goes on here, or there are more than a million groups",
         39 => "the options have the size of another version",
         40 => "there is no room for the text",
+        41 => "too many states were visited",
+        42 => "too much memory was held",
         _ => "no error has this code",
     }
 }

@@ -19,8 +19,6 @@ const SIZE: usize = 104;
 pub struct Reserved {
     pub first: u64,
     pub second: u64,
-    pub third: u64,
-    pub fourth: u64,
 }
 
 /// The options of a pattern or a tree, and of a search.
@@ -66,6 +64,10 @@ pub struct FancyOptions {
     pub oniguruma: bool,
     /// Where a group has a name, a plain `( )` captures nothing.
     pub named_groups_only: bool,
+    /// How many states the delegates of a search may take up together; 0 is no limit.
+    pub visit_limit: u64,
+    /// How many bytes what they keep may hold at one time; 0 is no limit.
+    pub memory_limit: usize,
     pub reserved: Reserved,
 }
 
@@ -96,11 +98,11 @@ impl Default for FancyOptions {
             swap_greed: false,
             oniguruma: false,
             named_groups_only: false,
+            visit_limit: 100_000_000,
+            memory_limit: 268_435_456,
             reserved: Reserved {
                 first: 0,
                 second: 0,
-                third: 0,
-                fourth: 0,
             },
         }
     }
@@ -162,6 +164,24 @@ impl FancyOptions {
         }
     }
 
+    /// How much the delegates of a search may take together.
+    pub fn limits(&self) -> SearchLimits
+        ensures { result ≡ hosted.limits self.now }
+    {
+        SearchLimits {
+            visits: if self.visit_limit == 0 {
+                None
+            } else {
+                Some(self.visit_limit)
+            },
+            bytes: if self.memory_limit == 0 {
+                None
+            } else {
+                Some(self.memory_limit)
+            },
+        }
+    }
+
     /// How the program of the tree is run on this text.
     pub fn running(&self, text: &str) -> RunOptions
         ensures { run_options_of result ≡ hosted.running self.now text.now }
@@ -171,7 +191,7 @@ impl FancyOptions {
         let options = RegexOptions {
             run,
             backtrack_limit,
-            limits: SearchLimits::none(),
+            limits: self.limits(),
         };
         options.for_text(text)
     }

@@ -9,6 +9,8 @@ use crate::writing::{write_over, write_text};
 use fancy_characters::places::past_any;
 use fancy_expr::error::{CompileError, Error, RuntimeError};
 use fancy_pattern::error::{ErrorKind, PatternError};
+use fancy_scanner::scan_limit::ScanLimit;
+use fancy_vm::vm::SearchLimit;
 
 /// What came of a call.
 #[repr(C)]
@@ -75,6 +77,29 @@ fn code_of(error: &Error) -> u32
         Error::RuntimeError(RuntimeError::StepLimitExceeded) => 9,
         Error::CompileError(refusal) => code_of_refusal(refusal),
         Error::NestLimitExceeded => 22,
+    }
+}
+
+/// The code of a limit of the delegates of a search.
+fn code_of_limit(limit: SearchLimit) -> u32
+    ensures { result ≡ codes.code_of_limit limit }
+{
+    match limit {
+        SearchLimit::Visits => 41,
+        SearchLimit::Bytes => 42,
+    }
+}
+
+/// The code of a limit that stopped the search for a pattern of a scanner.
+pub fn code_of_scan_limit(limit: ScanLimit) -> u32
+    ensures { result ≡ codes.code_of_scan_limit limit }
+{
+    match limit {
+        ScanLimit::BacktrackLimitExceeded => 7,
+        ScanLimit::StackOverflow => 8,
+        ScanLimit::StepLimitExceeded => 9,
+        ScanLimit::VisitLimitExceeded => 41,
+        ScanLimit::MemoryLimitExceeded => 42,
     }
 }
 
@@ -149,6 +174,8 @@ fn name_of(code: u32) -> &'static str
         38 => "GeneralParseError",
         39 => "WrongSize",
         40 => "NoRoom",
+        41 => "VisitLimitExceeded",
+        42 => "MemoryLimitExceeded",
         _ => "",
     }
 }
@@ -256,6 +283,16 @@ impl FancyOutcome {
         }
     }
 
+    /// Why a search has no answer that ended with this error: the limit of its delegates that it passed, if it did.
+    pub fn of_failed(error: &Error, passed: Option<SearchLimit>) -> FancyOutcome
+        ensures { result ≡ hosted.failure_by passed error.now }
+    {
+        match passed {
+            Some(limit) => FancyOutcome::coded(code_of_limit(limit)),
+            None => FancyOutcome::of_error(error),
+        }
+    }
+
     /// Why a pattern cannot be read.
     pub fn of_fault(error: &PatternError) -> FancyOutcome
         ensures { result ≡ hosted.pattern_failure error.now }
@@ -269,20 +306,27 @@ impl FancyOutcome {
         }
     }
 
-    /// Whether the answer of a search is a match.
-    pub fn of_found(answer: &Result<Option<Vec<usize>>, Error>) -> FancyOutcome
-        ensures { result ≡ whether answer.now }
+    /// Whether the answer of a search, whose delegates passed this limit or none, is a match.
+    pub fn of_found(
+        answer: &Result<Option<Vec<usize>>, Error>,
+        passed: Option<SearchLimit>,
+    ) -> FancyOutcome
+        ensures { result ≡ whether passed answer.now }
     {
         match answer {
             Ok(None) => FancyOutcome::coded(NO_MATCH),
             Ok(Some(_)) => FancyOutcome::coded(OK),
-            Err(error) => FancyOutcome::of_error(error),
+            Err(error) => FancyOutcome::of_failed(error, passed),
         }
     }
 
-    /// The answer of a search.
-    pub fn of_answer(text: &[u8], answer: &Result<Option<Vec<usize>>, Error>) -> FancyOutcome
-        ensures { result ≡ hosted.outcome_of text.now answer.now }
+    /// The answer of a search, whose delegates passed this limit or none.
+    pub fn of_answer(
+        text: &[u8],
+        answer: &Result<Option<Vec<usize>>, Error>,
+        passed: Option<SearchLimit>,
+    ) -> FancyOutcome
+        ensures { result ≡ hosted.outcome_of text.now passed answer.now }
     {
         match answer {
             Ok(None) => FancyOutcome::coded(NO_MATCH),
@@ -291,7 +335,7 @@ impl FancyOutcome {
                 next: next_start(text, numbers),
                 ..FancyOutcome::coded(OK)
             },
-            Err(error) => FancyOutcome::of_error(error),
+            Err(error) => FancyOutcome::of_failed(error, passed),
         }
     }
 }

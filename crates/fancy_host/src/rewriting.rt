@@ -1,10 +1,11 @@
 //! A text with matches replaced.
 
-ghost use Rattle.std.specs.Prelude.{◌≡◌, ◌++◌, ◌<◌, [], IfOk, IsTrue, MatchResult, OnOk, length, string_bytes};
+ghost use Rattle.std.specs.Prelude.{◌≡◌, ◌++◌, ◌<◌, [], IfOk, IsTrue, MatchResult, None, OnOk, length, string_bytes};
 ghost use Rattle.fancy_meaning.specs.Fits.{run_fits};
 ghost use Rattle.fancy_matches.specs.Regexes.{captures_text, numbers_in};
 ghost use Rattle.fancy_replace.specs.Pieces.{as_limit};
 ghost use Rattle.fancy_search.specs.Searches.{HasSource, program};
+ghost use Rattle.fancy_vm.specs.SearchLimits.{StaysWithin, limits_of, passed_of};
 ghost use Rattle.fancy_vm.specs.Tasks.{options_of as run_options_of, task_of};
 ghost use Rattle.fancy_host.specs.Codes.{no_room};
 ghost use Rattle.fancy_host.specs.Hosted as hosted;
@@ -34,12 +35,15 @@ pub fn rewrite<R: Replacer>(
 ) -> Result<String, Error>
     requires fits { IsTrue (run_fits (task_of (program compiled.now) [] options.now)) }
     requires source { HasSource compiled.now }
-    ensures { MatchResult
+    requires passed { passed_of scratch.old ≡ None }
+    ensures rewrites { MatchResult
         result
         (λ new. IsRewritten
         compiled.now text.now (run_options_of options.now) (as_limit limit)
         (R.replacement_text replacement.now) (string_bytes new))
         (FailsToRewrite compiled.now text.now (run_options_of options.now) (as_limit limit)) }
+    ensures limits { limits_of scratch.new ≡ limits_of scratch.old }
+    ensures stays { StaysWithin result (passed_of scratch.new) }
 {
     let most = most_of(limit);
     let mut standing = Standing::first();

@@ -17,11 +17,10 @@ ghost use Rattle.fancy_host.specs.Scanned.{FailsToRead, IsRuleFrom, Writes, grou
 ghost use Rattle.fancy_host.specs.Scanned as scanned;
 
 use crate::options::FancyOptions;
-use crate::outcome::{FancyOutcome, NO_MATCH, OK, next_start};
+use crate::outcome::{FancyOutcome, NO_MATCH, OK, code_of_scan_limit, next_start};
 use crate::reading::text_of;
 use crate::writing::write_from;
 use fancy_characters::places::is_place;
-use fancy_expr::error::Error;
 use fancy_matches::found::Captures;
 use fancy_pattern::pattern::parse_tree;
 use fancy_scanner::scan_text::ScanText;
@@ -75,7 +74,10 @@ pub fn compile_rule(
     let groups = tree.total_groups.saturating_add(1);
     let search = search_options(options);
     match ScanTree::new(alloc, &tree, &search, options.backtracks()) {
-        Ok(compiled) => Ok(ScanPattern { compiled, groups }),
+        Ok(mut compiled) => {
+            compiled.limit(options.limits());
+            Ok(ScanPattern { compiled, groups })
+        }
         Err(error) => Err(FancyOutcome::of_error(&error)),
     }
 }
@@ -105,10 +107,7 @@ fn stopped_numbers(stopped: Option<Stopped>) -> (usize, usize)
 {
     match stopped {
         None => (usize::MAX, OK as usize),
-        Some(stopped) => {
-            let outcome = FancyOutcome::of_error(&Error::RuntimeError(stopped.limit));
-            (stopped.index, outcome.code as usize)
-        }
+        Some(stopped) => (stopped.index, code_of_scan_limit(stopped.limit) as usize),
     }
 }
 
@@ -120,7 +119,7 @@ fn of_none(stopped: Option<Stopped>) -> FancyOutcome
         None => FancyOutcome::coded(NO_MATCH),
         Some(stopped) => FancyOutcome {
             group: stopped.index,
-            ..FancyOutcome::of_error(&Error::RuntimeError(stopped.limit))
+            ..FancyOutcome::coded(code_of_scan_limit(stopped.limit))
         },
     }
 }

@@ -123,7 +123,12 @@ impl Searcher {
 
     /// Whether there is a match.
     pub fn is_match(&mut self, alloc: Global, text: &str, options: &FancyOptions) -> FancyOutcome
-        ensures tells { Tells (tree_in self.old) text.now options.now result }
+        ensures tells { Tells
+            (tree_in self.old)
+            text.now
+            options.now
+            (hosted.passed_in options.now self.new.scratch)
+            result }
         ensures keeps { tree_in self.new ≡ tree_in self.old }
     {
         self.tree.is_match(alloc, text, options, &mut self.scratch)
@@ -141,6 +146,7 @@ impl Searcher {
             (tree_in self.old)
             text.now
             options.now
+            (hosted.passed_in options.now self.new.scratch)
             spans.old
             spans.new
             result }
@@ -165,6 +171,7 @@ impl Searcher {
             (tree_in self.old)
             text.now
             options.now
+            (hosted.passed_in options.now self.new.scratch)
             standing.old
             spans.old
             standing.new
@@ -191,6 +198,7 @@ impl Searcher {
             (tree_in self.old)
             text.now
             options.now
+            (hosted.passed_in options.now self.new.scratch)
             standing.old
             spans.old
             standing.new
@@ -218,6 +226,7 @@ impl Searcher {
             (tree_in self.old)
             text.now
             options.now
+            (hosted.passed_in options.now self.new.scratch)
             limit
             (writing (tree_in self.old) is_literal replacement.now)
             room.old

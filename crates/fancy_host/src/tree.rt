@@ -1,7 +1,8 @@
 //! A tree that was compiled, and its searches.
 
-ghost use Rattle.std.specs.Prelude.{◌≡◌, [], IsTrue, MatchResult, string_bytes};
+ghost use Rattle.std.specs.Prelude.{◌≡◌, [], IsTrue, MatchResult, None, string_bytes};
 ghost use Rattle.fancy_meaning.specs.Fits.{run_fits};
+ghost use Rattle.fancy_vm.specs.SearchLimits.{StaysWithin, limits_of, passed_of};
 ghost use Rattle.fancy_vm.specs.Tasks.{options_of as run_options_of, task_of};
 ghost use Rattle.fancy_search.specs.Searches.{HasSource, program};
 ghost use Rattle.fancy_matches.specs.Regexes.{standing_of};
@@ -80,15 +81,23 @@ impl CompiledTree {
         spans: &mut [usize],
         scratch: &mut Scratch,
     ) -> FancyOutcome
-        ensures { Answers self.now text.now options.now spans.old spans.new result }
+        ensures { Answers
+            self.now
+            text.now
+            options.now
+            (hosted.passed_in options.now scratch.new)
+            spans.old
+            spans.new
+            result }
     {
         let running = options.running(text);
         if !self.compiled.fits(text, &running) {
             return FancyOutcome::unfit();
         }
+        scratch.limit(options.limits());
         let answer = self.compiled.search(alloc, text, &running, scratch);
         write_answer(&answer, spans);
-        FancyOutcome::of_answer(text.as_bytes(), &answer)
+        FancyOutcome::of_answer(text.as_bytes(), &answer, scratch.passed())
     }
 
     /// Whether there is a match.
@@ -99,14 +108,16 @@ impl CompiledTree {
         options: &FancyOptions,
         scratch: &mut Scratch,
     ) -> FancyOutcome
-        ensures { Tells self.now text.now options.now result }
+        ensures { Tells
+            self.now text.now options.now (hosted.passed_in options.now scratch.new) result }
     {
         let running = options.running(text);
         if !self.compiled.fits(text, &running) {
             return FancyOutcome::unfit();
         }
+        scratch.limit(options.limits());
         let found = self.compiled.search(alloc, text, &running, scratch);
-        FancyOutcome::of_found(&found)
+        FancyOutcome::of_found(&found, scratch.passed())
     }
 
     /// Writes the rows of the matches of the list that stands so, as many as there is room for.
@@ -123,12 +134,15 @@ impl CompiledTree {
         requires fits { IsTrue (run_fits
             (task_of (program (compiled_of self.now)) [] options.now)) }
         requires width { width ≡ width_of F.form self.now }
-        ensures { Writes
+        requires passed { passed_of scratch.old ≡ None }
+        ensures limits { limits_of scratch.new ≡ limits_of scratch.old }
+        ensures writes { Writes
             F.form
             width
             (compiled_of self.now)
             text.now
             (run_options_of options.now)
+            (passed_of scratch.new)
             (standing_of standing.old)
             room.old
             (standing_of standing.new)
@@ -145,7 +159,9 @@ impl CompiledTree {
                     at += width;
                     count += 1;
                 }
-                Err(error) => return FancyOutcome::of_error(&error).with_count(count),
+                Err(error) => {
+                    return FancyOutcome::of_failed(&error, scratch.passed()).with_count(count);
+                }
             }
         }
         FancyOutcome::coded(OK).with_count(count)
@@ -169,6 +185,7 @@ impl CompiledTree {
             self.now
             text.now
             options.now
+            (hosted.passed_in options.now scratch.new)
             standing.old
             room.old
             standing.new
@@ -179,6 +196,7 @@ impl CompiledTree {
         if !self.compiled.fits("", &listing) {
             return FancyOutcome::unfit();
         }
+        scratch.limit(options.limits());
         let mut list = standing.standing();
         let outcome = self.write_rows::<F>(alloc, text, &listing, width, &mut list, room, scratch);
         *standing = FancyStanding::of(&list);
@@ -201,6 +219,7 @@ impl CompiledTree {
             self.now
             text.now
             options.now
+            (hosted.passed_in options.now scratch.new)
             standing.old
             spans.old
             standing.new
@@ -225,6 +244,7 @@ impl CompiledTree {
             self.now
             text.now
             options.now
+            (hosted.passed_in options.now scratch.new)
             standing.old
             spans.old
             standing.new
@@ -247,14 +267,18 @@ impl CompiledTree {
         replacement: &str,
         scratch: &mut Scratch,
     ) -> Result<String, Error>
-        requires { IsTrue (run_fits (task_of (program (compiled_of self.now)) [] options.now)) }
-        ensures { MatchResult
+        requires fits { IsTrue (run_fits
+            (task_of (program (compiled_of self.now)) [] options.now)) }
+        requires passed { passed_of scratch.old ≡ None }
+        ensures rewrites { MatchResult
             result
             (λ new. IsRewritten
             (compiled_of self.now) text.now (run_options_of options.now) (as_limit limit)
             (writing self.now is_literal replacement.now) (string_bytes new))
             (FailsToRewrite
             (compiled_of self.now) text.now (run_options_of options.now) (as_limit limit)) }
+        ensures limits { limits_of scratch.new ≡ limits_of scratch.old }
+        ensures stays { StaysWithin result (passed_of scratch.new) }
     {
         if is_literal {
             let replacer = NoExpand(replacement);
@@ -296,6 +320,7 @@ impl CompiledTree {
             self.now
             text.now
             options.now
+            (hosted.passed_in options.now scratch.new)
             limit
             (writing self.now is_literal replacement.now)
             room.old
@@ -306,6 +331,7 @@ impl CompiledTree {
         if !self.compiled.fits("", &listing) {
             return FancyOutcome::unfit();
         }
+        scratch.limit(options.limits());
         match self.replaced(
             alloc,
             text,
@@ -316,7 +342,7 @@ impl CompiledTree {
             scratch,
         ) {
             Ok(new) => write_whole(new.as_str(), room),
-            Err(error) => FancyOutcome::of_error(&error),
+            Err(error) => FancyOutcome::of_failed(&error, scratch.passed()),
         }
     }
 }

@@ -13,6 +13,7 @@ use Rattle.fancy_scanner.specs.declared.scan_text.ScanText as engine_scan
 use Rattle.fancy_scanner.specs.declared.scan_text.TreeMatch.{TreeMatch}
 use Rattle.fancy_scanner.specs.declared.scanner.Scan.{Scan}
 use Rattle.fancy_scanner.specs.declared.scanner.Scanner as engine_scanner
+use Rattle.fancy_vm.specs.SearchLimits.{no_limits}
 use Rattle.fancy_matches.specs.Regexes as found
 use Rattle.fancy_regex.specs.Builders.{AreNamesOf, IsTreeOf}
 use Rattle.fancy_regex.specs.Errors.{engine_error}
@@ -32,7 +33,7 @@ use Rattle.fancy_regex.specs.declared.scanner.Scanner.{Scanner}
 
 -- how a tree is compiled and searched for in this text, by the options of its pattern
 abbrev pub rule_for : ExprTree → RegexOptions → List ℕ → Rule
-rule_for tree o text = record { input = input tree o; options = running o text }
+rule_for tree o text = record { input = input tree o; options = running o text; limits = no_limits }
 
 -- it was compiled from the tree that the pattern spells, and has its names
 pub record IsScanPattern (pattern : List ℕ) (o : RegexOptions) (p : ScanPattern) : Type 0 where

@@ -1,4 +1,5 @@
 pub mod Reading
+pub mod Passed
 pub mod Rules
 pub mod SoughtNodes
 pub mod Holding

@@ -1,27 +1,29 @@
 -- A scan for some of the trees, from the last in their order to the first.
-use Rattle.std.proofs.Common.{◌≡◌, ◌==◌, ℕ, zero, suc, ◌-◌, ◌<◌, ◌≤◌, Bool, true, false, List, [], ◌∷◌, ◌++◌, length, drop, take, get_or, Option, Some, None, IfSome, if◌then◌else◌, nat_lt, option_map, Result, Ok, Err, IfOk, refl, sym, ap, ap₂, ◌∙◌, subst, arith}
+use Rattle.std.proofs.Common.{◌≡◌, ◌≢◌, ◌==◌, ℕ, zero, suc, ◌-◌, ◌<◌, ◌≤◌, Bool, true, false, List, [], ◌∷◌, ◌++◌, length, drop, take, get_or, Option, Some, None, IfSome, if◌then◌else◌, nat_lt, option_map, Result, Ok, Err, IfOk, refl, sym, ap, ap₂, ◌∙◌, subst, arith}
 use Rattle.std.specs.Prelude.{option_and_then, slice_get}
 use Rattle.std.proofs.lemmas.Bool.{true≢false}
 use Rattle.std.proofs.lemmas.Option.{none-some, same_Some}
 use Rattle.fancy_expr.specs.declared.error.Error.{Error}
 use Rattle.fancy_expr.specs.declared.error.Error.TheVariants as error
-use Rattle.fancy_expr.specs.declared.error.RuntimeError.{RuntimeError}
 use Rattle.fancy_matches.specs.Listing.{begun_at}
 use Rattle.fancy_matches.specs.Regexes.{FindsCaptures, shown_match, span_of}
 use Rattle.fancy_matches.specs.declared.found.Match.{Match}
 use Rattle.fancy_scanner.specs.Among.{ArePicked, answer_of, answers_among}
 use Rattle.fancy_scanner.specs.Kept.{found_in, kept_captures, shown_whole}
-use Rattle.fancy_scanner.specs.Scanning.{AreTreesOf, EachReplies, FailsForOne, IsRuleAt, MayFail, Rule, here, stopped_view, trees_of}
-use Rattle.fancy_scanner.specs.Scans.{AreAnswersOf, GoesOn, HasRoom, IsScanOf, IsWholeIn, KeepsHeld, answers_of, captures_result, earlier_match, found_match, holds_for, is_held, text_of}
+use Rattle.fancy_scanner.specs.Scanning.{AreTreesOf, EachReplies, FailsForOne, IsRuleAt, MayFail, MayPass, Rule, error_of, here, search_limit, stopped_view, trees_of}
+use Rattle.fancy_scanner.specs.Limits.{AreDistinct, passed_among, passed_at}
+use Rattle.fancy_scanner.specs.Scans.{AreAnswersOf, GoesOn, HasRoom, IsScanOf, IsWholeIn, KeepsHeld, KeepsOthers, answers_of, captures_result, earlier_match, found_match, holds_for, is_held, text_of}
 use Rattle.fancy_scanner.specs.declared.answers.Answer.{Answer}
 use Rattle.fancy_scanner.specs.declared.lasting.Lasting.{Lasting}
+use Rattle.fancy_scanner.specs.declared.scan_limit.ScanLimit.{ScanLimit}
 use Rattle.fancy_scanner.specs.declared.scan_text.ScanText.{ScanText}
 use Rattle.fancy_scanner.specs.declared.scan_text.TreeMatch.{TreeMatch}
 use Rattle.fancy_scanner.specs.declared.scanner.ScanTree.{ScanTree}
 use Rattle.fancy_scanner.specs.declared.scanner.Stopped.{Stopped}
 use Rattle.fancy_scanner.proofs.Kept.{goes_twice, held, held_still, room_left}
 use Rattle.fancy_scanner.proofs.Rules.{IsScanFrom, RuleAt, back_past_limit, back_past_none, back_past_some, fails_at}
-use Rattle.fancy_scanner.proofs.Steps.{IsSeen, groups_of, none_kept, told}
+use Rattle.fancy_scanner.proofs.Steps.{IsSeen, earlier_index, groups_of, none_kept, told}
+use Rattle.fancy_scanner.proofs.Passed.{TellsFrom, among_others, index_of, none_held, none_past_in, passed_stopped, read_among, rule_passes, tells_answer, tells_limit, tells_none}
 
 -- ---- what is kept, in the order
 
@@ -117,6 +119,7 @@ module _ (pos : ℕ) (order : List ℕ) where
       pub goes : GoesOn before s
       pub held : KeepsHeld pos before s
       pub seen : IsSeenAmong s found
+      pub tells : AreDistinct order → TellsFrom n (passed_among pos order s) (index_of found) stopped
       pub scanned : (rules picked : List Rule) → IsScanOf rules before → ArePicked rules order picked →
           IsScanFrom (text_of before) pos picked n (found_match (answers_among s order) found) stopped
 
@@ -129,7 +132,11 @@ module _ (pos : ℕ) (order : List ℕ) where
     }
 
     module _ (s t : ScanText) (count n : ℕ) (found : Option TreeMatch) (stopped : Option Stopped) (h : AmongSoFar s count n found stopped)
-        (some : 0 < n) (k : ℕ) (read : slice_get order (n - 1) ≡ Some k) (goes : GoesOn s t) (holds : KeepsHeld pos s t) where
+        (some : 0 < n) (k : ℕ) (read : slice_get order (n - 1) ≡ Some k) (goes : GoesOn s t) (holds : KeepsHeld pos s t)
+        (others : KeepsOthers k s t) (limits : (j : ℕ) → j ≢ k → passed_at t.scanner.now j ≡ passed_at s.scanner.now j) where
+      same_past : AreDistinct order → (j : ℕ) → n ≤ j → passed_among pos order t j ≡ passed_among pos order s j
+      same_past distinct = among_others pos s t k goes others limits order n distinct some read
+
       same_slot : (j i : ℕ) → slice_get order j ≡ Some i → is_held s i pos ≡ true →
           slice_get (answers_among t order) j ≡ slice_get (answers_among s order) j
       same_slot j i e kept =
@@ -154,11 +161,12 @@ module _ (pos : ℕ) (order : List ℕ) where
           (sym (same_slot m.index g.tree g.read g.held))
 
       looked_among : (found_now : Option TreeMatch) (stopped_now : Option Stopped) → IsSeenAmong t found_now →
+          (AreDistinct order → TellsFrom (n - 1) (passed_among pos order t) (index_of found_now) stopped_now) →
           ((rules picked : List Rule) (at : PickedAt (text_of before) rules picked (n - 1) k) → IsScanOf rules s →
           IsScanFrom (text_of before) pos picked (suc (n - 1)) (found_match (answers_among t order) found) stopped →
           IsScanFrom (text_of before) pos picked (n - 1) (found_match (answers_among t order) found_now) stopped_now) →
           AmongSoFar t count (n - 1) found_now stopped_now
-      looked_among found_now stopped_now seen back =
+      looked_among found_now stopped_now seen tells back =
           let within = h.within in
           let next : n ≡ suc (n - 1) = omega (arith, some) in
           record {
@@ -168,6 +176,7 @@ module _ (pos : ℕ) (order : List ℕ) where
             goes = goes_twice before s t h.goes goes;
             held = held_still before s t pos (h.goes).trees h.held holds;
             seen = seen;
+            tells = tells;
             scanned = λ rules picked of picks.
                 back rules picked (picked_at (text_of before) rules order picked (n - 1) k picks read) ((h.goes).still rules of)
                 (subst (λ o. IsScanFrom (text_of before) pos picked (suc (n - 1)) o stopped) (still_found found h.seen)
@@ -193,10 +202,16 @@ module _ (pos : ℕ) (order : List ℕ) where
         abbrev ShowsSo : Result (Option Match) Error → Type 0
         ShowsSo x = IfOk x (λ o. option_map shown_match o ≡ option_map shown_whole (kept_captures (answers_of t) k))
 
-        pub none_among_so : ShowsSo result → result ≡ Ok None → AmongSoFar t count (n - 1) found stopped
-        none_among_so whole e =
+        none_here : is_held t k pos ≡ true → passed_among pos order t (n - 1) ≡ None
+        none_here kept = read_among pos order t (n - 1) k None read (none_held pos t k kept)
+
+        pub none_among_so : ShowsSo result → is_held t k pos ≡ true → result ≡ Ok None → AmongSoFar t count (n - 1) found stopped
+        none_among_so whole kept e =
             let none = none_kept (answers_of t) k (subst ShowsSo e whole) in
             looked_among found stopped (still_seen found h.seen)
+            (λ distinct.
+            tells_none (passed_among pos order s) (passed_among pos order t) n some (same_past distinct) (index_of found) stopped (h.tells distinct)
+            (none_here kept))
             (λ rules picked at of scanned.
             back_past_none (text_of before) pos picked (n - 1) at.at (found_match (answers_among t order) found) stopped scanned
             (subst (λ o. FindsCaptures (at.at.rule).input (text_of before) (begun_at (at.at.rule).options pos) (Ok o)) none
@@ -226,6 +241,9 @@ module _ (pos : ℕ) (order : List ℕ) where
             let this : IsSeenMatch t one = record { tree = k; read = read; held = held; whole = here } in
             subst (λ m. AmongSoFar t count (n - 1) (Some m) stopped) (sym is)
             (looked_among (Some (earlier_match one found)) stopped (chosen_seen one found this there)
+            (λ distinct.
+            tells_answer (passed_among pos order s) (passed_among pos order t) n some (same_past distinct) (index_of found) stopped
+            (h.tells distinct) (none_here held) (index_of (Some (earlier_match one found))) (earlier_index one found))
             (λ rules picked at of scanned.
             subst (λ o. IsScanFrom (text_of before) pos picked (n - 1) o stopped) (sym tells.shown)
             (back_past_some (text_of before) pos picked (n - 1) at.at (found_match (answers_among t order) found) stopped scanned groups.captures
@@ -233,13 +251,21 @@ module _ (pos : ℕ) (order : List ℕ) where
             (subst (λ o. FindsCaptures (at.at.rule).input (text_of before) (begun_at (at.at.rule).options pos) (Ok o)) (sym place ∙ groups.kept)
             (answered_so (Ok (Some w)) e rules picked at of)) tells.view)))
 
-        pub limit_among_so : (failed : Error) → result ≡ Err failed → (limit : RuntimeError) → failed ≡ error.RuntimeError limit → (now : Stopped) →
+        pub limit_among_so : (failed : Error) → result ≡ Err failed → (limit : ScanLimit) → failed ≡ error_of limit →
+            passed_at t.scanner.now k ≡ search_limit limit → is_held t k pos ≡ false → (now : Stopped) →
             stopped_view now ≡ (n - 1, limit) → AmongSoFar t count (n - 1) found (Some now)
-        limit_among_so failed e limit is now view =
+        limit_among_so failed e limit is passed not_held now view =
             looked_among found (Some now) (still_seen found h.seen)
+            (λ distinct.
+            tells_limit (passed_among pos order s) (passed_among pos order t) n some (same_past distinct) (index_of found) stopped (h.tells distinct)
+            limit (read_among pos order t (n - 1) k (search_limit limit) read (passed_stopped pos t k limit not_held passed)) now view)
             (λ rules picked at of scanned.
+            let now_of = goes.still rules of in
             back_past_limit (text_of before) pos picked (n - 1) at.at (found_match (answers_among t order) found) stopped scanned limit now
-            (subst (MayFail (text_of before) pos at.at.rule) is (answered_so (Err failed) e rules picked at of)) view)
+            (subst (MayFail (text_of before) pos at.at.rule) is (answered_so (Err failed) e rules picked at of))
+            (subst (MayPass at.at.rule) passed
+            (rule_passes (text_of t) rules (trees_of t.scanner.now) k at.at.rule now_of.scanner at.there
+            (within_trees (text_of t) rules (trees_of t.scanner.now) k at.at.rule now_of.scanner at.there))) view)
 
         pub fails_among_so : (failed : Error) → result ≡ Err failed → (rules picked : List Rule) → IsScanOf rules before →
             ArePicked rules order picked → FailsForOne (text_of before) pos failed picked
@@ -260,6 +286,9 @@ module _ (pos : ℕ) (order : List ℕ) where
           goes = h.goes;
           held = h.held;
           seen = h.seen;
+          tells = λ distinct.
+              tells_none (passed_among pos order s) (passed_among pos order s) n some (λ j le. refl) (index_of found) stopped (h.tells distinct)
+              (read_among pos order s (n - 1) k None read (none_past_in pos s k (omega (arith, past, counted))));
           scanned = λ rules picked of picks.
               let at = picked_at (text_of before) rules order picked (n - 1) k picks read in
               let now = (h.goes).still rules of in

@@ -1,21 +1,30 @@
 -- Rules and the trees of a scanner that are of them, one by one; and the replies of the rules from one on.
 use Rattle.std.proofs.Common.{◌≡◌, ℕ, zero, suc, ◌-◌, ◌^◌, ◌<◌, ◌≤◌, List, [], ◌∷◌, ◌++◌, length, drop, get_or, slice_set, Option, Some, None, option_map, Ok, Err, refl, sym, ap, ◌∙◌, subst, arith}
-use Rattle.std.specs.Prelude.{slice_get}
+use Rattle.std.specs.Prelude.{IsSome, slice_get}
+use Rattle.std.proofs.lemmas.Bool.{true≢false}
 use Rattle.std.proofs.lemmas.Option.{none-some, same_Some}
 use Rattle.fancy_expr.specs.declared.error.Error.{Error}
 use Rattle.fancy_expr.specs.declared.error.Error.TheVariants as error
-use Rattle.fancy_expr.specs.declared.error.RuntimeError.{RuntimeError}
+use Rattle.fancy_expr.specs.declared.error.RuntimeError.TheVariants as run
+use Rattle.fancy_vm.specs.SearchLimits.{no_limits, passed_by}
+use Rattle.fancy_vm.specs.declared.search_limits.SearchLimit.{SearchLimit}
+use Rattle.fancy_vm.specs.declared.search_limits.SearchLimits.{SearchLimits}
 use Rattle.fancy_matches.specs.Listing.{begun_at}
 use Rattle.fancy_matches.specs.Regexes.{FindsCaptures, IsSame, captures_text, numbers_in, shown_captures, with_numbers}
 use Rattle.fancy_matches.specs.declared.found.Captures.{Captures}
+use Rattle.fancy_matches.specs.declared.options.RegexOptions.{RegexOptions}
 use Rattle.fancy_matches.proofs.Easy.{no_limit}
 use Rattle.fancy_matches.proofs.Stepping.{of_same}
-use Rattle.fancy_scanner.specs.Scanning.{Rule, AreEasy, AreTreesOf, EachReplies, FailsForOne, IsLastingFor, IsRuleAt, IsScannerOf, IsTreeOf, KeepsTrees, MayFail, Replies, Reply, RuleMatch, answer_from, earlier, earliest, first_stopped, here, in_text, later, match_view, stopped_view, trees_of}
+use Rattle.fancy_scanner.specs.Scanning.{Rule, AreEasy, AreEasyRuns, AreTreesOf, EachReplies, FailsForOne, IsEasyRun, IsLastingFor, IsRuleAt, IsScannerOf, IsStoppedByDelegates, IsTreeOf, KeepsTrees, MayFail, MayPass, Replies, Reply, RuleMatch, answer_from, earlier, earliest, error_of, first_stopped, here, in_text, later, match_view, search_limit, stopped_view, trees_of}
+use Rattle.fancy_scanner.specs.Limits.{passed_at}
 use Rattle.fancy_scanner.specs.declared.lasting.Lasting.{Lasting}
+use Rattle.fancy_scanner.specs.declared.scan_limit.ScanLimit.{ScanLimit}
+use Rattle.fancy_scanner.specs.declared.scan_limit.ScanLimit.TheVariants as limit
 use Rattle.fancy_scanner.specs.declared.scanner.ScanMatch.{ScanMatch}
 use Rattle.fancy_scanner.specs.declared.scanner.ScanTree.{ScanTree}
 use Rattle.fancy_scanner.specs.declared.scanner.Scanner.{Scanner}
 use Rattle.fancy_scanner.specs.declared.scanner.Stopped.{Stopped}
+use Rattle.fancy_scanner.proofs.Passed.{TellsFrom, index_in}
 
 abbrev first_of : {X : Type 0} → X → List X → X
 first_of d [] = d
@@ -67,6 +76,7 @@ module _ (text : List ℕ) where
         record {
           regex = of_same x.regex y.regex r.input text r.options same of.regex;
           lasting = subst (IsLastingFor r) (sym lasts) of.lasting;
+          limits = ap (λ (o : RegexOptions). o.limits) same.1 ∙ of.limits;
         },
         h.1,
       )
@@ -162,9 +172,9 @@ module _ (text : List ℕ) (pos : ℕ) where
         one_back (Ok (Some (numbers_in c))) (Some now) stopped (h.0, there.0)
         (ap Some (told (earliest (suc k) scanned.replies) there.1 scanned.first)) scanned.stops
 
-    pub back_past_limit : (limit : RuntimeError) (now : Stopped) → MayFail text pos at.rule (error.RuntimeError limit) →
+    pub back_past_limit : (limit : ScanLimit) (now : Stopped) → MayFail text pos at.rule (error_of limit) → MayPass at.rule (search_limit limit) →
         stopped_view now ≡ (k, limit) → IsScanFrom rules k found (Some now)
-    back_past_limit limit now fails is = one_back (Err limit) found (Some now) fails scanned.first (ap Some is)
+    back_past_limit limit now fails passes is = one_back (Err limit) found (Some now) (fails, passes) scanned.first (ap Some is)
 
   fails_from : (e : Error) (rules : List Rule) (k : ℕ) → FailsForOne text pos e (drop k rules) → FailsForOne text pos e rules
   fails_from e rules zero h = h
@@ -181,18 +191,20 @@ module _ (text : List ℕ) (pos : ℕ) where
   pub record ScanFrom (before s : Scanner) (n : ℕ) (found : Option ScanMatch) (stopped : Option Stopped) : Type 0 where
     pub within : n ≤ length (trees_of s)
     pub keeps : KeepsTrees before s
+    pub tells : TellsFrom n (passed_at s) (index_in found) stopped
     pub scanned : (rules : List Rule) → IsScannerOf rules text before → IsScanFrom rules n found stopped
 
   pub tree_before : (before s t : Scanner) (n : ℕ) (found found_now : Option ScanMatch) (stopped stopped_now : Option Stopped) →
-      ScanFrom before s n found stopped → 0 < n → KeepsTrees s t →
+      ScanFrom before s n found stopped → 0 < n → KeepsTrees s t → TellsFrom (n - 1) (passed_at t) (index_in found_now) stopped_now →
       ((rules : List Rule) (at : RuleAt text rules (n - 1)) → IsScannerOf rules text s → IsScanFrom rules (suc (n - 1)) found stopped →
       IsScanFrom rules (n - 1) found_now stopped_now) →
       ScanFrom before t (n - 1) found_now stopped_now
-  tree_before before s t n found found_now stopped stopped_now h some keeps back =
+  tree_before before s t n found found_now stopped stopped_now h some keeps tells back =
       let next : n ≡ suc (n - 1) = omega (arith, some) in
       record {
         within = omega (arith, h.within, keeps.count);
         keeps = keeps_twice before s t h.keeps keeps;
+        tells = tells;
         scanned = λ rules of.
             let now = (h.keeps).same text rules of in
             back rules (rule_at text rules (trees_of s) (n - 1) now (omega (arith, h.within, next))) now
@@ -201,6 +213,43 @@ module _ (text : List ℕ) (pos : ℕ) where
 
   -- ---- where no limit was asked
 
+  -- a search of an easy rule passes limits of its delegates alone
+  delegates_alone : length text < 2 ^ 60 → (r : Rule) (limit : ScanLimit) → IsEasyRun text r → MayFail text pos r (error_of limit) →
+      IsSome (search_limit limit)
+  delegates_alone small r limit.BacktrackLimitExceeded easy fails =
+      absurd
+      (no_limit r.input text (begun_at r.options pos) small easy.backtracks easy.steps (error_of limit.BacktrackLimitExceeded) easy.tree fails.1)
+  delegates_alone small r limit.StackOverflow easy fails =
+      absurd (no_limit r.input text (begun_at r.options pos) small easy.backtracks easy.steps (error_of limit.StackOverflow) easy.tree fails.1)
+  delegates_alone small r limit.StepLimitExceeded easy fails =
+      absurd (no_limit r.input text (begun_at r.options pos) small easy.backtracks easy.steps (error_of limit.StepLimitExceeded) easy.tree fails.1)
+  delegates_alone small r limit.VisitLimitExceeded easy fails = refl
+  delegates_alone small r limit.MemoryLimitExceeded easy fails = refl
+
+  -- and none of these where there is none
+  no_delegate_limit : (r : Rule) (limit : ScanLimit) → r.limits ≡ no_limits → MayPass r (search_limit limit) → IsSome (search_limit limit) → ⊥
+  no_delegate_limit r limit none passes some =
+      let never : None ≡ search_limit limit = sym (ap (λ (l : SearchLimits). passed_by l passes.0) none) ∙ passes.1 in
+      subst (λ (o : Option SearchLimit). IsSome o → ⊥) never (λ h. true≢false (sym h)) some
+
+  first_by_delegates : length text < 2 ^ 60 → (n : ℕ) (rules : List Rule) (replies : List Reply) → AreEasyRuns text rules →
+      EachReplies text pos rules replies → (stopped : Option Stopped) → option_map stopped_view stopped ≡ first_stopped n replies →
+      IsStoppedByDelegates stopped
+  first_by_delegates small n rules replies easy each None e = tt
+  first_by_delegates small n [] [] easy each (Some s) e = absurd (none-some _ (sym e))
+  first_by_delegates small n [] (reply ∷ replies) easy each (Some s) e = absurd each
+  first_by_delegates small n (r ∷ rules) [] easy each (Some s) e = absurd each
+  first_by_delegates small n (r ∷ rules) (Ok found ∷ replies) easy each (Some s) e =
+      first_by_delegates small (suc n) rules replies easy.1 each.1 (Some s) e
+  first_by_delegates small n (r ∷ rules) (Err limit ∷ replies) easy each (Some s) e =
+      subst (λ (l : ScanLimit). IsSome (search_limit l)) (sym (ap (λ v. v.1) (same_Some _ _ e)))
+      (delegates_alone small r limit easy.0 each.0.0)
+
+  pub easy_by_delegates : (rules : List Rule) (found : Option ScanMatch) (stopped : Option Stopped) → length text < 2 ^ 60 → AreEasyRuns text rules →
+      IsScanFrom rules 0 found stopped → IsStoppedByDelegates stopped
+  easy_by_delegates rules found stopped small easy scanned =
+      first_by_delegates small 0 rules scanned.replies easy scanned.each stopped scanned.stops
+
   none_stopped : length text < 2 ^ 60 → (n : ℕ) (rules : List Rule) (replies : List Reply) → AreEasy text rules → EachReplies text pos rules replies →
       None ≡ first_stopped n replies
   none_stopped small n [] [] easy each = refl
@@ -208,8 +257,7 @@ module _ (text : List ℕ) (pos : ℕ) where
   none_stopped small n (r ∷ rules) [] easy each = absurd each
   none_stopped small n (r ∷ rules) (Ok found ∷ replies) easy each = none_stopped small (suc n) rules replies easy.1 each.1
   none_stopped small n (r ∷ rules) (Err limit ∷ replies) easy each =
-      absurd
-      (no_limit r.input text (begun_at r.options pos) small (easy.0).backtracks (easy.0).steps (error.RuntimeError limit) (easy.0).tree each.0.1)
+      absurd (no_delegate_limit r limit (easy.0).limits each.0.1 (delegates_alone small r limit (easy.0).easy_run each.0.0))
 
   no_view : (stopped : Option Stopped) → None ≡ option_map stopped_view stopped → stopped ≡ None
   no_view None e = refl

@@ -1,19 +1,20 @@
 -- A scan goes from the last tree to the first.
-use Rattle.std.proofs.Common.{◌≡◌, ◌≢◌, ℕ, suc, ◌-◌, ◌<◌, ◌≤◌, Bool, true, false, List, [], ◌∷◌, length, Option, Some, None, IfSome, if◌then◌else◌, nat_lt, option_map, Result, Ok, Err, IfOk, refl, sym, ap, ap₂, ◌∙◌, subst, arith}
+use Rattle.std.proofs.Common.{◌≡◌, ◌≢◌, ◌⊎◌, inl, inr, ℕ, suc, ◌-◌, ◌<◌, ◌≤◌, Bool, true, false, List, [], ◌∷◌, length, Option, Some, None, IfSome, if◌then◌else◌, nat_lt, option_map, Result, Ok, Err, IfOk, refl, sym, ap, ap₂, ◌∙◌, subst, arith}
 use Rattle.std.specs.Prelude.{option_and_then}
 use Rattle.std.proofs.lemmas.Option.{none-some, same_Some}
 use Rattle.fancy_expr.specs.declared.error.Error.{Error}
 use Rattle.fancy_expr.specs.declared.error.Error.TheVariants as error
-use Rattle.fancy_expr.specs.declared.error.RuntimeError.{RuntimeError}
 use Rattle.fancy_meaning.specs.MatchState.{Span}
 use Rattle.fancy_matches.specs.Listing.{begun_at}
 use Rattle.fancy_matches.specs.Regexes.{FindsCaptures, captures_text, numbers_in, shown_match, span_of}
 use Rattle.fancy_matches.specs.declared.found.Captures.{Captures}
 use Rattle.fancy_matches.specs.declared.found.Match.{Match}
 use Rattle.fancy_scanner.specs.Kept.{found_in, kept_captures, shown_whole}
-use Rattle.fancy_scanner.specs.Scanning.{AreTreesOf, FailsForOne, IsRuleAt, MayFail, Rule, RuleMatch, earlier, here, in_text, match_view, start_of, stopped_view, trees_of}
-use Rattle.fancy_scanner.specs.Scans.{GoesOn, HasRoom, IsScanOf, IsWholeIn, KeepsHeld, KeepsOthers, answers_of, captures_result, earlier_match, found_match, scan_match, text_of}
+use Rattle.fancy_scanner.specs.Scanning.{AreTreesOf, FailsForOne, IsRuleAt, MayFail, MayPass, Rule, RuleMatch, earlier, error_of, here, in_text, match_view, search_limit, start_of, stopped_view, trees_of}
+use Rattle.fancy_scanner.specs.Limits.{passed_at, passed_from}
+use Rattle.fancy_scanner.specs.Scans.{GoesOn, HasRoom, IsScanOf, IsWholeIn, KeepsHeld, KeepsOthers, answers_of, captures_result, earlier_match, found_match, is_held, scan_match, text_of}
 use Rattle.fancy_scanner.specs.declared.answers.Answer.{Answer}
+use Rattle.fancy_scanner.specs.declared.scan_limit.ScanLimit.{ScanLimit}
 use Rattle.fancy_scanner.specs.declared.scan_text.ScanText.{ScanText}
 use Rattle.fancy_scanner.specs.declared.scan_text.TreeMatch.{TreeMatch}
 use Rattle.fancy_scanner.specs.declared.scanner.ScanMatch.{ScanMatch}
@@ -21,6 +22,7 @@ use Rattle.fancy_scanner.specs.declared.scanner.ScanTree.{ScanTree}
 use Rattle.fancy_scanner.specs.declared.scanner.Stopped.{Stopped}
 use Rattle.fancy_scanner.proofs.Rules.{IsScanFrom, RuleAt, back_past_limit, back_past_none, back_past_some, fails_at, rule_at}
 use Rattle.fancy_scanner.proofs.Kept.{goes_twice, held_still, room_left}
+use Rattle.fancy_scanner.proofs.Passed.{TellsFrom, index_of, none_held, passed_others, passed_stopped, rule_passes, tells_answer, tells_limit, tells_none}
 
 -- a match that was found of a tree from number n on, whose groups are kept
 abbrev pub IsSeen : List (Option Answer) → ℕ → Option TreeMatch → Type 0
@@ -155,6 +157,17 @@ earlier_seen answers k one (Some m) at whole h = go (nat_lt (span_of m.whole).0 
     go true = h
     go false = (at, whole)
 
+-- it is one of both
+pub earlier_index : (one : TreeMatch) (found : Option TreeMatch) →
+    (index_of (Some (earlier_match one found)) ≡ index_of found) ⊎ (index_of (Some (earlier_match one found)) ≡ Some one.index)
+earlier_index one None = inr refl
+earlier_index one (Some m) = go (nat_lt (span_of m.whole).0 (span_of one.whole).0)
+  where
+    go : (b : Bool) →
+        (index_of (Some (if b then m else one)) ≡ Some m.index) ⊎ (index_of (Some (if b then m else one)) ≡ Some one.index)
+    go true = inl refl
+    go false = inr refl
+
 -- ---- from one tree to the one before
 
 pub no_memory : (text : List ℕ) (pos : ℕ) (rules : List Rule) (xs : List ScanTree) → AreTreesOf rules text xs → 0 < length xs →
@@ -172,11 +185,18 @@ module _ (pos : ℕ) (before : ScanText) where
     pub goes : GoesOn before s
     pub held : KeepsHeld pos before s
     pub seen : IsSeen (answers_of s) n found
+    pub tells : TellsFrom n (passed_from pos s) (index_of found) stopped
     pub scanned : (rules : List Rule) → IsScanOf rules before →
         IsScanFrom (text_of before) pos rules n (found_match (answers_of s) found) stopped
 
   module _ (s t : ScanText) (n : ℕ) (found : Option TreeMatch) (stopped : Option Stopped) (h : ScanSoFar s n found stopped) (some : 0 < n)
-      (goes : GoesOn s t) (holds : KeepsHeld pos s t) (others : KeepsOthers (n - 1) s t) where
+      (goes : GoesOn s t) (holds : KeepsHeld pos s t) (others : KeepsOthers (n - 1) s t)
+      (limits : (j : ℕ) → j ≢ n - 1 → passed_at t.scanner.now j ≡ passed_at s.scanner.now j) where
+    same_past : (j : ℕ) → n ≤ j → passed_from pos t j ≡ passed_from pos s j
+    same_past j le =
+        let other : j ≢ n - 1 = omega (arith, le, some) in
+        passed_others pos s t (n - 1) goes others limits j other
+
     before_it : n - 1 < n
     before_it = omega (arith, some)
 
@@ -184,11 +204,12 @@ module _ (pos : ℕ) (before : ScanText) where
     still_seen = seen_still s t (n - 1) others n found before_it h.seen
 
     pub looked_at : (found_now : Option TreeMatch) (stopped_now : Option Stopped) → IsSeen (answers_of t) (n - 1) found_now →
+        TellsFrom (n - 1) (passed_from pos t) (index_of found_now) stopped_now →
         ((rules : List Rule) (at : RuleAt (text_of before) rules (n - 1)) → IsScanOf rules s →
         IsScanFrom (text_of before) pos rules (suc (n - 1)) (found_match (answers_of t) found) stopped →
         IsScanFrom (text_of before) pos rules (n - 1) (found_match (answers_of t) found_now) stopped_now) →
         ScanSoFar t (n - 1) found_now stopped_now
-    looked_at found_now stopped_now seen back =
+    looked_at found_now stopped_now seen tells back =
         let within = h.within in
         let count = (goes.trees).count in
         let next : n ≡ suc (n - 1) = omega (arith, some) in
@@ -198,6 +219,7 @@ module _ (pos : ℕ) (before : ScanText) where
           goes = goes_twice before s t h.goes goes;
           held = held_still before s t pos (h.goes).trees h.held holds;
           seen = seen;
+          tells = tells;
           scanned = λ rules of.
               let now = (h.goes).still rules of in
               let trees = subst (λ u. AreTreesOf rules u (trees_of s.scanner.now)) (h.goes).within now.scanner in
@@ -224,37 +246,48 @@ module _ (pos : ℕ) (before : ScanText) where
       abbrev Shows : Result (Option Match) Error → Type 0
       Shows x = IfOk x (λ o. option_map shown_match o ≡ option_map shown_whole (kept_captures (answers_of t) (n - 1)))
 
-      pub none_so : Shows result → result ≡ Ok None → ScanSoFar t (n - 1) found stopped
-      none_so whole e =
+      pub none_so : Shows result → is_held t (n - 1) pos ≡ true → result ≡ Ok None → ScanSoFar t (n - 1) found stopped
+      none_so whole kept e =
           let none = none_kept (answers_of t) (n - 1) (subst Shows e whole) in
           looked_at found stopped still_seen
+          (tells_none (passed_from pos s) (passed_from pos t) n some same_past (index_of found) stopped h.tells (none_held pos t (n - 1) kept))
           (λ rules at of scanned.
           back_past_none (text_of before) pos rules (n - 1) at (found_match (answers_of t) found) stopped scanned
           (subst (λ o. FindsCaptures (at.rule).input (text_of before) (begun_at (at.rule).options pos) (Ok o)) none
           (answered_so (Ok None) e rules at of)))
 
-      pub some_so : Shows result → (w : Match) → result ≡ Ok (Some w) → (now : TreeMatch) →
+      pub some_so : Shows result → is_held t (n - 1) pos ≡ true → (w : Match) → result ≡ Ok (Some w) → (now : TreeMatch) →
           now ≡ earlier_match (record { index = n - 1; whole = w }) found → ScanSoFar t (n - 1) (Some now) stopped
-      some_so whole w e now is =
+      some_so whole kept w e now is =
           let one : TreeMatch = record { index = n - 1; whole = w } in
           let here : IsWholeIn (answers_of t) one = subst Shows e whole in
           let groups = groups_of (answers_of t) (n - 1) w here in
           let tells = told (text_of before) (answers_of t) one groups (n - 1) found still_seen in
           subst (λ m. ScanSoFar t (n - 1) (Some m) stopped) (sym is)
           (looked_at (Some (earlier_match one found)) stopped (earlier_seen (answers_of t) (n - 1) one found (omega arith) here still_seen)
+          (tells_answer (passed_from pos s) (passed_from pos t) n some same_past (index_of found) stopped h.tells (none_held pos t (n - 1) kept)
+          (index_of (Some (earlier_match one found))) (earlier_index one found))
           (λ rules at of scanned.
           subst (λ o. IsScanFrom (text_of before) pos rules (n - 1) o stopped) (sym tells.shown)
           (back_past_some (text_of before) pos rules (n - 1) at (found_match (answers_of t) found) stopped scanned groups.captures tells.match
           (subst (λ o. FindsCaptures (at.rule).input (text_of before) (begun_at (at.rule).options pos) (Ok o)) groups.kept
           (answered_so (Ok (Some w)) e rules at of)) tells.view)))
 
-      pub limit_so : (failed : Error) → result ≡ Err failed → (limit : RuntimeError) → failed ≡ error.RuntimeError limit → (now : Stopped) →
+      pub limit_so : (failed : Error) → result ≡ Err failed → (limit : ScanLimit) → failed ≡ error_of limit →
+          passed_at t.scanner.now (n - 1) ≡ search_limit limit → is_held t (n - 1) pos ≡ false → (now : Stopped) →
           stopped_view now ≡ (n - 1, limit) → ScanSoFar t (n - 1) found (Some now)
-      limit_so failed e limit is now view =
+      limit_so failed e limit is passed not_held now view =
           looked_at found (Some now) still_seen
+          (tells_limit (passed_from pos s) (passed_from pos t) n some same_past (index_of found) stopped h.tells limit
+          (passed_stopped pos t (n - 1) limit not_held passed) now view)
           (λ rules at of scanned.
+          let within = h.within in
+          let count = (goes.trees).count in
           back_past_limit (text_of before) pos rules (n - 1) at (found_match (answers_of t) found) stopped scanned limit now
-          (subst (MayFail (text_of before) pos at.rule) is (answered_so (Err failed) e rules at of)) view)
+          (subst (MayFail (text_of before) pos at.rule) is (answered_so (Err failed) e rules at of))
+          (subst (MayPass at.rule) passed
+          (rule_passes (text_of t) rules (trees_of t.scanner.now) (n - 1) at.rule (goes.still rules of).scanner at.rest
+          (omega (arith, within, count, some)))) view)
 
       pub fails_so : (failed : Error) → result ≡ Err failed → (rules : List Rule) → IsScanOf rules before → FailsForOne (text_of before) pos failed rules
       fails_so failed e rules of =

@@ -1,35 +1,66 @@
 -- Which of many trees matches first, and which passed a limit.
-use Rattle.std.specs.Prelude.{◌≡◌, ◌-◌, ◌^◌, ℕ, suc, nat_lt, IsFalse, List, [], ◌∷◌, length, drop, slice_get, Option, Some, None, option_map, Result, Ok, Err, if◌then◌else◌}
+use Rattle.std.specs.Prelude.{◌≡◌, ◌-◌, ◌^◌, ℕ, suc, nat_lt, IsFalse, IsSome, List, [], ◌∷◌, length, drop, slice_get, Option, Some, None, option_map, Result, Ok, Err, if◌then◌else◌}
 use Rattle.fancy_meaning.specs.Answer.{answer, search_of}
 use Rattle.fancy_meaning.specs.Hard.{is_root_hard}
 use Rattle.fancy_meaning.specs.Options as plain
 use Rattle.fancy_meaning.specs.Premises.{Input, plan, IsAccepted}
 use Rattle.fancy_expr.specs.declared.error.Error.{Error}
 use Rattle.fancy_expr.specs.declared.error.Error.TheVariants as error
-use Rattle.fancy_expr.specs.declared.error.RuntimeError.{RuntimeError}
+use Rattle.fancy_expr.specs.declared.error.RuntimeError.TheVariants as run
 use Rattle.fancy_expr.specs.declared.expr.ExprTree.{ExprTree}
 use Rattle.fancy_vm.specs.Outcomes.{first_pair}
+use Rattle.fancy_vm.specs.SearchLimits.{no_limits, passed_by}
 use Rattle.fancy_vm.specs.Tasks.{options_of as run_options_of}
+use Rattle.fancy_vm.specs.declared.search_limits.SearchCost.{SearchCost}
+use Rattle.fancy_vm.specs.declared.search_limits.SearchLimit.{SearchLimit}
+use Rattle.fancy_vm.specs.declared.search_limits.SearchLimit.TheVariants as search
+use Rattle.fancy_vm.specs.declared.search_limits.SearchLimits.{SearchLimits}
 use Rattle.fancy_search.specs.Searches.{Bounds, Promises, input_of, instructions_of}
 use Rattle.fancy_search.specs.declared.search.SearchOptions.{SearchOptions}
 use Rattle.fancy_matches.specs.Listing.{backtracks_for, begun_at, options_for}
 use Rattle.fancy_matches.specs.Regexes.{IsNoLimit, IsRegexOf, numbers_in, captures_text}
+use Rattle.fancy_matches.specs.declared.regexes.Regex.{Regex}
 use Rattle.fancy_scanner.specs.Lasting.{IsLasting, is_anchored}
 use Rattle.fancy_scanner.specs.declared.lasting.Lasting.{Lasting}
+use Rattle.fancy_scanner.specs.declared.scan_limit.ScanLimit.{ScanLimit}
+use Rattle.fancy_scanner.specs.declared.scan_limit.ScanLimit.TheVariants as limit
 use Rattle.fancy_scanner.specs.declared.scanner.Scan.{Scan}
 use Rattle.fancy_scanner.specs.declared.scanner.ScanMatch.{ScanMatch}
 use Rattle.fancy_scanner.specs.declared.scanner.ScanTree.{ScanTree}
 use Rattle.fancy_scanner.specs.declared.scanner.Scanner.{Scanner}
 use Rattle.fancy_scanner.specs.declared.scanner.Stopped.{Stopped}
 
--- a tree with how it was compiled, and how it is searched for
+-- a tree with how it was compiled, how it is searched for, and how much the delegates of a search may take
 pub record Rule : Type 0 where
   pub input : Input
   pub options : plain.RunOptions
+  pub limits : SearchLimits
+
+-- ---- limits
+
+-- the limit of the delegates, where it is one
+abbrev pub search_limit : ScanLimit → Option SearchLimit
+search_limit limit.BacktrackLimitExceeded = None
+search_limit limit.StackOverflow = None
+search_limit limit.StepLimitExceeded = None
+search_limit limit.VisitLimitExceeded = Some search.Visits
+search_limit limit.MemoryLimitExceeded = Some search.Bytes
+
+-- the error of a search that passes it
+abbrev pub error_of : ScanLimit → Error
+error_of limit.BacktrackLimitExceeded = error.RuntimeError run.BacktrackLimitExceeded
+error_of limit.StackOverflow = error.RuntimeError run.StackOverflow
+error_of limit.StepLimitExceeded = error.RuntimeError run.StepLimitExceeded
+error_of limit.VisitLimitExceeded = error.Memory
+error_of limit.MemoryLimitExceeded = error.Memory
+
+-- the delegates of a search for the rule take so much that they pass this limit, or none
+abbrev pub MayPass : Rule → Option SearchLimit → Type 0
+MayPass r passed = (cost : SearchCost) × (passed_by r.limits cost ≡ passed)
 
 -- what the search for a rule came to: its answer, or the limit that it passed
 abbrev pub Reply : Type 0
-Reply = Result (Option (List ℕ)) RuntimeError
+Reply = Result (Option (List ℕ)) ScanLimit
 
 -- ---- the first of many matches
 
@@ -54,7 +85,7 @@ earliest n (Ok (Some numbers) ∷ replies) = Some (earlier (n, numbers) (earlies
 earliest n (Err limit ∷ replies) = earliest (suc n) replies
 
 -- the first rule that passed a limit, with the limit
-abbrev pub first_stopped : ℕ → List Reply → Option (ℕ × RuntimeError)
+abbrev pub first_stopped : ℕ → List Reply → Option (ℕ × ScanLimit)
 first_stopped n [] = None
 first_stopped n (Ok found ∷ replies) = first_stopped (suc n) replies
 first_stopped n (Err limit ∷ replies) = Some (n, limit)
@@ -71,7 +102,7 @@ match_view s = (captures_text s.captures, rule_match s)
 abbrev pub in_text : List ℕ → RuleMatch → List ℕ × RuleMatch
 in_text text found = (text, found)
 
-abbrev pub stopped_view : Stopped → ℕ × RuntimeError
+abbrev pub stopped_view : Stopped → ℕ × ScanLimit
 stopped_view s = (s.index, s.limit)
 
 module _ (text : List ℕ) (pos : ℕ) where
@@ -87,7 +118,7 @@ module _ (text : List ℕ) (pos : ℕ) where
   -- it replies so: its tree is accepted, and this is the answer; or it passes the limit
   abbrev pub Replies : Rule → Reply → Type 0
   Replies r (Ok found) = IsAccepted r.input (instructions_of r.input) × (found ≡ answer_from r)
-  Replies r (Err limit) = MayFail r (error.RuntimeError limit)
+  Replies r (Err limit) = MayFail r (error_of limit) × MayPass r (search_limit limit)
 
   -- each of the rules does
   abbrev pub EachReplies : List Rule → List Reply → Type 0
@@ -112,33 +143,55 @@ module _ (text : List ℕ) (pos : ℕ) where
 
 -- ---- where no limit was asked
 
--- the whole tree of the rule is easy, and no limit was asked of its searches of this text
-pub record IsEasy (text : List ℕ) (r : Rule) : Type 0 where
+-- the whole tree of the rule is easy, and no limit of backtracks or steps was asked of its searches of this text
+pub record IsEasyRun (text : List ℕ) (r : Rule) : Type 0 where
   pub tree : IsFalse (is_root_hard (plan r.input).analysis)
   pub backtracks : (r.options).backtrack_limit ≡ backtracks_for None text
   pub steps : (r.options).step_limit ≡ 2 ^ 64 - 1
+
+abbrev pub AreEasyRuns : List ℕ → List Rule → Type 0
+AreEasyRuns text [] = Unit {0}
+AreEasyRuns text (r ∷ rules) = IsEasyRun text r × AreEasyRuns text rules
+
+-- nor one of visits or bytes
+pub record IsEasy (text : List ℕ) (r : Rule) : Type 0 where
+  pub easy_run : IsEasyRun text r
+  pub limits : r.limits ≡ no_limits
 
 abbrev pub AreEasy : List ℕ → List Rule → Type 0
 AreEasy text [] = Unit {0}
 AreEasy text (r ∷ rules) = IsEasy text r × AreEasy text rules
 
+-- none is stopped, or the first by a limit of its delegates
+abbrev pub IsStoppedByDelegates : Option Stopped → Type 0
+IsStoppedByDelegates None = Unit {0}
+IsStoppedByDelegates (Some s) = IsSome (search_limit s.limit)
+
 -- ---- a scanner
 
--- the rule of a tree that is compiled with these options, where texts are searched for it with this limit of backtracks
+-- The rule of a tree that is compiled with these options, where texts are searched for it with this limit of backtracks
+-- and none of visits and bytes.
 abbrev pub rule_of : ExprTree → SearchOptions → Option ℕ → List ℕ → Rule
 rule_of tree options asked text = record {
   input = input_of tree options.analysis options.compilation;
   options = options_for (run_options_of options.run) asked text;
+  limits = no_limits;
 }
 
 -- so answers of searches for the rule last
 abbrev pub IsLastingFor : Rule → Lasting → Type 0
 IsLastingFor r = IsLasting (is_anchored (plan r.input) r.options) (plan r.input).analysis.tree
 
--- It was compiled from the tree of the rule, its searches of this text have these options, and its answers last so.
+-- how much the delegates of its searches may take
+abbrev pub limits_in : Regex → SearchLimits
+limits_in r = r.options.limits
+
+-- It was compiled from the tree of the rule, its searches of this text have these options and limits, and its answers last
+-- so.
 pub record IsTreeOf (r : Rule) (text : List ℕ) (x : ScanTree) : Type 0 where
   pub regex : IsRegexOf r.input text r.options x.regex
   pub lasting : IsLastingFor r x.lasting
+  pub limits : limits_in x.regex ≡ r.limits
 
 -- they are trees of these rules, one by one
 abbrev pub AreTreesOf : List Rule → List ℕ → List ScanTree → Type 0

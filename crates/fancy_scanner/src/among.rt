@@ -1,16 +1,18 @@
 //! A scan for some of the trees of a scanner, in an order of their own; and one more tree for a scan.
 
-ghost use Rattle.std.specs.Prelude.{◌≡◌, ◌<◌, ◌^◌, ◌++◌, ◌∷◌, [], ℕ, IfErr, IfOk, IfSome, IsTrue, List, None, OnErr, OnOk, length};
+ghost use Rattle.std.specs.Prelude.{◌≡◌, ◌<◌, ◌^◌, ◌++◌, ◌∷◌, [], ℕ, IfErr, IfOk, IfSome, IsTrue, List, None, OnErr, OnOk, length, option_map};
 ghost use Rattle.fancy_meaning.specs.Places as places;
 ghost use Rattle.fancy_expr.specs.Sound.{IsWellFormedTree};
 ghost use Rattle.fancy_search.specs.Searches.{IsRefusedAs, input_of, search_fits};
 ghost use Rattle.fancy_scanner.specs.Among.{ArePicked, answers_among, among_result};
-ghost use Rattle.fancy_scanner.specs.Scanning.{AreEasy, Rule, Scans, rule_of};
+ghost use Rattle.fancy_scanner.specs.Limits.{AreDistinct, TellsPassed, passed_among};
+ghost use Rattle.fancy_scanner.specs.Scanning.{AreEasy, AreEasyRuns, IsStoppedByDelegates, Rule, Scans, rule_of};
 ghost use Rattle.fancy_scanner.specs.Scans as scans;
 ghost use Rattle.fancy_scanner.specs.Scans.{GoesOn, IsScanOf, KeepsHeld, scanner_of, text_of};
 
+use crate::scan_limit::limit_of;
 use crate::scan_text::{ScanStep, ScanText, TreeMatch, earlier};
-use crate::scanner::{Stopped, limit_of};
+use crate::scanner::Stopped;
 use fancy_expr::error::Error;
 use fancy_expr::expr::ExprTree;
 use fancy_search::search::SearchOptions;
@@ -33,6 +35,14 @@ impl<'t> ScanText<'_, 't> {
             → IsScanOf rules self.old → ArePicked rules order.now picked
             → AreEasy (text_of self.old) picked → length (text_of self.old) < 2 ^ 60
             → IfOk result (λ step. step.stopped ≡ None) }
+        ensures easy_run { (rules picked : List Rule)
+            → IsScanOf rules self.old → ArePicked rules order.now picked
+            → AreEasyRuns (text_of self.old) picked → length (text_of self.old) < 2 ^ 60
+            → IfOk result (λ step. IsStoppedByDelegates step.stopped) }
+        // of a number that stands twice, each search may end in another way
+        ensures stays { AreDistinct order.now → IfOk result (λ step. TellsPassed
+            (passed_among pos order.now self.new)
+            (option_map (λ m. m.index) step.found) step.stopped) }
         ensures held { KeepsHeld pos self.old self.new }
         ensures goes_on { GoesOn self.old self.new }
     {
@@ -56,7 +66,7 @@ impl<'t> ScanText<'_, 't> {
             match self.look(tree, pos) {
                 Ok(None) => {}
                 Ok(Some(whole)) => found = Some(earlier(TreeMatch { index, whole }, found)),
-                Err(error) => match limit_of(&error) {
+                Err(error) => match limit_of(&error, self.passed(tree)) {
                     Some(limit) => stopped = Some(Stopped { index, limit }),
                     None => return Err(error),
                 },

@@ -1,19 +1,23 @@
 //! A scan of one text, which keeps what is found of each tree from one place to the next.
 
-ghost use Rattle.std.specs.Prelude.{◌≡◌, ◌<◌, ◌^◌, ℕ, IfOk, IfSome, IsTrue, List, None, OnErr, OnOk, length, option_map, true};
+ghost use Rattle.std.specs.Prelude.{◌≡◌, ◌≢◌, ◌<◌, ◌^◌, ℕ, IfErr, IfOk, IfSome, IsTrue, List, None, OnErr, OnOk, length, false, option_map, true};
 ghost use Rattle.std.specs.Option.{option_copied};
 ghost use Rattle.fancy_meaning.specs.Places as places;
 ghost use Rattle.fancy_matches.specs.Listing.{begun_at};
 ghost use Rattle.fancy_matches.specs.Regexes.{FindsCaptures, shown_match};
 ghost use Rattle.fancy_scanner.specs.Kept.{kept_captures, shown_whole};
-ghost use Rattle.fancy_scanner.specs.Scanning.{AreEasy, IsRuleAt, Rule, Scans, trees_of};
+ghost use Rattle.fancy_scanner.specs.Limits.{TellsPassed, passed_at, passed_from};
+ghost use Rattle.fancy_scanner.specs.Scanning.{AreEasy, AreEasyRuns, IsRuleAt, IsStoppedByDelegates, Rule, Scans, trees_of};
 ghost use Rattle.fancy_scanner.specs.Scans as scans;
 ghost use Rattle.fancy_scanner.specs.Scans.{GoesOn, HasRoom, IsScanOf, KeepsHeld, answers_of, captures_result, scan_result, scanner_of, text_of};
+ghost use Rattle.fancy_vm.specs.SearchLimits.{EndsBy};
 
 use crate::answers::Answer;
-use crate::scanner::{Scanner, Stopped, limit_of};
+use crate::scan_limit::limit_of;
+use crate::scanner::{Scanner, Stopped};
 use fancy_expr::error::Error;
 use fancy_matches::found::{Captures, Match};
+use fancy_vm::vm::SearchLimit;
 use std::alloc::AllocError;
 
 /// A match of one of the trees, without its groups.
@@ -63,6 +67,12 @@ impl<'r, 't> ScanText<'r, 't> {
         ensures easy { (rules : List Rule)
             → IsScanOf rules self.old → AreEasy (text_of self.old) rules
             → length (text_of self.old) < 2 ^ 60 → IfOk result (λ step. step.stopped ≡ None) }
+        ensures easy_run { (rules : List Rule)
+            → IsScanOf rules self.old → AreEasyRuns (text_of self.old) rules
+            → length (text_of self.old) < 2 ^ 60
+            → IfOk result (λ step. IsStoppedByDelegates step.stopped) }
+        ensures stays { IfOk result (λ step. TellsPassed
+            (passed_from pos self.new) (option_map (λ m. m.index) step.found) step.stopped) }
         ensures held { KeepsHeld pos self.old self.new }
         ensures goes_on { GoesOn self.old self.new }
     {
@@ -75,7 +85,7 @@ impl<'r, 't> ScanText<'r, 't> {
             match self.look(index, pos) {
                 Ok(None) => {}
                 Ok(Some(whole)) => found = Some(earlier(TreeMatch { index, whole }, found)),
-                Err(error) => match limit_of(&error) {
+                Err(error) => match limit_of(&error, self.passed(index)) {
                     Some(limit) => stopped = Some(Stopped { index, limit }),
                     None => return Err(error),
                 },
@@ -128,6 +138,14 @@ impl<'r, 't> ScanText<'r, 't> {
         }
     }
 
+    /// The limit of its delegates that the last search for the tree with this number passed.
+    pub(crate) fn passed(&self, index: usize) -> Option<SearchLimit>
+        requires { index < length (trees_of self.now.scanner.now) }
+        ensures { result ≡ passed_at self.now.scanner.now index }
+    {
+        self.scanner.passed(index)
+    }
+
     /// A place for the answer of each tree.
     pub(crate) fn make_room(&mut self) -> Result<(), AllocError>
         ensures room { OnOk result (HasRoom self.new) }
@@ -169,6 +187,10 @@ impl<'r, 't> ScanText<'r, 't> {
         ensures others { scans.KeepsOthers index self.old self.new }
         ensures held { KeepsHeld pos self.old self.new }
         ensures kept { OnOk result (scans.is_held self.new index pos ≡ true) }
+        ensures failed { IfErr result (λ e. (scans.is_held self.new index pos ≡ false)
+            × EndsBy e (passed_at self.new.scanner.now index)) }
+        ensures limits { (k : ℕ) → k ≢ index
+            → passed_at self.new.scanner.now k ≡ passed_at self.old.scanner.now k }
         ensures goes_on { GoesOn self.old self.new }
     {
         if self.holds(index, pos) {

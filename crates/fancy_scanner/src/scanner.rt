@@ -1,25 +1,28 @@
 //! Trees that are searched for together.
 
-ghost use Rattle.std.specs.Prelude.{◌≡◌, ◌++◌, ◌∷◌, ◌<◌, ◌^◌, [], ℕ, IfErr, IfOk, IsTrue, List, MatchOption, MatchResult, None, OnErr, OnOk, Option, Some, length, option_map};
+ghost use Rattle.std.specs.Prelude.{◌≡◌, ◌≢◌, ◌⊎◌, ◌++◌, ◌∷◌, ◌<◌, ◌^◌, [], ℕ, IfErr, IfOk, IsTrue, List, MatchResult, None, OnErr, OnOk, Option, Some, length, option_map};
 ghost use Rattle.fancy_meaning.specs.Options as plain;
 ghost use Rattle.fancy_meaning.specs.Places as places;
 ghost use Rattle.fancy_meaning.specs.Premises.{Input};
 ghost use Rattle.fancy_expr.specs.Sound.{IsWellFormedTree};
-ghost use Rattle.fancy_expr.specs.declared.error.Error.TheVariants as errors;
 ghost use Rattle.fancy_matches.specs.Listing.{begun_at};
-ghost use Rattle.fancy_matches.specs.Regexes.{FindsCaptures, IsNoLimit, IsRegexOf, captures_text};
+ghost use Rattle.fancy_matches.specs.Regexes.{FindsCaptures, IsRegexOf, captures_text};
 ghost use Rattle.fancy_search.specs.Searches.{IsRefusedAs, input_of, search_fits};
 ghost use Rattle.fancy_scanner.specs.Scanning as scanning;
-ghost use Rattle.fancy_scanner.specs.Scanning.{AreEasy, IsRuleAt, IsScannerOf, IsTreeOf, KeepsTrees, RuleMatch, Rule, Scans, in_text, lasting_at, match_view, rule_match, rule_of, start_of, trees_of};
+ghost use Rattle.fancy_scanner.specs.Scanning.{AreEasy, AreEasyRuns, IsRuleAt, IsStoppedByDelegates, IsScannerOf, IsTreeOf, KeepsTrees, RuleMatch, Rule, Scans, in_text, lasting_at, limits_in, match_view, rule_match, rule_of, start_of, trees_of};
+ghost use Rattle.fancy_scanner.specs.Limits.{TellsPassed, passed_at};
 ghost use Rattle.fancy_scanner.specs.Scans.{BeginsScan};
+ghost use Rattle.fancy_vm.specs.SearchLimits.{StaysWithin};
 
 use crate::lasting::Lasting;
+use crate::scan_limit::{ScanLimit, limit_of};
 use crate::scan_text::ScanText;
-use fancy_expr::error::{Error, RuntimeError};
+use fancy_expr::error::Error;
 use fancy_expr::expr::ExprTree;
 use fancy_matches::found::Captures;
 use fancy_matches::regexes::Regex;
 use fancy_search::search::SearchOptions;
+use fancy_vm::vm::{SearchLimit, SearchLimits};
 use std::alloc::{AllocError, Global};
 
 /// A match of one of the trees.
@@ -35,7 +38,7 @@ pub struct ScanMatch<'t> {
 pub struct Stopped {
     /// Which tree it is: how many were added before it.
     pub index: usize,
-    pub limit: RuntimeError,
+    pub limit: ScanLimit,
 }
 
 /// What the searches for all trees came to.
@@ -96,6 +99,16 @@ impl ScanTree {
         let lasting = Lasting::of(tree, options);
         Ok(ScanTree { regex, lasting })
     }
+
+    /// The delegates of each search for the tree may take so much together; before, there is no such limit. A search that
+    /// passes one is told as stopped by it.
+    pub fn limit(&mut self, limits: SearchLimits)
+        ensures { (r : Rule) (text : List ℕ)
+            → IsTreeOf r text self.old
+            → IsTreeOf (record r { limits = limits }) text self.new }
+    {
+        self.regex.limit(limits);
+    }
 }
 
 /// Trees that are searched for together, as the rules of a highlighter are, each with the memory of its searches.
@@ -140,7 +153,9 @@ impl Scanner {
         ensures ok { OnOk result ((text : List ℕ) (rules : List Rule) (i : Input)
             (o : plain.RunOptions)
             → IsScannerOf rules text self.old → IsRegexOf i text o regex
-            → IsScannerOf (rules ++ record { input = i; options = o } ∷ []) text self.new) }
+            → IsScannerOf
+            (rules ++ record { input = i; options = o; limits = limits_in regex } ∷ [])
+            text self.new) }
         ensures err { IfErr result (λ _. (text : List ℕ) (rules : List Rule)
             → IsScannerOf rules text self.old → IsScannerOf rules text self.new) }
     {
@@ -209,8 +224,18 @@ impl Scanner {
             → IsScannerOf rules text.now self.old → IsRuleAt rules index r
             → FindsCaptures r.input text.now (begun_at r.options pos) result }
         ensures same { KeepsTrees self.old self.new }
+        ensures stays { StaysWithin result (passed_at self.new index) }
+        ensures others { (k : ℕ) → k ≢ index → passed_at self.new k ≡ passed_at self.old k }
     {
         self.trees[index].regex.captures_from(text, pos)
+    }
+
+    /// The limit of its delegates that the last search for the tree with this number passed.
+    pub(crate) fn passed(&self, index: usize) -> Option<SearchLimit>
+        requires { index < length (trees_of self.now) }
+        ensures { result ≡ passed_at self.now index }
+    {
+        self.trees[index].regex.passed()
     }
 
     /// The match that begins first, of the first matches of all trees from this place on, a byte of the text; of several
@@ -226,6 +251,11 @@ impl Scanner {
         ensures easy { (rules : List Rule)
             → IsScannerOf rules text.now self.old → AreEasy text.now rules
             → length text.now < 2 ^ 60 → IfOk result (λ scan. scan.stopped ≡ None) }
+        ensures easy_run { (rules : List Rule)
+            → IsScannerOf rules text.now self.old → AreEasyRuns text.now rules
+            → length text.now < 2 ^ 60 → IfOk result (λ scan. IsStoppedByDelegates scan.stopped) }
+        ensures stays { IfOk result (λ scan.
+            TellsPassed (passed_at self.new) (option_map (λ m. m.index) scan.found) scan.stopped) }
         ensures same { (t : List ℕ) (rules : List Rule)
             → IsScannerOf rules t self.old → IsScannerOf rules t self.new }
     {
@@ -237,7 +267,7 @@ impl Scanner {
             match self.captures_of(index, text, pos) {
                 Ok(None) => {}
                 Ok(Some(captures)) => found = Some(earlier(ScanMatch { index, captures }, found)),
-                Err(error) => match limit_of(&error) {
+                Err(error) => match limit_of(&error, self.passed(index)) {
                     Some(limit) => stopped = Some(Stopped { index, limit }),
                     None => return Err(error),
                 },
@@ -260,28 +290,14 @@ impl Scanner {
     }
 }
 
-/// The limit that was passed, if the error is one.
-pub(crate) fn limit_of(error: &Error) -> Option<RuntimeError>
-    ensures { MatchOption
-        result
-        (IsNoLimit error.now)
-        (λ limit. error.now ≡ errors.RuntimeError limit) }
-{
-    match error {
-        Error::RuntimeError(limit) => Some(*limit),
-        Error::Memory => None,
-        Error::CompileError(_) => None,
-        Error::TreeFault { .. } => None,
-        Error::NestLimitExceeded => None,
-    }
-}
-
 /// Of two matches the one that begins first, and of equals the first one.
 fn earlier<'t>(scan: ScanMatch<'t>, later: Option<ScanMatch<'t>>) -> ScanMatch<'t>
-    ensures { (text : List ℕ) (found : Option RuleMatch)
+    ensures first { (text : List ℕ) (found : Option RuleMatch)
         → captures_text scan.entry.captures ≡ text
         → option_map match_view later.entry ≡ option_map (in_text text) found
         → match_view result ≡ in_text text (scanning.earlier (rule_match scan.entry) found) }
+    ensures one { (Some result.index ≡ option_map (λ m. m.index) later.entry)
+        ⊎ (Some result.index ≡ Some scan.entry.index) }
 {
     match later {
         Some(other) => {

@@ -40,6 +40,7 @@ class error(Exception):
 
 
 class LimitError(error):
-    """A search that passed a limit: of backtracks, of steps, or of the branches that are held."""
+    """A search that passed a limit: of backtracks, of steps, of the branches that are held, of visits, or of memory. Its name
+    says which: 'VisitLimitExceeded', say."""
 
     __module__ = "fancy"

@@ -20,7 +20,7 @@ NAMES = (f"libfancy.so.{VERSION}", "libfancy.so")
 OK, NO_MATCH, MEMORY = 0, 1, 5
 # how many numbers of a row stand before the spans of its groups
 ROW_SPANS = 3
-LIMITS = range(7, 10)
+LIMITS = (7, 8, 9, 41, 42)
 
 
 class _Program(Structure):
@@ -56,7 +56,9 @@ class _Options(Structure):
         *((name, c_size_t) for name in _SIZES),
         ("step_limit", c_uint64),
         *((name, c_bool) for name in _SWITCHES),
-        ("reserved", c_uint64 * 4),
+        ("visit_limit", c_uint64),
+        ("memory_limit", c_size_t),
+        ("reserved", c_uint64 * 2),
     ]
 
 
@@ -157,6 +159,8 @@ class Options:
     NAMES = {
         "backtrack_limit": "backtrack_limit",
         "step_limit": "step_limit",
+        "visit_limit": "visit_limit",
+        "memory_limit": "memory_limit",
         "max_prog_size": "max_prog_size",
         "max_nesting": "max_nesting",
         "crlf": "crlf",

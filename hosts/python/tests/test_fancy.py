@@ -102,6 +102,18 @@ class Errors(unittest.TestCase):
         # afterwards it searches as before
         self.assertEqual(pattern.search("aca").span(), (0, 3))
 
+    def test_limits_of_visits_and_memory(self):
+        # an a or an ab, and then a c or a bcd: a search has to choose, and keeps its choice
+        choices = "(?:a|ab)(?:c|bcd)"
+        for limit, name in (("visit_limit", "VisitLimitExceeded"), ("memory_limit", "MemoryLimitExceeded")):
+            pattern = fancy.compile(choices, **{limit: 1})
+            for call in (pattern.search, pattern.findall, pattern.split, lambda text: pattern.sub("", text)):
+                with self.assertRaises(fancy.LimitError) as caught:
+                    call("xabcd")
+                self.assertEqual(caught.exception.name, name)
+            self.assertEqual(fancy.compile(choices, **{limit: 0}).search("xabcd").span(), (1, 5))
+        self.assertEqual(fancy.compile(choices).search("xabcd").span(), (1, 5))
+
     def test_lone_surrogates(self):
         self.assertRaises(UnicodeEncodeError, fancy.search, "a", "\ud800")
 
@@ -208,6 +220,14 @@ class Scanners(unittest.TestCase):
         with self.assertRaises(fancy.LimitError) as raised:
             next(scan)
         self.assertEqual((raised.exception.name, raised.exception.pattern), ("StepLimitExceeded", "c"))
+
+    def test_beside_a_limit_of_visits(self):
+        scanner = fancy.Scanner([fancy.compile("(?:a|ab)(?:c|bcd)", visit_limit=1), fancy.compile("x")])
+        scan = scanner.scan("xabcd")
+        self.assertEqual(next(scan)[::2], (1, 0))
+        with self.assertRaises(fancy.LimitError) as raised:
+            next(scan)
+        self.assertEqual((raised.exception.name, raised.exception.pattern), ("VisitLimitExceeded", "(?:a|ab)(?:c|bcd)"))
 
     def test_as_each_pattern_says(self):
         patterns = [fancy.compile(it) for it in ("a+", "(?<=a)b", "c|ab", "é*", r"(.)\1")]

@@ -105,6 +105,10 @@ pub enum RuntimeError {
     BacktrackLimitExceeded,
     /// The search executed more instructions than `step_limit`.
     StepLimitExceeded,
+    /// The search visited more states than `visit_limit`.
+    VisitLimitExceeded,
+    /// The search kept more bytes than `memory_limit`.
+    MemoryLimitExceeded,
 }
 
 impl Error {
@@ -214,6 +218,8 @@ impl RuntimeError {
             sys::FANCY_STACK_OVERFLOW => RuntimeError::StackOverflow,
             sys::FANCY_BACKTRACK_LIMIT_EXCEEDED => RuntimeError::BacktrackLimitExceeded,
             sys::FANCY_STEP_LIMIT_EXCEEDED => RuntimeError::StepLimitExceeded,
+            sys::FANCY_VISIT_LIMIT_EXCEEDED => RuntimeError::VisitLimitExceeded,
+            sys::FANCY_MEMORY_LIMIT_EXCEEDED => RuntimeError::MemoryLimitExceeded,
             _ => return None,
         })
     }
@@ -270,6 +276,8 @@ impl fmt::Display for RuntimeError {
             RuntimeError::StackOverflow => "too many branches are held",
             RuntimeError::BacktrackLimitExceeded => "the limit of backtracks was passed",
             RuntimeError::StepLimitExceeded => "the limit of steps was passed",
+            RuntimeError::VisitLimitExceeded => "the limit of visits was passed",
+            RuntimeError::MemoryLimitExceeded => "the limit of memory was passed",
         })
     }
 }

@@ -46,6 +46,11 @@ impl Options {
         backtrack_limit: usize,
         /// How many instructions a search may execute; no bound unless set.
         step_limit: u64,
+        /// How many states a search may visit in the parts of a pattern that an automaton searches for; 100,000,000 unless
+        /// set, some seconds at worst. 0 is no limit.
+        visit_limit: u64,
+        /// How many bytes a search may keep for these parts at one time; 256 MiB unless set. 0 is no limit.
+        memory_limit: usize,
         /// Only the first start is tried: said to the compiler.
         compile_anchored: bool,
         /// Only the first start is tried: said to a search.
@@ -151,6 +156,11 @@ impl RegexBuilder {
         backtrack_limit: usize => backtrack_limit,
         /// How many instructions a search may execute; no bound unless set.
         step_limit: u64 => step_limit,
+        /// How many states a search may visit in the parts of the pattern that an automaton searches for; 100,000,000
+        /// unless set, some seconds at worst. 0 is no limit.
+        visit_limit: u64 => visit_limit,
+        /// How many bytes a search may keep for these parts at one time; 256 MiB unless set. 0 is no limit.
+        memory_limit: usize => memory_limit,
         /// How many instructions the program of the pattern may have; 100,000 unless set.
         max_prog_size: usize => max_prog_size,
         /// How many nodes of the pattern may be written out in one another; 500 unless set, for a stack of 2 MB.

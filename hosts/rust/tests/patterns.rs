@@ -335,6 +335,36 @@ fn limits() {
     );
 }
 
+/// An a or an ab, and then a c or a bcd: a search has to choose, keeps its choice, and takes up more than one state.
+const CHOICES: &str = "(?:a|ab)(?:c|bcd)";
+
+#[test]
+fn limits_of_visits_and_memory() {
+    let visits = RegexBuilder::new(CHOICES).visit_limit(1).build().unwrap();
+    let passed = Error::RuntimeError(RuntimeError::VisitLimitExceeded);
+    assert_eq!(passed.to_string(), "the limit of visits was passed");
+    assert_eq!(visits.is_match("xabcd").unwrap_err(), passed);
+    assert_eq!(visits.find("xabcd").unwrap_err(), passed);
+    assert_eq!(
+        visits.find_iter("xabcd").collect::<Vec<_>>(),
+        [Err(passed.clone())]
+    );
+    assert_eq!(visits.try_replacen("xabcd", 0, "").unwrap_err(), passed);
+    let memory = RegexBuilder::new(CHOICES).memory_limit(1).build().unwrap();
+    let passed = Error::RuntimeError(RuntimeError::MemoryLimitExceeded);
+    assert_eq!(passed.to_string(), "the limit of memory was passed");
+    assert_eq!(memory.find("xabcd").unwrap_err(), passed);
+    // 0 is no limit, and the defaults are not passed
+    let unlimited = RegexBuilder::new(CHOICES)
+        .visit_limit(0)
+        .memory_limit(0)
+        .build()
+        .unwrap();
+    for regex in [unlimited, Regex::new(CHOICES).unwrap()] {
+        assert_eq!(regex.find("xabcd").unwrap().unwrap().range(), 1..5);
+    }
+}
+
 #[test]
 fn options() {
     let find = |builder: &mut RegexBuilder, text: &str| {
@@ -466,6 +496,28 @@ fn scans() {
     assert_eq!(found.captures.len(), 3);
     assert!(scanner.find_from_pos("1", 0).unwrap().is_none());
     assert_eq!(scanned(&mut scanner, &"a ".repeat(1000)).len(), 1000);
+}
+
+#[test]
+fn scans_with_limits_of_visits_and_memory() {
+    let mut scanner = Scanner::new();
+    let options = Options::default();
+    scanner
+        .add_with_options(CHOICES, options.memory_limit(1))
+        .unwrap();
+    scanner
+        .add_with_options(CHOICES, options.visit_limit(1))
+        .unwrap();
+    scanner.add("x").unwrap();
+    let mut scan = scanner.scan("xabcd");
+    let first = scan.next().unwrap().unwrap();
+    assert_eq!(first.captures.get(0).unwrap().range(), 0..1);
+    let limit = RuntimeError::MemoryLimitExceeded;
+    assert_eq!(first.stopped, Some(Stopped { index: 0, limit }));
+    assert_eq!(
+        scan.next().unwrap().unwrap_err(),
+        Error::RuntimeError(limit)
+    );
 }
 
 #[test]

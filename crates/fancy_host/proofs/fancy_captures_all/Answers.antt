@@ -1,6 +1,7 @@
-use Rattle.std.proofs.Common.{◌∙◌, sym, ap}
-use Rattle.fancy_host.specs.Lists.{all_groups, unsearched}
-use Rattle.fancy_host.specs.Hosted.{tree_in, tree_of}
+use Rattle.std.proofs.Common.{◌∙◌, Option, sym, ap, subst}
+use Rattle.fancy_vm.specs.declared.search_limits.SearchLimit.{SearchLimit}
+use Rattle.fancy_host.specs.Lists.{FindsAll, all_groups, unsearched}
+use Rattle.fancy_host.specs.Hosted.{passed_of, tree_in, tree_of}
 use Rattle.fancy_host.proofs.Listed.{all_found_by}
 use Rattle.fancy_host.proofs.fancy_captures_all.Goals as goal
 
@@ -9,8 +10,14 @@ returns-in-Err-clause-finds c = unsearched c.in-Err.ensures
 
 pub returns-clause-finds : goal.returns-clause-finds
 returns-clause-finds c =
-    all_found_by all_groups c.args.text.now c.args.options.now c.args.standing.now c.args.spans.now c.captures_all-outcome.result c.in-Ok.text.now
+    let o = c.args.options.now in
+    subst
+    (λ (p : Option SearchLimit).
+    FindsAll all_groups c.args.text.now o p c.args.standing.now c.args.spans.now (tree_of c.args.program.now.handle.searcher)
+    c.captures_all-outcome.new.standing c.captures_all-outcome.new.spans c.captures_all-outcome.result)
+    (sym (ap (passed_of o) c.of.ensures))
+    (all_found_by all_groups c.args.text.now o _ c.args.standing.now c.args.spans.now c.captures_all-outcome.result c.in-Ok.text.now
     c.captures_all-outcome.new.spans c.captures_all-outcome.new.standing (tree_of c.args.program.now.handle.searcher)
     (tree_in c.into_searcher-searcher.result.value)
     (tree_in c.deref_mut.result.now) c.in-Ok.ensures.0 c.in-Ok.ensures.1
-    (ap tree_of (sym c.take.ensures.held ∙ c.into_searcher-searcher.ensures)) (ap tree_in c.deref_mut.ensures.value) c.captures_all-outcome.ensures.lists
+    (ap tree_of (sym c.take.ensures.held ∙ c.into_searcher-searcher.ensures)) (ap tree_in c.deref_mut.ensures.value) c.captures_all-outcome.ensures.lists)

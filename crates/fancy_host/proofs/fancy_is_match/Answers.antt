@@ -1,6 +1,7 @@
-use Rattle.std.proofs.Common.{◌∙◌, sym, ap}
-use Rattle.fancy_host.specs.Whether.{unsearched}
-use Rattle.fancy_host.specs.Hosted.{tree_in, tree_of}
+use Rattle.std.proofs.Common.{◌∙◌, Option, sym, ap, subst}
+use Rattle.fancy_vm.specs.declared.search_limits.SearchLimit.{SearchLimit}
+use Rattle.fancy_host.specs.Whether.{FindsAny, unsearched}
+use Rattle.fancy_host.specs.Hosted.{passed_of, tree_in, tree_of}
 use Rattle.fancy_host.proofs.Told.{any_found_by}
 use Rattle.fancy_host.proofs.fancy_is_match.Goals as goal
 
@@ -9,7 +10,11 @@ returns-in-Err-clause-finds c = unsearched c.in-Err.ensures
 
 pub returns-clause-finds : goal.returns-clause-finds
 returns-clause-finds c =
-    any_found_by c.args.text.now c.args.options.now c.is_match-outcome.result c.in-Ok.text.now
+    let o = c.args.options.now in
+    subst
+    (λ (p : Option SearchLimit). FindsAny c.args.text.now o p (tree_of c.args.program.now.handle.searcher) c.is_match-outcome.result)
+    (sym (ap (passed_of o) c.of.ensures))
+    (any_found_by c.args.text.now o _ c.is_match-outcome.result c.in-Ok.text.now
     (tree_of c.args.program.now.handle.searcher) (tree_in c.into_searcher-searcher.result.value) (tree_in c.deref_mut.result.now)
     c.in-Ok.ensures.0 c.in-Ok.ensures.1
-    (ap tree_of (sym c.take.ensures.held ∙ c.into_searcher-searcher.ensures)) (ap tree_in c.deref_mut.ensures.value) c.is_match-outcome.ensures.tells
+    (ap tree_of (sym c.take.ensures.held ∙ c.into_searcher-searcher.ensures)) (ap tree_in c.deref_mut.ensures.value) c.is_match-outcome.ensures.tells)

@@ -59,7 +59,9 @@ pub struct FancyOptions {
     pub swap_greed: bool,
     pub oniguruma: bool,
     pub named_groups_only: bool,
-    pub reserved: [u64; 4],
+    pub visit_limit: u64,
+    pub memory_limit: usize,
+    pub reserved: [u64; 2],
 }
 
 /// What a call answers.
@@ -133,6 +135,8 @@ pub const FANCY_TARGET_NOT_REPEATABLE: u32 = 37;
 pub const FANCY_GENERAL_PARSE_ERROR: u32 = 38;
 pub const FANCY_WRONG_SIZE: u32 = 39;
 pub const FANCY_NO_ROOM: u32 = 40;
+pub const FANCY_VISIT_LIMIT_EXCEEDED: u32 = 41;
+pub const FANCY_MEMORY_LIMIT_EXCEEDED: u32 = 42;
 
 extern "C" {
     pub fn fancy_default_options() -> FancyOptions;

@@ -1,27 +1,32 @@
-use Rattle.std.proofs.Common.{◌≡◌, ◌<◌, ◌≤◌, true, Ok, inl, length, slice_range, string_bytes, sym, ap, ◌∙◌, subst, arith}
+use Rattle.std.proofs.Common.{◌≡◌, ◌<◌, ◌≤◌, true, Some, None, Ok, Err, inl, refl, length, slice_range, string_bytes, sym, ap, ◌∙◌, subst, arith}
 use Rattle.std.proofs.lemmas.Result.{err_from_is_err_and}
 use Rattle.fancy_laws.proofs.Characters.{cut_of_place}
 use Rattle.fancy_meaning.specs.Numbers.{usize_max}
 use Rattle.fancy_meaning.specs.Places.{is_place}
 use Rattle.fancy_meaning.specs.Premises.{IsText}
+use Rattle.fancy_vm.specs.SearchLimits.{passed_of}
 use Rattle.fancy_vm.specs.Tasks.{options_of as run_options_of}
 use Rattle.fancy_matches.specs.Regexes.{standing_of}
+use Rattle.fancy_host.proofs.LimitsPassed.{stays_so}
 use Rattle.fancy_host.proofs.TextRewritten.{GoesOn, at_first, ends_by_limit, ends_by_none, fails_by, goes_further, next_begins, next_starts_at_place, rest_is}
 use Rattle.fancy_host.proofs.rewriting.rewrite.Goals as goal
 
 pub loop-count-init : goal.loop-count-init
 loop-count-init g c =
     let text = c.args.text.now in
-    let small : length text < usize_max = omega arith in
-    at_first c.args.compiled.now text (run_options_of c.args.options.now) c.args.limit (g.R.Replacer.replacement_text c.args.replacement.now)
-    (record { utf8 = c.utf8.text; fits = small }) (string_bytes c.new-out.result) c.new-out.ensures.bytes (standing_of c.first-standing.result)
-    c.first-standing.ensures
+    let small : length text < usize_max = omega arith in (
+      at_first c.args.compiled.now text (run_options_of c.args.options.now) c.args.limit (g.R.Replacer.replacement_text c.args.replacement.now)
+          (record { utf8 = c.utf8.text; fits = small }) (string_bytes c.new-out.result) c.new-out.ensures.bytes (standing_of c.first-standing.result)
+          c.first-standing.ensures,
+      c.requires.passed,
+      refl,
+    )
 
 pub range_from-requires : goal.range_from-requires
-range_from-requires g c = λ _. cut_of_place c.args.text.now c.loop-count.from c.loop-count.invariant.place
+range_from-requires g c = λ _. cut_of_place c.args.text.now c.loop-count.from c.loop-count.invariant.0.place
 
 pub range_from-requires-2 : goal.range_from-requires-2
-range_from-requires-2 g c = λ _. cut_of_place c.args.text.now c.loop-count.from c.loop-count.invariant.place
+range_from-requires-2 g c = λ _. cut_of_place c.args.text.now c.loop-count.from c.loop-count.invariant.0.place
 
 pub range-requires-clause-start_le_end : goal.range-requires-clause-start_le_end
 range-requires-clause-start_le_end g c =
@@ -31,11 +36,11 @@ range-requires-clause-start_le_end g c =
     let is : IsText text = record { utf8 = c.utf8.text; fits = small } in
     subst (λ n. l.from ≤ n) (sym (c.start.ensures ∙ ap (λ p. p.0) c.whole-whole.ensures.span))
     (next_begins c.args.compiled.now text (run_options_of c.args.options.now) c.args.limit (g.R.Replacer.replacement_text c.args.replacement.now) is
-    c.requires.source l.count (standing_of l.standing) (standing_of c.next_found.new.standing) l.from (string_bytes l.out) l.invariant
+    c.requires.source l.count (standing_of l.standing) (standing_of c.next_found.new.standing) l.from (string_bytes l.out) l.invariant.0
     c.next_found.result c.next_found.ensures.steps c.in-Some.captures (c.in_ok-next_found.was ∙ ap Ok c.in-Some.is))
 
 pub range-requires-clause-start_boundary : goal.range-requires-clause-start_boundary
-range-requires-clause-start_boundary g c = λ _. cut_of_place c.args.text.now c.loop-count.from c.loop-count.invariant.place
+range-requires-clause-start_boundary g c = λ _. cut_of_place c.args.text.now c.loop-count.from c.loop-count.invariant.0.place
 
 pub range-requires-clause-end_boundary : goal.range-requires-clause-end_boundary
 range-requires-clause-end_boundary g c =
@@ -47,11 +52,11 @@ range-requires-clause-end_boundary g c =
     (subst (λ n. is_place text n ≡ true) (sym (c.start.ensures ∙ ap (λ p. p.0) c.whole-whole.ensures.span))
     (next_starts_at_place c.args.compiled.now text (run_options_of c.args.options.now) c.args.limit
     (g.R.Replacer.replacement_text c.args.replacement.now) is
-    c.requires.source l.count (standing_of l.standing) (standing_of c.next_found.new.standing) l.from (string_bytes l.out) l.invariant
+    c.requires.source l.count (standing_of l.standing) (standing_of c.next_found.new.standing) l.from (string_bytes l.out) l.invariant.0
     c.next_found.result c.next_found.ensures.steps c.in-Some.captures (c.in_ok-next_found.was ∙ ap Ok c.in-Some.is)))
 
-pub returns-in_err-next_found : goal.returns-in_err-next_found
-returns-in_err-next_found g c =
+pub returns-in_err-next_found-clause-rewrites : goal.returns-in_err-next_found-clause-rewrites
+returns-in_err-next_found-clause-rewrites g c =
     let text = c.args.text.now in
     let l = c.loop-count in
     let small : length text < usize_max = omega arith in
@@ -61,17 +66,17 @@ returns-in_err-next_found g c =
     let p = err_from_is_err_and c.from_residual.result c.from_residual.ensures.1 in
     rw (p.1, p.2)
     (inl (fails_by c.args.compiled.now text (run_options_of c.args.options.now) c.args.limit (g.R.Replacer.replacement_text c.args.replacement.now) is
-    c.requires.source l.count (standing_of l.standing) (standing_of c.next_found.new.standing) l.from (string_bytes l.out) l.invariant
+    c.requires.source l.count (standing_of l.standing) (standing_of c.next_found.new.standing) l.from (string_bytes l.out) l.invariant.0
     c.next_found.result c.next_found.ensures.steps c.in_err-next_found.field-0.0 c.in_err-next_found.was below))
 
-pub returns-in-None : goal.returns-in-None
-returns-in-None g c =
+pub returns-in-None-clause-rewrites : goal.returns-in-None-clause-rewrites
+returns-in-None-clause-rewrites g c =
     let text = c.args.text.now in
     let l = c.loop-count in
     let small : length text < usize_max = omega arith in
     let is : IsText text = record { utf8 = c.utf8.text; fits = small } in
     ends_by_none c.args.compiled.now text (run_options_of c.args.options.now) c.args.limit (g.R.Replacer.replacement_text c.args.replacement.now) is
-    c.requires.source l.count (standing_of l.standing) (standing_of c.next_found.new.standing) l.from (string_bytes l.out) l.invariant
+    c.requires.source l.count (standing_of l.standing) (standing_of c.next_found.new.standing) l.from (string_bytes l.out) l.invariant.0
     c.next_found.result c.next_found.ensures.steps (c.in_ok-next_found.was ∙ ap Ok c.in-None.is) (string_bytes c.in_ok-with_rest-in-None.field-0)
     c.range_from.result.now c.in_ok-with_rest-in-None.ensures (c.range_from.ensures.value ∙ rest_is text l.from)
 
@@ -83,15 +88,19 @@ loop-count-preserved g c =
     let is : IsText text = record { utf8 = c.utf8.text; fits = small } in
     let lt : l.count < c.most_of-most.result = omega arith in
     let below = subst (λ k. l.count < k) c.most_of-most.ensures lt in
-    let span = c.whole-whole.ensures.span in
-    goes_further c.args.compiled.now text (run_options_of c.args.options.now) c.args.limit (g.R.Replacer.replacement_text c.args.replacement.now) is
-    c.requires.source l.count (standing_of l.standing) (standing_of c.next_found.new.standing) l.from (string_bytes l.out) l.invariant
-    c.next_found.result c.next_found.ensures.steps c.in-Some.captures (c.in_ok-next_found.was ∙ ap Ok c.in-Some.is) below c.range.result.now
-    (string_bytes c.append.new.out) c.end-from.result (c.end-from.ensures ∙ ap (λ p. p.1) span)
-    (c.range.ensures.value ∙ ap (λ n. slice_range text l.from n) (c.start.ensures ∙ ap (λ p. p.0) span)) c.in_ok-append-in-Some.ensures
+    let span = c.whole-whole.ensures.span in (
+      goes_further c.args.compiled.now text (run_options_of c.args.options.now) c.args.limit (g.R.Replacer.replacement_text c.args.replacement.now) is
+          c.requires.source l.count (standing_of l.standing) (standing_of c.next_found.new.standing) l.from (string_bytes l.out) l.invariant.0
+          c.next_found.result c.next_found.ensures.steps c.in-Some.captures (c.in_ok-next_found.was ∙ ap Ok c.in-Some.is) below c.range.result.now
+          (string_bytes c.append.new.out) c.end-from.result (c.end-from.ensures ∙ ap (λ p. p.1) span)
+          (c.range.ensures.value ∙ ap (λ n. slice_range text l.from n) (c.start.ensures ∙ ap (λ p. p.0) span)) c.in_ok-append-in-Some.ensures,
+      stays_so c.next_found.result (Ok (Some c.in-Some.captures)) (passed_of c.next_found.new.scratch) (c.in_ok-next_found.was ∙ ap Ok c.in-Some.is)
+          (c.next_found.ensures.stays l.invariant.1),
+      c.next_found.ensures.limits ∙ l.invariant.2,
+    )
 
-pub returns : goal.returns
-returns g c =
+pub returns-clause-rewrites : goal.returns-clause-rewrites
+returns-clause-rewrites g c =
     let text = c.args.text.now in
     let l = c.loop-count in
     let o = run_options_of c.args.options.now in
@@ -101,5 +110,20 @@ returns g c =
     let all : l.count ≡ c.most_of-most.result = omega arith in
     ends_by_limit c.args.compiled.now text o c.args.limit write is (standing_of l.standing) l.from (string_bytes l.out)
     (subst (λ k. GoesOn c.args.compiled.now text o c.args.limit write k (standing_of l.standing) l.from (string_bytes l.out))
-    (all ∙ c.most_of-most.ensures) l.invariant)
+    (all ∙ c.most_of-most.ensures) l.invariant.0)
     (string_bytes c.in_ok-with_rest.field-0) c.range_from-2.result.now c.in_ok-with_rest.ensures (c.range_from-2.ensures.value ∙ rest_is text l.from)
+
+pub returns-in_err-next_found-clause-stays : goal.returns-in_err-next_found-clause-stays
+returns-in_err-next_found-clause-stays g c =
+    let p = err_from_is_err_and c.from_residual.result c.from_residual.ensures.1 in
+    rw (p.1, p.2)
+    (stays_so c.next_found.result (Err c.in_err-next_found.field-0.0) (passed_of c.next_found.new.scratch) c.in_err-next_found.was
+    (c.next_found.ensures.stays c.loop-count.invariant.1))
+
+pub returns-in-None-clause-stays : goal.returns-in-None-clause-stays
+returns-in-None-clause-stays g c =
+    stays_so c.next_found.result (Ok None) (passed_of c.next_found.new.scratch) (c.in_ok-next_found.was ∙ ap Ok c.in-None.is)
+    (c.next_found.ensures.stays c.loop-count.invariant.1)
+
+pub returns-clause-stays : goal.returns-clause-stays
+returns-clause-stays g c = c.loop-count.invariant.1

@@ -1,4 +1,5 @@
-use Rattle.std.proofs.Common.{string_bytes}
+use Rattle.std.proofs.Common.{◌≡◌, None, string_bytes}
+use Rattle.fancy_vm.specs.SearchLimits.{limits_of, passed_of}
 use Rattle.fancy_vm.specs.Tasks.{options_of as run_options_of}
 use Rattle.fancy_matches.specs.Regexes.{standing_of}
 use Rattle.fancy_host.proofs.TextRewritten.{GoesOn}
@@ -8,3 +9,5 @@ abbrev pub invariant-loop-count : goal.invariant-loop-count
 invariant-loop-count g l =
     GoesOn l.compiled l.text (run_options_of l.options) l.limit (g.R.Replacer.replacement_text l.replacement) l.count
     (standing_of l.standing) l.from (string_bytes l.out)
+    × (passed_of l.scratch ≡ None)
+    × (limits_of l.scratch ≡ limits_of l.fn.scratch)

@@ -4,7 +4,10 @@ use Rattle.std.specs.Prelude.{chars}
 use Rattle.fancy_expr.specs.Sound.{IsWellFormedTree}
 use Rattle.fancy_vm.specs.Tasks.{options_of as run_options_of}
 use Rattle.fancy_pattern.specs.Spelling.{IsError, IsTreeOf}
-use Rattle.fancy_scanner.specs.Scanning.{IsTreeOf as IsScanTreeOf}
+use Rattle.fancy_vm.specs.declared.search_limits.SearchLimits.{SearchLimits}
+use Rattle.fancy_search.specs.Searches.{input_of}
+use Rattle.fancy_matches.specs.Listing.{options_for}
+use Rattle.fancy_scanner.specs.Scanning.{IsTreeOf as IsScanTreeOf, rule_of}
 use Rattle.fancy_host.specs.Hosted.{FailsToCompile, pattern, refused, unspelled}
 use Rattle.fancy_host.specs.Scanned.{fails, in_no_text}
 use Rattle.fancy_host.proofs.Answered.{refused_by}
@@ -38,10 +41,20 @@ returns-in-Ok-new c =
       tree = tree;
       read = subst (λ p. IsTreeOf p (chars bytes) tree × IsWellFormedTree tree) c.parsing.ensures read;
       made = λ text.
-          subst (λ r. IsScanTreeOf r text c.in-Ok-new.compiled)
+          subst (λ r. IsScanTreeOf r text c.limit.new.self)
           (rule_so tree o text s.result.analysis s.result.compilation (run_options_of s.result.run) c.backtracks.result s.ensures.analysis
           s.ensures.compilation s.ensures.run c.backtracks.ensures)
-          (c.in-Ok-new.ensures text);
+          (subst
+          (λ (l : SearchLimits).
+          IsScanTreeOf
+          (record {
+            input = input_of tree s.result.analysis s.result.compilation;
+            options = options_for (run_options_of s.result.run) c.backtracks.result text;
+            limits = l;
+          })
+          text c.limit.new.self)
+          c.limits.ensures
+          (c.limit.ensures (rule_of tree s.result c.backtracks.result text) text (c.in-Ok-new.ensures text)));
       counts = omega (arith, c.saturating_add-groups.ensures);
     }
 

@@ -1,9 +1,10 @@
 use Rattle.std.proofs.Common.{subst}
+use Rattle.fancy_host.specs.Hosted.{passed_in}
 use Rattle.fancy_host.specs.Rewritten.{Replaces, writing}
 use Rattle.fancy_host.proofs.searches.Searcher.replace.Goals as goal
 
 pub returns-clause-replaces : goal.returns-clause-replaces
 returns-clause-replaces c =
     let a = c.args in
-    subst (λ t. Replaces t a.text.now a.options.now a.limit (writing t a.is_literal a.replacement.now) a.room.now c.replace.new.room c.replace.result)
+    subst (λ t. Replaces t a.text.now a.options.now (passed_in a.options.now c.replace.new.scratch) a.limit (writing t a.is_literal a.replacement.now) a.room.now c.replace.new.room c.replace.result)
     c.deref.ensures c.replace.ensures

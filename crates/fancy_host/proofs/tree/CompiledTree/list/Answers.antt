@@ -2,9 +2,11 @@ use Rattle.std.proofs.Common.{◌≡◌, false, true, [], refl, sym, ◌∙◌, 
 use Rattle.fancy_meaning.specs.Fits.{run_fits}
 use Rattle.fancy_program.specs.Programs.{prog_of}
 use Rattle.fancy_search.specs.Searches.{program}
+use Rattle.fancy_vm.specs.SearchLimits.{passed_of}
 use Rattle.fancy_matches.specs.Regexes as matches
-use Rattle.fancy_host.specs.Hosted.{compiled_of}
-use Rattle.fancy_host.specs.Lists.{Lists, Writes, does_not_fit, listed, listing, standing_of}
+use Rattle.fancy_host.specs.Hosted.{compiled_of, passed_in}
+use Rattle.fancy_host.specs.Lists.{Lists, Writes, does_not_fit, listed, listing, standing_of, width_of}
+use Rattle.fancy_host.proofs.LimitsPassed.{passed_so}
 use Rattle.fancy_host.proofs.tree.CompiledTree.list.Goals as goal
 
 pub returns-then-not-fits : goal.returns-then-not-fits
@@ -16,12 +18,12 @@ returns-then-not-fits g c =
     let from = c.args.standing.now in
     let old = c.args.room.now in
     let no = sym c.fits.ensures ∙ c.if-not-fits.true in
-    subst (λ x. Lists form s text o from old from old x) (sym c.unfit.ensures)
+    subst (λ x. Lists form s text o (passed_in o c.args.scratch.now) from old from old x) (sym c.unfit.ensures)
     (does_not_fit
     (subst (λ r. run_fits (record { program = prog_of (program (compiled_of s)); text = []; options = r }) ≡ false) c.listing-listing.ensures no))
 
 pub write_rows-outcome-requires : goal.write_rows-outcome-requires
-write_rows-outcome-requires g c k = ((refl, tt), (sym c.fits.ensures ∙ c.if-not-fits.false, c.requires))
+write_rows-outcome-requires g c k = ((refl, tt), (sym c.fits.ensures ∙ c.if-not-fits.false, (c.requires, c.limit.ensures.passed)))
 
 pub returns : goal.returns
 returns g c =
@@ -35,10 +37,16 @@ returns g c =
     let to = matches.standing_of c.write_rows-outcome.new.standing in
     let width = c.args.width in
     let fits = sym c.fits.ensures ∙ c.if-not-fits.false in
+    let scratch = c.write_rows-outcome.new.scratch in
+    let passed = passed_of scratch in
+    let limits_are = c.write_rows-outcome.ensures.limits ∙ (c.limit.ensures.limits ∙ c.limits.ensures) in
     listed
     (subst (λ r. run_fits (record { program = prog_of (program (compiled_of s)); text = []; options = r }) ≡ true) c.listing-listing.ensures fits)
-    (subst (λ w. Writes form w (compiled_of s) text (listing o text) (standing_of c.args.standing.now) old (standing_of c.of.result) new outcome) c.requires
-    (subst (λ t. Writes form width (compiled_of s) text (listing o text) (standing_of c.args.standing.now) old t new outcome) (sym c.of.ensures)
-    (subst (λ from. Writes form width (compiled_of s) text (listing o text) from old to new outcome) c.standing-list.ensures
-    (subst (λ r. Writes form width (compiled_of s) text r (matches.standing_of c.standing-list.result) old to new outcome) c.listing-listing.ensures
-    c.write_rows-outcome.ensures))))
+    (subst (λ p. Writes form (width_of form s) (compiled_of s) text (listing o text) p (standing_of c.args.standing.now) old (standing_of c.of.result) new outcome)
+    (passed_so o scratch limits_are)
+    (subst (λ w. Writes form w (compiled_of s) text (listing o text) passed (standing_of c.args.standing.now) old (standing_of c.of.result) new outcome)
+    c.requires
+    (subst (λ t. Writes form width (compiled_of s) text (listing o text) passed (standing_of c.args.standing.now) old t new outcome) (sym c.of.ensures)
+    (subst (λ from. Writes form width (compiled_of s) text (listing o text) passed from old to new outcome) c.standing-list.ensures
+    (subst (λ r. Writes form width (compiled_of s) text r passed (matches.standing_of c.standing-list.result) old to new outcome) c.listing-listing.ensures
+    c.write_rows-outcome.ensures.writes)))))

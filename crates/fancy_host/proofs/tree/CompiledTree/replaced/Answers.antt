@@ -6,8 +6,8 @@ use Rattle.fancy_host.specs.Hosted.{compiled_of, names_of}
 use Rattle.fancy_host.specs.Rewritten.{FailsToRewrite, IsRewritten}
 use Rattle.fancy_host.proofs.tree.CompiledTree.replaced.Goals as goal
 
-pub returns : goal.returns
-returns c =
+pub returns-clause-rewrites : goal.returns-clause-rewrites
+returns-clause-rewrites c =
     let s = c.args.self.now in
     let text = c.args.text.now in
     let o = run_options_of c.args.options.now in
@@ -16,4 +16,4 @@ returns c =
     (FailsToRewrite (compiled_of s) text o limit))
     (c.in_ok-template.ensures.ok
     ∙ sym (ap (λ b. if b then (λ (t n : List ℕ). c.args.replacement.now) else expansion (names_of s) c.args.replacement.now) c.if-is_literal.false))
-    c.rewrite-2.ensures
+    c.rewrite-2.ensures.rewrites

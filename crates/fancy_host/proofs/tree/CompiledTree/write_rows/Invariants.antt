@@ -1,4 +1,5 @@
-use Rattle.std.proofs.Common.{◌≡◌, ◌-◌, length}
+use Rattle.std.proofs.Common.{◌≡◌, ◌-◌, None, length}
+use Rattle.fancy_vm.specs.SearchLimits.{limits_of, passed_of}
 use Rattle.fancy_vm.specs.Tasks.{options_of as run_options_of}
 use Rattle.fancy_matches.specs.Regexes.{standing_of}
 use Rattle.fancy_host.specs.Hosted.{compiled_of}
@@ -10,6 +11,8 @@ invariant-rows g l =
     Written g.F.Row.form l.width (compiled_of l.self) l.text (run_options_of l.options) (standing_of l.fn.standing) l.fn.room l.count l.at
     (standing_of l.standing) l.room
     × (length l.room ≡ length l.fn.room)
+    × (passed_of l.scratch ≡ None)
+    × (limits_of l.scratch ≡ limits_of l.fn.scratch)
 
 abbrev pub decreases-rows : goal.decreases-rows
 decreases-rows g l = length l.room - l.at

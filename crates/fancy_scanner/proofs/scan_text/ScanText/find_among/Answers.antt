@@ -4,7 +4,10 @@ use Rattle.fancy_meaning.specs.Places.{is_place}
 use Rattle.fancy_scanner.specs.Among.{answers_among}
 use Rattle.fancy_scanner.specs.Scans.{found_match, text_of}
 use Rattle.fancy_scanner.proofs.Kept.{goes_twice, held_still}
-use Rattle.fancy_scanner.proofs.Rules.{IsScanFrom, easy_never_stops}
+use Rattle.fancy_vm.specs.SearchLimits.{EndsBy}
+use Rattle.fancy_scanner.specs.Limits.{passed_among}
+use Rattle.fancy_scanner.proofs.Passed.{TellsFrom, index_of, none_past_order, tells_all, tells_nothing}
+use Rattle.fancy_scanner.proofs.Rules.{IsScanFrom, easy_by_delegates, easy_never_stops}
 use Rattle.fancy_scanner.proofs.OrderSteps.{fails_among_so, limit_among_so, no_memory_among, none_among, none_among_so, read_or, skipped_so, some_among_so, some_of, whole_among}
 use Rattle.fancy_scanner.proofs.scan_text.ScanText.find_among.Goals as goal
 
@@ -25,6 +28,9 @@ trees-init c = record {
   goes = c.make_room.ensures.goes_on;
   held = c.make_room.ensures.held c.args.pos;
   seen = tt;
+  tells = λ distinct.
+      tells_nothing (length c.args.order.now) (passed_among c.args.pos c.args.order.now c.make_room.new.self)
+      (none_past_order c.args.pos c.args.order.now c.make_room.new.self);
   scanned = λ rules picked of picks. none_among c.args.pos c.args.order.now c.args.self.now rules picked picks;
 }
 
@@ -49,14 +55,15 @@ trees-preserved-in-Ok-None c =
     none_among_so c.args.pos c.args.order.now c.args.self.now c.trees.self c.look.new.self c.tree_count-count.result c.trees.index c.trees.found
     c.trees.stopped c.trees.invariant c.trees-test.true _
     (read_or c.args.order.now (c.trees.index - 1) (omega (arith, c.trees.invariant.within, c.trees-test.true))) c.look.ensures.goes_on
-    c.look.ensures.held c.look.result c.look.ensures.promise c.look.ensures.whole (c.in-Ok-None.is ∙ ap Ok c.in-Ok-None.field-0-is)
+    c.look.ensures.held c.look.ensures.others c.look.ensures.limits c.look.result c.look.ensures.promise c.look.ensures.whole
+    c.in-Ok-None.ensures.kept (c.in-Ok-None.is ∙ ap Ok c.in-Ok-None.field-0-is)
 
 pub trees-preserved-in-Ok-Some : goal.trees-preserved-in-Ok-Some
 trees-preserved-in-Ok-Some c =
     some_among_so c.args.pos c.args.order.now c.args.self.now c.trees.self c.look.new.self c.tree_count-count.result c.trees.index c.trees.found
     c.trees.stopped c.trees.invariant c.trees-test.true _
     (read_or c.args.order.now (c.trees.index - 1) (omega (arith, c.trees.invariant.within, c.trees-test.true))) c.look.ensures.goes_on
-    c.look.ensures.held c.look.result c.look.ensures.promise c.look.ensures.whole c.in-Ok-Some.ensures.kept
+    c.look.ensures.held c.look.ensures.others c.look.ensures.limits c.look.result c.look.ensures.promise c.look.ensures.whole c.in-Ok-Some.ensures.kept
     c.in-Ok-Some.whole (c.in-Ok-Some.is ∙ ap Ok c.in-Ok-Some.field-0-is) c.earlier.result c.earlier.ensures
 
 pub trees-preserved : goal.trees-preserved
@@ -64,7 +71,8 @@ trees-preserved c =
     limit_among_so c.args.pos c.args.order.now c.args.self.now c.trees.self c.look.new.self c.tree_count-count.result c.trees.index c.trees.found
     c.trees.stopped c.trees.invariant c.trees-test.true _
     (read_or c.args.order.now (c.trees.index - 1) (omega (arith, c.trees.invariant.within, c.trees-test.true))) c.look.ensures.goes_on
-    c.look.ensures.held c.look.result c.look.ensures.promise c.in-Err.error c.in-Err.is c.in-Some.limit c.in-Some.ensures _ refl
+    c.look.ensures.held c.look.ensures.others c.look.ensures.limits c.look.result c.look.ensures.promise c.in-Err.error c.in-Err.is c.in-Some.limit
+    c.in-Some.ensures.0 (sym c.passed.ensures ∙ c.in-Some.ensures.1) c.in-Err.ensures.failed.0 _ refl
 
 pub trees-preserved-then-tree-count : goal.trees-preserved-then-tree-count
 trees-preserved-then-tree-count c =
@@ -77,8 +85,8 @@ returns-in-None-clause-promise c = λ rules picked h picks. (
   fails_among_so c.args.pos c.args.order.now c.args.self.now c.trees.self c.look.new.self c.tree_count-count.result c.trees.index c.trees.found
       c.trees.stopped c.trees.invariant c.trees-test.true _
       (read_or c.args.order.now (c.trees.index - 1) (omega (arith, c.trees.invariant.within, c.trees-test.true))) c.look.ensures.goes_on
-      c.look.ensures.held c.look.result c.look.ensures.promise c.in-Err.error c.in-Err.is rules picked h picks,
-  c.in-None.ensures,
+      c.look.ensures.held c.look.ensures.others c.look.ensures.limits c.look.result c.look.ensures.promise c.in-Err.error c.in-Err.is rules picked h picks,
+  c.in-None.ensures.0,
 )
 
 pub returns-clause-promise : goal.returns-clause-promise
@@ -98,6 +106,28 @@ returns-clause-easy c = λ rules picked h picks easy small.
     (subst
     (λ n. IsScanFrom (text_of c.args.self.now) c.args.pos picked n (found_match (answers_among c.trees.self c.args.order.now) c.trees.found) c.trees.stopped)
     none (c.trees.invariant.scanned rules picked h picks))
+
+pub returns-clause-easy_run : goal.returns-clause-easy_run
+returns-clause-easy_run c = λ rules picked h picks easy small.
+    let none : c.trees.index ≡ 0 = omega (arith, c.trees-test.false) in
+    easy_by_delegates (text_of c.args.self.now) c.args.pos picked (found_match (answers_among c.trees.self c.args.order.now) c.trees.found)
+    c.trees.stopped small easy
+    (subst
+    (λ n. IsScanFrom (text_of c.args.self.now) c.args.pos picked n (found_match (answers_among c.trees.self c.args.order.now) c.trees.found) c.trees.stopped)
+    none (c.trees.invariant.scanned rules picked h picks))
+
+pub returns-clause-stays : goal.returns-clause-stays
+returns-clause-stays c = λ distinct.
+    let none : c.trees.index ≡ 0 = omega (arith, c.trees-test.false) in
+    tells_all (passed_among c.args.pos c.args.order.now c.trees.self) (index_of c.trees.found) c.trees.stopped
+    (subst (λ n. TellsFrom n (passed_among c.args.pos c.args.order.now c.trees.self) (index_of c.trees.found) c.trees.stopped) none
+    (c.trees.invariant.tells distinct))
+
+pub passed-requires : goal.passed-requires
+passed-requires c = omega (arith, c.if-tree-count.false, c.trees.invariant.counted, c.look.ensures.goes_on.trees.count)
+
+pub limit_of-requires : goal.limit_of-requires
+limit_of-requires c = subst (EndsBy c.in-Err.error) (sym c.passed.ensures) c.in-Err.ensures.failed.1
 
 pub returns-clause-whole : goal.returns-clause-whole
 returns-clause-whole c = whole_among c.args.pos c.args.order.now c.trees.self c.trees.found c.trees.invariant.seen

@@ -4,7 +4,10 @@ use Rattle.fancy_meaning.specs.Places.{is_place}
 use Rattle.fancy_scanner.specs.Scanning.{AreTreesOf, trees_of}
 use Rattle.fancy_scanner.specs.Scans.{answers_of, found_match, text_of}
 use Rattle.fancy_scanner.proofs.Kept.{goes_twice, held_still}
-use Rattle.fancy_scanner.proofs.Rules.{IsScanFrom, easy_never_stops, scan_of_none}
+use Rattle.fancy_vm.specs.SearchLimits.{EndsBy}
+use Rattle.fancy_scanner.specs.Limits.{passed_from}
+use Rattle.fancy_scanner.proofs.Passed.{TellsFrom, index_of, none_past_in, tells_all, tells_nothing}
+use Rattle.fancy_scanner.proofs.Rules.{IsScanFrom, easy_by_delegates, easy_never_stops, scan_of_none}
 use Rattle.fancy_scanner.proofs.Steps.{fails_so, limit_so, no_memory, none_so, some_so, whole_of}
 use Rattle.fancy_scanner.proofs.scan_text.ScanText.find_from.Goals as goal
 
@@ -24,6 +27,9 @@ trees-init c =
       goes = goes;
       held = c.make_room.ensures.held c.args.pos;
       seen = tt;
+      tells =
+          tells_nothing c.tree_count-index.result (passed_from c.args.pos s)
+          (λ k le. none_past_in c.args.pos s k (omega (arith, le, c.tree_count-index.ensures)));
       scanned = λ rules h.
           let now = (goes.still rules h).scanner in
           scan_of_none (text_of c.args.self.now) c.args.pos rules (trees_of s.scanner.now) c.tree_count-index.result
@@ -42,8 +48,8 @@ look-requires-clause-place c = subst (λ u. IsTrue (is_place u c.args.pos)) (sym
 pub returns-in-None-clause-promise : goal.returns-in-None-clause-promise
 returns-in-None-clause-promise c = λ rules h. (
   fails_so c.args.pos c.args.self.now c.trees.self c.look.new.self c.trees.index c.trees.found c.trees.stopped c.trees.invariant c.trees-test.true
-      c.look.ensures.goes_on c.look.ensures.held c.look.ensures.others c.look.result c.look.ensures.promise c.in-Err.error c.in-Err.is rules h,
-  c.in-None.ensures,
+      c.look.ensures.goes_on c.look.ensures.held c.look.ensures.others c.look.ensures.limits c.look.result c.look.ensures.promise c.in-Err.error c.in-Err.is rules h,
+  c.in-None.ensures.0,
 )
 
 pub returns-in-None-clause-goes_on : goal.returns-in-None-clause-goes_on
@@ -56,20 +62,20 @@ returns-in-None-clause-held c =
 pub trees-preserved-in-Ok-None : goal.trees-preserved-in-Ok-None
 trees-preserved-in-Ok-None c =
     none_so c.args.pos c.args.self.now c.trees.self c.look.new.self c.trees.index c.trees.found c.trees.stopped c.trees.invariant c.trees-test.true
-    c.look.ensures.goes_on c.look.ensures.held c.look.ensures.others c.look.result c.look.ensures.promise c.look.ensures.whole
-    (c.in-Ok-None.is ∙ ap Ok c.in-Ok-None.field-0-is)
+    c.look.ensures.goes_on c.look.ensures.held c.look.ensures.others c.look.ensures.limits c.look.result c.look.ensures.promise c.look.ensures.whole
+    c.in-Ok-None.ensures.kept (c.in-Ok-None.is ∙ ap Ok c.in-Ok-None.field-0-is)
 
 pub trees-preserved-in-Ok-Some : goal.trees-preserved-in-Ok-Some
 trees-preserved-in-Ok-Some c =
     some_so c.args.pos c.args.self.now c.trees.self c.look.new.self c.trees.index c.trees.found c.trees.stopped c.trees.invariant c.trees-test.true
-    c.look.ensures.goes_on c.look.ensures.held c.look.ensures.others c.look.result c.look.ensures.promise c.look.ensures.whole
-    c.in-Ok-Some.whole (c.in-Ok-Some.is ∙ ap Ok c.in-Ok-Some.field-0-is) c.earlier.result c.earlier.ensures
+    c.look.ensures.goes_on c.look.ensures.held c.look.ensures.others c.look.ensures.limits c.look.result c.look.ensures.promise c.look.ensures.whole
+    c.in-Ok-Some.ensures.kept c.in-Ok-Some.whole (c.in-Ok-Some.is ∙ ap Ok c.in-Ok-Some.field-0-is) c.earlier.result c.earlier.ensures
 
 pub trees-preserved : goal.trees-preserved
 trees-preserved c =
     limit_so c.args.pos c.args.self.now c.trees.self c.look.new.self c.trees.index c.trees.found c.trees.stopped c.trees.invariant c.trees-test.true
-    c.look.ensures.goes_on c.look.ensures.held c.look.ensures.others c.look.result c.look.ensures.promise c.in-Err.error c.in-Err.is c.in-Some.limit
-    c.in-Some.ensures _ refl
+    c.look.ensures.goes_on c.look.ensures.held c.look.ensures.others c.look.ensures.limits c.look.result c.look.ensures.promise c.in-Err.error c.in-Err.is c.in-Some.limit
+    c.in-Some.ensures.0 (sym c.passed.ensures ∙ c.in-Some.ensures.1) c.in-Err.ensures.failed.0 _ refl
 
 pub returns-clause-promise : goal.returns-clause-promise
 returns-clause-promise c = λ rules h.
@@ -85,6 +91,25 @@ returns-clause-easy c = λ rules h easy small.
     easy_never_stops (text_of c.args.self.now) c.args.pos rules (found_match (answers_of c.trees.self) c.trees.found) c.trees.stopped small easy
     (subst (λ n. IsScanFrom (text_of c.args.self.now) c.args.pos rules n (found_match (answers_of c.trees.self) c.trees.found) c.trees.stopped) none
     (c.trees.invariant.scanned rules h))
+
+pub returns-clause-easy_run : goal.returns-clause-easy_run
+returns-clause-easy_run c = λ rules h easy small.
+    let none : c.trees.index ≡ 0 = omega (arith, c.trees-test.false) in
+    easy_by_delegates (text_of c.args.self.now) c.args.pos rules (found_match (answers_of c.trees.self) c.trees.found) c.trees.stopped small easy
+    (subst (λ n. IsScanFrom (text_of c.args.self.now) c.args.pos rules n (found_match (answers_of c.trees.self) c.trees.found) c.trees.stopped) none
+    (c.trees.invariant.scanned rules h))
+
+pub returns-clause-stays : goal.returns-clause-stays
+returns-clause-stays c =
+    let none : c.trees.index ≡ 0 = omega (arith, c.trees-test.false) in
+    tells_all (passed_from c.args.pos c.trees.self) (index_of c.trees.found) c.trees.stopped
+    (subst (λ n. TellsFrom n (passed_from c.args.pos c.trees.self) (index_of c.trees.found) c.trees.stopped) none c.trees.invariant.tells)
+
+pub passed-requires : goal.passed-requires
+passed-requires c = omega (arith, c.trees.invariant.within, c.trees-test.true, c.look.ensures.goes_on.trees.count)
+
+pub limit_of-requires : goal.limit_of-requires
+limit_of-requires c = subst (EndsBy c.in-Err.error) (sym c.passed.ensures) c.in-Err.ensures.failed.1
 
 pub returns-clause-whole : goal.returns-clause-whole
 returns-clause-whole c = whole_of (answers_of c.trees.self) c.trees.index c.trees.found c.trees.invariant.seen

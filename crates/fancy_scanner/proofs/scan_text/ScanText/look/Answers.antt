@@ -1,9 +1,9 @@
 use Rattle.std.proofs.Common.{◌<◌, length, Ok, Some, refl, sym, ap, ◌∙◌, subst, arith}
-use Rattle.std.specs.Prelude.{option_and_then}
+use Rattle.std.specs.Prelude.{option_and_then, slice_get}
 use Rattle.fancy_matches.specs.Listing.{begun_at}
 use Rattle.fancy_matches.specs.Regexes.{FindsCaptures}
 use Rattle.fancy_scanner.specs.Kept.{found_in}
-use Rattle.fancy_scanner.specs.Scans.{answers_of, text_of}
+use Rattle.fancy_scanner.specs.Scans.{answers_of, holds_for, text_of}
 use Rattle.fancy_scanner.specs.declared.answers.Answer.{Answer}
 use Rattle.fancy_scanner.proofs.Kept.{goes_on_answer, held_answers, put_held}
 use Rattle.fancy_scanner.proofs.Reading.{get_other, get_same}
@@ -35,3 +35,16 @@ returns-in-Ok-clause-goes_on c =
     let a : Answer = record { from = c.args.pos; found = c.in-Ok.found } in
     goes_on_answer c.args.self.now _ c.args.index a refl c.captures_of.ensures.same refl refl
     (λ rules r h at. c.in-Ok.ensures.promise rules r h at)
+
+pub returns-in-Ok-clause-limits : goal.returns-in-Ok-clause-limits
+returns-in-Ok-clause-limits c = c.captures_of.ensures.others
+
+pub returns-in-Err-clause-limits : goal.returns-in-Err-clause-limits
+returns-in-Err-clause-limits c = c.captures_of.ensures.others
+
+pub returns-in-Err-clause-failed : goal.returns-in-Err-clause-failed
+returns-in-Err-clause-failed c = (
+  ap (λ l. holds_for l (slice_get (answers_of c.args.self.now) c.args.index) c.args.pos) (c.captures_of.ensures.same.lasting c.args.index)
+      ∙ (sym c.holds.ensures ∙ c.if-holds.false),
+  c.in-Err.ensures.stays,
+)

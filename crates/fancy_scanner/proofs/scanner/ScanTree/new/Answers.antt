@@ -8,4 +8,5 @@ returns c = λ text.
     record {
       regex = record { compiled = made.compiled; options = ap₂ (λ o asked. options_for o asked text) made.options made.backtracks };
       lasting = c.of-lasting.ensures;
+      limits = c.in_ok-regex.ensures.limits;
     }
