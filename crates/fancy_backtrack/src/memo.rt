@@ -433,10 +433,11 @@ impl Memo {
     /// A group begins.
     pub fn open(&mut self, config: NfaConfig) -> Result<StepResult, AllocError>
         requires { config.at < usize.MAX }
-        ensures { (continuation : Continuation) (s : plain.NfaConfig) (f : Search)
+        ensures leads { (continuation : Continuation) (s : plain.NfaConfig) (f : Search)
             → IsSearch continuation self.old f → IsHere self.old config s
             → Simulates continuation s f.failed
             (TakesUp (record (plain.forward s) { opened = s.place ∷ s.opened }) f) result self.new }
+        ensures budget { self.new.budget ≡ self.old.budget }
     {
         self.look_at_path()?;
         let opened = self.trail.push(Entry::Opened {
@@ -453,10 +454,11 @@ impl Memo {
     /// A group ends.
     pub fn close(&mut self, config: NfaConfig, group: usize) -> Result<StepResult, AllocError>
         requires { config.at < usize.MAX }
-        ensures { (continuation : Continuation) (s : plain.NfaConfig) (f : Search)
+        ensures leads { (continuation : Continuation) (s : plain.NfaConfig) (f : Search)
             → IsSearch continuation self.old f → IsHere self.old config s
             → Simulates continuation s f.failed (plain.next_by (plain.close_step group s s.opened)
             (Some (states.Close group)) s f) result self.new }
+        ensures budget { self.new.budget ≡ self.old.budget }
     {
         let Some((from, outer)) = self.trail.opened(config.opened) else {
             return Ok(StepResult::Goes(config.forward()));
@@ -476,12 +478,13 @@ impl Memo {
 
     /// On at the first, and later at the second.
     pub fn choose(&mut self, config: NfaConfig, first: usize) -> Result<StepResult, AllocError>
-        ensures { (continuation : Continuation) (s : plain.NfaConfig) (f : Search)
+        ensures leads { (continuation : Continuation) (s : plain.NfaConfig) (f : Search)
             (frames : List plain.Frame)
             → IsSearch continuation self.old f → IsHere self.old config s
             → Keeps true (continuation s) s f.frames frames
             → Simulates continuation s f.failed
             (TakesUp (plain.goes_to first s) (record f { frames = frames })) result self.new }
+        ensures budget { self.new.budget ≡ self.old.budget }
     {
         self.keep(config, true)?;
         Ok(StepResult::Goes(config.goes_to(first)))
@@ -490,13 +493,14 @@ impl Memo {
     /// At the head of a loop that does not count: on at the first, and later at the second, unless there is no way
     /// from here.
     pub fn loop_split(&mut self, config: NfaConfig, first: usize) -> Result<StepResult, AllocError>
-        ensures { (continuation : Continuation) (s : plain.NfaConfig) (second : ℕ) (f : Search)
+        ensures leads { (continuation : Continuation) (s : plain.NfaConfig) (second : ℕ) (f : Search)
             → IsSearch continuation self.old f → IsHere self.old config s
             → continuation s ≡ plain.Tries true (plain.goes_to first s)
             (plain.goes_to second s ∷ [])
             → Simulates continuation s f.failed
             (plain.next_by (continuation s) (Some
             (states.LoopSplit first second)) s f) result self.new }
+        ensures budget { self.new.budget ≡ self.old.budget }
     {
         if self.has_failed(config)? {
             return Ok(StepResult::Lost);
@@ -508,11 +512,12 @@ impl Memo {
     /// On, unless there is no way from here.
     pub fn join(&mut self, config: NfaConfig) -> Result<StepResult, AllocError>
         requires { config.at < usize.MAX }
-        ensures { (continuation : Continuation) (s : plain.NfaConfig) (f : Search)
+        ensures leads { (continuation : Continuation) (s : plain.NfaConfig) (f : Search)
             → IsSearch continuation self.old f → IsHere self.old config s
             → continuation s ≡ plain.Tries true (plain.forward s) []
             → Simulates continuation s f.failed
             (plain.next_by (continuation s) (Some states.Join) s f) result self.new }
+        ensures budget { self.new.budget ≡ self.old.budget }
     {
         if self.has_failed(config)? {
             return Ok(StepResult::Lost);
@@ -529,12 +534,13 @@ impl Memo {
         after: usize,
     ) -> Result<StepResult, AllocError>
         requires { config.at < usize.MAX }
-        ensures { (continuation : Continuation) (s : plain.NfaConfig) (f : Search)
+        ensures leads { (continuation : Continuation) (s : plain.NfaConfig) (f : Search)
             → IsSearch continuation self.old f → IsHere self.old config s
             → continuation s ≡ plain.counter_loop_step (loop_of bounds) after s s.counters
             → Simulates continuation s f.failed
             (plain.next_by (continuation s) (Some (states.CounterLoop (loop_of bounds) after)) s f)
             result self.new }
+        ensures budget { self.new.budget ≡ self.old.budget }
     {
         let Some((counter, outer)) = self.trail.counter(config.counters) else {
             self.count();
@@ -572,11 +578,12 @@ impl Memo {
         after: usize,
     ) -> Result<StepResult, AllocError>
         requires { config.at < usize.MAX }
-        ensures { (continuation : Continuation) (s first other : plain.NfaConfig) (f : Search)
+        ensures leads { (continuation : Continuation) (s first other : plain.NfaConfig) (f : Search)
             → IsSearch continuation self.old f → IsHere self.old config s
             → plain.counter_loop_step
             (loop_of bounds) after s s.counters ≡ plain.Tries true first (other ∷ [])
             → Simulates continuation s f.failed (TakesUp other f) result self.new }
+        ensures budget { self.new.budget ≡ self.old.budget }
     {
         let Some((counter, outer)) = self.trail.counter(config.counters) else {
             return Ok(StepResult::Lost);
@@ -599,7 +606,7 @@ impl Memo {
         requires at { config.at < usize.MAX }
         requires goes_on { plain.is_over (loop_of bounds) config.place
             (counter_of counter) ≡ false }
-        ensures { (continuation : Continuation) (s : plain.NfaConfig) (f : Search)
+        ensures leads { (continuation : Continuation) (s : plain.NfaConfig) (f : Search)
             (around : List plain.LoopCounter)
             → IsSearch continuation self.old f → IsHere self.old config s
             → outer ≤ length self.old.trail.entries.items
@@ -609,6 +616,7 @@ impl Memo {
                   (counter_of counter) ∷ around;
             }) f)
             result self.new }
+        ensures budget { self.new.budget ≡ self.old.budget }
     {
         let next = bounds.next_counter(counter, config.place);
         let on = self.begin_iteration(config, outer, next)?;

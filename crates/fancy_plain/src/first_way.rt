@@ -1,6 +1,6 @@
 //! The first way of the nodes of an NFA from a place.
 
-ghost use Rattle.std.specs.Prelude.{◌≡◌, [], ℕ, Bool, false, IfOk, IfErr, IsTrue};
+ghost use Rattle.std.specs.Prelude.{◌≡◌, ◌≤◌, [], ℕ, Bool, false, IfOk, IfErr, IsTrue};
 ghost use Rattle.fancy_meaning.specs.Places.{is_place};
 ghost use Rattle.fancy_nfa.specs.FirstWays.{spans_of};
 ghost use Rattle.fancy_nfa.specs.NfaSearch.{Pair};
@@ -65,6 +65,8 @@ pub fn first_way_with(
     ensures visits { IfOk result (λ answer. (failed : Pair → Bool) → HaveFailed memo.old failed
         → CountsVisits text.now nfa.now failed ix answer) }
     ensures memo { IsMemoOf text.now nfa.now memo.new }
+    ensures within { IfOk result (λ answer. answer.visits ≤ memo.old.budget.visits) }
+    ensures budget { memo.new.budget ≡ memo.old.budget }
     ensures refused { IfErr result IsMemory }
 {
     let searcher = Searcher {

@@ -25,6 +25,7 @@ impl Searcher<'_> {
         ensures failed { IfErr result (λ _. (s : plain.NfaConfig) (f : Search)
             → IsSearch (continuation_of self.now) m.old f → IsHere m.old config s
             → HaveFailed m.new f.failed) }
+        ensures budget { m.new.budget ≡ m.old.budget }
     {
         let Some(test) = self.body_test(m, config) else {
             return Ok(config);
@@ -52,6 +53,7 @@ impl Searcher<'_> {
             → GoesOn self.now (TakesUp s f) m.new on) }
         ensures runs { IfOk result (λ on. RunsOver self.now m.new on test.now) }
         ensures failed { m.new.failed ≡ m.old.failed }
+        ensures budget { m.new.budget ≡ m.old.budget }
     {
         let count = self.run_length(m, test, config);
         if count == 0 {
@@ -78,6 +80,7 @@ impl Searcher<'_> {
         ensures failed { IfErr result (λ _. (s : plain.NfaConfig) (f : Search)
             → IsSearch (continuation_of self.now) m.old f → IsHere m.old config s
             → HaveFailed m.new f.failed) }
+        ensures budget { m.new.budget ≡ m.old.budget }
     {
         if m.may_have_failed(config) || self.is_lost(config) {
             return Ok(config);

@@ -46,6 +46,7 @@ impl Searcher<'_> {
             → IsSearch (continuation_of self.now) m.old f → IsHere m.old start s
             → EndsAs self.now (TakesUp s f) result m.new }
         ensures within { OnOk result (m.new.visits ≤ m.new.budget.visits) }
+        ensures budget { m.new.budget ≡ m.old.budget }
     {
         let mut config = self.past_tests(m, start);
         'steps: for _ in 0..u64::MAX {
@@ -66,9 +67,10 @@ impl Searcher<'_> {
     #[inline(always)]
     fn advance(&self, m: &mut Memo, config: NfaConfig) -> Result<StepResult, AllocError>
         requires { IsSearcher self.now }
-        ensures { (s : plain.NfaConfig) (f : Search)
+        ensures leads { (s : plain.NfaConfig) (f : Search)
             → IsSearch (continuation_of self.now) m.old f → IsHere m.old config s
             → Advances self.now (TakesUp s f) result m.new }
+        ensures budget { m.new.budget ≡ m.old.budget }
     {
         match self.take_up(m, config)? {
             StepResult::Lost => self.take_back(m),
@@ -80,9 +82,10 @@ impl Searcher<'_> {
     #[inline(always)]
     fn take_up(&self, m: &mut Memo, config: NfaConfig) -> Result<StepResult, AllocError>
         requires { IsSearcher self.now }
-        ensures { (s : plain.NfaConfig) (f : Search)
+        ensures leads { (s : plain.NfaConfig) (f : Search)
             → IsSearch (continuation_of self.now) m.old f → IsHere m.old config s
             → ComesTo self.now (TakesUp s f) result m.new }
+        ensures budget { m.new.budget ≡ m.old.budget }
     {
         match self.states.get(config.at) {
             None => {
@@ -103,9 +106,10 @@ impl Searcher<'_> {
         requires searcher { IsSearcher self.now }
         requires at { slice_get self.now.states.now config.at ≡ Some nfa_state.now }
         requires read { IsStateReadBy self.now.unicode nfa_state.now }
-        ensures { (s : plain.NfaConfig) (f : Search)
+        ensures leads { (s : plain.NfaConfig) (f : Search)
             → IsSearch (continuation_of self.now) m.old f → IsHere m.old config s
             → ComesTo self.now (TakesUp s f) result m.new }
+        ensures budget { m.new.budget ≡ m.old.budget }
     {
         match nfa_state {
             NfaState::Character(test) => self.take(test, m, config),
@@ -160,9 +164,10 @@ impl Searcher<'_> {
         requires searcher { IsSearcher self.now }
         requires at { (second : ℕ)
             × (slice_get self.now.states.now config.at ≡ Some (nfa_state.LoopSplit first second)) }
-        ensures { (s : plain.NfaConfig) (f : Search)
+        ensures leads { (s : plain.NfaConfig) (f : Search)
             → IsSearch (continuation_of self.now) m.old f → IsHere m.old config s
             → ComesTo self.now (TakesUp s f) result m.new }
+        ensures budget { m.new.budget ≡ m.old.budget }
     {
         let on = self.past_loop(m, config)?;
         if on.at != config.at {
@@ -183,9 +188,10 @@ impl Searcher<'_> {
         requires searcher { IsSearcher self.now }
         requires at { slice_get self.now.states.now config.at ≡ Some
             (nfa_state.CounterLoop bounds after) }
-        ensures { (s : plain.NfaConfig) (f : Search)
+        ensures leads { (s : plain.NfaConfig) (f : Search)
             → IsSearch (continuation_of self.now) m.old f → IsHere m.old config s
             → ComesTo self.now (TakesUp s f) result m.new }
+        ensures budget { m.new.budget ≡ m.old.budget }
     {
         let on = self.past_loop(m, config)?;
         if on.at != config.at {
@@ -204,13 +210,14 @@ impl Searcher<'_> {
     ) -> Result<StepResult, AllocError>
         requires at { config.at < usize.MAX }
         requires read { IsReadBy self.now.unicode test.now }
-        ensures { (s : plain.NfaConfig) (f : Search)
+        ensures leads { (s : plain.NfaConfig) (f : Search)
             → IsSearch (continuation_of self.now) m.old f → IsHere m.old config s
             → Simulates (continuation_of self.now) s f.failed
             (plain.next_by (plain.step_by self.now.text.now self.now.unicode
             (states.Character (test_of test.now)) s) (Some (states.Character
             (test_of test.now))) s f)
             result m.new }
+        ensures budget { m.new.budget ≡ m.old.budget }
     {
         m.count();
         match test.past(m.alloc(), self.unicode, self.text, config.place)? {
@@ -227,8 +234,9 @@ impl Searcher<'_> {
     #[inline(always)]
     fn take_back(&self, m: &mut Memo) -> Result<StepResult, AllocError>
         requires { IsSearcher self.now }
-        ensures { (f : Search) → IsSearch (continuation_of self.now) m.old f
+        ensures leads { (f : Search) → IsSearch (continuation_of self.now) m.old f
             → GoesBack self.now (TakesBack f) result m.new }
+        ensures budget { m.new.budget ≡ m.old.budget }
     {
         'frames: while let Some(choice) = m.pop() {
             if choice.is_untried && !self.is_lost(choice.config) {
@@ -247,13 +255,14 @@ impl Searcher<'_> {
         m: &mut Memo,
         config: NfaConfig,
     ) -> Result<StepResult, AllocError>
-        ensures { (s first other : plain.NfaConfig) (is_memoized : Bool) (f : Search)
+        ensures leads { (s first other : plain.NfaConfig) (is_memoized : Bool) (f : Search)
             (rest : List plain.Frame)
             → IsSearch (continuation_of self.now) m.old (record f { frames = rest })
             → IsHere m.old config s
             → continuation_of self.now s ≡ plain.Tries is_memoized first (other ∷ [])
             → Simulates (continuation_of self.now) s f.failed
             (TakesUp other (record f { frames = fails_before is_memoized s rest })) result m.new }
+        ensures budget { m.new.budget ≡ m.old.budget }
     {
         match self.states.get(config.at) {
             None => Ok(StepResult::Lost),
@@ -270,13 +279,14 @@ impl Searcher<'_> {
         config: NfaConfig,
     ) -> Result<StepResult, AllocError>
         requires { slice_get self.now.states.now config.at ≡ Some nfa_state.now }
-        ensures { (s first other : plain.NfaConfig) (is_memoized : Bool) (f : Search)
+        ensures leads { (s first other : plain.NfaConfig) (is_memoized : Bool) (f : Search)
             (rest : List plain.Frame)
             → IsSearch (continuation_of self.now) m.old (record f { frames = rest })
             → IsHere m.old config s
             → continuation_of self.now s ≡ plain.Tries is_memoized first (other ∷ [])
             → Simulates (continuation_of self.now) s f.failed
             (TakesUp other (record f { frames = fails_before is_memoized s rest })) result m.new }
+        ensures budget { m.new.budget ≡ m.old.budget }
     {
         match nfa_state {
             NfaState::Split(_, second) => Ok(StepResult::Goes(config.goes_to(*second))),

@@ -22,6 +22,7 @@ impl Searcher<'_> {
             → IsSearch (continuation_of self.now) m.old f → IsHere m.old config s
             → GoesOn self.now (TakesUp s f) m.new result }
         ensures failed { m.new.failed ≡ m.old.failed }
+        ensures budget { m.new.budget ≡ m.old.budget }
     {
         let mut on = self.past_jump(m, config);
         'test_runs: while let Some(NfaState::Character(test)) = self.states.get(on.at) {

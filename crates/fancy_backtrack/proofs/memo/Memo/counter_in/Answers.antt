@@ -7,8 +7,8 @@ use Rattle.fancy_backtrack.specs.Memos.{IsHere}
 use Rattle.fancy_backtrack.proofs.memo.Memo.counter_in.Goals as goal
 
 -- src/search.rt:392:5
-pub returns : goal.returns
-returns c = λ continuation s f around h here le has.
+pub returns-clause-leads : goal.returns-clause-leads
+returns-clause-leads c = λ continuation s f around h here le has.
     let next = plain.next_counter (loop_of c.args.bounds) s.place (counter_of c.args.counter) in (
       f,
       (

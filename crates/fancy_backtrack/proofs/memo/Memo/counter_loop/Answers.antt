@@ -11,8 +11,8 @@ use Rattle.fancy_backtrack.proofs.MemoLaws.{counter_loop_by, counter_loop_in_vai
 use Rattle.fancy_backtrack.proofs.memo.Memo.counter_loop.Goals as goal
 
 -- src/search.rt
-pub returns-in_default : goal.returns-in_default
-returns-in_default c = λ continuation s f h here e. (
+pub returns-in_default-clause-leads : goal.returns-in_default-clause-leads
+returns-in_default-clause-leads c = λ continuation s f h here e. (
   record f { visits = f.visits + 1 },
   (
     ap (λ k. plain.next_by k (Some (states.CounterLoop (loop_of c.args.bounds) c.args.after)) s f)
@@ -22,8 +22,8 @@ returns-in_default c = λ continuation s f h here e. (
   ),
 )
 
-pub returns-then-branch : goal.returns-then-branch
-returns-then-branch c = λ continuation s f h here e.
+pub returns-then-branch-clause-leads : goal.returns-then-branch-clause-leads
+returns-then-branch-clause-leads c = λ continuation s f h here e.
     let ends = counters_open c.args.self.now.trail.entries.items c.args.config.counters s.counters (c.in-Some.counter, c.in-Some.outer)
     (c.in-Some.ensures.counters s.counters here.counters) in
     let p = Some (states.CounterLoop (loop_of c.args.bounds) c.args.after) in (
@@ -36,8 +36,8 @@ returns-then-branch c = λ continuation s f h here e.
       ),
     )
 
-pub returns-in_ok-keep-in-Out : goal.returns-in_ok-keep-in-Out
-returns-in_ok-keep-in-Out c = λ continuation s f h here e.
+pub returns-in_ok-keep-in-Out-clause-leads : goal.returns-in_ok-keep-in-Out-clause-leads
+returns-in_ok-keep-in-Out-clause-leads c = λ continuation s f h here e.
     let t = counter_of c.in-Some.counter in
     let ends = counters_open c.args.self.now.trail.entries.items c.args.config.counters s.counters (c.in-Some.counter, c.in-Some.outer)
     (c.in-Some.ensures.counters s.counters here.counters) in
@@ -64,8 +64,8 @@ returns-in_ok-keep-in-Out c = λ continuation s f h here e.
       ),
     )
 
-pub returns-in_ok-keep-in-In : goal.returns-in_ok-keep-in-In
-returns-in_ok-keep-in-In c = λ continuation s f h here e.
+pub returns-in_ok-keep-in-In-clause-leads : goal.returns-in_ok-keep-in-In-clause-leads
+returns-in_ok-keep-in-In-clause-leads c = λ continuation s f h here e.
     let t = counter_of c.in-Some.counter in
     let ends = counters_open c.args.self.now.trail.entries.items c.args.config.counters s.counters (c.in-Some.counter, c.in-Some.outer)
     (c.in-Some.ensures.counters s.counters here.counters) in
@@ -81,10 +81,10 @@ returns-in_ok-keep-in-In c = λ continuation s f h here e.
     let kept = c.in_ok-keep-in-In.ensures.ok continuation counted s frames pair.search pair.before refl in
     let inside = pair.link c.in-Some.outer (omega (arith, ends.1.1, here.counters_link)) in
     subst (λ n. Simulates continuation s f.failed n c.counter_in.result c.counter_in.new.self) (sym anew)
-    (c.counter_in.ensures continuation s (record counted { frames = frames }) around kept pair.here inside (pair.counters c.in-Some.outer around ends.1.2))
+    (c.counter_in.ensures.leads continuation s (record counted { frames = frames }) around kept pair.here inside (pair.counters c.in-Some.outer around ends.1.2))
 
-pub returns-in_ok-keep-in-InOrOut : goal.returns-in_ok-keep-in-InOrOut
-returns-in_ok-keep-in-InOrOut c = λ continuation s f h here e.
+pub returns-in_ok-keep-in-InOrOut-clause-leads : goal.returns-in_ok-keep-in-InOrOut-clause-leads
+returns-in_ok-keep-in-InOrOut-clause-leads c = λ continuation s f h here e.
     let t = counter_of c.in-Some.counter in
     let ends = counters_open c.args.self.now.trail.entries.items c.args.config.counters s.counters (c.in-Some.counter, c.in-Some.outer)
     (c.in-Some.ensures.counters s.counters here.counters) in
@@ -100,11 +100,11 @@ returns-in_ok-keep-in-InOrOut c = λ continuation s f h here e.
     let kept = c.in_ok-keep-in-InOrOut.ensures.ok continuation counted s frames pair.search pair.before (true, (_, (_, (led, refl)))) in
     let inside = pair.link c.in-Some.outer (omega (arith, ends.1.1, here.counters_link)) in
     subst (λ n. Simulates continuation s f.failed n c.counter_in-in-InOrOut.result c.counter_in-in-InOrOut.new.self) (sym anew)
-    (c.counter_in-in-InOrOut.ensures continuation s (record counted { frames = frames }) around kept pair.here inside
+    (c.counter_in-in-InOrOut.ensures.leads continuation s (record counted { frames = frames }) around kept pair.here inside
     (pair.counters c.in-Some.outer around ends.1.2))
 
-pub returns-in_ok-keep-in-OutOrIn : goal.returns-in_ok-keep-in-OutOrIn
-returns-in_ok-keep-in-OutOrIn c = λ continuation s f h here e.
+pub returns-in_ok-keep-in-OutOrIn-clause-leads : goal.returns-in_ok-keep-in-OutOrIn-clause-leads
+returns-in_ok-keep-in-OutOrIn-clause-leads c = λ continuation s f h here e.
     let t = counter_of c.in-Some.counter in
     let ends = counters_open c.args.self.now.trail.entries.items c.args.config.counters s.counters (c.in-Some.counter, c.in-Some.outer)
     (c.in-Some.ensures.counters s.counters here.counters) in

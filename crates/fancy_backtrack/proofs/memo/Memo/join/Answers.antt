@@ -9,8 +9,8 @@ use Rattle.fancy_backtrack.proofs.MemoLaws.{here_at, here_by, renumbered, tries_
 use Rattle.fancy_backtrack.proofs.memo.Memo.join.Goals as goal
 
 -- src/search.rt:305:13
-pub returns-then-branch : goal.returns-then-branch
-returns-then-branch c = λ continuation s f h here e. (
+pub returns-then-branch-clause-leads : goal.returns-then-branch-clause-leads
+returns-then-branch-clause-leads c = λ continuation s f h here e. (
   f,
   (
     tries_in_vain continuation s _ _ f e (Some states.Join)
@@ -20,8 +20,8 @@ returns-then-branch c = λ continuation s f h here e. (
 )
 
 -- src/search.rt:296:5
-pub returns : goal.returns
-returns c = λ continuation s f h here e.
+pub returns-clause-leads : goal.returns-clause-leads
+returns-clause-leads c = λ continuation s f h here e.
     let same = c.has_failed.ensures.rest in
     let trail = ap (λ (m : Memo). m.trail) c.keep.ensures.rest ∙ ap (λ (m : Memo). m.trail) same in (
       record f { frames = plain.Fails (pair_of s) ∷ f.frames },

@@ -8,8 +8,8 @@ use Rattle.fancy_backtrack.proofs.MemoLaws.{here_by, one_visit, renumbered, trie
 use Rattle.fancy_backtrack.proofs.memo.Memo.loop_split.Goals as goal
 
 -- src/search.rt:289:13
-pub returns-then-branch : goal.returns-then-branch
-returns-then-branch c = λ continuation s second f h here e. (
+pub returns-then-branch-clause-leads : goal.returns-then-branch-clause-leads
+returns-then-branch-clause-leads c = λ continuation s second f h here e. (
   f,
   (
     tries_in_vain continuation s _ _ f e (Some (states.LoopSplit c.args.first second))
@@ -19,15 +19,15 @@ returns-then-branch c = λ continuation s second f h here e. (
 )
 
 -- src/search.rt:281:5
-pub returns : goal.returns
-returns c = λ continuation s second f h here e.
+pub returns-clause-leads : goal.returns-clause-leads
+returns-clause-leads c = λ continuation s second f h here e.
     let same = c.has_failed.ensures.rest in
     let frames = plain.Other (plain.goes_to second s) ∷ plain.Fails (pair_of s) ∷ f.frames in
     let counted = record f { visits = f.visits + 1 } in
     subst (λ n. Simulates continuation s f.failed n c.choose.result c.choose.new.self)
     (sym (tries_anew continuation s _ _ f e (Some (states.LoopSplit c.args.first second))
     (sym (c.in_ok-has_failed.ensures.ok s f.failed here h.failed) ∙ c.if-branch.false)))
-    (c.choose.ensures continuation s counted frames
+    (c.choose.ensures.leads continuation s counted frames
     (one_visit continuation c.has_failed.new.self f (renumbered continuation c.args.self.now f h c.has_failed.new.self same)
     c.count.new.self c.count.ensures)
     (here_by c.args.self.now c.count.new.self c.args.config s (ap (λ (m : Memo). m.trail) c.count.ensures ∙ ap (λ (m : Memo). m.trail) same) here)

@@ -6,8 +6,8 @@ use Rattle.fancy_backtrack.proofs.MemoLaws.{here_in_group, search_pushed}
 use Rattle.fancy_backtrack.proofs.memo.Memo.open.Goals as goal
 
 -- src/search.rt:225:5
-pub returns : goal.returns
-returns c = λ continuation s f h here.
+pub returns-clause-leads : goal.returns-clause-leads
+returns-clause-leads c = λ continuation s f h here.
     let e = c.in_ok-opened.ensures.entries in (
       f,
       (

@@ -8,13 +8,13 @@ use Rattle.fancy_backtrack.specs.declared.loops.LoopChoice.TheVariants as loop_c
 use Rattle.fancy_backtrack.proofs.MemoLaws.{counter_loop_by, here_out, lone_way, no_other, off, on, one_other, counters_none, counters_open}
 use Rattle.fancy_backtrack.proofs.memo.Memo.other_counter.Goals as goal
 
-pub returns-in_default : goal.returns-in_default
-returns-in_default c = λ continuation s first other f h here e.
+pub returns-in_default-clause-leads : goal.returns-in_default-clause-leads
+returns-in_default-clause-leads c = λ continuation s first other f h here e.
     absurd (no_other (loop_of c.args.bounds) c.args.after s first other s.counters
     (counters_none c.args.self.now.trail.entries.items c.args.config.counters s.counters (c.in_default.ensures.counters s.counters here.counters)) e)
 
-pub returns-in-InOrOut : goal.returns-in-InOrOut
-returns-in-InOrOut c = λ continuation s first other f h here e.
+pub returns-in-InOrOut-clause-leads : goal.returns-in-InOrOut-clause-leads
+returns-in-InOrOut-clause-leads c = λ continuation s first other f h here e.
     let t = counter_of c.in-Some.counter in
     let ends = counters_open c.args.self.now.trail.entries.items c.args.config.counters s.counters (c.in-Some.counter, c.in-Some.outer)
     (c.in-Some.ensures.counters s.counters here.counters) in
@@ -34,8 +34,8 @@ returns-in-InOrOut c = λ continuation s first other f h here e.
       ),
     )
 
-pub returns-in-OutOrIn : goal.returns-in-OutOrIn
-returns-in-OutOrIn c = λ continuation s first other f h here e.
+pub returns-in-OutOrIn-clause-leads : goal.returns-in-OutOrIn-clause-leads
+returns-in-OutOrIn-clause-leads c = λ continuation s first other f h here e.
     let t = counter_of c.in-Some.counter in
     let ends = counters_open c.args.self.now.trail.entries.items c.args.config.counters s.counters (c.in-Some.counter, c.in-Some.outer)
     (c.in-Some.ensures.counters s.counters here.counters) in
@@ -44,10 +44,10 @@ returns-in-OutOrIn c = λ continuation s first other f h here e.
     let led = counter_loop_by l c.args.after s t around c.args.config.place s.counters loop_choice.OutOrIn here.place ends.1.0 c.in-OutOrIn.ensures in
     subst (λ o. Simulates continuation s f.failed (TakesUp o f) c.counter_in.result c.counter_in.new.self)
     (sym (one_other _ first other _ (on l c.args.after s t around) e led))
-    (c.counter_in.ensures continuation s f around h here (omega (arith, ends.1.1, here.counters_link)) ends.1.2)
+    (c.counter_in.ensures.leads continuation s f around h here (omega (arith, ends.1.1, here.counters_link)) ends.1.2)
 
-pub returns-in_default-loop_choice : goal.returns-in_default-loop_choice
-returns-in_default-loop_choice c = λ continuation s first other f h here e.
+pub returns-in_default-loop_choice-clause-leads : goal.returns-in_default-loop_choice-clause-leads
+returns-in_default-loop_choice-clause-leads c = λ continuation s first other f h here e.
     let ends = counters_open c.args.self.now.trail.entries.items c.args.config.counters s.counters (c.in-Some.counter, c.in-Some.outer)
     (c.in-Some.ensures.counters s.counters here.counters) in
     absurd (lone_way (loop_of c.args.bounds) c.args.after c.args.config.place s first other (counter_of c.in-Some.counter) ends.0 s.counters

@@ -1,3 +1,4 @@
+use Rattle.std.proofs.Common.{◌≡◌}
 use Rattle.fancy_nfa.specs.NfaSearch as plain
 use Rattle.fancy_nfa.specs.NfaSearch.{Next, Search, TakesBack, TakesUp, pair_of}
 use Rattle.fancy_backtrack.specs.Memos.{IsHere, IsSearch}
@@ -6,5 +7,7 @@ use Rattle.fancy_plain.specs.Runs.{GoesOn}
 use Rattle.fancy_plain.proofs.search.Searcher.find.Given as goal
 
 abbrev pub invariant-steps : goal.invariant-steps
-invariant-steps l = (s : plain.NfaConfig) (f : Search) → IsSearch (continuation_of l.fn.self) l.fn.m f → IsHere l.fn.m l.fn.start s →
-    GoesOn l.fn.self (TakesUp s f) l.m l.config
+invariant-steps l =
+    ((s : plain.NfaConfig) (f : Search) → IsSearch (continuation_of l.fn.self) l.fn.m f → IsHere l.fn.m l.fn.start s →
+    GoesOn l.fn.self (TakesUp s f) l.m l.config)
+    × (l.m.budget ≡ l.fn.m.budget)

@@ -12,7 +12,7 @@ returns-in_err-out-clause-failed c =
     rw p.1 (λ s f h here.
     let left = body_left c.args.self.now c.args.m.now c.count_more.new.self c.args.config c.args.test.now s f c.requires.runs
     c.requires.refused (c.may_have_failed.ensures c.if-may_have_failed.false) c.count_more.ensures h here in
-    c.in_err-out.ensures s left.one left.other true (record f { visits = f.visits + 2 }) f.frames left.search left.stands left.step_result)
+    c.in_err-out.ensures.leads s left.one left.other true (record f { visits = f.visits + 2 }) f.frames left.search left.stands left.step_result)
 
 pub returns-in-Goes-clause-ok : goal.returns-in-Goes-clause-ok
 returns-in-Goes-clause-ok c = λ s f h here.
@@ -20,17 +20,14 @@ returns-in-Goes-clause-ok c = λ s f h here.
     let left = body_left searcher c.args.m.now c.count_more.new.self c.args.config c.args.test.now s f c.requires.runs
     c.requires.refused (c.may_have_failed.ensures c.if-may_have_failed.false) c.count_more.ensures h here in
     let led = subst (λ l. Simulates (continuation_of searcher) s f.failed (out_of s left.other f) (Ok l) c.take_other.new.m) c.in-Goes.is
-    (c.in_ok-out.ensures s left.one left.other true (record f { visits = f.visits + 2 }) f.frames left.search left.stands left.step_result) in
+    (c.in_ok-out.ensures.leads s left.one left.other true (record f { visits = f.visits + 2 }) f.frames left.search left.stands left.step_result) in
     goes_on_then searcher (TakesUp s f) left.steps led.0 led.1.0 c.past_tests.new.m c.past_tests.result (left.comes ∙ led.1.1.0)
     (c.past_tests.ensures.on led.1.0 led.0 led.1.1.1 led.1.1.2)
 
-pub returns-in_default : goal.returns-in_default
-returns-in_default c = record {
-  ok = λ s f h here.
-      let searcher = c.args.self.now in
-      let left = body_left searcher c.args.m.now c.count_more.new.self c.args.config c.args.test.now s f c.requires.runs
-      c.requires.refused (c.may_have_failed.ensures c.if-may_have_failed.false) c.count_more.ensures h here in
-      absurd (never_lost searcher s left.other f.failed _ c.in_ok-out.field-0 c.take_other.new.m c.in_default.not-Goes
-      (c.in_ok-out.ensures s left.one left.other true (record f { visits = f.visits + 2 }) f.frames left.search left.stands left.step_result));
-  failed = tt;
-}
+pub returns-in_default-clause-ok : goal.returns-in_default-clause-ok
+returns-in_default-clause-ok c = λ s f h here.
+    let searcher = c.args.self.now in
+    let left = body_left searcher c.args.m.now c.count_more.new.self c.args.config c.args.test.now s f c.requires.runs
+    c.requires.refused (c.may_have_failed.ensures c.if-may_have_failed.false) c.count_more.ensures h here in
+    absurd (never_lost searcher s left.other f.failed _ c.in_ok-out.field-0 c.take_other.new.m c.in_default.not-Goes
+    (c.in_ok-out.ensures.leads s left.one left.other true (record f { visits = f.visits + 2 }) f.frames left.search left.stands left.step_result))

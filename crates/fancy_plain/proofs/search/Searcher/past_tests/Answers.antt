@@ -9,7 +9,7 @@ use Rattle.fancy_plain.proofs.RunLaws.{goes_on_then, test_passed}
 use Rattle.fancy_plain.proofs.search.Searcher.past_tests.Goals as goal
 
 pub test_runs-init : goal.test_runs-init
-test_runs-init c = (c.past_jump-on.ensures.on, refl)
+test_runs-init c = (c.past_jump-on.ensures.on, refl, refl)
 
 pub passes-requires : goal.passes-requires
 passes-requires c =
@@ -46,6 +46,7 @@ test_runs-preserved c =
           goes_on_then searcher (TakesUp s f) one.0 one.1.0 one.1.1.0 counted c.past_jump-on-in-Some-Character.result one.1.1.1.0
           (c.past_jump-on-in-Some-Character.ensures.on one.1.1.0 one.1.0 one.1.1.1.1 one.1.1.1.2),
       ap (λ (x : Memo). x.failed) c.count.ensures ∙ c.test_runs.invariant.1,
+      ap (λ (x : Memo). x.budget) c.count.ensures ∙ c.test_runs.invariant.2,
     )
 
 pub returns-then-not-passes-clause-on : goal.returns-then-not-passes-clause-on
@@ -54,14 +55,23 @@ returns-then-not-passes-clause-on c = c.test_runs.invariant.0
 pub returns-then-not-passes-clause-failed : goal.returns-then-not-passes-clause-failed
 returns-then-not-passes-clause-failed c = c.test_runs.invariant.1
 
+pub returns-then-not-passes-clause-budget : goal.returns-then-not-passes-clause-budget
+returns-then-not-passes-clause-budget c = c.test_runs.invariant.2
+
 pub returns-in_default-clause-on : goal.returns-in_default-clause-on
 returns-in_default-clause-on c = c.test_runs.invariant.0
 
 pub returns-in_default-clause-failed : goal.returns-in_default-clause-failed
 returns-in_default-clause-failed c = c.test_runs.invariant.1
 
+pub returns-in_default-clause-budget : goal.returns-in_default-clause-budget
+returns-in_default-clause-budget c = c.test_runs.invariant.2
+
 pub returns-in_default-2-clause-on : goal.returns-in_default-2-clause-on
 returns-in_default-2-clause-on c = c.test_runs.invariant.0
 
 pub returns-in_default-2-clause-failed : goal.returns-in_default-2-clause-failed
 returns-in_default-2-clause-failed c = c.test_runs.invariant.1
+
+pub returns-in_default-2-clause-budget : goal.returns-in_default-2-clause-budget
+returns-in_default-2-clause-budget c = c.test_runs.invariant.2

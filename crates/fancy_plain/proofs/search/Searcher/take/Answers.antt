@@ -12,15 +12,15 @@ use Rattle.fancy_backtrack.proofs.MemoLaws.{here_by, here_past, one_visit}
 use Rattle.fancy_plain.proofs.search.Searcher.take.Goals as goal
 
 -- src/search.rt:502:15
-pub returns-in_err-place : goal.returns-in_err-place
-returns-in_err-place c = λ s f h here.
+pub returns-in_err-place-clause-leads : goal.returns-in_err-place-clause-leads
+returns-in_err-place-clause-leads c = λ s f h here.
     let p = err_from_is_err_and c.from_residual.result c.from_residual.ensures.1 in
     rw p.1
     (subst (λ (m : Memo). HaveFailed m f.failed) (sym c.count.ensures) h.failed)
 
 -- src/search.rt:491:5
-pub returns-in-Some : goal.returns-in-Some
-returns-in-Some c = λ s f h here.
+pub returns-in-Some-clause-leads : goal.returns-in-Some-clause-leads
+returns-in-Some-clause-leads c = λ s f h here.
     let searcher = c.args.self.now in
     let test = test_of c.args.test.now in
     let past = past_char searcher.text.now (plain.passes searcher.text.now searcher.unicode test) in
@@ -39,8 +39,8 @@ returns-in-Some c = λ s f h here.
     )
 
 -- src/search.rt:491:5
-pub returns-in-None : goal.returns-in-None
-returns-in-None c = λ s f h here.
+pub returns-in-None-clause-leads : goal.returns-in-None-clause-leads
+returns-in-None-clause-leads c = λ s f h here.
     let searcher = c.args.self.now in
     let test = test_of c.args.test.now in
     let past = past_char searcher.text.now (plain.passes searcher.text.now searcher.unicode test) in

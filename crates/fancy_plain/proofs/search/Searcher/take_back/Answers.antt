@@ -18,7 +18,7 @@ use Rattle.fancy_plain.proofs.search.Searcher.take_back.Goals.{else-choice-via-t
 
 -- src/search.rt
 pub frames-init : goal.frames-init
-frames-init c = λ f h. (0, (f, (refl, h)))
+frames-init c = (λ f h. (0, (f, (refl, h))), refl)
 
 pub frames-smaller : goal.frames-smaller
 frames-smaller c =
@@ -28,46 +28,50 @@ frames-smaller c =
     omega (arith, same, counted, shorter)
 
 pub frames-preserved : goal.frames-preserved
-frames-preserved c = λ f h.
-    let searcher = c.args.self.now in
-    let continuation = continuation_of searcher in
-    let back = c.frames.invariant f h in
-    let g = back.1.0 in
-    let choice = c.in-Some.choice in
-    let cut = c.pop.new.self in
-    let same = c.pop.ensures.rest in
-    let last = popped continuation c.frames.m cut choice g c.in-Some.ensures.choices c.in-Some.ensures.path
-    (ap (λ (m : Memo). m.failed) same) (ap (λ (m : Memo). m.visits) same) back.1.1.1 in
-    let lost : choice.is_untried ≡ true → IsLostAt searcher choice.config.at choice.config.place =
-    elim c.else-choice.branch [
-      | else-choice-via-then-choice+else-not-is_lost w ↦ λ _. w.is_lost.ensures w.if-not-is_lost.false
-      | else-choice-via-else-choice w ↦ λ yes. absurd (true≢false (sym yes ∙ w.if-choice.false))
-    ] in
-    let gone = back_gone searcher (TakesBack f) back.0 g choice.config last.config last.rest back.1.1.0 last.here.at last.here.place choice.is_untried
-    lost last.keeps in
-    let n = lost_visits choice.is_untried in
-    let left : Search = record g { frames = last.rest } in
-    let counted = c.count_more.new.self in
-    let here = here_by cut counted choice.config last.config (ap (λ (m : Memo). m.trail) c.count_more.ensures) last.here in
-    let more = subst (λ k. IsSearch continuation counted (record left { visits = g.visits + k })) c.lost_visits.ensures
-    (more_states continuation cut left last.search counted c.lost_visits.result c.count_more.ensures) in
-    let memoized = c.in_ok-add_failed.ensures.ok last.config (record left { visits = g.visits + n }) here more.failed in (
-      gone.0,
-      (
-        plain.with_failed (pair_of last.config) (record left { visits = g.visits + n }),
+frames-preserved c = (
+  λ f h.
+      let searcher = c.args.self.now in
+      let continuation = continuation_of searcher in
+      let back = c.frames.invariant.0 f h in
+      let g = back.1.0 in
+      let choice = c.in-Some.choice in
+      let cut = c.pop.new.self in
+      let same = c.pop.ensures.rest in
+      let last = popped continuation c.frames.m cut choice g c.in-Some.ensures.choices c.in-Some.ensures.path
+      (ap (λ (m : Memo). m.failed) same) (ap (λ (m : Memo). m.visits) same) back.1.1.1 in
+      let lost : choice.is_untried ≡ true → IsLostAt searcher choice.config.at choice.config.place =
+      elim c.else-choice.branch [
+        | else-choice-via-then-choice+else-not-is_lost w ↦ λ _. w.is_lost.ensures w.if-not-is_lost.false
+        | else-choice-via-else-choice w ↦ λ yes. absurd (true≢false (sym yes ∙ w.if-choice.false))
+      ] in
+      let gone = back_gone searcher (TakesBack f) back.0 g choice.config last.config last.rest back.1.1.0 last.here.at last.here.place choice.is_untried
+      lost last.keeps in
+      let n = lost_visits choice.is_untried in
+      let left : Search = record g { frames = last.rest } in
+      let counted = c.count_more.new.self in
+      let here = here_by cut counted choice.config last.config (ap (λ (m : Memo). m.trail) c.count_more.ensures) last.here in
+      let more = subst (λ k. IsSearch continuation counted (record left { visits = g.visits + k })) c.lost_visits.ensures
+      (more_states continuation cut left last.search counted c.lost_visits.result c.count_more.ensures) in
+      let memoized = c.in_ok-add_failed.ensures.ok last.config (record left { visits = g.visits + n }) here more.failed in (
+        gone.0,
         (
-          gone.1,
-          search_memoized continuation counted c.add_failed.new.self (record left { visits = g.visits + n }) (pair_of last.config)
-              c.add_failed.ensures.rest memoized more,
+          plain.with_failed (pair_of last.config) (record left { visits = g.visits + n }),
+          (
+            gone.1,
+            search_memoized continuation counted c.add_failed.new.self (record left { visits = g.visits + n }) (pair_of last.config)
+                c.add_failed.ensures.rest memoized more,
+          ),
         ),
       ),
-    )
+  ap (λ (m : Memo). m.budget) c.add_failed.ensures.rest ∙ ap (λ (m : Memo). m.budget) c.count_more.ensures
+      ∙ ap (λ (m : Memo). m.budget) c.pop.ensures.rest ∙ c.frames.invariant.1,
+)
 
-pub returns-in_err-add_failed : goal.returns-in_err-add_failed
-returns-in_err-add_failed c = λ f h.
+pub returns-in_err-add_failed-clause-leads : goal.returns-in_err-add_failed-clause-leads
+returns-in_err-add_failed-clause-leads c = λ f h.
     let searcher = c.args.self.now in
     let continuation = continuation_of searcher in
-    let back = c.frames.invariant f h in
+    let back = c.frames.invariant.0 f h in
     let g = back.1.0 in
     let cut = c.pop.new.self in
     let same = c.pop.ensures.rest in
@@ -82,11 +86,11 @@ returns-in_err-add_failed c = λ f h.
           ∙ sym (ap (λ n. (search_in n).failed q) back.1.1.0),
     )
 
-pub returns-then-not-is_lost : goal.returns-then-not-is_lost
-returns-then-not-is_lost c = λ f h.
+pub returns-then-not-is_lost-clause-leads : goal.returns-then-not-is_lost-clause-leads
+returns-then-not-is_lost-clause-leads c = λ f h.
     let searcher = c.args.self.now in
     let continuation = continuation_of searcher in
-    let back = c.frames.invariant f h in
+    let back = c.frames.invariant.0 f h in
     let g = back.1.0 in
     let cut = c.pop.new.self in
     let same = c.pop.ensures.rest in
@@ -98,12 +102,12 @@ returns-then-not-is_lost c = λ f h.
     goes_back searcher (TakesBack f) back.0 last.config other g
     (record g { frames = fails_before is_memoized last.config last.rest }) c.take_other.result c.take_other.new.m back.1.1.0
     (ap (λ l. plain.back_to l g) keeps.1.1.1.1) refl
-    (c.take_other.ensures last.config keeps.1.0 other is_memoized g last.rest last.search last.here keeps.1.1.1.0)
+    (c.take_other.ensures.leads last.config keeps.1.0 other is_memoized g last.rest last.search last.here keeps.1.1.1.0)
 
-pub returns : goal.returns
-returns c = λ f h.
+pub returns-clause-leads : goal.returns-clause-leads
+returns-clause-leads c = λ f h.
     let searcher = c.args.self.now in
-    let back = c.frames.invariant f h in
+    let back = c.frames.invariant.0 f h in
     let g = back.1.0 in
     let k = back.1.1.1 in
     let no = c.in_default.ensures.choices in

@@ -7,15 +7,15 @@ use Rattle.std.proofs.lemmas.Bool.{ltb-true}
 use Rattle.std.proofs.lemmas.Option.{slice_get_read}
 use Rattle.fancy_plain.proofs.search.Searcher.take_other.Goals as goal
 
-pub returns-in-None : goal.returns-in-None
-returns-in-None c = λ s first other is_memoized f rest h here e.
+pub returns-in-None-clause-leads : goal.returns-in-None-clause-leads
+returns-in-None-clause-leads c = λ s first other is_memoized f rest h here e.
     let searcher = c.args.self.now in
     let past : length searcher.states.now ≤ c.args.config.at =
     ltb-false c.args.config.at (length searcher.states.now) (sym c.in-None.ensures.lookup.0) in
     absurd (no_tries (continuation_of searcher s) is_memoized first other (lost_past searcher c.args.config s here.at past) e)
 
-pub returns-in-Some : goal.returns-in-Some
-returns-in-Some c = c.other_from.ensures
+pub returns-in-Some-clause-leads : goal.returns-in-Some-clause-leads
+returns-in-Some-clause-leads c = c.other_from.ensures.leads
 
 pub other_from-requires : goal.other_from-requires
 other_from-requires c =

@@ -8,8 +8,8 @@ use Rattle.std.proofs.lemmas.Option.{slice_get_read}
 use Rattle.fancy_plain.proofs.search.Searcher.take_up.Goals as goal
 
 -- src/search.rt:428:5
-pub returns-in-None : goal.returns-in-None
-returns-in-None c = λ s f h here.
+pub returns-in-None-clause-leads : goal.returns-in-None-clause-leads
+returns-in-None-clause-leads c = λ s f h here.
     let searcher = c.args.self.now in
     let past : length searcher.states.now ≤ c.args.config.at = ltb-false c.args.config.at (length searcher.states.now) (sym c.in-None.ensures.lookup.0) in (
       1,
@@ -22,8 +22,8 @@ returns-in-None c = λ s f h here.
       ),
     )
 
-pub returns-in-Some : goal.returns-in-Some
-returns-in-Some c = c.take_up_state.ensures
+pub returns-in-Some-clause-leads : goal.returns-in-Some-clause-leads
+returns-in-Some-clause-leads c = c.take_up_state.ensures.leads
 
 pub take_up_state-requires-clause-at : goal.take_up_state-requires-clause-at
 take_up_state-requires-clause-at c =

@@ -7,16 +7,16 @@ use Rattle.fancy_plain.proofs.BackLaws.{comes_by, comes_further}
 use Rattle.fancy_plain.proofs.SearchLaws.{at_step, steps_by}
 use Rattle.fancy_plain.proofs.search.Searcher.take_up_counter_loop.Goals as goal
 
-pub returns-in_err-on : goal.returns-in_err-on
-returns-in_err-on c = λ s f h here.
+pub returns-in_err-on-clause-leads : goal.returns-in_err-on-clause-leads
+returns-in_err-on-clause-leads c = λ s f h here.
     let p = err_from_is_err_and c.from_residual.result c.from_residual.ensures.1 in
     rw p.1 (0, c.in_err-on.ensures.failed s f h here)
 
-pub returns-then-on-config : goal.returns-then-on-config
-returns-then-on-config c = λ s f h here. c.in_ok-on.ensures.ok s f h here
+pub returns-then-on-config-clause-leads : goal.returns-then-on-config-clause-leads
+returns-then-on-config-clause-leads c = λ s f h here. c.in_ok-on.ensures.ok s f h here
 
-pub returns : goal.returns
-returns c = λ s f h here.
+pub returns-clause-leads : goal.returns-clause-leads
+returns-clause-leads c = λ s f h here.
     let searcher = c.args.self.now in
     let on = c.in_ok-on.on in
     let came = c.in_ok-on.ensures.ok s f h here in
@@ -28,4 +28,4 @@ returns c = λ s f h here.
     comes_further searcher came.0 (TakesUp s f) (TakesUp t g) c.counter_loop.result c.counter_loop.new.self came.1.1.1.0
     (comes_by searcher t g c.counter_loop.result c.counter_loop.new.self
     (at_step searcher p on t g stands.at there c.counter_loop.result c.counter_loop.new.self
-    (c.counter_loop.ensures (continuation_of searcher) t g came.1.1.1.1 stands (steps_by searcher p on t stands.at there))))
+    (c.counter_loop.ensures.leads (continuation_of searcher) t g came.1.1.1.1 stands (steps_by searcher p on t stands.at there))))

@@ -19,8 +19,8 @@ use Rattle.fancy_backtrack.proofs.MemoLaws.{failed_by, here_at, here_by, one_vis
 use Rattle.fancy_plain.proofs.search.Searcher.take_up_state.Goals as goal
 
 -- src/search.rt:443:5
-pub returns-in-Jump : goal.returns-in-Jump
-returns-in-Jump c = λ s f h here.
+pub returns-in-Jump-clause-leads : goal.returns-in-Jump-clause-leads
+returns-in-Jump-clause-leads c = λ s f h here.
     let searcher = c.args.self.now in
     let p = nfa_state.Jump c.in-Jump.to in
     let there = c.requires.at ∙ ap Some c.in-Jump.is in (
@@ -40,60 +40,60 @@ returns-in-Jump c = λ s f h here.
     )
 
 -- src/search.rt:443:5
-pub returns-in-BranchSplit : goal.returns-in-BranchSplit
-returns-in-BranchSplit c = λ s f h here.
+pub returns-in-BranchSplit-clause-leads : goal.returns-in-BranchSplit-clause-leads
+returns-in-BranchSplit-clause-leads c = λ s f h here.
     let searcher = c.args.self.now in
     let p = nfa_state.BranchSplit c.in-BranchSplit.first c.in-BranchSplit.field-1 in
     let there = c.requires.at ∙ ap Some c.in-BranchSplit.is in
     let other = plain.goes_to c.in-BranchSplit.field-1 s in
     comes_by c.args.self.now s f c.choose.result c.choose.new.self (at_state searcher p c.args.config s f here.at there c.choose.result c.choose.new.self
-    (c.choose.ensures (continuation_of searcher) s f (plain.Other other ∷ f.frames) h here
+    (c.choose.ensures.leads (continuation_of searcher) s f (plain.Other other ∷ f.frames) h here
     (false, (plain.goes_to c.in-BranchSplit.first s, (other, (steps_by searcher p c.args.config s here.at there, refl))))))
 
 -- src/search.rt:443:5
-pub returns-in-Close : goal.returns-in-Close
-returns-in-Close c = λ s f h here.
+pub returns-in-Close-clause-leads : goal.returns-in-Close-clause-leads
+returns-in-Close-clause-leads c = λ s f h here.
     let searcher = c.args.self.now in
     let p = nfa_state.Close c.in-Close.group in
     comes_by c.args.self.now s f c.close.result c.close.new.self (at_state searcher p c.args.config s f here.at
     (c.requires.at ∙ ap Some c.in-Close.is) c.close.result c.close.new.self
-    (c.close.ensures (continuation_of searcher) s f h here))
+    (c.close.ensures.leads (continuation_of searcher) s f h here))
 
 -- src/search.rt:443:5
-pub returns-in-Join : goal.returns-in-Join
-returns-in-Join c = λ s f h here.
+pub returns-in-Join-clause-leads : goal.returns-in-Join-clause-leads
+returns-in-Join-clause-leads c = λ s f h here.
     let searcher = c.args.self.now in
     let there = c.requires.at ∙ ap Some c.in-Join.is in
     comes_by c.args.self.now s f c.join.result c.join.new.self (at_step searcher nfa_state.Join c.args.config s f here.at there c.join.result c.join.new.self
-    (c.join.ensures (continuation_of searcher) s f h here (steps_by searcher nfa_state.Join c.args.config s here.at there)))
+    (c.join.ensures.leads (continuation_of searcher) s f h here (steps_by searcher nfa_state.Join c.args.config s here.at there)))
 
 -- src/search.rt:443:5
-pub returns-in-Split : goal.returns-in-Split
-returns-in-Split c = λ s f h here.
+pub returns-in-Split-clause-leads : goal.returns-in-Split-clause-leads
+returns-in-Split-clause-leads c = λ s f h here.
     let searcher = c.args.self.now in
     let p = nfa_state.Split c.in-Split.first c.in-Split.field-1 in
     let there = c.requires.at ∙ ap Some c.in-Split.is in
     let other = plain.goes_to c.in-Split.field-1 s in
     comes_by c.args.self.now s f c.choose-in-Split.result c.choose-in-Split.new.self
     (at_state searcher p c.args.config s f here.at there c.choose-in-Split.result c.choose-in-Split.new.self
-    (c.choose-in-Split.ensures (continuation_of searcher) s (record f { visits = f.visits + 1 }) (plain.Other other ∷ f.frames)
+    (c.choose-in-Split.ensures.leads (continuation_of searcher) s (record f { visits = f.visits + 1 }) (plain.Other other ∷ f.frames)
     (one_visit (continuation_of searcher) c.args.m.now f h c.count.new.self c.count.ensures)
     (here_by c.args.m.now c.count.new.self c.args.config s (ap (λ (m : Memo). m.trail) c.count.ensures) here)
     (false, (plain.goes_to c.in-Split.first s, (other, (steps_by searcher p c.args.config s here.at there, refl))))))
 
 -- src/search.rt:443:5
-pub returns-in-Open : goal.returns-in-Open
-returns-in-Open c = λ s f h here.
+pub returns-in-Open-clause-leads : goal.returns-in-Open-clause-leads
+returns-in-Open-clause-leads c = λ s f h here.
     let searcher = c.args.self.now in
     comes_by c.args.self.now s f c.open.result c.open.new.self (at_state searcher nfa_state.Open c.args.config s f here.at
     (c.requires.at ∙ ap Some c.in-Open.is) c.open.result c.open.new.self
-    (c.open.ensures (continuation_of searcher) s (record f { visits = f.visits + 1 })
+    (c.open.ensures.leads (continuation_of searcher) s (record f { visits = f.visits + 1 })
     (one_visit (continuation_of searcher) c.args.m.now f h c.count-in-Open.new.self c.count-in-Open.ensures)
     (here_by c.args.m.now c.count-in-Open.new.self c.args.config s (ap (λ (m : Memo). m.trail) c.count-in-Open.ensures) here)))
 
 -- src/search.rt:443:5
-pub returns-in_ok-next-in-CounterBegin : goal.returns-in_ok-next-in-CounterBegin
-returns-in_ok-next-in-CounterBegin c = λ s f h here.
+pub returns-in_ok-next-in-CounterBegin-clause-leads : goal.returns-in_ok-next-in-CounterBegin-clause-leads
+returns-in_ok-next-in-CounterBegin-clause-leads c = λ s f h here.
     let searcher = c.args.self.now in
     let m = c.count-in-CounterBegin.new.self in
     let trail = ap (λ (m : Memo). m.trail) c.count-in-CounterBegin.ensures in
@@ -116,8 +116,8 @@ returns-in_ok-next-in-CounterBegin c = λ s f h here.
     )
 
 -- src/search.rt:443:5
-pub returns-then-holds : goal.returns-then-holds
-returns-then-holds c = λ s f h here.
+pub returns-then-holds-clause-leads : goal.returns-then-holds-clause-leads
+returns-then-holds-clause-leads c = λ s f h here.
     let searcher = c.args.self.now in
     let p = nfa_state.Holds c.in-Holds.assertion in
     let text = searcher.text.now in
@@ -141,8 +141,8 @@ returns-then-holds c = λ s f h here.
     )
 
 -- src/search.rt:443:5
-pub returns-else-holds : goal.returns-else-holds
-returns-else-holds c = λ s f h here.
+pub returns-else-holds-clause-leads : goal.returns-else-holds-clause-leads
+returns-else-holds-clause-leads c = λ s f h here.
     let searcher = c.args.self.now in
     let p = nfa_state.Holds c.in-Holds.assertion in
     let text = searcher.text.now in
@@ -159,8 +159,8 @@ returns-else-holds c = λ s f h here.
     )
 
 -- src/search.rt:443:5
-pub returns-in-Match : goal.returns-in-Match
-returns-in-Match c = λ s f h here.
+pub returns-in-Match-clause-leads : goal.returns-in-Match-clause-leads
+returns-in-Match-clause-leads c = λ s f h here.
     let searcher = c.args.self.now in (
       1,
       (
@@ -177,14 +177,14 @@ returns-in-Match c = λ s f h here.
       ),
     )
 
-pub returns-in-Character : goal.returns-in-Character
-returns-in-Character c = λ s f h here.
+pub returns-in-Character-clause-leads : goal.returns-in-Character-clause-leads
+returns-in-Character-clause-leads c = λ s f h here.
     comes_by c.args.self.now s f c.take.result c.take.new.m (at_state c.args.self.now (nfa_state.Character c.in-Character.test) c.args.config s f here.at
     (c.requires.at ∙ ap Some c.in-Character.is) c.take.result c.take.new.m
-    (c.take.ensures s f h here))
+    (c.take.ensures.leads s f h here))
 
-pub returns-in_err-next-in-CounterBegin : goal.returns-in_err-next-in-CounterBegin
-returns-in_err-next-in-CounterBegin c = λ s f h here.
+pub returns-in_err-next-in-CounterBegin-clause-leads : goal.returns-in_err-next-in-CounterBegin-clause-leads
+returns-in_err-next-in-CounterBegin-clause-leads c = λ s f h here.
     let p = err_from_is_err_and c.from_residual.result c.from_residual.ensures.1 in
     rw p.1 (
       0,
