@@ -95,7 +95,8 @@ impl Memo {
     /// For searches by one NFA in one text, from `pos` on, where its pairs have these bits: no pair is known. They may
     /// take as much as can be counted.
     pub fn new(alloc: Global, pair_bits: PairBits, pos: usize) -> Memo
-        ensures { HaveFailed result (λ pair. false) }
+        ensures failed { HaveFailed result (λ pair. false) }
+        ensures budget { result.budget ≡ record { visits = u64.MAX; bytes = usize.MAX } }
     {
         Memo {
             alloc,

@@ -151,6 +151,7 @@ impl Nfa {
     pub fn memo(&self, alloc: Global, pos: usize) -> Memo
         ensures memo { (text : List ℕ) → IsMemoOf text self.now result }
         ensures knows { HaveFailed result (λ pair. false) }
+        ensures budget { result.budget ≡ record { visits = u64.MAX; bytes = usize.MAX } }
     {
         Memo::new(alloc, self.pair_bits, pos)
     }
