@@ -1,6 +1,6 @@
 //! The first way of a fragment from a place.
 
-ghost use Rattle.std.specs.Prelude.{ℕ, Bool, List, false, IfOk, IfErr, IsTrue};
+ghost use Rattle.std.specs.Prelude.{◌≡◌, ◌≤◌, ℕ, Bool, List, false, IfOk, IfErr, IsTrue};
 ghost use Rattle.fancy_meaning.specs.Places.{is_place};
 ghost use Rattle.fancy_nfa.specs.NfaSearch.{Pair};
 ghost use Rattle.fancy_backtrack.specs.Memos.{HaveFailed};
@@ -48,6 +48,8 @@ pub fn first_way_with(
     ensures visits { IfOk result (λ answer. (failed : Pair → Bool) → HaveFailed memo.old failed
         → CountsVisits text.now fragment.now.nfa failed ix answer) }
     ensures memo { IsMemoFor text.now fragment.now memo.new }
+    ensures within { IfOk result (λ answer. answer.visits ≤ memo.old.budget.visits) }
+    ensures budget { memo.new.budget ≡ memo.old.budget }
     ensures refused { IfErr result IsMemory }
 {
     fancy_plain::first_way::first_way_with(alloc, &fragment.nfa, text, ix, memo)
@@ -69,6 +71,8 @@ pub fn first_way_joined(
     ensures visits { IfOk result (λ answer. (failed : Pair → Bool) → HaveFailed memo.old failed
         → CountsVisits text.now (joined_nfa fragment.now) failed ix answer) }
     ensures memo { IsJoinedMemoFor text.now fragment.now memo.new }
+    ensures within { IfOk result (λ answer. answer.visits ≤ memo.old.budget.visits) }
+    ensures budget { memo.new.budget ≡ memo.old.budget }
     ensures refused { IfErr result IsMemory }
 {
     fancy_plain::first_way::first_way_with(alloc, fragment.joined_nfa(), text, ix, memo)

@@ -117,6 +117,7 @@ impl Fragment {
     pub fn memo(&self, alloc: Global, pos: usize) -> Memo
         ensures memo { (text : List ℕ) → IsMemoFor text self.now result }
         ensures knows { HaveFailed result (λ pair. false) }
+        ensures budget { result.budget ≡ record { visits = u64.MAX; bytes = usize.MAX } }
     {
         self.nfa.memo(alloc, pos)
     }
