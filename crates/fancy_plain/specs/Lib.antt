@@ -13,3 +13,4 @@ pub mod OnePass
 pub mod AsciiRuns
 pub mod CountedWays
 pub mod RequiredBytes
+pub mod LoopsInLoops

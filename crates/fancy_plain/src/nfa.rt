@@ -9,6 +9,7 @@ ghost use Rattle.fancy_meaning.specs.Places.{is_place};
 ghost use Rattle.fancy_meaning.specs.Premises.{IsText};
 ghost use Rattle.fancy_plain.specs.FirstSets.{may_begin, AreFirstSets};
 ghost use Rattle.fancy_plain.specs.RequiredBytes.{AreRequired, IsOnlyOf};
+ghost use Rattle.fancy_plain.specs.LoopsInLoops.{begins_loop, has_loop_in_loop, is_counter_loop};
 ghost use Rattle.fancy_plain.specs.Neighbours.{AreNeighbours, IsEasy};
 ghost use Rattle.fancy_plain.specs.Views.{state_of};
 ghost use Rattle.fancy_joining.specs.JoinedLoops.{joined};
@@ -134,15 +135,16 @@ impl Nfa {
         })
     }
 
-    /// Whether there is a loop in a loop that counts.
-    pub fn has_loop_in_loop(&self) -> bool {
+    /// Whether there is a loop in a loop that counts: it begins right behind the head.
+    pub fn has_loop_in_loop(&self) -> bool
+        ensures { result ≡ has_loop_in_loop false (map state_of self.now.states.items) }
+    {
         let mut is_in_loop = false;
-        for nfa_state in &self.states {
-            match nfa_state {
-                NfaState::CounterBegin | NfaState::Split(_, _) if is_in_loop => return true,
-                NfaState::CounterLoop { .. } => is_in_loop = true,
-                _ => is_in_loop = false,
+        'states: for nfa_state in &self.states {
+            if is_in_loop && begins_loop(nfa_state) {
+                return true;
             }
+            is_in_loop = is_counter_loop(nfa_state);
         }
         false
     }
@@ -205,6 +207,20 @@ impl Nfa {
             Some(second) => byte < 128 && !second[byte as usize],
         }
     }
+}
+
+/// A loop that counts begins here, or a part that may be left out.
+fn begins_loop(nfa_state: &NfaState) -> bool
+    ensures { result ≡ begins_loop (state_of nfa_state.now) }
+{
+    matches!(nfa_state, NfaState::CounterBegin | NfaState::Split(_, _))
+}
+
+/// It is the head of a loop that counts.
+fn is_counter_loop(nfa_state: &NfaState) -> bool
+    ensures { result ≡ is_counter_loop (state_of nfa_state.now) }
+{
+    matches!(nfa_state, NfaState::CounterLoop { .. })
 }
 
 /// The least number of a group that ends at one of these states.
