@@ -62,7 +62,8 @@ impl GroupSpans {
 
     /// No group is open or has a span, and this is the first that may have one.
     pub(crate) fn begin(&mut self, first: usize)
-        ensures { AreGroupsOf self.new [] [] }
+        ensures groups { AreGroupsOf self.new [] [] }
+        ensures first { self.new.first ≡ first }
     {
         self.opened.clear();
         self.first = first;

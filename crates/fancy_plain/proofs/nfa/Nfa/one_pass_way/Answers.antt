@@ -11,7 +11,7 @@ walk_groups-requires-clause-searcher c = λ i p at.
 
 pub returns-then-self : goal.returns-then-self
 returns-then-self c =
-    way_of_none c.args.text.now c.args.self.now c.args.ix c.begin.new.self c.begin.ensures c.one_pass_end.result c.one_pass_end.ensures
+    way_of_none c.args.text.now c.args.self.now c.args.ix c.begin.new.self c.begin.ensures.groups c.one_pass_end.result c.one_pass_end.ensures
 
 pub returns : goal.returns
 returns c =
