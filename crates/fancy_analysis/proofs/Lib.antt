@@ -5,6 +5,7 @@ pub mod RoundSizes
 pub mod Parts
 pub mod TargetSizes
 pub mod MadeChanges
+pub mod SettledSizes
 pub mod ListedTargets
 pub mod Bodies
 pub mod RoundSteps

@@ -140,19 +140,19 @@ same_at e whole targets one two t f g = ⊎_elim
 
 -- ---- changes that are made
 
-abbrev at : List code.Size → ℕ → Size
+abbrev pub at : List code.Size → ℕ → Size
 at sizes g = size_of_target (map size_of sizes) g
 
-set_at_same : (sizes : List code.Size) (n : ℕ) (s : code.Size) → n < length sizes → at (set sizes n s) n ≡ size_of s
+pub set_at_same : (sizes : List code.Size) (n : ℕ) (s : code.Size) → n < length sizes → at (set sizes n s) n ≡ size_of s
 set_at_same sizes n s lt =
     ap (λ l. get_or l n unknown) (map-set size_of sizes n s)
     ∙ get_or-set_same (map size_of sizes) n (size_of s) unknown (omega (arith, length-map sizes size_of))
 
-set_at_other : (sizes : List code.Size) (n g : ℕ) (s : code.Size) → g ≢ n → at (set sizes n s) g ≡ at sizes g
+pub set_at_other : (sizes : List code.Size) (n g : ℕ) (s : code.Size) → g ≢ n → at (set sizes n s) g ≡ at sizes g
 set_at_other sizes n g s ne =
     ap (λ l. get_or l g unknown) (map-set size_of sizes n s) ∙ get_or-set_other (map size_of sizes) n g (size_of s) unknown ne
 
-past_end : (sizes : List code.Size) (g : ℕ) → length sizes ≤ g → at sizes g ≡ unknown
+pub past_end : (sizes : List code.Size) (g : ℕ) → length sizes ≤ g → at sizes g ≡ unknown
 past_end sizes g le = get_or_past (map size_of sizes) g unknown (omega (arith, length-map sizes size_of))
 
 set_right : (sizes : List code.Size) (n g : ℕ) (s : code.Size) (to : Size) → (g ≡ n → size_of s ≡ to) → at sizes g ≡ to → at (set sizes n s) g ≡ to
@@ -284,7 +284,7 @@ module _ (e : Expr) (whole : Tree) (targets : List Expr) (t : AreTargets e whole
       beyond = beyond_next;
     }
 
-nothing_known : (n g : ℕ) → size_of_target (replicate n unknown) g ≡ unknown
+pub nothing_known : (n g : ℕ) → size_of_target (replicate n unknown) g ≡ unknown
 nothing_known zero g = refl
 nothing_known (suc n) zero = refl
 nothing_known (suc n) (suc g) = nothing_known n g

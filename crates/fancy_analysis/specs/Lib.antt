@@ -12,3 +12,4 @@ pub mod Targets
 pub mod Dependents
 pub mod Changes
 pub mod Callers
+pub mod InOrder

@@ -31,7 +31,7 @@ struct Change {
     size: Size,
 }
 
-fn body_size(alloc: Global, tables: &VisitTables, expr: &Expr) -> Result<Size, AllocError>
+pub fn body_size(alloc: Global, tables: &VisitTables, expr: &Expr) -> Result<Size, AllocError>
     requires { group_count (tree_of expr.now) ≤ most_groups }
     ensures { IfOk result (λ s. size_of s ≡ size_by (tables_known tables.now) (tree_of expr.now)) }
 {

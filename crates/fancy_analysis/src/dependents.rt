@@ -15,7 +15,7 @@ use std::alloc::{AllocError, Global};
 const MOST_LOOKS: usize = 4;
 
 /// The number whose size a node takes.
-fn named_by(expr: &Expr) -> Option<usize>
+pub fn named_by(expr: &Expr) -> Option<usize>
     ensures { result ≡ named_by (tree_of expr.now) }
 {
     match expr {

@@ -6,6 +6,7 @@ mod callers;
 mod changes;
 mod dependents;
 mod endings;
+mod in_order;
 mod late_reads;
 mod links;
 mod make;

@@ -1,28 +1,58 @@
 //! The sizes of groups, by the rounds of the definition.
 
-ghost use Rattle.std.specs.Prelude.{◌≡◌, ◌≤◌, IfOk, map};
+ghost use Rattle.std.specs.Prelude.{◌≡◌, ◌+◌, ◌≤◌, IfOk, length, map};
 ghost use Rattle.fancy_meaning.specs.Nodes.{group_count};
 ghost use Rattle.fancy_meaning.specs.Numbering.{numbered_within};
 ghost use Rattle.fancy_meaning.specs.Sizes.{known_of};
 ghost use Rattle.fancy_meaning.specs.Tree as plain;
 ghost use Rattle.fancy_meaning.specs.WellFormed.{most_groups};
 ghost use Rattle.fancy_expr.specs.Views.{tree_of};
+ghost use Rattle.fancy_expr.specs.declared.expr.Expr as code;
 ghost use Rattle.fancy_info.specs.Sized.{size_of};
+ghost use Rattle.fancy_analysis.specs.Changes.{AreAfter, AreSmall, AreTargets};
+ghost use Rattle.fancy_analysis.specs.Dependents.{AreDependents};
+ghost use Rattle.fancy_analysis.specs.Targets.{exprs_at};
 
 use crate::changes::sizes_by_changes;
 use crate::dependents::dependents;
+use crate::in_order::sizes_in_order;
 use crate::make::VisitTables;
 use crate::rounds::{next_sizes, sizes_by_rounds, unknown_sizes};
 use crate::targets::targets;
-use fancy_expr::expr::ExprTree;
+use fancy_expr::expr::{Expr, ExprTree};
 use fancy_info::context::AnalyzeContext;
 use fancy_info::size::Size;
 use std::alloc::{AllocError, Global};
 
+/// The sizes by number after so many rounds, right for each number that is named: each computed once if that tells them,
+/// and else by what each round changes.
+fn named_sizes(
+    alloc: Global,
+    targets: &[&Expr],
+    dependents: &[Vec<usize>],
+    context: AnalyzeContext,
+    reads: &[bool],
+    rounds: usize,
+) -> Result<Vec<Size>, AllocError>
+    requires { AreSmall (exprs_at targets.now) }
+    ensures length { IfOk result (λ v. length v.items ≡ length dependents.now) }
+    ensures sizes { (e : code.Expr) (whole : plain.Tree)
+        → AreTargets e whole (exprs_at targets.now)
+        → AreDependents e (exprs_at targets.now) dependents.now
+        → length dependents.now ≡ group_count whole + 1
+        → IfOk result (λ v. AreAfter e whole rounds (map size_of v.items)) }
+{
+    match sizes_in_order(alloc, targets, dependents, context, reads, rounds)? {
+        Some(known) => Ok(known),
+        None => sizes_by_changes(alloc, targets, dependents, context, reads, rounds),
+    }
+}
+
 /// The sizes by number that the last round goes by.
 ///
-/// Up to the last but one, a round computes only those anew that go by one that changed. The last computes them all,
-/// since what nothing names was left out before.
+/// Those of what is named, after the last round but one, are computed in order. Where a target goes by itself, each round
+/// computes only those anew that go by one that changed. The last round computes them all, since what nothing names was
+/// left out before.
 pub fn known_sizes(
     alloc: Global,
     tree: &ExprTree,
@@ -45,7 +75,7 @@ pub fn known_sizes(
     match dependents(alloc, &tree.expr, &targets, count)? {
         Some(lists) => {
             let rounds = tree.total_groups - 1;
-            let known = sizes_by_changes(alloc, &targets, &lists, context, reads, rounds)?;
+            let known = named_sizes(alloc, &targets, &lists, context, reads, rounds)?;
             let tables = VisitTables {
                 context,
                 known: &known,

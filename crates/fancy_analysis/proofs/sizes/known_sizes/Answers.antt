@@ -23,8 +23,8 @@ dependents-requires c = omega (
   c.requires.groups,
 )
 
-pub sizes_by_changes-requires : goal.sizes_by_changes-requires
-sizes_by_changes-requires c =
+pub named_sizes-requires : goal.named_sizes-requires
+named_sizes-requires c =
     subst AreSmall (sym (ap exprs_at c.deref-in-Some.ensures.value ∙ c.in_ok-targets.ensures))
     (small_targets c.args.first c.args.tree.now.expr (omega (arith, c.requires.groups, c.requires.few)))
 
