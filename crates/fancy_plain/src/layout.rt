@@ -215,6 +215,8 @@ impl Layout {
         }))
     }
 
+    // Out of line, as what `lay` calls below: what is inlined there takes stack on each level of a tree.
+    #[inline(never)]
     fn lay_class(&mut self, inner: &str, casei: bool) -> Result<(), Error>
         ensures { Lays (one (plain.Character (plain.InClass inner.now casei)))
             (texts_of (Delegate inner.now casei)) self.old self.new result }
@@ -234,6 +236,7 @@ impl Layout {
     }
 
     #[cycle(lay)]
+    #[inline(never)]
     fn lay_group(&mut self, group: usize, body: &Info, may_join: bool) -> Result<(), Error>
         requires { IsEasyNode body.now }
         ensures { LaysOver may_join (group_code group) body.now
@@ -245,6 +248,7 @@ impl Layout {
     }
 
     #[cycle(lay)]
+    #[inline(never)]
     fn lay_alternation(&mut self, infos: &[Info], may_join: bool) -> Result<(), Error>
         requires { AreNeighbours infos.now }
         ensures { LaysEach may_join one_of infos.now self.old self.new result }
