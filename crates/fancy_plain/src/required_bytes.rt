@@ -100,23 +100,30 @@ fn only_in(bytes: &[bool; 256]) -> Option<u8>
 
 // ---- which state every way passes
 
-/// The state with the rarest characters among those found that every way passes, of equals the last. It takes rare ones or
-/// stands behind a loop without a bound: else a search that fails is short, or finds what the state takes at once.
+/// The first state that takes a character, where every way passes it and it takes a rare one: then a text that lacks this
+/// has no start. Else the state with the rarest characters among those found that every way passes, of equals the last. It
+/// takes rare ones or stands behind a loop without a bound: else a search that fails is short, or finds what the state takes
+/// at once.
 fn rarest_passed(states: &[NfaState]) -> Option<usize>
     ensures { IfSome result (IsPassed (map state_of states.now)) }
 {
     let mut rarest = None;
     let mut furthest = 0;
     let mut is_behind = false;
+    let mut is_first = true;
     'states: for at in 0..states.len() {
         if furthest <= at {
             rarest = rarer(states, at, furthest, is_behind, rarest);
+        }
+        if is_first && rarest.is_some() {
+            return rarest;
         }
         let Some(to) = furthest_with(&states[at], at, furthest) else {
             return rarest;
         };
         furthest = to;
         is_behind = is_behind || repeats(&states[at]);
+        is_first = is_first && !matches!(&states[at], NfaState::Character(_));
     }
     rarest
 }
