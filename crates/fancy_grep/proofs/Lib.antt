@@ -1,3 +1,4 @@
 pub mod LineLaws
 pub mod MatchingLaws
+pub mod StandingLaws
 pub mod WalkLaws

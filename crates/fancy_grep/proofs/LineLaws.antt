@@ -1,8 +1,8 @@
 -- The lines of a text, one after the other.
-use Rattle.std.proofs.Common.{◌++◌, ◌-◌, ◌≤◌, take_all, ◌⊎◌, inl, inr, get_or, length-append, ◌≡◌, ℕ, zero, suc, ◌+◌, ◌<◌, Bool, true, false, not, cond, List, [], ◌∷◌, length, take, drop, refl, sym, ap, ap₂, ⊎_elim, drop_of_length-le, length-take, length-drop, ◌∙◌, if◌then◌else◌, arith}
+use Rattle.std.proofs.Common.{◌-◌, take_all, ◌⊎◌, inl, inr, get_or, ◌≡◌, ℕ, suc, ◌+◌, ◌<◌, Bool, true, false, not, cond, List, [], ◌∷◌, length, take, drop, refl, sym, ap, ap₂, ⊎_elim, drop_of_length-le, length-take, length-drop, ◌∙◌, if◌then◌else◌, arith}
 use Rattle.std.specs.List.{after_first, before_first, position_or_len, prefix_len}
 use Rattle.std.proofs.lemmas.Bool.{cases_lt}
-use Rattle.std.proofs.lemmas.List.Sums.{position_or_len_is, split_at_first}
+use Rattle.std.proofs.lemmas.List.Sums.{position_or_len_is}
 use Rattle.memchr.specs.Find.{Nowhere, NoneBefore, Passes, is_byte}
 use Rattle.fancy_grep.specs.Lines.{Line, begun_by, is_newline, lines, numbered}
 
@@ -71,7 +71,7 @@ lines_step (b ∷ text) some = step_at b text (is_newline b) refl (begun b text)
 -- ---- with their numbers
 
 -- a text without "\n" is its first line; else this and its "\n" stand before what follows
-cuts : (text : List ℕ) →
+pub cuts : (text : List ℕ) →
     (after_first is_newline text ≡ []) ⊎ (length text ≡ length (before_first is_newline text) + (length (after_first is_newline text) + 1))
 cuts text =
     let k = position_or_len is_newline text in

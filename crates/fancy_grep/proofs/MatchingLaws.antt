@@ -1,18 +1,25 @@
 -- The lines that are selected, one after the other.
-use Rattle.std.proofs.Common.{◌≡◌, ◌⊎◌, inl, inr, ℕ, suc, ◌≤◌, Bool, List, [], ◌∷◌, ◌++◌, map, filter, append_assoc, append-nil, Result, Ok, Err, refl, sym, ap, subst, ◌∙◌, arith}
+use Rattle.std.proofs.Common.{◌≡◌, inl, inr, ℕ, suc, ◌≤◌, Bool, false, Bor, IfSome, Option, Some, None, is_some, option_map, List, [], ◌∷◌, ◌++◌, map, append_assoc, append-nil, Result, Ok, Err, refl, sym, ap, subst, ◌∙◌, arith}
 use Rattle.std.proofs.lemmas.List.{map-append}
 use Rattle.std.proofs.lemmas.List.Elements.{filter-append}
+use Rattle.std.proofs.lemmas.Option.{none-some, same_Some}
 use Rattle.fancy_meaning.specs.Options as plain
 use Rattle.fancy_meaning.specs.Premises.{Input}
+use Rattle.fancy_literals.specs.Required.{IsRequired, Lacks}
+use Rattle.fancy_matches.specs.Listing.{begun_at}
 use Rattle.fancy_matches.proofs.Stepping.{of_same, same_twice}
 use Rattle.fancy_regex.specs.Regexes.{IsSame}
 use Rattle.fancy_regex.specs.declared.error.Error.{Error}
 use Rattle.fancy_regex.specs.declared.regexes.Regex.{Regex}
 use Rattle.fancy_grep.specs.Context.{AreRising, numbers_of}
 use Rattle.fancy_grep.specs.Lines.{Line, line_of, lines, lines_of}
-use Rattle.fancy_grep.specs.Matching.{Grows, IsRegexFor, StopsAt, TakesLine, is_selected, selected}
+use Rattle.fancy_grep.specs.Matching.{Grows, Helps, IsRegexFor, StopsAt, TakesLine, has_match, is_selected, selected}
+use Rattle.fancy_grep.specs.Occurrences.{sought, sought_in}
+use Rattle.fancy_grep.specs.Standing.{IsLineIn}
+use Rattle.fancy_grep.specs.declared.occurrences.Occurrences.{Occurrences}
 use Rattle.fancy_grep.specs.declared.lines.Line as code
 use Rattle.fancy_grep.proofs.LineLaws.{AreCounted, numbered_counts}
+use Rattle.fancy_grep.proofs.StandingLaws.{line_in_text}
 
 -- ---- the regex stays the same
 
@@ -68,78 +75,117 @@ module _ (i : Input) (o : List ℕ → plain.RunOptions) (inverted : Bool) where
   pub selected_with : (before : List Line) (line : Line) → selected i o inverted (before ++ line ∷ []) ≡ selected i o inverted before ++ selected i o inverted (line ∷ [])
   selected_with before line = filter-append (is_selected i o inverted) before (line ∷ [])
 
+-- ---- the literal that is looked for
+
+-- each match of the tree takes the literal, if there is one
+abbrev pub IsRequiredOf : Input → Option (Bor (List ℕ)) → Type 0
+IsRequiredOf i literal = IfSome literal (λ l. IsRequired l.now (i.parsed).tree)
+
+-- it is looked for in this text
+abbrev pub IsSoughtIn : Option (Bor (List ℕ)) → List ℕ → Option Occurrences → Type 0
+IsSoughtIn literal text o = sought_in o ≡ option_map (λ l. (l.now, text)) literal
+
+pub helps : (i : Input) (line : code.Line) (text : List ℕ) (literal : Option (Bor (List ℕ))) (o : Option Occurrences) →
+    IsSoughtIn literal text o → IsRequiredOf i literal → IsLineIn text (line_of line) → Helps i line o
+helps i line text literal None same required is = tt
+helps i line text None (Some s) same required is = absurd (none-some (sought s) (sym same))
+helps i line text (Some l) (Some s) same required is =
+    let both = same_Some (sought s) (l.now, text) same in (
+      subst (λ p. IsRequired p (i.parsed).tree) (sym (ap (λ p. p.0) both)) required,
+      subst (λ t. IsLineIn t (line_of line)) (sym (ap (λ p. p.1) both)) is,
+    )
+
+-- a line that is not searched has no match
+pub has_no_match : (i : Input) (o : List ℕ → plain.RunOptions) (literal line : List ℕ) → IsRequired literal (i.parsed).tree → Lacks literal line →
+    has_match i o line ≡ false
+has_no_match i o literal line required lacks = ap is_some (required i line (begun_at (o line) 0) refl lacks)
+
 -- ---- a search line by line
 
 -- So far the search of a text has come: these lines were found, the regex is so, and these lines of the text are left.
-pub record Searched (r : Regex) (inverted : Bool) (text : List ℕ) (lines : List code.Line) (s : Regex) (left : List Line) : Type 0 where
+pub record Searched (r : Regex) (literal : Option (Bor (List ℕ))) (inverted : Bool) (text : List ℕ) (lines : List code.Line) (s : Regex)
+    (now : Option Occurrences) (left : List Line) : Type 0 where
   pub before : List Line
   pub split : lines_of text ≡ before ++ left
-  pub selects : (i : Input) (o : List ℕ → plain.RunOptions) → IsRegexFor i o r → map line_of lines ≡ selected i o inverted before
+  pub selects : (i : Input) (o : List ℕ → plain.RunOptions) → IsRegexFor i o r → IsRequiredOf i literal →
+      map line_of lines ≡ selected i o inverted before
+  pub is_sought : IsSoughtIn literal text now
   pub next : ℕ
   pub counted : AreCounted next left
   pub rises : RiseTo 1 next (numbers_of lines)
   pub same : IsSame r s
 
 -- what is known of a line that was taken
-pub record Took (s : Regex) (inverted : Bool) (line : code.Line) (lines : List code.Line) (result : Result (Unit {0}) Error) (more : List code.Line) (t : Regex) :
-    Type 0 where
-  pub promise : (i : Input) (o : List ℕ → plain.RunOptions) → IsRegexFor i o s → TakesLine i o inverted line lines result more
+pub record Took (s : Regex) (now : Option Occurrences) (inverted : Bool) (line : code.Line) (lines : List code.Line)
+    (result : Result (Unit {0}) Error) (more : List code.Line) (t : Regex) (after : Option Occurrences) : Type 0 where
+  pub promise : (i : Input) (o : List ℕ → plain.RunOptions) → IsRegexFor i o s → Helps i line now → TakesLine i o inverted line lines result more
+  pub still : sought_in after ≡ sought_in now
   pub grows : Grows line lines more
   pub same : IsSame s t
 
-module _ (r : Regex) (inverted : Bool) (text : List ℕ) where
-  pub searched_none : (left : List Line) → left ≡ lines_of text → Searched r inverted text [] r left
-  searched_none left is = record {
+module _ (r : Regex) (literal : Option (Bor (List ℕ))) (inverted : Bool) (text : List ℕ) where
+  pub searched_none : (now : Option Occurrences) (left : List Line) → IsSoughtIn literal text now → left ≡ lines_of text →
+      Searched r literal inverted text [] r now left
+  searched_none now left same is = record {
     before = [];
     split = sym is;
-    selects = λ i o h. refl;
+    selects = λ i o h required. refl;
+    is_sought = same;
     next = 1;
     counted = subst (AreCounted 1) (sym is) (numbered_counts 1 0 (lines text));
     rises = omega arith;
     same = is_same r;
   }
 
-  module _ (lines more : List code.Line) (s t : Regex) (line : code.Line) (rest : List Line) where
-    pub searched_more : (u : Unit {0}) → Searched r inverted text lines s (line_of line ∷ rest) → Took s inverted line lines (Ok u) more t →
-        Searched r inverted text more t rest
-    searched_more u h took = record {
+  module _ (lines more : List code.Line) (s t : Regex) (now after : Option Occurrences) (line : code.Line) (rest : List Line)
+      (h : Searched r literal inverted text lines s now (line_of line ∷ rest)) where
+    -- the line stands in the text, so what is looked for helps
+    line_helps : (i : Input) → IsRequiredOf i literal → Helps i line now
+    line_helps i required =
+        helps i line text literal now h.is_sought required
+        (line_in_text text h.before 1 0 text (line_of line) rest (omega arith) refl h.split)
+
+    pub searched_more : (u : Unit {0}) → Took s now inverted line lines (Ok u) more t after →
+        Searched r literal inverted text more t after rest
+    searched_more u took = record {
       before = h.before ++ line_of line ∷ [];
       split = h.split ∙ sym (append_assoc h.before (line_of line ∷ []) rest);
-      selects = λ i o is.
-          took.promise i o (is_for_same i o r s h.same is)
-          ∙ ap (λ ls. ls ++ selected i o inverted (line_of line ∷ [])) (h.selects i o is)
+      selects = λ i o is required.
+          took.promise i o (is_for_same i o r s h.same is) (line_helps i required)
+          ∙ ap (λ ls. ls ++ selected i o inverted (line_of line ∷ [])) (h.selects i o is required)
           ∙ sym (selected_with i o inverted h.before (line_of line));
+      is_sought = took.still ∙ h.is_sought;
       next = suc h.next;
       counted = h.counted.1;
       rises = rises_with h.next line lines more h.counted.0 took.grows h.rises;
       same = is_same_still r s t h.same took.same;
     }
 
-    pub searched_stops : (e : Error) → Searched r inverted text lines s (line_of line ∷ rest) → Took s inverted line lines (Err e) more t →
-        (i : Input) (o : List ℕ → plain.RunOptions) → IsRegexFor i o r → StopsAt i o inverted text (map line_of more) line.number e
-    searched_stops e h took i o is =
-        let taken = took.promise i o (is_for_same i o r s h.same is) in record {
+    pub searched_stops : (e : Error) → Took s now inverted line lines (Err e) more t after →
+        (i : Input) (o : List ℕ → plain.RunOptions) → IsRegexFor i o r → IsRequiredOf i literal →
+        StopsAt i o inverted text (map line_of more) line.number e
+    searched_stops e took i o is required =
+        let taken = took.promise i o (is_for_same i o r s h.same is) (line_helps i required) in record {
           before = h.before;
           line = line_of line;
           after = rest;
           split = h.split;
           at = refl;
-          selects = ap (map line_of) taken.0 ∙ h.selects i o is;
+          selects = ap (map line_of) taken.0 ∙ h.selects i o is required;
           fails = taken.1;
         }
 
-    pub stopped_rises : (e : Error) → Searched r inverted text lines s (line_of line ∷ rest) → Took s inverted line lines (Err e) more t →
-        AreRising 1 (numbers_of more)
-    stopped_rises e h took = rise 1 (suc h.next) (numbers_of more) (rises_with h.next line lines more h.counted.0 took.grows h.rises)
+    pub stopped_rises : (e : Error) → Took s now inverted line lines (Err e) more t after → AreRising 1 (numbers_of more)
+    stopped_rises e took = rise 1 (suc h.next) (numbers_of more) (rises_with h.next line lines more h.counted.0 took.grows h.rises)
 
-    pub stopped_same : (e : Error) → Searched r inverted text lines s (line_of line ∷ rest) → Took s inverted line lines (Err e) more t → IsSame r t
-    stopped_same e h took = is_same_still r s t h.same took.same
+    pub stopped_same : (e : Error) → Took s now inverted line lines (Err e) more t after → IsSame r t
+    stopped_same e took = is_same_still r s t h.same took.same
 
-  module _ (lines : List code.Line) (s : Regex) (left : List Line) where
-    pub searched_all : Searched r inverted text lines s left → left ≡ [] → (i : Input) (o : List ℕ → plain.RunOptions) → IsRegexFor i o r →
-        map line_of lines ≡ selected i o inverted (lines_of text)
-    searched_all h none i o is =
-        h.selects i o is ∙ ap (selected i o inverted) (sym (append-nil h.before) ∙ sym (h.split ∙ ap (λ l. h.before ++ l) none))
+  module _ (lines : List code.Line) (s : Regex) (now : Option Occurrences) (left : List Line) where
+    pub searched_all : Searched r literal inverted text lines s now left → left ≡ [] → (i : Input) (o : List ℕ → plain.RunOptions) →
+        IsRegexFor i o r → IsRequiredOf i literal → map line_of lines ≡ selected i o inverted (lines_of text)
+    searched_all h none i o is required =
+        h.selects i o is required ∙ ap (selected i o inverted) (sym (append-nil h.before) ∙ sym (h.split ∙ ap (λ l. h.before ++ l) none))
 
-    pub all_rises : Searched r inverted text lines s left → AreRising 1 (numbers_of lines)
+    pub all_rises : Searched r literal inverted text lines s now left → AreRising 1 (numbers_of lines)
     all_rises h = rise 1 h.next (numbers_of lines) h.rises

@@ -1,5 +1,5 @@
 -- A walk over lines among those that are selected.
-use Rattle.std.proofs.Common.{◌≡◌, ℕ, zero, suc, ◌+◌, ◌≤◌, ◌<◌, ◌≢◌, Bool, true, false, ◌&&◌, ◌||◌, ◌==◌, nat_le, List, [], ◌∷◌, ◌++◌, append_assoc, append-nil, Option, None, Some, IfSome, if◌then◌else◌, length, nat_lt, map, filter, cond, refl, sym, ap, ap₂, subst, ◌∙◌, arith}
+use Rattle.std.proofs.Common.{◌≡◌, ℕ, suc, ◌+◌, ◌≤◌, ◌<◌, Bool, true, false, ◌&&◌, ◌||◌, ◌==◌, nat_le, List, [], ◌∷◌, ◌++◌, append_assoc, append-nil, Option, None, Some, IfSome, if◌then◌else◌, length, nat_lt, map, filter, cond, refl, sym, ap, ap₂, subst, ◌∙◌, arith}
 use Rattle.std.proofs.lemmas.Bool.{eq-eqb, eqb-true, eqb-false, lt-ltb, le-ltb, le-leb, lt-leb, ne_eqb, or_right, leb-true, leb-false, false≢true}
 use Rattle.std.proofs.lemmas.List.Folds.{list_any-append}
 use Rattle.fancy_grep.specs.Context.{AreRising, Stands, is_ahead, is_among, is_near, is_past, past, shown}

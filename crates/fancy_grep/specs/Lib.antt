@@ -1,6 +1,9 @@
 pub mod Context
 pub mod Lines
+pub mod Matchers
 pub mod Matching
+pub mod Occurrences
 pub mod Patterns
 pub mod Printing
 pub mod RegexOptions
+pub mod Standing

@@ -1,5 +1,5 @@
 -- The lines of a text.
-use Rattle.std.specs.Prelude.{ℕ, suc, ◌+◌, Bool, ◌==◌, List, [], ◌∷◌, length, if◌then◌else◌, map}
+use Rattle.std.specs.Prelude.{ℕ, suc, ◌+◌, Bool, ◌==◌, List, [], ◌∷◌, length, if◌then◌else◌}
 use Rattle.fancy_grep.specs.declared.lines.Line as code
 use Rattle.fancy_grep.specs.declared.lines.Lines as code_lines
 

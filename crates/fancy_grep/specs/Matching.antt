@@ -1,5 +1,5 @@
 -- Which lines of a text are selected: those in which there is a match, by what the engine promises of a search.
-use Rattle.std.specs.Prelude.{◌≡◌, ◌⊎◌, ℕ, Bool, not, List, [], ◌∷◌, ◌++◌, map, filter, MatchOption, Result, Ok, Err, is_some, if◌then◌else◌}
+use Rattle.std.specs.Prelude.{◌≡◌, ◌⊎◌, ℕ, Bool, not, List, [], ◌∷◌, ◌++◌, map, filter, IfSome, MatchOption, Option, Result, Ok, Err, is_some, if◌then◌else◌}
 use Rattle.fancy_meaning.specs.Answer.{answer, search_of}
 use Rattle.fancy_meaning.specs.Options as plain
 use Rattle.fancy_meaning.specs.Premises.{Input, plan}
@@ -7,7 +7,10 @@ use Rattle.fancy_matches.specs.Listing.{begun_at}
 use Rattle.fancy_regex.specs.Regexes.{FindsWhether, IsRegexOf}
 use Rattle.fancy_regex.specs.declared.error.Error.{Error}
 use Rattle.fancy_regex.specs.declared.regexes.Regex.{Regex}
+use Rattle.fancy_literals.specs.Required.{IsRequired}
 use Rattle.fancy_grep.specs.Lines.{Line, line_of, lines_of}
+use Rattle.fancy_grep.specs.Standing.{IsLineIn}
+use Rattle.fancy_grep.specs.declared.occurrences.Occurrences.{Occurrences}
 use Rattle.fancy_grep.specs.declared.lines.Line as code
 use Rattle.fancy_grep.specs.declared.matching.MatchingLines.{MatchingLines}
 
@@ -23,6 +26,10 @@ is_chosen inverted found = if inverted then not found else found
 abbrev pub Grows : code.Line → List code.Line → List code.Line → Type 0
 Grows line before after = (after ≡ before) ⊎ (after ≡ before ++ line ∷ [])
 
+-- The literal that is looked for is in each match of the tree, and the line stands in the text in which it is looked for.
+abbrev pub Helps : Input → code.Line → Option Occurrences → Type 0
+Helps i line literal = IfSome literal (λ s. IsRequired s.literal (i.parsed).tree × IsLineIn s.text.now (line_of line))
+
 module _ (i : Input) (o : List ℕ → plain.RunOptions) where
   -- the tree has an admitted match in the line, as a text of its own
   abbrev pub has_match : List ℕ → Bool
@@ -37,6 +44,11 @@ module _ (i : Input) (o : List ℕ → plain.RunOptions) where
   -- The search of the line answers this error, as is promised.
   abbrev pub FailsOn : List ℕ → Error → Type 0
   FailsOn line e = FindsWhether i line (begun_at (o line) 0) (Err e)
+
+  -- It is told whether the line has a match, or its search fails.
+  abbrev pub TellsMatch : List ℕ → Result Bool Error → Type 0
+  TellsMatch line (Ok found) = found ≡ has_match line
+  TellsMatch line (Err e) = FailsOn line e
 
   -- Of a line: it is added where it is selected, or its search fails and nothing is added.
   abbrev pub TakesLine : Bool → code.Line → List code.Line → Result (Unit {0}) Error → List code.Line → Type 0

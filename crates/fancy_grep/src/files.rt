@@ -1,10 +1,10 @@
 //! A search of files, folders and standard input.
 
 use crate::matching::Failure;
-use crate::patterns::{PatternOptions, regex_of};
+use crate::patterns::{Matcher, PatternOptions, matcher_of};
 use crate::reports::{Source, report};
 use crate::settings::Settings;
-use fancy_regex::{Error, Regex};
+use fancy_regex::Error;
 use memchr::memchr;
 use std::alloc::AllocError;
 use std::io::{ErrorKind, Read, Write};
@@ -72,7 +72,7 @@ impl Progress {
 fn search_text(
     rt: &HostRuntime,
     progress: &mut Progress,
-    regex: &mut Regex,
+    matcher: &mut Matcher,
     settings: &Settings<'_>,
     name: &str,
     text: &str,
@@ -83,7 +83,7 @@ fn search_text(
         text,
         is_first: !progress.is_selected,
     };
-    let outcome = report(rt.alloc(), &mut out, regex, settings, source);
+    let outcome = report(rt.alloc(), &mut out, matcher, settings, source);
     progress.is_selected = progress.is_selected || outcome.is_selected;
     progress.write(rt, out.as_str());
     if let Some(failure) = &outcome.failure {
@@ -95,7 +95,7 @@ fn search_text(
 fn search_bytes(
     rt: &HostRuntime,
     progress: &mut Progress,
-    regex: &mut Regex,
+    matcher: &mut Matcher,
     settings: &Settings<'_>,
     name: &str,
     bytes: &[u8],
@@ -104,7 +104,7 @@ fn search_bytes(
         return;
     }
     match str::from_utf8(bytes) {
-        Ok(text) => search_text(rt, progress, regex, settings, name, text),
+        Ok(text) => search_text(rt, progress, matcher, settings, name, text),
         Err(_) => progress.fail_text(rt, name),
     }
 }
@@ -131,12 +131,12 @@ fn name_of(path: &str) -> &str {
 fn search_file(
     rt: &HostRuntime,
     progress: &mut Progress,
-    regex: &mut Regex,
+    matcher: &mut Matcher,
     settings: &Settings<'_>,
     path: &str,
 ) {
     match read(rt, path) {
-        Ok(bytes) => search_bytes(rt, progress, regex, settings, name_of(path), &bytes),
+        Ok(bytes) => search_bytes(rt, progress, matcher, settings, name_of(path), &bytes),
         Err(error) => progress.fail(rt, name_of(path), &error),
     }
 }
@@ -166,13 +166,13 @@ fn entries(rt: &HostRuntime, folder: &str) -> io::Result<Vec<String>> {
 fn search_entry(
     rt: &HostRuntime,
     progress: &mut Progress,
-    regex: &mut Regex,
+    matcher: &mut Matcher,
     settings: &Settings<'_>,
     path: &str,
     left: &mut Vec<String>,
 ) -> Result<(), AllocError> {
     if !path.ends_with('/') {
-        search_file(rt, progress, regex, settings, path);
+        search_file(rt, progress, matcher, settings, path);
         return Ok(());
     }
     match entries(rt, path) {
@@ -190,7 +190,7 @@ fn search_entry(
 fn search_folder(
     rt: &HostRuntime,
     progress: &mut Progress,
-    regex: &mut Regex,
+    matcher: &mut Matcher,
     settings: &Settings<'_>,
     folder: &str,
 ) -> Result<(), AllocError> {
@@ -203,7 +203,7 @@ fn search_folder(
     for _ in 0..u64::MAX {
         match left.pop() {
             Some(path) if !progress.is_closed => {
-                search_entry(rt, progress, regex, &settings, path.as_str(), &mut left)?;
+                search_entry(rt, progress, matcher, &settings, path.as_str(), &mut left)?;
             }
             _ => break,
         }
@@ -223,7 +223,7 @@ fn is_folder(rt: &HostRuntime, path: &str) -> bool {
 fn search_paths(
     rt: &HostRuntime,
     progress: &mut Progress,
-    regex: &mut Regex,
+    matcher: &mut Matcher,
     settings: &Settings<'_>,
     paths: &[&str],
 ) -> Result<(), AllocError> {
@@ -232,9 +232,9 @@ fn search_paths(
             break;
         }
         if settings.is_recursive && *path != "-" && is_folder(rt, path) {
-            search_folder(rt, progress, regex, settings, path)?;
+            search_folder(rt, progress, matcher, settings, path)?;
         } else {
-            search_file(rt, progress, regex, settings, path);
+            search_file(rt, progress, matcher, settings, path);
         }
     }
     Ok(())
@@ -256,8 +256,8 @@ fn refuse(rt: &HostRuntime, pattern: &str, options: PatternOptions, error: Error
 /// Searches files, and answers the status of the program: 0 where a line is selected, 1 where none is, and 2 where
 /// something failed, which is told on standard error.
 pub fn search(rt: &HostRuntime, pattern: &str, settings: &Settings<'_>, paths: &[&str]) -> u8 {
-    let mut regex = match regex_of(rt.alloc(), pattern, settings.pattern) {
-        Ok(regex) => regex,
+    let mut matcher = match matcher_of(rt.alloc(), pattern, settings.pattern) {
+        Ok(matcher) => matcher,
         Err(error) => return refuse(rt, pattern, settings.pattern, error),
     };
     let mut progress = Progress {
@@ -265,7 +265,7 @@ pub fn search(rt: &HostRuntime, pattern: &str, settings: &Settings<'_>, paths: &
         has_failed: false,
         is_closed: false,
     };
-    if search_paths(rt, &mut progress, &mut regex, settings, paths).is_err() {
+    if search_paths(rt, &mut progress, &mut matcher, settings, paths).is_err() {
         let _unwritten = eprintln!(rt; "fancygrep: memory ran out");
         return 2;
     }

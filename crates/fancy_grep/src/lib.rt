@@ -5,6 +5,7 @@ pub mod context;
 pub mod files;
 pub mod lines;
 pub mod matching;
+pub mod occurrences;
 pub mod patterns;
 pub mod printing;
 pub mod reports;

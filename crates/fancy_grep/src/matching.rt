@@ -1,13 +1,16 @@
 //! The lines in which a regex has a match.
 
-ghost use Rattle.std.specs.Prelude.{◌≡◌, ℕ, List, string_bytes};
+ghost use Rattle.std.specs.Prelude.{◌≡◌, false, ℕ, IfSome, List, option_map, string_bytes};
 ghost use Rattle.fancy_meaning.specs.Options as plain;
 ghost use Rattle.fancy_meaning.specs.Premises.{Input};
 ghost use Rattle.fancy_regex.specs.Regexes.{IsSame};
 ghost use Rattle.fancy_grep.specs.Context.{AreRising, numbers_of};
-ghost use Rattle.fancy_grep.specs.Matching.{Grows, IsRegexFor, Selects, TakesLine, is_chosen};
+ghost use Rattle.fancy_literals.specs.Required.{IsRequired};
+ghost use Rattle.fancy_grep.specs.Matching.{Grows, Helps, IsRegexFor, Selects, TakesLine, TellsMatch, has_match, is_chosen};
+ghost use Rattle.fancy_grep.specs.Occurrences.{sought_in};
 
 use crate::lines::{Line, Lines};
+use crate::occurrences::Occurrences;
 use fancy_regex::{Error, Regex};
 use std::alloc::Global;
 
@@ -33,21 +36,60 @@ fn is_chosen(inverted: bool, found: bool) -> bool
     if inverted { !found } else { found }
 }
 
+/// Whether a line may have a match: the literal that is looked for may stand in it, or there is none.
+fn may_match(literal: &mut Option<Occurrences<'_, '_>>, line: Line<'_>) -> bool
+    ensures none { (i : Input)
+        → (o : List ℕ → plain.RunOptions)
+        → Helps i line.entry literal.old
+        → result ≡ false
+        → has_match i o line.entry.text.now ≡ false }
+    ensures sought { sought_in literal.new ≡ sought_in literal.old }
+{
+    match literal {
+        Some(occurrences) => occurrences.may_stand_in(line),
+        None => true,
+    }
+}
+
+/// Whether a line has a match. It is not searched where the literal that is looked for does not stand in it.
+fn has_match(
+    regex: &mut Regex,
+    literal: &mut Option<Occurrences<'_, '_>>,
+    line: Line<'_>,
+) -> Result<bool, Error>
+    ensures promise { (i : Input)
+        → (o : List ℕ → plain.RunOptions)
+        → IsRegexFor i o regex.old
+        → Helps i line.entry literal.old
+        → TellsMatch i o line.entry.text.now result }
+    ensures sought { sought_in literal.new ≡ sought_in literal.old }
+    ensures same { IsSame regex.old regex.new }
+{
+    if may_match(literal, line) {
+        regex.is_match(line.text)
+    } else {
+        Ok(false)
+    }
+}
+
 /// Searches a line, and adds it where it is selected.
 fn take<'t>(
     lines: &mut Vec<Line<'t>>,
     regex: &mut Regex,
+    literal: &mut Option<Occurrences<'_, '_>>,
     line: Line<'t>,
     inverted: bool,
 ) -> Result<(), Error>
     ensures promise { (i : Input)
         → (o : List ℕ → plain.RunOptions)
         → IsRegexFor i o regex.old
+        → Helps i line.entry literal.old
         → TakesLine i o inverted line.entry lines.old.items result lines.new.items }
     ensures grows { Grows line.entry lines.old.items lines.new.items }
+    ensures sought { sought_in literal.new ≡ sought_in literal.old }
     ensures same { IsSame regex.old regex.new }
 {
-    let found = regex.is_match(line.text)?;
+    let found = has_match(regex, literal, line)?;
     if is_chosen(inverted, found) {
         lines.push(line)?;
     }
@@ -56,24 +98,28 @@ fn take<'t>(
 
 /// The lines of a text in which the regex has a match, or under `inverted` those in which it has none.
 ///
-/// Each line is searched as a text of its own, without its `\n`. An error of a search, or want of memory, ends the list
-/// at that line.
+/// Each line is searched as a text of its own, without its `\n`. Where a literal is known that each match takes, it is
+/// looked for in the whole text, and the lines without it are not searched. An error of a search, or want of memory, ends
+/// the list at that line.
 pub fn matching_lines<'t>(
     alloc: Global,
     regex: &mut Regex,
+    literal: Option<&str>,
     text: &'t str,
     inverted: bool,
 ) -> MatchingLines<'t>
     ensures promise { (i : Input)
         → (o : List ℕ → plain.RunOptions)
         → IsRegexFor i o regex.old
+        → IfSome literal.entry (λ l. IsRequired l.now (i.parsed).tree)
         → Selects i o inverted text.now result }
     ensures rising { AreRising 1 (numbers_of result.lines.items) }
     ensures same { IsSame regex.old regex.new }
 {
     let mut lines = Vec::new(alloc);
+    let mut occurrences = occurrences_of(literal, text);
     for line in Lines::new(text) {
-        if let Err(error) = take(&mut lines, regex, line, inverted) {
+        if let Err(error) = take(&mut lines, regex, &mut occurrences, line, inverted) {
             let failure = Some(Failure {
                 number: line.number,
                 error,
@@ -84,5 +130,15 @@ pub fn matching_lines<'t>(
     MatchingLines {
         lines,
         failure: None,
+    }
+}
+
+/// Where the literal stands in the text, if there is one.
+fn occurrences_of<'t, 'l>(literal: Option<&'l str>, text: &'t str) -> Option<Occurrences<'t, 'l>>
+    ensures { sought_in result ≡ option_map (λ l. (l.now, text.entry.now)) literal.entry }
+{
+    match literal {
+        Some(literal) => Some(Occurrences::new(literal, text)),
+        None => None,
     }
 }

@@ -1,10 +1,16 @@
 //! From a pattern with its options to a regex.
 
 ghost use Rattle.std.specs.Prelude.{◌≡◌, IfOk, MatchResult, string_bytes};
-ghost use Rattle.fancy_regex.specs.Builders.{IsBuilt, IsRefused};
+ghost use Rattle.fancy_expr.specs.declared.expr.ExprTree.{ExprTree};
+ghost use Rattle.fancy_regex.specs.Builders.{IsBuilt, IsRefused, IsTreeOf};
+ghost use Rattle.fancy_grep.specs.Matchers.{IsMatcherOf, IsRequiredIn};
 ghost use Rattle.fancy_grep.specs.Patterns.{asked, wrapped};
 ghost use Rattle.fancy_grep.specs.RegexOptions.{options_for};
 
+use fancy_literals::required::required_literal;
+use fancy_pattern::error::PatternError;
+use fancy_pattern::options::ParseOptions;
+use fancy_pattern::pattern::parse_tree;
 use fancy_regex::{Error, Regex, RegexBuilder, escape};
 use std::alloc::{AllocError, Global};
 
@@ -41,6 +47,27 @@ pub struct PatternOptions {
     pub visit_limit: usize,
     /// How many bytes it may keep for them at one time.
     pub memory_limit: usize,
+}
+
+impl PatternOptions {
+    ghost use Rattle.fancy_grep.specs.RegexOptions.{options_for};
+
+    /// How the pattern is read to a tree.
+    fn parsing(self) -> ParseOptions
+        ensures { result ≡ (options_for self).parsing }
+    {
+        ParseOptions {
+            case_insensitive: self.case_insensitive,
+            multi_line: false,
+            dot_matches_new_line: false,
+            ignore_whitespace: false,
+            crlf: false,
+            swap_greed: false,
+            unicode: true,
+            oniguruma: false,
+            ignore_numbered_groups_when_named_groups_exist: false,
+        }
+    }
 }
 
 /// The pattern for matches that are such parts of a line.
@@ -83,16 +110,35 @@ fn asked(alloc: Global, pattern: &str, options: PatternOptions) -> Result<String
     }
 }
 
-/// The regex of a pattern with its options, and the pattern that it was made of.
+/// What is searched for in each line.
+#[derive(Drop)]
+pub struct Matcher {
+    pub regex: Regex,
+    /// A literal that each match takes, if one is known.
+    pub literal: Option<String>,
+}
+
+/// The regex of a pattern with its options, and a literal that each match takes.
 ///
 /// It is refused as `RegexBuilder::build` refuses that pattern. Want of memory is `Error::Memory`.
-pub fn regex_of(alloc: Global, pattern: &str, options: PatternOptions) -> Result<Regex, Error>
+pub fn matcher_of(alloc: Global, pattern: &str, options: PatternOptions) -> Result<Matcher, Error>
     ensures { MatchResult result
-        (IsBuilt (asked options pattern.now) (options_for options))
+        (IsMatcherOf (asked options pattern.now) (options_for options))
         (IsRefused (asked options pattern.now) (options_for options)) }
 {
     let whole = asked(alloc, pattern, options)?;
-    RegexBuilder::new(whole.as_str())
+    let regex = regex_of(alloc, whole.as_str(), options)?;
+    let literal = literal_of(alloc, whole.as_str(), options)?;
+    Ok(Matcher { regex, literal })
+}
+
+/// The regex of the pattern that is asked for.
+fn regex_of(alloc: Global, pattern: &str, options: PatternOptions) -> Result<Regex, Error>
+    ensures { MatchResult result
+        (IsBuilt pattern.now (options_for options))
+        (IsRefused pattern.now (options_for options)) }
+{
+    RegexBuilder::new(pattern)
         .case_insensitive(options.case_insensitive)
         .leftmost_longest(options.longest)
         .max_prog_size(None)
@@ -100,4 +146,21 @@ pub fn regex_of(alloc: Global, pattern: &str, options: PatternOptions) -> Result
         .visit_limit(Some(options.visit_limit))
         .memory_limit(Some(options.memory_limit))
         .build(alloc)
+}
+
+/// A literal that each match of the pattern takes, if one is known.
+fn literal_of(
+    alloc: Global,
+    pattern: &str,
+    options: PatternOptions,
+) -> Result<Option<String>, AllocError>
+    ensures { IfOk result (λ literal. (tree : ExprTree)
+        → IsTreeOf pattern.now (options_for options) tree
+        → IsRequiredIn tree literal) }
+{
+    match parse_tree(alloc, pattern, options.parsing()) {
+        Ok(tree) => required_literal(alloc, &tree.expr),
+        Err(PatternError::Memory) => Err(AllocError),
+        Err(PatternError::Parse { .. }) => Ok(None),
+    }
 }

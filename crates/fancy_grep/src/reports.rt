@@ -5,6 +5,7 @@ ghost use Rattle.fancy_grep.specs.Context.{AreRising, numbers_of};
 use crate::context::{Shown, with_context};
 use crate::lines::Line;
 use crate::matching::{Failure, MatchingLines, matching_lines};
+use crate::patterns::Matcher;
 use crate::printing::{MATCH, NAME, SEPARATOR, Style, push_name, push_painted, push_prefix};
 use crate::settings::{Report, Settings};
 use fancy_regex::{Error, Match, Regex};
@@ -342,7 +343,7 @@ fn push_report(
 pub fn report(
     alloc: Global,
     out: &mut String,
-    regex: &mut Regex,
+    matcher: &mut Matcher,
     settings: &Settings<'_>,
     source: Source<'_>,
 ) -> Outcome {
@@ -353,11 +354,20 @@ pub fn report(
     };
     let MatchingLines { lines, failure } = matching_lines(
         alloc,
-        regex,
+        &mut matcher.regex,
+        matcher.literal.as_deref(),
         source.text,
         settings.inverted,
     );
-    let pushed = push_report(alloc, out, regex, settings, style, source, &lines);
+    let pushed = push_report(
+        alloc,
+        out,
+        &mut matcher.regex,
+        settings,
+        style,
+        source,
+        &lines,
+    );
     Outcome {
         is_selected: !lines.is_empty(),
         failure: pushed.err().or(failure),

@@ -1,7 +1,7 @@
-use Rattle.std.proofs.Common.{◌≡◌, ◌++◌, ◌∷◌, [], ℕ, suc, true, false, map, refl, sym, ap, ◌∙◌, subst}
+use Rattle.std.proofs.Common.{◌≡◌, ◌++◌, ◌∷◌, suc, true, false, map, refl, sym, ap, ◌∙◌, subst}
 use Rattle.std.proofs.lemmas.List.{map-append}
-use Rattle.fancy_grep.specs.Context.{IsAt, is_among, is_near, numbers_of, shown, shown_of}
-use Rattle.fancy_grep.specs.Lines.{lines, line_of, lines_left, lines_of}
+use Rattle.fancy_grep.specs.Context.{IsAt, is_near, numbers_of, shown, shown_of}
+use Rattle.fancy_grep.specs.Lines.{lines, line_of, lines_left}
 use Rattle.fancy_grep.proofs.LineLaws.{AreCounted, numbered_counts}
 use Rattle.fancy_grep.proofs.WalkLaws.{all_shown, at_start, near_by, none_more, one_more}
 use Rattle.fancy_grep.proofs.context.with_context.Goals as goal

@@ -1,7 +1,7 @@
-use Rattle.std.proofs.Common.{◌≡◌, ℕ, Bool, List, Option, Some, if◌then◌else◌, length, nat_lt, sym, ap, ap₂, ◌∙◌, subst}
+use Rattle.std.proofs.Common.{◌≡◌, Bool, Some, if◌then◌else◌, length, nat_lt, sym, ap, ap₂, ◌∙◌, subst}
 use Rattle.std.proofs.lemmas.Bool.{lt-ltb, le-ltb}
 use Rattle.std.proofs.lemmas.List.{length-map}
-use Rattle.fancy_grep.specs.Context.{is_among, numbers_of, past}
+use Rattle.fancy_grep.specs.Context.{numbers_of}
 use Rattle.fancy_grep.proofs.WalkLaws.{Comes, comes}
 use Rattle.fancy_grep.proofs.context.Walk.come_to.Goals as goal
 use Rattle.fancy_grep.proofs.context.Walk.come_to.Goals.{then-is_selected, else-is_selected}

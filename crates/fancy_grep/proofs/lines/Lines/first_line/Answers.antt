@@ -1,4 +1,4 @@
-use Rattle.std.proofs.Common.{◌≡◌, ◌+◌, sym, subst, ap, ◌∙◌, eqb-true, take, drop, arith}
+use Rattle.std.proofs.Common.{◌+◌, sym, subst, ap, ◌∙◌, eqb-true, take, drop, arith}
 use Rattle.std.specs.Str.{IsUtf8}
 use Rattle.std.proofs.lemmas.Str.{IsCharBoundary-after_ascii}
 use Rattle.fancy_grep.proofs.LineLaws.{HasNoNewline, IsFirstNewline, all_before, newline_at, nothing_after}

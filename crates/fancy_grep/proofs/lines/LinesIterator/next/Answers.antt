@@ -1,7 +1,6 @@
-use Rattle.std.proofs.Common.{◌<◌, ◌+◌, ◌-◌, ◌∷◌, length, sym, ap, ◌∙◌, ap₂, arith, eqb-true}
+use Rattle.std.proofs.Common.{◌+◌, ◌-◌, ◌∷◌, length, sym, ap, ◌∙◌, ap₂, arith, eqb-true}
 use Rattle.std.proofs.lemmas.Bool.{eqb-false}
-use Rattle.std.specs.List.{after_first, before_first}
-use Rattle.fancy_grep.specs.Lines.{Line, is_newline, lines, numbered}
+use Rattle.fancy_grep.specs.Lines.{lines, numbered}
 use Rattle.fancy_grep.proofs.LineLaws.{none_left, numbered_step}
 use Rattle.fancy_grep.proofs.lines.LinesIterator.next.Goals as goal
 

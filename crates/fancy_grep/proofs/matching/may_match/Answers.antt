@@ -1,0 +1,9 @@
+use Rattle.std.proofs.Common.{subst}
+use Rattle.fancy_grep.specs.Matching.{Helps}
+use Rattle.fancy_grep.proofs.MatchingLaws.{has_no_match}
+use Rattle.fancy_grep.proofs.matching.may_match.Goals as goal
+
+pub returns-in-Some-clause-none : goal.returns-in-Some-clause-none
+returns-in-Some-clause-none c = λ i o h e.
+    let both = subst (Helps i c.args.line) c.in-Some.is h in
+    has_no_match i o c.in-Some.occurrences.literal c.args.line.text.now both.0 (c.may_stand_in.ensures.lacks both.1 e)

@@ -1,0 +1,2 @@
+pub mod RequiredLaw
+pub mod TakenLaws

@@ -1,0 +1,4 @@
+//! The literals of a tree: see README.md.
+#![tactic(auto)]
+
+pub mod required;

@@ -1,0 +1,168 @@
+//! A literal that each match of a tree takes.
+
+ghost use Rattle.std.specs.Prelude.{◌≡◌, ◌⊎◌, [], Some, IfOk, IfSome, false, map, string_bytes};
+ghost use Rattle.fancy_meaning.specs.Tree.{Literal};
+ghost use Rattle.fancy_expr.specs.Views.{tree_of};
+ghost use Rattle.fancy_literals.specs.Required.{IsRequired};
+ghost use Rattle.fancy_literals.specs.Takes.{IsTaken, Takes};
+
+use fancy_expr::expr::{Expr, LookAround};
+use std::alloc::{AllocError, Global};
+use std::mem;
+
+/// A literal that each match of the tree takes, in UTF-8: the longest that is known, if one is.
+///
+/// A text in which it does not stand has no match, wherever a search begins. What a look-around asks for counts too.
+/// Literals that are folded, and those of alternatives, are not looked at. The only error is want of memory.
+pub fn required_literal(alloc: Global, expr: &Expr) -> Result<Option<String>, AllocError>
+    ensures { IfOk result (λ found. IfSome found (λ literal.
+        IsRequired (string_bytes literal) (tree_of expr.now))) }
+{
+    taken_by(alloc, expr)
+}
+
+/// A literal that each way of the node takes.
+#[cycle(taken)]
+fn taken_by(alloc: Global, expr: &Expr) -> Result<Option<String>, AllocError>
+    ensures { IfOk result (λ found. IfSome found (λ literal.
+        Takes (string_bytes literal) (tree_of expr.now))) }
+{
+    match expr {
+        Expr::Concat(parts) => taken_by_parts(alloc, parts),
+        Expr::Group(body) => taken_by(alloc, body),
+        Expr::AtomicGroup(body) => taken_by(alloc, body),
+        Expr::Repeat { child, lo, .. } => {
+            if *lo > 0 {
+                taken_by(alloc, child)
+            } else {
+                Ok(None)
+            }
+        }
+        Expr::LookAround(body, look) => match look {
+            LookAround::LookAhead => taken_by(alloc, body),
+            LookAround::LookBehind => taken_by(alloc, body),
+            _ => Ok(None),
+        },
+        _ => taken_by_itself(alloc, expr),
+    }
+}
+
+/// A literal that each way of the nodes takes, one after the other: the longest of literals in a row, and of what each
+/// node takes.
+#[cycle(taken)]
+fn taken_by_parts(alloc: Global, parts: &[Expr]) -> Result<Option<String>, AllocError>
+    ensures { IfOk result (λ found. IfSome found (λ literal.
+        IsTaken (string_bytes literal) (map tree_of parts.now))) }
+{
+    let mut literals = Literals::new(alloc);
+    for part in parts {
+        match character_of(part) {
+            Some(character) => literals.push(character)?,
+            None => literals.end_row(alloc, taken_by(alloc, part)?),
+        }
+    }
+    Ok(literals.longest())
+}
+
+/// What neighbours take, as far as they were read.
+#[derive(Drop)]
+struct Literals {
+    /// The longest literal that they take, if one is known.
+    longest: Option<String>,
+    /// The literals in a row at the end.
+    row: String,
+}
+
+impl Literals {
+    ghost use Rattle.std.specs.Prelude.{◌++◌, ◌∷◌, [], List};
+    ghost use Rattle.fancy_meaning.specs.Tree.{Tree};
+    ghost use Rattle.fancy_literals.specs.Takes.{AreRead, Takes, literal};
+
+    fn new(alloc: Global) -> Literals
+        ensures { AreRead result [] }
+    {
+        Literals {
+            longest: None,
+            row: String::new(alloc),
+        }
+    }
+
+    /// Reads a literal.
+    fn push(&mut self, character: char) -> Result<(), AllocError>
+        ensures { (es : List Tree)
+            → AreRead self.old es
+            → IfOk result (λ u. AreRead self.new (es ++ literal character ∷ [])) }
+    {
+        self.row.push(character)
+    }
+
+    /// Reads a node that takes this literal, if one is known.
+    fn end_row(&mut self, alloc: Global, taken: Option<String>)
+        ensures { (es : List Tree)
+            → (e : Tree)
+            → AreRead self.old es
+            → IfSome taken (λ s. Takes (string_bytes s) e)
+            → AreRead self.new (es ++ e ∷ []) }
+    {
+        let row = mem::replace(&mut self.row, String::new(alloc));
+        let longest = longer(self.longest.take(), row);
+        self.longest = longer_of_both(longest, taken);
+    }
+
+    /// The longest literal that the nodes take, if one is known.
+    fn longest(self) -> Option<String>
+        ensures { (es : List Tree)
+            → AreRead self es
+            → IfSome result (λ literal. IsTaken (string_bytes literal) es) }
+    {
+        longer(self.longest, self.row)
+    }
+}
+
+/// The node's character, where it is a literal that is not folded.
+fn character_of(expr: &Expr) -> Option<char>
+    ensures { IfSome result (λ c. tree_of expr.now ≡ Literal c false) }
+{
+    match expr {
+        Expr::Literal { val, casei } => { if *casei { None } else { val.chars().next() } }
+        _ => None,
+    }
+}
+
+/// The node's character as a literal, where it is one.
+fn taken_by_itself(alloc: Global, expr: &Expr) -> Result<Option<String>, AllocError>
+    ensures { IfOk result (λ found. IfSome found (λ literal.
+        Takes (string_bytes literal) (tree_of expr.now))) }
+{
+    let Some(character) = character_of(expr) else {
+        return Ok(None);
+    };
+    let mut literal = String::new(alloc);
+    literal.push(character)?;
+    Ok(Some(literal))
+}
+
+/// The longer one; the first among equals, and none where both are empty.
+fn longer(longest: Option<String>, literal: String) -> Option<String>
+    ensures { IfSome result (λ s. (longest ≡ Some s)
+        ⊎ ((s ≡ literal) × (string_bytes literal ≡ [] → ⊥))) }
+{
+    match longest {
+        Some(longest) if longest.len() >= literal.len() => Some(longest),
+        longest => if literal.is_empty() {
+            longest
+        } else {
+            Some(literal)
+        },
+    }
+}
+
+/// The longer one of those that there are.
+fn longer_of_both(longest: Option<String>, literal: Option<String>) -> Option<String>
+    ensures { IfSome result (λ s. (longest ≡ Some s) ⊎ (literal ≡ Some s)) }
+{
+    match literal {
+        Some(literal) => longer(longest, literal),
+        None => longest,
+    }
+}
