@@ -138,7 +138,8 @@ abbrev pub IsNoLimit : Error → Type 0
 IsNoLimit (error.RuntimeError limit) = ⊥
 IsNoLimit e = Unit {0}
 
--- Where no limit was asked and the whole tree is easy, no limit is passed in a text of fewer than 2 ^ 60 bytes.
+-- Where no limit of backtracks or instructions was asked and the whole tree is easy, neither is passed in a text of fewer
+-- than 2 ^ 60 bytes.
 abbrev pub IsNoLimitWhereEasy : Regex → List ℕ → Error → Type 0
 IsNoLimitWhereEasy r text e =
     (i : Input) → IsCompiledFrom i (compiled_of r) → IsFalse (is_root_hard (plan i).analysis) → HasNoLimits r →
