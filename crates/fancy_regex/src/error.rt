@@ -114,7 +114,7 @@ impl fmt::Display for Error {
             Error::RuntimeError(error) => write!(f, "{error}"),
             Error::NestLimitExceeded => write!(f, "the pattern nests deeper than the limit"),
             Error::VisitLimitExceeded => write!(f, "too many states were visited"),
-            Error::MemoryLimitExceeded => write!(f, "too many bytes were kept"),
+            Error::MemoryLimitExceeded => write!(f, "too much memory was held"),
             Error::Memory => write!(f, "memory ran out"),
         }
     }

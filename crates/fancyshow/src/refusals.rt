@@ -56,7 +56,7 @@ fn passed_text(limit: SearchLimit) -> &'static str {
             "too many states were visited (VisitLimitExceeded)\n  --visits N allows more"
         }
         SearchLimit::Bytes => {
-            "too many bytes were kept (MemoryLimitExceeded)\n  --memory BYTES allows more"
+            "too much memory was held (MemoryLimitExceeded)\n  --memory BYTES allows more"
         }
     }
 }
