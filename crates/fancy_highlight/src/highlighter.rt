@@ -49,7 +49,9 @@ impl Highlighter {
     pub fn highlight(&mut self, text: &str) -> Result<Highlights, HighlightError>
         ensures covers { IfOk result (λ highlights. Covers text.now highlights.tokens.items) }
     {
-        let scan = self.scanner.scan(text);
-        Run::new(self.alloc, &self.grammar, scan, &mut self.ends)?.finish()
+        let mut cache = self.scanner.create_cache();
+        let scan = self.scanner.scan(text, &mut cache);
+        let run = Run::new(self.alloc, &self.grammar, scan, &mut self.ends)?;
+        run.finish()
     }
 }

@@ -2,6 +2,7 @@
 use Rattle.std.specs.Prelude.{ℕ, List, [], ◌∷◌, codes, slice_index_or}
 use Rattle.fancy_expr.specs.declared.error.Error.{Error}
 use Rattle.fancy_expr.specs.declared.error.Error.TheVariants as error
+use Rattle.fancy_expr.specs.declared.error.RuntimeError.{RuntimeError}
 use Rattle.fancy_expr.specs.declared.error.RuntimeError.TheVariants as limit
 use Rattle.fancy_expr.specs.declared.error.CompileError.{CompileError}
 use Rattle.fancy_expr.specs.declared.error.CompileError.TheVariants as refusal
@@ -52,12 +53,16 @@ code_of_refusal (refusal.InnerError text) = 18
 code_of_refusal (refusal.ClassTooBig text) = 19
 code_of_refusal refusal.PatternTooComplex = 20
 
+-- a limit of backtracks, branches or instructions
+abbrev pub code_of_run : RuntimeError → ℕ
+code_of_run limit.BacktrackLimitExceeded = 7
+code_of_run limit.StackOverflow = 8
+code_of_run limit.StepLimitExceeded = 9
+
 abbrev pub code_of : Error → ℕ
 code_of error.Memory = 5
 code_of (error.TreeFault at) = 6
-code_of (error.RuntimeError limit.BacktrackLimitExceeded) = 7
-code_of (error.RuntimeError limit.StackOverflow) = 8
-code_of (error.RuntimeError limit.StepLimitExceeded) = 9
+code_of (error.RuntimeError e) = code_of_run e
 code_of (error.CompileError e) = code_of_refusal e
 code_of error.NestLimitExceeded = 22
 
@@ -68,11 +73,9 @@ code_of_limit search.Bytes = 42
 
 -- a limit that stopped the search for a pattern of a scanner
 abbrev pub code_of_scan_limit : ScanLimit → ℕ
-code_of_scan_limit scan.BacktrackLimitExceeded = 7
-code_of_scan_limit scan.StackOverflow = 8
-code_of_scan_limit scan.StepLimitExceeded = 9
-code_of_scan_limit scan.VisitLimitExceeded = 41
-code_of_scan_limit scan.MemoryLimitExceeded = 42
+code_of_scan_limit (scan.RuntimeError e) = code_of_run e
+code_of_scan_limit scan.VisitLimitExceeded = code_of_limit search.Visits
+code_of_scan_limit scan.MemoryLimitExceeded = code_of_limit search.Bytes
 
 -- what is wrong with a pattern
 abbrev pub code_of_kind : ErrorKind → ℕ

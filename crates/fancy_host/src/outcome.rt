@@ -65,6 +65,17 @@ fn code_of_refusal(error: &CompileError) -> u32
     }
 }
 
+/// The code of a limit of backtracks, branches or instructions.
+fn code_of_run(limit: RuntimeError) -> u32
+    ensures { result ≡ codes.code_of_run limit }
+{
+    match limit {
+        RuntimeError::BacktrackLimitExceeded => 7,
+        RuntimeError::StackOverflow => 8,
+        RuntimeError::StepLimitExceeded => 9,
+    }
+}
+
 /// The code of an error.
 fn code_of(error: &Error) -> u32
     ensures { result ≡ codes.code_of error.now }
@@ -72,9 +83,7 @@ fn code_of(error: &Error) -> u32
     match error {
         Error::Memory => 5,
         Error::TreeFault { .. } => 6,
-        Error::RuntimeError(RuntimeError::BacktrackLimitExceeded) => 7,
-        Error::RuntimeError(RuntimeError::StackOverflow) => 8,
-        Error::RuntimeError(RuntimeError::StepLimitExceeded) => 9,
+        Error::RuntimeError(limit) => code_of_run(*limit),
         Error::CompileError(refusal) => code_of_refusal(refusal),
         Error::NestLimitExceeded => 22,
     }
@@ -95,11 +104,9 @@ pub fn code_of_scan_limit(limit: ScanLimit) -> u32
     ensures { result ≡ codes.code_of_scan_limit limit }
 {
     match limit {
-        ScanLimit::BacktrackLimitExceeded => 7,
-        ScanLimit::StackOverflow => 8,
-        ScanLimit::StepLimitExceeded => 9,
-        ScanLimit::VisitLimitExceeded => 41,
-        ScanLimit::MemoryLimitExceeded => 42,
+        ScanLimit::RuntimeError(limit) => code_of_run(limit),
+        ScanLimit::VisitLimitExceeded => code_of_limit(SearchLimit::Visits),
+        ScanLimit::MemoryLimitExceeded => code_of_limit(SearchLimit::Bytes),
     }
 }
 

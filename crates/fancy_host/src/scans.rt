@@ -222,8 +222,7 @@ pub fn scan(
         → Writes rules text.now groups pos.old room.old pos.new room.new result }
     ensures same { KeepsTrees scanner.old scanner.new }
 {
-    let mut scan = scanner.scan(text);
-    let outcome = write_rows(&mut scan, pos, groups, room);
-    let _scanner = scan.into_scanner();
-    outcome
+    let mut cache = scanner.create_cache();
+    let mut scan = scanner.scan(text, &mut cache);
+    write_rows(&mut scan, pos, groups, room)
 }

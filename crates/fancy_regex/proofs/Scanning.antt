@@ -8,25 +8,26 @@ use Rattle.fancy_expr.specs.Views.{parsed_of}
 use Rattle.fancy_expr.specs.declared.expr.ExprTree.{ExprTree}
 use Rattle.fancy_matches.specs.Regexes.{shown_captures}
 use Rattle.fancy_matches.specs.declared.found.Captures as engine
-use Rattle.fancy_vm.specs.SearchLimits.{no_limits}
+use Rattle.fancy_vm.specs.declared.search_limits.SearchLimits.{SearchLimits}
 use Rattle.fancy_scanner.specs.Scanning.{Rule}
-use Rattle.fancy_regex.specs.Options.{analysis, compilation, running}
+use Rattle.fancy_regex.specs.Options.{analysis, compilation, limits, running}
 use Rattle.fancy_regex.specs.Scanners.{NamedGroups, rule_for}
 use Rattle.fancy_regex.specs.declared.names.GroupNames.{GroupNames}
 use Rattle.fancy_regex.specs.declared.options.RegexOptions.{RegexOptions}
 
 -- ---- a pattern that is added
 
-abbrev rule_with : ExprTree → plain.AnalysisOptions → plain.CompileOptions → plain.RunOptions → Rule
-rule_with tree a k o = record { input = record { parsed = parsed_of tree; analysis = a; options = k }; options = o; limits = no_limits }
+abbrev rule_with : ExprTree → plain.AnalysisOptions → plain.CompileOptions → plain.RunOptions → SearchLimits → Rule
+rule_with tree a k o l = record { input = record { parsed = parsed_of tree; analysis = a; options = k }; options = o; limits = l }
 
--- the rule of a tree with these options is that of the options of its pattern
-pub rule_so : (tree : ExprTree) (asked : RegexOptions) (text : List ℕ) (a : plain.AnalysisOptions) (k : plain.CompileOptions) (o : plain.RunOptions) →
-    a ≡ analysis asked → k ≡ compilation asked → o ≡ running asked text →
-    record { input = record { parsed = parsed_of tree; analysis = a; options = k }; options = o; limits = no_limits } ≡ rule_for tree asked text
-rule_so tree asked text a k o as_analysed as_compiled as_run =
-    ap (λ a. rule_with tree a k o) as_analysed ∙ (ap (λ k. rule_with tree (analysis asked) k o) as_compiled
-    ∙ ap (λ o. rule_with tree (analysis asked) (compilation asked) o) as_run)
+-- the rule of a tree with these options and limits is that of the options of its pattern
+pub rule_so : (tree : ExprTree) (asked : RegexOptions) (text : List ℕ) (a : plain.AnalysisOptions) (k : plain.CompileOptions) (o : plain.RunOptions)
+    (l : SearchLimits) → a ≡ analysis asked → k ≡ compilation asked → o ≡ running asked text → l ≡ limits asked →
+    record { input = record { parsed = parsed_of tree; analysis = a; options = k }; options = o; limits = l } ≡ rule_for tree asked text
+rule_so tree asked text a k o l as_analysed as_compiled as_run as_limited =
+    ap (λ a. rule_with tree a k o l) as_analysed ∙ (ap (λ k. rule_with tree (analysis asked) k o l) as_compiled
+    ∙ (ap (λ o. rule_with tree (analysis asked) (compilation asked) o l) as_run
+    ∙ ap (λ l. rule_with tree (analysis asked) (compilation asked) (running asked text) l) as_limited))
 
 -- ---- the groups that are kept
 

@@ -1,24 +1,26 @@
 -- What clauses see of a scanner by patterns, and of its scans: that of the scanner by trees, of the trees that the
 -- patterns spell, with the errors of this crate.
-use Rattle.std.specs.Prelude.{◌≡◌, ◌++◌, ◌∷◌, [], ℕ, List, map, Option, option_and_then, option_map, slice_get, Result, Ok, Err}
+use Rattle.std.specs.Prelude.{◌≡◌, ◌≤◌, ◌++◌, ◌∷◌, [], ℕ, List, length, map, Option, option_and_then, option_map, slice_get, IfOk, IfSome, Result, Ok, Err}
 use Rattle.std.specs.Arc.{arc_value}
+use Rattle.std.specs.Borrow.{MutBor}
 use Rattle.fancy_expr.specs.declared.error.Error as engine_error_of
 use Rattle.fancy_expr.specs.declared.expr.ExprTree.{ExprTree}
 use Rattle.fancy_scanner.specs.Kept.{kept_captures}
+use Rattle.fancy_scanner.specs.Limits.{passed_with}
 use Rattle.fancy_scanner.specs.Scanning as trees
 use Rattle.fancy_scanner.specs.Scanning.{Rule}
 use Rattle.fancy_scanner.specs.Scans as engine
+use Rattle.fancy_scanner.specs.declared.answers.Answer.{Answer}
 use Rattle.fancy_scanner.specs.declared.scan_text.ScanStep as engine_step
-use Rattle.fancy_scanner.specs.declared.scan_text.ScanText as engine_scan
 use Rattle.fancy_scanner.specs.declared.scan_text.TreeMatch.{TreeMatch}
 use Rattle.fancy_scanner.specs.declared.scanner.Scan.{Scan}
 use Rattle.fancy_scanner.specs.declared.scanner.Scanner as engine_scanner
-use Rattle.fancy_vm.specs.SearchLimits.{no_limits}
+use Rattle.fancy_vm.specs.declared.search_limits.SearchLimit.{SearchLimit}
 use Rattle.fancy_matches.specs.Regexes as found
 use Rattle.fancy_regex.specs.Builders.{AreNamesOf, IsTreeOf}
 use Rattle.fancy_regex.specs.Errors.{engine_error}
 use Rattle.fancy_regex.specs.Found.{captures_names, shown_captures}
-use Rattle.fancy_regex.specs.Options.{input, running}
+use Rattle.fancy_regex.specs.Options.{input, limits, running}
 use Rattle.fancy_regex.specs.declared.error.Error.{Error}
 use Rattle.fancy_regex.specs.declared.found.Captures.{Captures}
 use Rattle.fancy_regex.specs.declared.names.GroupNames.{GroupNames}
@@ -31,9 +33,9 @@ use Rattle.fancy_regex.specs.declared.scanner.Scanner.{Scanner}
 
 -- ---- patterns
 
--- how a tree is compiled and searched for in this text, by the options of its pattern
+-- how a tree is compiled and searched for in this text, and how much its searches may take, by the options of its pattern
 abbrev pub rule_for : ExprTree → RegexOptions → List ℕ → Rule
-rule_for tree o text = record { input = input tree o; options = running o text; limits = no_limits }
+rule_for tree o text = record { input = input tree o; options = running o text; limits = limits o }
 
 -- it was compiled from the tree that the pattern spells, and has its names
 pub record IsScanPattern (pattern : List ℕ) (o : RegexOptions) (p : ScanPattern) : Type 0 where
@@ -73,31 +75,49 @@ pub record Keeps (s t : Scanner) : Type 0 where
 
 -- ---- a scan
 
--- the scan by the trees of its patterns
-abbrev pub scan_in : ScanText → engine_scan.ScanText
-scan_in s = s.scan
+-- the scanner, which is the caller's
+abbrev pub scanner_of : ScanText → MutBor Scanner
+scanner_of s = s.scanner
 
 abbrev pub text_of : ScanText → List ℕ
-text_of s = engine.text_of (scan_in s)
+text_of s = s.text.now
 
--- the names of the groups of each pattern
-abbrev pub scan_names : ScanText → List GroupNames
-scan_names s = map arc_value s.names.now
+-- what its patterns were compiled to
+abbrev pub trees_of : ScanText → engine_scanner.Scanner
+trees_of s = trees_in s.scanner.now
+
+-- what is kept of each pattern, where something is
+abbrev pub answers_of : ScanText → List (Option Answer)
+answers_of s = engine.answers_in s.cache
 
 -- a scan by these rules, and what it keeps is right
 abbrev pub IsScanOf : List Rule → ScanText → Type 0
-IsScanOf rules s = engine.IsScanOf rules (scan_in s)
+IsScanOf rules s = engine.IsScanBy rules (text_of s) (trees_of s) (answers_of s)
 
--- it scans this text by the patterns of the scanner
-pub record BeginsScan (r : Scanner) (text : List ℕ) (s : ScanText) : Type 0 where
+-- it scans this text by the caller's scanner
+pub record BeginsScan (lent : MutBor Scanner) (text : List ℕ) (s : ScanText) : Type 0 where
+  pub scanner : s.scanner.now ≡ lent.now
+  pub name : s.scanner.ghost_name ≡ lent.ghost_name
   pub within : text_of s ≡ text
-  pub right : (rules : List Rule) → IsScannerOf rules text r → IsScanOf rules s
-  pub names : scan_names s ≡ names_listed r
+  pub right : (rules : List Rule) → IsScannerOf rules text lent.now → IsScanOf rules s
 
--- After a call it scans the same text with the same patterns, and what it keeps is right.
+-- After a call it scans the same text with the same patterns, lent by the same caller, and what it keeps is right.
 pub record GoesOn (s t : ScanText) : Type 0 where
-  pub goes_on : engine.GoesOn (scan_in s) (scan_in t)
-  pub names : scan_names t ≡ scan_names s
+  pub within : text_of t ≡ text_of s
+  pub trees : trees.KeepsTrees (trees_of s) (trees_of t)
+  pub names : names_listed t.scanner.now ≡ names_listed s.scanner.now
+  pub name : t.scanner.ghost_name ≡ s.scanner.ghost_name
+  pub still : (rules : List Rule) → IsScanOf rules s → IsScanOf rules t
+  pub count : length (answers_of s) ≤ length (answers_of t)
+
+-- what is kept of a pattern and holds at this place is kept as it is
+abbrev pub KeepsHeld : ℕ → ScanText → ScanText → Type 0
+KeepsHeld pos s t = engine.KeepsAnswers pos (trees_of s) (answers_of s) (answers_of t)
+
+-- The limit of visits or memory that the search for a pattern from this place on passed: none where what is kept of it is
+-- its answer.
+abbrev pub passed_from : ℕ → ScanText → ℕ → Option SearchLimit
+passed_from pos s k = passed_with pos (trees_of s) (answers_of s) k
 
 -- ---- what is told
 
@@ -110,12 +130,18 @@ tree_step s = record { found = option_map tree_match s.found; stopped = s.stoppe
 
 -- what was told, as the scanner by trees tells it
 abbrev pub scan_result : ScanText → Result ScanStep Error → Result Scan engine_error_of.Error
-scan_result s (Ok step) = engine.scan_result (scan_in s) (Ok (tree_step step))
+scan_result s (Ok step) = engine.told_with (answers_of s) (Ok (tree_step step))
 scan_result s (Err e) = Err (engine_error e)
 
 -- the text and the span of the match are those of the groups that are kept of its pattern
 abbrev pub IsWholeIn : ScanText → ScanMatch → Type 0
-IsWholeIn s m = engine.IsWholeIn (engine.answers_of (scan_in s)) (tree_match m)
+IsWholeIn s m = engine.IsWholeIn (answers_of s) (tree_match m)
+
+-- what is told from the start of the text, as a scan tells it
+pub record FindsFirst (text : List ℕ) (rules : List Rule) (result : Result ScanStep Error) : Type 0 where
+  pub scan : ScanText
+  pub promise : trees.Scans text 0 rules (scan_result scan result)
+  pub whole : IfOk result (λ step. IfSome step.found (IsWholeIn scan))
 
 -- the groups of a match, with the names of its pattern
 abbrev pub NamedGroups : Type 0
@@ -127,5 +153,6 @@ named_groups c = (shown_captures c, captures_names c)
 -- those that are kept of the pattern with this number
 abbrev pub kept_groups : ScanText → ℕ → Option NamedGroups
 kept_groups s k =
-    let kept = kept_captures (engine.answers_of (scan_in s)) k in
-    option_and_then (λ names. option_map (λ c. (found.shown_captures c, names)) kept) (slice_get (scan_names s) k)
+    let kept = kept_captures (answers_of s) k in
+    option_and_then (λ names. option_map (λ c. (found.shown_captures c, names)) kept)
+    (slice_get (names_listed s.scanner.now) k)

@@ -209,8 +209,6 @@ impl<'p> RegexBuilder<'p> {
     /// How many states a search may visit in plain parts of the pattern, those that are searched without backtracking, or
     /// with `None` any number. Unless set it is 100,000,000. A search that visits more is `Error::VisitLimitExceeded`. It
     /// bounds the work of a search, and with `step_limit` all of it.
-    ///
-    /// A `Scanner` has no such limit.
     #[must_use]
     pub fn visit_limit(self, limit: Option<usize>) -> RegexBuilder<'p>
         ensures { result ≡ with_options self.entry
@@ -227,8 +225,6 @@ impl<'p> RegexBuilder<'p> {
 
     /// How many bytes a search may keep at one time for plain parts of the pattern, or with `None` any number. Unless set it
     /// is 256 MiB. A search that keeps more is `Error::MemoryLimitExceeded`.
-    ///
-    /// A `Scanner` has no such limit.
     #[must_use]
     pub fn memory_limit(self, limit: Option<usize>) -> RegexBuilder<'p>
         ensures { result ≡ with_options self.entry
@@ -303,6 +299,8 @@ impl<'p> RegexBuilder<'p> {
         let search = self.options.search_options();
         match ScanTree::new(alloc, &tree, &search, self.options.backtrack_limit) {
             Ok(compiled) => {
+                let mut compiled = compiled;
+                compiled.limit(self.options.search_limits());
                 let names = Arc::new(alloc, RegexBuilder::names_of(alloc, tree))?;
                 Ok(ScanPattern { compiled, names })
             }

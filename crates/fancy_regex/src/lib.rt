@@ -18,6 +18,7 @@ pub use fancy_pattern::escape::escape;
 pub use fancy_replace::parts::{Part, Parts};
 pub use fancy_replace::replacer::{NoExpand, Replacer};
 pub use fancy_replace::template::Template;
+pub use fancy_scanner::scan_limit::ScanLimit;
 pub use fancy_scanner::scanner::Stopped;
 pub use found::{Captures, Match, SubCaptureMatches};
 pub use iterators::{CaptureMatches, Matches};

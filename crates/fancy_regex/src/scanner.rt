@@ -4,18 +4,19 @@ ghost use Rattle.std.specs.Arc.{arc_value};
 ghost use Rattle.std.specs.Prelude.{◌≡◌, ◌<◌, ◌^◌, [], ℕ, IfErr, IfOk, IfSome, IsTrue, List, MatchResult, None, OnErr, OnOk, length, option_map};
 ghost use Rattle.fancy_meaning.specs.Places as places;
 ghost use Rattle.fancy_matches.specs.Regexes as engine;
-ghost use Rattle.fancy_scanner.specs.Scanning.{AreEasy, Rule, Scans};
-ghost use Rattle.fancy_scanner.specs.Scans as scans;
+ghost use Rattle.fancy_scanner.specs.Limits.{TellsPassed};
+ghost use Rattle.fancy_scanner.specs.Scanning.{AreEasy, AreEasyRuns, IsStoppedByDelegates, Rule, Scans};
 ghost use Rattle.fancy_regex.specs.Builders.{IsRefused, options};
 ghost use Rattle.fancy_regex.specs.Found.{captures_names, shown_captures};
 ghost use Rattle.fancy_regex.specs.Options.{default_options};
-ghost use Rattle.fancy_regex.specs.Scanners.{Adds, BeginsScan, GoesOn, IsScanOf, IsScannerOf, IsWholeIn, Keeps, kept_groups, named_groups, names_listed, scan_in, scan_result, text_of, tree_match, tree_step};
+ghost use Rattle.fancy_regex.specs.Scanners.{Adds, BeginsScan, FindsFirst, GoesOn, IsScanOf, IsScannerOf, IsWholeIn, Keeps, KeepsHeld, kept_groups, named_groups, names_listed, passed_from, scan_result, scanner_of, text_of, tree_match, tree_step};
 
 use crate::builder::RegexBuilder;
 use crate::error::Error;
 use crate::found::{Captures, Match};
 use crate::names::GroupNames;
 use fancy_matches::found::Captures as Groups;
+use fancy_scanner::scan_cache::ScanCache;
 use fancy_scanner::scan_text as by_trees;
 use fancy_scanner::scanner::{ScanTree, Scanner as TreeScanner, Stopped};
 use std::alloc::{AllocError, Global};
@@ -91,14 +92,29 @@ impl Scanner {
     }
 
     /// A scan of one text, which keeps what it finds of each pattern from one place to the next. The scanner is the
-    /// caller's again once the scan is gone.
+    /// caller's again once the scan is gone; that it has the same patterns is known where `ScanText::into_scanner` ends
+    /// the scan.
     pub fn scan<'r, 't>(&'r mut self, text: &'t str) -> ScanText<'r, 't>
-        ensures { BeginsScan self.old text.now result }
+        ensures { BeginsScan self.entry text.now result }
     {
+        let cache = self.trees.create_cache();
         ScanText {
-            scan: self.trees.scan(text),
-            names: &self.names,
+            scanner: self,
+            text,
+            cache,
         }
+    }
+
+    /// The match that begins first in the text, as a scan finds it from the text's start on.
+    pub fn find<'t>(&mut self, text: &'t str) -> Result<ScanStep<'t>, Error>
+        ensures first { (rules : List Rule)
+            → IsScannerOf rules text.now self.old → FindsFirst text.now rules result }
+        ensures same { Keeps self.old self.new }
+    {
+        let mut scan = self.scan(text);
+        let step = scan.find_from(0);
+        let _scanner = scan.into_scanner();
+        step
     }
 }
 
@@ -154,8 +170,9 @@ impl<'t> ScanMatch<'t> {
 /// a `\G` is searched for at each place, and one with a `\K` until it is not found any more.
 #[derive(Drop)]
 pub struct ScanText<'r, 't> {
-    pub(crate) scan: by_trees::ScanText<'r, 't>,
-    pub(crate) names: &'r [Arc<GroupNames>],
+    pub(crate) scanner: &'r mut Scanner,
+    pub(crate) text: &'t str,
+    pub(crate) cache: ScanCache<'t>,
 }
 
 impl<'r, 't> ScanText<'r, 't> {
@@ -173,10 +190,20 @@ impl<'r, 't> ScanText<'r, 't> {
         ensures easy { (rules : List Rule)
             → IsScanOf rules self.old → AreEasy (text_of self.old) rules
             → length (text_of self.old) < 2 ^ 60 → IfOk result (λ step. step.stopped ≡ None) }
-        ensures held { scans.KeepsHeld pos (scan_in self.old) (scan_in self.new) }
+        ensures easy_run { (rules : List Rule)
+            → IsScanOf rules self.old → AreEasyRuns (text_of self.old) rules
+            → length (text_of self.old) < 2 ^ 60
+            → IfOk result (λ step. IsStoppedByDelegates step.stopped) }
+        ensures limits { IfOk result (λ step. TellsPassed
+            (passed_from pos self.new) (option_map (λ m. m.index) step.found) step.stopped) }
+        ensures held { KeepsHeld pos self.old self.new }
         ensures goes_on { GoesOn self.old self.new }
     {
-        match self.scan.find_from(pos) {
+        let found = self
+            .scanner
+            .trees
+            .find_with(self.text, &mut self.cache, pos);
+        match found {
             Ok(step) => Ok(ScanStep::of(step)),
             Err(error) => Err(Error::from(error)),
         }
@@ -191,10 +218,10 @@ impl<'r, 't> ScanText<'r, 't> {
             (λ found. option_map named_groups found ≡ kept_groups self.now index)
             (λ e. e ≡ Error.Memory) }
     {
-        let Some(names) = self.names.get(index) else {
+        let Some(names) = self.scanner.names.get(index) else {
             return Ok(None);
         };
-        let Some(groups) = self.scan.captures(index) else {
+        let Some(groups) = self.cache.captures(index) else {
             return Ok(None);
         };
         Ok(Some(named(groups, names)?))
@@ -204,7 +231,15 @@ impl<'r, 't> ScanText<'r, 't> {
     pub fn text(&self) -> &'t str
         ensures { result.now ≡ text_of self.now }
     {
-        self.scan.text()
+        self.text
+    }
+
+    /// Ends the scan and gives the scanner back, with the same patterns.
+    pub fn into_scanner(self) -> &'r mut Scanner
+        ensures name { result.ghost_name ≡ (scanner_of self.entry).ghost_name }
+        ensures same { result.now ≡ (scanner_of self.entry).now }
+    {
+        self.scanner
     }
 }
 

@@ -10,7 +10,7 @@ use Rattle.fancy_matches.specs.Regexes.{FindsCaptures}
 use Rattle.fancy_scanner.specs.Kept.{answer_start, found_in, kept_captures}
 use Rattle.fancy_scanner.specs.Lasting.{holds_at}
 use Rattle.fancy_scanner.specs.Scanning.{IsRuleAt, IsScannerOf, KeepsTrees, Rule, lasting_at, trees_of}
-use Rattle.fancy_scanner.specs.Scans.{AreAnswersOf, GoesOn, HasRoom, IsAnswerOf, IsScanOf, KeepsHeld, answers_of, holds_for, is_held, text_of}
+use Rattle.fancy_scanner.specs.Scans.{AreAnswersOf, GoesOn, HasRoom, KeepsLoans, IsAnswerOf, IsScanOf, KeepsHeld, answers_of, holds_for, is_held, text_of}
 use Rattle.fancy_scanner.specs.declared.answers.Answer.{Answer}
 use Rattle.fancy_scanner.specs.declared.lasting.Lasting.{Lasting}
 use Rattle.fancy_scanner.specs.declared.scan_text.ScanText.{ScanText}
@@ -126,16 +126,19 @@ pub goes_itself : (s : ScanText) → GoesOn s s
 goes_itself s = record {
   within = refl;
   trees = keeps_itself s.scanner.now;
-  name = refl;
+  loans = record { scanner = refl; cache = refl };
   still = λ rules h. h;
   count = omega arith;
 }
+
+same_twice : (s t u : ScanText) → KeepsLoans s t → KeepsLoans t u → KeepsLoans s u
+same_twice s t u h g = record { scanner = g.scanner ∙ h.scanner; cache = g.cache ∙ h.cache }
 
 pub goes_twice : (s t u : ScanText) → GoesOn s t → GoesOn t u → GoesOn s u
 goes_twice s t u h g = record {
   within = g.within ∙ h.within;
   trees = keeps_twice s.scanner.now t.scanner.now u.scanner.now h.trees g.trees;
-  name = g.name ∙ h.name;
+  loans = same_twice s t u h.loans g.loans;
   still = λ rules of. g.still rules (h.still rules of);
   count = omega (arith, h.count, g.count);
 }
@@ -144,11 +147,12 @@ pub room_left : (s t : ScanText) → GoesOn s t → HasRoom s → HasRoom t
 room_left s t h room = omega (arith, (h.trees).count, h.count, room)
 
 -- one place more, for the answer of a tree
-pub goes_on_room : (s t : ScanText) → text_of t ≡ text_of s → t.scanner ≡ s.scanner → answers_of t ≡ answers_of s ++ None ∷ [] → GoesOn s t
-goes_on_room s t within scanner more = record {
+pub goes_on_room : (s t : ScanText) → text_of t ≡ text_of s → t.scanner ≡ s.scanner → t.cache.ghost_name ≡ s.cache.ghost_name →
+    answers_of t ≡ answers_of s ++ None ∷ [] → GoesOn s t
+goes_on_room s t within scanner cache more = record {
   within = within;
   trees = subst (λ m. KeepsTrees s.scanner.now m.now) (sym scanner) (keeps_itself s.scanner.now);
-  name = ap (λ m. m.ghost_name) scanner;
+  loans = record { scanner = ap (λ m. m.ghost_name) scanner; cache = cache };
   still = λ rules h. record {
     scanner = subst (λ u. IsScannerOf rules u t.scanner.now) (sym within) (subst (λ m. IsScannerOf rules (text_of s) m.now) (sym scanner) h.scanner);
     answers =
@@ -167,38 +171,22 @@ pub no_room_yet : (s : ScanText) → MakesRoom s s
 no_room_yet s = record { goes = goes_itself s; holds = λ pos k e. refl }
 
 pub more_room : (s t u : ScanText) → MakesRoom s t → text_of u ≡ text_of t → u.scanner ≡ t.scanner →
-    answers_of u ≡ answers_of t ++ None ∷ [] → MakesRoom s u
-more_room s t u h within scanner more = record {
-  goes = goes_twice s t u h.goes (goes_on_room t u within scanner more);
+    u.cache.ghost_name ≡ t.cache.ghost_name → answers_of u ≡ answers_of t ++ None ∷ [] → MakesRoom s u
+more_room s t u h within scanner cache more = record {
+  goes = goes_twice s t u h.goes (goes_on_room t u within scanner cache more);
   holds = λ pos.
       held_still s t u pos (h.goes).trees (h.holds pos) (λ k e. ap (λ l. slice_get l k) more ∙ room_held t pos k e);
 }
 
--- the same is kept, by the same trees
-pub goes_on_trees : (s t : ScanText) → text_of t ≡ text_of s → KeepsTrees s.scanner.now t.scanner.now →
-    t.scanner.ghost_name ≡ s.scanner.ghost_name → answers_of t ≡ answers_of s → GoesOn s t
-goes_on_trees s t within trees name same = record {
-  within = within;
-  trees = trees;
-  name = name;
-  still = λ rules h. record {
-    scanner =
-        subst (λ u. IsScannerOf rules u t.scanner.now) (sym within) (trees.same (text_of s) rules h.scanner);
-    answers =
-        subst (λ u. AreAnswersOf rules u (answers_of t)) (sym within) (subst (AreAnswersOf rules (text_of s)) (sym same) h.answers);
-  };
-  count = omega (arith, ap length same);
-}
-
 -- an answer of a search for the tree with this number is kept in the place of the one before
 pub goes_on_answer : (s t : ScanText) (k : ℕ) (a : Answer) → text_of t ≡ text_of s → KeepsTrees s.scanner.now t.scanner.now →
-    t.scanner.ghost_name ≡ s.scanner.ghost_name → answers_of t ≡ slice_set (answers_of s) k (Some a) →
+    KeepsLoans s t → answers_of t ≡ slice_set (answers_of s) k (Some a) →
     ((rules : List Rule) (r : Rule) → IsScannerOf rules (text_of s) s.scanner.now → IsRuleAt rules k r → IsAnswerOf (text_of s) r a) →
     GoesOn s t
-goes_on_answer s t k a within trees name put is = record {
+goes_on_answer s t k a within trees loans put is = record {
   within = within;
   trees = trees;
-  name = name;
+  loans = loans;
   still = λ rules h. record {
     scanner =
         subst (λ u. IsScannerOf rules u t.scanner.now) (sym within) (trees.same (text_of s) rules h.scanner);

@@ -1,15 +1,15 @@
 -- What is told of trees that passed limits of their delegates, from the last tree to the first.
-use Rattle.std.proofs.Common.{◌≡◌, ◌≢◌, ℕ, zero, suc, ◌-◌, ◌<◌, ◌≤◌, Bool, true, false, List, [], ◌∷◌, length, drop, Option, Some, None, IfSome, option_map, ◌⊎◌, inl, inr, refl, sym, ap, ap₂, ◌∙◌, subst, arith, ⊎_elim}
+use Rattle.std.proofs.Common.{◌≡◌, ◌≢◌, ℕ, zero, suc, ◌-◌, ◌<◌, ◌≤◌, Bool, true, false, List, [], ◌∷◌, length, Option, Some, None, IfSome, option_map, ◌⊎◌, inl, refl, sym, ap, ap₂, ◌∙◌, subst, arith, ⊎_elim}
 use Rattle.std.specs.Prelude.{option_and_then, slice_get}
 use Rattle.std.proofs.lemmas.Bool.Decides.{eqb_tells}
-use Rattle.std.proofs.lemmas.Option.{none-some, same_Some}
+use Rattle.std.proofs.lemmas.Option.{none-some}
 use Rattle.fancy_vm.specs.SearchLimits.{cost_of, passed_by}
 use Rattle.fancy_vm.specs.declared.search_limits.SearchLimit.{SearchLimit}
 use Rattle.fancy_vm.specs.declared.search_limits.SearchLimits.{SearchLimits}
 use Rattle.fancy_matches.specs.Regexes.{passed_in}
-use Rattle.fancy_scanner.specs.Limits.{AreDistinct, IsToldBy, TellsPassed, passed_among, passed_at, passed_from, unless_held}
+use Rattle.fancy_scanner.specs.Limits.{AreDistinct, IsToldUpTo, TellsPassed, passed_among, passed_at, passed_from, unless_held}
 use Rattle.fancy_scanner.specs.Scanning.{AreTreesOf, IsRuleAt, MayPass, Rule, search_limit, stopped_view, trees_of}
-use Rattle.fancy_scanner.specs.Scans.{GoesOn, KeepsOthers, answers_of, holds_for, is_held}
+use Rattle.fancy_scanner.specs.Scans.{GoesOn, KeepsOthers, holds_for, is_held}
 use Rattle.fancy_scanner.specs.declared.scan_limit.ScanLimit.{ScanLimit}
 use Rattle.fancy_scanner.specs.declared.scan_text.ScanText.{ScanText}
 use Rattle.fancy_scanner.specs.declared.scan_text.TreeMatch.{TreeMatch}
@@ -29,7 +29,7 @@ index_of = option_map (λ m. m.index)
 
 pub record TellsFrom (n : ℕ) (passed : ℕ → Option SearchLimit) (found : Option ℕ) (stopped : Option Stopped) : Type 0 where
   pub by_its_limit : IfSome stopped (λ s. (n ≤ s.index) × (passed s.index ≡ search_limit s.limit))
-  pub none_hidden : (k : ℕ) (l : SearchLimit) → n ≤ k → passed k ≡ Some l → IsToldBy k stopped
+  pub none_hidden : (k : ℕ) (l : SearchLimit) → n ≤ k → passed k ≡ Some l → IsToldUpTo k stopped
   pub answered : IfSome found (λ k. (n ≤ k) × (passed k ≡ None))
 
 pub tells_all : (passed : ℕ → Option SearchLimit) (found : Option ℕ) (stopped : Option Stopped) → TellsFrom 0 passed found stopped →

@@ -4,8 +4,6 @@ use Rattle.std.specs.Prelude.{IsSome, slice_get}
 use Rattle.std.proofs.lemmas.Bool.{true≢false}
 use Rattle.std.proofs.lemmas.Option.{none-some, same_Some}
 use Rattle.fancy_expr.specs.declared.error.Error.{Error}
-use Rattle.fancy_expr.specs.declared.error.Error.TheVariants as error
-use Rattle.fancy_expr.specs.declared.error.RuntimeError.TheVariants as run
 use Rattle.fancy_vm.specs.SearchLimits.{no_limits, passed_by}
 use Rattle.fancy_vm.specs.declared.search_limits.SearchLimit.{SearchLimit}
 use Rattle.fancy_vm.specs.declared.search_limits.SearchLimits.{SearchLimits}
@@ -216,13 +214,9 @@ module _ (text : List ℕ) (pos : ℕ) where
   -- a search of an easy rule passes limits of its delegates alone
   delegates_alone : length text < 2 ^ 60 → (r : Rule) (limit : ScanLimit) → IsEasyRun text r → MayFail text pos r (error_of limit) →
       IsSome (search_limit limit)
-  delegates_alone small r limit.BacktrackLimitExceeded easy fails =
+  delegates_alone small r (limit.RuntimeError e) easy fails =
       absurd
-      (no_limit r.input text (begun_at r.options pos) small easy.backtracks easy.steps (error_of limit.BacktrackLimitExceeded) easy.tree fails.1)
-  delegates_alone small r limit.StackOverflow easy fails =
-      absurd (no_limit r.input text (begun_at r.options pos) small easy.backtracks easy.steps (error_of limit.StackOverflow) easy.tree fails.1)
-  delegates_alone small r limit.StepLimitExceeded easy fails =
-      absurd (no_limit r.input text (begun_at r.options pos) small easy.backtracks easy.steps (error_of limit.StepLimitExceeded) easy.tree fails.1)
+      (no_limit r.input text (begun_at r.options pos) small easy.backtracks easy.steps (error_of (limit.RuntimeError e)) easy.tree fails.1)
   delegates_alone small r limit.VisitLimitExceeded easy fails = refl
   delegates_alone small r limit.MemoryLimitExceeded easy fails = refl
 

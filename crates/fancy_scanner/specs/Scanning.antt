@@ -6,7 +6,6 @@ use Rattle.fancy_meaning.specs.Options as plain
 use Rattle.fancy_meaning.specs.Premises.{Input, plan, IsAccepted}
 use Rattle.fancy_expr.specs.declared.error.Error.{Error}
 use Rattle.fancy_expr.specs.declared.error.Error.TheVariants as error
-use Rattle.fancy_expr.specs.declared.error.RuntimeError.TheVariants as run
 use Rattle.fancy_expr.specs.declared.expr.ExprTree.{ExprTree}
 use Rattle.fancy_vm.specs.Outcomes.{first_pair}
 use Rattle.fancy_vm.specs.SearchLimits.{no_limits, passed_by}
@@ -40,17 +39,13 @@ pub record Rule : Type 0 where
 
 -- the limit of the delegates, where it is one
 abbrev pub search_limit : ScanLimit → Option SearchLimit
-search_limit limit.BacktrackLimitExceeded = None
-search_limit limit.StackOverflow = None
-search_limit limit.StepLimitExceeded = None
+search_limit (limit.RuntimeError e) = None
 search_limit limit.VisitLimitExceeded = Some search.Visits
 search_limit limit.MemoryLimitExceeded = Some search.Bytes
 
 -- the error of a search that passes it
 abbrev pub error_of : ScanLimit → Error
-error_of limit.BacktrackLimitExceeded = error.RuntimeError run.BacktrackLimitExceeded
-error_of limit.StackOverflow = error.RuntimeError run.StackOverflow
-error_of limit.StepLimitExceeded = error.RuntimeError run.StepLimitExceeded
+error_of (limit.RuntimeError e) = error.RuntimeError e
 error_of limit.VisitLimitExceeded = error.Memory
 error_of limit.MemoryLimitExceeded = error.Memory
 

@@ -11,6 +11,7 @@ use Rattle.fancy_scanner.specs.Lasting.{holds_at}
 use Rattle.fancy_scanner.specs.Scanning.{IsScannerOf, KeepsTrees, Rule, lasting_at, trees_of}
 use Rattle.fancy_scanner.specs.declared.answers.Answer.{Answer}
 use Rattle.fancy_scanner.specs.declared.lasting.Lasting.{Lasting}
+use Rattle.fancy_scanner.specs.declared.scan_cache.ScanCache.{ScanCache}
 use Rattle.fancy_scanner.specs.declared.scan_text.ScanStep.{ScanStep}
 use Rattle.fancy_scanner.specs.declared.scan_text.ScanText.{ScanText}
 use Rattle.fancy_scanner.specs.declared.scan_text.TreeMatch.{TreeMatch}
@@ -25,9 +26,16 @@ text_of s = s.text.now
 abbrev pub scanner_of : ScanText → MutBor Scanner
 scanner_of s = s.scanner
 
+-- so is what it keeps
+abbrev pub cache_of : ScanText → MutBor ScanCache
+cache_of s = s.cache
+
 -- what is kept of each tree, where something is
+abbrev pub answers_in : ScanCache → List (Option Answer)
+answers_in c = c.answers.items
+
 abbrev pub answers_of : ScanText → List (Option Answer)
-answers_of s = s.answers.items
+answers_of s = answers_in s.cache.now
 
 -- ---- what is kept
 
@@ -42,23 +50,34 @@ AreAnswersOf [] text (a ∷ answers) = Unit {0}
 AreAnswersOf (r ∷ rules) text (None ∷ answers) = AreAnswersOf rules text answers
 AreAnswersOf (r ∷ rules) text (Some a ∷ answers) = IsAnswerOf text r a × AreAnswersOf rules text answers
 
--- a scan by a scanner of these rules, and what it keeps is right
-pub record IsScanOf (rules : List Rule) (s : ScanText) : Type 0 where
-  pub scanner : IsScannerOf rules (text_of s) s.scanner.now
-  pub answers : AreAnswersOf rules (text_of s) (answers_of s)
+-- the scanner is one of these rules, and what is kept of them in a scan of this text is right
+pub record IsScanBy (rules : List Rule) (text : List ℕ) (by : Scanner) (kept : List (Option Answer)) : Type 0 where
+  pub scanner : IsScannerOf rules text by
+  pub answers : AreAnswersOf rules text kept
 
--- it scans this text by the caller's scanner
-pub record BeginsScan (lent : MutBor Scanner) (text : List ℕ) (s : ScanText) : Type 0 where
+-- a scan by a scanner of these rules, and what it keeps is right
+abbrev pub IsScanOf : List Rule → ScanText → Type 0
+IsScanOf rules s = IsScanBy rules (text_of s) s.scanner.now (answers_of s)
+
+-- it scans this text by the caller's scanner, with the caller's cache
+pub record BeginsScan (lent : MutBor Scanner) (text : List ℕ) (cached : MutBor ScanCache) (s : ScanText) : Type 0 where
   pub scanner : s.scanner.now ≡ lent.now
   pub name : s.scanner.ghost_name ≡ lent.ghost_name
   pub within : text_of s ≡ text
-  pub right : (rules : List Rule) → IsScannerOf rules text lent.now → IsScanOf rules s
+  pub cache : s.cache.now ≡ cached.now
+  pub cache_name : s.cache.ghost_name ≡ cached.ghost_name
+  pub right : (rules : List Rule) → IsScanBy rules text lent.now (answers_in cached.now) → IsScanOf rules s
+
+-- scanner and cache are lent by the same caller
+pub record KeepsLoans (s t : ScanText) : Type 0 where
+  pub scanner : t.scanner.ghost_name ≡ s.scanner.ghost_name
+  pub cache : t.cache.ghost_name ≡ s.cache.ghost_name
 
 -- After a call it scans the same text with the same trees, lent by the same caller, and what it keeps is right.
 pub record GoesOn (s t : ScanText) : Type 0 where
   pub within : text_of t ≡ text_of s
   pub trees : KeepsTrees s.scanner.now t.scanner.now
-  pub name : t.scanner.ghost_name ≡ s.scanner.ghost_name
+  pub loans : KeepsLoans s t
   pub still : (rules : List Rule) → IsScanOf rules s → IsScanOf rules t
   pub count : length (answers_of s) ≤ length (answers_of t)
 
@@ -70,12 +89,18 @@ holds_for (Some lasting) (Some (Some a)) pos = holds_at lasting a.from (answer_s
 holds_for lasting answer pos = false
 
 -- so does what is kept of the tree with this number
+abbrev pub is_kept : Scanner → List (Option Answer) → ℕ → ℕ → Bool
+is_kept by kept k pos = holds_for (lasting_at by k) (slice_get kept k) pos
+
 abbrev pub is_held : ScanText → ℕ → ℕ → Bool
-is_held s k pos = holds_for (lasting_at s.scanner.now k) (slice_get (answers_of s) k) pos
+is_held s k pos = is_kept s.scanner.now (answers_of s) k pos
 
 -- What is kept of a tree and holds at this place is kept as it is.
+abbrev pub KeepsAnswers : ℕ → Scanner → List (Option Answer) → List (Option Answer) → Type 0
+KeepsAnswers pos by old new = (k : ℕ) → is_kept by old k pos ≡ true → slice_get new k ≡ slice_get old k
+
 abbrev pub KeepsHeld : ℕ → ScanText → ScanText → Type 0
-KeepsHeld pos s t = (k : ℕ) → is_held s k pos ≡ true → slice_get (answers_of t) k ≡ slice_get (answers_of s) k
+KeepsHeld pos s t = KeepsAnswers pos s.scanner.now (answers_of s) (answers_of t)
 
 -- ---- what is told
 
@@ -86,10 +111,13 @@ scan_match answers m = option_map (λ c. record { index = m.index; captures = c 
 abbrev pub found_match : List (Option Answer) → Option TreeMatch → Option ScanMatch
 found_match answers = option_and_then (scan_match answers)
 
--- what a scan tells as `Scanner::find_from` tells it
+-- what a scan that keeps these answers tells as `Scanner::find_from` tells it
+abbrev pub told_with : List (Option Answer) → Result ScanStep Error → Result Scan Error
+told_with kept (Ok step) = Ok (record { found = found_match kept step.found; stopped = step.stopped })
+told_with kept (Err e) = Err e
+
 abbrev pub scan_result : ScanText → Result ScanStep Error → Result Scan Error
-scan_result s (Ok step) = Ok (record { found = found_match (answers_of s) step.found; stopped = step.stopped })
-scan_result s (Err e) = Err e
+scan_result s result = told_with (answers_of s) result
 
 -- the text and the span of the match are those of the groups that are kept of its tree
 abbrev pub IsWholeIn : List (Option Answer) → TreeMatch → Type 0

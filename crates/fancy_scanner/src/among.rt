@@ -8,7 +8,7 @@ ghost use Rattle.fancy_scanner.specs.Among.{ArePicked, answers_among, among_resu
 ghost use Rattle.fancy_scanner.specs.Limits.{AreDistinct, TellsPassed, passed_among};
 ghost use Rattle.fancy_scanner.specs.Scanning.{AreEasy, AreEasyRuns, IsStoppedByDelegates, Rule, Scans, rule_of};
 ghost use Rattle.fancy_scanner.specs.Scans as scans;
-ghost use Rattle.fancy_scanner.specs.Scans.{GoesOn, IsScanOf, KeepsHeld, scanner_of, text_of};
+ghost use Rattle.fancy_scanner.specs.Scans.{GoesOn, KeepsLoans, IsScanOf, KeepsHeld, text_of};
 
 use crate::scan_limit::limit_of;
 use crate::scan_text::{ScanStep, ScanText, TreeMatch, earlier};
@@ -97,9 +97,9 @@ impl<'t> ScanText<'_, 't> {
             → IsScanOf rules self.old → IsScanOf rules self.new) }
         ensures held { (pos : ℕ) → KeepsHeld pos self.old self.new }
         ensures within { text_of self.new ≡ text_of self.old }
-        ensures name { (scanner_of self.new).ghost_name ≡ (scanner_of self.old).ghost_name }
+        ensures loans { KeepsLoans self.old self.new }
     {
-        self.answers.truncate(self.scanner.tree_count());
+        self.cache.answers.truncate(self.scanner.tree_count());
         self.scanner.add_tree(tree, options, backtrack_limit)
     }
 }

@@ -4,6 +4,7 @@
 mod among;
 mod answers;
 mod lasting;
+pub mod scan_cache;
 pub mod scan_limit;
 pub mod scan_text;
 pub mod scanner;

@@ -1,7 +1,6 @@
 //! Which limit stopped the search for a tree.
 
 ghost use Rattle.std.specs.Prelude.{◌≡◌, MatchOption, None};
-ghost use Rattle.fancy_expr.specs.declared.error.Error.TheVariants as errors;
 ghost use Rattle.fancy_matches.specs.Regexes.{IsNoLimit};
 ghost use Rattle.fancy_scanner.specs.Scanning.{error_of, search_limit};
 ghost use Rattle.fancy_vm.specs.SearchLimits.{EndsBy};
@@ -13,32 +12,15 @@ use thiserror::Error as Described;
 /// Which limit stopped the search for a tree.
 #[derive(Clone, Copy, Debug, PartialEq, Eq, Drop, Described)]
 pub enum ScanLimit {
-    #[error("too many branches failed")]
-    BacktrackLimitExceeded,
-    #[error("too many branches were held")]
-    StackOverflow,
-    #[error("too many instructions were executed")]
-    StepLimitExceeded,
+    /// A limit of backtracks, branches or instructions.
+    #[error("{0}")]
+    RuntimeError(RuntimeError),
     /// The delegates of the search took up more states than `SearchLimits::visits` allows.
     #[error("too many states were visited")]
     VisitLimitExceeded,
     /// They held more bytes than `SearchLimits::bytes` allows.
     #[error("too much memory was held")]
     MemoryLimitExceeded,
-}
-
-impl ScanLimit {
-    /// A limit of a run.
-    fn of_run(limit: RuntimeError) -> ScanLimit
-        ensures error { error_of result ≡ errors.RuntimeError limit }
-        ensures run { search_limit result ≡ None }
-    {
-        match limit {
-            RuntimeError::BacktrackLimitExceeded => ScanLimit::BacktrackLimitExceeded,
-            RuntimeError::StackOverflow => ScanLimit::StackOverflow,
-            RuntimeError::StepLimitExceeded => ScanLimit::StepLimitExceeded,
-        }
-    }
 }
 
 /// The limit that a search passed, if it answered this error because of one; `passed` is the limit of its delegates that it
@@ -51,7 +33,7 @@ pub(crate) fn limit_of(error: &Error, passed: Option<SearchLimit>) -> Option<Sca
         (λ limit. (error.now ≡ error_of limit) × (passed ≡ search_limit limit)) }
 {
     match error {
-        Error::RuntimeError(limit) => Some(ScanLimit::of_run(*limit)),
+        Error::RuntimeError(limit) => Some(ScanLimit::RuntimeError(*limit)),
         Error::Memory => match passed {
             Some(SearchLimit::Visits) => Some(ScanLimit::VisitLimitExceeded),
             Some(SearchLimit::Bytes) => Some(ScanLimit::MemoryLimitExceeded),

@@ -9,10 +9,11 @@ ghost use Rattle.fancy_scanner.specs.Kept.{kept_captures, shown_whole};
 ghost use Rattle.fancy_scanner.specs.Limits.{TellsPassed, passed_at, passed_from};
 ghost use Rattle.fancy_scanner.specs.Scanning.{AreEasy, AreEasyRuns, IsRuleAt, IsStoppedByDelegates, Rule, Scans, trees_of};
 ghost use Rattle.fancy_scanner.specs.Scans as scans;
-ghost use Rattle.fancy_scanner.specs.Scans.{GoesOn, HasRoom, IsScanOf, KeepsHeld, answers_of, captures_result, scan_result, scanner_of, text_of};
+ghost use Rattle.fancy_scanner.specs.Scans.{GoesOn, HasRoom, IsScanOf, KeepsHeld, answers_of, captures_result, scan_result, text_of};
 ghost use Rattle.fancy_vm.specs.SearchLimits.{EndsBy};
 
 use crate::answers::Answer;
+use crate::scan_cache::ScanCache;
 use crate::scan_limit::limit_of;
 use crate::scanner::{Scanner, Stopped};
 use fancy_expr::error::Error;
@@ -48,7 +49,7 @@ pub struct ScanStep<'t> {
 pub struct ScanText<'r, 't> {
     pub(crate) scanner: &'r mut Scanner,
     pub(crate) text: &'t str,
-    pub(crate) answers: Vec<Option<Answer<'t>>>,
+    pub(crate) cache: &'r mut ScanCache<'t>,
 }
 
 impl<'r, 't> ScanText<'r, 't> {
@@ -99,10 +100,7 @@ impl<'r, 't> ScanText<'r, 't> {
     pub fn captures(&self, index: usize) -> Option<&Captures<'t>>
         ensures { option_copied result ≡ kept_captures (answers_of self.now) index }
     {
-        match self.answers.get(index) {
-            Some(Some(answer)) => answer.found.as_ref(),
-            _ => None,
-        }
+        self.cache.captures(index)
     }
 
     /// How many trees there are.
@@ -117,14 +115,6 @@ impl<'r, 't> ScanText<'r, 't> {
         ensures { result.now ≡ text_of self.now }
     {
         self.text
-    }
-
-    /// Ends the scan and gives the scanner back, with the same trees.
-    pub fn into_scanner(self) -> &'r mut Scanner
-        ensures name { result.ghost_name ≡ (scanner_of self.entry).ghost_name }
-        ensures same { result.now ≡ (scanner_of self.entry).now }
-    {
-        self.scanner
     }
 
     /// The match that is kept of the tree with this number, without its groups.
@@ -154,8 +144,8 @@ impl<'r, 't> ScanText<'r, 't> {
         ensures goes_on { GoesOn self.old self.new }
     {
         let count = self.scanner.tree_count();
-        'trees: while self.answers.len() < count {
-            self.answers.push(None)?;
+        'trees: while self.cache.answers.len() < count {
+            self.cache.answers.push(None)?;
         }
         Ok(())
     }
@@ -167,7 +157,7 @@ impl<'r, 't> ScanText<'r, 't> {
         ensures { result ≡ scans.is_held self.now index pos }
     {
         let lasting = self.scanner.lasting(index);
-        match &self.answers[index] {
+        match &self.cache.answers[index] {
             None => false,
             Some(answer) => answer.holds_at(pos, lasting),
         }
@@ -198,7 +188,7 @@ impl<'r, 't> ScanText<'r, 't> {
         }
         match self.scanner.captures_of(index, self.text, pos) {
             Ok(found) => {
-                self.answers[index] = Some(Answer { from: pos, found });
+                self.cache.answers[index] = Some(Answer { from: pos, found });
                 Ok(self.whole(index))
             }
             Err(error) => Err(error),

@@ -1,6 +1,6 @@
 //! Trees that are searched for together.
 
-ghost use Rattle.std.specs.Prelude.{◌≡◌, ◌≢◌, ◌⊎◌, ◌++◌, ◌∷◌, ◌<◌, ◌^◌, [], ℕ, IfErr, IfOk, IsTrue, List, MatchResult, None, OnErr, OnOk, Option, Some, length, option_map};
+ghost use Rattle.std.specs.Prelude.{◌≡◌, ◌≢◌, ◌⊎◌, ◌++◌, ◌∷◌, ◌<◌, ◌≤◌, ◌^◌, [], ℕ, IfErr, IfOk, IfSome, IsTrue, List, MatchResult, None, OnErr, OnOk, Option, Some, length, option_map};
 ghost use Rattle.fancy_meaning.specs.Options as plain;
 ghost use Rattle.fancy_meaning.specs.Places as places;
 ghost use Rattle.fancy_meaning.specs.Premises.{Input};
@@ -10,13 +10,14 @@ ghost use Rattle.fancy_matches.specs.Regexes.{FindsCaptures, IsRegexOf, captures
 ghost use Rattle.fancy_search.specs.Searches.{IsRefusedAs, input_of, search_fits};
 ghost use Rattle.fancy_scanner.specs.Scanning as scanning;
 ghost use Rattle.fancy_scanner.specs.Scanning.{AreEasy, AreEasyRuns, IsRuleAt, IsStoppedByDelegates, IsScannerOf, IsTreeOf, KeepsTrees, RuleMatch, Rule, Scans, in_text, lasting_at, limits_in, match_view, rule_match, rule_of, start_of, trees_of};
-ghost use Rattle.fancy_scanner.specs.Limits.{TellsPassed, passed_at};
-ghost use Rattle.fancy_scanner.specs.Scans.{BeginsScan};
+ghost use Rattle.fancy_scanner.specs.Limits.{TellsPassed, passed_at, passed_with};
+ghost use Rattle.fancy_scanner.specs.Scans.{BeginsScan, IsScanBy, IsWholeIn, KeepsAnswers, answers_in, told_with};
 ghost use Rattle.fancy_vm.specs.SearchLimits.{StaysWithin};
 
 use crate::lasting::Lasting;
+use crate::scan_cache::ScanCache;
 use crate::scan_limit::{ScanLimit, limit_of};
-use crate::scan_text::ScanText;
+use crate::scan_text::{ScanStep, ScanText};
 use fancy_expr::error::Error;
 use fancy_expr::expr::ExprTree;
 use fancy_matches::found::Captures;
@@ -276,17 +277,65 @@ impl Scanner {
         Ok(Scan { found, stopped })
     }
 
-    /// A scan of one text, which keeps what is found from one place to the next. The scanner is the caller's again once
-    /// the scan is gone; that it has the same trees is known where `ScanText::into_scanner` ends the scan.
-    pub fn scan<'r, 't>(&'r mut self, text: &'t str) -> ScanText<'r, 't>
-        ensures { BeginsScan self.entry text.now result }
+    /// A cache for a scan of a text by this scanner, which keeps nothing yet.
+    pub fn create_cache<'t>(&self) -> ScanCache<'t>
+        ensures { answers_in result ≡ [] }
     {
-        let alloc = self.alloc;
+        ScanCache::new(self.alloc)
+    }
+
+    /// A scan of one text, which keeps in the cache what is found from one place to the next. The cache is a new one, or
+    /// what an earlier scan of this text by this scanner kept. Both are the caller's again once the scan is gone.
+    pub fn scan<'r, 't>(
+        &'r mut self,
+        text: &'t str,
+        cache: &'r mut ScanCache<'t>,
+    ) -> ScanText<'r, 't>
+        ensures { BeginsScan self.entry text.now cache.entry result }
+    {
         ScanText {
             scanner: self,
             text,
-            answers: Vec::new(alloc),
+            cache,
         }
+    }
+
+    /// What `ScanText::find_from` finds in a scan of this text with this cache: for who holds the cache beside the scanner,
+    /// and scans from call to call.
+    pub fn find_with<'t>(
+        &mut self,
+        text: &'t str,
+        cache: &mut ScanCache<'t>,
+        pos: usize,
+    ) -> Result<ScanStep<'t>, Error>
+        requires { IsTrue (places.is_place text.now pos) }
+        ensures promise { (rules : List Rule)
+            → IsScanBy rules text.now self.old (answers_in cache.old)
+            → Scans text.now pos rules (told_with (answers_in cache.new) result) }
+        ensures whole { IfOk result (λ step. IfSome step.found (IsWholeIn (answers_in cache.new))) }
+        ensures easy { (rules : List Rule)
+            → IsScanBy rules text.now self.old (answers_in cache.old) → AreEasy text.now rules
+            → length text.now < 2 ^ 60 → IfOk result (λ step. step.stopped ≡ None) }
+        ensures easy_run { (rules : List Rule)
+            → IsScanBy rules text.now self.old (answers_in cache.old)
+            → AreEasyRuns text.now rules → length text.now < 2 ^ 60
+            → IfOk result (λ step. IsStoppedByDelegates step.stopped) }
+        ensures stays { IfOk result (λ step. TellsPassed
+            (passed_with pos self.new (answers_in cache.new))
+            (option_map (λ m. m.index) step.found) step.stopped) }
+        ensures held { KeepsAnswers pos self.old (answers_in cache.old) (answers_in cache.new) }
+        ensures same { KeepsTrees self.old self.new }
+        ensures still { (rules : List Rule)
+            → IsScanBy rules text.now self.old (answers_in cache.old)
+            → IsScanBy rules text.now self.new (answers_in cache.new) }
+        ensures count { length (answers_in cache.old) ≤ length (answers_in cache.new) }
+    {
+        let mut scan = ScanText {
+            scanner: self,
+            text,
+            cache,
+        };
+        scan.find_from(pos)
     }
 }
 

@@ -5,6 +5,7 @@ use fancy_characters::places::is_place;
 use fancy_regex_engine::error::Error;
 use fancy_regex_engine::expr::{is_well_formed, read_tree};
 use fancy_regex_engine::search::SearchOptions;
+use fancy_scanner::scan_limit::ScanLimit;
 use fancy_scanner::scan_text::ScanText;
 use fancy_scanner::scanner::{Scanner, Stopped};
 use fancy_tables::columns::{number, push_differ, split as columns, with_line_ends};
@@ -36,9 +37,12 @@ pub fn push_stopped(line: &mut String, stopped: &Option<Stopped>) -> Result<(), 
     let Some(stopped) = stopped else {
         return Ok(());
     };
-    let (index, limit) = (stopped.index, stopped.limit);
+    let index = stopped.index;
     push_comma(line)?;
-    write!(line, "{index}:{limit:?}")
+    match stopped.limit {
+        ScanLimit::RuntimeError(limit) => write!(line, "{index}:{limit:?}"),
+        limit => write!(line, "{index}:{limit:?}"),
+    }
 }
 
 /// The match from this place on, with the number of its tree, behind a limit that a tree passed, by a scan of the text;
@@ -145,7 +149,8 @@ pub fn push_scans(line: &mut String, alloc: Global, key: &str) -> Result<(), Err
     let text = with_line_ends(alloc, text)?;
     let (mut kept, mut found) = (String::new(alloc), String::new(alloc));
     let (mut scanner, mut compiled) = scanners(alloc, trees)?;
-    let mut scan = scanner.scan(text.as_str());
+    let mut cache = scanner.create_cache();
+    let mut scan = scanner.scan(text.as_str(), &mut cache);
     if places.is_empty() {
         push_matches(
             &mut kept,

@@ -6,7 +6,7 @@ use Rattle.fancy_info.specs.Infos.{analysis_options_of}
 use Rattle.fancy_compile.specs.Compiled.{compile_options_of}
 use Rattle.fancy_regex.specs.Builders.{options}
 use Rattle.fancy_matches.specs.declared.options.RegexOptions as engine_options
-use Rattle.fancy_regex.specs.Options.{input, limits}
+use Rattle.fancy_regex.specs.Options.{input}
 use Rattle.fancy_regex.proofs.Built.{built, compiled_so, limited_so, refused, refused_so, unlimited_so, within_so}
 use Rattle.fancy_regex.proofs.builder.RegexBuilder.build.Goals as goal
 

@@ -4,7 +4,7 @@ use Rattle.fancy_vm.specs.Tasks.{options_of as run_options_of}
 use Rattle.fancy_info.specs.Infos.{analysis_options_of}
 use Rattle.fancy_compile.specs.Compiled.{compile_options_of}
 use Rattle.fancy_matches.specs.Listing.{options_for}
-use Rattle.fancy_scanner.specs.Scanning.{IsTreeOf}
+use Rattle.fancy_scanner.specs.Scanning.{IsTreeOf, rule_of}
 use Rattle.fancy_regex.specs.Builders.{AreNamesOf, options}
 use Rattle.fancy_regex.specs.Options.{input}
 use Rattle.fancy_regex.proofs.Built.{refused, refused_so}
@@ -21,11 +21,13 @@ returns-in_ok-names-in-Ok c =
     let o = c.search_options-search.result in
     let says = c.search_options-search.ensures in
     let rule = λ (text : List ℕ). rule_so tree (options b) text (analysis_options_of o.analysis) (compile_options_of o.compilation)
-    (options_for (run_options_of o.run) (options b).backtrack_limit text) says.analysis says.compilation (says.run text) in
+    (options_for (run_options_of o.run) (options b).backtrack_limit text) c.search_limits.result says.analysis says.compilation (says.run text)
+    c.search_limits.ensures in
+    let made = rule_of tree o (options b).backtrack_limit in
     record {
       tree = tree;
       spelled = c.in_ok-tree.ensures;
-      compiled = λ text. subst (λ r. IsTreeOf r text c.in-Ok.compiled) (rule text) (c.in-Ok.ensures text);
+      compiled = λ text. subst (λ r. IsTreeOf r text c.limit.new.self) (rule text) (c.limit.ensures (made text) text (c.in-Ok.ensures text));
       names = subst (AreNamesOf tree) (sym c.in_ok-names-in-Ok.ensures.ok) c.names_of.ensures;
     }
 

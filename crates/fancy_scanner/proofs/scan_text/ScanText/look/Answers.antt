@@ -33,7 +33,7 @@ returns-in-Ok-clause-held c = put_held c.args.self.now c.args.index c.args.pos _
 pub returns-in-Ok-clause-goes_on : goal.returns-in-Ok-clause-goes_on
 returns-in-Ok-clause-goes_on c =
     let a : Answer = record { from = c.args.pos; found = c.in-Ok.found } in
-    goes_on_answer c.args.self.now _ c.args.index a refl c.captures_of.ensures.same refl refl
+    goes_on_answer c.args.self.now _ c.args.index a refl c.captures_of.ensures.same (record { scanner = refl; cache = refl }) refl
     (λ rules r h at. c.in-Ok.ensures.promise rules r h at)
 
 pub returns-in-Ok-clause-limits : goal.returns-in-Ok-clause-limits

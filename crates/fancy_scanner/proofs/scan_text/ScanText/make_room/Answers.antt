@@ -7,7 +7,7 @@ pub trees-init : goal.trees-init
 trees-init c = no_room_yet c.args.self.now
 
 pub trees-preserved : goal.trees-preserved
-trees-preserved c = more_room c.args.self.now c.trees.self _ c.trees.invariant refl refl c.in_ok-push.ensures.items
+trees-preserved c = more_room c.args.self.now c.trees.self _ c.trees.invariant refl refl refl c.in_ok-push.ensures.items
 
 pub returns-in_err-push-clause-held : goal.returns-in_err-push-clause-held
 returns-in_err-push-clause-held c = λ pos k e. ap (λ l. slice_get l k) c.in_err-push.ensures.items ∙ c.trees.invariant.holds pos k e

@@ -1,0 +1,20 @@
+use Rattle.std.proofs.Common.{IsTrue, List, ℕ, sym, subst}
+use Rattle.fancy_meaning.specs.Places.{is_place}
+use Rattle.std.proofs.lemmas.Str.{IsCharBoundary-start}
+use Rattle.fancy_laws.proofs.Characters.{place_of_cut}
+use Rattle.fancy_scanner.specs.Scanning.{Scans}
+use Rattle.fancy_regex.specs.Scanners.{scan_result}
+use Rattle.fancy_regex.proofs.scanner.Scanner.find.Goals as goal
+
+pub find_from-step-requires : goal.find_from-step-requires
+find_from-step-requires c = subst (λ (t : List ℕ). IsTrue (is_place t 0)) (sym c.scan-scan.ensures.within)
+    (place_of_cut c.args.text.now 0 (IsCharBoundary-start c.args.text.now c.utf8.text))
+
+pub returns-clause-first : goal.returns-clause-first
+returns-clause-first c = λ rules h. record {
+  scan = c.find_from-step.new.self;
+  promise =
+      subst (λ (t : List ℕ). Scans t 0 rules (scan_result c.find_from-step.new.self c.find_from-step.result)) c.scan-scan.ensures.within
+      (c.find_from-step.ensures.promise rules (c.scan-scan.ensures.right rules h));
+  whole = c.find_from-step.ensures.whole;
+}
