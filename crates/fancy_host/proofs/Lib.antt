@@ -1,4 +1,5 @@
 pub mod Answered
+pub mod EasyOutcomes
 pub mod LimitsPassed
 pub mod Ended
 pub mod HandleRows

@@ -1,4 +1,5 @@
 pub mod Codes
+pub mod Easy
 pub mod Hosted
 pub mod Lists
 pub mod Messages

@@ -20,6 +20,7 @@ mod writing;
 
 ghost use Rattle.std.specs.Prelude.{◌≡◌, None, codes, length};
 ghost use Rattle.fancy_host.specs.Codes.{name_of};
+ghost use Rattle.fancy_host.specs.Easy.{IsNoLimitWhereEasy};
 ghost use Rattle.fancy_host.specs.Hosted.{Clones, Compiles, FindsFirst, default_options, ended, group_count, tree_of};
 ghost use Rattle.fancy_host.specs.Hosted as hosted;
 ghost use Rattle.fancy_host.specs.Lists.{FindsAll, all_groups, span_alone};
@@ -143,6 +144,8 @@ pub extern "C" fn fancy_is_match(
         (hosted.passed_of options.now program.new.handle.searcher)
         (tree_of program.old.handle.searcher)
         result }
+    ensures easy { IsNoLimitWhereEasy
+        (tree_of program.old.handle.searcher) text.now options.now result }
     ensures keeps { tree_of program.new.handle.searcher ≡ tree_of program.old.handle.searcher }
 {
     let text = match searched(text, options, program) {
@@ -173,6 +176,8 @@ pub extern "C" fn fancy_find(
         (tree_of program.old.handle.searcher)
         spans.new
         result }
+    ensures easy { IsNoLimitWhereEasy
+        (tree_of program.old.handle.searcher) text.now options.now result }
     ensures keeps { tree_of program.new.handle.searcher ≡ tree_of program.old.handle.searcher }
 {
     let text = match searched(text, options, program) {
@@ -210,6 +215,8 @@ pub extern "C" fn fancy_find_all(
         standing.new
         spans.new
         result }
+    ensures easy { IsNoLimitWhereEasy
+        (tree_of program.old.handle.searcher) text.now options.now result }
     ensures keeps { tree_of program.new.handle.searcher ≡ tree_of program.old.handle.searcher }
 {
     let text = match searched(text, options, program) {
@@ -244,6 +251,8 @@ pub extern "C" fn fancy_captures_all(
         standing.new
         spans.new
         result }
+    ensures easy { IsNoLimitWhereEasy
+        (tree_of program.old.handle.searcher) text.now options.now result }
     ensures keeps { tree_of program.new.handle.searcher ≡ tree_of program.old.handle.searcher }
 {
     let text = match searched(text, options, program) {
@@ -282,6 +291,8 @@ pub extern "C" fn fancy_replace(
         (tree_of program.old.handle.searcher)
         room.new
         result }
+    ensures easy { IsNoLimitWhereEasy
+        (tree_of program.old.handle.searcher) text.now options.now result }
     ensures keeps { tree_of program.new.handle.searcher ≡ tree_of program.old.handle.searcher }
 {
     let text = match searched(text, options, program) {

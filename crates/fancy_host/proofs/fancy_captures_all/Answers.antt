@@ -3,6 +3,7 @@ use Rattle.fancy_vm.specs.declared.search_limits.SearchLimit.{SearchLimit}
 use Rattle.fancy_host.specs.Lists.{FindsAll, all_groups, unsearched}
 use Rattle.fancy_host.specs.Hosted.{passed_of, tree_in, tree_of}
 use Rattle.fancy_host.proofs.Listed.{all_found_by}
+use Rattle.fancy_host.proofs.EasyOutcomes.{list_easy}
 use Rattle.fancy_host.proofs.fancy_captures_all.Goals as goal
 
 pub returns-in-Err-clause-finds : goal.returns-in-Err-clause-finds
@@ -21,3 +22,9 @@ returns-clause-finds c =
     (tree_in c.into_searcher-searcher.result.value)
     (tree_in c.deref_mut.result.now) c.in-Ok.ensures.0 c.in-Ok.ensures.1
     (ap tree_of (sym c.take.ensures.held ∙ c.into_searcher-searcher.ensures)) (ap tree_in c.deref_mut.ensures.value) c.captures_all-outcome.ensures.lists)
+
+pub returns-in-Err-clause-easy : goal.returns-in-Err-clause-easy
+returns-in-Err-clause-easy c = list_easy c.args.text.now c.args.options.now (returns-in-Err-clause-finds c)
+
+pub returns-clause-easy : goal.returns-clause-easy
+returns-clause-easy c = list_easy c.args.text.now c.args.options.now (returns-clause-finds c)

@@ -3,6 +3,7 @@ use Rattle.fancy_vm.specs.declared.search_limits.SearchLimit.{SearchLimit}
 use Rattle.fancy_host.specs.Whether.{FindsAny, unsearched}
 use Rattle.fancy_host.specs.Hosted.{passed_of, tree_in, tree_of}
 use Rattle.fancy_host.proofs.Told.{any_found_by}
+use Rattle.fancy_host.proofs.EasyOutcomes.{any_easy}
 use Rattle.fancy_host.proofs.fancy_is_match.Goals as goal
 
 pub returns-in-Err-clause-finds : goal.returns-in-Err-clause-finds
@@ -18,3 +19,9 @@ returns-clause-finds c =
     (tree_of c.args.program.now.handle.searcher) (tree_in c.into_searcher-searcher.result.value) (tree_in c.deref_mut.result.now)
     c.in-Ok.ensures.0 c.in-Ok.ensures.1
     (ap tree_of (sym c.take.ensures.held ∙ c.into_searcher-searcher.ensures)) (ap tree_in c.deref_mut.ensures.value) c.is_match-outcome.ensures.tells)
+
+pub returns-in-Err-clause-easy : goal.returns-in-Err-clause-easy
+returns-in-Err-clause-easy c = any_easy c.args.text.now c.args.options.now (returns-in-Err-clause-finds c)
+
+pub returns-clause-easy : goal.returns-clause-easy
+returns-clause-easy c = any_easy c.args.text.now c.args.options.now (returns-clause-finds c)

@@ -3,6 +3,7 @@ use Rattle.fancy_vm.specs.declared.search_limits.SearchLimit.{SearchLimit}
 use Rattle.fancy_host.specs.Hosted.{not_utf8, passed_of, tree_in, tree_of}
 use Rattle.fancy_host.specs.Rewritten.{ReplacesIn, by_no_text, unsearched}
 use Rattle.fancy_host.proofs.TextReplaced.{replaced_by}
+use Rattle.fancy_host.proofs.EasyOutcomes.{replace_easy}
 use Rattle.fancy_host.proofs.fancy_replace.Goals as goal
 
 pub returns-in-Err-clause-replaces : goal.returns-in-Err-clause-replaces
@@ -29,3 +30,12 @@ returns-clause-replaces c =
     (tree_in c.into_searcher-searcher.result.value) (tree_in c.deref_mut.result.now) c.in-Ok.ensures.0 c.in-Ok.ensures.1 c.in-Ok-from_utf8.ensures.cases.0
     c.in-Ok-from_utf8.ensures.cases.1 (ap tree_of (sym c.take.ensures.held ∙ c.into_searcher-searcher.ensures)) (ap tree_in c.deref_mut.ensures.value)
     c.replace-outcome.ensures.replaces)
+
+pub returns-in-Err-clause-easy : goal.returns-in-Err-clause-easy
+returns-in-Err-clause-easy c = replace_easy c.args.text.now c.args.options.now (returns-in-Err-clause-replaces c)
+
+pub returns-in-Err-from_utf8-clause-easy : goal.returns-in-Err-from_utf8-clause-easy
+returns-in-Err-from_utf8-clause-easy c = replace_easy c.args.text.now c.args.options.now (returns-in-Err-from_utf8-clause-replaces c)
+
+pub returns-clause-easy : goal.returns-clause-easy
+returns-clause-easy c = replace_easy c.args.text.now c.args.options.now (returns-clause-replaces c)
