@@ -2,6 +2,7 @@ pub mod Words
 pub mod Numerals
 pub mod Lexed
 pub mod NamedGroups
+pub mod NodeStacks
 pub mod MadeNodes
 pub mod OneChars
 pub mod Points

@@ -12,7 +12,6 @@ use Rattle.fancy_pattern.specs.declared.kept.Placed.{Placed as Code}
 use Rattle.fancy_pattern.specs.declared.tokens.Quantifier.{Quantifier}
 use Rattle.fancy_pattern.specs.declared.tokens.Suffix.{Suffix}
 use Rattle.fancy_pattern.specs.declared.tokens.Enclosing.{Enclosing}
-use Rattle.fancy_pattern.specs.declared.tokens.Enclosing.TheVariants.{Plain}
 use Rattle.fancy_pattern.specs.Tokens.{Reference, Token, Node, Placed, Opening, Around, Group, AbsentBar, If, IfPattern, IfLook}
 use Rattle.fancy_pattern.specs.PatternViews.{placed_of}
 use Rattle.fancy_pattern.specs.Grammar.{Names, Takes, first_gives, gives_some, is_at, is_branch_end, is_empty, is_repeatable, bar, closing, quantifier, class_text, class_close, class_of, joined, branch_of, alternated, suffixed, SpellsSuffix, SpellsClass, class_end, class_piece, class_open, opening, node_of, reference, enclosed, SpellsAtom, node, class, opened, SpellsOpened, around, group, stopper, expression, if_group, if_pattern, if_look, SpellsBodies, one_body, two_bodies, SpellsPiece, plain, quantified, SpellsPieces, no_piece, piece, SpellsBranch, branch, SpellsBars, no_bar, barred, SpellsAlternatives, branches}
@@ -20,7 +19,7 @@ use Rattle.fancy_pattern.proofs.MadeNodes.{text_added, one_char}
 use Rattle.fancy_expr.specs.Each.{Each}
 use Rattle.fancy_pattern.proofs.OneChars.{no_parts, with_part}
 use Rattle.fancy_pattern.proofs.Rows.{Row, none_read, row_more, BarRow, none_barred, bar_row_more, TextRow, none_text, text_row_more}
-use Rattle.fancy_pattern.specs.Reading.{OneCharEach, point_of, Skips, ReadsTree, ReadsLast, ReadsClass, SpellsLast, Quantifies, alone, by, some_of}
+use Rattle.fancy_pattern.specs.Reading.{OneCharEach, point_of, Skips, Adds, TakesOff, Pushes, Boxes, SpellsLast, SpellsMore, SpellsRest, SpellsNode, Quantifies, alone, by, some_of}
 
 pub skipped : (old new : Reader) → 0 < length old.rest.now → new.rest.now ≡ drop 1 old.rest.now → Skips old new
 skipped old new h rest = let p = front old.rest.now new.rest.now h rest in record { first = p.0; tokens = p.1 }
@@ -46,6 +45,29 @@ takes_at gives old new e s = takes_next gives tt old new (at_some (first_gives g
 pub not_there : {V : Type 0} (o : Option V) → o ≡ None → gives_some o ≡ false
 not_there o e = ap gives_some e
 
+-- ---- the stack of nodes
+
+-- a node with the tree that was read was pushed, or made of what is on top
+pub pushed : (spells : List Placed → List Placed → Tree → Type 0) (old new : Reader) (below all : List Expr) (e : Tree) →
+    spells (point_of old) (point_of new) e → Adds e below all → Pushes spells old new below all
+pushed spells old new below all e s h = record { read = e; adds = h; spelled = s }
+
+-- what is on top was put into a box
+pub boxed : (spells : List Placed → List Placed → Tree → Type 0) (old new : Reader) (below left : List Expr) (found : Expr) (e : Tree) →
+    spells (point_of old) (point_of new) e → TakesOff e below left found → Boxes spells old new below left found
+boxed spells old new below left found e s h =
+    record { spelled = subst (spells (point_of old) (point_of new)) (sym h.made) s; one_char = h.one_char; rest = h.rest }
+
+-- in place of a stack an equal one
+pub on_same : (e : Tree) (below same all : List Expr) → same ≡ below → Adds e same all → Adds e below all
+on_same e below same all is h = subst (λ l. Adds e l all) is h
+
+pub one_added : (e : Tree) (row : List Expr) → Adds e [] row → (map tree_of row ≡ e ∷ []) × Each OneCharEach row
+one_added e row h = (
+  ap (map tree_of) h.added ∙ ap (λ t. t ∷ []) h.made,
+  subst (Each OneCharEach) (sym h.added) (h.one_char, tt),
+)
+
 -- ---- pieces
 
 pub by_quantifier : (e r : Tree) (x y z : List Placed) (q : Quantifier) (g : Bool) (s : Option Suffix) → is_repeatable e ≡ true → Takes quantifier x
@@ -70,37 +92,38 @@ piece_alone names x y e on p end = subst (SpellsBranch names x y) (itself e) (br
     itself tree.Empty = refl
     itself e = refl
 
-pub one_given : (e : Expr) (none given : List Expr) → none ≡ [] → given ≡ none ++ e ∷ [] → map tree_of given ≡ tree_of e ∷ []
-one_given e none given nothing is = ap (map tree_of) (is ∙ ap (λ l. l ++ e ∷ []) nothing)
-
-pub alternatives_spelled : (names : Names) (x y z : List Placed) (e : Tree) (es given made : List Tree) (r : Tree) → SpellsBranch names x y e →
-    SpellsBars names y z es → given ≡ e ∷ [] → made ≡ given ++ es → r ≡ alternated made → SpellsAlternatives names x z r
-alternatives_spelled names x y z e es given made r s more one are is =
-    subst (SpellsAlternatives names x z) (sym (is ∙ ap alternated (are ∙ ap (λ l. l ++ es) one))) (branches s more)
-
 -- ---- atoms
 
-pub atom_opened : (names : Names) (old mid new : Reader) (o : Opening) (r : Result Expr Failure) → first_gives opening (point_of old) ≡ Some o →
-    Skips old mid →
-    ReadsTree (SpellsOpened names o) mid new r → ReadsTree (SpellsAtom names) old new r
-atom_opened names old mid new o (Ok e) is s h = opened (takes_next opening o old mid is s) h
-atom_opened names old mid new o (Err f) is s h = tt
+pub atom_opened : {A : Type 0} (names : Names) (old mid new : Reader) (o : Opening) (below all : List Expr) (r : Result A Failure) →
+    first_gives opening (point_of old) ≡ Some o → Skips old mid → IfOk r (λ u. Pushes (SpellsOpened names o) mid new below all) →
+    IfOk r (λ u. Pushes (SpellsAtom names) old new below all)
+atom_opened names old mid new o below all (Ok u) is s h =
+    record { read = h.read; adds = h.adds; spelled = opened (takes_next opening o old mid is s) h.spelled }
+atom_opened names old mid new o below all (Err f) is s h = tt
 
-pub atom_class : (names : Names) (old mid new : Reader) (casei : Bool) (r : Result Expr Failure) → first_gives class_open (point_of old) ≡ Some casei →
-    Skips old mid → ReadsClass casei mid new r → ReadsTree (SpellsAtom names) old new r
-atom_class names old mid new casei (Ok e) is s h =
-    subst (SpellsAtom names (point_of old) (point_of new)) (sym h.2) (class (takes_next class_open casei old mid is s) h.1)
-atom_class names old mid new casei (Err f) is s h = tt
+pub atom_class : {A : Type 0} (names : Names) (old mid new : Reader) (casei : Bool) (below all : List Expr) (r : Result A Failure) →
+    first_gives class_open (point_of old) ≡ Some casei → Skips old mid → IfOk r (λ u. Pushes (SpellsRest casei) mid new below all) →
+    IfOk r (λ u. Pushes (SpellsAtom names) old new below all)
+atom_class names old mid new casei below all (Ok u) is s h =
+    let rest = h.spelled in
+    record {
+      read = h.read;
+      adds = h.adds;
+      spelled = subst (SpellsAtom names (point_of old) (point_of new)) (sym rest.2) (class (takes_next class_open casei old mid is s) rest.1);
+    }
+atom_class names old mid new casei below all (Err f) is s h = tt
 
-pub atom_node : (names : Names) (old new : Reader) (r : Result Expr Failure) →
-    IfOk r (λ e. Takes (node_of names) (point_of old) (tree_of e) (point_of new)) → ReadsTree (SpellsAtom names) old new r
-atom_node names old new (Ok e) h = node h
-atom_node names old new (Err f) h = tt
+pub atom_node : {A : Type 0} (names : Names) (old new : Reader) (below all : List Expr) (r : Result A Failure) →
+    IfOk r (λ u. Pushes (SpellsNode names) old new below all) → IfOk r (λ u. Pushes (SpellsAtom names) old new below all)
+atom_node names old new below all (Ok u) h = record { read = h.read; adds = h.adds; spelled = node h.spelled }
+atom_node names old new below all (Err f) h = tt
 
-pub piece_read : (names : Names) (atom : Tree) (old mid new : Reader) (r : Result Expr Failure) → SpellsAtom names (point_of old) (point_of mid) atom →
-    IfOk r (λ e. Quantifies atom (point_of mid) (point_of new) (tree_of e)) → ReadsTree (SpellsPiece names) old new r
-piece_read names atom old mid new (Ok e) a h = piece_spelled names atom (tree_of e) (point_of old) (point_of mid) (point_of new) a h
-piece_read names atom old mid new (Err f) a h = tt
+pub piece_read : {A : Type 0} (names : Names) (atom : Tree) (old mid new : Reader) (below all : List Expr) (r : Result A Failure) →
+    SpellsAtom names (point_of old) (point_of mid) atom → IfOk r (λ u. Pushes (Quantifies atom) mid new below all) →
+    IfOk r (λ u. Pushes (SpellsPiece names) old new below all)
+piece_read names atom old mid new below all (Ok u) a h =
+    record { read = h.read; adds = h.adds; spelled = piece_spelled names atom h.read (point_of old) (point_of mid) (point_of new) a h.spelled }
+piece_read names atom old mid new below all (Err f) a h = tt
 
 -- ---- literals
 
@@ -127,12 +150,12 @@ pub around_spelled : (names : Names) (f : Enclosing) (x z : List Placed) (e r : 
     SpellsOpened names (Around f) x z r
 around_spelled names f x z e r h is = subst (SpellsOpened names (Around f) x z) (sym is) (around h.1 h.2)
 
--- a plain one
-pub plain_read : (names : Names) (f : Enclosing) (old new : Reader) (r : Result Expr Failure) → f ≡ Plain → ReadsLast names old new r →
-    ReadsTree (SpellsOpened names (Around f)) old new r
-plain_read names f old new (Ok e) is h =
-    around_spelled names f (point_of old) (point_of new) (tree_of e) (tree_of e) h (ap (λ g. enclosed g (tree_of e)) (sym is))
-plain_read names f old new (Err x) is h = tt
+-- alternatives, and what closes them
+pub last_read : {A : Type 0} (names : Names) (old mid new : Reader) (below all : List Expr) (r : Result A Failure) →
+    Pushes (SpellsAlternatives names) old mid below all → IfOk r (λ u. Takes closing (point_of mid) tt (point_of new)) →
+    IfOk r (λ u. Pushes (SpellsLast names) old new below all)
+last_read names old mid new below all (Ok u) h t = record { read = h.read; adds = h.adds; spelled = (point_of mid, h.spelled, t) }
+last_read names old mid new below all (Err f) h t = tt
 
 pub group_spelled : (names : Names) (number : ℕ) (name : Option (List ℕ)) (x z : List Placed) (e r : Tree) → SpellsLast names x z e → r ≡ tree.Group 0 e →
     SpellsOpened names (Group number name) x z r
@@ -156,22 +179,30 @@ two_bodies_spelled names c x y z v t f r b k h is = subst (SpellsBodies names c 
 
 -- ---- conditions
 
-pub if_group_read : (names : Names) (q : Reference) (c : Tree) (old new : Reader) (r : Result Expr Failure) → Some c ≡ reference names q →
-    false ≡ is_at closing (point_of old) → ReadsTree (SpellsBodies names c) old new r → ReadsTree (SpellsOpened names (If q)) old new r
-if_group_read names q c old new (Ok e) is on h = if_group (sym is) (sym on) h
-if_group_read names q c old new (Err f) is on h = tt
+pub if_group_read : {A : Type 0} (names : Names) (q : Reference) (c : Tree) (old new : Reader) (below all : List Expr) (r : Result A Failure) →
+    Some c ≡ reference names q → false ≡ is_at closing (point_of old) → IfOk r (λ u. Pushes (SpellsBodies names c) old new below all) →
+    IfOk r (λ u. Pushes (SpellsOpened names (If q)) old new below all)
+if_group_read names q c old new below all (Ok u) is on h =
+    record { read = h.read; adds = h.adds; spelled = if_group (sym is) (sym on) h.spelled }
+if_group_read names q c old new below all (Err f) is on h = tt
 
-pub if_pattern_read : (names : Names) (c : Tree) (old mid new : Reader) (r : Result Expr Failure) → SpellsLast names (point_of old) (point_of mid) c →
-    ReadsTree (SpellsBodies names c) mid new r → ReadsTree (SpellsOpened names IfPattern) old new r
-if_pattern_read names c old mid new (Ok e) s h = if_pattern s.1 s.2 h
-if_pattern_read names c old mid new (Err f) s h = tt
+pub if_pattern_read : {A : Type 0} (names : Names) (c : Tree) (old mid new : Reader) (below all : List Expr) (r : Result A Failure) →
+    SpellsLast names (point_of old) (point_of mid) c → IfOk r (λ u. Pushes (SpellsBodies names c) mid new below all) →
+    IfOk r (λ u. Pushes (SpellsOpened names IfPattern) old new below all)
+if_pattern_read names c old mid new below all (Ok u) s h =
+    record { read = h.read; adds = h.adds; spelled = if_pattern s.1 s.2 h.spelled }
+if_pattern_read names c old mid new below all (Err f) s h = tt
 
-pub if_look_read : (names : Names) (l : tree.Look) (c k : Tree) (old mid new : Reader) (r : Result Expr Failure) →
-    SpellsLast names (point_of old) (point_of mid) c → k ≡ tree.LookAround l c → ReadsTree (SpellsBodies names k) mid new r →
-    ReadsTree (SpellsOpened names (IfLook l)) old new r
-if_look_read names l c k old mid new (Ok e) s is h =
-    if_look s.1 s.2 (subst (λ b. SpellsBodies names b (point_of mid) (point_of new) (tree_of e)) is h)
-if_look_read names l c k old mid new (Err f) s is h = tt
+pub if_look_read : {A : Type 0} (names : Names) (l : tree.Look) (c k : Tree) (old mid new : Reader) (below all : List Expr) (r : Result A Failure) →
+    SpellsLast names (point_of old) (point_of mid) c → k ≡ tree.LookAround l c → IfOk r (λ u. Pushes (SpellsBodies names k) mid new below all) →
+    IfOk r (λ u. Pushes (SpellsOpened names (IfLook l)) old new below all)
+if_look_read names l c k old mid new below all (Ok u) s is h =
+    record {
+      read = h.read;
+      adds = h.adds;
+      spelled = if_look s.1 s.2 (subst (λ b. SpellsBodies names b (point_of mid) (point_of new) h.read) is h.spelled);
+    }
+if_look_read names l c k old mid new below all (Err f) s is h = tt
 
 -- ---- loops
 
@@ -313,3 +344,48 @@ class_done start old new text whole casei r t is = (
   subst (SpellsClass (point_of start) (point_of new)) (append-nil r.so_far) (r.spelled (point_of new) [] (class_end t)),
   ap (λ bytes. tree.Delegate bytes casei) (text_added [] (91 ∷ r.so_far) (93 ∷ []) text whole r.is (one_char text whole 93 is)),
 )
+
+-- ---- rows on the stack
+
+-- the pieces of a branch so far, apart from the stack
+pub record PiecesApart (names : Names) (start now : Reader) (before left made : List Expr) : Type 0 where
+  pub pieces : PiecesRead names start now made
+  pub rest : left ≡ before
+
+pub pieces_pushed : (names : Names) (start now : Reader) (before left made all : List Expr) → PiecesApart names start now before left made →
+    is_branch_end (point_of now) ≡ true → (Each OneCharEach made → Adds (joined (map tree_of made)) left all) →
+    Pushes (SpellsBranch names) start now before all
+pieces_pushed names start now before left made all p at_end h =
+    let s = pieces_done names start now made p.pieces at_end in
+    pushed (SpellsBranch names) start now before all (joined (map tree_of made))
+    (branch_spelled names (point_of start) (point_of now) s.0 (map tree_of made) (joined (map tree_of made)) s.1 s.2 refl)
+    (on_same (joined (map tree_of made)) before left all p.rest (h p.pieces.one_char))
+
+-- the branches so far, the first of which was on top of the stack
+pub record BarsApart (names : Names) (start now : Reader) (before left made : List Expr) : Type 0 where
+  pub given : List Expr
+  pub bars : BarsRead names start now given made
+  pub first : (below : List Expr) (e : Tree) → Adds e below before → Adds e [] given × (left ≡ below)
+
+pub bars_pushed : (names : Names) (start now : Reader) (before left made all : List Expr) → BarsApart names start now before left made →
+    is_at bar (point_of now) ≡ false → (Each OneCharEach made → Adds (alternated (map tree_of made)) left all) →
+    (below : List Expr) (e : Tree) → Adds e below before → Pushes (SpellsMore names e) start now below all
+bars_pushed names start now before left made all b at_end h below e a =
+    let f = b.first below e a in
+    let one = one_added e b.given f.0 in
+    let s = bars_done names start now b.given made b.bars at_end in
+    pushed (SpellsMore names e) start now below all (alternated (map tree_of made))
+    (s.0, s.1, ap alternated (s.2 ∙ ap (λ l. l ++ s.0) one.0))
+    (on_same (alternated (map tree_of made)) below left all f.1 (h (b.bars.one_char one.1)))
+
+pub alternatives_pushed : {A : Type 0} (names : Names) (old mid new : Reader) (below all : List Expr) (r : Result A Failure) (e : Tree) →
+    SpellsBranch names (point_of old) (point_of mid) e → IfOk r (λ u. Pushes (SpellsMore names e) mid new below all) →
+    IfOk r (λ u. Pushes (SpellsAlternatives names) old new below all)
+alternatives_pushed names old mid new below all (Ok u) e s h =
+    let more = h.spelled in
+    record {
+      read = h.read;
+      adds = h.adds;
+      spelled = subst (SpellsAlternatives names (point_of old) (point_of new)) (sym more.2) (branches s more.1);
+    }
+alternatives_pushed names old mid new below all (Err f) e s h = tt

@@ -2,7 +2,6 @@
 use Rattle.std.proofs.Common.{◌≡◌, ℕ, ◌≤◌, Bool, true, false, not, List, [], ◌∷◌, ◌++◌, length, Option, Some, None, Result, Ok, Err, refl, sym, ap, ◌∙◌, subst, arith, append_assoc}
 use Rattle.std.specs.Prelude.{IfErr}
 use Rattle.std.proofs.lemmas.Bool.{true≢false}
-use Rattle.fancy_expr.specs.declared.expr.Expr.{Expr}
 use Rattle.fancy_meaning.specs.Tree as tree
 use Rattle.fancy_meaning.specs.Tree.{Tree}
 use Rattle.fancy_pattern.specs.declared.error.Fault.{Fault}
@@ -539,7 +538,7 @@ around_of_last names g x (failure.Fault f) s = behind (stuck_first [] (λ z end.
     part_of x' z w same (around a c) = (_, _, (_, a, c))
 around_of_last names g x failure.Memory s = tt
 
-pub around_fails : (names : Names) (g : Enclosing) (x : List Placed) (r : Result Expr Failure) → IfErr r (Fails names anything (SpellsLast names) x) →
+pub around_fails : {A : Type 0} (names : Names) (g : Enclosing) (x : List Placed) (r : Result A Failure) → IfErr r (Fails names anything (SpellsLast names) x) →
     IfErr r (FailsOpened names (Around g) x)
 around_fails names g x (Ok e) h = tt
 around_fails names g x (Err e) h = around_of_last names g x e h
@@ -642,40 +641,62 @@ if_of_bodies names r c x failure.Memory is lacks s = tt
 
 -- ---- what calls answer
 
-pub atom_opened_fails : (names : Names) (x y : List Placed) (o : Opening) (r : Result Expr Failure) → Takes opening x o y → IfErr r (FailsOpened names o y) →
+pub atom_opened_fails : {A : Type 0} (names : Names) (x y : List Placed) (o : Opening) (r : Result A Failure) → Takes opening x o y →
+    IfErr r (FailsOpened names o y) →
     IfErr r (Fails names is_calm (SpellsAtom names) x)
 atom_opened_fails names x y o (Ok v) t h = tt
 atom_opened_fails names x y o (Err e) t h = atom_of_opened names x y o e t h
 
-pub atom_class_fails : (names : Names) (x y : List Placed) (casei : Bool) (r : Result Expr Failure) → Takes class_open x casei y →
+pub atom_class_fails : {A : Type 0} (names : Names) (x y : List Placed) (casei : Bool) (r : Result A Failure) → Takes class_open x casei y →
     IfErr r (Fails names anything SpellsClass y) → IfErr r (Fails names is_calm (SpellsAtom names) x)
 atom_class_fails names x y casei (Ok v) t h = tt
 atom_class_fails names x y casei (Err e) t h = atom_of_class names x y casei e t h
 
-pub atom_node_fails : (names : Names) (x : List Placed) (r : Result Expr Failure) → first_gives opening x ≡ None → first_gives class_open x ≡ None →
+pub atom_node_fails : {A : Type 0} (names : Names) (x : List Placed) (r : Result A Failure) → first_gives opening x ≡ None → first_gives class_open x ≡ None →
     IfErr r (Fails names is_calm (OneToken (node_of names)) x) → IfErr r (Fails names is_calm (SpellsAtom names) x)
 atom_node_fails names x (Ok v) no_open no_class h = tt
 atom_node_fails names x (Err e) no_open no_class h = atom_of_node names x e no_open no_class h
 
-pub piece_fails : (names : Names) (x y : List Placed) (t : Tree) (r : Result Expr Failure) → SpellsAtom names x y t →
+pub piece_fails : {A : Type 0} (names : Names) (x y : List Placed) (t : Tree) (r : Result A Failure) → SpellsAtom names x y t →
     IfErr r (Fails names is_calm (Quantifies t) y) → IfErr r (Fails names is_calm (SpellsPiece names) x)
 piece_fails names x y t (Ok v) a h = tt
 piece_fails names x y t (Err e) a h = piece_of_quantifier names x y t e a h
 
-pub if_fails : (names : Names) (q : Reference) (c : Tree) (x : List Placed) (r : Result Expr Failure) → Some c ≡ reference names q → false ≡ is_at closing x →
+pub if_fails : {A : Type 0} (names : Names) (q : Reference) (c : Tree) (x : List Placed) (r : Result A Failure) → Some c ≡ reference names q →
+    false ≡ is_at closing x →
     IfErr r (Fails names anything (SpellsBodies names c) x) → IfErr r (FailsOpened names (If q) x)
 if_fails names q c x (Ok v) is lacks h = tt
 if_fails names q c x (Err e) is lacks h = if_of_bodies names q c x e (sym is) (sym lacks) h
 
-pub pattern_fails : (names : Names) (c : Tree) (x y : List Placed) (o : Opening) (r : Result Expr Failure) → o ≡ IfPattern → SpellsLast names x y c →
+pub pattern_fails : {A : Type 0} (names : Names) (c : Tree) (x y : List Placed) (o : Opening) (r : Result A Failure) → o ≡ IfPattern → SpellsLast names x y c →
     IfErr r (Fails names anything (SpellsBodies names c) y) → IfErr r (FailsOpened names o x)
 pattern_fails names c x y o (Ok v) is l h = tt
 pattern_fails names c x y o (Err e) is l h = subst (λ p. FailsOpened names p x e) (sym is) (pattern_of_bodies names c x y e l h)
 
-pub look_fails : (names : Names) (k : tree.Look) (c d : Tree) (x y : List Placed) (o : Opening) (r : Result Expr Failure) → o ≡ IfLook k →
+pub look_fails : {A : Type 0} (names : Names) (k : tree.Look) (c d : Tree) (x y : List Placed) (o : Opening) (r : Result A Failure) → o ≡ IfLook k →
     SpellsLast names x y c → d ≡ tree.LookAround k c → IfErr r (Fails names anything (SpellsBodies names d) y) → IfErr r (FailsOpened names o x)
 look_fails names k c d x y o (Ok v) is l same h = tt
 look_fails names k c d x y o (Err e) is l same h = subst (λ p. FailsOpened names p x e) (sym is) (look_of_bodies names k c d x y e l same h)
+
+pub group_fails : {A : Type 0} (names : Names) (number : ℕ) (name : Option (List ℕ)) (x : List Placed) (r : Result A Failure) →
+    IfErr r (Fails names anything (SpellsLast names) x) → IfErr r (FailsOpened names (Group number name) x)
+group_fails names number name x (Ok v) h = tt
+group_fails names number name x (Err e) h = group_of_last names number name x e h
+
+pub bars_fails : {A : Type 0} (names : Names) (x y : List Placed) (t : Tree) (r : Result A Failure) → SpellsBranch names x y t →
+    IfErr r (Fails names is_end (SpellsBars names) y) → IfErr r (Fails names anything (SpellsAlternatives names) x)
+bars_fails names x y t (Ok v) b h = tt
+bars_fails names x y t (Err e) b h = alternatives_of_bars names x y t e b h
+
+pub close_fails : {A : Type 0} (names : Names) (x y : List Placed) (t : Tree) (r : Result A Failure) → SpellsAlternatives names x y t →
+    IfErr r (λ e. (is_at closing y ≡ false) × IsMisfit y e) → IfErr r (Fails names anything (SpellsLast names) x)
+close_fails names x y t (Ok v) a h = tt
+close_fails names x y t (Err e) a h = last_of_close names x y t e a h.0 h.1
+
+-- an opening of this form
+pub form_fails : {A : Type 0} (names : Names) (o p : Opening) (x : List Placed) (r : Result A Failure) → o ≡ p → IfErr r (FailsOpened names p x) →
+    IfErr r (FailsOpened names o x)
+form_fails names o p x r is h = subst (λ q. IfErr r (FailsOpened names q x)) (sym is) h
 
 pub of_form : (names : Names) (o p : Opening) (x : List Placed) (e : Failure) → o ≡ p → FailsOpened names p x e → FailsOpened names o x e
 of_form names o p x e is h = subst (λ q. FailsOpened names q x e) (sym is) h

@@ -1,6 +1,5 @@
 -- The contracts of the reader's calls: what each reads.
-use Rattle.std.specs.Prelude.{◌≡◌, ℕ, Bool, true, false, List, [], ◌∷◌, ◌++◌, map, IfOk, Option, Some, if◌then◌else◌, Vec, Box, Result}
-use Rattle.std.specs.declared.alloc.Global.{Global}
+use Rattle.std.specs.Prelude.{◌≡◌, ℕ, Bool, true, false, List, [], ◌∷◌, ◌++◌, map, IfOk, Option, Some, if◌then◌else◌, Result}
 use Rattle.fancy_meaning.specs.Tree.{Tree}
 use Rattle.fancy_expr.specs.Each.{Each}
 use Rattle.fancy_expr.specs.Exprs.{exprs}
@@ -12,7 +11,7 @@ use Rattle.fancy_pattern.specs.declared.reader.Reader.{Reader}
 use Rattle.fancy_pattern.specs.declared.tokens.Quantifier.{Quantifier}
 use Rattle.fancy_pattern.specs.declared.tokens.Suffix.{Suffix}
 use Rattle.fancy_pattern.specs.Tokens.{Token, Placed}
-use Rattle.fancy_pattern.specs.Grammar.{Names, first_gives, is_at, is_empty, is_repeatable, quantifier, closing, class_of, suffixed, Takes, SpellsSuffix, SpellsClass, SpellsBars, SpellsAlternatives}
+use Rattle.fancy_pattern.specs.Grammar.{Names, first_gives, is_at, is_empty, is_repeatable, quantifier, closing, class_of, suffixed, alternated, node_of, Takes, SpellsSuffix, SpellsClass, SpellsBars, SpellsAlternatives}
 use Rattle.fancy_pattern.specs.PatternViews.{placed_of}
 
 -- the tokens that are left
@@ -31,35 +30,61 @@ pub record Skips (old new : Reader) : Type 0 where
   pub first : Placed
   pub tokens : point_of old ≡ first ∷ point_of new
 
+-- a piece that is something
+abbrev pub some_of : Tree → List Tree
+some_of e = if is_empty e then [] else e ∷ []
+
 -- a tree was read
 abbrev pub ReadsTree : (List Placed → List Placed → Tree → Type 0) → Reader → Reader → Result Expr Failure → Type 0
 ReadsTree spells old new r = IfOk r (λ e. spells (point_of old) (point_of new) (tree_of e))
+
+-- on a stack of nodes there is one more, which has this tree
+pub record Adds (e : Tree) (below all : List Expr) : Type 0 where
+  pub node : Expr
+  pub added : all ≡ below ++ node ∷ []
+  pub made : tree_of node ≡ e
+  pub one_char : OneCharEach node
+
+-- the same, unless the tree is nothing
+pub record AddsSome (e : Tree) (below all : List Expr) : Type 0 where
+  pub added : map tree_of all ≡ map tree_of below ++ some_of e
+  pub one_char : Each OneCharEach below → Each OneCharEach all
+
+-- the node with this tree was taken off the stack
+pub record TakesOff (e : Tree) (below left : List Expr) (node : Expr) : Type 0 where
+  pub made : tree_of node ≡ e
+  pub one_char : OneCharEach node
+  pub rest : left ≡ below
+
+-- a tree was read, and is on top of the stack
+pub record Pushes (spells : List Placed → List Placed → Tree → Type 0) (old new : Reader)
+    (below all : List Expr) : Type 0 where
+  pub read : Tree
+  pub adds : Adds read below all
+  pub spelled : spells (point_of old) (point_of new) read
+
+-- a tree was read, and the stack is as it was
+pub record Boxes (spells : List Placed → List Placed → Tree → Type 0) (old new : Reader)
+    (below left : List Expr) (node : Expr) : Type 0 where
+  pub spelled : spells (point_of old) (point_of new) (tree_of node)
+  pub one_char : OneCharEach node
+  pub rest : left ≡ below
 
 -- alternatives were read, and the closing parenthesis behind them
 abbrev pub SpellsLast : Names → List Placed → List Placed → Tree → Type 0
 SpellsLast names x z e = (y : List Placed) × SpellsAlternatives names x y e × Takes closing y tt z
 
-abbrev pub ReadsLast : Names → Reader → Reader → Result Expr Failure → Type 0
-ReadsLast names old new r = ReadsTree (SpellsLast names) old new r
+-- behind this branch, further ones
+abbrev pub SpellsMore : Names → Tree → List Placed → List Placed → Tree → Type 0
+SpellsMore names first x y e = (es : List Tree) × SpellsBars names x y es × (e ≡ alternated (first ∷ es))
 
--- the same, with the tree in a box
-abbrev pub ReadsBoxed : Names → Reader → Reader → Result (Box Expr Global) Failure → Type 0
-ReadsBoxed names old new r = IfOk r (λ b. SpellsLast names (point_of old) (point_of new) (tree_of b.value))
+-- the rest of a class
+abbrev pub SpellsRest : Bool → List Placed → List Placed → Tree → Type 0
+SpellsRest casei x y e = (text : List ℕ) × SpellsClass x y text × (e ≡ class_of text casei)
 
--- the rest of a class was read
-abbrev pub ReadsClass : Bool → Reader → Reader → Result Expr Failure → Type 0
-ReadsClass casei old new r =
-    IfOk r (λ e. (text : List ℕ) × SpellsClass (point_of old) (point_of new) text × (tree_of e ≡ class_of text casei))
-
--- a piece that is something
-abbrev pub some_of : Tree → List Tree
-some_of e = if is_empty e then [] else e ∷ []
-
--- branches were read behind those given
-abbrev pub ReadsBars : Names → List Expr → Reader → Reader → Result (Vec Expr Global) Failure → Type 0
-ReadsBars names given old new r =
-    IfOk r (λ v. (es : List Tree) × SpellsBars names (point_of old) (point_of new) es
-    × (map tree_of v.items ≡ map tree_of given ++ es))
+-- an atom of one token
+abbrev pub SpellsNode : Names → List Placed → List Placed → Tree → Type 0
+SpellsNode names x y e = Takes (node_of names) x e y
 
 -- behind an atom stands no quantifier, or one that makes this of it
 pub data Quantifies (e : Tree) : List Placed → List Placed → Tree → Type 0 where

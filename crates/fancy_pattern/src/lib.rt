@@ -18,6 +18,7 @@ mod lexer;
 mod named;
 mod names;
 mod nesting;
+mod node_stack;
 mod nodes;
 mod numbers;
 pub mod options;

@@ -282,22 +282,17 @@ fn bounds(quantifier: Quantifier) -> (usize, usize)
 }
 
 /// A loop around a node.
-pub(crate) fn repeated(
-    alloc: Global,
-    e: Expr,
-    quantifier: Quantifier,
-    greedy: bool,
-) -> Result<Expr, AllocError>
-    ensures made { IfOk result (λ r. tree_of r ≡ grammar.repeated quantifier greedy (tree_of e)) }
-    ensures one_char { OneCharEach e → IfOk result OneCharEach }
+pub(crate) fn repeated(e: Box<Expr>, quantifier: Quantifier, greedy: bool) -> Expr
+    ensures made { tree_of result ≡ grammar.repeated quantifier greedy (tree_of e.value) }
+    ensures one_char { OneCharEach e.value → OneCharEach result }
 {
     let (lo, hi) = bounds(quantifier);
-    Ok(Expr::Repeat {
-        child: Box::new(alloc, e)?,
+    Expr::Repeat {
+        child: e,
         lo,
         hi,
         greedy,
-    })
+    }
 }
 
 pub(crate) fn atomic(alloc: Global, e: Expr) -> Result<Expr, AllocError>
@@ -383,22 +378,19 @@ pub(crate) fn alternated(branches: Vec<Expr>) -> Expr
 /// A loop around a node, with what follows its quantifier.
 pub(crate) fn suffixed(
     alloc: Global,
-    e: Expr,
+    e: Box<Expr>,
     quantifier: Quantifier,
     greedy: bool,
     suffix: Option<Suffix>,
 ) -> Result<Expr, AllocError>
     ensures made { IfOk result (λ r. tree_of r
-        ≡ grammar.suffixed quantifier greedy suffix (tree_of e)) }
-    ensures one_char { OneCharEach e → IfOk result OneCharEach }
+        ≡ grammar.suffixed quantifier greedy suffix (tree_of e.value)) }
+    ensures one_char { OneCharEach e.value → IfOk result OneCharEach }
 {
     match suffix {
-        None => repeated(alloc, e, quantifier, greedy),
-        Some(Suffix::Turned) => repeated(alloc, e, quantifier, !greedy),
-        Some(Suffix::Possessive) => {
-            let within = repeated(alloc, e, quantifier, greedy)?;
-            atomic(alloc, within)
-        }
+        None => Ok(repeated(e, quantifier, greedy)),
+        Some(Suffix::Turned) => Ok(repeated(e, quantifier, !greedy)),
+        Some(Suffix::Possessive) => atomic(alloc, repeated(e, quantifier, greedy)),
     }
 }
 

@@ -170,7 +170,7 @@ fn tree_of_tokens(alloc: Global, tokens: &[Placed<'_>], ignored: bool) -> Result
         alloc,
         rest: tokens,
     };
-    let expr = reader.read_alternatives(&names)?;
+    let expr = reader.read_tree(&names)?;
     reader.read_end()?;
     Ok(described(alloc, expr, names, tokens, ignored)?)
 }

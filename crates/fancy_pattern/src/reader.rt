@@ -1,30 +1,31 @@
 //! The reader by recursive descent: from tokens to an `Expr`.
 
-ghost use Rattle.std.specs.Prelude.{◌≡◌, ◌+◌, ◌<◌, ◌≤◌, ◌++◌, true, false, drop, length, map, IfOk, IfErr, IfSome, Some};
+ghost use Rattle.std.specs.Prelude.{◌≡◌, ℕ, ◌+◌, ◌<◌, ◌≤◌, List, Option, true, false, drop, length, map, IfOk, IfErr, IfSome, Some, None};
 ghost use Rattle.std.specs.Option.{option_map};
-ghost use Rattle.fancy_expr.specs.Each.{Each};
+ghost use Rattle.fancy_expr.specs.declared.expr.Expr as code;
 ghost use Rattle.fancy_expr.specs.Views.{tree_of};
-ghost use Rattle.fancy_pattern.specs.Grammar.{Names, is_at, is_branch_end, bar, closing, quantifier as quantifier_of, suffix, suffix_of, opening, class_open, class_text, class_close, gives_some, first_gives, node_of, Takes, reference, SpellsClass, SpellsSuffix, SpellsAtom, SpellsOpened, SpellsBodies, SpellsPiece, SpellsBranch, SpellsBars, SpellsAlternatives};
+ghost use Rattle.fancy_pattern.specs.Grammar.{Names, is_at, is_branch_end, bar, closing, quantifier as quantifier_of, suffix, suffix_of, opening, class_open, class_text, class_close, gives_some, first_gives, node_of, Takes, SpellsClass, SpellsSuffix, SpellsAtom, SpellsOpened, SpellsBodies, SpellsPiece, SpellsBranch, SpellsBars, SpellsAlternatives};
 ghost use Rattle.fancy_pattern.specs.Faults.{Tells};
 ghost use Rattle.fancy_pattern.specs.Stuck.{is_end, is_calm, anything, Fails, FailsOpened, IsMisfit};
 ghost use Rattle.fancy_pattern.specs.Naming.{pairs_in};
 ghost use Rattle.fancy_pattern.specs.PatternViews.{kept_of, token_of, opening_of, reference_of, piece_text};
-ghost use Rattle.fancy_pattern.specs.Reading.{OneCharEach, point_of, next_token, Skips, ReadsTree, ReadsLast, ReadsBoxed, SpellsLast, ReadsClass, ReadsBars, Quantifies, some_of};
-ghost use Rattle.fancy_meaning.specs.Tree.{Literal};
-ghost use Rattle.fancy_pattern.specs.Tokens.{AbsentBar, Around, If, Node};
-ghost use Rattle.fancy_pattern.specs.declared.failure.Failure.TheVariants.{Memory};
+ghost use Rattle.fancy_pattern.specs.Reading.{OneCharEach, point_of, next_token, Skips, ReadsTree, Adds, Pushes, Boxes, SpellsLast, SpellsMore, SpellsRest, SpellsNode, Quantifies};
+ghost use Rattle.fancy_meaning.specs.Tree.{Tree, Literal};
+ghost use Rattle.fancy_pattern.specs.Tokens.{AbsentBar, Around, Group, If, Node};
 
 use crate::class_text::push_piece;
 use crate::error::{ErrorKind, Fault};
 use crate::failure::Failure;
 use crate::group_names::GroupNames;
 use crate::kept::{Kept, Placed};
-use crate::nodes::{
-    alternated, boxed_reference, conditional, enclosed, is_empty, is_plain, is_repeatable, joined,
-    literal, node, suffixed,
+use crate::node_stack::{
+    drop_empty, empty_boxed, enclose_last, group_last, is_last_repeatable, look_boxed, pop_boxed,
+    pop_first, popped, push_alternated, push_boxed, push_conditional, push_empty, push_expression,
+    push_joined, push_literal, push_stopper, repeat_last,
 };
+use crate::nodes::{boxed_reference, node};
 use crate::tokens::{ClassPiece, Enclosing, Leaf, Opening, Quantifier, Reference, Suffix, Token};
-use fancy_expr::expr::{Absent, Expr};
+use fancy_expr::expr::Expr;
 use std::alloc::Global;
 
 /// What is left to read.
@@ -110,6 +111,26 @@ fn as_opening_token<'a>(token: Token<'a>) -> Option<Opening<'a>>
 {
     match token {
         Token::Open(opening) => Some(opening),
+        _ => None,
+    }
+}
+
+/// What stands around alternatives, where it is kept in a few bytes.
+fn as_enclosing(kept: &Kept<'_>) -> Option<Enclosing>
+    ensures { IfSome result (λ e. opening (kept_of kept.now) ≡ Some (Around e)) }
+{
+    match kept {
+        Kept::Enclosing(enclosing) => Some(*enclosing),
+        _ => None,
+    }
+}
+
+/// The number of a group without a name.
+fn as_group(kept: &Kept<'_>) -> Option<usize>
+    ensures { IfSome result (λ n. opening (kept_of kept.now) ≡ Some (Group n None)) }
+{
+    match kept {
+        Kept::Group(number) => Some(*number),
         _ => None,
     }
 }
@@ -347,110 +368,125 @@ impl<'r, 'a> Reader<'r, 'a> {
         }
     }
 
-    /// Branches between bars.
-    #[cycle(reading)]
-    pub fn read_alternatives(&mut self, names: &GroupNames) -> Result<Expr, Failure>
+    /// The tree of branches between bars.
+    pub fn read_tree(&mut self, names: &GroupNames) -> Result<Expr, Failure>
         ensures spells { ReadsTree (SpellsAlternatives (pairs_in names.now.pairs))
             self.old self.new result }
         ensures fails { IfErr result (Fails (pairs_in names.now.pairs) anything
             (SpellsAlternatives (pairs_in names.now.pairs)) (point_of self.old)) }
         ensures one_char { IfOk result OneCharEach }
-        ensures shorter { IfOk result (λ e. length self.new.rest.now
-            ≤ length self.old.rest.now) }
     {
-        let first = self.read_branch(names)?;
-        if !self.is_at_bar() {
-            return Ok(first);
-        }
-        let mut branches = Vec::new(self.alloc);
-        branches.push(first)?;
-        let branches = self.read_bars(names, branches)?;
-        Ok(alternated(branches))
+        let mut nodes = Vec::new(self.alloc);
+        self.read_alternatives(names, &mut nodes)?;
+        Ok(popped(&mut nodes))
     }
 
-    /// Further branches, each after a bar, behind those given.
+    /// Branches between bars.
     #[cycle(reading)]
-    fn read_bars(&mut self, names: &GroupNames, given: Vec<Expr>) -> Result<Vec<Expr>, Failure>
-        ensures spells { ReadsBars (pairs_in names.now.pairs) given.items
-            self.old self.new result }
-        ensures fails { IfErr result (Fails (pairs_in names.now.pairs) is_end
-            (SpellsBars (pairs_in names.now.pairs)) (point_of self.old)) }
-        ensures one_char { Each OneCharEach given.items
-            → IfOk result (λ v. Each OneCharEach v.items) }
-        ensures shorter { IfOk result (λ e. length self.new.rest.now
+    fn read_alternatives(
+        &mut self,
+        names: &GroupNames,
+        nodes: &mut Vec<Expr>,
+    ) -> Result<(), Failure>
+        ensures pushes { IfOk result (λ u. Pushes (SpellsAlternatives (pairs_in names.now.pairs))
+            self.old self.new nodes.old.items nodes.new.items) }
+        ensures fails { IfErr result (Fails (pairs_in names.now.pairs) anything
+            (SpellsAlternatives (pairs_in names.now.pairs)) (point_of self.old)) }
+        ensures shorter { IfOk result (λ u. length self.new.rest.now
             ≤ length self.old.rest.now) }
     {
-        let mut branches = given;
+        self.read_branch(names, nodes)?;
+        if self.is_at_bar() {
+            self.read_bars(names, nodes)
+        } else {
+            Ok(())
+        }
+    }
+
+    /// Further branches, each after a bar, behind the one on top.
+    #[inline(never)]
+    #[cycle(reading)]
+    fn read_bars(&mut self, names: &GroupNames, nodes: &mut Vec<Expr>) -> Result<(), Failure>
+        ensures pushes { (below : List code.Expr) → (e : Tree) → Adds e below nodes.old.items
+            → IfOk result (λ u. Pushes (SpellsMore (pairs_in names.now.pairs) e)
+            self.old self.new below nodes.new.items) }
+        ensures fails { IfErr result (Fails (pairs_in names.now.pairs) is_end
+            (SpellsBars (pairs_in names.now.pairs)) (point_of self.old)) }
+        ensures shorter { IfOk result (λ u. length self.new.rest.now
+            ≤ length self.old.rest.now) }
+    {
+        let mut branches = pop_first(self.alloc, nodes)?;
         while self.is_at_bar() {
             self.skip();
-            branches.push(self.read_branch(names)?)?;
+            self.read_branch(names, &mut branches)?;
         }
-        Ok(branches)
+        Ok(push_alternated(nodes, branches)?)
     }
 
     /// The pieces up to a bar, a closing parenthesis or the end, as one node; those that are nothing are left out.
     #[cycle(reading)]
-    fn read_branch(&mut self, names: &GroupNames) -> Result<Expr, Failure>
-        ensures spells { ReadsTree (SpellsBranch (pairs_in names.now.pairs))
-            self.old self.new result }
+    fn read_branch(&mut self, names: &GroupNames, nodes: &mut Vec<Expr>) -> Result<(), Failure>
+        ensures pushes { IfOk result (λ u. Pushes (SpellsBranch (pairs_in names.now.pairs))
+            self.old self.new nodes.old.items nodes.new.items) }
         ensures fails { IfErr result (Fails (pairs_in names.now.pairs) anything
             (SpellsBranch (pairs_in names.now.pairs)) (point_of self.old)) }
-        ensures one_char { IfOk result OneCharEach }
-        ensures shorter { IfOk result (λ e. length self.new.rest.now
+        ensures shorter { IfOk result (λ u. length self.new.rest.now
             ≤ length self.old.rest.now) }
     {
         if self.is_branch_end() {
-            return Ok(Expr::Empty);
+            return Ok(push_empty(nodes)?);
         }
-        let first = self.read_piece(names)?;
+        self.read_piece(names, nodes)?;
         if self.is_branch_end() {
-            return Ok(first);
+            return Ok(());
         }
-        let mut pieces = Vec::new(self.alloc);
-        push_some(&mut pieces, first)?;
+        let mut pieces = pop_first(self.alloc, nodes)?;
+        drop_empty(&mut pieces);
         while !self.is_branch_end() {
             match self.next_alone() {
                 Some((val, casei)) => {
-                    pieces.push(literal(self.alloc, val, casei)?)?;
+                    push_literal(self.alloc, &mut pieces, val, casei)?;
                     self.skip();
                 }
                 None => {
-                    let piece = self.read_piece(names)?;
-                    push_some(&mut pieces, piece)?;
+                    self.read_piece(names, &mut pieces)?;
+                    drop_empty(&mut pieces);
                 }
             }
         }
-        Ok(joined(pieces))
+        Ok(push_joined(nodes, pieces)?)
     }
 
     /// The same, in a box.
     #[cycle(reading)]
-    fn read_boxed_branch(&mut self, names: &GroupNames) -> Result<Box<Expr>, Failure>
-        ensures spells { IfOk result (λ b. SpellsBranch (pairs_in names.now.pairs)
-            (point_of self.old) (point_of self.new) (tree_of b.value)) }
+    fn read_boxed_branch(
+        &mut self,
+        names: &GroupNames,
+        nodes: &mut Vec<Expr>,
+    ) -> Result<Box<Expr>, Failure>
+        ensures boxes { IfOk result (λ b. Boxes (SpellsBranch (pairs_in names.now.pairs))
+            self.old self.new nodes.old.items nodes.new.items b.value) }
         ensures fails { IfErr result (Fails (pairs_in names.now.pairs) anything
             (SpellsBranch (pairs_in names.now.pairs)) (point_of self.old)) }
-        ensures one_char { IfOk result (λ b. OneCharEach b.value) }
-        ensures shorter { IfOk result (λ e. length self.new.rest.now
+        ensures shorter { IfOk result (λ u. length self.new.rest.now
             ≤ length self.old.rest.now) }
     {
-        let branch = self.read_branch(names)?;
-        Ok(Box::new(self.alloc, branch)?)
+        self.read_branch(names, nodes)?;
+        Ok(pop_boxed(self.alloc, nodes)?)
     }
 
     /// An atom, and its quantifier where it has one.
     #[cycle(reading)]
-    fn read_piece(&mut self, names: &GroupNames) -> Result<Expr, Failure>
-        ensures spells { ReadsTree (SpellsPiece (pairs_in names.now.pairs))
-            self.old self.new result }
+    fn read_piece(&mut self, names: &GroupNames, nodes: &mut Vec<Expr>) -> Result<(), Failure>
+        ensures pushes { IfOk result (λ u. Pushes (SpellsPiece (pairs_in names.now.pairs))
+            self.old self.new nodes.old.items nodes.new.items) }
         ensures fails { IfErr result (Fails (pairs_in names.now.pairs) is_calm
             (SpellsPiece (pairs_in names.now.pairs)) (point_of self.old)) }
-        ensures one_char { IfOk result OneCharEach }
-        ensures shorter { IfOk result (λ e. length self.new.rest.now + 1
+        ensures shorter { IfOk result (λ u. length self.new.rest.now + 1
             ≤ length self.old.rest.now) }
     {
-        let atom = self.read_atom(names)?;
-        self.read_quantifier(atom)
+        self.read_atom(names, nodes)?;
+        self.read_quantifier(nodes)
     }
 
     fn next_quantifier(&self) -> Option<(Quantifier, bool)>
@@ -460,45 +496,46 @@ impl<'r, 'a> Reader<'r, 'a> {
         as_quantifier(self.next()?)
     }
 
-    /// The quantifier behind an atom, where it has one.
-    fn read_quantifier(&mut self, atom: Expr) -> Result<Expr, Failure>
-        ensures spells { IfOk result (λ e. Quantifies (tree_of atom) (point_of self.old)
-            (point_of self.new) (tree_of e)) }
-        ensures fails { (names : Names) → IfErr result (Fails names is_calm
-            (Quantifies (tree_of atom)) (point_of self.old)) }
-        ensures one_char { OneCharEach atom → IfOk result OneCharEach }
-        ensures shorter { IfOk result (λ e. length self.new.rest.now
+    /// The quantifier behind the atom on top, where it has one.
+    fn read_quantifier(&mut self, nodes: &mut Vec<Expr>) -> Result<(), Failure>
+        ensures pushes { (below : List code.Expr) → (e : Tree) → Adds e below nodes.old.items
+            → IfOk result (λ u. Pushes (Quantifies e) self.old self.new below nodes.new.items) }
+        ensures fails { (names : Names) → (below : List code.Expr) → (e : Tree)
+            → Adds e below nodes.old.items
+            → IfErr result (Fails names is_calm (Quantifies e) (point_of self.old)) }
+        ensures shorter { IfOk result (λ u. length self.new.rest.now
             ≤ length self.old.rest.now) }
     {
         match self.next_quantifier() {
-            Some((quantifier, greedy)) => self.quantify(atom, quantifier, greedy),
-            None => Ok(atom),
+            Some((quantifier, greedy)) => self.quantify(nodes, quantifier, greedy),
+            None => Ok(()),
         }
     }
 
-    /// Goes past the quantifier behind an atom.
+    /// Goes past the quantifier behind the atom on top.
+    #[inline(never)]
     fn quantify(
         &mut self,
-        atom: Expr,
+        nodes: &mut Vec<Expr>,
         quantifier: Quantifier,
         greedy: bool,
-    ) -> Result<Expr, Failure>
+    ) -> Result<(), Failure>
         requires some { 0 < length self.old.rest.now }
         requires there { first_gives quantifier_of (point_of self.old) ≡ Some (quantifier, greedy) }
-        ensures spells { IfOk result (λ e. Quantifies (tree_of atom) (point_of self.old)
-            (point_of self.new) (tree_of e)) }
-        ensures fails { (names : Names) → IfErr result (Fails names is_calm
-            (Quantifies (tree_of atom)) (point_of self.old)) }
-        ensures one_char { OneCharEach atom → IfOk result OneCharEach }
-        ensures shorter { IfOk result (λ e. length self.new.rest.now
+        ensures pushes { (below : List code.Expr) → (e : Tree) → Adds e below nodes.old.items
+            → IfOk result (λ u. Pushes (Quantifies e) self.old self.new below nodes.new.items) }
+        ensures fails { (names : Names) → (below : List code.Expr) → (e : Tree)
+            → Adds e below nodes.old.items
+            → IfErr result (Fails names is_calm (Quantifies e) (point_of self.old)) }
+        ensures shorter { IfOk result (λ u. length self.new.rest.now
             ≤ length self.old.rest.now) }
     {
-        if !is_repeatable(&atom) {
+        if !is_last_repeatable(nodes) {
             return Err(self.misfit(ErrorKind::TargetNotRepeatable));
         }
         self.skip();
         let suffix = self.take_suffix();
-        Ok(suffixed(self.alloc, atom, quantifier, greedy, suffix)?)
+        Ok(repeat_last(self.alloc, nodes, quantifier, greedy, suffix)?)
     }
 
     /// The literal that is next.
@@ -565,6 +602,22 @@ impl<'r, 'a> Reader<'r, 'a> {
         as_opening(self.next()?)
     }
 
+    fn next_enclosing(&self) -> Option<Enclosing>
+        ensures value { IfSome result (λ e. first_gives opening (point_of self.now)
+            ≡ Some (Around e)) }
+        ensures some { IfSome result (λ e. 0 < length self.now.rest.now) }
+    {
+        as_enclosing(self.next()?)
+    }
+
+    fn next_group(&self) -> Option<usize>
+        ensures value { IfSome result (λ n. first_gives opening (point_of self.now)
+            ≡ Some (Group n None)) }
+        ensures some { IfSome result (λ n. 0 < length self.now.rest.now) }
+    {
+        as_group(self.next()?)
+    }
+
     fn next_class(&self) -> Option<bool>
         ensures value { result ≡ first_gives class_open (point_of self.now) }
         ensures some { IfSome result (λ q. 0 < length self.now.rest.now) }
@@ -573,40 +626,61 @@ impl<'r, 'a> Reader<'r, 'a> {
     }
 
     #[cycle(reading)]
-    fn read_atom(&mut self, names: &GroupNames) -> Result<Expr, Failure>
-        ensures spells { ReadsTree (SpellsAtom (pairs_in names.now.pairs))
-            self.old self.new result }
+    fn read_atom(&mut self, names: &GroupNames, nodes: &mut Vec<Expr>) -> Result<(), Failure>
+        ensures pushes { IfOk result (λ u. Pushes (SpellsAtom (pairs_in names.now.pairs))
+            self.old self.new nodes.old.items nodes.new.items) }
         ensures fails { IfErr result (Fails (pairs_in names.now.pairs) is_calm
             (SpellsAtom (pairs_in names.now.pairs)) (point_of self.old)) }
-        ensures one_char { IfOk result OneCharEach }
-        ensures shorter { IfOk result (λ e. length self.new.rest.now + 1
+        ensures shorter { IfOk result (λ u. length self.new.rest.now + 1
             ≤ length self.old.rest.now) }
     {
         if let Some((val, casei)) = self.next_literal() {
-            let made = literal(self.alloc, val, casei)?;
+            push_literal(self.alloc, nodes, val, casei)?;
             self.skip();
-            return Ok(made);
+            return Ok(());
         }
+        if let Some(enclosing) = self.next_enclosing() {
+            self.skip();
+            return self.read_enclosed(names, nodes, enclosing);
+        }
+        if let Some(_) = self.next_group() {
+            self.skip();
+            return self.read_group(names, nodes);
+        }
+        self.read_other(names, nodes)
+    }
+
+    /// An atom of one token, a class, or what begins with an opening that is kept behind a pointer.
+    #[inline(never)]
+    #[cycle(reading)]
+    fn read_other(&mut self, names: &GroupNames, nodes: &mut Vec<Expr>) -> Result<(), Failure>
+        ensures pushes { IfOk result (λ u. Pushes (SpellsAtom (pairs_in names.now.pairs))
+            self.old self.new nodes.old.items nodes.new.items) }
+        ensures fails { IfErr result (Fails (pairs_in names.now.pairs) is_calm
+            (SpellsAtom (pairs_in names.now.pairs)) (point_of self.old)) }
+        ensures shorter { IfOk result (λ u. length self.new.rest.now + 1
+            ≤ length self.old.rest.now) }
+    {
         if let Some(opening) = self.next_opening() {
             let place = self.place();
             self.skip();
-            return self.read_opened(names, opening, place);
+            return self.read_opened(names, nodes, opening, place);
         }
         if let Some(casei) = self.next_class() {
             self.skip();
-            return self.read_class(casei);
+            return self.read_class(nodes, casei);
         }
-        self.read_node(names)
+        self.read_node(names, nodes)
     }
 
     /// An atom of one token.
-    fn read_node(&mut self, names: &GroupNames) -> Result<Expr, Failure>
-        ensures takes { IfOk result (λ e. Takes (node_of (pairs_in names.now.pairs))
-            (point_of self.old) (tree_of e) (point_of self.new)) }
+    #[inline(never)]
+    fn read_node(&mut self, names: &GroupNames, nodes: &mut Vec<Expr>) -> Result<(), Failure>
+        ensures pushes { IfOk result (λ u. Pushes (SpellsNode (pairs_in names.now.pairs))
+            self.old self.new nodes.old.items nodes.new.items) }
         ensures fails { IfErr result (Fails (pairs_in names.now.pairs) is_calm
             (λ x y e. Takes (node_of (pairs_in names.now.pairs)) x e y) (point_of self.old)) }
-        ensures one_char { IfOk result OneCharEach }
-        ensures shorter { IfOk result (λ e. length self.new.rest.now + 1
+        ensures shorter { IfOk result (λ u. length self.new.rest.now + 1
             ≤ length self.old.rest.now) }
     {
         let place = self.place();
@@ -615,8 +689,9 @@ impl<'r, 'a> Reader<'r, 'a> {
         };
         match node(self.alloc, names, kept, place)? {
             Some(found) => {
+                nodes.push(found)?;
                 self.skip();
-                Ok(found)
+                Ok(())
             }
             None => Err(self.misfit(ErrorKind::TargetNotRepeatable)),
         }
@@ -641,12 +716,13 @@ impl<'r, 'a> Reader<'r, 'a> {
     }
 
     /// The rest of a class.
-    fn read_class(&mut self, casei: bool) -> Result<Expr, Failure>
-        ensures spells { ReadsClass casei self.old self.new result }
+    #[inline(never)]
+    fn read_class(&mut self, nodes: &mut Vec<Expr>, casei: bool) -> Result<(), Failure>
+        ensures pushes { IfOk result (λ u. Pushes (SpellsRest casei)
+            self.old self.new nodes.old.items nodes.new.items) }
         ensures fails { (names : Names) → IfErr result (Fails names anything
             SpellsClass (point_of self.old)) }
-        ensures one_char { IfOk result OneCharEach }
-        ensures shorter { IfOk result (λ e. length self.new.rest.now
+        ensures shorter { IfOk result (λ u. length self.new.rest.now
             ≤ length self.old.rest.now) }
     {
         let mut text = String::new(self.alloc);
@@ -660,7 +736,8 @@ impl<'r, 'a> Reader<'r, 'a> {
         }
         self.skip();
         text.push(']')?;
-        Ok(Expr::Delegate { inner: text, casei })
+        nodes.push(Expr::Delegate { inner: text, casei })?;
+        Ok(())
     }
 
     /// What follows an opening token, which begins at the byte `place`, up to its closing parenthesis.
@@ -668,104 +745,124 @@ impl<'r, 'a> Reader<'r, 'a> {
     fn read_opened(
         &mut self,
         names: &GroupNames,
+        nodes: &mut Vec<Expr>,
         opening: Opening<'a>,
         place: usize,
-    ) -> Result<Expr, Failure>
-        ensures spells { ReadsTree
+    ) -> Result<(), Failure>
+        ensures pushes { IfOk result (λ u. Pushes
             (SpellsOpened (pairs_in names.now.pairs) (opening_of opening.entry))
-            self.old self.new result }
+            self.old self.new nodes.old.items nodes.new.items) }
         ensures fails { IfErr result (FailsOpened (pairs_in names.now.pairs)
             (opening_of opening.entry) (point_of self.old)) }
-        ensures one_char { IfOk result OneCharEach }
-        ensures shorter { IfOk result (λ e. length self.new.rest.now
+        ensures shorter { IfOk result (λ u. length self.new.rest.now
             ≤ length self.old.rest.now) }
     {
         match opening {
-            Opening::Enclosing(enclosing) => self.read_enclosed(names, enclosing),
-            Opening::Group { .. } => Ok(Expr::Group(self.read_boxed(names)?)),
-            Opening::AbsentBar => self.read_absent(names),
-            Opening::If(found) => self.read_if(names, found, place),
+            Opening::Enclosing(enclosing) => self.read_enclosed(names, nodes, enclosing),
+            Opening::Group { .. } => self.read_group(names, nodes),
+            Opening::AbsentBar => self.read_absent(names, nodes),
+            Opening::If(found) => self.read_if(names, nodes, found, place),
             Opening::IfPattern => {
-                let condition = self.read_boxed(names)?;
-                self.read_bodies(names, condition)
+                let condition = self.read_boxed(names, nodes)?;
+                self.read_bodies(names, nodes, condition)
             }
             Opening::IfLook(look) => {
-                let body = self.read_boxed(names)?;
-                let condition = Box::new(self.alloc, Expr::LookAround(body, look))?;
-                self.read_bodies(names, condition)
+                let body = self.read_boxed(names, nodes)?;
+                let condition = look_boxed(self.alloc, body, look)?;
+                self.read_bodies(names, nodes, condition)
             }
         }
     }
 
     /// The rest of a group that captures nothing.
     #[cycle(reading)]
-    fn read_enclosed(&mut self, names: &GroupNames, enclosing: Enclosing) -> Result<Expr, Failure>
-        ensures spells { ReadsTree
+    fn read_enclosed(
+        &mut self,
+        names: &GroupNames,
+        nodes: &mut Vec<Expr>,
+        enclosing: Enclosing,
+    ) -> Result<(), Failure>
+        ensures pushes { IfOk result (λ u. Pushes
             (SpellsOpened (pairs_in names.now.pairs) (Around enclosing))
-            self.old self.new result }
+            self.old self.new nodes.old.items nodes.new.items) }
         ensures fails { IfErr result (FailsOpened (pairs_in names.now.pairs)
             (Around enclosing) (point_of self.old)) }
-        ensures one_char { IfOk result OneCharEach }
-        ensures shorter { IfOk result (λ e. length self.new.rest.now
+        ensures shorter { IfOk result (λ u. length self.new.rest.now
             ≤ length self.old.rest.now) }
     {
-        // a plain group adds no node, so its body needs no box
-        if is_plain(enclosing) {
-            return self.read_last(names);
-        }
-        let body = self.read_boxed(names)?;
-        Ok(enclosed(enclosing, body))
+        self.read_last(names, nodes)?;
+        Ok(enclose_last(self.alloc, nodes, enclosing)?)
+    }
+
+    /// The rest of a group.
+    #[cycle(reading)]
+    fn read_group(&mut self, names: &GroupNames, nodes: &mut Vec<Expr>) -> Result<(), Failure>
+        ensures pushes { (number : ℕ) → (name : Option (List ℕ))
+            → IfOk result (λ u. Pushes (SpellsOpened (pairs_in names.now.pairs) (Group number name))
+            self.old self.new nodes.old.items nodes.new.items) }
+        ensures fails { (number : ℕ) → (name : Option (List ℕ))
+            → IfErr result (FailsOpened (pairs_in names.now.pairs) (Group number name)
+            (point_of self.old)) }
+        ensures shorter { IfOk result (λ u. length self.new.rest.now
+            ≤ length self.old.rest.now) }
+    {
+        self.read_last(names, nodes)?;
+        Ok(group_last(self.alloc, nodes)?)
     }
 
     /// Alternatives, and the closing parenthesis behind them.
+    #[inline(always)]
     #[cycle(reading)]
-    fn read_last(&mut self, names: &GroupNames) -> Result<Expr, Failure>
-        ensures spells { ReadsLast (pairs_in names.now.pairs) self.old self.new result }
+    fn read_last(&mut self, names: &GroupNames, nodes: &mut Vec<Expr>) -> Result<(), Failure>
+        ensures pushes { IfOk result (λ u. Pushes (SpellsLast (pairs_in names.now.pairs))
+            self.old self.new nodes.old.items nodes.new.items) }
         ensures fails { IfErr result (Fails (pairs_in names.now.pairs) anything
             (SpellsLast (pairs_in names.now.pairs)) (point_of self.old)) }
-        ensures one_char { IfOk result OneCharEach }
-        ensures shorter { IfOk result (λ e. length self.new.rest.now
+        ensures shorter { IfOk result (λ u. length self.new.rest.now
             ≤ length self.old.rest.now) }
     {
-        let body = self.read_alternatives(names)?;
-        self.read_close()?;
-        Ok(body)
+        self.read_alternatives(names, nodes)?;
+        self.read_close()
     }
 
     /// The same, in a box.
     #[cycle(reading)]
-    fn read_boxed(&mut self, names: &GroupNames) -> Result<Box<Expr>, Failure>
-        ensures spells { ReadsBoxed (pairs_in names.now.pairs) self.old self.new result }
+    fn read_boxed(
+        &mut self,
+        names: &GroupNames,
+        nodes: &mut Vec<Expr>,
+    ) -> Result<Box<Expr>, Failure>
+        ensures boxes { IfOk result (λ b. Boxes (SpellsLast (pairs_in names.now.pairs))
+            self.old self.new nodes.old.items nodes.new.items b.value) }
         ensures fails { IfErr result (Fails (pairs_in names.now.pairs) anything
             (SpellsLast (pairs_in names.now.pairs)) (point_of self.old)) }
-        ensures one_char { IfOk result (λ b. OneCharEach b.value) }
-        ensures shorter { IfOk result (λ e. length self.new.rest.now
+        ensures shorter { IfOk result (λ u. length self.new.rest.now
             ≤ length self.old.rest.now) }
     {
-        let body = self.read_last(names)?;
-        Ok(Box::new(self.alloc, body)?)
+        self.read_last(names, nodes)?;
+        Ok(pop_boxed(self.alloc, nodes)?)
     }
 
     /// What follows `(?~|`.
     #[inline(never)]
     #[cycle(reading)]
-    fn read_absent(&mut self, names: &GroupNames) -> Result<Expr, Failure>
-        ensures spells { ReadsTree (SpellsOpened (pairs_in names.now.pairs) AbsentBar)
-            self.old self.new result }
+    fn read_absent(&mut self, names: &GroupNames, nodes: &mut Vec<Expr>) -> Result<(), Failure>
+        ensures pushes { IfOk result (λ u. Pushes
+            (SpellsOpened (pairs_in names.now.pairs) AbsentBar)
+            self.old self.new nodes.old.items nodes.new.items) }
         ensures fails { IfErr result (FailsOpened (pairs_in names.now.pairs)
             AbsentBar (point_of self.old)) }
-        ensures one_char { IfOk result OneCharEach }
-        ensures shorter { IfOk result (λ e. length self.new.rest.now
+        ensures shorter { IfOk result (λ u. length self.new.rest.now
             ≤ length self.old.rest.now) }
     {
-        let absent = self.read_boxed_branch(names)?;
+        let absent = self.read_boxed_branch(names, nodes)?;
         if self.is_at_bar() {
             self.skip();
-            let exp = self.read_boxed(names)?;
-            return Ok(Expr::Absent(Absent::Expression { absent, exp }));
+            let exp = self.read_boxed(names, nodes)?;
+            return Ok(push_expression(nodes, absent, exp)?);
         }
         self.read_close()?;
-        Ok(Expr::Absent(Absent::Stopper(absent)))
+        Ok(push_stopper(nodes, absent)?)
     }
 
     /// A conditional that asks for a group; without branches the condition alone.
@@ -774,63 +871,51 @@ impl<'r, 'a> Reader<'r, 'a> {
     fn read_if(
         &mut self,
         names: &GroupNames,
+        nodes: &mut Vec<Expr>,
         found: Reference<'a>,
         place: usize,
-    ) -> Result<Expr, Failure>
-        ensures spells { ReadsTree
+    ) -> Result<(), Failure>
+        ensures pushes { IfOk result (λ u. Pushes
             (SpellsOpened (pairs_in names.now.pairs) (If (reference_of found.entry)))
-            self.old self.new result }
+            self.old self.new nodes.old.items nodes.new.items) }
         ensures fails { IfErr result (FailsOpened (pairs_in names.now.pairs)
             (If (reference_of found.entry)) (point_of self.old)) }
-        ensures one_char { IfOk result OneCharEach }
-        ensures shorter { IfOk result (λ e. length self.new.rest.now
+        ensures shorter { IfOk result (λ u. length self.new.rest.now
             ≤ length self.old.rest.now) }
     {
         let condition = boxed_reference(self.alloc, names, found, place)?;
         if self.is_at_close() {
             self.skip();
-            return Ok(Box::into_inner(condition));
+            return Ok(push_boxed(nodes, condition)?);
         }
-        self.read_bodies(names, condition)
+        self.read_bodies(names, nodes, condition)
     }
 
     /// The branches of a conditional, up to its closing parenthesis.
     #[cycle(reading)]
-    fn read_bodies(&mut self, names: &GroupNames, condition: Box<Expr>) -> Result<Expr, Failure>
-        ensures spells { ReadsTree
+    fn read_bodies(
+        &mut self,
+        names: &GroupNames,
+        nodes: &mut Vec<Expr>,
+        condition: Box<Expr>,
+    ) -> Result<(), Failure>
+        ensures pushes { OneCharEach condition.value → IfOk result (λ u. Pushes
             (SpellsBodies (pairs_in names.now.pairs) (tree_of condition.value))
-            self.old self.new result }
+            self.old self.new nodes.old.items nodes.new.items) }
         ensures fails { IfErr result (Fails (pairs_in names.now.pairs) anything
             (SpellsBodies (pairs_in names.now.pairs) (tree_of condition.value))
             (point_of self.old)) }
-        ensures one_char { OneCharEach condition.value → IfOk result OneCharEach }
-        ensures shorter { IfOk result (λ e. length self.new.rest.now
+        ensures shorter { IfOk result (λ u. length self.new.rest.now
             ≤ length self.old.rest.now) }
     {
-        let true_branch = self.read_boxed_branch(names)?;
+        let true_branch = self.read_boxed_branch(names, nodes)?;
         if self.is_at_bar() {
             self.skip();
-            let false_branch = self.read_boxed(names)?;
-            return Ok(conditional(condition, true_branch, false_branch));
+            let false_branch = self.read_boxed(names, nodes)?;
+            return Ok(push_conditional(nodes, condition, true_branch, false_branch)?);
         }
         self.read_close()?;
-        let false_branch = Box::new(self.alloc, Expr::Empty)?;
-        Ok(conditional(condition, true_branch, false_branch))
+        let false_branch = empty_boxed(self.alloc)?;
+        Ok(push_conditional(nodes, condition, true_branch, false_branch)?)
     }
-}
-
-/// Adds a piece that is something.
-fn push_some(pieces: &mut Vec<Expr>, piece: Expr) -> Result<(), Failure>
-    ensures fails { IfErr result (λ e. e ≡ Memory) }
-    ensures one_char { Each OneCharEach pieces.old.items
-        → OneCharEach piece
-        → IfOk result (λ u. Each OneCharEach pieces.new.items) }
-    ensures pushed { IfOk result (λ u. map tree_of pieces.new.items
-        ≡ map tree_of pieces.old.items
-        ++ some_of (tree_of piece)) }
-{
-    if !is_empty(&piece) {
-        pieces.push(piece)?;
-    }
-    Ok(())
 }

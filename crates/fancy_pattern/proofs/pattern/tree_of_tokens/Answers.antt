@@ -13,7 +13,7 @@ use Rattle.fancy_pattern.proofs.pattern.tree_of_tokens.Goals as goal
 pub described-requires-clause-spelled : goal.described-requires-clause-spelled
 described-requires-clause-spelled c =
     let start : Reader = record { alloc = c.args.alloc; rest = c.args.tokens } in
-    spelled_whole (pairs_in c.in_ok-names.names.pairs) (map placed_of c.args.tokens.now) start c.read_alternatives.new.self
+    spelled_whole (pairs_in c.in_ok-names.names.pairs) (map placed_of c.args.tokens.now) start c.read_tree.new.self
     (tree_of c.in_ok-expr.expr) c.in_ok-names.ensures refl c.in_ok-expr.ensures.spells c.in_ok-read_end.ensures.done
 
 pub returns-clause-made : goal.returns-clause-made
@@ -22,7 +22,7 @@ returns-clause-made c = λ options text lexed.
     let start : Reader = record { alloc = c.args.alloc; rest = c.args.tokens } in
     let is =
     tree_made options text c.args.ignored ts ts c.in_ok-expr.expr c.in_ok-described.field-0 lexed
-    (spelled_whole (pairs_in c.in_ok-names.names.pairs) ts start c.read_alternatives.new.self (tree_of c.in_ok-expr.expr)
+    (spelled_whole (pairs_in c.in_ok-names.names.pairs) ts start c.read_tree.new.self (tree_of c.in_ok-expr.expr)
     c.in_ok-names.ensures refl c.in_ok-expr.ensures.spells c.in_ok-read_end.ensures.done)
     c.in_ok-described.ensures.same refl c.in_ok-described.ensures.describes in (
       is,
@@ -42,5 +42,5 @@ returns-in_err-read_end-clause-fails c = λ options text lexed.
     let start : Reader = record { alloc = c.args.alloc; rest = c.args.tokens } in
     let p = err_from_is_err_and c.from_residual-in_err-read_end.result c.from_residual-in_err-read_end.ensures.1 in
     rw (p.1, p.2) (whole_left options text c.args.ignored (map placed_of c.args.tokens.now) (pairs_in c.in_ok-names.names.pairs) start
-    c.read_alternatives.new.self (tree_of c.in_ok-expr.expr) _
+    c.read_tree.new.self (tree_of c.in_ok-expr.expr) _
     lexed c.in_ok-names.ensures refl c.in_ok-expr.ensures.spells c.in_err-read_end.ensures.left)

@@ -1,4 +1,4 @@
-use Rattle.std.proofs.Common.{string_bytes, sym, ◌∙◌, arith}
+use Rattle.std.proofs.Common.{string_bytes, refl, sym, ◌∙◌, arith}
 use Rattle.fancy_pattern.specs.Grammar.{class_text, class_close}
 use Rattle.fancy_pattern.specs.PatternViews.{piece_text}
 use Rattle.fancy_pattern.proofs.Points.{class_begin, class_next, class_done, takes_next, takes_at}
@@ -18,12 +18,18 @@ loop-piece-preserved c =
     (takes_next class_text (piece_text c.in-Some.piece) c.loop-piece.self c.skip.new.self (sym c.in-Some.ensures.value) c.skip.ensures.skips)
     c.in_ok-push_piece.ensures (omega (arith, shorter))
 
-pub returns-clause-spells : goal.returns-clause-spells
-returns-clause-spells c =
+pub returns-clause-pushes : goal.returns-clause-pushes
+returns-clause-pushes c =
+    let read =
     class_done c.args.self.now c.loop-piece.self c.skip-2.new.self (string_bytes c.loop-piece.text) (string_bytes c.push-2.new.self) c.args.casei
     c.loop-piece.invariant
     (takes_at class_close c.loop-piece.self c.skip-2.new.self (sym c.if-not-is_at_class_close.ensures.value) c.skip-2.ensures.skips)
-    c.in_ok-push-2.ensures.bytes
+    c.in_ok-push-2.ensures.bytes in
+    record {
+      read = _;
+      adds = record { node = _; added = c.in_ok-push-3.ensures.items; made = refl; one_char = (tt, tt) };
+      spelled = read;
+    }
 
 pub returns-then-not-is_at_class_close-clause-fails : goal.returns-then-not-is_at_class_close-clause-fails
 returns-then-not-is_at_class_close-clause-fails c = λ names.
