@@ -1,7 +1,7 @@
 //! Scopes: names, each within the names before it.
 
-ghost use Rattle.std.specs.Prelude.{◌≡◌, ◌∷◌, [], MatchOption, Some, length};
-ghost use Rattle.fancy_highlight.specs.Scopes.{names_left, names_within};
+ghost use Rattle.std.specs.Prelude.{◌≡◌, ◌∷◌, [], IfOk, MatchOption, None, Some, length};
+ghost use Rattle.fancy_highlight.specs.Scopes.{entered, names_left, names_within, scopes_in};
 
 use std::alloc::{AllocError, Global};
 
@@ -20,26 +20,37 @@ pub struct Scopes {
 }
 
 impl Scopes {
-    pub(crate) fn new(alloc: Global) -> Scopes {
+    pub(crate) fn new(alloc: Global) -> Scopes
+        ensures { scopes_in result ≡ [] }
+    {
         Scopes {
             scopes: Vec::new(alloc),
         }
     }
 
     /// The scope of a name within another one.
-    fn enter_one(&mut self, outer: Option<usize>, name: usize) -> Result<usize, AllocError> {
+    fn enter_one(&mut self, outer: Option<usize>, name: usize) -> Result<usize, AllocError>
+        ensures { IfOk result (λ scope.
+            (scopes_in self.new, Some scope) ≡ entered (scopes_in self.old) outer (name ∷ [])) }
+    {
         let scope = self.scopes.len();
         self.scopes.push(Scope { outer, name })?;
         Ok(scope)
     }
 
     /// The scope of a grammar's own name.
-    pub(crate) fn enter_root(&mut self, name: usize) -> Result<usize, AllocError> {
+    pub(crate) fn enter_root(&mut self, name: usize) -> Result<usize, AllocError>
+        ensures { IfOk result (λ scope.
+            (scopes_in self.new, Some scope) ≡ entered (scopes_in self.old) None (name ∷ [])) }
+    {
         self.enter_one(None, name)
     }
 
     /// The scope of these names within another one, the last the innermost.
-    pub(crate) fn enter(&mut self, outer: usize, names: &[usize]) -> Result<usize, AllocError> {
+    pub(crate) fn enter(&mut self, outer: usize, names: &[usize]) -> Result<usize, AllocError>
+        ensures { IfOk result (λ scope. (scopes_in self.new, Some scope)
+            ≡ entered (scopes_in self.old) (Some outer) names.now) }
+    {
         let mut scope = outer;
         for name in names {
             scope = self.enter_one(Some(scope), *name)?;

@@ -1,7 +1,8 @@
 //! Writes the tokens of a text, one after the other.
 
-ghost use Rattle.std.specs.Prelude.{◌≡◌, ◌≤◌, ◌<◌, IsTrue, OnOk, length};
+ghost use Rattle.std.specs.Prelude.{◌≡◌, ◌≤◌, ◌<◌, ◌∷◌, [], IfOk, IsTrue, None, OnOk, Some, length};
 ghost use Rattle.fancy_meaning.specs.Places as places;
+ghost use Rattle.fancy_highlight.specs.Scopes.{entered, scopes_in};
 ghost use Rattle.fancy_highlight.specs.Tokens.{AreTokens, AreTokens-prop, Covers};
 
 use crate::grammar::GroupNames;
@@ -56,14 +57,18 @@ impl<'t> Writer<'t> {
 
     /// The scope of a grammar's own name.
     pub(crate) fn enter_root(&mut self, name: usize) -> Result<usize, AllocError>
-        ensures { IsSamePlace self.old self.new }
+        ensures scope { IfOk result (λ scope. (scopes_in self.new.scopes, Some scope)
+            ≡ entered (scopes_in self.old.scopes) None (name ∷ [])) }
+        ensures same { IsSamePlace self.old self.new }
     {
         self.scopes.enter_root(name)
     }
 
     /// The scope of these names within another one.
     pub(crate) fn enter(&mut self, outer: usize, names: &[usize]) -> Result<usize, AllocError>
-        ensures { IsSamePlace self.old self.new }
+        ensures scope { IfOk result (λ scope. (scopes_in self.new.scopes, Some scope)
+            ≡ entered (scopes_in self.old.scopes) (Some outer) names.now) }
+        ensures same { IsSamePlace self.old self.new }
     {
         self.scopes.enter(outer, names)
     }
