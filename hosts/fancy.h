@@ -201,7 +201,7 @@ size_t fancy_version(char *version, size_t room);
  * FANCY_NEST_LIMIT_EXCEEDED; FANCY_MEMORY.
  *
  * What reads, compiles and frees a pattern recurses over it. A pattern nests at most 250 deep, and is read on a stack of
- * 1 MB. One level of it may be several nodes of the tree, and a call of a group is written out where it stands, so nodes
+ * 512 kB. One level of it may be several nodes of the tree, and a call of a group is written out where it stands, so nodes
  * nest deeper than the pattern: max_nesting bounds them, after the pattern is read. For its default a stack of 2 MB was
  * enough for all that was tried; on one of 1 MB set it to 250. */
 struct fancy_outcome fancy_compile_pattern(const char *pattern, size_t pattern_length,
