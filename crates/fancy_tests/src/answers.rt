@@ -1,7 +1,5 @@
 //! What each call that searches answers, as a line `CALL ANSWER`.
 
-use fancy_reference::options as plain;
-use fancy_reference::search::answer;
 use fancy_regex_engine::error::Error;
 use fancy_regex_engine::expr::{ExprTree, is_well_formed};
 use fancy_regex_engine::search::{SearchOptions, search};
@@ -107,18 +105,4 @@ pub fn push_search(
         return said.push_str("search does not fit\n");
     }
     push_numbers(said, "search", &search(alloc, tree, text, options, scratch))
-}
-
-/// The plain, slow search.
-pub fn push_plain(
-    said: &mut String,
-    alloc: Global,
-    tree: &ExprTree,
-    text: &str,
-    options: &plain::SearchOptions,
-) -> Result<(), AllocError> {
-    if !is_well_formed(tree) {
-        return said.push_str("fancy_reference does not fit\n");
-    }
-    push_numbers(said, "fancy_reference", &answer(alloc, tree, options, text))
 }

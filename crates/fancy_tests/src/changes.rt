@@ -1,8 +1,8 @@
 //! Trees that no notation spells: a tree that is read and then changed.
 
+use crate::columns::{number, pair};
 use fancy_regex_engine::error::Error;
 use fancy_regex_engine::expr::{AstNode, CaptureGroupTarget, Expr, ExprTree};
-use fancy_tables::columns::{number, pair};
 use std::alloc::Global;
 use std::collections::BTreeSet;
 

@@ -1,5 +1,6 @@
 //! One character and one place: classes, folding, pieces, assertions.
 
+use crate::columns::{folded_chars, number, pair, split, with_codes, with_line_ends};
 use crate::trees::read;
 use fancy_regex_engine::classes::{
     CaseiLiteral, CharClassMatcher, fold_equal, matches_literal_casei_unicode, past_piece,
@@ -7,7 +8,6 @@ use fancy_regex_engine::classes::{
 use fancy_regex_engine::error::Error;
 use fancy_regex_engine::expr::{Assertion, Expr};
 use fancy_regex_engine::look::holds;
-use fancy_tables::columns::{folded_chars, number, pair, split, with_codes, with_line_ends};
 use std::alloc::{AllocError, Global};
 
 fn name_of(class: &CharClassMatcher) -> &str {

@@ -1,9 +1,9 @@
 //! What the command prints, words that ask nothing, and writers that fail.
 
+use crate::closing::Closing;
+use crate::columns::push_differ;
+use crate::printed::Printed;
 use fancy_regex_engine::command::command;
-use fancy_tables::closing::Closing;
-use fancy_tables::columns::push_differ;
-use fancy_tables::printed::Printed;
 use std::alloc::{AllocError, Global};
 
 /// The line that is printed, with the status that goes with it.

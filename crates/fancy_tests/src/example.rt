@@ -1,10 +1,10 @@
 //! What a host writes to search a text for a tree.
 
+use crate::columns::split;
 use fancy_regex_engine::error::Error;
 use fancy_regex_engine::expr::read_tree;
 use fancy_regex_engine::search::{SearchOptions, search};
 use fancy_regex_engine::vm::Scratch;
-use fancy_tables::columns::split;
 use std::alloc::{AllocError, Global};
 
 /// Start and end of each group of the first match, in bytes of the text.

@@ -5,6 +5,7 @@ ghost use Rattle.fancy_meaning.specs.Places.{is_place};
 ghost use Rattle.fancy_fragments.specs.Fragments.{IsMemoFor};
 ghost use Rattle.fancy_fragments.specs.Nodes.{AreEasyNeighbours};
 
+use crate::columns::{number, split, written_out};
 use crate::easy::easy_children;
 use crate::layouts::context;
 use crate::trees::read;
@@ -13,7 +14,6 @@ use fancy_regex_engine::analyze::{Info, analyze};
 use fancy_regex_engine::error::Error;
 use fancy_regex_engine::expr::{ExprTree, is_well_formed};
 use fancy_regex_engine::plain::{FirstWay, Fragment, Memo, Way, first_way, first_way_with};
-use fancy_tables::columns::{number, split, written_out};
 use std::alloc::{AllocError, Global};
 
 /// Where the way ends, and number, start and end of each group that it sets.

@@ -1,10 +1,10 @@
 //! The instructions of a program that is built by hand.
 
+use crate::columns::{folded_chars, four, number, pair};
 use fancy_regex_engine::classes::{CaseiLiteral, CharClassMatcher};
 use fancy_regex_engine::error::Error;
 use fancy_regex_engine::expr::Assertion;
 use fancy_regex_engine::vm::Insn;
-use fancy_tables::columns::{folded_chars, four, number, pair};
 use std::alloc::Global;
 use std::sync::Arc;
 

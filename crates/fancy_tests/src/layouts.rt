@@ -1,12 +1,12 @@
 //! Trees and their programs.
 
+use crate::columns::push_spelled;
 use fancy_regex_engine::analyze::AnalyzeContext;
 use fancy_regex_engine::compile::CompileOptions;
 use fancy_regex_engine::error::Error;
 use fancy_regex_engine::expr::{ExprTree, is_well_formed, read_tree};
 use fancy_regex_engine::search::{Compiled, options_fit};
 use fancy_regex_engine::vm::{Insn, Prog};
-use fancy_tables::columns::push_spelled;
 use std::alloc::{AllocError, Global};
 
 /// The program of a tree.

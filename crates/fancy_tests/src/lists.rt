@@ -1,14 +1,14 @@
 //! Lists of matches and of pieces, and texts with their matches replaced.
 
+use crate::columns::{number, split as columns, with_line_ends, words_of, written_out};
 use crate::replacements::push_replacement;
+use crate::spans::{close, push_group, push_none, push_span};
 use fancy_matches::found::Captures;
 use fancy_matches::regexes::Regex;
 use fancy_regex_engine::arguments::read_arguments;
 use fancy_regex_engine::error::Error;
 use fancy_regex_engine::expr::{ExprTree, is_well_formed, read_tree};
 use fancy_replace::split::{split, splitn};
-use fancy_tables::columns::{number, split as columns, with_line_ends, words_of, written_out};
-use fancy_tables::lists::{close, push_group, push_none, push_span};
 use std::alloc::{AllocError, Global};
 
 /// The most groups that are printed.

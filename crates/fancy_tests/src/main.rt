@@ -1,10 +1,13 @@
 //! Tables of rows over the whole engine.
 #![tactic(auto)]
 
+mod agreement;
 mod analysis;
 mod answers;
 mod changes;
 mod characters;
+mod closing;
+mod columns;
 mod commands;
 mod easy;
 mod example;
@@ -13,6 +16,7 @@ mod instructions;
 mod layouts;
 mod lists;
 mod pattern_scans;
+mod printed;
 mod programs;
 mod regex_calls;
 mod regexes;
@@ -20,35 +24,17 @@ mod replacements;
 mod rows;
 mod scans;
 mod searches;
+mod spans;
 mod states;
 mod syntax;
+mod tables;
 mod trees;
 
+use crate::tables::print_table;
 use fancy_regex_engine::vm::Scratch;
-use fancy_tables::tables::{Table, print_table};
-use std::alloc::{AllocError, Global};
 use std::io;
 
-/// One scratch serves all rows.
-#[derive(Drop)]
-struct Engine {
-    scratch: Scratch,
-}
-
-impl Table for Engine {
-    fn push_outcome(
-        &mut self,
-        line: &mut String,
-        alloc: Global,
-        table: &str,
-        key: &str,
-    ) -> Result<(), AllocError> {
-        let outcome = rows::push_outcome(line, alloc, table, key, &mut self.scratch);
-        rows::finish(line, outcome)
-    }
-}
-
-const TABLES: [&str; 51] = [
+const TABLES: [&str; 50] = [
     "searches/example",
     "searches/answers",
     "searches/everyday",
@@ -63,7 +49,6 @@ const TABLES: [&str; 51] = [
     "programs/compared_layouts",
     "programs/by_hand",
     "programs/states",
-    "programs/chance",
     "trees/notation",
     "trees/numbers",
     "trees/patterns",
@@ -103,11 +88,10 @@ const TABLES: [&str; 51] = [
 ];
 
 fn main(rt: HostRuntime) -> io::Result<()> {
-    let mut engine = Engine {
-        scratch: Scratch::new(rt.alloc()),
-    };
+    // One scratch serves all rows.
+    let mut scratch = Scratch::new(rt.alloc());
     for table in TABLES {
-        print_table(&rt, &mut engine, table)?;
+        print_table(&rt, table, &mut scratch)?;
     }
     Ok(())
 }

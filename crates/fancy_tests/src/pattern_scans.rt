@@ -1,12 +1,12 @@
 //! A text from place to place of many patterns.
 
+use crate::columns::{number, split, with_codes};
 use crate::regexes::{builder_of, regex_of};
 use crate::scans::{push_agreed, push_found, push_missing, push_stopped};
+use crate::spans::push_numbered;
 use fancy_characters::places::is_place;
 use fancy_regex::{Error, ScanText, Scanner};
 use fancy_scanner::scanner::Scanner as TreeScanner;
-use fancy_tables::columns::{number, split, with_codes};
-use fancy_tables::lists::push_numbered;
 use std::alloc::{AllocError, Global};
 
 /// What a scan says, what the engine says from each place alone, and what the groups `n` took.

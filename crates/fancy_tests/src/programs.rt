@@ -1,11 +1,11 @@
 //! Programs that are built by hand.
 
+use crate::agreement::push_agreed;
 use crate::answers::{push_default, push_run as push_answer};
+use crate::columns::{limits, pair, split, with_codes};
 use crate::instructions::instruction;
 use fancy_regex_engine::error::Error;
 use fancy_regex_engine::vm::{Insn, Prog, ProgParts, RunOptions, Scratch};
-use fancy_tables::agreement::push_agreed;
-use fancy_tables::columns::{limits, pair, split, with_codes};
 use std::alloc::{AllocError, Global};
 
 /// What a program without explicit group 0 is besides its instructions.

@@ -1,10 +1,10 @@
 //! What the calls of a regex answer.
 
+use crate::columns::{number, split};
 use crate::replacements::template;
+use crate::spans::push_none;
 use fancy_characters::places::is_place;
 use fancy_regex::{Captures, Error, Match, NoExpand, Part, Parts, Regex, escape};
-use fancy_tables::columns::{number, split};
-use fancy_tables::lists::push_none;
 use std::alloc::{AllocError, Global};
 use std::borrow::CowStr;
 use std::ops::Range;

@@ -1,9 +1,9 @@
 //! Patterns by the names of fancy-regex: their regexes, built with the options of a row.
 
+use crate::columns::{number, push_differ, split, with_codes, written_out};
 use crate::pattern_scans::push_pattern_scan;
 use crate::regex_calls::push_call;
 use fancy_regex::{Error, Regex, RegexBuilder};
-use fancy_tables::columns::{number, push_differ, split, with_codes, written_out};
 use std::alloc::{AllocError, Global};
 
 /// The limit that the text spells, or none.

@@ -1,10 +1,10 @@
 //! Matches that are replaced.
 
+use crate::columns::{names_of, number, split as columns};
 use fancy_matches::regexes::Regex;
 use fancy_regex_engine::error::Error;
 use fancy_replace::replace::{replace, replace_all, replacen};
 use fancy_replace::template::Template;
-use fancy_tables::columns::{names_of, number, split as columns};
 use std::alloc::{AllocError, Global};
 
 /// The template, by the groups of each name.

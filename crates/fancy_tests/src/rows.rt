@@ -6,7 +6,6 @@ use crate::{
 };
 use fancy_regex_engine::error::Error;
 use fancy_regex_engine::vm::Scratch;
-use fancy_tables::columns::number;
 use std::alloc::{AllocError, Global};
 
 /// What comes out for the key of a row of programs.
@@ -20,7 +19,6 @@ fn push_program(
     match table {
         "by_hand" => programs::push_run(line, alloc, key, scratch),
         "states" => states::push_calls(line, alloc, key),
-        "chance" => states::push_by_chance(line, alloc, number(key)),
         _ => layouts::push_layout(line, alloc, key),
     }
 }

@@ -1,6 +1,8 @@
 //! A text from match to match of many trees, and from place to place.
 
+use crate::columns::{number, push_differ, split as columns, with_line_ends};
 use crate::lists::regex;
+use crate::spans::{past, push_comma, push_none, push_numbered};
 use fancy_characters::places::is_place;
 use fancy_regex_engine::error::Error;
 use fancy_regex_engine::expr::{is_well_formed, read_tree};
@@ -8,8 +10,6 @@ use fancy_regex_engine::search::SearchOptions;
 use fancy_scanner::scan_limit::ScanLimit;
 use fancy_scanner::scan_text::ScanText;
 use fancy_scanner::scanner::{Scanner, Stopped};
-use fancy_tables::columns::{number, push_differ, split as columns, with_line_ends};
-use fancy_tables::lists::{past, push_comma, push_none, push_numbered};
 use std::alloc::{AllocError, Global};
 
 /// Adds a tree in the notation, with the default options.

@@ -1,58 +1,16 @@
 //! Searches by each call that makes one, and what the command prints.
 
-use crate::answers::{push_default, push_plain, push_run, push_search as push_whole, push_spans};
+use crate::agreement::differing;
+use crate::answers::{push_default, push_run, push_search as push_whole, push_spans};
+use crate::columns::{bracket_words, push_differ, search_words, written_out};
 use crate::commands::{push_answer, push_least_room, push_misuse};
 use crate::example::push_example;
 use crate::layouts::compiled;
-use fancy_reference::options as plain;
 use fancy_regex_engine::arguments::{Arguments, read_arguments};
 use fancy_regex_engine::error::Error;
 use fancy_regex_engine::expr::{ExprTree, read_tree};
 use fancy_regex_engine::vm::{Prog, RunOptions, Scratch};
-use fancy_tables::agreement::differing;
-use fancy_tables::columns::{bracket_words, push_differ, search_words, written_out};
 use std::alloc::{AllocError, Global};
-
-/// Longer texts are not searched by the plain program: it goes through every way, and there may be twice as many for each byte.
-const LONGEST_TEXT: usize = 24;
-
-/// The plain search that the words ask for, from this place.
-fn asked(arguments: &Arguments, pos: usize) -> plain::SearchOptions {
-    plain::SearchOptions {
-        explicit_capture_group_0: false,
-        unicode: !arguments.ascii,
-        end_text: arguments.end_text,
-        pos,
-        anchored: arguments.compile_anchored || arguments.anchored,
-        continued: !arguments.not_continued,
-        not_empty: arguments.not_empty,
-        leftmost_longest: arguments.longest,
-    }
-}
-
-/// The run and the plain search from each place of the text.
-fn push_places(
-    said: &mut String,
-    alloc: Global,
-    tree: &ExprTree,
-    prog: &Prog,
-    text: &str,
-    arguments: &Arguments,
-    scratch: &mut Scratch,
-) -> Result<(), AllocError> {
-    for pos in 0..text.len() + 1 {
-        if text.is_char_boundary(pos) {
-            let options = RunOptions {
-                pos,
-                ..arguments.running()
-            };
-            said.push('\n')?;
-            push_run(said, alloc, prog, text, &options, scratch)?;
-            push_plain(said, alloc, tree, text, &asked(arguments, pos))?;
-        }
-    }
-    Ok(())
-}
 
 /// Each call that searches as the words ask.
 fn push_calls(
@@ -69,11 +27,7 @@ fn push_calls(
     push_spans(said, alloc, prog, text, &options, scratch)?;
     push_run(said, alloc, prog, text, &options, scratch)?;
     push_default(said, alloc, prog, text, &options)?;
-    push_whole(said, alloc, tree, text, &arguments.options(), scratch)?;
-    if text.len() > LONGEST_TEXT {
-        return Ok(());
-    }
-    push_places(said, alloc, tree, prog, text, arguments, scratch)
+    push_whole(said, alloc, tree, text, &arguments.options(), scratch)
 }
 
 /// The same with the program of the tree; nothing where the tree is refused.
@@ -114,7 +68,6 @@ fn push_asked(
 fn push_compared(
     line: &mut String,
     alloc: Global,
-    table: &str,
     words: &[String],
     scratch: &mut Scratch,
 ) -> Result<(), AllocError> {
@@ -122,7 +75,6 @@ fn push_compared(
     push_asked(&mut said, alloc, words, scratch)?;
     match differing(said.as_str()) {
         Some(call) => push_differ(line, call),
-        None if table == "longest_by_chance" => line.push_str("agree"),
         None => push_answer(line, alloc, words),
     }
 }
@@ -143,7 +95,7 @@ pub fn push_search(
             let key = written_out(alloc, key)?;
             push_answer(line, alloc, &search_words(alloc, key.as_str())?)?
         }
-        _ => push_compared(line, alloc, table, &search_words(alloc, key)?, scratch)?,
+        _ => push_compared(line, alloc, &search_words(alloc, key)?, scratch)?,
     }
     Ok(())
 }

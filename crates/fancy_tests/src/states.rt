@@ -1,18 +1,60 @@
-//! States, by calls in turn and beside a state that copies.
+//! States, by calls in turn.
 
+use crate::columns::{number, pair, split};
 use fancy_regex_engine::error::Error;
 use fancy_regex_engine::vm::State;
-use fancy_tables::columns::{number, push_differ, split};
-use fancy_tables::copying::{
-    Answer, Call, Copying, call_by_chance, call_of, equal, next_seed, push_answer,
-};
-use std::alloc::Global;
-
-/// A state of more slots is not set beside one that copies them.
-const MOST_SLOTS: usize = 16;
+use std::alloc::{AllocError, Global};
 
 /// A state holds no more branches.
 const MOST_BRANCHES: usize = 1_000_000;
+
+/// A call of a state.
+#[derive(Clone, Copy, Drop)]
+enum Call {
+    Save(usize, usize),
+    Push(usize, usize),
+    Pop,
+    StackPush(usize),
+    StackPop,
+    Cut(usize),
+    Get(usize),
+    Count,
+}
+
+/// What a call answers: nothing, that there is none, one number, or two.
+#[derive(Clone, Copy, Drop)]
+enum Answer {
+    Done,
+    Nothing,
+    One(usize),
+    Two(usize, usize),
+}
+
+/// The call that the word spells, as `save:0,1`; the number of branches where it spells none.
+fn call_of(word: &str) -> Call {
+    let (name, after) = word.split_once(':').unwrap_or((word, ""));
+    let (one, other) = pair(after);
+    match name {
+        "save" => Call::Save(one, other),
+        "push" => Call::Push(one, other),
+        "pop" => Call::Pop,
+        "put" => Call::StackPush(one),
+        "take" => Call::StackPop,
+        "cut" => Call::Cut(one),
+        "get" => Call::Get(one),
+        _ => Call::Count,
+    }
+}
+
+/// The answer, where there is one, after a space.
+fn push_answer(line: &mut String, answer: Answer) -> Result<(), AllocError> {
+    match answer {
+        Answer::Done => Ok(()),
+        Answer::Nothing => line.push_str(" -"),
+        Answer::One(number) => write!(line, " {number}"),
+        Answer::Two(one, other) => write!(line, " {one},{other}"),
+    }
+}
 
 /// What a call answers; one that may not be made does nothing.
 fn make(state: &mut State, call: Call) -> Result<Answer, Error> {
@@ -78,87 +120,10 @@ fn push_answers(line: &mut String, state: &mut State, words: &str) -> Result<(),
     Ok(())
 }
 
-/// Both answer the call alike.
-fn is_same(state: &mut State, copying: &mut Copying, call: Call) -> Result<bool, Error> {
-    let answer = make(state, call)?;
-    Ok(equal(answer, copying.make(call)?))
-}
-
-/// The calls answer as with copies.
-fn agree(state: &mut State, copying: &mut Copying, words: &str) -> Result<bool, Error> {
-    for word in words.split_whitespace() {
-        if !is_same(state, copying, call_of(word))? {
-            return Ok(false);
-        }
-    }
-    Ok(true)
-}
-
-/// Writes which calls do not answer as with copies, if there are not too many slots to copy.
-fn push_difference(
-    line: &mut String,
-    alloc: Global,
-    slots: usize,
-    words: &str,
-) -> Result<(), Error> {
-    if slots > MOST_SLOTS {
-        return Ok(());
-    }
-    let mut state = State::new(alloc, slots, MOST_BRANCHES)?;
-    let mut copying = Copying::new(alloc, slots)?;
-    if !agree(&mut state, &mut copying, words)? {
-        line.push_str(" DIFFER")?;
-    }
-    Ok(())
-}
-
-/// What each call answers, which is what a state that copies answers too.
+/// What each call answers.
 pub fn push_calls(line: &mut String, alloc: Global, key: &str) -> Result<(), Error> {
     let (slots, words) = split(key);
     line.push_str("answers")?;
     let mut state = State::new(alloc, number(slots), MOST_BRANCHES)?;
-    push_answers(line, &mut state, words)?;
-    push_difference(line, alloc, number(slots), words)
-}
-
-/// After the call both have as many branches, and the four slots hold the same.
-fn stays_same(state: &mut State, copying: &mut Copying, call: Call) -> Result<bool, Error> {
-    for call in [
-        call,
-        Call::Count,
-        Call::Get(0),
-        Call::Get(1),
-        Call::Get(2),
-        Call::Get(3),
-    ] {
-        if !is_same(state, copying, call)? {
-            return Ok(false);
-        }
-    }
-    Ok(true)
-}
-
-/// The first call of chance after which they are not the same.
-fn push_first_difference(
-    line: &mut String,
-    state: &mut State,
-    copying: &mut Copying,
-    count: usize,
-) -> Result<(), Error> {
-    let mut seed = 7_u64;
-    for _ in 0..count {
-        seed = next_seed(seed);
-        let call = call_by_chance((seed >> 40) as usize);
-        if !stays_same(state, copying, call)? {
-            return Ok(push_differ(line, "State")?);
-        }
-    }
-    Ok(line.push_str("agree")?)
-}
-
-/// So many calls, chosen by chance, answer as with copies.
-pub fn push_by_chance(line: &mut String, alloc: Global, count: usize) -> Result<(), Error> {
-    let mut state = State::new(alloc, 4, MOST_BRANCHES)?;
-    let mut copying = Copying::new(alloc, 4)?;
-    push_first_difference(line, &mut state, &mut copying, count)
+    push_answers(line, &mut state, words)
 }

@@ -1,6 +1,7 @@
 //! Patterns as they are typed: the trees that they spell, their faults, and what is found by them.
 
 use crate::analysis::push_refusal;
+use crate::columns::{push_differ, push_spelled, split, with_codes};
 use crate::layouts::context;
 use crate::lists::{push_found, regex_of};
 use fancy_pattern::error::PatternError;
@@ -9,7 +10,6 @@ use fancy_pattern::options::ParseOptions;
 use fancy_pattern::pattern::parse_tree;
 use fancy_regex_engine::error::Error;
 use fancy_regex_engine::expr::{ExprTree, is_well_formed, read_tree};
-use fancy_tables::columns::{push_differ, push_spelled, split, with_codes};
 use std::alloc::{AllocError, Global};
 
 /// The options of these letters: flags by their own, `a` without unicode, `O` as Oniguruma, `N` no plain groups beside names.

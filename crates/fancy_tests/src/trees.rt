@@ -2,11 +2,11 @@
 
 use crate::analysis::{push_analysis, push_refusal};
 use crate::changes::change_all;
+use crate::columns::{split, written_out};
 use crate::layouts::context;
 use fancy_regex_engine::analyze::can_compile_as_anchored;
 use fancy_regex_engine::error::Error;
 use fancy_regex_engine::expr::{Expr, ExprTree, is_well_formed, read_tree};
-use fancy_tables::columns::{split, written_out};
 use std::alloc::{AllocError, Global};
 
 /// The tree; `<9*a>` is nine letters a.

@@ -1,11 +1,7 @@
-//! What calls answered, a line `CALL ANSWER` for each, as text, so that it can be compared. Where a line is empty, calls of another kind
-//! begin.
+//! What calls answered, a line `CALL ANSWER` for each, as text, so that it can be compared.
 
 use crate::columns::push_differ;
 use std::alloc::AllocError;
-
-/// The call whose answers need not be met where a limit was passed.
-const PLAIN_CALL: &str = "fancy_reference";
 
 /// The call and its answer.
 fn parts(line: &str) -> (&str, &str) {
@@ -19,24 +15,17 @@ fn is_end_of_list(rest: &str) -> bool {
 
 /// The call of this line answers as the first one does.
 fn agrees(first: &str, line: &str) -> bool {
-    let (call, answer) = parts(line);
-    if call == PLAIN_CALL && first.starts_with("RuntimeError") {
-        return true;
-    }
+    let (_call, answer) = parts(line);
     match first.strip_prefix(answer) {
         Some(rest) => is_end_of_list(rest),
         None => false,
     }
 }
 
-/// The first call that answers otherwise than the first of its kind.
+/// The first call that answers otherwise than the first one.
 pub fn differing(said: &str) -> Option<&str> {
     let mut first = None;
     for line in said.lines() {
-        if line.is_empty() {
-            first = None;
-            continue;
-        }
         let (call, answer) = parts(line);
         if !agrees(first.unwrap_or(answer), line) {
             return Some(call);

@@ -1,5 +1,0 @@
-pub mod States
-pub mod Nodes
-pub mod Refusals
-pub mod Searches
-pub mod Asked
