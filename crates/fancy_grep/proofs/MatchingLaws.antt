@@ -5,7 +5,9 @@ use Rattle.std.proofs.lemmas.List.Elements.{filter-append}
 use Rattle.std.proofs.lemmas.Option.{none-some, same_Some}
 use Rattle.fancy_meaning.specs.Options as plain
 use Rattle.fancy_meaning.specs.Premises.{Input}
-use Rattle.fancy_literals.specs.Required.{IsRequired, Lacks}
+use Rattle.fancy_literals.specs.Required.{IsRequired, Lacks, required_of}
+use Rattle.fancy_literals.specs.Required as plain_required
+use Rattle.fancy_literals.specs.declared.required.Required.{Required}
 use Rattle.fancy_matches.specs.Listing.{begun_at}
 use Rattle.fancy_matches.proofs.Stepping.{of_same, same_twice}
 use Rattle.fancy_regex.specs.Regexes.{IsSame}
@@ -75,41 +77,41 @@ module _ (i : Input) (o : List ℕ → plain.RunOptions) (inverted : Bool) where
   pub selected_with : (before : List Line) (line : Line) → selected i o inverted (before ++ line ∷ []) ≡ selected i o inverted before ++ selected i o inverted (line ∷ [])
   selected_with before line = filter-append (is_selected i o inverted) before (line ∷ [])
 
--- ---- the literal that is looked for
+-- ---- what is looked for
 
--- each match of the tree takes the literal, if there is one
-abbrev pub IsRequiredOf : Input → Option (Bor (List ℕ)) → Type 0
-IsRequiredOf i literal = IfSome literal (λ l. IsRequired l.now (i.parsed).tree)
+-- this is required, if something is
+abbrev pub IsRequiredOf : Input → Option (Bor Required) → Type 0
+IsRequiredOf i required = IfSome required (λ r. IsRequired (required_of r.now) i)
 
 -- it is looked for in this text
-abbrev pub IsSoughtIn : Option (Bor (List ℕ)) → List ℕ → Option Occurrences → Type 0
-IsSoughtIn literal text o = sought_in o ≡ option_map (λ l. (l.now, text)) literal
+abbrev pub IsSoughtIn : Option (Bor Required) → List ℕ → Option Occurrences → Type 0
+IsSoughtIn required text o = sought_in o ≡ option_map (λ r. (required_of r.now, text)) required
 
-pub helps : (i : Input) (line : code.Line) (text : List ℕ) (literal : Option (Bor (List ℕ))) (o : Option Occurrences) →
-    IsSoughtIn literal text o → IsRequiredOf i literal → IsLineIn text (line_of line) → Helps i line o
-helps i line text literal None same required is = tt
-helps i line text None (Some s) same required is = absurd (none-some (sought s) (sym same))
-helps i line text (Some l) (Some s) same required is =
-    let both = same_Some (sought s) (l.now, text) same in (
-      subst (λ p. IsRequired p (i.parsed).tree) (sym (ap (λ p. p.0) both)) required,
+pub helps : (i : Input) (line : code.Line) (text : List ℕ) (required : Option (Bor Required)) (o : Option Occurrences) →
+    IsSoughtIn required text o → IsRequiredOf i required → IsLineIn text (line_of line) → Helps i line o
+helps i line text required None same is_required is = tt
+helps i line text None (Some s) same is_required is = absurd (none-some (sought s) (sym same))
+helps i line text (Some r) (Some s) same is_required is =
+    let both = same_Some (sought s) (required_of r.now, text) same in (
+      subst (λ p. IsRequired p i) (sym (ap (λ p. p.0) both)) is_required,
       subst (λ t. IsLineIn t (line_of line)) (sym (ap (λ p. p.1) both)) is,
     )
 
 -- a line that is not searched has no match
-pub has_no_match : (i : Input) (o : List ℕ → plain.RunOptions) (literal line : List ℕ) → IsRequired literal (i.parsed).tree → Lacks literal line →
+pub has_no_match : (i : Input) (o : List ℕ → plain.RunOptions) (r : plain_required.Required) (line : List ℕ) → IsRequired r i → Lacks r line →
     has_match i o line ≡ false
-has_no_match i o literal line required lacks = ap is_some (required i line (begun_at (o line) 0) refl lacks)
+has_no_match i o r line required lacks = ap is_some (required line (begun_at (o line) 0) lacks)
 
 -- ---- a search line by line
 
 -- So far the search of a text has come: these lines were found, the regex is so, and these lines of the text are left.
-pub record Searched (r : Regex) (literal : Option (Bor (List ℕ))) (inverted : Bool) (text : List ℕ) (lines : List code.Line) (s : Regex)
+pub record Searched (r : Regex) (required : Option (Bor Required)) (inverted : Bool) (text : List ℕ) (lines : List code.Line) (s : Regex)
     (now : Option Occurrences) (left : List Line) : Type 0 where
   pub before : List Line
   pub split : lines_of text ≡ before ++ left
-  pub selects : (i : Input) (o : List ℕ → plain.RunOptions) → IsRegexFor i o r → IsRequiredOf i literal →
+  pub selects : (i : Input) (o : List ℕ → plain.RunOptions) → IsRegexFor i o r → IsRequiredOf i required →
       map line_of lines ≡ selected i o inverted before
-  pub is_sought : IsSoughtIn literal text now
+  pub is_sought : IsSoughtIn required text now
   pub next : ℕ
   pub counted : AreCounted next left
   pub rises : RiseTo 1 next (numbers_of lines)
@@ -123,9 +125,9 @@ pub record Took (s : Regex) (now : Option Occurrences) (inverted : Bool) (line :
   pub grows : Grows line lines more
   pub same : IsSame s t
 
-module _ (r : Regex) (literal : Option (Bor (List ℕ))) (inverted : Bool) (text : List ℕ) where
-  pub searched_none : (now : Option Occurrences) (left : List Line) → IsSoughtIn literal text now → left ≡ lines_of text →
-      Searched r literal inverted text [] r now left
+module _ (r : Regex) (required : Option (Bor Required)) (inverted : Bool) (text : List ℕ) where
+  pub searched_none : (now : Option Occurrences) (left : List Line) → IsSoughtIn required text now → left ≡ lines_of text →
+      Searched r required inverted text [] r now left
   searched_none now left same is = record {
     before = [];
     split = sym is;
@@ -138,15 +140,15 @@ module _ (r : Regex) (literal : Option (Bor (List ℕ))) (inverted : Bool) (text
   }
 
   module _ (lines more : List code.Line) (s t : Regex) (now after : Option Occurrences) (line : code.Line) (rest : List Line)
-      (h : Searched r literal inverted text lines s now (line_of line ∷ rest)) where
+      (h : Searched r required inverted text lines s now (line_of line ∷ rest)) where
     -- the line stands in the text, so what is looked for helps
-    line_helps : (i : Input) → IsRequiredOf i literal → Helps i line now
-    line_helps i required =
-        helps i line text literal now h.is_sought required
+    line_helps : (i : Input) → IsRequiredOf i required → Helps i line now
+    line_helps i is_required =
+        helps i line text required now h.is_sought is_required
         (line_in_text text h.before 1 0 text (line_of line) rest (omega arith) refl h.split)
 
     pub searched_more : (u : Unit {0}) → Took s now inverted line lines (Ok u) more t after →
-        Searched r literal inverted text more t after rest
+        Searched r required inverted text more t after rest
     searched_more u took = record {
       before = h.before ++ line_of line ∷ [];
       split = h.split ∙ sym (append_assoc h.before (line_of line ∷ []) rest);
@@ -162,7 +164,7 @@ module _ (r : Regex) (literal : Option (Bor (List ℕ))) (inverted : Bool) (text
     }
 
     pub searched_stops : (e : Error) → Took s now inverted line lines (Err e) more t after →
-        (i : Input) (o : List ℕ → plain.RunOptions) → IsRegexFor i o r → IsRequiredOf i literal →
+        (i : Input) (o : List ℕ → plain.RunOptions) → IsRegexFor i o r → IsRequiredOf i required →
         StopsAt i o inverted text (map line_of more) line.number e
     searched_stops e took i o is required =
         let taken = took.promise i o (is_for_same i o r s h.same is) (line_helps i required) in record {
@@ -182,10 +184,10 @@ module _ (r : Regex) (literal : Option (Bor (List ℕ))) (inverted : Bool) (text
     stopped_same e took = is_same_still r s t h.same took.same
 
   module _ (lines : List code.Line) (s : Regex) (now : Option Occurrences) (left : List Line) where
-    pub searched_all : Searched r literal inverted text lines s now left → left ≡ [] → (i : Input) (o : List ℕ → plain.RunOptions) →
-        IsRegexFor i o r → IsRequiredOf i literal → map line_of lines ≡ selected i o inverted (lines_of text)
+    pub searched_all : Searched r required inverted text lines s now left → left ≡ [] → (i : Input) (o : List ℕ → plain.RunOptions) →
+        IsRegexFor i o r → IsRequiredOf i required → map line_of lines ≡ selected i o inverted (lines_of text)
     searched_all h none i o is required =
         h.selects i o is required ∙ ap (selected i o inverted) (sym (append-nil h.before) ∙ sym (h.split ∙ ap (λ l. h.before ++ l) none))
 
-    pub all_rises : Searched r literal inverted text lines s now left → AreRising 1 (numbers_of lines)
+    pub all_rises : Searched r required inverted text lines s now left → AreRising 1 (numbers_of lines)
     all_rises h = rise 1 h.next (numbers_of lines) h.rises

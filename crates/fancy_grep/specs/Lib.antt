@@ -2,6 +2,7 @@ pub mod Context
 pub mod Lines
 pub mod Matchers
 pub mod Matching
+pub mod Needles
 pub mod Occurrences
 pub mod Patterns
 pub mod Printing

@@ -9,6 +9,7 @@ use Rattle.fancy_regex.specs.declared.error.Error.{Error}
 use Rattle.fancy_regex.specs.declared.regexes.Regex.{Regex}
 use Rattle.fancy_literals.specs.Required.{IsRequired}
 use Rattle.fancy_grep.specs.Lines.{Line, line_of, lines_of}
+use Rattle.fancy_grep.specs.Needles.{needle_of}
 use Rattle.fancy_grep.specs.Standing.{IsLineIn}
 use Rattle.fancy_grep.specs.declared.occurrences.Occurrences.{Occurrences}
 use Rattle.fancy_grep.specs.declared.lines.Line as code
@@ -26,9 +27,9 @@ is_chosen inverted found = if inverted then not found else found
 abbrev pub Grows : code.Line → List code.Line → List code.Line → Type 0
 Grows line before after = (after ≡ before) ⊎ (after ≡ before ++ line ∷ [])
 
--- The literal that is looked for is in each match of the tree, and the line stands in the text in which it is looked for.
+-- What is looked for is required, and the line stands in the text in which it is looked for.
 abbrev pub Helps : Input → code.Line → Option Occurrences → Type 0
-Helps i line literal = IfSome literal (λ s. IsRequired s.literal (i.parsed).tree × IsLineIn s.text.now (line_of line))
+Helps i line looked_for = IfSome looked_for (λ s. IsRequired (needle_of s.needle) i × IsLineIn s.text.now (line_of line))
 
 module _ (i : Input) (o : List ℕ → plain.RunOptions) where
   -- the tree has an admitted match in the line, as a text of its own

@@ -1,12 +1,11 @@
--- Where a literal stands in a text, and where a line does.
+-- Where what is looked for stands in a text, and where a line does.
 use Rattle.std.specs.Prelude.{◌≡◌, ◌≤◌, ◌<◌, ℕ, true, List, ◌++◌, drop, length}
-use Rattle.regex_hir.specs.Text.{has_bytes_at}
+use Rattle.fancy_literals.specs.Required.{Required, stands_at}
 use Rattle.fancy_grep.specs.Lines.{Line}
 
--- the literal begins at no byte from the first on and before the other
-abbrev pub StandsNowhere : (literal text : List ℕ) → (from next : ℕ) → Type 0
-StandsNowhere literal text from next =
-    (i : ℕ) → from ≤ i → i < next → i ≤ length text → has_bytes_at text i literal ≡ true → ⊥
+-- it stands at no byte from the first on and before the other
+abbrev pub StandsNowhere : Required → (text : List ℕ) → (from next : ℕ) → Type 0
+StandsNowhere r text from next = (i : ℕ) → from ≤ i → i < next → i ≤ length text → stands_at r text i ≡ true → ⊥
 
 -- the line stands in the text from the byte on where it is said to begin
 pub record IsLineIn (text : List ℕ) (l : Line) : Type 0 where

@@ -5,12 +5,13 @@ ghost use Rattle.fancy_meaning.specs.Options as plain;
 ghost use Rattle.fancy_meaning.specs.Premises.{Input};
 ghost use Rattle.fancy_regex.specs.Regexes.{IsSame};
 ghost use Rattle.fancy_grep.specs.Context.{AreRising, numbers_of};
-ghost use Rattle.fancy_literals.specs.Required.{IsRequired};
+ghost use Rattle.fancy_literals.specs.Required.{IsRequired, required_of};
 ghost use Rattle.fancy_grep.specs.Matching.{Grows, Helps, IsRegexFor, Selects, TakesLine, TellsMatch, has_match, is_chosen};
 ghost use Rattle.fancy_grep.specs.Occurrences.{sought_in};
 
 use crate::lines::{Line, Lines};
 use crate::occurrences::Occurrences;
+use fancy_literals::required::Required;
 use fancy_regex::{Error, Regex};
 use std::alloc::Global;
 
@@ -36,36 +37,36 @@ fn is_chosen(inverted: bool, found: bool) -> bool
     if inverted { !found } else { found }
 }
 
-/// Whether a line may have a match: the literal that is looked for may stand in it, or there is none.
-fn may_match(literal: &mut Option<Occurrences<'_, '_>>, line: Line<'_>) -> bool
+/// Whether a line may have a match: what is looked for may stand in it, or nothing is.
+fn may_match(sought: &mut Option<Occurrences<'_, '_>>, line: Line<'_>) -> bool
     ensures none { (i : Input)
         → (o : List ℕ → plain.RunOptions)
-        → Helps i line.entry literal.old
+        → Helps i line.entry sought.old
         → result ≡ false
         → has_match i o line.entry.text.now ≡ false }
-    ensures sought { sought_in literal.new ≡ sought_in literal.old }
+    ensures sought { sought_in sought.new ≡ sought_in sought.old }
 {
-    match literal {
+    match sought {
         Some(occurrences) => occurrences.may_stand_in(line),
         None => true,
     }
 }
 
-/// Whether a line has a match. It is not searched where the literal that is looked for does not stand in it.
+/// Whether a line has a match. It is not searched where what is looked for does not stand in it.
 fn has_match(
     regex: &mut Regex,
-    literal: &mut Option<Occurrences<'_, '_>>,
+    sought: &mut Option<Occurrences<'_, '_>>,
     line: Line<'_>,
 ) -> Result<bool, Error>
     ensures promise { (i : Input)
         → (o : List ℕ → plain.RunOptions)
         → IsRegexFor i o regex.old
-        → Helps i line.entry literal.old
+        → Helps i line.entry sought.old
         → TellsMatch i o line.entry.text.now result }
-    ensures sought { sought_in literal.new ≡ sought_in literal.old }
+    ensures sought { sought_in sought.new ≡ sought_in sought.old }
     ensures same { IsSame regex.old regex.new }
 {
-    if may_match(literal, line) {
+    if may_match(sought, line) {
         regex.is_match(line.text)
     } else {
         Ok(false)
@@ -76,20 +77,20 @@ fn has_match(
 fn take<'t>(
     lines: &mut Vec<Line<'t>>,
     regex: &mut Regex,
-    literal: &mut Option<Occurrences<'_, '_>>,
+    sought: &mut Option<Occurrences<'_, '_>>,
     line: Line<'t>,
     inverted: bool,
 ) -> Result<(), Error>
     ensures promise { (i : Input)
         → (o : List ℕ → plain.RunOptions)
         → IsRegexFor i o regex.old
-        → Helps i line.entry literal.old
+        → Helps i line.entry sought.old
         → TakesLine i o inverted line.entry lines.old.items result lines.new.items }
     ensures grows { Grows line.entry lines.old.items lines.new.items }
-    ensures sought { sought_in literal.new ≡ sought_in literal.old }
+    ensures sought { sought_in sought.new ≡ sought_in sought.old }
     ensures same { IsSame regex.old regex.new }
 {
-    let found = has_match(regex, literal, line)?;
+    let found = has_match(regex, sought, line)?;
     if is_chosen(inverted, found) {
         lines.push(line)?;
     }
@@ -98,26 +99,26 @@ fn take<'t>(
 
 /// The lines of a text in which the regex has a match, or under `inverted` those in which it has none.
 ///
-/// Each line is searched as a text of its own, without its `\n`. Where a literal is known that each match takes, it is
-/// looked for in the whole text, and the lines without it are not searched. An error of a search, or want of memory, ends
+/// Each line is searched as a text of its own, without its `\n`. Where it is known what each match takes, this is looked
+/// for in the whole text, and the lines without it are not searched. An error of a search, or want of memory, ends
 /// the list at that line.
 pub fn matching_lines<'t>(
     alloc: Global,
     regex: &mut Regex,
-    literal: Option<&str>,
+    required: Option<&Required>,
     text: &'t str,
     inverted: bool,
 ) -> MatchingLines<'t>
     ensures promise { (i : Input)
         → (o : List ℕ → plain.RunOptions)
         → IsRegexFor i o regex.old
-        → IfSome literal.entry (λ l. IsRequired l.now (i.parsed).tree)
+        → IfSome required.entry (λ r. IsRequired (required_of r.now) i)
         → Selects i o inverted text.now result }
     ensures rising { AreRising 1 (numbers_of result.lines.items) }
     ensures same { IsSame regex.old regex.new }
 {
     let mut lines = Vec::new(alloc);
-    let mut occurrences = occurrences_of(literal, text);
+    let mut occurrences = occurrences_of(required, text);
     for line in Lines::new(text) {
         if let Err(error) = take(&mut lines, regex, &mut occurrences, line, inverted) {
             let failure = Some(Failure {
@@ -133,12 +134,16 @@ pub fn matching_lines<'t>(
     }
 }
 
-/// Where the literal stands in the text, if there is one.
-fn occurrences_of<'t, 'l>(literal: Option<&'l str>, text: &'t str) -> Option<Occurrences<'t, 'l>>
-    ensures { sought_in result ≡ option_map (λ l. (l.now, text.entry.now)) literal.entry }
+/// Where what is required stands in the text, if something is.
+fn occurrences_of<'t, 'r>(
+    required: Option<&'r Required>,
+    text: &'t str,
+) -> Option<Occurrences<'t, 'r>>
+    ensures { sought_in result
+        ≡ option_map (λ r. (required_of r.now, text.entry.now)) required.entry }
 {
-    match literal {
-        Some(literal) => Some(Occurrences::new(literal, text)),
+    match required {
+        Some(required) => Some(Occurrences::new(required, text)),
         None => None,
     }
 }

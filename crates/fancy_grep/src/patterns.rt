@@ -7,7 +7,7 @@ ghost use Rattle.fancy_grep.specs.Matchers.{IsMatcherOf, IsRequiredIn};
 ghost use Rattle.fancy_grep.specs.Patterns.{asked, wrapped};
 ghost use Rattle.fancy_grep.specs.RegexOptions.{options_for};
 
-use fancy_literals::required::required_literal;
+use fancy_literals::required::{Required, required_by};
 use fancy_pattern::error::PatternError;
 use fancy_pattern::options::ParseOptions;
 use fancy_pattern::pattern::parse_tree;
@@ -114,11 +114,11 @@ fn asked(alloc: Global, pattern: &str, options: PatternOptions) -> Result<String
 #[derive(Drop)]
 pub struct Matcher {
     pub regex: Regex,
-    /// A literal that each match takes, if one is known.
-    pub literal: Option<String>,
+    /// What each match takes, if that is known.
+    pub required: Option<Required>,
 }
 
-/// The regex of a pattern with its options, and a literal that each match takes.
+/// The regex of a pattern with its options, and what each match takes.
 ///
 /// It is refused as `RegexBuilder::build` refuses that pattern. Want of memory is `Error::Memory`.
 pub fn matcher_of(alloc: Global, pattern: &str, options: PatternOptions) -> Result<Matcher, Error>
@@ -128,8 +128,8 @@ pub fn matcher_of(alloc: Global, pattern: &str, options: PatternOptions) -> Resu
 {
     let whole = asked(alloc, pattern, options)?;
     let regex = regex_of(alloc, whole.as_str(), options)?;
-    let literal = literal_of(alloc, whole.as_str(), options)?;
-    Ok(Matcher { regex, literal })
+    let required = required_in(alloc, whole.as_str(), options)?;
+    Ok(Matcher { regex, required })
 }
 
 /// The regex of the pattern that is asked for.
@@ -148,18 +148,18 @@ fn regex_of(alloc: Global, pattern: &str, options: PatternOptions) -> Result<Reg
         .build(alloc)
 }
 
-/// A literal that each match of the pattern takes, if one is known.
-fn literal_of(
+/// What each match of the pattern takes, if that is known.
+fn required_in(
     alloc: Global,
     pattern: &str,
     options: PatternOptions,
-) -> Result<Option<String>, AllocError>
-    ensures { IfOk result (λ literal. (tree : ExprTree)
+) -> Result<Option<Required>, AllocError>
+    ensures { IfOk result (λ required. (tree : ExprTree)
         → IsTreeOf pattern.now (options_for options) tree
-        → IsRequiredIn tree literal) }
+        → IsRequiredIn tree required) }
 {
     match parse_tree(alloc, pattern, options.parsing()) {
-        Ok(tree) => required_literal(alloc, &tree.expr),
+        Ok(tree) => required_by(alloc, &tree.expr, true),
         Err(PatternError::Memory) => Err(AllocError),
         Err(PatternError::Parse { .. }) => Ok(None),
     }

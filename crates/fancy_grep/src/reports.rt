@@ -355,7 +355,7 @@ pub fn report(
     let MatchingLines { lines, failure } = matching_lines(
         alloc,
         &mut matcher.regex,
-        matcher.literal.as_deref(),
+        matcher.required.as_ref(),
         source.text,
         settings.inverted,
     );

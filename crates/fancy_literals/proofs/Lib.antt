@@ -1,2 +1,5 @@
+pub mod ByteLaw
+pub mod ByteLaws
+pub mod NoAnswer
 pub mod RequiredLaw
 pub mod TakenLaws

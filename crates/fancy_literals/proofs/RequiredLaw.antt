@@ -1,8 +1,7 @@
 -- A literal that a tree takes is required.
-use Rattle.std.proofs.Common.{◌≡◌, inl, inr, ◌+◌, ℕ, zero, suc, Bool, true, false, List, [], ◌∷◌, ◌++◌, drop, filter, filter_map, Option, Some, None, option_map, slice_get, encode_utf8, encode_utf8_all, refl, sym, ap, ap₂, subst, ◌∙◌, arith, append_assoc, eqb-true}
-use Rattle.std.specs.List.{cons_option}
+use Rattle.std.proofs.Common.{◌≡◌, inl, inr, ◌+◌, ℕ, zero, suc, Bool, false, List, [], ◌∷◌, ◌++◌, drop, Some, None, encode_utf8, encode_utf8_all, refl, sym, ap, ap₂, subst, ◌∙◌, arith, append_assoc, eqb-true}
 use Rattle.regex_hir.proofs.TextLemmas.{char_at_parts, has_bytes_at_from}
-use Rattle.fancy_meaning.specs.Answer.{Search, answer, as_numbers, attempt, chosen, is_admitted, search_of, starts, ways_from}
+use Rattle.fancy_meaning.specs.Answer.{Search, search_of, ways_from}
 use Rattle.fancy_meaning.specs.Chars.{literal_takes}
 use Rattle.fancy_meaning.specs.MatchState.{MatchState, Ways, in_order, moved_to, with_span}
 use Rattle.fancy_meaning.specs.Moves.{past_char}
@@ -17,7 +16,8 @@ use Rattle.fancy_laws.proofs.Every.{Every, every_anything, every_flat_map, every
 use Rattle.fancy_laws.proofs.Looks.{has_branches}
 use Rattle.fancy_laws.proofs.Moves.{past_char_tells}
 use Rattle.fancy_laws.proofs.WaysOf.{each_of_one_of, every_ends_here, every_moves, every_one_of}
-use Rattle.fancy_literals.specs.Required.{IsRequired, Lacks}
+use Rattle.fancy_literals.proofs.NoAnswer.{no_answer}
+use Rattle.fancy_literals.specs.Required.{IsRequiredOf, Lacks, Piece}
 use Rattle.fancy_literals.specs.Takes.{AmongTaken, BeginWith, Takes, literal}
 
 module _ (q : Setting) (call : ℕ → Ways) where
@@ -49,7 +49,7 @@ module _ (q : Setting) (call : ℕ → Ways) where
       (subst (λ d. Every (λ t. drop s.place q.text ≡ encode_utf8 c ++ drop t.place q.text) (ways_with q call d s)) (sym h.0)
       (bytes_stand c s))
 
-  module _ (piece : List ℕ) (lacks : Lacks piece q.text) where
+  module _ (piece : List ℕ) (lacks : Lacks (Piece piece) q.text) where
     stands_not : (i : ℕ) (rest : List ℕ) → drop i q.text ≡ piece ++ rest → ⊥
     stands_not i rest e = lacks i (has_bytes_at_from q.text i piece rest e)
 
@@ -117,27 +117,9 @@ module _ (piece : List ℕ) where
 
 -- ---- the answer
 
-none_found : {A B : Type 0} (f : A → Option B) (xs : List A) → ((x : A) → f x ≡ None) → filter_map f xs ≡ []
-none_found f [] h = refl
-none_found f (x ∷ xs) h = ap (λ o. cons_option o (filter_map f xs)) (h x) ∙ none_found f xs h
-
-module _ (q : Search) (none_from : (start : ℕ) → ways_from q start ≡ []) where
-  nothing_chosen : (longest : Bool) → chosen longest [] ≡ None
-  nothing_chosen true = refl
-  nothing_chosen false = refl
-
-  no_attempt : (start : ℕ) → attempt q start ≡ None
-  no_attempt start =
-      ap (λ l. chosen q.leftmost_longest (filter (is_admitted q start) l)) (none_from start) ∙ nothing_chosen q.leftmost_longest
-
-  no_answer : answer q ≡ None
-  unfolding answer
-  no_answer =
-      ap (λ l. option_map (as_numbers (group_count q.tree)) (slice_get l 0)) (none_found (attempt q) (starts q) no_attempt)
-
-pub taken_is_required : (piece : List ℕ) (e : Tree) → Takes piece e → IsRequired piece e
+pub taken_is_required : (piece : List ℕ) (unicode : Bool) (e : Tree) → Takes piece e → IsRequiredOf (Piece piece) unicode e
 unfolding numbered
-taken_is_required piece e h i text o same lacks =
+taken_is_required piece unicode e h i same options text o lacks =
     let q : Search = search_of (plan i) text o in
     let takes : Takes piece (i.parsed).tree = subst (Takes piece) (sym same) h in
     no_answer q

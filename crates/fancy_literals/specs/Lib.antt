@@ -1,2 +1,3 @@
 pub mod Required
 pub mod Takes
+pub mod TakesByte

@@ -1,24 +1,45 @@
-//! A literal that each match of a tree takes.
+//! What each match of a tree takes: a literal, or a byte of a set.
 
 ghost use Rattle.std.specs.Prelude.{◌≡◌, ◌⊎◌, [], Some, IfOk, IfSome, false, map, string_bytes};
 ghost use Rattle.fancy_meaning.specs.Tree.{Literal};
 ghost use Rattle.fancy_expr.specs.Views.{tree_of};
-ghost use Rattle.fancy_literals.specs.Required.{IsRequired};
+ghost use Rattle.fancy_literals.specs.Required.{IsRequiredOf, required_of};
 ghost use Rattle.fancy_literals.specs.Takes.{IsTaken, Takes};
 
+use crate::bytes::bytes_of;
 use fancy_expr::expr::{Expr, LookAround};
 use std::alloc::{AllocError, Global};
 use std::mem;
 
-/// A literal that each match of the tree takes, in UTF-8: the longest that is known, if one is.
+/// What a text has to have, so that it may have a match.
+#[derive(Drop)]
+pub enum Required {
+    /// This literal, in UTF-8.
+    Literal(String),
+    /// One byte of a set, by whether each byte is in it.
+    OneOf([bool; 256]),
+}
+
+/// What each match of the tree, compiled with this option `unicode`, takes: the longest literal that is known, or else
+/// the fewest bytes; none where nothing is known.
 ///
-/// A text in which it does not stand has no match, wherever a search begins. What a look-around asks for counts too.
-/// Literals that are folded, and those of alternatives, are not looked at. The only error is want of memory.
-pub fn required_literal(alloc: Global, expr: &Expr) -> Result<Option<String>, AllocError>
-    ensures { IfOk result (λ found. IfSome found (λ literal.
-        IsRequired (string_bytes literal) (tree_of expr.now))) }
+/// A text without it has no match, wherever a search begins. What a look-around asks for counts too. The only error is
+/// want of memory.
+pub fn required_by(
+    alloc: Global,
+    expr: &Expr,
+    unicode: bool,
+) -> Result<Option<Required>, AllocError>
+    ensures { IfOk result (λ found. IfSome found (λ r.
+        IsRequiredOf (required_of r) unicode (tree_of expr.now))) }
 {
-    taken_by(alloc, expr)
+    if let Some(literal) = taken_by(alloc, expr)? {
+        return Ok(Some(Required::Literal(literal)));
+    }
+    match bytes_of(alloc, expr, unicode)? {
+        Some(bytes) => Ok(Some(Required::OneOf(bytes))),
+        None => Ok(None),
+    }
 }
 
 /// A literal that each way of the node takes.

@@ -9,9 +9,9 @@ loop-line-init c =
     let text = c.args.text.now in
     let left = lines_left c.into_iter-line-iterator.result in
     let all = ap lines_left c.into_iter-line-iterator.ensures.into_iter_gives ∙ c.new-line-items.ensures in
-    subst (λ ls. Searched regex c.args.literal c.args.inverted text ls regex c.occurrences_of-occurrences.result left)
+    subst (λ ls. Searched regex c.args.required c.args.inverted text ls regex c.occurrences_of-occurrences.result left)
     (sym c.new-lines.ensures.items)
-    (searched_none regex c.args.literal c.args.inverted text c.occurrences_of-occurrences.result left c.occurrences_of-occurrences.ensures all)
+    (searched_none regex c.args.required c.args.inverted text c.occurrences_of-occurrences.result left c.occurrences_of-occurrences.ensures all)
 
 pub loop-line-preserved : goal.loop-line-preserved
 loop-line-preserved c =
@@ -20,9 +20,9 @@ loop-line-preserved c =
     let lines = c.loop-line.lines.items in
     let line = c.in-Some.line in
     let rest = lines_left c.next.new.self in
-    searched_more regex c.args.literal c.args.inverted text lines c.take.new.lines.items c.loop-line.regex c.take.new.regex
-    c.loop-line.occurrences c.take.new.literal line rest
-    (subst (Searched regex c.args.literal c.args.inverted text lines c.loop-line.regex c.loop-line.occurrences) c.in-Some.ensures.steps
+    searched_more regex c.args.required c.args.inverted text lines c.take.new.lines.items c.loop-line.regex c.take.new.regex
+    c.loop-line.occurrences c.take.new.sought line rest
+    (subst (Searched regex c.args.required c.args.inverted text lines c.loop-line.regex c.loop-line.occurrences) c.in-Some.ensures.steps
     c.loop-line.invariant) c.in_default.field-0
     (record {
       promise = c.in_default.ensures.promise;
@@ -38,9 +38,9 @@ returns-in-Err-clause-promise c =
     let lines = c.loop-line.lines.items in
     let line = c.in-Some.line in
     let rest = lines_left c.next.new.self in
-    λ i o is required. searched_stops regex c.args.literal c.args.inverted text lines c.take.new.lines.items c.loop-line.regex c.take.new.regex
-    c.loop-line.occurrences c.take.new.literal line rest
-    (subst (Searched regex c.args.literal c.args.inverted text lines c.loop-line.regex c.loop-line.occurrences) c.in-Some.ensures.steps
+    λ i o is required. searched_stops regex c.args.required c.args.inverted text lines c.take.new.lines.items c.loop-line.regex c.take.new.regex
+    c.loop-line.occurrences c.take.new.sought line rest
+    (subst (Searched regex c.args.required c.args.inverted text lines c.loop-line.regex c.loop-line.occurrences) c.in-Some.ensures.steps
     c.loop-line.invariant) c.in-Err.error
     (record {
       promise = c.in-Err.ensures.promise;
@@ -56,9 +56,9 @@ returns-in-Err-clause-rising c =
     let lines = c.loop-line.lines.items in
     let line = c.in-Some.line in
     let rest = lines_left c.next.new.self in
-    stopped_rises regex c.args.literal c.args.inverted text lines c.take.new.lines.items c.loop-line.regex c.take.new.regex
-    c.loop-line.occurrences c.take.new.literal line rest
-    (subst (Searched regex c.args.literal c.args.inverted text lines c.loop-line.regex c.loop-line.occurrences) c.in-Some.ensures.steps
+    stopped_rises regex c.args.required c.args.inverted text lines c.take.new.lines.items c.loop-line.regex c.take.new.regex
+    c.loop-line.occurrences c.take.new.sought line rest
+    (subst (Searched regex c.args.required c.args.inverted text lines c.loop-line.regex c.loop-line.occurrences) c.in-Some.ensures.steps
     c.loop-line.invariant) c.in-Err.error
     (record {
       promise = c.in-Err.ensures.promise;
@@ -69,5 +69,5 @@ returns-in-Err-clause-rising c =
 
 pub returns-clause-rising : goal.returns-clause-rising
 returns-clause-rising c =
-    all_rises c.args.regex.now c.args.literal c.args.inverted c.args.text.now c.loop-line.lines.items c.loop-line.regex c.loop-line.occurrences
+    all_rises c.args.regex.now c.args.required c.args.inverted c.args.text.now c.loop-line.lines.items c.loop-line.regex c.loop-line.occurrences
     (lines_left c.loop-line.line-iterator) c.loop-line.invariant

@@ -1,0 +1,151 @@
+-- What nodes take of sets of bytes, and with which bytes characters begin.
+use Rattle.std.proofs.Common.{◌≡◌, inl, inr, ◌+◌, ◌<◌, ◌≤◌, ◌/◌, ◌||◌, ◌↔◌, ℕ, Bool, true, false, not, nat_le, IsTrue, List, [], ◌∷◌, ◌++◌, take, map, get_or, set, length, encode_utf8, slice_index_or, refl, sym, ap, subst, ◌∙◌, arith}
+use Rattle.std.specs.Char.{IsScalar}
+use Rattle.std.proofs.lemmas.Bool.{cases_eq, cases_lt, eqb-true, le-leb}
+use Rattle.std.proofs.lemmas.Grind.{get_or-set_at}
+use Rattle.std.proofs.lemmas.List.{get_or-set_other, map-append}
+use Rattle.std.proofs.lemmas.Str.{encode_ascii}
+use Rattle.regex_hir.proofs.Utf8Lemmas.{InScalarRange-of_IsScalar, encode_two, encode_three, encode_four}
+use Rattle.regex_class.specs.Ranges.{Range, in_ranges}
+use Rattle.fancy_meaning.specs.Chars.{literal_takes}
+use Rattle.fancy_meaning.specs.Tree.{Tree, Trees, none, more, trees, Literal, Delegate, Concat, Alt, Group, Repeat, AtomicGroup, LookAround, LookAhead, LookBehind}
+use Rattle.fancy_expr.specs.Views.{tree_of}
+use Rattle.fancy_expr.specs.declared.expr.Expr.{Expr}
+use Rattle.fancy_expr.proofs.Walks.{taken}
+use Rattle.fancy_literals.specs.Required.{begins_among}
+use Rattle.fancy_literals.specs.TakesByte.{BeginAmong, EachTakesByte, Includes, OneTakesByte, TakesByte}
+
+-- ---- with which byte a character begins
+
+record First (c : ℕ) : Type 0 where
+  byte : ℕ
+  rest : List ℕ
+  is : encode_utf8 c ≡ byte ∷ rest
+  below : byte < 256
+  ascii : byte < 128 → c ≡ byte
+  beyond : 128 ≤ byte → 128 ≤ c
+
+first_byte : (c : ℕ) → IsScalar c → First c
+first_byte c scalar =
+    let range = InScalarRange-of_IsScalar c scalar in
+    elim (cases_lt c 0x80) [
+      | inl one ↦ record {
+        byte = c;
+        rest = [];
+        is = encode_ascii c one;
+        below = omega (arith, one);
+        ascii = λ small. refl;
+        beyond = λ large. large;
+      }
+      | inr past_one ↦ elim (cases_lt c 0x800) [
+        | inl two ↦ record {
+          byte = 192 + c / 64;
+          rest = _;
+          is = encode_two c past_one two;
+          below = omega (arith, two);
+          ascii = λ small. absurd (omega (arith, small));
+          beyond = λ large. past_one;
+        }
+        | inr past_two ↦ elim (cases_lt c 0x1_0000) [
+          | inl three ↦ record {
+            byte = 224 + c / 4096;
+            rest = _;
+            is = encode_three c past_two three;
+            below = omega (arith, three);
+            ascii = λ small. absurd (omega (arith, small));
+            beyond = λ large. past_one;
+          }
+          | inr four ↦ record {
+            byte = 240 + c / 262144;
+            rest = _;
+            is = encode_four c four;
+            below = grind (arith, range);
+            ascii = λ small. absurd (omega (arith, small));
+            beyond = λ large. past_one;
+          }
+        ]
+      ]
+    ]
+
+-- the set has each ASCII character that passes, and all other bytes where another character may pass
+abbrev pub HasFirst : (bytes : List Bool) → (test : ℕ → Bool) → (beyond : Bool) → Type 0
+HasFirst bytes test beyond = (byte : ℕ) → byte < 256 → (byte < 128 → test byte ≡ true) → (128 ≤ byte → beyond ≡ true) →
+    slice_index_or bytes byte false ≡ true
+
+pub first_among : (bytes : List Bool) (test : ℕ → Bool) (beyond : Bool) → HasFirst bytes test beyond →
+    ((c : ℕ) → 128 ≤ c → test c ≡ true → beyond ≡ true) → BeginAmong bytes test
+first_among bytes test beyond has other c scalar is =
+    let first = first_byte c scalar in
+    ap (begins_among bytes) first.is
+    ∙ has first.byte first.below (λ small. ap test (sym (first.ascii small)) ∙ is) (λ large. other c (first.beyond large) is)
+
+pub literal_beyond : (unicode : Bool) (c : ℕ) (casei : Bool) (d : ℕ) → 128 ≤ d → literal_takes unicode c casei d ≡ true → (casei || nat_le 128 c) ≡ true
+literal_beyond unicode c true d large is = refl
+literal_beyond unicode c false d large is = le-leb 128 c (omega (arith, large, eqb-true c d is))
+
+pub class_beyond : (ranges : List Range) (is_within : Bool) → (IsTrue is_within ↔ ((c : ℕ) → IsTrue (in_ranges ranges c) → c ≤ 0x7F)) →
+    (d : ℕ) → 128 ≤ d → in_ranges ranges d ≡ true → not is_within ≡ true
+class_beyond ranges true h d large is = absurd (omega (arith, large, h.0 refl d is))
+class_beyond ranges false h d large is = refl
+
+-- one more ASCII character is tested
+pub one_tested : (bytes : List Bool) (test : ℕ → Bool) (beyond : Bool) (at : ℕ) (b : Bool) → at < 128 → length bytes ≡ 256 → b ≡ test at →
+    HasFirst bytes test beyond → HasFirst (set bytes at b) test beyond
+one_tested bytes test beyond at b small long is has byte below passed large =
+    elim (cases_eq byte at) [
+      | inl same ↦ get_or-set_at bytes at byte b false same (omega (arith, small, long)) ∙ is ∙ ap test (sym same) ∙ passed (omega (arith, same, small))
+      | inr other ↦ get_or-set_other bytes at byte b false other ∙ has byte below passed large
+    ]
+
+-- ---- a larger set
+
+module _ (unicode : Bool) (bytes larger : List Bool) (inside : Includes bytes larger) where
+  begins_larger : (c : ℕ) → IsScalar c → begins_among bytes (encode_utf8 c) ≡ true → begins_among larger (encode_utf8 c) ≡ true
+  begins_larger c scalar is =
+      let first = first_byte c scalar in
+      ap (begins_among larger) first.is ∙ inside first.byte first.below (ap (begins_among bytes) (sym first.is) ∙ is)
+
+  mutual
+    pub takes_larger : (e : Tree) → TakesByte unicode bytes e → TakesByte unicode larger e
+    takes_larger (Literal c casei) h = λ d scalar is. begins_larger d scalar (h d scalar is)
+    takes_larger (Delegate inner casei) h = λ d scalar is. begins_larger d scalar (h d scalar is)
+    takes_larger (Concat es) h = one_larger es h
+    takes_larger (Alt es) h = each_larger es h
+    takes_larger (Group g e) h = takes_larger e h
+    takes_larger (AtomicGroup e) h = takes_larger e h
+    takes_larger (Repeat lo hi greedy e) h = (h.0, takes_larger e h.1)
+    takes_larger (LookAround LookAhead e) h = takes_larger e h
+    takes_larger (LookAround LookBehind e) h = takes_larger e h
+    takes_larger e h = absurd h
+
+    one_larger : (es : Trees) → OneTakesByte unicode bytes es → OneTakesByte unicode larger es
+    one_larger none h = absurd h
+    one_larger (more e es) (inl h) = inl (takes_larger e h)
+    one_larger (more e es) (inr h) = inr (one_larger es h)
+
+    pub each_larger : (es : Trees) → EachTakesByte unicode bytes es → EachTakesByte unicode larger es
+    each_larger none h = tt
+    each_larger (more e es) h = (takes_larger e h.0, each_larger es h.1)
+
+-- ---- lists that grow
+
+module _ (unicode : Bool) (bytes : List Bool) where
+  pub one_on : (es : List Tree) (e : Tree) → OneTakesByte unicode bytes (trees es) → OneTakesByte unicode bytes (trees (es ++ e ∷ []))
+  one_on [] e h = absurd h
+  one_on (d ∷ es) e (inl h) = inl h
+  one_on (d ∷ es) e (inr h) = inr (one_on es e h)
+
+  pub one_last : (es : List Tree) (e : Tree) → TakesByte unicode bytes e → OneTakesByte unicode bytes (trees (es ++ e ∷ []))
+  one_last [] e h = inl h
+  one_last (d ∷ es) e h = inr (one_last es e h)
+
+  pub each_last : (es : List Tree) (e : Tree) → EachTakesByte unicode bytes (trees es) → TakesByte unicode bytes e →
+      EachTakesByte unicode bytes (trees (es ++ e ∷ []))
+  each_last [] e h last = (last, tt)
+  each_last (d ∷ es) e h last = (h.0, each_last es e h.1 last)
+
+-- one more of the nodes
+pub with_next : (P : List Tree → Type 0) (given : List Expr) (i : ℕ) (e : Expr) → i < length given → e ≡ get_or given i e →
+    P (map tree_of (take i given) ++ tree_of e ∷ []) → P (map tree_of (take (i + 1) given))
+with_next P given i e lt at h =
+    subst P (sym (map-append tree_of (take i given) (e ∷ [])) ∙ ap (map tree_of) (sym (taken given i e lt at))) h

@@ -1,0 +1,190 @@
+//! A set of bytes of which each match of a tree takes one.
+
+ghost use Rattle.std.specs.Prelude.{◌≡◌, ◌⊎◌, IfOk, IfSome, Some, map};
+ghost use Rattle.regex_class.specs.Ranges.{in_ranges};
+ghost use Rattle.fancy_meaning.specs.Chars.{literal_takes};
+ghost use Rattle.fancy_meaning.specs.Tree.{trees};
+ghost use Rattle.fancy_expr.specs.Views.{tree_of};
+ghost use Rattle.fancy_literals.specs.TakesByte.{BeginAmong, EachTakesByte, Includes, OneTakesByte, TakesByte};
+
+use fancy_characters::classes::{class_ranges, literal_takes};
+use fancy_expr::expr::{Expr, LookAround};
+use regex_class::Class;
+use std::alloc::{AllocError, Global};
+
+/// Bytes of which each way of the node takes one, if such are known that are rare: by whether each byte is one of them.
+#[cycle(bytes)]
+pub(crate) fn bytes_of(
+    alloc: Global,
+    expr: &Expr,
+    unicode: bool,
+) -> Result<Option<[bool; 256]>, AllocError>
+    ensures { IfOk result (λ found. IfSome found (λ bytes.
+        TakesByte unicode bytes (tree_of expr.now))) }
+{
+    match expr {
+        Expr::Concat(parts) => rarest_of(alloc, parts, unicode),
+        Expr::Alt(branches) => union_of(alloc, branches, unicode),
+        Expr::Group(body) => bytes_of(alloc, body, unicode),
+        Expr::AtomicGroup(body) => bytes_of(alloc, body, unicode),
+        Expr::Repeat { child, lo, .. } => {
+            if *lo > 0 {
+                bytes_of(alloc, child, unicode)
+            } else {
+                Ok(None)
+            }
+        }
+        Expr::LookAround(body, look) => match look {
+            LookAround::LookAhead => bytes_of(alloc, body, unicode),
+            LookAround::LookBehind => bytes_of(alloc, body, unicode),
+            _ => Ok(None),
+        },
+        _ => bytes_of_character(alloc, expr, unicode),
+    }
+}
+
+/// The rarest such bytes among those of nodes that follow each other.
+#[cycle(bytes)]
+fn rarest_of(
+    alloc: Global,
+    parts: &[Expr],
+    unicode: bool,
+) -> Result<Option<[bool; 256]>, AllocError>
+    ensures { IfOk result (λ found. IfSome found (λ bytes.
+        OneTakesByte unicode bytes (trees (map tree_of parts.now)))) }
+{
+    let mut rarest = None;
+    for part in parts {
+        rarest = rarer(rarest, bytes_of(alloc, part, unicode)?);
+    }
+    Ok(rarest)
+}
+
+/// The bytes of all branches together, where each has such bytes.
+#[cycle(bytes)]
+fn union_of(
+    alloc: Global,
+    branches: &[Expr],
+    unicode: bool,
+) -> Result<Option<[bool; 256]>, AllocError>
+    ensures { IfOk result (λ found. IfSome found (λ bytes.
+        EachTakesByte unicode bytes (trees (map tree_of branches.now)))) }
+{
+    let mut union = [false; 256];
+    for branch in branches {
+        match bytes_of(alloc, branch, unicode)? {
+            None => return Ok(None),
+            Some(bytes) => union = both(&union, &bytes),
+        }
+    }
+    Ok(Some(union))
+}
+
+/// Those with the fewest ASCII characters; the first among equals.
+fn rarer(first: Option<[bool; 256]>, second: Option<[bool; 256]>) -> Option<[bool; 256]>
+    ensures { IfSome result (λ bytes. (first ≡ Some bytes) ⊎ (second ≡ Some bytes)) }
+{
+    match (first, second) {
+        (None, second) => second,
+        (Some(first), None) => Some(first),
+        (Some(first), Some(second)) => {
+            if ascii_count(&first) <= ascii_count(&second) {
+                Some(first)
+            } else {
+                Some(second)
+            }
+        }
+    }
+}
+
+/// The bytes of both sets.
+fn both(first: &[bool; 256], second: &[bool; 256]) -> [bool; 256]
+    ensures first { Includes first.now result }
+    ensures second { Includes second.now result }
+{
+    let mut bytes = [true; 256];
+    'bytes: for byte in 0..256usize {
+        bytes[byte] = first[byte] || second[byte];
+    }
+    bytes
+}
+
+/// How many ASCII characters are among them.
+fn ascii_count(bytes: &[bool; 256]) -> usize {
+    let mut count = 0usize;
+    for byte in 0..128usize {
+        if bytes[byte] {
+            count = count.saturating_add(1);
+        }
+    }
+    count
+}
+
+/// They hold no space and no small letter that many words have.
+fn are_rare(bytes: &[bool; 256]) -> bool {
+    for byte in 0..128u8 {
+        if bytes[byte as usize]
+            && matches!(byte, b' ' | b'a'..=b'i' | b'k'..=b'p' | b'r'..=b'w' | b'y')
+        {
+            return false;
+        }
+    }
+    true
+}
+
+/// The bytes with which the characters begin that the node takes, where it takes one and they are rare.
+fn bytes_of_character(
+    alloc: Global,
+    expr: &Expr,
+    unicode: bool,
+) -> Result<Option<[bool; 256]>, AllocError>
+    ensures { IfOk result (λ found. IfSome found (λ bytes.
+        TakesByte unicode bytes (tree_of expr.now))) }
+{
+    let bytes = match expr {
+        Expr::Literal { val, casei } => match val.chars().next() {
+            Some(c) => literal_bytes(c, *casei, unicode),
+            None => return Ok(None),
+        },
+        Expr::Delegate { inner, casei } => match class_ranges(alloc, inner, *casei, unicode)? {
+            Some(class) => class_bytes(&class),
+            None => return Ok(None),
+        },
+        _ => return Ok(None),
+    };
+    if are_rare(&bytes) {
+        Ok(Some(bytes))
+    } else {
+        Ok(None)
+    }
+}
+
+/// The bytes with which the characters begin that the literal takes, beside others.
+fn literal_bytes(character: char, casei: bool, unicode: bool) -> [bool; 256]
+    ensures { BeginAmong result (literal_takes unicode character casei) }
+{
+    let beyond = casei | (character as u32 >= 128);
+    let mut bytes = [true; 256];
+    'ascii: for c in 0..128u8 {
+        bytes[c as usize] = literal_takes(unicode, character as u32, casei, c as u32);
+    }
+    'others: for byte in 128..256usize {
+        bytes[byte] = beyond;
+    }
+    bytes
+}
+
+/// The bytes with which the characters of the class begin, beside others.
+fn class_bytes(class: &Class) -> [bool; 256]
+    ensures { BeginAmong result (in_ranges class.now.ranges.items) }
+{
+    let beyond = !class.is_within(0x7F);
+    let mut bytes = [true; 256];
+    'ascii: for c in 0..128u8 {
+        bytes[c as usize] = class.contains(c as u32);
+    }
+    'others: for byte in 128..256usize {
+        bytes[byte] = beyond;
+    }
+    bytes
+}
