@@ -75,6 +75,7 @@ impl Default for SearchOptions {
               unicode = true;
               max_prog_size = None;
             } }
+        ensures nesting { result.compilation.max_nesting ≡ None }
         ensures run { run_options_of result.run ≡ default_at 0 }
     {
         SearchOptions {
