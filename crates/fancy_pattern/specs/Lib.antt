@@ -21,3 +21,5 @@ pub mod Escape
 pub mod Faults
 pub mod Surveyed
 pub mod Stuck
+pub mod Options
+pub mod Messages

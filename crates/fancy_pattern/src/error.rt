@@ -65,8 +65,12 @@ impl From<AllocError> for PatternError {
 }
 
 impl ErrorKind {
+    ghost use Rattle.fancy_pattern.specs.Messages.{kind_text};
+
     /// What stands there, and what was wanted.
-    fn text(self) -> &'static str {
+    fn text(self) -> &'static str
+        ensures { result.now ≡ kind_text self }
+    {
         match self {
             ErrorKind::UnclosedOpenParen => "a parenthesis is not closed: `)` is wanted",
             ErrorKind::UnopenedCloseParen => "a `)` closes no parenthesis",
@@ -99,6 +103,11 @@ impl ErrorKind {
 }
 
 impl fmt::Display for PatternError {
+    ghost use Rattle.std.specs.Prelude.{Some};
+    ghost use Rattle.fancy_pattern.specs.Messages.{error_text};
+
+    ghost output = { λ e. Some (error_text e) };
+
     fn fmt<W: fmt::Write>(&self, f: &mut fmt::Formatter<W>) -> fmt::Result {
         match self {
             PatternError::Parse { at, kind } => {

@@ -1,6 +1,7 @@
 //! The options with which a pattern is read.
 
 ghost use Rattle.std.specs.Prelude.{◌≡◌};
+ghost use Rattle.fancy_pattern.specs.Options.{default_parsing};
 ghost use Rattle.fancy_pattern.specs.Spelling.{flags_of};
 
 use crate::flags::Flags;
@@ -28,7 +29,9 @@ pub struct ParseOptions {
 }
 
 impl Default for ParseOptions {
-    fn default() -> ParseOptions {
+    fn default() -> ParseOptions
+        ensures { result ≡ default_parsing }
+    {
         ParseOptions {
             case_insensitive: false,
             multi_line: false,
