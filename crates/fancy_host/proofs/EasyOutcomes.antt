@@ -38,7 +38,7 @@ use Rattle.fancy_host.specs.Whether.{FindsAny, Tells}
 -- ---- codes
 
 -- the codes of these limits stand together
-is_run : ℕ → Bool
+unfoldable pub is_run : ℕ → Bool
 is_run code = nat_le 7 code && nat_le code 9
 
 run_codes : (limit : RuntimeError) → is_run (code_of_run limit) ≡ true
@@ -47,7 +47,7 @@ run_codes run.BacktrackLimitExceeded = refl
 run_codes run.StackOverflow = refl
 run_codes run.StepLimitExceeded = refl
 
-no_run : (code : ℕ) → is_run code ≡ false → (limit : RuntimeError) → code ≢ code_of_run limit
+pub no_run : (code : ℕ) → is_run code ≡ false → (limit : RuntimeError) → code ≢ code_of_run limit
 no_run code other limit same = true≢false (sym (run_codes limit) ∙ (ap is_run (sym same) ∙ other))
 
 refused_code : (e : CompileError) → is_run (failure (error.CompileError e)).code ≡ false
@@ -64,7 +64,7 @@ refused_code (refusal.InnerError text) = refl
 refused_code (refusal.ClassTooBig text) = refl
 refused_code refusal.PatternTooComplex = refl
 
-failed_code : (e : Error) → engine.IsNoLimit e → is_run (failure e).code ≡ false
+pub failed_code : (e : Error) → engine.IsNoLimit e → is_run (failure e).code ≡ false
 unfolding is_run
 failed_code error.Memory none = refl
 failed_code (error.TreeFault at) none = refl

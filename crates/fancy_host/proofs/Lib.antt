@@ -5,6 +5,7 @@ pub mod Ended
 pub mod HandleRows
 pub mod ScannerRows
 pub mod RowsScanned
+pub mod EasyScans
 pub mod PatternsHeld
 pub mod Listed
 pub mod HeldGroups

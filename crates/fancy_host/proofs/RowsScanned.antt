@@ -110,7 +110,7 @@ not_lost answers m whole lost = none-some _ (sym (whole ∙ ap (option_map shown
 
 -- ---- steps of the loop
 
-all_one : (P : List ℕ → Type 0) (x : List ℕ) → P x → All P (x ∷ [])
+pub all_one : (P : List ℕ → Type 0) (x : List ℕ) → P x → All P (x ∷ [])
 all_one P x h zero d lt = h
 all_one P x h (suc k) d lt = absurd (omega (arith, lt))
 

@@ -20,7 +20,7 @@ mod writing;
 
 ghost use Rattle.std.specs.Prelude.{◌≡◌, None, codes, length};
 ghost use Rattle.fancy_host.specs.Codes.{name_of};
-ghost use Rattle.fancy_host.specs.Easy.{IsNoLimitWhereEasy};
+ghost use Rattle.fancy_host.specs.Easy.{IsNoLimitWhereAllEasy, IsNoLimitWhereEasy};
 ghost use Rattle.fancy_host.specs.Hosted.{Clones, Compiles, FindsFirst, default_options, ended, group_count, tree_of};
 ghost use Rattle.fancy_host.specs.Hosted as hosted;
 ghost use Rattle.fancy_host.specs.Lists.{FindsAll, all_groups, span_alone};
@@ -456,6 +456,8 @@ pub extern "C" fn fancy_scan(
         pos.new
         rows.new
         result }
+    ensures easy { IsNoLimitWhereAllEasy
+        scanner.old.handle.scanner text.now groups rows.new result }
     ensures keeps { HoldsSame scanner.old.handle.scanner scanner.new.handle.scanner }
 {
     let text = match from_utf8(text) {

@@ -3,6 +3,7 @@ use Rattle.fancy_scanner.specs.Scanning.{IsScannerOf}
 use Rattle.fancy_host.specs.Hosted.{not_utf8}
 use Rattle.fancy_host.specs.Scanned.{ScansIn, Writes, in_no_utf8, scanned}
 use Rattle.fancy_host.proofs.Answered.{none_there}
+use Rattle.fancy_host.proofs.EasyScans.{scan_easy}
 use Rattle.fancy_host.proofs.PatternsHeld.{same_as_held, same_as_none}
 use Rattle.fancy_host.proofs.fancy_scan.Goals as goal
 
@@ -37,3 +38,12 @@ returns-clause-scans c =
     (subst (λ t. IsScannerOf rules t c.deref_mut.result.now) (sym same)
     (subst (IsScannerOf rules a.text.now) (sym c.deref_mut.ensures.value)
     (same_as_held held v (sym c.take.ensures.held ∙ c.into_scanner-held.ensures) rules a.text.now h)))))
+
+pub returns-in-Err-clause-easy : goal.returns-in-Err-clause-easy
+returns-in-Err-clause-easy c = scan_easy c.args.text.now (returns-in-Err-clause-scans c)
+
+pub returns-then-not-scanner-clause-easy : goal.returns-then-not-scanner-clause-easy
+returns-then-not-scanner-clause-easy c = scan_easy c.args.text.now (returns-then-not-scanner-clause-scans c)
+
+pub returns-clause-easy : goal.returns-clause-easy
+returns-clause-easy c = scan_easy c.args.text.now (returns-clause-scans c)
