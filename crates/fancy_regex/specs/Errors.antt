@@ -1,9 +1,10 @@
--- What errors stand for: those of the engine, and those of patterns.
-use Rattle.std.specs.Prelude.{Option, Some, None, Result, Ok, Err}
+-- What errors stand for, those of the engine and those of patterns, and what is said of them.
+use Rattle.std.specs.Prelude.{ℕ, List, codes, Option, Some, None, Result, Ok, Err}
 use Rattle.fancy_expr.specs.declared.error.Error as engine
 use Rattle.fancy_expr.specs.declared.error.Error.TheVariants as of_engine
 use Rattle.fancy_vm.specs.declared.search_limits.SearchLimit.{SearchLimit}
 use Rattle.fancy_vm.specs.declared.search_limits.SearchLimit.TheVariants as limit
+use Rattle.fancy_pattern.specs.Messages as pattern
 use Rattle.fancy_pattern.specs.declared.error.PatternError.{PatternError}
 use Rattle.fancy_pattern.specs.declared.error.PatternError.TheVariants as of_parser
 use Rattle.fancy_regex.specs.declared.error.Error.{Error}
@@ -50,3 +51,13 @@ item_of (Some reply) = Some (reply_of reply)
 abbrev pub limit_of_item : {A : Type 0} → Option (Result A Error) → Option SearchLimit
 limit_of_item None = None
 limit_of_item (Some reply) = limit_in reply
+
+-- what is said of an error; of a refused tree and of a limit of a run the engine's text is, which no definition says
+abbrev pub error_text : Error → Option (List ℕ)
+error_text (face.ParseError at kind) = Some (pattern.error_text (of_parser.Parse at kind))
+error_text (face.CompileError e) = None
+error_text (face.RuntimeError e) = None
+error_text face.NestLimitExceeded = Some (codes "the pattern nests deeper than the limit")
+error_text face.VisitLimitExceeded = Some (codes "too many states were visited")
+error_text face.MemoryLimitExceeded = Some (codes "too much memory was held")
+error_text face.Memory = Some (codes "memory ran out")

@@ -101,6 +101,10 @@ impl From<PatternError> for Error {
 }
 
 impl fmt::Display for Error {
+    ghost use Rattle.fancy_regex.specs.Errors.{error_text};
+
+    ghost output = { error_text };
+
     fn fmt<W: fmt::Write>(&self, f: &mut fmt::Formatter<W>) -> fmt::Result {
         match self {
             Error::ParseError(at, kind) => {
