@@ -4,6 +4,7 @@ ghost use Rattle.std.specs.Prelude.{◌≡◌, ◌-◌, ◌≤◌, IfSome, IsTru
 ghost use Rattle.fancy_meaning.specs.Places.{is_place};
 ghost use Rattle.fancy_fragments.specs.StartFilters.{IsFilterOf};
 
+use crate::starts::begins_with_text;
 use fancy_fragments::fragment::Fragment;
 use fancy_fragments::start_filter::StartFilter;
 use std::alloc::Global;
@@ -58,13 +59,13 @@ impl StartFilters {
     }
 
     /// Notes that an attempt failed, after which the run has taken up so many states. Tells whether the filter is to be
-    /// asked.
+    /// asked, as it always is where only the text's beginning is a start.
     #[inline(always)]
-    pub(crate) fn are_due(&mut self, visits: u64) -> bool {
+    pub(crate) fn are_due(&mut self, is_first_alone: bool, visits: u64) -> bool {
         let taken = visits.saturating_sub(self.visits) / VISITS;
         self.visits = visits;
         self.left = self.left.saturating_sub(taken.saturating_add(1) as usize);
-        self.left == 0
+        is_first_alone || self.left == 0
     }
 
     /// A character boundary from `ix` on, at most `most` bytes on, before which the fragment has no way.
@@ -90,13 +91,17 @@ impl StartFilters {
         to
     }
 
-    /// The same without a bound. It is `ix` where attempts cost less than the filter, or where there is none.
+    /// The same without a bound: the end of the text, where each way begins at the start of the text. It is `ix` where
+    /// attempts cost less than the filter, or where there is none.
     fn asked(&mut self, alloc: Global, fragment: &Fragment, text: &str, ix: usize) -> usize
         requires { IsTrue (is_place text.now ix) }
         ensures order { ix ≤ result }
         ensures place { IsTrue (is_place text.now result) }
         ensures none { HasNoWayUpTo text.now fragment.now ix result }
     {
+        if ix > 0 && begins_with_text(fragment) {
+            return text.len();
+        }
         let each = ix.saturating_sub(self.begun) / self.patience.max(1);
         if each > BYTES {
             self.patience = patience_after(self.patience, 0);
