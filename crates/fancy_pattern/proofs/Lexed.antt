@@ -1,5 +1,5 @@
 -- The steps of the lexer are rules of the tokens.
-use Rattle.std.proofs.Common.{◌≡◌, ℕ, List, [], ◌∷◌, ◌++◌, length, Bool, true, false, Result, Ok, Err, IfOk, Some, refl, sym, ap, ◌∙◌, subst, append_assoc}
+use Rattle.std.proofs.Common.{◌≡◌, ℕ, List, [], ◌∷◌, ◌++◌, length, Bool, true, false, Result, Ok, Err, IfOk, Some, refl, sym, ap, ◌∙◌, subst, append-nil, append_assoc}
 use Rattle.std.proofs.lemmas.Bool.{true≢false}
 use Rattle.std.specs.declared.alloc.AllocError.{AllocError}
 use Rattle.fancy_pattern.specs.declared.lexer.Lexer.{Lexer}
@@ -42,6 +42,36 @@ pub broke_off : (old mid new : Lexer) (r : Result Bool AllocError) (fault : Faul
 broke_off old mid new (Ok true) fault lexes same h = absurd (true≢false h.0)
 broke_off old mid new (Ok false) fault lexes same h = (broken fault ∷ [], h.1.tokens ∙ ap (λ l. l ++ broken fault ∷ []) same, lexes)
 broke_off old mid new (Err e) fault lexes same h = tt
+
+-- nothing was passed
+pub stayed : (l : Lexer) → Steps true l l
+stayed l = ([], sym (append-nil (placed_in l)), λ ts more. more)
+
+-- further tokens
+pub steps_on : (more : Bool) (old mid new : Lexer) → Steps true old mid → Steps more mid new → Steps more old new
+steps_on true old mid new s t = (
+  s.0 ++ t.0,
+  t.1 ∙ ap (λ l. l ++ t.0) s.1 ∙ append_assoc (placed_in old) s.0 t.0,
+  λ ts more. subst (Lexes (state_of old) (text_of old)) (sym (append_assoc s.0 t.0 ts)) (s.2 (t.0 ++ ts) (t.2 ts more)),
+)
+steps_on false old mid new s t = (s.0 ++ t.0, t.1 ∙ ap (λ l. l ++ t.0) s.1 ∙ append_assoc (placed_in old) s.0 t.0, s.2 t.0 t.2)
+
+-- from a lexer that is in the same place
+pub steps_more : (old mid from new : Lexer) (r : Result Bool AllocError) → Steps true old mid → IfOk r (λ more. Steps more from new) →
+    state_of from ≡ state_of mid → text_of from ≡ text_of mid → placed_in from ≡ placed_in mid → IfOk r (λ more. Steps more old new)
+steps_more old mid from new (Err e) s t state text tokens = tt
+steps_more old mid from new (Ok more) s t state text tokens = steps_on more old mid new s (moved more t)
+  where
+    lexes : (ts : List Placed) → Lexes (state_of from) (text_of from) ts → Lexes (state_of mid) (text_of mid) ts
+    lexes ts l = subst (λ x. Lexes x (text_of mid) ts) state (subst (λ x. Lexes (state_of from) x ts) text l)
+
+    moved : (more : Bool) → Steps more from new → Steps more mid new
+    moved true h = (h.0, h.1 ∙ ap (λ l. l ++ h.0) tokens, λ ts l. lexes (h.0 ++ ts) (h.2 ts l))
+    moved false h = (h.0, h.1 ∙ ap (λ l. l ++ h.0) tokens, lexes h.0 h.2)
+
+-- the text goes on
+pub goes_on_by : (old new : Lexer) (more : Bool) → more ≡ true → Steps more old new → Steps true old new
+goes_on_by old new more is s = subst (λ m. Steps m old new) is s
 
 -- the last tokens follow those before
 pub lexed_all : (old new : Lexer) (flags : Flags) (text : Text) →

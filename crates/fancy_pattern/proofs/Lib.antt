@@ -6,6 +6,7 @@ pub mod NodeStacks
 pub mod MadeNodes
 pub mod OneChars
 pub mod Points
+pub mod Literals
 pub mod Escaping
 pub mod TokenTests
 pub mod Surveys

@@ -1,14 +1,17 @@
 -- The groups with names, token by token, and the bytes of a name, character by character.
-use Rattle.std.proofs.Common.{◌≡◌, ℕ, ◌+◌, ◌<◌, List, [], ◌∷◌, ◌++◌, length, take, map, filter, cond, true, false, Some, None, String, Vec, string_bytes, get_or, encode_utf8, encode_utf8_all, refl, sym, ap, ◌∙◌, append-nil, append_assoc}
+use Rattle.std.proofs.Common.{◌≡◌, ℕ, ◌+◌, ◌<◌, List, [], ◌∷◌, ◌++◌, length, take, map, filter, cond, Bool, true, false, ◌||◌, Some, None, String, Vec, string_bytes, get_or, encode_utf8, encode_utf8_all, refl, sym, ap, ◌∙◌, append-nil, append_assoc}
 use Rattle.std.proofs.lemmas.List.{take_more, map-append}
 use Rattle.std.proofs.lemmas.Str.{encodes-append}
+use Rattle.std.specs.List.{list_any}
+use Rattle.std.proofs.lemmas.Bool.{true≢false}
 use Rattle.std.specs.BTreeMap.{BTreeMap, get_by_text}
 use Rattle.std.specs.Option.{option_map_or}
 use Rattle.std.specs.Str.{bytes_eq}
 use Rattle.std.specs.declared.alloc.Global.{Global}
 use Rattle.fancy_pattern.specs.declared.kept.Placed.{Placed as Code}
-use Rattle.fancy_pattern.specs.Tokens.{Placed}
-use Rattle.fancy_pattern.specs.Naming.{named_of, named_in, numbers_of, numbers_in}
+use Rattle.fancy_pattern.specs.Tokens.{Opening, Around, Group, AbsentBar, If, IfPattern, IfLook, Token, Node, Refer, FlagsItem, Open, Bar, Close, Quantified, ClassOpen, ClassText, ClassClose, Broken, Placed}
+use Rattle.fancy_pattern.specs.Spelling.{has_name, opens_named}
+use Rattle.fancy_pattern.specs.Naming.{named_opening, named_of, named_in, numbers_of, numbers_in}
 use Rattle.fancy_pattern.specs.PatternViews.{placed_of}
 
 -- one more character
@@ -36,6 +39,40 @@ one_token_more ts i d old new lt before is =
     ∙ sym (named_in-append (map placed_of (take i ts)) (placed_of t ∷ []))
     ∙ ap named_in (sym (map-append placed_of (take i ts) (t ∷ [])))
     ∙ ap (λ l. named_in (map placed_of l)) (sym (take_more ts i d lt))
+
+-- where no token opens a group with a name there is none
+pub unnamed : (ps : List Placed) → list_any (λ p. opens_named p.token) ps ≡ false → named_in ps ≡ []
+unnamed [] h = refl
+unnamed (p ∷ ps) h =
+    let parts = neither (opens_named p.token) (list_any (λ p. opens_named p.token) ps) h in
+    ap (λ l. l ++ named_in ps) (none_opened p.token parts.0) ∙ unnamed ps parts.1
+  where
+    neither : (a b : Bool) → (a || b) ≡ false → (a ≡ false) × (b ≡ false)
+    neither false false h = (refl, refl)
+    neither false true h = absurd (true≢false h)
+    neither true b h = absurd (true≢false h)
+
+    without_name : (o : Opening) → has_name o ≡ false → named_opening o ≡ None
+    without_name (Group number None) h = refl
+    without_name (Group number (Some name)) h = absurd (true≢false h)
+    without_name (Around e) h = refl
+    without_name AbsentBar h = refl
+    without_name (If r) h = refl
+    without_name IfPattern h = refl
+    without_name (IfLook l) h = refl
+
+    none_opened : (t : Token) → opens_named t ≡ false → named_of t ≡ []
+    none_opened (Open o) h = ap (λ n. elim n [ Some p ↦ (encode_utf8_all p.0, p.1) ∷ [] | None ↦ [] ]) (without_name o h)
+    none_opened (Node e) h = refl
+    none_opened (Refer r) h = refl
+    none_opened FlagsItem h = refl
+    none_opened Bar h = refl
+    none_opened Close h = refl
+    none_opened (Quantified q greedy) h = refl
+    none_opened (ClassOpen casei) h = refl
+    none_opened (ClassText text) h = refl
+    none_opened ClassClose h = refl
+    none_opened (Broken kind) h = refl
 
 -- names as texts and as their bytes
 pub numbers_by_text : (pairs : List (String Global × ℕ)) (name : List ℕ) →

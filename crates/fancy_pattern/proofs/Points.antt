@@ -2,6 +2,7 @@
 use Rattle.std.proofs.Common.{◌≡◌, ℕ, ◌<◌, ◌≤◌, Bool, true, false, not, cond, List, [], ◌∷◌, ◌++◌, length, drop, map, filter, Option, Some, None, Result, Ok, Err, IfOk, encode_utf8, encode_utf8_all, refl, sym, ap, ◌∙◌, subst, arith, append-nil, append_assoc}
 use Rattle.std.proofs.lemmas.Bool.{true≢false}
 use Rattle.std.proofs.lemmas.List.{map-append}
+use Rattle.std.proofs.lemmas.List.Elements.{filter-append}
 use Rattle.fancy_meaning.specs.Tree as tree
 use Rattle.fancy_meaning.specs.Tree.{Tree}
 use Rattle.fancy_expr.specs.declared.expr.Expr.{Expr}
@@ -12,14 +13,14 @@ use Rattle.fancy_pattern.specs.declared.kept.Placed.{Placed as Code}
 use Rattle.fancy_pattern.specs.declared.tokens.Quantifier.{Quantifier}
 use Rattle.fancy_pattern.specs.declared.tokens.Suffix.{Suffix}
 use Rattle.fancy_pattern.specs.declared.tokens.Enclosing.{Enclosing}
-use Rattle.fancy_pattern.specs.Tokens.{Reference, Token, Node, Placed, Opening, Around, Group, AbsentBar, If, IfPattern, IfLook}
+use Rattle.fancy_pattern.specs.Tokens.{Reference, Token, Placed, Opening, Around, Group, AbsentBar, If, IfPattern, IfLook}
 use Rattle.fancy_pattern.specs.PatternViews.{placed_of}
-use Rattle.fancy_pattern.specs.Grammar.{Names, Takes, first_gives, gives_some, is_at, is_branch_end, is_empty, is_repeatable, bar, closing, quantifier, class_text, class_close, class_of, joined, branch_of, alternated, suffixed, SpellsSuffix, SpellsClass, class_end, class_piece, class_open, opening, node_of, reference, enclosed, SpellsAtom, node, class, opened, SpellsOpened, around, group, stopper, expression, if_group, if_pattern, if_look, SpellsBodies, one_body, two_bodies, SpellsPiece, plain, quantified, SpellsPieces, no_piece, piece, SpellsBranch, branch, SpellsBars, no_bar, barred, SpellsAlternatives, branches}
+use Rattle.fancy_pattern.specs.Grammar.{Names, Takes, first_gives, gives_some, is_at, is_branch_end, is_empty, is_repeatable, bar, closing, quantifier, class_text, class_close, class_of, joined, branch_of, alternated, suffixed, SpellsSuffix, SpellsClass, class_end, class_piece, class_open, opening, reference, enclosed, SpellsAtom, node, class, opened, SpellsOpened, around, group, stopper, expression, if_group, if_pattern, if_look, SpellsBodies, one_body, two_bodies, SpellsPiece, plain, quantified, SpellsPieces, no_piece, piece, SpellsBranch, branch, SpellsBars, no_bar, barred, SpellsAlternatives, branches}
 use Rattle.fancy_pattern.proofs.MadeNodes.{text_added, one_char}
 use Rattle.fancy_expr.specs.Each.{Each}
 use Rattle.fancy_pattern.proofs.OneChars.{no_parts, with_part}
-use Rattle.fancy_pattern.proofs.Rows.{Row, none_read, row_more, BarRow, none_barred, bar_row_more, TextRow, none_text, text_row_more}
-use Rattle.fancy_pattern.specs.Reading.{OneCharEach, point_of, Skips, Adds, TakesOff, Pushes, Boxes, SpellsLast, SpellsMore, SpellsRest, SpellsNode, Quantifies, alone, by, some_of}
+use Rattle.fancy_pattern.proofs.Rows.{row_more, row_both, row_pieces, BarRow, none_barred, bar_row_more, TextRow, none_text, text_row_more}
+use Rattle.fancy_pattern.specs.Reading.{Row, none_read, PushesRow, OneCharEach, point_of, Skips, Adds, TakesOff, Pushes, Boxes, SpellsLast, SpellsMore, SpellsRest, SpellsNode, Quantifies, alone, by, some_of}
 
 pub skipped : (old new : Reader) → 0 < length old.rest.now → new.rest.now ≡ drop 1 old.rest.now → Skips old new
 skipped old new h rest = let p = front old.rest.now new.rest.now h rest in record { first = p.0; tokens = p.1 }
@@ -125,25 +126,6 @@ piece_read names atom old mid new below all (Ok u) a h =
     record { read = h.read; adds = h.adds; spelled = piece_spelled names atom h.read (point_of old) (point_of mid) (point_of new) a h.spelled }
 piece_read names atom old mid new below all (Err f) a h = tt
 
--- ---- literals
-
--- a literal behind which no quantifier stands
-pub literal_alone : (names : Names) (rest after : List Code) (first : Code) (c : ℕ) (casei : Bool) → rest ≡ first ∷ after →
-    (placed_of first).token ≡ Node (tree.Literal c casei) → is_at quantifier (map placed_of after) ≡ false →
-    SpellsPiece names (map placed_of rest) (drop 1 (map placed_of rest)) (tree.Literal c casei)
-literal_alone names rest after first c casei is leaf calm =
-    subst (λ l. SpellsPiece names (map placed_of l) (drop 1 (map placed_of l)) (tree.Literal c casei)) (sym is)
-    (plain (node (record { first = placed_of first; tokens = refl; is = ap (node_of names) leaf })) calm)
-
-pub literal_passed : (names : Names) (old new : Reader) (e : Tree) → SpellsPiece names (point_of old) (drop 1 (point_of old)) e → Skips old new →
-    SpellsPiece names (point_of old) (point_of new) e
-literal_passed names old new e h s = subst (λ l. SpellsPiece names (point_of old) l e) (ap (drop 1) s.tokens) h
-
-pub literal_pushed : (old new : List Expr) (e : Expr) (c : ℕ) (casei : Bool) → new ≡ old ++ e ∷ [] → tree_of e ≡ tree.Literal c casei →
-    map tree_of new ≡ map tree_of old ++ some_of (tree.Literal c casei)
-literal_pushed old new e c casei is made =
-    ap (map tree_of) is ∙ map-append tree_of old (e ∷ []) ∙ ap (λ t. map tree_of old ++ t ∷ []) made
-
 -- ---- groups
 
 pub around_spelled : (names : Names) (f : Enclosing) (x z : List Placed) (e r : Tree) → SpellsLast names x z e → r ≡ enclosed f e →
@@ -225,7 +207,7 @@ pieces_begin names r made none = record {
   shorter = omega arith;
 }
 
-filtered : (es : List Tree) (e : Tree) → filter (λ x. not (is_empty x)) (es ++ e ∷ []) ≡ filter (λ x. not (is_empty x)) es ++ some_of e
+pub filtered : (es : List Tree) (e : Tree) → filter (λ x. not (is_empty x)) (es ++ e ∷ []) ≡ filter (λ x. not (is_empty x)) es ++ some_of e
 filtered [] e = by_test (is_empty e)
   where
     by_test : (b : Bool) → cond (not b) (e ∷ []) [] ≡ cond b [] (e ∷ [])
@@ -249,6 +231,18 @@ pieces_next names start old new made more_made e r on s are shorter chars = reco
   row = row_more r.row on s;
   one_char = chars;
   spelled = λ z more t. subst (SpellsPieces names (point_of start) z) (sym (append_assoc r.so_far (e ∷ []) more)) (r.spelled z (e ∷ more) (piece on s t));
+  shorter = let a = r.shorter in omega (arith, a, shorter);
+}
+
+-- the same for a row of pieces
+pub pieces_row : (names : Names) (start old new : Reader) (made more_made : List Expr) → PiecesRead names start old made →
+    PushesRow names old new made more_made → length new.rest.now ≤ length old.rest.now → PiecesRead names start new more_made
+pieces_row names start old new made more_made r p shorter = record {
+  so_far = r.so_far ++ p.read;
+  are = p.added ∙ ap (λ l. l ++ filter (λ e. not (is_empty e)) p.read) r.are ∙ sym (filter-append (λ e. not (is_empty e)) r.so_far p.read);
+  row = row_both r.row p.row;
+  one_char = p.one_char r.one_char;
+  spelled = λ z more t. subst (SpellsPieces names (point_of start) z) (sym (append_assoc r.so_far p.read more)) (r.spelled z (p.read ++ more) (row_pieces p.row t));
   shorter = let a = r.shorter in omega (arith, a, shorter);
 }
 

@@ -4,6 +4,7 @@ use Rattle.std.proofs.lemmas.Bool.{true≢false}
 use Rattle.fancy_meaning.specs.Tree.{Tree}
 use Rattle.fancy_pattern.specs.Tokens.{Placed}
 use Rattle.fancy_pattern.specs.Stuck.{Within, whole, Alike}
+use Rattle.fancy_pattern.specs.Reading.{Row, none_read, one_read}
 use Rattle.fancy_pattern.specs.Grammar.{Names, Takes, is_branch_end, bar, class_text, SpellsClass, class_end, class_piece, SpellsPiece, SpellsPieces, no_piece, piece, SpellsBranch, SpellsBars, no_bar, barred}
 use Rattle.fancy_pattern.proofs.Lengths as lengths
 use Rattle.fancy_pattern.proofs.Splits as splits
@@ -11,10 +12,6 @@ use Rattle.fancy_pattern.proofs.OneSpelling.{one_token, one_piece, one_branch, t
 use Rattle.fancy_pattern.proofs.Moved.{Calm, Follows, Moved, tested_alike, token_moved, piece_moved, branch_moved}
 
 -- ---- pieces
-
-pub data Row (names : Names) : List Placed → List Placed → List Tree → Type 0 where
-  none_read : {x : List Placed} → Row names x x []
-  one_read : {x y z : List Placed} {e : Tree} {es : List Tree} → is_branch_end x ≡ false → SpellsPiece names x y e → Row names y z es → Row names x z (e ∷ es)
 
 pub row_more : {names : Names} {x y z : List Placed} {es : List Tree} {e : Tree} → Row names x y es → is_branch_end y ≡ false → SpellsPiece names y z e →
     Row names x z (es ++ e ∷ [])
@@ -50,6 +47,16 @@ pub row_then : {names : Names} {x y z : List Placed} {es us : List Tree} → Row
     (vs : List Tree) × SpellsPieces names x z vs
 row_then {us = us} none_read s = (us, s)
 row_then (one_read {e = e} on p more) s = let r = row_then more s in (e ∷ r.0, piece on p r.1)
+
+-- two rows are one
+pub row_both : {names : Names} {x y z : List Placed} {es ds : List Tree} → Row names x y es → Row names y z ds → Row names x z (es ++ ds)
+row_both none_read s = s
+row_both (one_read on p more) s = one_read on p (row_both more s)
+
+-- pieces that were read, and those behind them
+pub row_pieces : {names : Names} {x y z : List Placed} {es ds : List Tree} → Row names x y es → SpellsPieces names y z ds → SpellsPieces names x z (es ++ ds)
+row_pieces none_read s = s
+row_pieces (one_read on p more) s = piece on p (row_pieces more s)
 
 -- ---- branches, each behind a bar
 

@@ -12,12 +12,12 @@ use Rattle.fancy_pattern.specs.Tokens.{Reference, Opening, Around, Group, Absent
 use Rattle.fancy_pattern.specs.Grammar.{Names, Takes, first_gives, is_at, gives_some, is_branch_end, is_repeatable, bar, closing, quantifier, opening, node_of, class_open, class_text, class_close, reference, suffixed, alternated, SpellsClass, class_end, class_piece, SpellsAtom, node, class, opened, SpellsOpened, around, group, stopper, expression, asked, if_group, if_pattern, if_look, SpellsBodies, one_body, two_bodies, SpellsPiece, plain, quantified, SpellsPieces, no_piece, piece, SpellsBranch, branch, SpellsBars, no_bar, barred, SpellsAlternatives, branches}
 use Rattle.fancy_pattern.specs.Faults.{MisfitAt, IsPlace, at_token, at_name, asked_by, referring}
 use Rattle.fancy_pattern.specs.Stuck.{Within, whole, NoNode, Alike, SameFirst, both_ended, same_token, is_end, is_calm, anything, Stuck, Fails, IsMisfit, NoAtom, behind, unnamed, FailsOpened}
-use Rattle.fancy_pattern.specs.Reading.{SpellsLast, Quantifies, alone, by}
+use Rattle.fancy_pattern.specs.Reading.{SpellsLast, Quantifies, alone, by, Row}
 use Rattle.fancy_pattern.proofs.Lengths as lengths
 use Rattle.fancy_pattern.proofs.Splits as splits
 use Rattle.fancy_pattern.proofs.OneSpelling.{one_token, there_or_not, node_or_class, node_or_open, class_or_open, some_same, clash, close_or_bar, of_condition, of_opening, one_atom, one_branch, one_alternatives}
 use Rattle.fancy_pattern.proofs.Moved.{Meets, by_same, by_start, calm_of, follows_of, ended, alike_end, alike_first, Moved, OneToken, token_moved, atom_moved, branch_moved, alternatives_moved}
-use Rattle.fancy_pattern.proofs.Rows.{Row, row_within, row_moved, row_rest, row_then, BarRow, bar_row_within, bar_row_moved, bar_row_rest, bar_row_then, TextRow, text_row_within, text_row_moved, text_row_rest, text_row_then}
+use Rattle.fancy_pattern.proofs.Rows.{row_within, row_moved, row_rest, row_then, BarRow, bar_row_within, bar_row_moved, bar_row_rest, bar_row_then, TextRow, text_row_within, text_row_moved, text_row_rest, text_row_then}
 
 -- ---- a part and the whole
 
@@ -289,7 +289,7 @@ atom_begins (opened {y = y} t o) = ap is_branch_end t.tokens ∙ of_token t.firs
     of_token p (Open k) ps is e = ap (λ u. is_branch_end (record { left = 0; token = u } ∷ [])) is
     of_token p u ps is e = absurd (cc)
 
-piece_begins : {names : Names} {x y : List Placed} {e : Tree} → SpellsPiece names x y e → is_branch_end x ≡ false
+pub piece_begins : {names : Names} {x y : List Placed} {e : Tree} → SpellsPiece names x y e → is_branch_end x ≡ false
 piece_begins (plain a h) = atom_begins a
 piece_begins (quantified a may t s) = atom_begins a
 

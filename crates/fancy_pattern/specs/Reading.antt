@@ -1,5 +1,5 @@
 -- The contracts of the reader's calls: what each reads.
-use Rattle.std.specs.Prelude.{◌≡◌, ℕ, Bool, true, false, List, [], ◌∷◌, ◌++◌, map, IfOk, Option, Some, if◌then◌else◌, Result}
+use Rattle.std.specs.Prelude.{◌≡◌, ℕ, Bool, true, false, not, List, [], ◌∷◌, ◌++◌, map, filter, IfOk, Option, Some, if◌then◌else◌, Result}
 use Rattle.fancy_meaning.specs.Tree.{Tree}
 use Rattle.fancy_expr.specs.Each.{Each}
 use Rattle.fancy_expr.specs.Exprs.{exprs}
@@ -11,7 +11,7 @@ use Rattle.fancy_pattern.specs.declared.reader.Reader.{Reader}
 use Rattle.fancy_pattern.specs.declared.tokens.Quantifier.{Quantifier}
 use Rattle.fancy_pattern.specs.declared.tokens.Suffix.{Suffix}
 use Rattle.fancy_pattern.specs.Tokens.{Token, Placed}
-use Rattle.fancy_pattern.specs.Grammar.{Names, first_gives, is_at, is_empty, is_repeatable, quantifier, closing, class_of, suffixed, alternated, node_of, Takes, SpellsSuffix, SpellsClass, SpellsBars, SpellsAlternatives}
+use Rattle.fancy_pattern.specs.Grammar.{Names, first_gives, is_at, is_branch_end, is_empty, is_repeatable, quantifier, closing, class_of, suffixed, alternated, node_of, Takes, SpellsSuffix, SpellsClass, SpellsPiece, SpellsBars, SpellsAlternatives}
 use Rattle.fancy_pattern.specs.PatternViews.{placed_of}
 
 -- the tokens that are left
@@ -94,3 +94,23 @@ pub data Quantifies (e : Tree) : List Placed → List Placed → Tree → Type 0
       Takes quantifier x q y →
       SpellsSuffix y z s →
       Quantifies e x z (suffixed q.0 q.1 s e)
+
+-- a piece that is something
+abbrev pub SpellsSome : Names → List Placed → List Placed → Tree → Type 0
+SpellsSome names x y e = SpellsPiece names x y e × (is_empty e ≡ false)
+
+-- pieces one after another, none of which begins where a branch ends
+pub data Row (names : Names) : List Placed → List Placed → List Tree → Type 0 where
+  none_read : {x : List Placed} → Row names x x []
+  one_read : {x y z : List Placed} {e : Tree} {es : List Tree} →
+      is_branch_end x ≡ false →
+      SpellsPiece names x y e →
+      Row names y z es →
+      Row names x z (e ∷ es)
+
+-- pieces were read, and those that are something are on top of the stack
+pub record PushesRow (names : Names) (old new : Reader) (below all : List Expr) : Type 0 where
+  pub read : List Tree
+  pub row : Row names (point_of old) (point_of new) read
+  pub added : map tree_of all ≡ map tree_of below ++ filter (λ e. not (is_empty e)) read
+  pub one_char : Each OneCharEach below → Each OneCharEach all

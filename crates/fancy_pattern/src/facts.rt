@@ -1,10 +1,11 @@
 //! What the tokens of a pattern say of groups, in one pass.
 
-ghost use Rattle.std.specs.Prelude.{◌≡◌, ◌≤◌, ◌||◌, false, map, is_some, if◌then◌else◌};
+ghost use Rattle.std.specs.Prelude.{◌≡◌, ◌≤◌, ◌<◌, ◌+◌, ◌^◌, ◌||◌, true, false, map, is_some, if◌then◌else◌};
 ghost use Rattle.std.specs.List.{list_any, count_by};
 ghost use Rattle.fancy_pattern.specs.Faults.{asked_by};
 ghost use Rattle.fancy_pattern.specs.Described.{by_number, names_number, asks_number, is_group, opens_group};
 ghost use Rattle.fancy_pattern.specs.Surveyed.{names_group};
+ghost use Rattle.fancy_pattern.specs.Spelling.{has_name, opens_named};
 ghost use Rattle.fancy_pattern.specs.PatternViews.{kept_of, placed_of, token_of, opening_of, target_of};
 
 use crate::kept::{Kept, Placed};
@@ -19,17 +20,21 @@ pub struct Facts {
     pub by_number: bool,
     /// One of them is a reference, a condition or a call.
     pub names_group: bool,
+    /// One of them opens a group with a name.
+    pub has_names: bool,
 }
 
 fn nothing() -> Facts
     ensures groups { result.groups ≡ 0 }
     ensures by_number { result.by_number ≡ false }
     ensures names_group { result.names_group ≡ false }
+    ensures has_names { result.has_names ≡ false }
 {
     Facts {
         groups: 0,
         by_number: false,
         names_group: false,
+        has_names: false,
     }
 }
 
@@ -75,42 +80,31 @@ fn of_token(token: Token<'_>) -> Facts
     ensures groups { result.groups ≡ if opens_group (token_of token.entry) then 1 else 0 }
     ensures by_number { result.by_number ≡ names_number (token_of token.entry) }
     ensures names_group { result.names_group ≡ names_group (token_of token.entry) }
+    ensures has_names { result.has_names ≡ opens_named (token_of token.entry) }
 {
     match token {
         Token::Refer(reference) => Facts {
             groups: 0,
             by_number: is_by_number(reference.target),
             names_group: true,
+            has_names: false,
         },
         Token::Open(opening) => Facts {
             groups: if is_group(opening) { 1 } else { 0 },
             by_number: asks_number(opening),
             names_group: asks(opening),
+            has_names: has_name(opening),
         },
         _ => nothing(),
     }
 }
 
-/// What a token says.
-fn of_kept(kept: &Kept<'_>) -> Facts
-    ensures few { result.groups ≤ 1 }
-    ensures groups { result.groups ≡ if opens_group (kept_of kept.now) then 1 else 0 }
-    ensures by_number { result.by_number ≡ names_number (kept_of kept.now) }
-    ensures names_group { result.names_group ≡ names_group (kept_of kept.now) }
+fn has_name(opening: Opening<'_>) -> bool
+    ensures { result ≡ has_name (opening_of opening.entry) }
 {
-    match kept {
-        Kept::Group(_) => Facts {
-            groups: 1,
-            by_number: false,
-            names_group: false,
-        },
-        Kept::Numbered { .. } => Facts {
-            groups: 0,
-            by_number: true,
-            names_group: true,
-        },
-        Kept::Wide(wide) => of_token(wide.token),
-        _ => nothing(),
+    match opening {
+        Opening::Group { name, .. } => name.is_some(),
+        _ => false,
     }
 }
 
@@ -120,7 +114,68 @@ fn either(a: bool, b: bool) -> bool
     a || b
 }
 
+/// Whether it is seen at once that a token says nothing of groups.
+#[inline(always)]
+fn is_silent(kept: &Kept<'_>) -> bool
+    ensures groups { result ≡ true → opens_group (kept_of kept.now) ≡ false }
+    ensures by_number { result ≡ true → names_number (kept_of kept.now) ≡ false }
+    ensures names_group { result ≡ true → names_group (kept_of kept.now) ≡ false }
+    ensures has_names { result ≡ true → opens_named (kept_of kept.now) ≡ false }
+{
+    match kept {
+        Kept::Group(_) => false,
+        Kept::Numbered { .. } => false,
+        Kept::Wide(_) => false,
+        _ => true,
+    }
+}
+
 impl Facts {
+    /// What either says.
+    fn plus(self, found: Facts) -> Facts
+        requires few { self.groups + found.groups < 2 ^ 64 }
+        ensures groups { result.groups ≡ self.groups + found.groups }
+        ensures by_number { result.by_number ≡ (found.by_number || self.by_number) }
+        ensures names_group { result.names_group ≡ (found.names_group || self.names_group) }
+        ensures has_names { result.has_names ≡ (found.has_names || self.has_names) }
+    {
+        Facts {
+            groups: self.groups + found.groups,
+            by_number: either(found.by_number, self.by_number),
+            names_group: either(found.names_group, self.names_group),
+            has_names: either(found.has_names, self.has_names),
+        }
+    }
+
+    /// The same with what a further token says.
+    #[inline(always)]
+    fn with_token(self, kept: &Kept<'_>) -> Facts
+        requires room { self.groups + 1 < 2 ^ 64 }
+        ensures few { result.groups ≤ self.groups + 1 }
+        ensures groups { result.groups
+            ≡ self.groups + (if opens_group (kept_of kept.now) then 1 else 0) }
+        ensures by_number { result.by_number
+            ≡ (names_number (kept_of kept.now) || self.by_number) }
+        ensures names_group { result.names_group
+            ≡ (names_group (kept_of kept.now) || self.names_group) }
+        ensures has_names { result.has_names
+            ≡ (opens_named (kept_of kept.now) || self.has_names) }
+    {
+        match kept {
+            Kept::Group(_) => Facts {
+                groups: self.groups + 1,
+                ..self
+            },
+            Kept::Numbered { .. } => Facts {
+                by_number: true,
+                names_group: true,
+                ..self
+            },
+            Kept::Wide(wide) => self.plus(of_token(wide.token)),
+            _ => self,
+        }
+    }
+
     /// What these tokens say.
     pub(crate) fn of(tokens: &[Placed<'_>]) -> Facts
         ensures groups { result.groups
@@ -129,17 +184,15 @@ impl Facts {
             ≡ list_any (λ p. names_number p.token) (map placed_of tokens.now) }
         ensures names_group { result.names_group
             ≡ list_any (λ p. names_group p.token) (map placed_of tokens.now) }
+        ensures has_names { result.has_names
+            ≡ list_any (λ p. opens_named p.token) (map placed_of tokens.now) }
     {
         let mut facts = nothing();
         for placed in tokens {
-            let found = of_kept(&placed.kept);
-            let by_number = either(facts.by_number, found.by_number);
-            let names_group = either(facts.names_group, found.names_group);
-            facts = Facts {
-                groups: facts.groups + found.groups,
-                by_number,
-                names_group,
-            };
+            if is_silent(&placed.kept) {
+                continue;
+            }
+            facts = facts.with_token(&placed.kept);
         }
         facts
     }

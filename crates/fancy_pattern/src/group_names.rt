@@ -18,14 +18,21 @@ pub struct GroupNames {
 
 impl GroupNames {
     ghost use Rattle.std.specs.Prelude.{IfOk, encode_utf8_all, map};
+    ghost use Rattle.std.specs.List.{list_any};
+    ghost use Rattle.fancy_pattern.specs.Spelling.{opens_named};
     ghost use Rattle.fancy_pattern.specs.Naming.{named_in};
     ghost use Rattle.fancy_pattern.specs.PatternViews.{placed_of};
 
-    /// The names of these tokens.
-    pub(crate) fn of(alloc: Global, tokens: &[Placed<'_>]) -> Result<GroupNames, AllocError>
+    /// The names of these tokens, of which `has_names` tells whether there are any.
+    pub(crate) fn of(
+        alloc: Global,
+        tokens: &[Placed<'_>],
+        has_names: bool,
+    ) -> Result<GroupNames, AllocError>
+        requires { has_names ≡ list_any (λ p. opens_named p.token) (map placed_of tokens.now) }
         ensures { IfOk result (λ names. pairs_in names.pairs ≡ named_in (map placed_of tokens.now)) }
     {
-        let pairs = pairs_of(alloc, tokens)?;
+        let pairs = pairs_of(alloc, tokens, has_names)?;
         let numbers = numbers_of(alloc, &pairs)?;
         Ok(GroupNames { pairs, numbers })
     }

@@ -340,6 +340,31 @@ pub(crate) fn lone_at<'a>(
     Some((kept, no_class(), after))
 }
 
+/// Outside of classes and of free spacing, the same where a character stands for itself.
+#[inline(always)]
+#[tactic(auto, unfolding(crate::specs::Items::found_at, crate::specs::Items::outside_at, crate::specs::Items::item_at))]
+pub(crate) fn literal_at<'a>(
+    now: &Lexing,
+    text: &'a [char],
+) -> Option<(Kept<'a>, ClassPlace, &'a [char])>
+    requires { now.now.opened ≤ most_groups }
+    ensures value { IfSome result (λ p. found_at now.now text.now
+        ≡ Ok (lone_in now.now (kept_of p.0) p.1, p.2.now)) }
+    ensures lone { IfSome result (λ p. IsLone (kept_of p.0)) }
+    ensures no_gap { IfSome result (λ p. gap_at now.now.flags.ignore_whitespace text.now ≡ None) }
+    ensures shorter { IfSome result (λ p. length p.2.now + 1 ≤ length text.now) }
+    ensures depth { IfSome result (λ p. p.1.depth ≡ 0) }
+{
+    if now.class.depth > 0 || now.flags.ignore_whitespace {
+        return None;
+    }
+    let (c, after) = first(text)?;
+    match c {
+        '(' | ')' | '[' | '{' | '\\' | '.' | '^' | '$' | '|' | '*' | '+' | '?' => None,
+        _ => Some((Kept::Leaf(literal_leaf(now.flags, c)), no_class(), after)),
+    }
+}
+
 /// Outside of classes, what follows the parenthesis at the front that ends a group.
 #[inline(always)]
 #[tactic(auto, unfolding(crate::specs::Items::found_at, crate::specs::Items::outside_at, crate::specs::Items::item_at))]

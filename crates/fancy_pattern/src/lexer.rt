@@ -7,7 +7,7 @@ use crate::characters::past_gap;
 use crate::classes::{ClassPlace, Head};
 use crate::error::{ErrorKind, Fault};
 use crate::flags::Flags;
-use crate::items::{Lexing, closing_at, found_at, group_at, lone_at, no_class};
+use crate::items::{Lexing, closing_at, found_at, group_at, literal_at, lone_at, no_class};
 use crate::kept::{Counted, Kept, Placed, keep};
 use crate::nesting::{behind_token, enter};
 use crate::tokens::{Opening, Token};
@@ -95,6 +95,7 @@ impl<'a> Lexer<'a> {
         requires lone { IsLone (kept_of kept) }
         requires shorter { length after.now < length self.old.rest.now }
         requires shallow { class.depth + length after.now < 2 ^ 63 }
+        ensures goes_on { IfOk result (λ more. more ≡ true) }
         ensures steps { IfOk result (λ more. Steps more self.old self.new) }
         ensures shorter { IfOk result (λ more. length self.new.rest.now
             < length self.old.rest.now) }
@@ -239,13 +240,27 @@ impl<'a> Lexer<'a> {
         }
     }
 
-    /// The same, where most tokens are found at once.
+    /// Goes past the characters at the front that stand for themselves.
+    #[inline(always)]
+    fn pass_literals(&mut self) -> Result<(), AllocError>
+        ensures steps { IfOk result (λ u. Steps true self.old self.new) }
+        ensures shorter { IfOk result (λ u. length self.new.rest.now
+            ≤ length self.old.rest.now) }
+    {
+        while let Some((kept, class, after)) = literal_at(&self.now, self.rest) {
+            self.pass_lone(kept, class, after)?;
+        }
+        Ok(())
+    }
+
+    /// Goes past what is at the front, and answers whether the text goes on; most tokens are found at once.
     #[inline(always)]
     fn next(&mut self) -> Result<bool, AllocError>
         ensures steps { IfOk result (λ more. Steps more self.old self.new) }
         ensures shorter { IfOk result (λ more. more ≡ true
             → length self.new.rest.now < length self.old.rest.now) }
     {
+        self.pass_literals()?;
         match lone_at(&self.now, self.rest) {
             Some((kept, class, after)) => self.pass_lone(kept, class, after),
             None => self.next_parenthesis(),

@@ -2,6 +2,8 @@
 
 ghost use Rattle.std.specs.Prelude.{◌≡◌, ◌++◌, ℕ, List, map, IfOk, OnOk, encode_utf8_all, string_bytes};
 ghost use Rattle.std.specs.Option.{option_map};
+ghost use Rattle.std.specs.List.{list_any};
+ghost use Rattle.fancy_pattern.specs.Spelling.{opens_named};
 ghost use Rattle.fancy_pattern.specs.Naming.{numbers_of, numbers_in, pairs_in, named_in, named_of, named_by, named_opening};
 ghost use Rattle.fancy_pattern.specs.PatternViews.{kept_of, placed_of, token_of, opening_of};
 
@@ -71,14 +73,19 @@ fn push_named(
     }
 }
 
-/// The groups with names, in the order in which they open.
+/// The groups with names, in the order in which they open. The tokens are not looked at where none opens such a group.
 pub(crate) fn pairs_of(
     alloc: Global,
     tokens: &[Placed<'_>],
+    has_names: bool,
 ) -> Result<Vec<(String, usize)>, AllocError>
+    requires { has_names ≡ list_any (λ p. opens_named p.token) (map placed_of tokens.now) }
     ensures { IfOk result (λ pairs. pairs_in pairs ≡ named_in (map placed_of tokens.now)) }
 {
     let mut pairs = Vec::new(alloc);
+    if !has_names {
+        return Ok(pairs);
+    }
     for placed in tokens {
         push_named(alloc, &mut pairs, placed)?;
     }

@@ -87,6 +87,20 @@ pub(crate) fn push_empty(nodes: &mut Vec<Expr>) -> Result<(), AllocError>
     Ok(())
 }
 
+#[inline(always)]
+pub(crate) fn add_literal(
+    alloc: Global,
+    nodes: &mut Vec<Expr>,
+    c: char,
+    casei: bool,
+) -> Result<(), AllocError>
+    ensures { IfOk result (λ u. Adds (tree.Literal c casei) nodes.old.items nodes.new.items) }
+{
+    nodes.push(literal(alloc, c, casei)?)?;
+    Ok(())
+}
+
+/// The same in a call of its own, so that it adds nothing to the frame of the caller.
 #[inline(never)]
 pub(crate) fn push_literal(
     alloc: Global,
@@ -96,7 +110,25 @@ pub(crate) fn push_literal(
 ) -> Result<(), AllocError>
     ensures { IfOk result (λ u. Adds (tree.Literal c casei) nodes.old.items nodes.new.items) }
 {
-    nodes.push(literal(alloc, c, casei)?)?;
+    add_literal(alloc, nodes, c, casei)
+}
+
+/// A loop around a literal.
+#[inline(always)]
+pub(crate) fn push_repeated(
+    alloc: Global,
+    nodes: &mut Vec<Expr>,
+    c: char,
+    casei: bool,
+    quantifier: Quantifier,
+    greedy: bool,
+    suffix: Option<Suffix>,
+) -> Result<(), AllocError>
+    ensures { IfOk result (λ u. Adds (grammar.suffixed quantifier greedy suffix
+        (tree.Literal c casei)) nodes.old.items nodes.new.items) }
+{
+    let body = Box::new(alloc, literal(alloc, c, casei)?)?;
+    nodes.push(suffixed(alloc, body, quantifier, greedy, suffix)?)?;
     Ok(())
 }
 

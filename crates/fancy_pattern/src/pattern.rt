@@ -1,15 +1,16 @@
 //! `parse_tree`: lexer, reader and survey, one after the other.
 
-ghost use Rattle.std.specs.Prelude.{◌≡◌, ◌<◌, ◌^◌, [], false, length, map, chars, encode_utf8_all, IfOk, IfErr, MatchResult};
+ghost use Rattle.std.specs.Prelude.{◌≡◌, ◌<◌, ◌^◌, [], List, false, length, map, chars, encode_utf8_all, IfOk, IfErr, MatchResult};
 ghost use Rattle.std.specs.List.{list_any};
 ghost use Rattle.fancy_meaning.specs.Tree.{Tree};
 ghost use Rattle.fancy_expr.specs.Sound.{IsWellFormedTree};
 ghost use Rattle.fancy_expr.specs.Views.{tree_of};
 ghost use Rattle.fancy_pattern.specs.Described.{first_past, up_to, IsDescribed};
-ghost use Rattle.fancy_pattern.specs.Surveyed.{IsUnreferring, IsSurveyOf};
+ghost use Rattle.fancy_pattern.specs.Surveyed.{AreFacts, IsUnreferring, IsSurveyOf};
 ghost use Rattle.fancy_pattern.specs.Naming.{pairs_in, named_in};
 ghost use Rattle.fancy_pattern.specs.PatternViews.{kept_of, placed_of, token_of, opening_of};
 ghost use Rattle.fancy_pattern.specs.Texts.{Text};
+ghost use Rattle.fancy_pattern.specs.Tokens as plain;
 ghost use Rattle.fancy_pattern.specs.Spelling.{opens_named, has_name, ignores, byte_at, HasTokens, Spells, IsSpelled, IsTreeOf, PatternFails, IsError};
 ghost use Rattle.fancy_pattern.specs.declared.error.PatternError.TheVariants.{Parse, Memory};
 ghost use Rattle.fancy_pattern.specs.declared.options.ParseOptions.{ParseOptions};
@@ -165,14 +166,15 @@ fn tree_of_tokens(alloc: Global, tokens: &[Placed<'_>], ignored: bool) -> Result
         → HasTokens options text ignored (map placed_of tokens.now)
         → IfErr result (PatternFails options text) }
 {
-    let names = GroupNames::of(alloc, tokens)?;
+    let facts = Facts::of(tokens);
+    let names = GroupNames::of(alloc, tokens, facts.has_names)?;
     let mut reader = Reader {
         alloc,
         rest: tokens,
     };
     let expr = reader.read_tree(&names)?;
     reader.read_end()?;
-    Ok(described(alloc, expr, names, tokens, ignored)?)
+    Ok(described(alloc, expr, names, facts, ignored)?)
 }
 
 /// What the nodes of a tree name; it is not walked where no token names a group.
@@ -196,15 +198,15 @@ fn described(
     alloc: Global,
     expr: Expr,
     names: GroupNames,
-    tokens: &[Placed<'_>],
+    facts: Facts,
     ignored: bool,
 ) -> Result<ExprTree, AllocError>
-    requires names { pairs_in names.pairs ≡ named_in (map placed_of tokens.now) }
-    requires spelled { IsSpelled (map placed_of tokens.now) (tree_of expr) }
+    requires { facts.names_group ≡ false → IsUnreferring (tree_of expr) }
     ensures same { IfOk result (λ tree. tree.expr ≡ expr) }
-    ensures describes { IfOk result (IsDescribed ignored (map placed_of tokens.now)) }
+    ensures describes { (tokens : List plain.Placed) → AreFacts tokens facts
+        → pairs_in names.pairs ≡ named_in tokens
+        → IfOk result (IsDescribed ignored tokens) }
 {
-    let facts = Facts::of(tokens);
     let survey = surveyed(alloc, &expr, facts.names_group)?;
     let backrefs = within(alloc, &survey.references, facts.groups)?;
     Ok(ExprTree {

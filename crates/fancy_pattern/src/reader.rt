@@ -9,7 +9,7 @@ ghost use Rattle.fancy_pattern.specs.Faults.{Tells};
 ghost use Rattle.fancy_pattern.specs.Stuck.{is_end, is_calm, anything, Fails, FailsOpened, IsMisfit};
 ghost use Rattle.fancy_pattern.specs.Naming.{pairs_in};
 ghost use Rattle.fancy_pattern.specs.PatternViews.{kept_of, token_of, opening_of, reference_of, piece_text};
-ghost use Rattle.fancy_pattern.specs.Reading.{OneCharEach, point_of, next_token, Skips, ReadsTree, Adds, Pushes, Boxes, SpellsLast, SpellsMore, SpellsRest, SpellsNode, Quantifies};
+ghost use Rattle.fancy_pattern.specs.Reading.{OneCharEach, point_of, next_token, Skips, ReadsTree, Adds, Pushes, PushesRow, SpellsSome, Boxes, SpellsLast, SpellsMore, SpellsRest, SpellsNode, Quantifies};
 ghost use Rattle.fancy_meaning.specs.Tree.{Tree, Literal};
 ghost use Rattle.fancy_pattern.specs.Tokens.{AbsentBar, Around, Group, If, Node};
 
@@ -19,14 +19,14 @@ use crate::failure::Failure;
 use crate::group_names::GroupNames;
 use crate::kept::{Kept, Placed};
 use crate::node_stack::{
-    drop_empty, empty_boxed, enclose_last, group_last, is_last_repeatable, look_boxed, pop_boxed,
-    pop_first, popped, push_alternated, push_boxed, push_conditional, push_empty, push_expression,
-    push_joined, push_literal, push_stopper, repeat_last,
+    add_literal, drop_empty, empty_boxed, enclose_last, group_last, is_last_repeatable, look_boxed,
+    pop_boxed, pop_first, popped, push_alternated, push_boxed, push_conditional, push_empty,
+    push_expression, push_joined, push_literal, push_repeated, push_stopper, repeat_last,
 };
 use crate::nodes::{boxed_reference, node};
 use crate::tokens::{ClassPiece, Enclosing, Leaf, Opening, Quantifier, Reference, Suffix, Token};
 use fancy_expr::expr::Expr;
-use std::alloc::Global;
+use std::alloc::{AllocError, Global};
 
 /// What is left to read.
 #[derive(Drop)]
@@ -443,10 +443,9 @@ impl<'r, 'a> Reader<'r, 'a> {
         let mut pieces = pop_first(self.alloc, nodes)?;
         drop_empty(&mut pieces);
         while !self.is_branch_end() {
-            match self.next_alone() {
+            match self.next_literal() {
                 Some((val, casei)) => {
-                    push_literal(self.alloc, &mut pieces, val, casei)?;
-                    self.skip();
+                    self.read_literals(&mut pieces, val, casei)?;
                 }
                 None => {
                     self.read_piece(names, &mut pieces)?;
@@ -547,22 +546,73 @@ impl<'r, 'a> Reader<'r, 'a> {
         as_literal(self.next()?)
     }
 
-    /// The literal that is next, if it has no quantifier.
-    fn next_alone(&self) -> Option<(char, bool)>
-        ensures value { (names : Names) → IfSome result (λ p. SpellsPiece names
-            (point_of self.now) (drop 1 (point_of self.now)) (Literal p.0 p.1)) }
-        ensures some { IfSome result (λ p. 0 < length self.now.rest.now) }
+    /// Pieces that begin with a literal, of which the first one is this.
+    #[inline(never)]
+    fn read_literals(
+        &mut self,
+        nodes: &mut Vec<Expr>,
+        val: char,
+        casei: bool,
+    ) -> Result<(), AllocError>
+        requires some { 0 < length self.old.rest.now }
+        requires there { (names : Names) → first_gives (node_of names) (point_of self.old)
+            ≡ Some (Literal val casei) }
+        ensures pushes { (names : Names) → IfOk result (λ u. PushesRow names
+            self.old self.new nodes.old.items nodes.new.items) }
+        ensures shorter { IfOk result (λ u. length self.new.rest.now + 1
+            ≤ length self.old.rest.now) }
     {
-        let (first, after) = self.rest.split_first()?;
-        let literal = as_literal(&first.kept)?;
-        let after = Reader {
-            alloc: self.alloc,
-            rest: after,
-        };
-        if after.is_at_quantifier() {
-            return None;
+        self.read_literal(nodes, val, casei)?;
+        while let Some((val, casei)) = self.next_literal() {
+            self.read_literal(nodes, val, casei)?;
         }
-        Some(literal)
+        Ok(())
+    }
+
+    /// The literal that is next, and its quantifier where it has one.
+    #[inline(always)]
+    fn read_literal(
+        &mut self,
+        nodes: &mut Vec<Expr>,
+        val: char,
+        casei: bool,
+    ) -> Result<(), AllocError>
+        requires some { 0 < length self.old.rest.now }
+        requires there { (names : Names) → first_gives (node_of names) (point_of self.old)
+            ≡ Some (Literal val casei) }
+        ensures pushes { (names : Names) → IfOk result (λ u. Pushes (SpellsSome names)
+            self.old self.new nodes.old.items nodes.new.items) }
+        ensures shorter { IfOk result (λ u. length self.new.rest.now + 1
+            ≤ length self.old.rest.now) }
+    {
+        self.skip();
+        if self.is_at_quantifier() {
+            return self.repeat_literal(nodes, val, casei);
+        }
+        add_literal(self.alloc, nodes, val, casei)
+    }
+
+    /// The quantifier behind a literal, around it.
+    #[inline(never)]
+    fn repeat_literal(
+        &mut self,
+        nodes: &mut Vec<Expr>,
+        val: char,
+        casei: bool,
+    ) -> Result<(), AllocError>
+        ensures pushes { IfOk result (λ u. Pushes (Quantifies (Literal val casei))
+            self.old self.new nodes.old.items nodes.new.items) }
+        ensures shorter { IfOk result (λ u. length self.new.rest.now
+            ≤ length self.old.rest.now) }
+    {
+        match self.next_quantifier() {
+            Some((quantifier, greedy)) => {
+                self.skip();
+                let suffix = self.take_suffix();
+                push_repeated(self.alloc, nodes, val, casei, quantifier, greedy, suffix)
+            }
+            None => push_literal(self.alloc, nodes, val, casei),
+        }
     }
 
     fn is_at_quantifier(&self) -> bool

@@ -1,4 +1,4 @@
-use Rattle.std.proofs.Common.{map, refl, sym, subst}
+use Rattle.std.proofs.Common.{map, refl, sym, subst, ◌∙◌}
 use Rattle.std.proofs.lemmas.Result.{err_from_is_err_and}
 use Rattle.fancy_expr.specs.Views.{tree_of}
 use Rattle.fancy_pattern.specs.declared.reader.Reader.{Reader}
@@ -7,14 +7,18 @@ use Rattle.fancy_pattern.specs.PatternViews.{placed_of}
 use Rattle.fancy_pattern.specs.Reading.{OneCharEach}
 use Rattle.fancy_pattern.proofs.DescribedTrees.{well_formed}
 use Rattle.fancy_pattern.proofs.Told.{whole_fails, whole_left}
+use Rattle.fancy_pattern.proofs.Unreferring.{unreferring}
 use Rattle.fancy_pattern.proofs.Spelled.{spelled_whole, tree_made}
 use Rattle.fancy_pattern.proofs.pattern.tree_of_tokens.Goals as goal
 
-pub described-requires-clause-spelled : goal.described-requires-clause-spelled
-described-requires-clause-spelled c =
+pub described-requires : goal.described-requires
+described-requires c =
     let start : Reader = record { alloc = c.args.alloc; rest = c.args.tokens } in
-    spelled_whole (pairs_in c.in_ok-names.names.pairs) (map placed_of c.args.tokens.now) start c.read_tree.new.self
-    (tree_of c.in_ok-expr.expr) c.in_ok-names.ensures refl c.in_ok-expr.ensures.spells c.in_ok-read_end.ensures.done
+    λ h.
+    unreferring c.args.tokens.now (tree_of c.in_ok-expr.expr)
+    (spelled_whole (pairs_in c.in_ok-names.names.pairs) (map placed_of c.args.tokens.now) start c.read_tree.new.self
+    (tree_of c.in_ok-expr.expr) c.in_ok-names.ensures refl c.in_ok-expr.ensures.spells c.in_ok-read_end.ensures.done)
+    (sym c.of-facts.ensures.names_group ∙ h)
 
 pub returns-clause-made : goal.returns-clause-made
 returns-clause-made c = λ options text lexed.
@@ -24,7 +28,10 @@ returns-clause-made c = λ options text lexed.
     tree_made options text c.args.ignored ts ts c.in_ok-expr.expr c.in_ok-described.field-0 lexed
     (spelled_whole (pairs_in c.in_ok-names.names.pairs) ts start c.read_tree.new.self (tree_of c.in_ok-expr.expr)
     c.in_ok-names.ensures refl c.in_ok-expr.ensures.spells c.in_ok-read_end.ensures.done)
-    c.in_ok-described.ensures.same refl c.in_ok-described.ensures.describes in (
+    c.in_ok-described.ensures.same refl
+    (c.in_ok-described.ensures.describes ts
+    (record { groups = c.of-facts.ensures.groups; by_number = c.of-facts.ensures.by_number; names_group = c.of-facts.ensures.names_group })
+    c.in_ok-names.ensures) in (
       is,
       well_formed options text c.in_ok-described.field-0 is
           (subst OneCharEach (sym c.in_ok-described.ensures.same) c.in_ok-expr.ensures.one_char),

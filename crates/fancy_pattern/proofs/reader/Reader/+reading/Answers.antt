@@ -6,11 +6,10 @@ use Rattle.fancy_expr.specs.Views.{tree_of, look_of}
 use Rattle.fancy_pattern.specs.Grammar.{bar, closing, opening, class_open, enclosed, node, node_of, SpellsBranch, SpellsBodies, SpellsOpened, asked, no_bar, branch, no_piece, branches}
 use Rattle.fancy_pattern.specs.Naming.{pairs_in}
 use Rattle.fancy_pattern.specs.PatternViews.{opening_of, reference_of}
-use Rattle.fancy_pattern.specs.Reading.{point_of, Pushes, SpellsLast}
+use Rattle.fancy_pattern.specs.Reading.{point_of, Pushes, SpellsLast, none_read}
 use Rattle.fancy_pattern.specs.Tokens.{AbsentBar, Around, Group, If, IfPattern, IfLook}
-use Rattle.fancy_pattern.proofs.OneChars.{with_part, reference_chars}
+use Rattle.fancy_pattern.proofs.OneChars.{reference_chars}
 use Rattle.fancy_pattern.proofs.Points as points
-use Rattle.fancy_pattern.proofs.Rows.{none_read}
 use Rattle.fancy_pattern.proofs.WhereStuck as stuck
 use Rattle.fancy_pattern.proofs.reader.Reader.+reading.Goals as goal
 
@@ -143,21 +142,15 @@ read_branch-loop-self-preserved t c =
       rest = c.loop-self.invariant.rest;
     }
 
-pub read_branch-loop-self-preserved-in-Some : goal.read_branch-loop-self-preserved-in-Some
-read_branch-loop-self-preserved-in-Some t c =
-    let names = (pairs_in c.args.names.now.pairs) in
-    let next = c.in_ok-push_literal-in-Some.ensures in
-    let before = c.loop-self.invariant.pieces in
+pub read_branch-loop-self-preserved-in_ok-read_literals-in-Some : goal.read_branch-loop-self-preserved-in_ok-read_literals-in-Some
+read_branch-loop-self-preserved-in_ok-read_literals-in-Some t c =
+    let names = pairs_in c.args.names.now.pairs in
+    let before = c.loop-self.invariant in
     record {
       pieces =
-          points.pieces_next names c.args.self.now c.loop-self.self c.skip.new.self c.loop-self.pieces.items c.push_literal.new.nodes.items
-          (Literal c.in-Some.val c.in-Some.casei) before (sym c.is_branch_end-in-loop-self.ensures ∙ c.loop-self-test.true)
-          (points.literal_passed names c.loop-self.self c.skip.new.self (Literal c.in-Some.val c.in-Some.casei) (c.in-Some.ensures.value names)
-          c.skip.ensures.skips)
-          (points.literal_pushed c.loop-self.pieces.items c.push_literal.new.nodes.items next.node c.in-Some.val c.in-Some.casei next.added next.made)
-          (let a = c.skip.ensures.shorter in omega (arith, a))
-          (with_part c.loop-self.pieces.items c.push_literal.new.nodes.items next.node next.added next.one_char before.one_char);
-      rest = c.loop-self.invariant.rest;
+          points.pieces_row names c.args.self.now c.loop-self.self c.read_literals.new.self c.loop-self.pieces.items c.read_literals.new.nodes.items
+          before.pieces (c.in_ok-read_literals-in-Some.ensures.pushes names) (let a = c.in_ok-read_literals-in-Some.ensures.shorter in omega (arith, a));
+      rest = before.rest;
     }
 
 pub read_boxed_branch-returns-clause-boxes : goal.read_boxed_branch-returns-clause-boxes

@@ -1,4 +1,4 @@
-use Rattle.fancy_pattern.proofs.node_stack.push_literal.Goals as goal
+use Rattle.fancy_pattern.proofs.node_stack.add_literal.Goals as goal
 
 pub returns : goal.returns
 returns c =
