@@ -1,5 +1,5 @@
 -- Ways that a search comes to without taking a choice back.
-use Rattle.std.proofs.Common.{◌≡◌, ◌≤◌, ◌<◌, ◌+◌, ◌-◌, ◌&&◌, ◌∷◌, ◌++◌, ℕ, zero, suc, true≢false, Bool, true, false, List, [], Option, Some, None, Result, Ok, Err, IfOk, IsTrue, if◌then◌else◌, option_map, map, slice_get, refl, sym, ap, ◌∙◌, subst, arith}
+use Rattle.std.proofs.Common.{◌≡◌, ◌≤◌, ◌<◌, ◌+◌, ◌-◌, ◌&&◌, ◌∷◌, ◌++◌, ℕ, zero, suc, true≢false, Bool, true, false, List, [], Option, Some, None, Result, Ok, Err, IfOk, IsTrue, if◌then◌else◌, option_map, map, not, slice_get, slice_index_or, refl, sym, ap, ◌∙◌, subst, arith}
 use Rattle.std.proofs.lemmas.Bool.{cond-false}
 use Rattle.std.proofs.lemmas.Str.{len_utf8_bounds}
 use denote.Bor.{Bor}
@@ -23,10 +23,10 @@ use Rattle.fancy_plain.specs.declared.search.Searcher.{Searcher}
 use Rattle.fancy_plain.specs.declared.one_pass.OnePass.{OnePass}
 use Rattle.fancy_plain.specs.declared.one_pass.OnePass.TheVariants as one_pass
 use Rattle.fancy_plain.specs.declared.nfa.Nfa.{Nfa}
-use Rattle.fancy_plain.specs.AsciiRuns.{AllPass}
+use Rattle.fancy_plain.specs.AsciiRuns.{AllPass, is_before}
 use Rattle.fancy_plain.specs.Runs.{FailsFrom, IsBody, Passes}
 use Rattle.fancy_plain.specs.Searches.{after_steps_of, next_of}
-use Rattle.fancy_plain.specs.OnePass.{AreFails, EndsOnePass, EndsOnePassWith, Finds, IsBlank, IsOnePass, IsOnePassWay, IsSeenWay, Loses, RunsOn, RunsPast, Succeeds, Walks, closed_at, config_at, opened_at}
+use Rattle.fancy_plain.specs.OnePass.{AreFails, EndsOnePass, EndsOnePassWith, Finds, IsBlank, IsFirstTest, IsOnePass, IsOnePassWay, IsSeenWay, Loses, RunsLazily, RunsOn, RunsPast, Succeeds, Walks, closed_at, config_at, opened_at}
 use Rattle.fancy_plain.specs.declared.counted_ways.Passed.{Passed}
 use Rattle.fancy_plain.specs.declared.counted_ways.Passed.TheVariants as passed
 use Rattle.fancy_plain.specs.declared.group_spans.GroupSpans.{GroupSpans}
@@ -36,7 +36,7 @@ use Rattle.fancy_plain.specs.Nfas.{IsNfaOf}
 use Rattle.fancy_plain.specs.Views.{state_of, test_of}
 use Rattle.fancy_plain.proofs.BackLaws.{steps_then}
 use Rattle.fancy_plain.proofs.FirstWayLaws.{finds, same_end, way_at}
-use Rattle.fancy_plain.proofs.RunLaws.{passes_by}
+use Rattle.fancy_plain.proofs.RunLaws.{excluded_by, passes_by}
 use Rattle.fancy_plain.proofs.SearchLaws.{next_there}
 
 -- a character that is taken moves on
@@ -378,6 +378,27 @@ module _ (searcher : Searcher) where
         ),
       )
 
+  -- and where a group ends before it
+  pub close_fails : (group at place : ℕ) → slice_get (searcher.states).now at ≡ Some (nfa_state.Close group) → FailsFrom searcher (at + 1) place →
+      FailsFrom searcher at place
+  close_fails group at place there fails s f is here = go s.opened refl
+    where
+      step : (opened : List ℕ) → s.opened ≡ opened →
+          next_of searcher (TakesUp s f) ≡ plain.next_by (plain.close_step group s opened) (Some (states.Close group)) s f
+      step opened e =
+          next_there searcher (nfa_state.Close group) (at_state at) s (sym is) there f
+          ∙ ap (λ o. plain.next_by (plain.close_step group s o) (Some (states.Close group)) s f) e
+
+      go : (opened : List ℕ) → s.opened ≡ opened →
+          (steps : ℕ) × ((n : ℕ) × (after_steps_of searcher steps (TakesUp s f) ≡ TakesBack (record f { visits = f.visits + n })))
+      go [] e =
+          let x = fails (plain.forward s) f (ap (λ i. i + 1) is) here in
+          (suc x.0, (x.1.0, ap (after_steps_of searcher x.0) (step [] e) ∙ x.1.1))
+      go (from ∷ opened) e =
+          let on : plain.NfaConfig = record (plain.forward s) { opened = opened; spans = (group, (from, s.place)) ∷ s.spans } in
+          let x = fails on f (ap (λ i. i + 1) is) here in
+          (suc x.0, (x.1.0, ap (after_steps_of searcher x.0) (step (from ∷ opened) e) ∙ x.1.1))
+
   -- two ways that fail
   pub branches_fail : (p : NfaState) (at first second place : ℕ) → slice_get (searcher.states).now at ≡ Some p →
       ((s : plain.NfaConfig) → plain.step_by (searcher.text).now searcher.unicode (state_of p) s
@@ -447,6 +468,62 @@ module _ (searcher : Searcher) where
             (ap (after_steps_of searcher 2) (loop_splits i f blank) ∙ ap (next_of searcher) gone, blank, λ e. not_sure e),
           ),
         )
+
+  -- ---- a lazy loop over one test
+
+  module _ (test : CharTest) (exit : ℕ) where
+    -- over none
+    pub waits : (i : ℕ) → RunsLazily searcher test exit i i
+    waits i = λ base head body loop_split is. stays (config_at base head i)
+
+    pub waits_both : (from i j : ℕ) → RunsLazily searcher test exit from i → RunsLazily searcher test exit i j → RunsLazily searcher test exit from j
+    waits_both from i j on more = λ base head body loop_split is.
+        onward true (config_at base head from) (config_at base head i) (config_at base head j) (on base head body loop_split is)
+        (more base head body loop_split is)
+
+    -- over a character that passes, where the way out fails
+    pub waits_over : (i j : ℕ) → FailsFrom searcher exit i → past_char (searcher.text).now (Test test) i ≡ Some j → RunsLazily searcher test exit i j
+    waits_over i j fails past = λ base head body loop_split is.
+        let here = config_at base head i in
+        let into = config_at base body i in
+        let behind = config_at base (body + 1) j in
+        onward true here behind (config_at base head j)
+        (onward true here into behind
+        (tries_memoized (nfa_state.LoopSplit exit body) here loop_split (config_at base exit i) into refl fails)
+        (goes (nfa_state.Character test) into is.0 behind (ap (plain.goes_past into) past)))
+        (goes (nfa_state.Jump head) behind is.1 (config_at base head j) refl)
+
+    -- over each character up to a place
+    waits_each : (from n : ℕ) → ((i : ℕ) → from ≤ i → i < from + n → FailsFrom searcher exit i × Passes searcher test i) →
+        RunsLazily searcher test exit from (from + n)
+    waits_each from zero each = subst (RunsLazily searcher test exit from) {x = from} (omega arith) (waits from)
+    waits_each from (suc n) each =
+        let last = each (from + n) (omega arith) (omega arith) in
+        subst (RunsLazily searcher test exit from) {x = from + n + 1} (omega arith)
+        (waits_both from (from + n) (from + n + 1) (waits_each from n (λ i on below. each i on (omega (arith, below))))
+        (waits_over (from + n) (from + n + 1) last.0 last.1))
+
+    -- over characters of ASCII that pass, and that the test at the way out does not take
+    pub waits_ascii : (bytes : List ℕ) (end : CharTest) (from to : ℕ) → bytes ≡ (searcher.text).now → IsFirstTest searcher exit end →
+        AllPass (is_before (passes [] searcher.unicode (test_of end)) (passes [] searcher.unicode (test_of test))) bytes from to → from ≤ to →
+        RunsLazily searcher test exit from to
+    waits_ascii bytes end from to e first all on =
+        subst (RunsLazily searcher test exit from) {x = from + (to - from)} (omega (arith, on))
+        (waits_each from (to - from)
+        (λ i further below.
+        let h = all i further (omega (arith, on, below)) in
+        let both = and_parts (not (passes [] searcher.unicode (test_of end) (slice_index_or bytes i 0))) _ h.2 in (
+          first i (excluded_by bytes searcher end i e h.0 h.1 both.0),
+          passes_by bytes searcher test i e h.0 h.1 both.1,
+        )))
+
+  -- the way out is taken, or the way in where that one fails
+  pub lazily_chosen : (test : CharTest) (base : plain.NfaConfig) (head exit body from to : ℕ) (is_lost near : Bool) → slice_get (searcher.states).now head ≡ Some (nfa_state.LoopSplit exit body) →
+      IsBody (searcher.states).now head body test → RunsLazily searcher test exit from to → (is_lost ≡ true → FailsFrom searcher exit to) →
+      Walks searcher (is_lost && near) (config_at base head from) (config_at base (if is_lost then body else exit) to)
+  lazily_chosen test base head exit body from to is_lost near there is on fails =
+      joined true is_lost (is_lost && near) (config_at base head from) (config_at base head to) (config_at base (if is_lost then body else exit) to)
+      (λ e. (refl, (and_parts is_lost near e).0)) (on base head body there is) (chosen_at_counter_loop base head exit body to is_lost there fails)
 
   -- over a character more
   pub runs_further : (test : CharTest) (from i j : ℕ) → RunsOn searcher test from i → past_char (searcher.text).now (Test test) i ≡ Some j →

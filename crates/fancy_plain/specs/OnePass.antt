@@ -10,7 +10,7 @@ use Rattle.fancy_plain.specs.declared.search.Searcher.{Searcher}
 use Rattle.fancy_plain.specs.declared.one_pass.OnePass.{OnePass}
 use Rattle.fancy_plain.specs.declared.one_pass.OnePass.TheVariants as one_pass
 use Rattle.fancy_plain.specs.declared.nfa.Nfa.{Nfa}
-use Rattle.fancy_plain.specs.Runs.{IsBody}
+use Rattle.fancy_plain.specs.Runs.{Excludes, FailsFrom, IsBody}
 use Rattle.fancy_plain.specs.Searches.{after_steps_of}
 use Rattle.fancy_plain.specs.Nfas.{IsNfaOf}
 use Rattle.fancy_plain.specs.Ways.{HasNoWayAt}
@@ -73,6 +73,16 @@ abbrev pub RunsPast : Searcher → CharTest → (from to : ℕ) → Type 0
 RunsPast t test from to =
     (s : NfaConfig) (head first second : ℕ) → slice_get (t.states).now head ≡ Some (nfa_state.LoopSplit first second) →
     IsBody (t.states).now head first test → Walks t false (config_at s head from) (config_at s second to)
+
+-- where this test takes no character, a search from that state fails
+abbrev pub IsFirstTest : Searcher → (at : ℕ) → CharTest → Type 0
+IsFirstTest t at test = (place : ℕ) → Excludes t test place → FailsFrom t at place
+
+-- it goes so over a lazy loop over this test, of which this is the way out, from its head to its head
+abbrev pub RunsLazily : Searcher → CharTest → (exit from to : ℕ) → Type 0
+RunsLazily t test exit from to =
+    (s : NfaConfig) (head body : ℕ) → slice_get (t.states).now head ≡ Some (nfa_state.LoopSplit exit body) →
+    IsBody (t.states).now head body test → Walks t true (config_at s head from) (config_at s head to)
 
 -- a search that knows of no pair ends so
 abbrev pub Finds : Searcher → (place : ℕ) → Option NfaConfig → Type 0

@@ -7,6 +7,7 @@ mod first_sets;
 pub mod first_way;
 pub mod group_spans;
 mod layout;
+mod lazy_loops;
 pub mod nfa;
 mod nfa_state;
 pub mod one_pass;

@@ -9,7 +9,7 @@ ghost use Rattle.fancy_plain.specs.Searches.{IsSearcher};
 ghost use Rattle.fancy_nfa.specs.NfaSearch.{NfaConfig};
 ghost use Rattle.fancy_plain.specs.CountedWays.{ComesPast};
 ghost use Rattle.fancy_plain.specs.GroupSpans.{AreGroupsOf, spans_in};
-ghost use Rattle.fancy_plain.specs.OnePass.{EndsOnePass, EndsOnePassWith, Finds, IsOnePass, IsOnePassWay, RunsOn, RunsPast, Walks, config_at};
+ghost use Rattle.fancy_plain.specs.OnePass.{EndsOnePass, EndsOnePassWith, Finds, IsFirstTest, IsOnePass, IsOnePassWay, RunsOn, RunsPast, Walks, config_at};
 ghost use Rattle.fancy_plain.specs.Views.{IsReadBy};
 ghost use Rattle.fancy_plain.specs.Ways.{IsOfNodes};
 
@@ -90,7 +90,10 @@ impl Searcher<'_> {
     {
         'states: for at in 0..self.states.len() {
             let is_one_pass = match self.states.get(at) {
-                Some(NfaState::LoopSplit(first, second)) => self.are_apart(*first, *second),
+                Some(NfaState::LoopSplit(first, second)) => {
+                    self.are_apart(*first, *second)
+                        || self.is_seldom_taken_back(at, *first, *second)
+                }
                 Some(NfaState::Split(first, second)) => self.are_apart(*first, *second),
                 Some(NfaState::CounterLoop { bounds, after }) => self.is_alone(at, *bounds, *after),
                 _ => true,
@@ -109,6 +112,34 @@ impl Searcher<'_> {
     {
         self.counted_test(head, bounds).is_some()
             && (bounds.lo == bounds.hi || self.are_apart(head + 1, self.behind_joins(after)))
+    }
+
+    /// The loop with this head is lazy and over one character, and a way seldom fails behind its exit's first test: the
+    /// end comes next, or the test takes no letter, digit or space.
+    fn is_seldom_taken_back(&self, head: usize, first: usize, second: usize) -> bool
+        requires { IsSearcher self.now }
+    {
+        if self.body_at(second, head).is_none() {
+            return false;
+        }
+        let exit = self.behind_groups(self.behind_jump(first));
+        match self.states.get(exit) {
+            Some(NfaState::Character(test)) => {
+                self.ends_behind(exit) || !takes_common(test, self.unicode)
+            }
+            _ => false,
+        }
+    }
+
+    /// The end comes behind this state, perhaps where groups begin or end.
+    fn ends_behind(&self, at: usize) -> bool {
+        let Some(next) = at.checked_add(1) else {
+            return false;
+        };
+        matches!(
+            self.states.get(self.behind_groups(next)),
+            Some(NfaState::Match)
+        )
     }
 
     /// Behind the ends and the heads of loops and the ends of groups from this state on, on into the last loop or group.
@@ -173,18 +204,27 @@ impl Searcher<'_> {
     }
 
     /// Behind where groups begin or end, from this state on.
-    fn behind_groups(&self, at: usize) -> usize {
+    #[inline(always)]
+    fn behind_groups(&self, at: usize) -> usize
+        ensures { (place : ℕ) → FailsFrom self.now result place → FailsFrom self.now at place }
+    {
         let mut next = at;
-        'groups: while let Some(NfaState::Open | NfaState::Close(_)) = self.states.get(next) {
-            next += 1;
+        'groups: while let Some(nfa_state) = self.states.get(next) {
+            match nfa_state {
+                NfaState::Open => next += 1,
+                NfaState::Close(_) => next += 1,
+                _ => break 'groups,
+            }
         }
         next
     }
 
     /// The test at this state, perhaps behind a jump and where groups begin or end.
-    fn test_at(&self, at: usize) -> Option<&CharTest>
+    #[inline(always)]
+    pub(crate) fn test_at(&self, at: usize) -> Option<&CharTest>
         requires { IsSearcher self.now }
-        ensures { IfSome result (λ test. IsReadBy self.now.unicode test.now) }
+        ensures read { IfSome result (λ test. IsReadBy self.now.unicode test.now) }
+        ensures exit { IfSome result (λ test. IsFirstTest self.now at test.now) }
     {
         match self.states.get(self.behind_groups(self.behind_jump(at))) {
             Some(NfaState::Character(test)) => Some(test),
@@ -313,6 +353,10 @@ impl Searcher<'_> {
                         is_sure: false,
                     });
                 }
+                // the body of a lazy loop stands before its exit
+                if second < first && self.body_at(*second, at).is_some() {
+                    return self.past_lazy(alloc, at, place);
+                }
                 let next = chosen(self.fails_from(*first, place), *first, *second);
                 Ok(Passed::On {
                     at: next,
@@ -353,7 +397,7 @@ impl Searcher<'_> {
 
     /// From this state on a test comes first, or one for each of several branches, and the character there passes none.
     #[inline(always)]
-    fn fails_from(&self, from: usize, place: usize) -> bool
+    pub(crate) fn fails_from(&self, from: usize, place: usize) -> bool
         requires { IsSearcher self.now }
         ensures { IsTrue result → FailsFrom self.now from place }
     {
@@ -387,11 +431,10 @@ impl Searcher<'_> {
         requires { IsSearcher self.now }
         ensures { IsTrue result → FailsFrom self.now at place }
     {
-        let mut next = self.behind_jump(at);
-        'groups: while let Some(NfaState::Open) = self.states.get(next) {
-            next += 1;
+        match self.test_at(at) {
+            Some(test) => self.is_excluded(test, place),
+            None => false,
         }
-        self.fails_at(next, place)
     }
 
     /// Where the jump at this state leads, or else this state.
@@ -450,15 +493,28 @@ fn without_a_way(is_sure: bool) -> OnePass
 
 /// The way on, where the first one is lost or not.
 #[inline(always)]
-fn chosen(is_lost: bool, first: usize, second: usize) -> usize
+pub(crate) fn chosen(is_lost: bool, first: usize, second: usize) -> usize
     ensures { result ≡ if is_lost then second else first }
 {
     if is_lost { second } else { first }
 }
 
 #[inline(always)]
-fn are_both(one: bool, other: bool) -> bool
+pub(crate) fn are_both(one: bool, other: bool) -> bool
     ensures { result ≡ (one && other) }
 {
     one && other
+}
+
+/// A letter, a digit or a space passes the test.
+fn takes_common(test: &CharTest, unicode: bool) -> bool
+    requires { IsReadBy unicode test.now }
+{
+    'ask: for c in 0..128u8 {
+        let is_common = matches!(c, b'a'..=b'z' | b'A'..=b'Z' | b'0'..=b'9' | b' ');
+        if is_common && test.takes_ascii(unicode, c) {
+            return true;
+        }
+    }
+    false
 }

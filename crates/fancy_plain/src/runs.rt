@@ -183,7 +183,7 @@ impl Searcher<'_> {
 
     /// There is no character here, or it is of ASCII and fails the test.
     #[inline(always)]
-    fn is_excluded(&self, test: &CharTest, place: usize) -> bool
+    pub(crate) fn is_excluded(&self, test: &CharTest, place: usize) -> bool
         requires { IsReadBy self.now.unicode test.now }
         ensures { IsTrue result → Excludes self.now test.now place }
     {

@@ -93,8 +93,8 @@ returns-in-Some-body_at c = λ s.
     ∙ ap Some c.in-Some-LoopSplit.field-0-is in
     c.in_ok-end-in-Some-LoopSplit.ensures s at c.in-Some-LoopSplit.first c.in-Some-LoopSplit.second there c.in-Some-body_at.ensures
 
-pub returns-in_default-body_at : goal.returns-in_default-body_at
-returns-in_default-body_at c = λ s.
+pub returns-else-second-first : goal.returns-else-second-first
+returns-else-second-first c = λ s.
     let searcher = c.args.self.now in
     let states = searcher.states.now in
     let at = c.args.at in
