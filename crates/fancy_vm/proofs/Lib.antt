@@ -12,5 +12,6 @@ pub mod MemosLaws
 pub mod PairsLaws
 pub mod SingleDelegateLaws
 pub mod SingleBranchLaws
+pub mod LastStartsLaws
 pub mod RequiredLaws
 pub mod SearchLimitsLaws

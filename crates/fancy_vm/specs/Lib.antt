@@ -15,3 +15,4 @@ pub mod StepperSteps
 pub mod Founds
 pub mod SearchLimits
 pub mod SingleBranch
+pub mod LastStarts

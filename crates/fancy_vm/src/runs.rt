@@ -1,6 +1,6 @@
 //! Runs of a program.
 
-ghost use Rattle.std.specs.Prelude.{◌≡◌, IsTrue, IsUtf8, IfOk, IfErr, OnOk, None};
+ghost use Rattle.std.specs.Prelude.{◌≡◌, IsTrue, IsUtf8, IfOk, IfErr, OnOk, None, false};
 ghost use Rattle.fancy_meaning.specs.Config as config;
 ghost use Rattle.fancy_meaning.specs.Places.{is_place};
 ghost use Rattle.fancy_meaning.specs.Machine as machine;
@@ -498,12 +498,39 @@ impl Machine<'_> {
             left -= 1;
             match self.step(body, memos)? {
                 Next::On => {}
-                Next::Passed => left = left.saturating_sub(self.passed),
+                Next::Passed => {
+                    left = left.saturating_sub(self.passed);
+                    if self.has_one_start() && self.is_over(left) {
+                        return Ok(false);
+                    }
+                }
                 Next::Matches => return Ok(true),
                 Next::Ends => return Ok(false),
             }
         }
         Err(Stop::Limit(RuntimeError::StepLimitExceeded))
+    }
+
+    /// Only the text's beginning is a start.
+    #[inline(always)]
+    fn has_one_start(&self) -> bool {
+        match &self.task.prog.prefilter {
+            None => false,
+            Some(prefilter) => prefilter.is_beginning(),
+        }
+    }
+
+    /// With so many instructions left the run ends without a match: it is at the search, and no start is left.
+    #[inline(never)]
+    fn is_over(&self, left: u64) -> bool
+        requires place { IsTrue (is_place self.now.task.text.now self.now.ix) }
+        ensures { IsTrue result → machine.exec (plain_task self.now.task) left (config_of self.now)
+            ≡ ending false self.now }
+    {
+        if self.pc != 0 || self.state.backtrack_count() != 0 || self.longest.is_held() {
+            return false;
+        }
+        self.task.has_no_start(self.ix, left, self.backtracks)
     }
 
     /// Writes the numbers that the run answers over these.

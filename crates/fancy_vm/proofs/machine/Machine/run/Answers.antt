@@ -1,6 +1,6 @@
-use Rattle.std.proofs.Common.{◌≡◌, ◌-◌, ℕ, sym, ap, ◌∙◌, subst, refl, Err, IsTrue, true, false}
+use Rattle.std.proofs.Common.{◌≡◌, ◌-◌, ◌<◌, ℕ, sym, ap, ◌∙◌, subst, refl, Err, IsTrue, IsUtf8, true, false}
 use Rattle.std.proofs.lemmas.Result.{err_from_is_err_and}
-use Rattle.fancy_meaning.specs.Config.{Ends, Goes, Outcome}
+use Rattle.fancy_meaning.specs.Config.{Config, Ends, Goes, Outcome}
 use Rattle.fancy_meaning.specs.Machine as machine
 use Rattle.fancy_meaning.specs.Places.{is_place}
 use Rattle.fancy_laws.proofs.Every.{no_item}
@@ -30,29 +30,76 @@ pub step-requires-clause-place : goal.step-requires-clause-place
 step-requires-clause-place c =
     subst (λ (t : Task). IsTrue (is_place (t.text).now c.steps.self.ix)) (sym c.steps.invariant.task) c.steps.invariant.places.here
 
+-- a step that passed over starts, or rounds of a loop, whatever the machine's task is written as
+passed_leads : (after now task : Task) (here : Config) (passed : ℕ) (new : Config) → after ≡ now → now ≡ task →
+    machine.after_steps (plain_task after) passed (next_of (plain_task now) here) ≡ Goes new →
+    machine.after_steps (plain_task task) passed (next_of (plain_task task) here) ≡ Goes new
+passed_leads after now task here passed new stays same leads =
+    subst (λ (u : Task). machine.after_steps (plain_task u) passed (next_of (plain_task u) here) ≡ Goes new) same
+    (subst (λ (u : Task). machine.after_steps (plain_task u) passed (next_of (plain_task now) here) ≡ Goes new) stays leads)
+
+module _ (task : Task) (here new : Config) (passed : ℕ) (leads : machine.after_steps (plain_task task) passed (next_of (plain_task task) here) ≡ Goes new)
+  where
+    passed_places : IsUtf8 (task.text).now → IsAtPlaces (task.text).now here → IsAtPlaces (task.text).now new
+    passed_places utf8 at =
+        let t = plain_task task in
+        let body = ((task.prog).now).body.items in
+        subst (GoesToPlaces (task.text).now) leads
+        (all_at_places t body utf8 refl passed (next_of t here) (step_at_leads t utf8 body here.pc here at))
+
+    -- the run from there
+    passed_same : (left rest : ℕ) → 0 < left → rest ≡ left - 1 - passed → machine.exec (plain_task task) left here ≡ machine.run (plain_task task) →
+        machine.exec (plain_task task) rest new ≡ machine.run (plain_task task)
+    passed_same left rest some all same =
+        let t = plain_task task in
+        ap (λ n. machine.exec t n new) all
+        ∙ sym (runs_past t passed (left - 1) (next_of t here) new leads)
+        ∙ sym (exec_step t here left (next_of t here) some refl) ∙ same
+
+pub is_over-requires : goal.is_over-requires
+is_over-requires c =
+    let task = c.args.self.now.task in
+    let here = config_of c.steps.self in
+    let new = config_of c.step.new.self in
+    let leads = passed_leads c.step.new.self.task c.steps.self.task task here c.step.new.self.passed new c.in_ok-step.ensures.task c.steps.invariant.task
+    (rw c.in-Passed.is at c.in_ok-step.ensures.leads) in
+    let places = passed_places task here new c.step.new.self.passed leads c.requires.text c.steps.invariant.places in
+    record {
+      place = subst (λ (t : Task). IsTrue (is_place (t.text).now c.step.new.self.ix)) (sym (c.in_ok-step.ensures.task ∙ c.steps.invariant.task)) places.here;
+    }
+
 pub steps-preserved : goal.steps-preserved
 steps-preserved c =
     let task = c.args.self.now.task in
-    let t = plain_task task in
-    let now = config_of c.steps.self in
+    let here = config_of c.steps.self in
     let new = config_of c.step.new.self in
-    let left : ℕ = c.steps.left in
-    let some = c.steps-test.true in
     let passed = c.step.new.self.passed in
-    let leads : machine.after_steps t passed (next_of t now) ≡ Goes new =
-    subst (λ (u : Task). machine.after_steps (plain_task u) passed (next_of (plain_task u) now) ≡ Goes new) c.steps.invariant.task
-    (subst (λ (u : Task). machine.after_steps (plain_task u) passed (next_of (plain_task c.steps.self.task) now) ≡ Goes new) c.in_ok-step.ensures.task
-    (rw c.in-Passed.is at c.in_ok-step.ensures.leads)) in
+    let left : ℕ = c.steps.left in
+    let leads = passed_leads c.step.new.self.task c.steps.self.task task here passed new c.in_ok-step.ensures.task c.steps.invariant.task
+    (rw c.in-Passed.is at c.in_ok-step.ensures.leads) in
     record {
       task = c.in_ok-step.ensures.task ∙ c.steps.invariant.task;
       memos = subst (λ (u : Task). AreMemosOf u c.step.new.memos) c.steps.invariant.task c.in_ok-step.ensures.memos;
-      places = subst (GoesToPlaces task.text.now) leads
-          (all_at_places t task.prog.now.body.items c.requires.text refl passed (next_of t now)
-          (step_at_leads t c.requires.text task.prog.now.body.items c.steps.self.pc now c.steps.invariant.places));
-      same = ap (λ n. machine.exec t n new) c.saturating_sub-left.ensures
-          ∙ sym (runs_past t passed (left - 1) (next_of t now) new leads)
-          ∙ sym (exec_step t now left (next_of t now) some refl) ∙ c.steps.invariant.same;
+      places = passed_places task here new passed leads c.requires.text c.steps.invariant.places;
+      same = passed_same task here new passed leads left c.saturating_sub-left.result c.steps-test.true c.saturating_sub-left.ensures c.steps.invariant.same;
     }
+
+pub returns-then-is_over-clause-task : goal.returns-then-is_over-clause-task
+returns-then-is_over-clause-task c = c.in_ok-step.ensures.task ∙ c.steps.invariant.task
+
+pub returns-then-is_over-clause-finds : goal.returns-then-is_over-clause-finds
+returns-then-is_over-clause-finds c =
+    let task = c.args.self.now.task in
+    let here = config_of c.steps.self in
+    let now = c.step.new.self in
+    let new = config_of now in
+    let left : ℕ = c.steps.left in
+    let rest : ℕ = c.saturating_sub-left.result in
+    let leads = passed_leads now.task c.steps.self.task task here now.passed new c.in_ok-step.ensures.task c.steps.invariant.task
+    (rw c.in-Passed.is at c.in_ok-step.ensures.leads) in
+    sym (passed_same task here new now.passed leads left rest c.steps-test.true c.saturating_sub-left.ensures c.steps.invariant.same)
+    ∙ subst (λ (t : Task). machine.exec (plain_task t) rest new ≡ ending false now) (c.in_ok-step.ensures.task ∙ c.steps.invariant.task)
+    (c.is_over.ensures c.if-is_over.true)
 
 pub steps-preserved-in-On : goal.steps-preserved-in-On
 steps-preserved-in-On c =
