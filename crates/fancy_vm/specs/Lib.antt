@@ -13,6 +13,7 @@ pub mod Bounds
 pub mod Steppers
 pub mod StepperSteps
 pub mod Founds
+pub mod HeldWays
 pub mod SearchLimits
 pub mod SingleBranch
 pub mod LastStarts

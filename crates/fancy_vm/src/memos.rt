@@ -35,7 +35,7 @@ pub(crate) struct Memos {
     run: u64,
     /// What its searches took.
     cost: SearchCost,
-    /// The groups of the last way that took one pass.
+    /// The groups of the last way that took one pass, or was found by `held_way`.
     groups: GroupSpans,
     /// How often one pass over a fragment with groups told nothing in this run.
     unknown: usize,
@@ -135,6 +135,80 @@ impl Memos {
         ensures { result.now ≡ self.now.groups }
     {
         &self.groups
+    }
+
+    /// The span of this group in the last way whose groups are held.
+    pub(crate) fn group(&self, group: usize) -> Option<(usize, usize)>
+        ensures { result ≡ spans_in self.now.groups group }
+    {
+        let first = self.groups.first();
+        if group < first {
+            return None;
+        }
+        match self.groups.spans().get(group - first) {
+            None => None,
+            Some(span) => *span,
+        }
+    }
+
+    /// One pass that tells nothing may be made once more in this run.
+    #[inline(always)]
+    pub(crate) fn allow_one_pass(&mut self)
+        ensures { (task : tasks.Task) → AreMemosOf task self.old → AreMemosOf task self.new }
+    {
+        self.unknown = self.unknown.min(MOST_UNKNOWN - 1);
+    }
+
+    /// The first way from `ix` of the fragment at `pc` of the program: by one pass, or else by a search with what earlier
+    /// ones have noted in this run. Its groups are held. It is not known where memory is refused.
+    pub(crate) fn held_way(
+        &mut self,
+        task: &Task<'_>,
+        fragment: &Fragment,
+        pc: usize,
+        ix: usize,
+    ) -> OnePass
+        requires place { IsTrue (is_place task.now.text.now ix) }
+        requires here { fragment_at task.now pc ≡ Some fragment.now }
+        requires memos { AreMemosOf task.now self.old }
+        ensures way { IsOnePassWayOf
+            task.now.text.now fragment.now ix (spans_in self.new.groups) result }
+        ensures memos { AreMemosOf task.now self.new }
+    {
+        if !fragment.nfa().can_begin(task.text, ix) {
+            return OnePass::Fails;
+        }
+        match self.one_pass_way(task, fragment, ix) {
+            Ok(OnePass::Unknown) => self.searched_way(task, fragment, pc, ix),
+            Ok(way) => way,
+            Err(_) => OnePass::Unknown,
+        }
+    }
+
+    /// The same by the search.
+    #[inline(never)]
+    fn searched_way(
+        &mut self,
+        task: &Task<'_>,
+        fragment: &Fragment,
+        pc: usize,
+        ix: usize,
+    ) -> OnePass
+        requires place { IsTrue (is_place task.now.text.now ix) }
+        requires here { fragment_at task.now pc ≡ Some fragment.now }
+        requires memos { AreMemosOf task.now self.old }
+        ensures way { IsOnePassWayOf
+            task.now.text.now fragment.now ix (spans_in self.new.groups) result }
+        ensures memos { AreMemosOf task.now self.new }
+    {
+        match self.first_way(task, fragment, pc, ix) {
+            Err(_) => OnePass::Unknown,
+            Ok(FirstWay { way: None, .. }) => OnePass::Fails,
+            Ok(FirstWay { way: Some(way), .. }) => match self.groups.hold(&way.spans) {
+                Err(_) => OnePass::Unknown,
+                Ok(()) => OnePass::Ends(way.end),
+            },
+        }
     }
 
     /// The first way from `ix` of a fragment with groups, where it takes one pass: its groups are held. Where that told

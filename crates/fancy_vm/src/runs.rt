@@ -7,6 +7,7 @@ ghost use Rattle.fancy_meaning.specs.Machine as machine;
 ghost use Rattle.fancy_meaning.specs.Fits.{run_fits};
 ghost use Rattle.fancy_meaning.specs.Premises.{IsText};
 ghost use Rattle.fancy_vm.specs.Bounds.{IfLimit, RunMayPass};
+ghost use Rattle.fancy_vm.specs.Founds.{IsMatchWith};
 ghost use Rattle.fancy_vm.specs.Memos.{AreMemosOf};
 ghost use Rattle.fancy_vm.specs.Means.{IsMeaning, IsMeaningPair, answer_in, numbers_of};
 ghost use Rattle.fancy_vm.specs.Outcomes.{RunEnds, RunAnswers, RunAnswersPair, config_of, ending, held_match, plain_task};
@@ -305,6 +306,7 @@ impl Task<'_> {
                 self.write_pair(numbers, start, end)?;
                 Ok(true)
             }
+            Found::WithGroups(start, end) => room.write_match(self, numbers, start, end),
             Found::NoMatch => Ok(false),
             Found::Unknown => room.answer(self, numbers),
         }
@@ -318,7 +320,9 @@ impl Task<'_> {
     {
         room.forget_cost();
         match self.run_by_strategy(room)? {
-            Found::Match(start, end) => Ok(Some((start.min(end), end))),
+            Found::Match(start, end) | Found::WithGroups(start, end) => {
+                Ok(Some((start.min(end), end)))
+            }
             Found::NoMatch => Ok(None),
             Found::Unknown => room.answer_pair(self),
         }
@@ -346,6 +350,25 @@ impl Room {
         if let Some(memos) = &mut self.memos {
             memos.forget_cost();
         }
+    }
+
+    /// Writes the numbers of a match with the groups that the memos hold over these.
+    #[inline(never)]
+    fn write_match(
+        &self,
+        task: &Task<'_>,
+        numbers: &mut Vec<usize>,
+        start: usize,
+        end: usize,
+    ) -> Result<bool, Error>
+        requires { IsMatchWith (plain_task task.now) start end self.now.memos }
+        ensures { RunAnswers (machine.run (plain_task task.now)) (answer_in result numbers.new) }
+    {
+        let Some(memos) = &self.memos else {
+            unreachable!()
+        };
+        task.write_groups(memos, numbers, start, end)?;
+        Ok(true)
     }
 
     /// The machine's answer, whose numbers are written over these.

@@ -17,7 +17,9 @@ const GREATEST_PATIENCE: usize = 1_024;
 const FIRST_PATIENCE: usize = 64;
 /// Attempts that fail at fewer starts than one in so many bytes cost less than the filter.
 const BYTES: usize = 16;
-/// An attempt that takes up so many states counts as one more.
+/// An attempt that makes a search counts as so many.
+const SEARCH: u64 = 4;
+/// One that takes up so many states counts as one more.
 const VISITS: u64 = 32;
 /// To ask costs about as much as so many attempts.
 const ASKING: usize = 8;
@@ -62,9 +64,13 @@ impl StartFilters {
     /// asked, as it always is where only the text's beginning is a start.
     #[inline(always)]
     pub(crate) fn are_due(&mut self, is_first_alone: bool, visits: u64) -> bool {
-        let taken = visits.saturating_sub(self.visits) / VISITS;
-        self.visits = visits;
-        self.left = self.left.saturating_sub(taken.saturating_add(1) as usize);
+        let mut cost = 1;
+        if visits != self.visits {
+            let taken = visits.saturating_sub(self.visits) / VISITS;
+            cost = taken.saturating_add(SEARCH) as usize;
+            self.visits = visits;
+        }
+        self.left = self.left.saturating_sub(cost);
         is_first_alone || self.left == 0
     }
 
