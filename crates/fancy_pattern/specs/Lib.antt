@@ -23,3 +23,4 @@ pub mod Surveyed
 pub mod Stuck
 pub mod Options
 pub mod Messages
+pub mod AtomSpans

@@ -1,6 +1,7 @@
 //! Patterns as they are typed, and their parser.
 #![tactic(auto)]
 
+pub mod atom_spans;
 mod characters;
 mod class_text;
 mod classes;

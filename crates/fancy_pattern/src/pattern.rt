@@ -55,7 +55,7 @@ pub fn parse_tree(
     }
 }
 
-fn chars_of(alloc: Global, pattern: &str) -> Result<Vec<char>, AllocError>
+pub(crate) fn chars_of(alloc: Global, pattern: &str) -> Result<Vec<char>, AllocError>
     ensures { IfOk result (λ v. v.items ≡ chars pattern.now) }
 {
     pattern.chars().collect(alloc)
@@ -94,7 +94,7 @@ fn ignores(options: ParseOptions, tokens: &[Placed<'_>]) -> bool
 }
 
 /// The tokens of a pattern, and whether plain groups capture nothing.
-fn tokens<'a>(
+pub(crate) fn tokens<'a>(
     alloc: Global,
     chars: &'a [char],
     options: ParseOptions,

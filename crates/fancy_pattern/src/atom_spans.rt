@@ -1,0 +1,176 @@
+//! Where the atoms of a pattern stand, so that leaves of its tree can be shown in it.
+
+ghost use Rattle.std.specs.Prelude.{◌≡◌, List, length, map, chars, IfOk};
+ghost use Rattle.fancy_pattern.specs.AtomSpans.{AreAtomSpans, class_end, is_class_close, leaf_count, left_of, leaves_of, one_at_least, span_end, spans_from};
+ghost use Rattle.fancy_pattern.specs.Naming.{pairs_in};
+ghost use Rattle.fancy_pattern.specs.PatternViews.{kept_of, placed_of, reference_of, target_of, token_of};
+
+use crate::facts::Facts;
+use crate::group_names::GroupNames;
+use crate::kept::{Kept, Placed};
+use crate::options::ParseOptions;
+use crate::pattern::{chars_of, tokens};
+use crate::tokens::{Opening, Target, Token};
+use std::alloc::{AllocError, Global};
+
+/// An atom of a pattern: the characters of the pattern from `start` up to `end`, and how many leaves of the tree stand for
+/// it. A leaf is a node without nodes below it; a flags item is no atom.
+#[derive(Clone, Copy, Debug, PartialEq, Eq)]
+pub struct AtomSpan {
+    pub start: usize,
+    pub end: usize,
+    pub leaves: usize,
+}
+
+/// The atoms of a pattern, in the order in which they stand: characters, escapes, classes, references, and conditions that
+/// ask for a group. The leaves of the tree that the pattern spells, but for empty ones, stand in the same order. An error is
+/// a request for memory that was refused.
+pub fn atom_spans(
+    alloc: Global,
+    pattern: &str,
+    options: ParseOptions,
+) -> Result<Vec<AtomSpan>, AllocError>
+    ensures { IfOk result (λ spans. AreAtomSpans options (chars pattern.now) spans.items) }
+{
+    let chars = chars_of(alloc, pattern)?;
+    let (tokens, _) = tokens(alloc, &chars, options)?;
+    let facts = Facts::of(&tokens);
+    let names = GroupNames::of(alloc, &tokens, facts.has_names)?;
+    spans_of(alloc, &names, &tokens, chars.len())
+}
+
+/// The atoms among these tokens of a pattern with so many characters.
+fn spans_of(
+    alloc: Global,
+    names: &GroupNames,
+    tokens: &[Placed<'_>],
+    length: usize,
+) -> Result<Vec<AtomSpan>, AllocError>
+    ensures { IfOk result (λ spans. spans.items
+        ≡ spans_from (pairs_in names.now.pairs) length (map placed_of tokens.now)) }
+{
+    let mut spans = Vec::new(alloc);
+    for at in 0..tokens.len() {
+        let placed = &tokens[at];
+        let leaves = leaf_count(alloc, names, &placed.kept)?;
+        if leaves > 0 {
+            spans.push(AtomSpan {
+                start: length.saturating_sub(placed.left),
+                end: length.saturating_sub(span_end(&placed.kept, &tokens[at + 1..])),
+                leaves,
+            })?;
+        }
+    }
+    Ok(spans)
+}
+
+/// How many leaves stand for the groups with this name, or for the one group that is named otherwise.
+fn leaves_of(alloc: Global, names: &GroupNames, target: Target<'_>) -> Result<usize, AllocError>
+    ensures { IfOk result (λ count. count
+        ≡ leaves_of (pairs_in names.now.pairs) (target_of target.entry)) }
+{
+    match target {
+        Target::Name(name) => Ok(one_at_least(names.find(alloc, name)?.len())),
+        _ => Ok(1),
+    }
+}
+
+fn one_at_least(count: usize) -> usize
+    ensures { result ≡ one_at_least count }
+{
+    if count == 0 { 1 } else { count }
+}
+
+/// How many leaves stand for an atom that begins with this token; none where no atom does.
+fn leaf_count(alloc: Global, names: &GroupNames, kept: &Kept<'_>) -> Result<usize, AllocError>
+    ensures { IfOk result (λ count. count
+        ≡ leaf_count (pairs_in names.now.pairs) (kept_of kept.now)) }
+{
+    match kept {
+        Kept::Leaf(_) => Ok(1),
+        Kept::Set { .. } => Ok(1),
+        Kept::Numbered { .. } => Ok(1),
+        Kept::ClassOpen { .. } => Ok(1),
+        Kept::Wide(wide) => token_leaf_count(alloc, names, wide.token),
+        _ => Ok(0),
+    }
+}
+
+fn token_leaf_count(
+    alloc: Global,
+    names: &GroupNames,
+    token: Token<'_>,
+) -> Result<usize, AllocError>
+    ensures { IfOk result (λ count. count
+        ≡ leaf_count (pairs_in names.now.pairs) (token_of token.entry)) }
+{
+    match token {
+        Token::Leaf(_) => Ok(1),
+        Token::Set { .. } => Ok(1),
+        Token::ClassOpen { .. } => Ok(1),
+        Token::Refer(reference) => leaves_of(alloc, names, reference.target),
+        Token::Open(Opening::If(reference)) => leaves_of(alloc, names, reference.target),
+        _ => Ok(0),
+    }
+}
+
+/// How many characters are left where an atom ends that begins with this token, before which these follow.
+fn span_end(kept: &Kept<'_>, rest: &[Placed<'_>]) -> usize
+    ensures { result ≡ span_end (kept_of kept.now) (map placed_of rest.now) }
+{
+    match kept {
+        Kept::ClassOpen { .. } => class_end(rest),
+        Kept::Wide(wide) => token_span_end(wide.token, rest),
+        _ => left_of(rest),
+    }
+}
+
+fn token_span_end(token: Token<'_>, rest: &[Placed<'_>]) -> usize
+    ensures { result ≡ span_end (token_of token.entry) (map placed_of rest.now) }
+{
+    match token {
+        Token::ClassOpen { .. } => class_end(rest),
+        _ => left_of(rest),
+    }
+}
+
+/// How many characters are left where the first of these tokens begins.
+fn left_of(tokens: &[Placed<'_>]) -> usize
+    ensures { result ≡ left_of (map placed_of tokens.now) }
+{
+    match tokens.first() {
+        Some(placed) => placed.left,
+        None => 0,
+    }
+}
+
+/// How many characters are left behind the class that these tokens close.
+fn class_end(tokens: &[Placed<'_>]) -> usize
+    ensures { result ≡ class_end (map placed_of tokens.now) }
+{
+    for at in 0..tokens.len() {
+        if is_class_close(&tokens[at].kept) {
+            return left_of(&tokens[at + 1..]);
+        }
+    }
+    0
+}
+
+fn is_class_close(kept: &Kept<'_>) -> bool
+    ensures { result ≡ is_class_close (kept_of kept.now) }
+{
+    match kept {
+        Kept::ClassClose => true,
+        Kept::Wide(wide) => is_close(wide.token),
+        _ => false,
+    }
+}
+
+fn is_close(token: Token<'_>) -> bool
+    ensures { result ≡ is_class_close (token_of token.entry) }
+{
+    match token {
+        Token::ClassClose => true,
+        _ => false,
+    }
+}
