@@ -1,6 +1,7 @@
 -- The options of the regex that is searched for.
 use Rattle.std.specs.Prelude.{None, Some}
-use Rattle.fancy_regex.specs.Options.{default_options, default_parsing}
+use Rattle.fancy_pattern.specs.Options.{default_parsing}
+use Rattle.fancy_regex.specs.Options.{default_options}
 use Rattle.fancy_regex.specs.declared.options.RegexOptions.{RegexOptions}
 use Rattle.fancy_grep.specs.declared.patterns.PatternOptions.{PatternOptions}
 

@@ -58,14 +58,7 @@ impl PatternOptions {
     {
         ParseOptions {
             case_insensitive: self.case_insensitive,
-            multi_line: false,
-            dot_matches_new_line: false,
-            ignore_whitespace: false,
-            crlf: false,
-            swap_greed: false,
-            unicode: true,
-            oniguruma: false,
-            ignore_numbered_groups_when_named_groups_exist: false,
+            ..ParseOptions::default()
         }
     }
 }

@@ -7,22 +7,8 @@ use Rattle.fancy_expr.specs.Views.{parsed_of}
 use Rattle.fancy_expr.specs.declared.expr.ExprTree.{ExprTree}
 use Rattle.fancy_matches.specs.Listing.{backtracks_for}
 use Rattle.fancy_vm.specs.declared.search_limits.SearchLimits.{SearchLimits}
-use Rattle.fancy_pattern.specs.declared.options.ParseOptions.{ParseOptions}
+use Rattle.fancy_pattern.specs.Options.{default_parsing}
 use Rattle.fancy_regex.specs.declared.options.RegexOptions.{RegexOptions}
-
--- how a pattern is read unless said otherwise
-abbrev pub default_parsing : ParseOptions
-default_parsing = record {
-  case_insensitive = false;
-  multi_line = false;
-  dot_matches_new_line = false;
-  ignore_whitespace = false;
-  crlf = false;
-  swap_greed = false;
-  unicode = true;
-  oniguruma = false;
-  ignore_numbered_groups_when_named_groups_exist = false;
-}
 
 -- the options unless said otherwise
 abbrev pub default_options : RegexOptions

@@ -39,17 +39,7 @@ impl Default for RegexOptions {
         ensures { result ≡ default_options }
     {
         RegexOptions {
-            parsing: ParseOptions {
-                case_insensitive: false,
-                multi_line: false,
-                dot_matches_new_line: false,
-                ignore_whitespace: false,
-                crlf: false,
-                swap_greed: false,
-                unicode: true,
-                oniguruma: false,
-                ignore_numbered_groups_when_named_groups_exist: false,
-            },
+            parsing: ParseOptions::default(),
             not_empty: false,
             longest: false,
             max_prog_size: Some(100_000),
