@@ -79,7 +79,7 @@ impl std::error::Error for GrammarError {}
 /// Why a text has no tokens.
 #[derive(Debug, Drop)]
 pub enum HighlightError {
-    /// What a begin took at this byte makes no pattern of its end.
+    /// What a begin took, which ends before this byte of the text, makes no pattern of its region's end.
     End { at: usize, fault: Fault },
     /// A request for memory was refused.
     Memory,

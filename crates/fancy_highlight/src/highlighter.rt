@@ -1,7 +1,7 @@
 //! `Highlighter`: the rules of a language, ready to be applied.
 
-ghost use Rattle.std.specs.Prelude.{◌≡◌, IfOk, option_map, slice_get, string_bytes};
-ghost use Rattle.fancy_highlight.specs.Tokens.{Covers};
+ghost use Rattle.std.specs.Prelude.{◌≡◌, IfErr, IfOk, option_map, slice_get, string_bytes};
+ghost use Rattle.fancy_highlight.specs.Tokens.{Covers, IsToldIn};
 
 use crate::error::{GrammarError, HighlightError};
 use crate::grammar::Grammar;
@@ -45,9 +45,11 @@ impl Highlighter {
         }
     }
 
-    /// The tokens of the text.
+    /// The tokens of the text, from its start to its end. An error is an end that makes no pattern, at a place of the text,
+    /// or a request for memory that was refused.
     pub fn highlight(&mut self, text: &str) -> Result<Highlights, HighlightError>
         ensures covers { IfOk result (λ highlights. Covers text.now highlights.tokens.items) }
+        ensures told { IfErr result (IsToldIn text.now) }
     {
         let mut cache = self.scanner.create_cache();
         let scan = self.scanner.scan(text, &mut cache);

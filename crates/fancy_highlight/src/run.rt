@@ -1,8 +1,8 @@
 //! A text from match to match.
 
-ghost use Rattle.std.specs.Prelude.{◌≡◌, ◌<◌, IfOk, IsFalse, IsTrue, OnOk, length, suc};
+ghost use Rattle.std.specs.Prelude.{◌≡◌, ◌<◌, IfErr, IfOk, IsFalse, IsTrue, OnOk, length, suc};
 ghost use Rattle.fancy_matches.specs.Regexes.{span_of};
-ghost use Rattle.fancy_highlight.specs.Tokens.{Covers};
+ghost use Rattle.fancy_highlight.specs.Tokens.{Covers, IsToldIn};
 ghost use Rattle.fancy_scanner.specs.Scans.{text_of};
 
 use crate::error::{Fault, HighlightError};
@@ -86,7 +86,8 @@ impl<'g, 'r, 't> Run<'g, 'r, 't> {
     /// The next match: of the end and the rules that are in force the one that begins first, and of several that begin
     /// there the one that is tried first.
     fn find(&mut self) -> Result<Option<Found<'t>>, HighlightError>
-        ensures { IsSame self.old self.new }
+        ensures same { IsSame self.old self.new }
+        ensures told { IfErr result (IsToldIn self.old.writer.text.now) }
     {
         let at = self.writer.at();
         let step = match self.scan.find_among(&self.top.order, at) {
@@ -133,7 +134,8 @@ impl<'g, 'r, 't> Run<'g, 'r, 't> {
 
     /// The number of the tree of an end that refers back, by its pattern.
     fn tree_of_end(&mut self, pattern: &str) -> Result<usize, HighlightError>
-        ensures { IsSame self.old self.new }
+        ensures same { IsSame self.old self.new }
+        ensures told { IfErr result (IsToldIn self.old.writer.text.now) }
     {
         if let Some(tree) = self.ends.get(pattern) {
             return Ok(*tree);
@@ -178,7 +180,8 @@ impl<'g, 'r, 't> Run<'g, 'r, 't> {
 
     /// The number of the tree of the region's end.
     fn end_of(&mut self, region: &Region, begin: usize) -> Result<usize, HighlightError>
-        ensures { IsSame self.old self.new }
+        ensures same { IsSame self.old self.new }
+        ensures told { IfErr result (IsToldIn self.old.writer.text.now) }
     {
         match &region.end {
             End::Tree(tree) => Ok(*tree),
@@ -258,6 +261,7 @@ impl<'g, 'r, 't> Run<'g, 'r, 't> {
     ) -> Result<Change, HighlightError>
         ensures goes_on { GoesOn self.old self.new }
         ensures changed { IfOk result (λ change. IsChanged change self.old self.new) }
+        ensures told { IfErr result (IsToldIn self.old.writer.text.now) }
     {
         let at = self.writer.at();
         let is_ahead = self.writer.is_ahead(whole.end());
@@ -279,6 +283,7 @@ impl<'g, 'r, 't> Run<'g, 'r, 't> {
     fn end(&mut self, tree: usize, whole: Match<'t>) -> Result<Change, HighlightError>
         ensures goes_on { GoesOn self.old self.new }
         ensures changed { IfOk result (λ change. IsChanged change self.old self.new) }
+        ensures told { IfErr result (IsToldIn self.old.writer.text.now) }
     {
         let Some(region) = self.top.region else {
             return Ok(Change::Nothing);
@@ -300,6 +305,7 @@ impl<'g, 'r, 't> Run<'g, 'r, 't> {
     fn matched(&mut self, rule: &MatchRule, whole: Match<'t>) -> Result<Change, HighlightError>
         ensures goes_on { GoesOn self.old self.new }
         ensures changed { IfOk result (λ change. IsChanged change self.old self.new) }
+        ensures told { IfErr result (IsToldIn self.old.writer.text.now) }
     {
         let scope = self.writer.enter(self.top.inner, &rule.names)?;
         self.write(rule.tree, whole, &rule.captures, scope)?;
@@ -310,6 +316,7 @@ impl<'g, 'r, 't> Run<'g, 'r, 't> {
     fn take(&mut self, found: Found<'t>) -> Result<Change, HighlightError>
         ensures goes_on { GoesOn self.old self.new }
         ensures changed { IfOk result (λ change. IsChanged change self.old self.new) }
+        ensures told { IfErr result (IsToldIn self.old.writer.text.now) }
     {
         let grammar = self.grammar;
         match found.role {
@@ -330,6 +337,7 @@ impl<'g, 'r, 't> Run<'g, 'r, 't> {
         ensures grammar { self.new.grammar.now ≡ self.old.grammar.now }
         ensures within { self.new.writer.text.now ≡ self.old.writer.text.now }
         ensures fewer { OnOk result (steps_left self.new < steps_left self.old) }
+        ensures told { IfErr result (IsToldIn self.old.writer.text.now) }
     {
         let before = self.writer.at();
         let Some(found) = self.find()? else {
@@ -355,7 +363,8 @@ impl<'g, 'r, 't> Run<'g, 'r, 't> {
 
     /// Goes on to the end of the text.
     pub(crate) fn finish(mut self) -> Result<Highlights, HighlightError>
-        ensures { IfOk result (λ h. Covers self.entry.writer.text.now h.tokens.items) }
+        ensures covers { IfOk result (λ h. Covers self.entry.writer.text.now h.tokens.items) }
+        ensures told { IfErr result (IsToldIn self.entry.writer.text.now) }
     {
         let length = self.scan.text().len();
         'steps: while self.writer.at() < length {
