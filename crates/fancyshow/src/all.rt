@@ -6,12 +6,10 @@ use crate::no_match::no_match;
 use crate::outcome::Trouble;
 use crate::refusals::search_refusal;
 use crate::request::Request;
+use crate::source::Span;
 use fancy_expr::error::Error;
 use fancy_matches::found::Captures;
 use std::alloc::{AllocError, Global};
-
-/// Start and end of a match, in bytes of the text.
-type Span = (usize, usize);
 
 /// Writes the lines of a text in which matches stand, with marks below them.
 #[derive(Drop)]
@@ -152,17 +150,28 @@ fn found_by(alloc: Global, searcher: &mut Searcher, text: &str) -> Result<Found,
     Ok(found)
 }
 
-/// The lines in which the matches stand, and then what is written of each.
-fn page(alloc: Global, found: &Found, text: &str, colours: bool) -> Result<String, AllocError> {
+/// The lines of a text in which these parts of it stand, one after the other, with marks below them.
+pub fn marked_lines(
+    alloc: Global,
+    text: &str,
+    spans: &[Span],
+    colours: bool,
+) -> Result<String, AllocError> {
     let mut marker = Marker {
         alloc,
         out: String::new(alloc),
-        left: &found.spans,
+        left: spans,
         colours,
     };
     marker.push_lines(text)?;
-    marker.out.push_str(found.list.as_str())?;
     Ok(marker.out)
+}
+
+/// The lines in which the matches stand, and then what is written of each.
+fn page(alloc: Global, found: &Found, text: &str, colours: bool) -> Result<String, AllocError> {
+    let mut out = marked_lines(alloc, text, &found.spans, colours)?;
+    out.push_str(found.list.as_str())?;
+    Ok(out)
 }
 
 /// All matches: the lines in which they stand, and then each with its groups.

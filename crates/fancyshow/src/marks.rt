@@ -18,11 +18,27 @@ const MOST_LEAVES: usize = 50_000;
 /// How deep the nodes are that are written.
 pub const MOST_LEVELS: usize = 1_010;
 
-/// The text of a tree, and the leaves that have marks in it, from mark 1 on. Mark 0 is of no leaf.
+/// A node that has a mark, and which leaves of the tree it is or has below it: from this one up to another, counted without
+/// those that are empty.
+#[derive(Clone, Copy)]
+pub struct MarkedLeaf<'e> {
+    pub expr: &'e Expr,
+    pub first: usize,
+    pub end: usize,
+}
+
+/// The text of a tree, and what has marks in it, from mark 1 on. Mark 0 is of no node.
 #[derive(Drop)]
 pub struct Marked<'e> {
     pub text: String,
-    pub leaves: Vec<&'e Expr>,
+    pub leaves: Vec<MarkedLeaf<'e>>,
+    /// How many leaves are written that are not empty.
+    pub passed: usize,
+}
+
+/// Whether the node has no node below it, and is not empty.
+pub fn is_plain(expr: &Expr) -> bool {
+    !matches!(expr, Expr::Empty) && part_count(expr) == 0
 }
 
 /// Whether a run can fail at the node, and nothing below it is marked.
@@ -60,6 +76,14 @@ impl<'e> Marked<'e> {
         Marked {
             text: String::new(alloc),
             leaves: Vec::new(alloc),
+            passed: 0,
+        }
+    }
+
+    /// Counts the node, if it is a leaf that is not empty.
+    fn count(&mut self, expr: &Expr) {
+        if is_plain(expr) {
+            self.passed = self.passed.saturating_add(1);
         }
     }
 
@@ -74,7 +98,11 @@ impl<'e> Marked<'e> {
         let is_conditional = matches!(expr, Expr::Conditional { .. });
         let is_marked = is_leaf(expr) && self.leaves.len() < MOST_LEAVES;
         if is_marked {
-            self.leaves.push(expr)?;
+            self.leaves.push(MarkedLeaf {
+                expr,
+                first: self.passed,
+                end: self.passed,
+            })?;
         }
         if is_marked || is_conditional {
             self.text.push_str("(cat ")?;
@@ -95,6 +123,7 @@ impl<'e> Marked<'e> {
             return Ok(());
         }
         let is_open = has_marks && self.open(expr)?;
+        self.count(expr);
         push_head(&mut self.text, expr)?;
         for i in 0..part_count(expr) {
             if !has_marks && self.join(expr, i)? {
@@ -112,20 +141,32 @@ impl<'e> Marked<'e> {
         let Some(text) = joined(expr, i) else {
             return Ok(false);
         };
+        self.passed = self.passed.saturating_add(1);
         self.text.pop();
         push_unquoted(&mut self.text, text)?;
         self.text.push('"')?;
         Ok(true)
     }
 
+    /// Ends the node, and the sequence that began with its mark.
     fn close(&mut self, expr: &Expr, is_open: bool) -> Result<(), AllocError> {
         if has_brackets(expr) {
             self.text.push(')')?;
         }
         if is_open {
+            self.end_leaf(expr);
             self.text.push(')')?;
         }
         Ok(())
+    }
+
+    /// The node with the newest mark, if this is one, has no further leaves.
+    fn end_leaf(&mut self, expr: &Expr) {
+        if is_leaf(expr) {
+            if let Some(leaf) = self.leaves.last_mut() {
+                leaf.end = self.passed;
+            }
+        }
     }
 
     /// Writes the whole tree with marks, and mark 0 behind it.

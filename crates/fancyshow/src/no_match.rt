@@ -1,7 +1,7 @@
 //! What is said where there is no match: that, and which class takes no character, as it may be meant otherwise.
 
 use crate::find::captures;
-use crate::marks::{Marked, notation};
+use crate::marks::{Marked, MarkedLeaf, notation};
 use crate::outcome::Trouble;
 use crate::request::Request;
 use crate::source::read;
@@ -62,12 +62,12 @@ fn takes_nothing(
 fn empty_class<'e>(
     alloc: Global,
     request: &Request,
-    leaves: &[&'e Expr],
+    leaves: &[MarkedLeaf<'e>],
 ) -> Result<Option<&'e str>, Trouble> {
     let text = characters(alloc)?;
     for leaf in leaves.iter().take(MOST_CLASSES) {
-        if let Expr::Delegate { inner, .. } = leaf {
-            if takes_nothing(alloc, request, leaf, text.as_str())? {
+        if let Expr::Delegate { inner, .. } = leaf.expr {
+            if takes_nothing(alloc, request, leaf.expr, text.as_str())? {
                 return Ok(Some(inner.as_str()));
             }
         }

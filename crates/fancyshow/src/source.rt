@@ -1,4 +1,4 @@
-//! The tree that is asked about: what a pattern spells, or what the notation of trees does.
+//! The tree that is asked about: what a pattern spells, or what the notation of trees does; and where its leaves stand.
 
 ghost use Rattle.std.specs.Prelude.{IfOk};
 ghost use Rattle.fancy_expr.specs.Sound.{IsWellFormedTree};
@@ -10,9 +10,13 @@ use fancy_command::command::MOST_DEPTH;
 use fancy_expr::expr::ExprTree;
 use fancy_notation::depth::depth;
 use fancy_notation::notation::read_tree;
+use fancy_pattern::atom_spans::atom_spans;
 use fancy_pattern::options::ParseOptions;
 use fancy_pattern::pattern::parse_tree;
-use std::alloc::Global;
+use std::alloc::{AllocError, Global};
+
+/// Start and end of a part of a text, in bytes.
+pub type Span = (usize, usize);
 
 /// The tree that is asked about.
 pub fn read(alloc: Global, request: &Request) -> Result<ExprTree, Trouble>
@@ -38,15 +42,47 @@ fn tree_of_notation(alloc: Global, text: &str) -> Result<ExprTree, Trouble>
     }
 }
 
+/// How a pattern is read.
+fn parsing(unicode: bool) -> ParseOptions {
+    ParseOptions {
+        unicode,
+        ..ParseOptions::default()
+    }
+}
+
 fn tree_of_pattern(alloc: Global, pattern: &str, unicode: bool) -> Result<ExprTree, Trouble>
     ensures { IfOk result IsWellFormedTree }
 {
-    let options = ParseOptions {
-        unicode,
-        ..ParseOptions::default()
-    };
-    match parse_tree(alloc, pattern, options) {
+    match parse_tree(alloc, pattern, parsing(unicode)) {
         Ok(tree) => Ok(tree),
         Err(error) => Err(pattern_refusal(alloc, pattern, &error)),
     }
+}
+
+/// Where the leaves of a pattern's tree stand in it, in bytes: one span for each leaf that is not empty, in order. A tree
+/// that was not read from a pattern has none.
+pub fn leaf_spans(alloc: Global, request: &Request) -> Result<Vec<Span>, AllocError> {
+    let mut spans = Vec::new(alloc);
+    if request.is_tree {
+        return Ok(spans);
+    }
+    let pattern = request.source.as_str();
+    let bytes = character_bytes(alloc, pattern)?;
+    for atom in atom_spans(alloc, pattern, parsing(!request.arguments.ascii))?.iter() {
+        let start = bytes.get(atom.start).copied().unwrap_or(pattern.len());
+        let end = bytes.get(atom.end).copied().unwrap_or(pattern.len());
+        for _ in 0..atom.leaves {
+            spans.push((start, end))?;
+        }
+    }
+    Ok(spans)
+}
+
+/// The byte where each character begins.
+fn character_bytes(alloc: Global, text: &str) -> Result<Vec<usize>, AllocError> {
+    let mut bytes = Vec::new(alloc);
+    for (at, _) in text.char_indices() {
+        bytes.push(at)?;
+    }
+    Ok(bytes)
 }

@@ -3,13 +3,14 @@
 ghost use Rattle.fancy_expr.specs.Sound.{IsWellFormedTree};
 
 use crate::blame::{Whole, is_blamed};
-use crate::excerpt::push_times;
+use crate::excerpt::{push_shown, push_times};
 use crate::list::compile;
+use crate::marks::is_plain;
 use crate::nodes::{group_of, push_node};
 use crate::outcome::Trouble;
 use crate::refusals::refusal;
 use crate::request::Request;
-use crate::source::read;
+use crate::source::{Span, leaf_spans, read};
 use fancy_analysis::analyze::analyze;
 use fancy_command::command::MOST_DEPTH;
 use fancy_expr::error::{CompileError, Error};
@@ -35,10 +36,15 @@ struct Node<'i, 'a> {
 
 /// What is written about a tree.
 #[derive(Drop)]
-struct Page<'r> {
+struct Page<'r, 'p> {
     alloc: Global,
     out: String,
     names: GroupNames,
+    pattern: &'p str,
+    /// Where the leaves stand in the pattern, without those that are empty.
+    spans: Vec<Span>,
+    /// How many of them are written.
+    passed: usize,
     /// Why the tree is refused.
     refused: Option<&'r CompileError>,
     tree: Whole,
@@ -71,7 +77,7 @@ fn push_facts(out: &mut String, info: &Info<'_>) -> Result<(), AllocError> {
     write!(out, ", {hard}{read}{around}")
 }
 
-impl Page<'_> {
+impl Page<'_, '_> {
     /// Writes the name of the group that the node is or names, if it has one.
     fn push_name(&mut self, node: Node<'_, '_>) -> Result<(), AllocError> {
         let Some(group) = group_of(node.expr, node.group) else {
@@ -94,8 +100,24 @@ impl Page<'_> {
             let count = line.chars().count();
             push_times(&mut self.out, ' ', COLUMN.saturating_sub(count).max(2))?;
             push_facts(&mut self.out, info)?;
+            self.push_piece(node)?;
         }
         Ok(())
+    }
+
+    /// Writes where a leaf stands in the pattern, and what stands there.
+    fn push_piece(&mut self, node: Node<'_, '_>) -> Result<(), AllocError> {
+        if !is_plain(node.expr) {
+            return Ok(());
+        }
+        let span = self.spans.get(self.passed).copied();
+        self.passed = self.passed.saturating_add(1);
+        let Some((start, end)) = span else {
+            return Ok(());
+        };
+        let piece = self.pattern.get(start..end).unwrap_or("");
+        write!(self.out, ", {start}..{end} ")?;
+        push_shown(&mut self.out, piece)
     }
 
     /// Marks the node where the refusal speaks of it.
@@ -160,6 +182,9 @@ fn write_page<'a>(
         alloc,
         out: String::new(alloc),
         names: GroupNames::new(alloc, &tree.named_groups)?,
+        pattern: request.source.as_str(),
+        spans: leaf_spans(alloc, request)?,
+        passed: 0,
         refused,
         tree: Whole {
             groups: tree.total_groups,

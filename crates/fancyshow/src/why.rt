@@ -1,14 +1,15 @@
 //! Why a text has no match: how far the attempt comes that comes furthest, and what does not follow there.
 
+use crate::all::marked_lines;
 use crate::excerpt::push_excerpt;
 use crate::find::{captures, push_match, push_taken};
 use crate::furthest::{Furthest, watch_run};
 use crate::list::compile;
-use crate::marks::{Marked, notation};
+use crate::marks::{Marked, MarkedLeaf, notation};
 use crate::outcome::Trouble;
 use crate::refusals::refusal;
 use crate::request::Request;
-use crate::source::read;
+use crate::source::{Span, leaf_spans, read};
 use fancy_command::arguments::Arguments;
 use fancy_expr::error::Error;
 use fancy_expr::expr::{Absent, Expr, ExprTree};
@@ -17,6 +18,7 @@ use fancy_railroad::names::GroupNames;
 use fancy_railroad::words::{frame_words, push_words};
 use fancy_vm::vm::RunOptions;
 use std::alloc::{AllocError, Global};
+use std::mem;
 
 /// A run is watched for so many instructions.
 const MOST_STEPS: u64 = 200_000;
@@ -81,7 +83,7 @@ fn wanted(
 /// What is wanted at the furthest place, each once.
 fn all_wanted(
     alloc: Global,
-    leaves: &[&Expr],
+    leaves: &[MarkedLeaf<'_>],
     furthest: &Furthest,
     names: &GroupNames,
     is_tree: bool,
@@ -89,7 +91,7 @@ fn all_wanted(
     let mut all: Vec<String> = Vec::new(alloc);
     for mark in furthest.wanted.iter() {
         if let Some(leaf) = leaves.get(mark.saturating_sub(1)) {
-            let said = wanted(alloc, leaf, names, is_tree)?;
+            let said = wanted(alloc, leaf.expr, names, is_tree)?;
             if !all.contains(&said) {
                 all.push(said)?;
             }
@@ -135,6 +137,60 @@ fn push_furthest(
     out.push('\n')
 }
 
+/// The pieces of the pattern that do not follow; none where it is not known where the leaves stand.
+fn pieces(
+    alloc: Global,
+    marked: &Marked<'_>,
+    spans: &[Span],
+    furthest: &Furthest,
+) -> Result<Vec<Span>, AllocError> {
+    let mut pieces = Vec::new(alloc);
+    if spans.len() != marked.passed {
+        return Ok(pieces);
+    }
+    for (i, leaf) in marked.leaves.iter().enumerate() {
+        let last = leaf.end.saturating_sub(1);
+        if let (Some((start, _)), Some((_, end))) = (spans.get(leaf.first), spans.get(last)) {
+            if furthest.wanted.contains(&i.saturating_add(1)) {
+                pieces.push((*start, *end))?;
+            }
+        }
+    }
+    Ok(pieces)
+}
+
+/// The lines of the pattern with what does not follow marked in them; nothing of a tree that was not read from a pattern.
+fn marked_pattern(
+    alloc: Global,
+    request: &Request,
+    marked: &Marked<'_>,
+    furthest: &Furthest,
+) -> Result<String, AllocError> {
+    let spans = leaf_spans(alloc, request)?;
+    let pieces = pieces(alloc, marked, &spans, furthest)?;
+    marked_lines(alloc, request.source.as_str(), &pieces, false)
+}
+
+/// How far the attempts come, what does not follow there, and where that stands in the pattern.
+fn explain_furthest(
+    alloc: Global,
+    request: &Request,
+    tree: &ExprTree,
+    marked: &Marked<'_>,
+    text: &str,
+    furthest: &Furthest,
+) -> Result<String, AllocError> {
+    let mut out = String::from_str(alloc, "no match\n")?;
+    let names = GroupNames::new(alloc, &tree.named_groups)?;
+    let all = all_wanted(alloc, &marked.leaves, furthest, &names, request.is_tree)?;
+    push_furthest(&mut out, text, furthest, &all)?;
+    let lines = marked_pattern(alloc, request, marked, furthest)?;
+    if !lines.is_empty() {
+        write!(out, "in the pattern:\n{lines}")?;
+    }
+    Ok(out)
+}
+
 /// Explains why the tree has no match, by a run of it with marks.
 fn explain_tree(
     alloc: Global,
@@ -144,23 +200,17 @@ fn explain_tree(
 ) -> Result<String, Error> {
     let mut marked = Marked::new(alloc);
     marked.push_tree(&tree.expr)?;
-    let Marked {
-        text: source,
-        leaves,
-    } = marked;
-    let marked = Request {
+    let source = mem::replace(&mut marked.text, String::new(alloc));
+    let watched = Request {
         source,
         is_tree: true,
         arguments: watched(&request.arguments),
         limits: request.limits,
     };
-    let mut out = String::from_str(alloc, "no match\n")?;
-    if let Some(furthest) = watch(alloc, &marked, text)? {
-        let names = GroupNames::new(alloc, &tree.named_groups)?;
-        let all = all_wanted(alloc, &leaves, &furthest, &names, request.is_tree)?;
-        push_furthest(&mut out, text, &furthest, &all)?;
+    match watch(alloc, &watched, text)? {
+        Some(furthest) => Ok(explain_furthest(alloc, request, tree, &marked, text, &furthest)?),
+        None => Ok(String::from_str(alloc, "no match\n")?),
     }
-    Ok(out)
 }
 
 fn explain(alloc: Global, request: &Request, text: &str) -> Result<String, Trouble> {
