@@ -1,6 +1,6 @@
 //! The vector scan: where in 32 bytes of a text one of a few needles stands, or a character that is not ASCII.
 
-ghost use Rattle.std.specs.Prelude.{◌≡◌, ◌<◌, ◌≤◌, ◌+◌, ℕ, IfSome, IsTrue, None, Some, false, length, map};
+ghost use Rattle.std.specs.Prelude.{◌≡◌, ◌<◌, ◌≤◌, ◌+◌, ℕ, IfSome, IsTrue, None, Some, false, is_some, length, map, true};
 ghost use Rattle.std.specs.List.{range_with_len};
 ghost use Rattle.std.specs.Simd.Lanes.{mask_l};
 ghost use Rattle.fancy_program.specs.StartRuns.{AreBare, AreSingle, AreNeedlesOf, IsBare, IsSingle, is_candidate};
@@ -33,24 +33,14 @@ pub(crate) struct NeedlePair {
     pub(crate) second: Option<Needles>,
 }
 
-/// What is known of needles before a scan, which saves comparisons.
-#[derive(Clone, Copy)]
-pub(crate) struct ScanKind {
-    /// Each range of needles is one character.
-    pub(crate) is_single: bool,
-    /// There are no needles but the ranges.
-    pub(crate) is_bare: bool,
-}
+/// Needles of which nothing is known.
+pub(crate) const ANY: usize = 0;
 
-impl ScanKind {
-    #[inline(always)]
-    pub(crate) fn of(is_single: bool, is_bare: bool) -> ScanKind
-        ensures single { result.is_single ≡ is_single }
-        ensures bare { result.is_bare ≡ is_bare }
-    {
-        ScanKind { is_single, is_bare }
-    }
-}
+/// Needles of which each range is one character.
+pub(crate) const BYTES: usize = 1;
+
+/// Needles that are one character.
+pub(crate) const ONE_BYTE: usize = 2;
 
 impl Needles {
     /// No character.
@@ -120,38 +110,60 @@ pub(crate) fn is_common(byte: u8) -> bool {
 }
 
 impl NeedlePair {
-    /// What is known of these needles.
-    pub(crate) fn kind(self) -> ScanKind
-        ensures single { IsTrue result.is_single → AreSingle self }
-        ensures bare { IsTrue result.is_bare → AreBare self }
+    /// What is known of these needles, which saves comparisons: `ANY`, `BYTES` or `ONE_BYTE`.
+    pub(crate) fn kind(self) -> usize
+        ensures single { BYTES ≤ result → AreSingle self }
+        ensures bare { ONE_BYTE ≤ result → AreBare self }
     {
-        let needles = self.first;
+        if !self.are_single() {
+            ANY
+        } else if self.are_bare() {
+            ONE_BYTE
+        } else {
+            BYTES
+        }
+    }
+
+    /// Each range is one character.
+    fn are_single(self) -> bool
+        ensures { IsTrue result → AreSingle self }
+    {
         match self.second {
-            None => ScanKind {
-                is_single: needles.is_single(),
-                is_bare: needles.is_bare(),
-            },
-            Some(second) => ScanKind {
-                is_single: needles.is_single() && second.is_single(),
-                is_bare: needles.is_bare() && second.is_bare(),
-            },
+            None => self.first.is_single(),
+            Some(second) => self.first.is_single() && second.is_single(),
+        }
+    }
+
+    /// There are no needles but the ranges.
+    fn are_bare(self) -> bool
+        ensures { IsTrue result → AreBare self }
+    {
+        match self.second {
+            None => self.first.is_bare(),
+            Some(second) => self.first.is_bare() && second.is_bare(),
         }
     }
 
     /// How many positions of the vector at `pos` come before the first candidate, if there is one. The byte after the
-    /// vector is read too.
+    /// vector is read too. A candidate has `LEN` bytes, one or two, and of the needles `KIND` is known.
     #[inline(always)]
-    pub(crate) fn first_candidate(self, text: &[u8], pos: usize, kind: ScanKind) -> Option<usize>
+    pub(crate) fn first_candidate<const LEN: usize, const KIND: usize>(
+        self,
+        text: &[u8],
+        pos: usize,
+    ) -> Option<usize>
         requires room { pos + VECTOR < length text.now }
-        requires single { IsTrue kind.is_single → AreSingle self }
-        requires bare { IsTrue kind.is_bare → AreBare self }
+        requires one { LEN ≡ 1 → self.second ≡ None }
+        requires two { (LEN ≡ 1 → ⊥) → is_some self.second ≡ true }
+        requires single { BYTES ≤ KIND → AreSingle self }
+        requires bare { ONE_BYTE ≤ KIND → AreBare self }
         ensures none { result ≡ None → (k : ℕ) → pos ≤ k → k < pos + VECTOR
             → is_candidate self text.now k ≡ false }
         ensures within { IfSome result (λ count. count ≤ VECTOR) }
         ensures before { IfSome result (λ count. (k : ℕ) → pos ≤ k → k < pos + count
             → is_candidate self text.now k ≡ false) }
     {
-        let candidates = self.candidates(text, pos, kind);
+        let candidates = self.candidates::<LEN, KIND>(text, pos);
         if candidates == 0 {
             return None;
         }
@@ -161,18 +173,19 @@ impl NeedlePair {
     /// The first position from `pos` on that has a candidate in the next 128 bytes, or fewer bytes than that up to `end`.
     /// It is `pos` where the last candidate, at `near`, is not far.
     #[inline(always)]
-    pub(crate) fn past_quiet(
+    pub(crate) fn past_quiet<const LEN: usize, const KIND: usize>(
         self,
         text: &[u8],
         near: usize,
         pos: usize,
         end: usize,
-        kind: ScanKind,
     ) -> usize
         requires order { pos < end }
         requires room { end ≤ length text.now }
-        requires single { IsTrue kind.is_single → AreSingle self }
-        requires bare { IsTrue kind.is_bare → AreBare self }
+        requires one { LEN ≡ 1 → self.second ≡ None }
+        requires two { (LEN ≡ 1 → ⊥) → is_some self.second ≡ true }
+        requires single { BYTES ≤ KIND → AreSingle self }
+        requires bare { ONE_BYTE ≤ KIND → AreBare self }
         ensures order { pos ≤ result }
         ensures within { result < end }
         ensures quiet { (k : ℕ) → pos ≤ k → k < result → is_candidate self text.now k ≡ false }
@@ -181,7 +194,7 @@ impl NeedlePair {
             return pos;
         }
         let mut at = pos;
-        'quiet: while WIDE < end - at && self.is_quiet(text, at, kind) {
+        'quiet: while WIDE < end - at && self.is_quiet::<LEN, KIND>(text, at) {
             at += WIDE;
         }
         at
@@ -189,40 +202,47 @@ impl NeedlePair {
 
     /// There is no candidate in the 128 bytes from `pos` on. The byte after them is read too.
     #[inline(always)]
-    fn is_quiet(self, text: &[u8], pos: usize, kind: ScanKind) -> bool
+    fn is_quiet<const LEN: usize, const KIND: usize>(self, text: &[u8], pos: usize) -> bool
         requires room { pos + WIDE < length text.now }
-        requires single { IsTrue kind.is_single → AreSingle self }
-        requires bare { IsTrue kind.is_bare → AreBare self }
+        requires one { LEN ≡ 1 → self.second ≡ None }
+        requires two { (LEN ≡ 1 → ⊥) → is_some self.second ≡ true }
+        requires single { BYTES ≤ KIND → AreSingle self }
+        requires bare { ONE_BYTE ≤ KIND → AreBare self }
         ensures { IsTrue result → (k : ℕ) → pos ≤ k → k < pos + WIDE
             → is_candidate self text.now k ≡ false }
     {
-        let first = self.candidates(text, pos, kind) == 0;
-        let second = self.candidates(text, pos + VECTOR, kind) == 0;
-        let third = self.candidates(text, pos + 2 * VECTOR, kind) == 0;
-        let fourth = self.candidates(text, pos + 3 * VECTOR, kind) == 0;
+        let first = self.candidates::<LEN, KIND>(text, pos) == 0;
+        let second = self.candidates::<LEN, KIND>(text, pos + VECTOR) == 0;
+        let third = self.candidates::<LEN, KIND>(text, pos + 2 * VECTOR) == 0;
+        let fourth = self.candidates::<LEN, KIND>(text, pos + 3 * VECTOR) == 0;
         (first & second) & (third & fourth)
     }
 
-    /// A bit for each candidate of the vector.
+    /// A bit for each candidate of the vector. Each kind has a copy of its own: where LLVM joins their masks it takes
+    /// them apart bit by bit.
     #[inline(always)]
-    fn candidates(self, text: &[u8], pos: usize, kind: ScanKind) -> u64
+    fn candidates<const LEN: usize, const KIND: usize>(self, text: &[u8], pos: usize) -> u64
         requires room { pos + VECTOR < length text.now }
-        requires single { IsTrue kind.is_single → AreSingle self }
-        requires bare { IsTrue kind.is_bare → AreBare self }
+        requires one { LEN ≡ 1 → self.second ≡ None }
+        requires two { (LEN ≡ 1 → ⊥) → is_some self.second ≡ true }
+        requires single { BYTES ≤ KIND → AreSingle self }
+        requires bare { ONE_BYTE ≤ KIND → AreBare self }
         ensures { result ≡ mask_l (map (is_candidate self text.now) (range_with_len pos VECTOR)) }
     {
-        match self.second {
-            None => self.candidates_of_one(text, pos, kind),
-            Some(second) => self.candidates_of_pair(second, text, pos, kind),
+        if LEN == 1 {
+            self.candidates_of_one::<KIND>(text, pos)
+        } else {
+            let second = self.second.unwrap_or(self.first);
+            self.candidates_of_pair::<KIND>(second, text, pos)
         }
     }
 
     /// The candidates where there are no second needles.
     #[inline(always)]
-    fn candidates_of_one(self, text: &[u8], pos: usize, kind: ScanKind) -> u64
+    fn candidates_of_one<const KIND: usize>(self, text: &[u8], pos: usize) -> u64
         requires room { pos + VECTOR < length text.now }
-        requires single { IsTrue kind.is_single → AreSingle self }
-        requires bare { IsTrue kind.is_bare → AreBare self }
+        requires single { BYTES ≤ KIND → AreSingle self }
+        requires bare { ONE_BYTE ≤ KIND → AreBare self }
         requires none { self.second ≡ None }
         ensures { result ≡ mask_l (map (is_candidate self text.now) (range_with_len pos VECTOR)) }
     {
@@ -230,12 +250,12 @@ impl NeedlePair {
         let block = u8x32::from_slice(&text[pos..]);
         let high = block.simd_ge(u8x32::splat(128));
         let one = high | block.simd_eq(u8x32::splat(needles.first));
-        if kind.is_single && kind.is_bare {
+        if KIND >= ONE_BYTE {
             return one.to_bitmask();
         }
         let others = block.simd_eq(u8x32::splat(needles.second))
             | block.simd_eq(u8x32::splat(needles.third));
-        if kind.is_single {
+        if KIND >= BYTES {
             return (one | others).to_bitmask();
         }
         let range = block.simd_ge(u8x32::splat(needles.first))
@@ -245,10 +265,10 @@ impl NeedlePair {
 
     /// The candidates where these are the second needles.
     #[inline(always)]
-    fn candidates_of_pair(self, second: Needles, text: &[u8], pos: usize, kind: ScanKind) -> u64
+    fn candidates_of_pair<const KIND: usize>(self, second: Needles, text: &[u8], pos: usize) -> u64
         requires room { pos + VECTOR < length text.now }
-        requires single { IsTrue kind.is_single → AreSingle self }
-        requires bare { IsTrue kind.is_bare → AreBare self }
+        requires single { BYTES ≤ KIND → AreSingle self }
+        requires bare { ONE_BYTE ≤ KIND → AreBare self }
         requires second { self.second ≡ Some second }
         ensures { result ≡ mask_l (map (is_candidate self text.now) (range_with_len pos VECTOR)) }
     {
@@ -259,14 +279,14 @@ impl NeedlePair {
         let high_after = after.simd_ge(u8x32::splat(128));
         let one = high | block.simd_eq(u8x32::splat(needles.first));
         let one_after = high_after | after.simd_eq(u8x32::splat(second.first));
-        if kind.is_single && kind.is_bare {
+        if KIND >= ONE_BYTE {
             return ((one & one_after) | high).to_bitmask();
         }
         let others = block.simd_eq(u8x32::splat(needles.second))
             | block.simd_eq(u8x32::splat(needles.third));
         let others_after = after.simd_eq(u8x32::splat(second.second))
             | after.simd_eq(u8x32::splat(second.third));
-        if kind.is_single {
+        if KIND >= BYTES {
             return (((one | others) & (one_after | others_after)) | high).to_bitmask();
         }
         let range = block.simd_ge(u8x32::splat(needles.first))

@@ -4,8 +4,8 @@ use Rattle.std.specs.Simd.Lanes.{chunk}
 use Rattle.fancy_program.proofs.VectorScanLaws.{lanes_of_all, lanes_of_bare, lanes_of_range, lanes_of_single, candidates_of_pair}
 use Rattle.fancy_program.proofs.vector_scan.NeedlePair.candidates_of_pair.Goals as goal
 
-pub returns-then-kind-2 : goal.returns-then-kind-2
-returns-then-kind-2 c =
+pub returns-then-this-ge-ONE_BYTE : goal.returns-then-this-ge-ONE_BYTE
+returns-then-this-ge-ONE_BYTE g c =
     let text = c.args.text.now in
     let pos = c.args.pos in
     let needles = c.args.self.first in
@@ -14,15 +14,15 @@ returns-then-kind-2 c =
     let room : pos + 1 + 32 ≤ length text = omega (arith, c.requires.room) in
     let here = length-chunk pos 32 text near in
     let after = length-chunk (pos + 1) 32 text room in
-    let single = c.requires.single c.if-kind.true in
-    let bare = c.requires.bare c.if-kind-2.true in
+    let single = c.requires.single (omega (arith, c.if-this-ge-ONE_BYTE.true)) in
+    let bare = c.requires.bare c.if-this-ge-ONE_BYTE.true in
     candidates_of_pair c.args.self text pos c.requires.room second c.requires.second
     (lanes_of_bare needles (chunk pos 32 text) bare.0 (lanes_of_single needles (chunk pos 32 text) single.0 here) here)
     (lanes_of_bare second (chunk (pos + 1) 32 text) (bare.1 second c.requires.second)
     (lanes_of_single second (chunk (pos + 1) 32 text) (single.1 second c.requires.second) after) after)
 
-pub returns-then-kind-3 : goal.returns-then-kind-3
-returns-then-kind-3 c =
+pub returns-then-this-ge-BYTES : goal.returns-then-this-ge-BYTES
+returns-then-this-ge-BYTES g c =
     let text = c.args.text.now in
     let pos = c.args.pos in
     let needles = c.args.self.first in
@@ -31,13 +31,13 @@ returns-then-kind-3 c =
     let room : pos + 1 + 32 ≤ length text = omega (arith, c.requires.room) in
     let here = length-chunk pos 32 text near in
     let after = length-chunk (pos + 1) 32 text room in
-    let single = c.requires.single c.if-kind-3.true in
+    let single = c.requires.single c.if-this-ge-BYTES.true in
     candidates_of_pair c.args.self text pos c.requires.room second c.requires.second
     (lanes_of_all needles (chunk pos 32 text) (lanes_of_single needles (chunk pos 32 text) single.0 here) here)
     (lanes_of_all second (chunk (pos + 1) 32 text) (lanes_of_single second (chunk (pos + 1) 32 text) (single.1 second c.requires.second) after) after)
 
 pub returns : goal.returns
-returns c =
+returns g c =
     let text = c.args.text.now in
     let pos = c.args.pos in
     let needles = c.args.self.first in

@@ -5,7 +5,7 @@ use Rattle.fancy_program.proofs.VectorScanLaws.{both_true, none_marked, quiet_mo
 use Rattle.fancy_program.proofs.vector_scan.NeedlePair.is_quiet.Goals as goal
 
 pub returns : goal.returns
-returns c quiet =
+returns g c quiet =
     let p = is_candidate c.args.self c.args.text.now in
     let pos : ℕ = c.args.pos in
     let all = both_true _ _ quiet in
