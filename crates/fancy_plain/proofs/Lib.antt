@@ -13,6 +13,7 @@ pub mod KeptLaws
 pub mod FirstSetLaws
 pub mod RequiredBytesLaws
 pub mod GroupSpansLaws
+pub mod DeadEndLaws
 pub mod OnePassLaws
 pub mod CountedLaws
 pub mod ThreadsLaws

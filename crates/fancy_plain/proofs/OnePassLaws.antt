@@ -1,6 +1,6 @@
 -- Ways that a search comes to without taking a choice back.
-use Rattle.std.proofs.Common.{◌≡◌, ◌≤◌, ◌<◌, ◌+◌, ◌-◌, ◌&&◌, ◌∷◌, ◌++◌, ℕ, zero, suc, true≢false, Bool, true, false, List, [], Option, Some, None, Result, Ok, Err, IfOk, IsTrue, if◌then◌else◌, option_map, map, not, slice_get, slice_index_or, refl, sym, ap, ◌∙◌, subst, arith}
-use Rattle.std.proofs.lemmas.Bool.{cond-false}
+use Rattle.std.proofs.Common.{◌≡◌, ◌≤◌, ◌<◌, ◌+◌, ◌-◌, ◌&&◌, ◌==◌, ◌∷◌, ℕ, zero, suc, true≢false, Bool, true, false, List, [], Option, Some, None, Result, Ok, Err, IfOk, IsTrue, if◌then◌else◌, option_map, map, not, slice_get, slice_index_or, refl, sym, ap, ◌∙◌, subst, arith}
+use Rattle.std.proofs.lemmas.Bool.{cond-false, eqb-true}
 use Rattle.std.proofs.lemmas.Str.{len_utf8_bounds}
 use denote.Bor.{Bor}
 use Rattle.std.specs.declared.alloc.AllocError.{AllocError}
@@ -26,7 +26,7 @@ use Rattle.fancy_plain.specs.declared.nfa.Nfa.{Nfa}
 use Rattle.fancy_plain.specs.AsciiRuns.{AllPass, is_before}
 use Rattle.fancy_plain.specs.Runs.{FailsFrom, IsBody, Passes}
 use Rattle.fancy_plain.specs.Searches.{after_steps_of, next_of}
-use Rattle.fancy_plain.specs.OnePass.{AreFails, EndsOnePass, EndsOnePassWith, Finds, IsBlank, IsFirstTest, IsOnePass, IsOnePassWay, IsSeenWay, Loses, RunsLazily, RunsOn, RunsPast, Succeeds, Walks, closed_at, config_at, opened_at}
+use Rattle.fancy_plain.specs.OnePass.{AreFails, EndsOnePass, EndsOnePassWith, Finds, IsBlank, IsChoice, IsDeadEnd, IsFirstTest, IsOnePass, IsOnePassWay, IsSeenWay, Loses, RunsLazily, RunsOn, RunsPast, Succeeds, Walks, closed_by, config_at, opened_at}
 use Rattle.fancy_plain.specs.declared.counted_ways.Passed.{Passed}
 use Rattle.fancy_plain.specs.declared.counted_ways.Passed.TheVariants as passed
 use Rattle.fancy_plain.specs.declared.group_spans.GroupSpans.{GroupSpans}
@@ -53,6 +53,12 @@ and_parts false c e = absurd (true≢false (sym e))
 
 not_sure : {A : Type 0} → false ≡ true → A
 not_sure e = cc
+
+-- there is no place between one and itself
+pub none_between : (from i to : ℕ) → (to == from) ≡ true → from ≤ i → i < to → ⊥
+none_between from i to same above below =
+    let e = eqb-true to from same in
+    omega (arith, e, above, below)
 
 module _ (searcher : Searcher) where
   abbrev pub Test : CharTest → ℕ → Bool
@@ -83,9 +89,12 @@ module _ (searcher : Searcher) where
   pub unsure : (s t : plain.NfaConfig) → Walks searcher true s t → Walks searcher false s t
   unsure s t w = joined true true false s t t (λ e. not_sure e) w (stays t)
 
+  -- as sure as may be
+  pub as_sure : (b : Bool) (s t : plain.NfaConfig) → Walks searcher true s t → Walks searcher b s t
+  as_sure b s t w = joined true true b s t t (λ e. (refl, refl)) w (stays t)
+
   pub remains : (b : Bool) (s : plain.NfaConfig) → Walks searcher b s s
-  remains true s = stays s
-  remains false s = unsure s s (stays s)
+  remains b s = as_sure b s s (stays s)
 
   -- on without a choice
   pub onward : (b : Bool) (s t u : plain.NfaConfig) → Walks searcher b s t → Walks searcher true t u → Walks searcher b s u
@@ -107,10 +116,20 @@ module _ (searcher : Searcher) where
       )
 
   -- back to the beginning
-  goes_back : (frames : List plain.Frame) (f : Search) → f.frames ≡ frames → AreFails frames →
+  goes_back : (frames : List plain.Frame) (f : Search) → f.frames ≡ frames → AreFails searcher frames →
       (steps : ℕ) × ((g : Search) × (after_steps_of searcher steps (TakesBack f) ≡ Ends None g))
   goes_back [] f e h = (1, (f, ap (λ l. plain.back_to l f) e))
-  goes_back (Other s ∷ frames) f e h = absurd h
+  goes_back (Other s ∷ frames) f e h =
+      let on : Search = record f { frames = frames } in
+      let x = h.0 s on refl refl in
+      let y = goes_back frames x.1.0 x.1.1.1 h.1 in (
+        suc (x.0 + y.0),
+        (
+          y.1.0,
+          ap (λ l. after_steps_of searcher (x.0 + y.0) (plain.back_to l f)) e
+              ∙ steps_then searcher x.0 y.0 (TakesUp s on) (TakesBack x.1.0) x.1.1.0 ∙ y.1.1,
+        ),
+      )
   goes_back (Fails p ∷ frames) f e h =
       let x = goes_back frames (plain.with_failed p (record f { frames = frames })) refl h in
       (suc x.0, (x.1.0, ap (λ l. after_steps_of searcher x.0 (plain.back_to l f)) e ∙ x.1.1))
@@ -142,7 +161,7 @@ module _ (searcher : Searcher) where
   counted_blank true f blank = blank
   counted_blank false f blank = blank
 
-  counted_fails : (c : Bool) (f : Search) → AreFails f.frames → AreFails (if c then record f { visits = f.visits + 1 } else f).frames
+  counted_fails : (c : Bool) (f : Search) → AreFails searcher f.frames → AreFails searcher (if c then record f { visits = f.visits + 1 } else f).frames
   counted_fails true f h = h
   counted_fails false f h = h
 
@@ -203,26 +222,29 @@ module _ (searcher : Searcher) where
           ),
         )
 
-    -- on at the first of several ways, with the others kept for later
-    pub tries_first : (is_memoized : Bool) (t : plain.NfaConfig) (ts : List plain.NfaConfig) →
-        plain.step_by (searcher.text).now searcher.unicode (state_of p) s ≡ plain.Tries is_memoized t ts → Walks searcher false s t
-    tries_first false t ts leads f blank =
+    -- on at the first of two ways, with the other kept for later
+    pub tries_first : (is_memoized : Bool) (t u : plain.NfaConfig) →
+        plain.step_by (searcher.text).now searcher.unicode (state_of p) s ≡ plain.Tries is_memoized t (u ∷ []) →
+        (sure : Bool) → (sure ≡ true → IsDeadEnd searcher u.at u.place) → Walks searcher sure s t
+    tries_first false t u leads sure dead f blank =
+        let c = plain.is_counted (Some (state_of p)) in
         let v = plain.visited (Some (state_of p)) f in (
           1,
           (
-            plain.with_frames (plain.others ts) v,
-            (stepped f (plain.Tries false t ts) leads, counted_blank (plain.is_counted (Some (state_of p))) f blank, λ e. not_sure e),
+            plain.with_frames (Other u ∷ []) v,
+            (stepped f (plain.Tries false t (u ∷ [])) leads, counted_blank c f blank, λ e h. (dead e, counted_fails c f h)),
           ),
         )
-    tries_first true t ts leads f blank =
+    tries_first true t u leads sure dead f blank =
+        let c = plain.is_counted (Some (state_of p)) in
         let v = plain.visited (Some (state_of p)) f in (
           1,
           (
-            plain.with_frames (plain.others ts ++ (Fails (pair_of s) ∷ [])) v,
+            plain.with_frames (Other u ∷ Fails (pair_of s) ∷ []) v,
             (
-              stepped f (plain.Tries true t ts) leads ∙ cond-false (f.failed (pair_of s)) _ _ (blank (pair_of s)),
-              counted_blank (plain.is_counted (Some (state_of p))) f blank,
-              λ e. not_sure e,
+              stepped f (plain.Tries true t (u ∷ [])) leads ∙ cond-false (f.failed (pair_of s)) _ _ (blank (pair_of s)),
+              counted_blank c f blank,
+              λ e h. (dead e, counted_fails c f h),
             ),
           ),
         )
@@ -293,6 +315,15 @@ module _ (searcher : Searcher) where
         ),
       )
 
+  -- a group ends
+  pub closes : (group : ℕ) (base : plain.NfaConfig) (at place : ℕ) → slice_get (searcher.states).now at ≡ Some (nfa_state.Close group) →
+      (opened : List ℕ) → base.opened ≡ opened → Walks searcher true (config_at base at place) (closed_by base group opened (at + 1) place)
+  closes group base at place there [] is =
+      goes (nfa_state.Close group) (config_at base at place) there (config_at base (at + 1) place) (ap (plain.close_step group (config_at base at place)) is)
+  closes group base at place there (from ∷ opened) is =
+      goes (nfa_state.Close group) (config_at base at place) there (closed_by base group (from ∷ opened) (at + 1) place)
+      (ap (plain.close_step group (config_at base at place)) is)
+
   -- ---- a state behind a jump
 
   pub comes_behind : (at to place : ℕ) (p : Passed) → ((s : plain.NfaConfig) → Walks searcher true (config_at s at place) (config_at s to place)) →
@@ -313,8 +344,8 @@ module _ (searcher : Searcher) where
       )
   comes_behind at to place (passed.Opens next) w c = λ s.
       onward true (config_at s at place) (config_at s to place) (opened_at s next place) (w s) (c s)
-  comes_behind at to place (passed.Closes group next) w c = λ s from opened e.
-      onward true (config_at s at place) (config_at s to place) (closed_at s group from opened next place) (w s) (c s from opened e)
+  comes_behind at to place (passed.Closes group next) w c = λ s opened e.
+      onward true (config_at s at place) (config_at s to place) (closed_by s group opened next place) (w s) (c s opened e)
   comes_behind at to place passed.Fails w c = λ s. loses_behind (config_at s at place) (config_at s to place) (w s) (c s)
   comes_behind at to place passed.Unknown w c = tt
 
@@ -326,25 +357,35 @@ module _ (searcher : Searcher) where
 
   -- ---- choices
 
-  -- at a choice that is not memoized, where the first way fails or not
-  pub chosen_of : (base : plain.NfaConfig) (p : NfaState) (head first second place : ℕ) (is_lost : Bool) → slice_get (searcher.states).now head ≡ Some p →
-      plain.step_by (searcher.text).now searcher.unicode (state_of p) (config_at base head place)
-      ≡ plain.Tries false (config_at base first place) (config_at base second place ∷ []) →
-      (is_lost ≡ true → FailsFrom searcher first place) →
-      Walks searcher is_lost (config_at base head place) (config_at base (if is_lost then second else first) place)
-  chosen_of base p head first second place true there leads fails =
-      tries_second p (config_at base head place) there (config_at base first place) (config_at base second place) leads (fails refl)
-  chosen_of base p head first second place false there leads fails =
-      tries_first p (config_at base head place) there false (config_at base first place) (config_at base second place ∷ []) leads
+  -- on at the first of two ways, or at the second where the first one fails: that is sure then, or where the second is a dead end
+  pub chosen_at : (base : plain.NfaConfig) (at first second place : ℕ) (is_lost sure : Bool) → IsChoice searcher at first second →
+      (is_lost ≡ true → FailsFrom searcher first place) → (is_lost ≡ false → sure ≡ true → IsDeadEnd searcher second place) →
+      Walks searcher sure (config_at base at place) (config_at base (if is_lost then second else first) place)
+  chosen_at base at first second place true sure (p, (there, (false, leads))) fails dead =
+      as_sure sure (config_at base at place) (config_at base second place)
+      (tries_second p (config_at base at place) there (config_at base first place) (config_at base second place) (leads (config_at base at place)) (fails refl))
+  chosen_at base at first second place true sure (p, (there, (true, leads))) fails dead =
+      as_sure sure (config_at base at place) (config_at base second place)
+      (tries_memoized p (config_at base at place) there (config_at base first place) (config_at base second place) (leads (config_at base at place)) (fails refl))
+  chosen_at base at first second place false sure (p, (there, (is_memoized, leads))) fails dead =
+      tries_first p (config_at base at place) there is_memoized (config_at base first place) (config_at base second place)
+      (leads (config_at base at place)) sure (dead refl)
 
-  -- at the head of a loop
-  pub chosen_at_counter_loop : (base : plain.NfaConfig) (head first second place : ℕ) (is_lost : Bool) → slice_get (searcher.states).now head ≡ Some (nfa_state.LoopSplit first second) →
+  -- sure where the first way fails
+  pub chosen_of : (base : plain.NfaConfig) (at first second place : ℕ) (is_lost : Bool) → IsChoice searcher at first second →
       (is_lost ≡ true → FailsFrom searcher first place) →
-      Walks searcher is_lost (config_at base head place) (config_at base (if is_lost then second else first) place)
-  chosen_at_counter_loop base head first second place true there fails =
-      tries_memoized (nfa_state.LoopSplit first second) (config_at base head place) there (config_at base first place) (config_at base second place) refl (fails refl)
-  chosen_at_counter_loop base head first second place false there fails =
-      tries_first (nfa_state.LoopSplit first second) (config_at base head place) there true (config_at base first place) (config_at base second place ∷ []) refl
+      Walks searcher is_lost (config_at base at place) (config_at base (if is_lost then second else first) place)
+  chosen_of base at first second place is_lost choice fails =
+      chosen_at base at first second place is_lost is_lost choice fails (λ lost sure. absurd (true≢false (sym sure ∙ lost)))
+
+  pub split_choice : (at first second : ℕ) → slice_get (searcher.states).now at ≡ Some (nfa_state.Split first second) → IsChoice searcher at first second
+  split_choice at first second there = (nfa_state.Split first second, (there, (false, λ s. refl)))
+
+  pub branch_choice : (at first second : ℕ) → slice_get (searcher.states).now at ≡ Some (nfa_state.BranchSplit first second) → IsChoice searcher at first second
+  branch_choice at first second there = (nfa_state.BranchSplit first second, (there, (false, λ s. refl)))
+
+  pub loop_choice : (at first second : ℕ) → slice_get (searcher.states).now at ≡ Some (nfa_state.LoopSplit first second) → IsChoice searcher at first second
+  loop_choice at first second there = (nfa_state.LoopSplit first second, (there, (true, λ s. refl)))
 
   -- sure as long as it was, and as long as what was chosen is
   pub both_sure : (b c : Bool) (s t u : plain.NfaConfig) → Walks searcher b s t → Walks searcher c t u → Walks searcher (b && c) s u
@@ -442,21 +483,22 @@ module _ (searcher : Searcher) where
         next_there searcher (nfa_state.LoopSplit first second) (at_state head) (config_at base head i) refl loop_split f
         ∙ cond-false (f.failed (pair_of (config_at base head i))) _ _ (blank (pair_of (config_at base head i)))
 
-    goes_in : (i : ℕ) → Walks searcher false (config_at base head i) (config_at base first i)
-    goes_in i f blank = (1, (taken i f, (loop_splits i f blank, blank, λ e. not_sure e)))
+    goes_in : (i : ℕ) (sure : Bool) → (sure ≡ true → IsDeadEnd searcher second i) → Walks searcher sure (config_at base head i) (config_at base first i)
+    goes_in i sure dead f blank = (1, (taken i f, (loop_splits i f blank, blank, λ e h. (dead e, h))))
 
     -- a character that passes
-    pub iterates : (i j : ℕ) → past_char (searcher.text).now (Test test) i ≡ Some j → Walks searcher false (config_at base head i) (config_at base head j)
-    iterates i j past =
+    pub iterates : (i j : ℕ) (sure : Bool) → (sure ≡ true → IsDeadEnd searcher second i) → past_char (searcher.text).now (Test test) i ≡ Some j →
+        Walks searcher sure (config_at base head i) (config_at base head j)
+    iterates i j sure dead past =
         let took : Walks searcher true (config_at base first i) (config_at base (first + 1) j) =
         goes (nfa_state.Character test) (config_at base first i) body.0 (config_at base (first + 1) j) (ap (plain.goes_past (config_at base first i)) past) in
         let back : Walks searcher true (config_at base (first + 1) j) (config_at base head j) =
         goes (nfa_state.Jump head) (config_at base (first + 1) j) body.1 (config_at base head j) refl in
-        onward false (config_at base head i) (config_at base (first + 1) j) (config_at base head j)
-        (onward false (config_at base head i) (config_at base first i) (config_at base (first + 1) j) (goes_in i) took) back
+        onward sure (config_at base head i) (config_at base (first + 1) j) (config_at base head j)
+        (onward sure (config_at base head i) (config_at base first i) (config_at base (first + 1) j) (goes_in i sure dead) took) back
 
     -- none that passes
-    pub exits : (i : ℕ) → past_char (searcher.text).now (Test test) i ≡ None → Walks searcher false (config_at base head i) (config_at base second i)
+    pub exits : (i : ℕ) → past_char (searcher.text).now (Test test) i ≡ None → Walks searcher true (config_at base head i) (config_at base second i)
     exits i none f blank =
         let g = taken i f in
         let gone : next_of searcher (TakesUp (config_at base first i) g) ≡ TakesBack (record g { visits = g.visits + 1 }) =
@@ -465,7 +507,7 @@ module _ (searcher : Searcher) where
           3,
           (
             record f { frames = Fails (pair_of (config_at base head i)) ∷ f.frames; visits = f.visits + 1 + 1 },
-            (ap (after_steps_of searcher 2) (loop_splits i f blank) ∙ ap (next_of searcher) gone, blank, λ e. not_sure e),
+            (ap (after_steps_of searcher 2) (loop_splits i f blank) ∙ ap (next_of searcher) gone, blank, λ e h. h),
           ),
         )
 
@@ -523,32 +565,34 @@ module _ (searcher : Searcher) where
       Walks searcher (is_lost && near) (config_at base head from) (config_at base (if is_lost then body else exit) to)
   lazily_chosen test base head exit body from to is_lost near there is on fails =
       joined true is_lost (is_lost && near) (config_at base head from) (config_at base head to) (config_at base (if is_lost then body else exit) to)
-      (λ e. (refl, (and_parts is_lost near e).0)) (on base head body there is) (chosen_at_counter_loop base head exit body to is_lost there fails)
+      (λ e. (refl, (and_parts is_lost near e).0)) (on base head body there is) (chosen_of base head exit body to is_lost (loop_choice head exit body there) fails)
 
   -- over a character more
-  pub runs_further : (test : CharTest) (from i j : ℕ) → RunsOn searcher test from i → past_char (searcher.text).now (Test test) i ≡ Some j →
+  pub runs_further : (test : CharTest) (from i j : ℕ) → from ≤ i → RunsOn searcher test from i → past_char (searcher.text).now (Test test) i ≡ Some j →
       RunsOn searcher test from j
-  runs_further test from i j on past = λ base head first second loop_split body.
-      by_choice false false (config_at base head from) (config_at base head i) (config_at base head j) (on base head first second loop_split body)
-      (iterates base test head first second loop_split body i j past)
+  runs_further test from i j le on past = λ base head first second loop_split body sure dead.
+      let further = past_char_further (searcher.text).now (Test test) i j past in
+      joined sure sure sure (config_at base head from) (config_at base head i) (config_at base head j) (λ e. (e, e))
+      (on base head first second loop_split body sure (λ e k more below. dead e k more (omega (arith, below, further))))
+      (iterates base test head first second loop_split body i j sure (λ e. dead e i le further) past)
 
-  pub runs_both : (test : CharTest) (from i j : ℕ) → RunsOn searcher test from i → RunsOn searcher test i j → RunsOn searcher test from j
-  runs_both test from i j on more = λ base head first second loop_split body.
-      by_choice false false (config_at base head from) (config_at base head i) (config_at base head j) (on base head first second loop_split body)
-      (more base head first second loop_split body)
+  pub runs_both : (test : CharTest) (from i j : ℕ) → from ≤ i → i ≤ j → RunsOn searcher test from i → RunsOn searcher test i j → RunsOn searcher test from j
+  runs_both test from i j le further on more = λ base head first second loop_split body sure dead.
+      joined sure sure sure (config_at base head from) (config_at base head i) (config_at base head j) (λ e. (e, e))
+      (on base head first second loop_split body sure (λ e k above below. dead e k above (omega (arith, below, further))))
+      (more base head first second loop_split body sure (λ e k above below. dead e k (omega (arith, above, le)) below))
 
   -- over none
   pub runs_none : (test : CharTest) (i : ℕ) → RunsOn searcher test i i
-  runs_none test i = λ base head first second loop_split body.
-      by_choice true true (config_at base head i) (config_at base head i) (config_at base head i) (stays (config_at base head i)) (stays (config_at base head i))
+  runs_none test i = λ base head first second loop_split body sure dead. remains sure (config_at base head i)
 
   -- over each character up to a place
   pub runs_over : (test : CharTest) (from n : ℕ) → ((i : ℕ) → from ≤ i → i < from + n → Passes searcher test i) → RunsOn searcher test from (from + n)
   runs_over test from zero each = subst (RunsOn searcher test from) {x = from} (omega arith) (runs_none test from)
   runs_over test from (suc n) each =
       subst (RunsOn searcher test from) {x = from + n + 1} (omega arith)
-      (runs_further test from (from + n) (from + n + 1) (runs_over test from n (λ i on below. each i on (omega (arith, below))))
-      (each (from + n) (omega arith) (omega arith)))
+      (runs_further test from (from + n) (from + n + 1) (omega arith)
+      (runs_over test from n (λ i on below. each i on (omega (arith, below)))) (each (from + n) (omega arith) (omega arith)))
 
   -- over characters of ASCII that pass
   pub runs_ascii : (bytes : List ℕ) (test : CharTest) (from to : ℕ) → bytes ≡ (searcher.text).now →
@@ -562,8 +606,8 @@ module _ (searcher : Searcher) where
   -- and out of the loop
   pub runs_out : (test : CharTest) (from i : ℕ) → RunsOn searcher test from i → past_char (searcher.text).now (Test test) i ≡ None →
       RunsPast searcher test from i
-  runs_out test from i on none = λ base head first second loop_split body.
-      by_choice false false (config_at base head from) (config_at base head i) (config_at base second i) (on base head first second loop_split body)
+  runs_out test from i on none = λ base head first second loop_split body sure dead.
+      onward sure (config_at base head from) (config_at base head i) (config_at base second i) (on base head first second loop_split body sure dead)
       (exits base test head first second loop_split body i none)
 
 -- ---- what a walk to the end answers

@@ -1,5 +1,5 @@
 -- Loops that count over one character, where no choice in them is taken back.
-use Rattle.std.specs.Prelude.{◌≡◌, ◌≤◌, ◌<◌, ◌-◌, ℕ, zero, suc, true, List, ◌∷◌, Some}
+use Rattle.std.specs.Prelude.{◌≡◌, ◌≤◌, ◌<◌, ◌-◌, ℕ, zero, suc, true, List, Some}
 use Rattle.fancy_meaning.specs.Moves.{past_char}
 use Rattle.fancy_nfa.specs.NfaSearch.{NfaConfig, passes}
 use Rattle.fancy_plain.specs.declared.counted_ways.Passed.{Passed}
@@ -7,7 +7,7 @@ use Rattle.fancy_plain.specs.declared.counted_ways.Passed.TheVariants as passed
 use Rattle.fancy_plain.specs.declared.nfa_state.CharTest.{CharTest}
 use Rattle.fancy_plain.specs.declared.search.Searcher.{Searcher}
 use Rattle.fancy_plain.specs.Runs.{Excludes}
-use Rattle.fancy_plain.specs.OnePass.{Loses, Succeeds, Walks, closed_at, config_at, opened_at}
+use Rattle.fancy_plain.specs.OnePass.{AreDeadEnds, Loses, Succeeds, Walks, closed_by, config_at, opened_at}
 use Rattle.fancy_plain.specs.Views.{test_of}
 
 -- so many characters that pass stand between these places
@@ -28,8 +28,17 @@ ComesPast t at place (passed.On next end is_sure) =
     (s : NfaConfig) → Walks t is_sure (config_at s at place) (config_at s next end)
 ComesPast t at place passed.Ends = (s : NfaConfig) → Succeeds t (config_at s at place)
 ComesPast t at place (passed.Opens next) = (s : NfaConfig) → Walks t true (config_at s at place) (opened_at s next place)
-ComesPast t at place (passed.Closes group next) = (s : NfaConfig) (from : ℕ) (opened : List ℕ) →
-    s.opened ≡ from ∷ opened →
-    Walks t true (config_at s at place) (closed_at s group from opened next place)
+ComesPast t at place (passed.Closes group next) = (s : NfaConfig) (opened : List ℕ) → s.opened ≡ opened →
+    Walks t true (config_at s at place) (closed_by s group opened next place)
 ComesPast t at place passed.Fails = (s : NfaConfig) → Loses t (config_at s at place)
 ComesPast t at place passed.Unknown = Unit {0}
+
+-- where it comes past a loop, that is sure if what stands behind the loop is a dead end at each place that was passed
+abbrev pub IsSureBehind : Searcher → (at place : ℕ) → Passed → Type 0
+IsSureBehind t at place (passed.On next end is_sure) =
+    AreDeadEnds t next place end → (s : NfaConfig) → Walks t true (config_at s at place) (config_at s next end)
+IsSureBehind t at place passed.Ends = Unit {0}
+IsSureBehind t at place (passed.Opens next) = Unit {0}
+IsSureBehind t at place (passed.Closes group next) = Unit {0}
+IsSureBehind t at place passed.Fails = Unit {0}
+IsSureBehind t at place passed.Unknown = Unit {0}

@@ -1,10 +1,11 @@
 -- Ways that a search comes to without taking a choice back.
-use Rattle.std.specs.Prelude.{◌≡◌, ℕ, Bool, true, false, List, [], ◌∷◌, Option, Some, None, slice_get}
+use Rattle.std.specs.Prelude.{◌≡◌, ◌≤◌, ◌<◌, ℕ, Bool, true, false, List, [], ◌∷◌, Option, Some, None, slice_get}
 use Rattle.fancy_meaning.specs.Tree.{Tree}
 use Rattle.fancy_meaning.specs.Options.{Analysis}
-use Rattle.fancy_nfa.specs.NfaSearch.{Ends, Fails, Frame, Other, Pair, Search, NfaConfig, TakesBack, TakesUp, first_config, first_search}
+use Rattle.fancy_nfa.specs.NfaSearch.{Ends, Fails, Frame, Other, Pair, Search, NfaConfig, TakesBack, TakesUp, Tries, first_config, first_search, goes_to, step_by}
 use Rattle.fancy_nfa.specs.FirstWays.{Seen, first_seen, spans_of}
 use Rattle.fancy_plain.specs.declared.nfa_state.CharTest.{CharTest}
+use Rattle.fancy_plain.specs.declared.nfa_state.NfaState.{NfaState}
 use Rattle.fancy_plain.specs.declared.nfa_state.NfaState.TheVariants as nfa_state
 use Rattle.fancy_plain.specs.declared.search.Searcher.{Searcher}
 use Rattle.fancy_plain.specs.declared.one_pass.OnePass.{OnePass}
@@ -12,6 +13,7 @@ use Rattle.fancy_plain.specs.declared.one_pass.OnePass.TheVariants as one_pass
 use Rattle.fancy_plain.specs.declared.nfa.Nfa.{Nfa}
 use Rattle.fancy_plain.specs.Runs.{Excludes, FailsFrom, IsBody}
 use Rattle.fancy_plain.specs.Searches.{after_steps_of}
+use Rattle.fancy_plain.specs.Views.{state_of}
 use Rattle.fancy_plain.specs.Nfas.{IsNfaOf}
 use Rattle.fancy_plain.specs.Ways.{HasNoWayAt}
 use Rattle.fancy_plain.specs.declared.group_spans.GroupSpans.{GroupSpans}
@@ -31,23 +33,44 @@ abbrev pub closed_at : NfaConfig → (group from : ℕ) → (opened : List ℕ) 
 closed_at s group from opened at place =
     record (config_at s at place) { opened = opened; spans = (group, (from, place)) ∷ s.spans }
 
+-- this group, which began there if it is open, ends here
+abbrev pub closed_by : NfaConfig → (group : ℕ) → (opened : List ℕ) → (at place : ℕ) → NfaConfig
+closed_by s group [] at place = config_at s at place
+closed_by s group (from ∷ opened) at place = closed_at s group from opened at place
+
 -- no pair is known to have no way
 abbrev pub IsBlank : Search → Type 0
 IsBlank f = (p : Pair) → f.failed p ≡ false
 
--- what is kept for later has no way
-abbrev pub AreFails : List Frame → Type 0
-AreFails [] = Unit {0}
-AreFails (Other s ∷ frames) = ⊥
-AreFails (Fails p ∷ frames) = AreFails frames
+-- a search that takes up this state at this place, whatever it knows, goes back after some steps and keeps no more for later
+abbrev pub IsDeadEnd : Searcher → (at place : ℕ) → Type 0
+IsDeadEnd t at place =
+    (s : NfaConfig) (f : Search) → s.at ≡ at → s.place ≡ place →
+    (steps : ℕ) × ((g : Search) × ((after_steps_of t steps (TakesUp s f) ≡ TakesBack g) × (g.frames ≡ f.frames)))
 
--- A search that knows of no pair goes on from the one configuration to the other. Where that is sure, it keeps no way
--- for later.
+-- so it is at each place from the one up to the other
+abbrev pub AreDeadEnds : Searcher → (at from to : ℕ) → Type 0
+AreDeadEnds t at from to = (i : ℕ) → from ≤ i → i < to → IsDeadEnd t at i
+
+-- what is kept for later has no way
+abbrev pub AreFails : Searcher → List Frame → Type 0
+AreFails t [] = Unit {0}
+AreFails t (Other s ∷ frames) = IsDeadEnd t s.at s.place × AreFails t frames
+AreFails t (Fails p ∷ frames) = AreFails t frames
+
+-- this state tries these two ways, and nothing else
+abbrev pub IsChoice : Searcher → (at first second : ℕ) → Type 0
+IsChoice t at first second =
+    (p : NfaState) × ((slice_get (t.states).now at ≡ Some p) × ((is_memoized : Bool) × ((s : NfaConfig) →
+    step_by (t.text).now t.unicode (state_of p) s ≡ Tries is_memoized (goes_to first s) (goes_to second s ∷ []))))
+
+-- A search that knows of no pair goes on from the one configuration to the other. Where that is sure, what it keeps for
+-- later has no way.
 abbrev pub Walks : Searcher → (is_sure : Bool) → (from to : NfaConfig) → Type 0
 Walks t is_sure from to =
     (f : Search) → IsBlank f →
     (steps : ℕ) × ((g : Search) × ((after_steps_of t steps (TakesUp from f) ≡ TakesUp to g)
-    × IsBlank g × (is_sure ≡ true → AreFails f.frames → AreFails g.frames)))
+    × IsBlank g × (is_sure ≡ true → AreFails t f.frames → AreFails t g.frames)))
 
 -- it comes to the end, perhaps at another state
 abbrev pub Succeeds : Searcher → (from : NfaConfig) → Type 0
@@ -55,24 +78,31 @@ Succeeds t from =
     (f : Search) → IsBlank f → (at : ℕ) × ((steps : ℕ) × ((g : Search) ×
     (after_steps_of t steps (TakesUp from f) ≡ Ends (Some (config_at from at from.place)) g)))
 
--- it goes back from the configuration, and keeps no way for later
+-- it goes back from the configuration, and what it keeps for later has no way
 abbrev pub Loses : Searcher → NfaConfig → Type 0
 Loses t from =
     (f : Search) → IsBlank f →
     (steps : ℕ) × ((g : Search) × ((after_steps_of t steps (TakesUp from f) ≡ TakesBack g)
-    × (AreFails f.frames → AreFails g.frames)))
+    × (AreFails t f.frames → AreFails t g.frames)))
 
--- it goes so over a loop over this test, from its head to its head
+-- It goes so over a loop over this test, from its head to its head. That is sure where what stands behind the loop is a dead
+-- end up to there.
 abbrev pub RunsOn : Searcher → CharTest → (from to : ℕ) → Type 0
 RunsOn t test from to =
     (s : NfaConfig) (head first second : ℕ) → slice_get (t.states).now head ≡ Some (nfa_state.LoopSplit first second) →
-    IsBody (t.states).now head first test → Walks t false (config_at s head from) (config_at s head to)
+    IsBody (t.states).now head first test → (is_sure : Bool) → (is_sure ≡ true → AreDeadEnds t second from to) →
+    Walks t is_sure (config_at s head from) (config_at s head to)
 
 -- and to what stands behind it
 abbrev pub RunsPast : Searcher → CharTest → (from to : ℕ) → Type 0
 RunsPast t test from to =
     (s : NfaConfig) (head first second : ℕ) → slice_get (t.states).now head ≡ Some (nfa_state.LoopSplit first second) →
-    IsBody (t.states).now head first test → Walks t false (config_at s head from) (config_at s second to)
+    IsBody (t.states).now head first test → (is_sure : Bool) → (is_sure ≡ true → AreDeadEnds t second from to) →
+    Walks t is_sure (config_at s head from) (config_at s second to)
+
+-- from this state a search fails at each place from the one up to the other
+abbrev pub FailAtEach : Searcher → (at from to : ℕ) → Type 0
+FailAtEach t at from to = (i : ℕ) → from ≤ i → i < to → FailsFrom t at i
 
 -- where this test takes no character, a search from that state fails
 abbrev pub IsFirstTest : Searcher → (at : ℕ) → CharTest → Type 0

@@ -2,7 +2,7 @@
 
 ghost use Rattle.std.specs.Prelude.{◌≡◌, ◌≤◌, ◌+◌, ◌-◌, false, true, IfOk, IfSome, Some, slice_get};
 ghost use Rattle.fancy_plain.specs.declared.nfa_state.NfaState.TheVariants as nfa_state;
-ghost use Rattle.fancy_plain.specs.CountedWays.{ComesPast, PassesMost, PassesSome};
+ghost use Rattle.fancy_plain.specs.CountedWays.{ComesPast, IsSureBehind, PassesMost, PassesSome};
 ghost use Rattle.fancy_plain.specs.Runs.{IsBody};
 ghost use Rattle.fancy_plain.specs.Searches.{IsSearcher};
 ghost use Rattle.fancy_plain.specs.Views.{IsReadBy};
@@ -62,7 +62,8 @@ impl Searcher<'_> {
     ) -> Result<Passed, AllocError>
         requires searcher { IsSearcher self.now }
         requires at { slice_get self.now.states.now enter ≡ Some nfa_state.CounterBegin }
-        ensures { IfOk result (ComesPast self.now enter place) }
+        ensures comes { IfOk result (ComesPast self.now enter place) }
+        ensures sure { IfOk result (IsSureBehind self.now enter place) }
     {
         let searcher = Searcher { ..*self };
         searcher.past_counter_begin(alloc, enter, place)
@@ -78,7 +79,8 @@ impl Searcher<'_> {
     ) -> Result<Passed, AllocError>
         requires searcher { IsSearcher self.now }
         requires at { slice_get self.now.states.now enter ≡ Some nfa_state.CounterBegin }
-        ensures { IfOk result (ComesPast self.now enter place) }
+        ensures comes { IfOk result (ComesPast self.now enter place) }
+        ensures sure { IfOk result (IsSureBehind self.now enter place) }
     {
         let head = enter + 1;
         let Some(NfaState::CounterLoop { bounds, after }) = self.states.get(head) else {

@@ -3,6 +3,7 @@
 
 mod ascii_runs;
 mod counted_ways;
+mod dead_ends;
 mod first_sets;
 pub mod first_way;
 pub mod group_spans;

@@ -253,7 +253,10 @@ impl Searcher<'_> {
                     continue 'states;
                 }
                 Passed::Ends => return Ok(OnePass::Ends(place)),
-                Passed::Fails => return Ok(without_a_way(is_sure)),
+                Passed::Fails => {
+                    let has_none = self.has_no_way(alloc, ix, place, is_sure)?;
+                    return Ok(without_a_way(has_none));
+                }
                 _ => return Ok(OnePass::Unknown),
             }
         }
@@ -299,7 +302,10 @@ impl Searcher<'_> {
                     continue 'states;
                 }
                 Passed::Ends => return Ok(OnePass::Ends(here)),
-                Passed::Fails => return Ok(without_a_way(is_sure)),
+                Passed::Fails => {
+                    let has_none = self.has_no_way(alloc, ix, here, is_sure)?;
+                    return Ok(without_a_way(has_none));
+                }
                 Passed::Unknown => return Ok(OnePass::Unknown),
             }
         }
@@ -308,7 +314,7 @@ impl Searcher<'_> {
 
     /// Past this state, perhaps behind a jump, or past a loop over one character.
     #[inline(always)]
-    fn past(&self, alloc: Global, at: usize, place: usize) -> Result<Passed, AllocError>
+    pub(crate) fn past(&self, alloc: Global, at: usize, place: usize) -> Result<Passed, AllocError>
         requires { IsSearcher self.now }
         ensures { IfOk result (ComesPast self.now at place) }
     {
@@ -318,7 +324,12 @@ impl Searcher<'_> {
     /// Past this state, or past a loop over one character. What is tried first is left only where it fails at its first
     /// test.
     #[inline(always)]
-    fn past_state(&self, alloc: Global, at: usize, place: usize) -> Result<Passed, AllocError>
+    pub(crate) fn past_state(
+        &self,
+        alloc: Global,
+        at: usize,
+        place: usize,
+    ) -> Result<Passed, AllocError>
         requires { IsSearcher self.now }
         ensures { IfOk result (ComesPast self.now at place) }
     {
@@ -350,18 +361,18 @@ impl Searcher<'_> {
                     return Ok(Passed::On {
                         at: *second,
                         place: end,
-                        is_sure: false,
+                        is_sure: end == place,
                     });
                 }
                 // the body of a lazy loop stands before its exit
                 if second < first && self.body_at(*second, at).is_some() {
                     return self.past_lazy(alloc, at, place);
                 }
-                let next = chosen(self.fails_from(*first, place), *first, *second);
+                let is_lost = self.fails_from(*first, place);
                 Ok(Passed::On {
-                    at: next,
+                    at: chosen(is_lost, *first, *second),
                     place,
-                    is_sure: false,
+                    is_sure: is_lost,
                 })
             }
             Some(NfaState::Split(first, second)) => {
@@ -439,7 +450,7 @@ impl Searcher<'_> {
 
     /// Where the jump at this state leads, or else this state.
     #[inline(always)]
-    fn behind_jump(&self, at: usize) -> usize
+    pub(crate) fn behind_jump(&self, at: usize) -> usize
         ensures walks { (s : NfaConfig) (place : ℕ)
             → Walks self.now true (config_at s at place) (config_at s result place) }
         ensures fails { (place : ℕ)
@@ -453,7 +464,12 @@ impl Searcher<'_> {
 
     /// Past the characters from this place on that pass the test.
     #[inline(always)]
-    fn past_all(&self, alloc: Global, test: &CharTest, from: usize) -> Result<usize, AllocError>
+    pub(crate) fn past_all(
+        &self,
+        alloc: Global,
+        test: &CharTest,
+        from: usize,
+    ) -> Result<usize, AllocError>
         requires { IsReadBy self.now.unicode test.now }
         ensures { IfOk result (RunsPast self.now test.now from) }
     {

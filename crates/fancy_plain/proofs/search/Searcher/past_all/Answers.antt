@@ -1,13 +1,26 @@
-use Rattle.std.proofs.Common.{sym, ◌∙◌}
-use Rattle.fancy_plain.proofs.OnePassLaws.{runs_both, runs_further, runs_out}
+use Rattle.std.proofs.Common.{sym, ◌∙◌, arith}
+use Rattle.fancy_plain.proofs.OnePassLaws.{Test, past_char_further, runs_both, runs_further, runs_out}
 use Rattle.fancy_plain.proofs.search.Searcher.past_all.Goals as goal
+
+pub run-init : goal.run-init
+run-init c = (c.past_ascii-place.ensures.further, c.past_ascii-place.ensures.on)
 
 pub run-preserved : goal.run-preserved
 run-preserved c =
-    runs_both c.args.self.now c.args.test.now c.args.from c.in-Some.next c.past_ascii-place-in-Some.result
-    (runs_further c.args.self.now c.args.test.now c.args.from c.run.place c.in-Some.next c.run.invariant
-    (sym c.in_ok-next.ensures.ok ∙ c.in-Some.is))
-    c.past_ascii-place-in-Some.ensures.on
+    let searcher = c.args.self.now in
+    let test = c.args.test.now in
+    let from = c.args.from in
+    let place = c.run.place in
+    let next = c.in-Some.next in
+    let end = c.past_ascii-place-in-Some.result in
+    let past = sym c.in_ok-next.ensures.ok ∙ c.in-Some.is in
+    let over = past_char_further searcher.text.now (Test searcher test) place next past in
+    let further = c.past_ascii-place-in-Some.ensures.further in
+    let before = c.run.invariant.0 in (
+      omega (arith, before, over, further),
+      runs_both searcher test from next end (omega (arith, before, over)) further
+          (runs_further searcher test from place next before c.run.invariant.1 past) c.past_ascii-place-in-Some.ensures.on,
+    )
 
 pub returns : goal.returns
-returns c = runs_out c.args.self.now c.args.test.now c.args.from c.run.place c.run.invariant (sym c.in_ok-next.ensures.ok ∙ c.in_default.is)
+returns c = runs_out c.args.self.now c.args.test.now c.args.from c.run.place c.run.invariant.1 (sym c.in_ok-next.ensures.ok ∙ c.in_default.is)

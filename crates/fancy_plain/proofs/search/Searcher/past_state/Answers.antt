@@ -1,11 +1,11 @@
-use Rattle.std.proofs.Common.{◌+◌, false, Some, length, refl, sym, ap, ◌∙◌, subst, if◌then◌else◌}
+use Rattle.std.proofs.Common.{◌+◌, Some, length, refl, sym, ap, ◌∙◌, subst, if◌then◌else◌}
 use Rattle.std.proofs.lemmas.Bool.{ltb-true}
 use Rattle.std.proofs.lemmas.Option.{slice_get_read}
 use Rattle.fancy_nfa.specs.NfaSearch as plain
 use Rattle.fancy_plain.specs.declared.nfa_state.NfaState.TheVariants as nfa_state
-use Rattle.fancy_plain.specs.OnePass.{Walks, closed_at, config_at, opened_at}
+use Rattle.fancy_plain.specs.OnePass.{Walks, config_at, opened_at}
 use Rattle.fancy_plain.specs.Views.{IsStateReadBy}
-use Rattle.fancy_plain.proofs.OnePassLaws.{chosen_at_counter_loop, chosen_of, goes, loses, succeeds, tries_only, unsure_by}
+use Rattle.fancy_plain.proofs.OnePassLaws.{branch_choice, chosen_of, closes, goes, loop_choice, loses, none_between, split_choice, succeeds, tries_only}
 use Rattle.fancy_plain.proofs.search.Searcher.past_state.Goals as goal
 
 pub returns-in-Some-Match : goal.returns-in-Some-Match
@@ -91,7 +91,9 @@ returns-in-Some-body_at c = λ s.
     let found = c.in-Some-LoopSplit.ensures.lookup in
     let there = slice_get_read states (length states) at c.in-Some-LoopSplit.field-0.now refl (ltb-true at (length states) (sym found.0)) found.1
     ∙ ap Some c.in-Some-LoopSplit.field-0-is in
-    c.in_ok-end-in-Some-LoopSplit.ensures s at c.in-Some-LoopSplit.first c.in-Some-LoopSplit.second there c.in-Some-body_at.ensures
+    let place = c.args.place in
+    c.in_ok-end-in-Some-LoopSplit.ensures s at c.in-Some-LoopSplit.first c.in-Some-LoopSplit.second there c.in-Some-body_at.ensures _
+    (λ none i above below. absurd (none_between place i c.in_ok-end-in-Some-LoopSplit.end none above below))
 
 pub returns-else-second-first : goal.returns-else-second-first
 returns-else-second-first c = λ s.
@@ -104,11 +106,9 @@ returns-else-second-first c = λ s.
     ∙ ap Some c.in-Some-LoopSplit.field-0-is in
     let first = c.in-Some-LoopSplit.first in
     let second = c.in-Some-LoopSplit.second in
-    let is_lost = c.fails_from.result in
-    let next = if is_lost then second else first in
-    subst (λ i. Walks searcher false (config_at s at place) (config_at s i place)) (sym c.chosen-next.ensures)
-    (unsure_by searcher is_lost (config_at s at place) (config_at s next place)
-    (chosen_at_counter_loop searcher s at first second place is_lost there c.fails_from.ensures))
+    let is_lost = c.fails_from-is_lost.result in
+    subst (λ i. Walks searcher is_lost (config_at s at place) (config_at s i place)) (sym c.chosen.ensures)
+    (chosen_of searcher s at first second place is_lost (loop_choice searcher at first second there) c.fails_from-is_lost.ensures)
 
 pub returns-in-Some-Split : goal.returns-in-Some-Split
 returns-in-Some-Split c = λ s.
@@ -121,9 +121,9 @@ returns-in-Some-Split c = λ s.
     ∙ ap Some c.in-Some-Split.field-0-is in
     let first = c.in-Some-Split.first in
     let second = c.in-Some-Split.second in
-    let is_lost = c.fails_from-is_lost.result in
-    subst (λ i. Walks searcher is_lost (config_at s at place) (config_at s i place)) (sym c.chosen.ensures)
-    (chosen_of searcher s (nfa_state.Split first second) at first second place is_lost there refl c.fails_from-is_lost.ensures)
+    let is_lost = c.fails_from-is_lost-in-Some-Split.result in
+    subst (λ i. Walks searcher is_lost (config_at s at place) (config_at s i place)) (sym c.chosen-in-Some-Split.ensures)
+    (chosen_of searcher s at first second place is_lost (split_choice searcher at first second there) c.fails_from-is_lost-in-Some-Split.ensures)
 
 pub returns-in-Some-BranchSplit : goal.returns-in-Some-BranchSplit
 returns-in-Some-BranchSplit c = λ s.
@@ -138,7 +138,7 @@ returns-in-Some-BranchSplit c = λ s.
     let second = c.in-Some-BranchSplit.second in
     let is_lost = c.fails_from-is_lost-in-Some-BranchSplit.result in
     subst (λ i. Walks searcher is_lost (config_at s at place) (config_at s i place)) (sym c.chosen-in-Some-BranchSplit.ensures)
-    (chosen_of searcher s (nfa_state.BranchSplit first second) at first second place is_lost there refl c.fails_from-is_lost-in-Some-BranchSplit.ensures)
+    (chosen_of searcher s at first second place is_lost (branch_choice searcher at first second there) c.fails_from-is_lost-in-Some-BranchSplit.ensures)
 
 pub returns-in-Some-Join : goal.returns-in-Some-Join
 returns-in-Some-Join c = λ s.
@@ -163,17 +163,14 @@ returns-in-Some-Open c = λ s.
     goes searcher nfa_state.Open (config_at s at place) there (opened_at s (at + 1) place) refl
 
 pub returns-in-Some-Close : goal.returns-in-Some-Close
-returns-in-Some-Close c = λ s from opened is.
+returns-in-Some-Close c = λ s opened is.
     let searcher = c.args.self.now in
     let states = searcher.states.now in
     let at = c.args.at in
-    let place = c.args.place in
     let found = c.in-Some-Close.ensures.lookup in
     let there = slice_get_read states (length states) at c.in-Some-Close.field-0.now refl (ltb-true at (length states) (sym found.0)) found.1
     ∙ ap Some c.in-Some-Close.field-0-is in
-    let group = c.in-Some-Close.group in
-    goes searcher (nfa_state.Close group) (config_at s at place) there (closed_at s group from opened (at + 1) place)
-    (ap (plain.close_step group (config_at s at place)) is)
+    closes searcher c.in-Some-Close.group s at c.args.place there opened is
 
 pub past_counted-requires-clause-at : goal.past_counted-requires-clause-at
 past_counted-requires-clause-at c =

@@ -1,0 +1,272 @@
+//! One-pass matches that fail behind a loop or a choice: where each way that was kept for later fails too, there is none.
+
+ghost use Rattle.std.specs.Prelude.{◌≡◌, ℕ, IfOk, IfSome, IsTrue, None, Some, slice_get};
+ghost use Rattle.fancy_plain.specs.declared.nfa_state.NfaState.TheVariants as nfa_state;
+ghost use Rattle.fancy_plain.specs.CountedWays.{ComesPast};
+ghost use Rattle.fancy_plain.specs.OnePass.{AreDeadEnds, FailAtEach, Finds, IsChoice, IsDeadEnd};
+ghost use Rattle.fancy_plain.specs.Runs.{ExcludesEach, IsBody};
+ghost use Rattle.fancy_plain.specs.Searches.{IsSearcher};
+ghost use Rattle.fancy_plain.specs.Views.{IsReadBy};
+
+use crate::counted_ways::Passed;
+use crate::nfa_state::{CharTest, NfaState};
+use crate::search::Searcher;
+use std::alloc::{AllocError, Global};
+
+/// So many bytes behind its start a walk may fail that is made once more to be sure. Where more were passed in vain, a
+/// search is to note it, so that they are not passed from one start after the other.
+const MOST_SURE: usize = 64;
+
+impl Searcher<'_> {
+    /// Whether there is no way from the start, where a walk from there failed at this place and may have kept a way for
+    /// later.
+    #[inline(always)]
+    pub(crate) fn has_no_way(
+        &self,
+        alloc: Global,
+        start: usize,
+        place: usize,
+        is_sure: bool,
+    ) -> Result<bool, AllocError>
+        requires searcher { IsSearcher self.now }
+        requires sure { IsTrue is_sure → Finds self.now start None }
+        ensures { IfOk result (λ has_none. IsTrue has_none → Finds self.now start None) }
+    {
+        if is_sure || !self.begins_with_loop() || place > start.saturating_add(MOST_SURE) {
+            return Ok(is_sure);
+        }
+        let searcher = Searcher { ..*self };
+        searcher.walks_in_vain(alloc, start)
+    }
+
+    /// A way may begin with a loop that takes nothing. Such nodes mostly stand in a look-around, which is asked at places of
+    /// its own. Where a way begins with a character, the next start mostly lies in what was passed in vain, and a search that
+    /// notes it is faster.
+    fn begins_with_loop(&self) -> bool {
+        matches!(self.states.get(0), Some(NfaState::LoopSplit(_, _)))
+    }
+
+    /// A walk from the start fails, and so does each way that it keeps for later, at its first test.
+    #[inline(never)]
+    fn walks_in_vain(&self, alloc: Global, start: usize) -> Result<bool, AllocError>
+        requires { IsSearcher self.now }
+        ensures { IfOk result (λ has_none. IsTrue has_none → Finds self.now start None) }
+    {
+        let mut at = 0;
+        let mut here = start;
+        'states: for _ in 0..usize::MAX {
+            match self.past_surely(alloc, at, here)? {
+                Passed::On {
+                    at: after,
+                    place: end,
+                    is_sure,
+                } => {
+                    if !is_sure {
+                        return Ok(false);
+                    }
+                    at = after;
+                    here = end;
+                    continue 'states;
+                }
+                Passed::Opens { at: after } => {
+                    at = after;
+                    continue 'states;
+                }
+                Passed::Closes {
+                    group: _,
+                    at: after,
+                } => {
+                    at = after;
+                    continue 'states;
+                }
+                Passed::Fails => return Ok(true),
+                _ => return Ok(false),
+            }
+        }
+        Ok(false)
+    }
+
+    /// As `past`. It is sure also where each way that is kept for later fails at its first test.
+    #[inline(always)]
+    fn past_surely(&self, alloc: Global, from: usize, place: usize) -> Result<Passed, AllocError>
+        requires { IsSearcher self.now }
+        ensures { IfOk result (ComesPast self.now from place) }
+    {
+        let at = self.behind_jump(from);
+        match self.states.get(at) {
+            Some(NfaState::CounterBegin) => self.past_counted_surely(alloc, at, place),
+            Some(NfaState::LoopSplit(first, second)) => match self.body_at(*first, at) {
+                Some(test) => self.past_loop_surely(alloc, test, at, *second, place),
+                None => Ok(self.past_choice(*first, *second, place)),
+            },
+            _ => match self.choice_at(at) {
+                Some((first, second)) => Ok(self.past_choice(first, second, place)),
+                None => self.past_state(alloc, at, place),
+            },
+        }
+    }
+
+    /// Past the loop over this test with this head, to the state behind it.
+    #[inline(always)]
+    fn past_loop_surely(
+        &self,
+        alloc: Global,
+        test: &CharTest,
+        head: usize,
+        exit: usize,
+        place: usize,
+    ) -> Result<Passed, AllocError>
+        requires searcher { IsSearcher self.now }
+        requires read { IsReadBy self.now.unicode test.now }
+        requires loop_split { (first : ℕ)
+            × ((slice_get self.now.states.now head ≡ Some (nfa_state.LoopSplit first exit))
+            × IsBody self.now.states.now head first test.now) }
+        ensures { IfOk result (ComesPast self.now head place) }
+    {
+        let end = self.past_all(alloc, test, place)?;
+        Ok(Passed::On {
+            at: exit,
+            place: end,
+            is_sure: self.are_dead_ends(exit, place, end),
+        })
+    }
+
+    /// Past the loop that counts and begins here.
+    #[inline(always)]
+    fn past_counted_surely(
+        &self,
+        alloc: Global,
+        enter: usize,
+        place: usize,
+    ) -> Result<Passed, AllocError>
+        requires searcher { IsSearcher self.now }
+        requires at { slice_get self.now.states.now enter ≡ Some nfa_state.CounterBegin }
+        ensures { IfOk result (ComesPast self.now enter place) }
+    {
+        let passed = self.past_counted(alloc, enter, place)?;
+        if let Passed::On {
+            at: after,
+            place: end,
+            is_sure,
+        } = passed
+        {
+            if !is_sure {
+                return Ok(Passed::On {
+                    at: after,
+                    place: end,
+                    is_sure: self.are_dead_ends(after, place, end),
+                });
+            }
+        }
+        Ok(passed)
+    }
+
+    /// On at the first of two ways, or at the second where the first one fails.
+    #[inline(always)]
+    fn past_choice(&self, first: usize, second: usize, place: usize) -> Passed
+        requires { IsSearcher self.now }
+        ensures { (at : ℕ) → IsChoice self.now at first second → ComesPast self.now at place result }
+    {
+        if self.fails_from(first, place) {
+            return Passed::On {
+                at: second,
+                place,
+                is_sure: true,
+            };
+        }
+        Passed::On {
+            at: first,
+            place,
+            is_sure: self.is_dead_end(second, place),
+        }
+    }
+
+    /// The two ways on from this state, where it is a choice and nothing else.
+    #[inline(always)]
+    fn choice_at(&self, at: usize) -> Option<(usize, usize)>
+        ensures { IfSome result (λ ways. IsChoice self.now at ways.0 ways.1) }
+    {
+        match self.states.get(at) {
+            Some(NfaState::Split(first, second)) => Some((*first, *second)),
+            Some(NfaState::BranchSplit(first, second)) => Some((*first, *second)),
+            Some(NfaState::LoopSplit(first, second)) => Some((*first, *second)),
+            _ => None,
+        }
+    }
+
+    /// As `are_dead_ends`, of one place.
+    #[inline(always)]
+    fn is_dead_end(&self, at: usize, place: usize) -> bool
+        requires { IsSearcher self.now }
+        ensures { IsTrue result → IsDeadEnd self.now at place }
+    {
+        match place.checked_add(1) {
+            Some(next) => self.are_dead_ends(at, place, next),
+            None => false,
+        }
+    }
+
+    /// From this state on a test comes first, or one for each of several ways, and no character from the one place up to
+    /// the other passes any.
+    fn are_dead_ends(&self, exit: usize, from: usize, to: usize) -> bool
+        requires { IsSearcher self.now }
+        ensures { IsTrue result → AreDeadEnds self.now exit from to }
+    {
+        if from >= to {
+            return true;
+        }
+        let mut at = exit;
+        'ways: for _ in 0..self.states.len() {
+            if let Some((first, second)) = self.choice_at(at) {
+                if !self.fail_each(first, from, to) {
+                    return false;
+                }
+                at = second;
+                continue 'ways;
+            }
+            match self.states.get(at) {
+                Some(NfaState::Jump(next)) => {
+                    at = *next;
+                    continue 'ways;
+                }
+                Some(NfaState::Open) => {
+                    at += 1;
+                    continue 'ways;
+                }
+                Some(NfaState::Close(_)) => {
+                    at += 1;
+                    continue 'ways;
+                }
+                _ => return self.fail_each(at, from, to),
+            }
+        }
+        false
+    }
+
+    /// A test is at this state, perhaps behind a jump and where groups begin or end, and no character from the one place up
+    /// to the other passes it.
+    #[inline(always)]
+    fn fail_each(&self, at: usize, from: usize, to: usize) -> bool
+        requires { IsSearcher self.now }
+        ensures { IsTrue result → FailAtEach self.now at from to }
+    {
+        match self.test_at(at) {
+            Some(test) => self.excludes_each(test, from, to),
+            None => false,
+        }
+    }
+
+    /// From the one place up to the other each character is of ASCII and fails the test.
+    #[inline(always)]
+    fn excludes_each(&self, test: &CharTest, from: usize, to: usize) -> bool
+        requires { IsReadBy self.now.unicode test.now }
+        ensures { IsTrue result → ExcludesEach self.now test.now from to }
+    {
+        'places: for place in from..to {
+            if !self.is_excluded(test, place) {
+                return false;
+            }
+        }
+        true
+    }
+}
