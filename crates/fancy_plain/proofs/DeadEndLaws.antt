@@ -1,6 +1,9 @@
 -- States from which a search goes back, whatever it knows.
 use Rattle.std.proofs.Common.{◌≡◌, ◌+◌, ◌∷◌, ℕ, suc, Bool, true, false, List, [], Some, if◌then◌else◌, slice_get, refl, sym, ap, ◌∙◌, arith}
 use Rattle.std.proofs.lemmas.Bool.{cond-false, cond-true}
+use Rattle.fancy_meaning.specs.Assertions.{holds}
+use Rattle.fancy_expr.specs.Views.{assertion_of}
+use Rattle.fancy_expr.specs.declared.expr.Assertion.{Assertion}
 use Rattle.fancy_nfa.specs.NfaSearch as plain
 use Rattle.fancy_nfa.specs.NfaSearch.{Fails, Goes, Other, Search, TakesBack, TakesUp, goes_to, pair_of}
 use Rattle.fancy_backtrack.specs.declared.trail.NfaConfig.{NfaConfig}
@@ -16,6 +19,14 @@ use Rattle.fancy_plain.specs.Views.{state_of}
 use Rattle.fancy_plain.proofs.BackLaws.{one_more, steps_then}
 use Rattle.fancy_plain.proofs.OnePassLaws.{unsure_by}
 use Rattle.fancy_plain.proofs.SearchLaws.{next_there}
+
+-- but for the visits it is the same
+counted_visits : (c : Bool) (f : Search) →
+    (n : ℕ) × ((if c then record f { visits = f.visits + 1 } else f) ≡ record f { visits = f.visits + n })
+counted_visits true f = (1, refl)
+counted_visits false f =
+    let none : f.visits ≡ f.visits + 0 = omega arith in
+    (0, ap (λ n. record f { visits = n }) none)
 
 module _ (searcher : Searcher) where
   pub fails_dead : (at place : ℕ) → FailsFrom searcher at place → IsDeadEnd searcher at place
@@ -57,6 +68,17 @@ module _ (searcher : Searcher) where
             ),
           ),
         )
+
+  -- an assertion that does not hold
+  pub holds_fails : (a : Assertion) (at place : ℕ) → slice_get (searcher.states).now at ≡ Some (nfa_state.Holds a) →
+      holds (searcher.text).now place searcher.unicode (assertion_of a) ≡ false → FailsFrom searcher at place
+  holds_fails a at place there none s f is here =
+      let p = nfa_state.Holds a in
+      let c = counted_visits (plain.is_counted (Some (state_of p))) f in
+      let lost : plain.step_by (searcher.text).now searcher.unicode (state_of p) s ≡ plain.Lost =
+      ap (λ i. if holds (searcher.text).now i searcher.unicode (assertion_of a) then plain.Goes (plain.forward s) else plain.Lost) here
+      ∙ ap (λ v. if v then plain.Goes (plain.forward s) else plain.Lost) none in
+      (1, (c.0, stepped p at there s f is plain.Lost lost ∙ ap TakesBack c.1))
 
   pub jump_dead : (at to place : ℕ) → slice_get (searcher.states).now at ≡ Some (nfa_state.Jump to) → IsDeadEnd searcher to place →
       IsDeadEnd searcher at place

@@ -16,5 +16,6 @@ pub mod GroupSpansLaws
 pub mod DeadEndLaws
 pub mod OnePassLaws
 pub mod CountedLaws
+pub mod BranchLoopsLaws
 pub mod ThreadsLaws
 pub mod JoinedLayout

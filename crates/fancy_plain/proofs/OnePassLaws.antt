@@ -46,12 +46,12 @@ past_char_further text test i j e =
     let some = (len_utf8_bounds p.char).0 in
     omega (arith, p.to, some)
 
-and_parts : (b c : Bool) → (b && c) ≡ true → (b ≡ true) × (c ≡ true)
+pub and_parts : (b c : Bool) → (b && c) ≡ true → (b ≡ true) × (c ≡ true)
 and_parts true true e = (refl, refl)
 and_parts true false e = absurd (true≢false (sym e))
 and_parts false c e = absurd (true≢false (sym e))
 
-not_sure : {A : Type 0} → false ≡ true → A
+pub not_sure : {A : Type 0} → false ≡ true → A
 not_sure e = cc
 
 -- there is no place between one and itself

@@ -12,5 +12,6 @@ pub mod GroupSpans
 pub mod OnePass
 pub mod AsciiRuns
 pub mod CountedWays
+pub mod BranchLoops
 pub mod RequiredBytes
 pub mod LoopsInLoops

@@ -11,6 +11,7 @@ ghost use Rattle.fancy_plain.specs.Views.{IsReadBy};
 use crate::counted_ways::Passed;
 use crate::nfa_state::{CharTest, NfaState};
 use crate::search::Searcher;
+use fancy_characters::look::holds;
 use std::alloc::{AllocError, Global};
 
 /// So many bytes behind its start a walk may fail that is made once more to be sure. Where more were passed in vain, a
@@ -244,7 +245,7 @@ impl Searcher<'_> {
     }
 
     /// A test is at this state, perhaps behind a jump and where groups begin or end, and no character from the one place up
-    /// to the other passes it.
+    /// to the other passes it; or an assertion that holds at none of these places.
     #[inline(always)]
     fn fail_each(&self, at: usize, from: usize, to: usize) -> bool
         requires { IsSearcher self.now }
@@ -252,8 +253,28 @@ impl Searcher<'_> {
     {
         match self.test_at(at) {
             Some(test) => self.excludes_each(test, from, to),
-            None => false,
+            None => self.holds_nowhere(at, from, to),
         }
+    }
+
+    /// An assertion is at this state, perhaps behind a jump and where groups begin or end, and it holds at no place from the
+    /// one up to the other.
+    #[inline(never)]
+    fn holds_nowhere(&self, at: usize, from: usize, to: usize) -> bool
+        ensures { IsTrue result → FailAtEach self.now at from to }
+    {
+        let Some(NfaState::Holds(assertion)) = self
+            .states
+            .get(self.behind_groups(self.behind_jump(at)))
+        else {
+            return false;
+        };
+        'places: for place in from..to {
+            if holds(*assertion, self.unicode, self.text, place) {
+                return false;
+            }
+        }
+        true
     }
 
     /// From the one place up to the other each character is of ASCII and fails the test.

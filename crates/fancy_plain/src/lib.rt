@@ -2,6 +2,7 @@
 #![tactic(auto)]
 
 mod ascii_runs;
+mod branch_loops;
 mod counted_ways;
 mod dead_ends;
 mod first_sets;

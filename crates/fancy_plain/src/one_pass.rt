@@ -205,7 +205,7 @@ impl Searcher<'_> {
 
     /// Behind where groups begin or end, from this state on.
     #[inline(always)]
-    fn behind_groups(&self, at: usize) -> usize
+    pub(crate) fn behind_groups(&self, at: usize) -> usize
         ensures { (place : ℕ) → FailsFrom self.now result place → FailsFrom self.now at place }
     {
         let mut next = at;
@@ -367,6 +367,14 @@ impl Searcher<'_> {
                 // the body of a lazy loop stands before its exit
                 if second < first && self.body_at(*second, at).is_some() {
                     return self.past_lazy(alloc, at, place);
+                }
+                let end = self.past_branches(at, *first, place);
+                if end > place {
+                    return Ok(Passed::On {
+                        at,
+                        place: end,
+                        is_sure: false,
+                    });
                 }
                 let is_lost = self.fails_from(*first, place);
                 Ok(Passed::On {

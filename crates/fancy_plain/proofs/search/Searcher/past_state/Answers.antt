@@ -95,8 +95,18 @@ returns-in-Some-body_at c = λ s.
     c.in_ok-end-in-Some-LoopSplit.ensures s at c.in-Some-LoopSplit.first c.in-Some-LoopSplit.second there c.in-Some-body_at.ensures _
     (λ none i above below. absurd (none_between place i c.in_ok-end-in-Some-LoopSplit.end none above below))
 
-pub returns-else-second-first : goal.returns-else-second-first
-returns-else-second-first c = λ s.
+pub returns-then-end-place : goal.returns-then-end-place
+returns-then-end-place c = λ s.
+    let searcher = c.args.self.now in
+    let states = searcher.states.now in
+    let at = c.args.at in
+    let found = c.in-Some-LoopSplit.ensures.lookup in
+    let there = slice_get_read states (length states) at c.in-Some-LoopSplit.field-0.now refl (ltb-true at (length states) (sym found.0)) found.1
+    ∙ ap Some c.in-Some-LoopSplit.field-0-is in
+    c.past_branches-end.ensures.on s c.in-Some-LoopSplit.second there
+
+pub returns-else-end-place : goal.returns-else-end-place
+returns-else-end-place c = λ s.
     let searcher = c.args.self.now in
     let states = searcher.states.now in
     let at = c.args.at in
