@@ -17,5 +17,6 @@ pub mod DeadEndLaws
 pub mod OnePassLaws
 pub mod CountedLaws
 pub mod BranchLoopsLaws
+pub mod KeptRunsLaws
 pub mod ThreadsLaws
 pub mod JoinedLayout

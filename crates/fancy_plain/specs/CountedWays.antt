@@ -1,12 +1,14 @@
 -- Loops that count over one character, where no choice in them is taken back.
-use Rattle.std.specs.Prelude.{◌≡◌, ◌≤◌, ◌<◌, ◌-◌, ℕ, zero, suc, true, List, Some}
+use Rattle.std.specs.Prelude.{◌≡◌, ◌≤◌, ◌<◌, ◌+◌, ◌-◌, ℕ, zero, suc, true, false, List, Some, slice_get}
 use Rattle.fancy_meaning.specs.Moves.{past_char}
 use Rattle.fancy_nfa.specs.NfaSearch.{NfaConfig, passes}
+use Rattle.fancy_backtrack.specs.declared.loops.Loop.{Loop}
 use Rattle.fancy_plain.specs.declared.counted_ways.Passed.{Passed}
 use Rattle.fancy_plain.specs.declared.counted_ways.Passed.TheVariants as passed
 use Rattle.fancy_plain.specs.declared.nfa_state.CharTest.{CharTest}
+use Rattle.fancy_plain.specs.declared.nfa_state.NfaState.TheVariants as nfa_state
 use Rattle.fancy_plain.specs.declared.search.Searcher.{Searcher}
-use Rattle.fancy_plain.specs.Runs.{Excludes}
+use Rattle.fancy_plain.specs.Runs.{Excludes, IsBody}
 use Rattle.fancy_plain.specs.OnePass.{AreDeadEnds, Loses, Succeeds, Walks, closed_by, config_at, opened_at}
 use Rattle.fancy_plain.specs.Views.{test_of}
 
@@ -21,6 +23,14 @@ PassesSome t test (suc n) from to =
 abbrev pub PassesMost : Searcher → CharTest → (most : ℕ) → (from to left : ℕ) → Type 0
 PassesMost t test most from to left =
     (left ≤ most) × PassesSome t test (most - left) from to × (0 < left → Excludes t test to)
+
+-- a loop over this test begins there, with these bounds and this state behind it: it goes on first, and asks no iteration
+-- whether it moves
+abbrev pub BeginsLoop : Searcher → (enter : ℕ) → Loop → (after : ℕ) → CharTest → Type 0
+BeginsLoop t enter bounds after test =
+    (slice_get (t.states).now enter ≡ Some nfa_state.CounterBegin)
+    × (slice_get (t.states).now (enter + 1) ≡ Some (nfa_state.CounterLoop bounds after))
+    × IsBody (t.states).now (enter + 1) (enter + 1 + 1) test × (bounds.greedy ≡ true) × (bounds.asks_moved ≡ false)
 
 -- what a search that knows of no pair comes to from this state and place, whatever loops and groups are around
 abbrev pub ComesPast : Searcher → (at place : ℕ) → Passed → Type 0

@@ -13,5 +13,6 @@ pub mod OnePass
 pub mod AsciiRuns
 pub mod CountedWays
 pub mod BranchLoops
+pub mod KeptRuns
 pub mod RequiredBytes
 pub mod LoopsInLoops

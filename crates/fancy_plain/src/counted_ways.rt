@@ -1,8 +1,11 @@
 //! Loops that count over one character, where no choice in them is taken back.
 
-ghost use Rattle.std.specs.Prelude.{◌≡◌, ◌≤◌, ◌+◌, ◌-◌, false, true, IfOk, IfSome, Some, slice_get};
+ghost use Rattle.std.specs.Prelude.{◌≡◌, ◌≤◌, ◌<◌, ◌+◌, ◌-◌, ℕ, false, true, length, IfOk, IfSome, Some, slice_get};
+ghost use Rattle.fancy_meaning.specs.Numbers.{usize_max};
+ghost use Rattle.fancy_plain.specs.declared.nfa_state.CharTest.{CharTest};
+ghost use Rattle.fancy_plain.specs.declared.search.Searcher as searcher_view;
 ghost use Rattle.fancy_plain.specs.declared.nfa_state.NfaState.TheVariants as nfa_state;
-ghost use Rattle.fancy_plain.specs.CountedWays.{ComesPast, IsSureBehind, PassesMost, PassesSome};
+ghost use Rattle.fancy_plain.specs.CountedWays.{BeginsLoop, ComesPast, IsSureBehind, PassesMost, PassesSome};
 ghost use Rattle.fancy_plain.specs.Runs.{IsBody};
 ghost use Rattle.fancy_plain.specs.Searches.{IsSearcher};
 ghost use Rattle.fancy_plain.specs.Views.{IsReadBy};
@@ -90,20 +93,12 @@ impl Searcher<'_> {
             return Ok(Passed::Unknown);
         };
         let (end, left) = self.past_at_most(alloc, test, place, bounds.hi)?;
-        let count = bounds.hi - left;
-        if left > 0 && count < bounds.lo {
-            return Ok(Passed::Fails);
-        }
-        Ok(Passed::On {
-            at: *after,
-            place: end,
-            is_sure: count <= bounds.lo,
-        })
+        Ok(behind_counter(*bounds, *after, end, left))
     }
 
     /// Past at most so many characters from this place on that pass the test, and how many less these were.
     #[inline(always)]
-    fn past_at_most(
+    pub(crate) fn past_at_most(
         &self,
         alloc: Global,
         test: &CharTest,
@@ -163,5 +158,29 @@ impl Searcher<'_> {
             place += 1;
         }
         place
+    }
+}
+
+/// Behind a loop with these bounds, where its iterations end there and are so many less than they may be.
+#[inline(always)]
+pub(crate) fn behind_counter(bounds: Loop, after: usize, end: usize, left: usize) -> Passed
+    requires { left ≤ bounds.hi }
+    ensures comes { (searcher : searcher_view.Searcher) (enter place : ℕ) (test : CharTest)
+        → BeginsLoop searcher enter bounds after test
+        → PassesMost searcher test bounds.hi place end left
+        → length searcher.text.now < usize_max → ComesPast searcher enter place result }
+    ensures sure { (searcher : searcher_view.Searcher) (enter place : ℕ) (test : CharTest)
+        → BeginsLoop searcher enter bounds after test
+        → PassesMost searcher test bounds.hi place end left
+        → length searcher.text.now < usize_max → IsSureBehind searcher enter place result }
+{
+    let count = bounds.hi - left;
+    if left > 0 && count < bounds.lo {
+        return Passed::Fails;
+    }
+    Passed::On {
+        at: after,
+        place: end,
+        is_sure: count <= bounds.lo,
     }
 }

@@ -8,6 +8,7 @@ mod dead_ends;
 mod first_sets;
 pub mod first_way;
 pub mod group_spans;
+pub mod kept_runs;
 mod layout;
 mod lazy_loops;
 pub mod nfa;

@@ -500,7 +500,7 @@ impl Searcher<'_> {
 }
 
 /// What a test that fails says, where no loop was passed before, or else where one was.
-fn without_a_way(is_sure: bool) -> OnePass
+pub(crate) fn without_a_way(is_sure: bool) -> OnePass
     ensures bare { (searcher : searcher_view.Searcher) (place : ℕ) → (IsTrue is_sure
         → Finds searcher place None)
         → EndsOnePass searcher place result }

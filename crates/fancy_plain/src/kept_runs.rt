@@ -1,0 +1,275 @@
+//! Long runs over one character, kept from one one-pass match to the next.
+
+ghost use Rattle.std.specs.Prelude.{◌≡◌, ◌≤◌, ◌+◌, ℕ, Bool, List, [], IfOk, IsTrue, Some, slice_get};
+ghost use Rattle.fancy_meaning.specs.Places.{is_place};
+ghost use Rattle.fancy_nfa.specs.NfaSearch as plain;
+ghost use Rattle.fancy_plain.specs.declared.nfa_state.NfaState as nfa_states;
+ghost use Rattle.fancy_plain.specs.declared.nfa_state.NfaState.TheVariants as nfa_state;
+ghost use Rattle.fancy_plain.specs.AsciiRuns.{AllPass};
+ghost use Rattle.fancy_plain.specs.CountedWays.{ComesPast};
+ghost use Rattle.fancy_plain.specs.OnePass.{EndsOnePass, IsOnePass};
+ghost use Rattle.fancy_plain.specs.Searches.{IsSearcher};
+ghost use Rattle.fancy_plain.specs.Views.{IsReadBy, test_of};
+ghost use Rattle.fancy_plain.specs.Ways.{IsOfNodes};
+
+use crate::counted_ways::{Passed, behind_counter};
+use crate::nfa::Nfa;
+use crate::nfa_state::{CharTest, NfaState};
+use crate::one_pass::{OnePass, are_both, without_a_way};
+use crate::search::Searcher;
+use std::alloc::{AllocError, Global};
+
+/// So many bytes are a long run.
+const LONG: usize = 256;
+
+/// Bytes of ASCII one after the other that pass a test.
+#[derive(Clone, Copy)]
+pub(crate) struct KeptRun {
+    pub(crate) from: usize,
+    pub(crate) to: usize,
+}
+
+/// By the state of a loop's test, the last long run that the loop took. The run is empty where it took none.
+#[derive(Drop)]
+pub struct KeptRuns {
+    pub(crate) by_state: Vec<KeptRun>,
+}
+
+impl KeptRuns {
+    ghost use Rattle.fancy_plain.specs.declared.nfa.Nfa as nfa;
+    ghost use Rattle.fancy_plain.specs.KeptRuns.{AreRunsIn, AreRunsOf, PassesAt};
+
+    /// None is kept, and no memory is taken.
+    pub fn new(alloc: Global) -> KeptRuns
+        ensures { (text : List ℕ) (f : nfa.Nfa) → AreRunsOf text f result }
+    {
+        KeptRuns {
+            by_state: Vec::new(alloc),
+        }
+    }
+
+    /// None was kept yet.
+    #[inline(always)]
+    pub fn is_empty(&self) -> bool {
+        self.by_state.is_empty()
+    }
+
+    /// The run that is kept for this state, where it reaches over the place, and else the empty one there.
+    fn around(&self, state: usize, place: usize) -> KeptRun
+        ensures passes { (text : List ℕ) (unicode : Bool) (states : List nfa_states.NfaState)
+            → AreRunsIn text unicode states self.now
+            → PassesAt text unicode states state result.from result.to }
+        ensures before { result.from ≤ place }
+        ensures behind { place ≤ result.to }
+    {
+        if state < self.by_state.len() {
+            let run = self.by_state[state];
+            if run.from <= place && place <= run.to {
+                return run;
+            }
+        }
+        KeptRun {
+            from: place,
+            to: place,
+        }
+    }
+
+    /// Keeps this run for the state in place of the last one, if it is long. Where memory is refused it is not kept.
+    fn keep(&mut self, state: usize, run: KeptRun)
+        ensures { (text : List ℕ) (unicode : Bool) (states : List nfa_states.NfaState)
+            → AreRunsIn text unicode states self.old
+            → PassesAt text unicode states state run.from run.to
+            → AreRunsIn text unicode states self.new }
+    {
+        if run.to.saturating_sub(run.from) < LONG {
+            return;
+        }
+        'states: while self.by_state.len() <= state {
+            let Ok(()) = self.by_state.push(KeptRun { from: 0, to: 0 }) else {
+                return;
+            };
+        }
+        self.by_state[state] = run;
+    }
+}
+
+impl Nfa {
+    ghost use Rattle.fancy_plain.specs.KeptRuns.{AreRunsOf};
+
+    /// As `one_pass_end`. Long runs over one character that an earlier match in this text kept are not gone over again.
+    pub fn one_pass_end_kept(
+        &self,
+        alloc: Global,
+        text: &str,
+        ix: usize,
+        runs: &mut KeptRuns,
+    ) -> Result<OnePass, AllocError>
+        requires place { IsTrue (is_place text.now ix) }
+        requires nodes { ∥ IsOfNodes self.now ∥₁ }
+        requires runs { AreRunsOf text.now self.now runs.old }
+        ensures way { IfOk result (IsOnePass text.now self.now ix) }
+        ensures runs { AreRunsOf text.now self.now runs.new }
+    {
+        if !self.is_one_pass {
+            return Ok(OnePass::Unknown);
+        }
+        let searcher = Searcher {
+            states: &self.states,
+            unicode: self.unicode,
+            text,
+        };
+        searcher.walk_kept(alloc, ix, runs)
+    }
+}
+
+impl Searcher<'_> {
+    ghost use Rattle.fancy_plain.specs.KeptRuns.{AreRunsBy, RunsThrough};
+
+    /// From state to state, where there is no group.
+    fn walk_kept(
+        &self,
+        alloc: Global,
+        ix: usize,
+        runs: &mut KeptRuns,
+    ) -> Result<OnePass, AllocError>
+        requires searcher { IsSearcher self.now }
+        requires runs { AreRunsBy self.now runs.old }
+        ensures way { IfOk result (EndsOnePass self.now ix) }
+        ensures runs { AreRunsBy self.now runs.new }
+    {
+        let mut at = 0;
+        let mut place = ix;
+        let mut is_sure = true;
+        'states: for _ in 0..usize::MAX {
+            match self.past_kept(alloc, at, place, runs)? {
+                Passed::On {
+                    at: after,
+                    place: end,
+                    is_sure: is_exact,
+                } => {
+                    at = after;
+                    place = end;
+                    is_sure = are_both(is_sure, is_exact);
+                    continue 'states;
+                }
+                Passed::Ends => return Ok(OnePass::Ends(place)),
+                Passed::Fails => return Ok(without_a_way(is_sure)),
+                _ => return Ok(OnePass::Unknown),
+            }
+        }
+        Ok(OnePass::Unknown)
+    }
+
+    /// Past this state, or past a loop over one character by what is kept.
+    fn past_kept(
+        &self,
+        alloc: Global,
+        at: usize,
+        place: usize,
+        runs: &mut KeptRuns,
+    ) -> Result<Passed, AllocError>
+        requires searcher { IsSearcher self.now }
+        requires runs { AreRunsBy self.now runs.old }
+        ensures on { IfOk result (ComesPast self.now at place) }
+        ensures runs { AreRunsBy self.now runs.new }
+    {
+        match self.states.get(at) {
+            Some(NfaState::Jump(to)) => Ok(Passed::On {
+                at: *to,
+                place,
+                is_sure: true,
+            }),
+            Some(NfaState::LoopSplit(first, second)) => {
+                let Some(test) = self.body_at(*first, at) else {
+                    return self.past(alloc, at, place);
+                };
+                let end = self.past_all_kept(alloc, test, *first, place, runs)?;
+                Ok(Passed::On {
+                    at: *second,
+                    place: end,
+                    is_sure: false,
+                })
+            }
+            Some(NfaState::CounterBegin) => self.past_counted_kept(alloc, at, place, runs),
+            _ => self.past(alloc, at, place),
+        }
+    }
+
+    /// Past the loop that begins here, where it counts over one character.
+    fn past_counted_kept(
+        &self,
+        alloc: Global,
+        enter: usize,
+        place: usize,
+        runs: &mut KeptRuns,
+    ) -> Result<Passed, AllocError>
+        requires searcher { IsSearcher self.now }
+        requires at { slice_get self.now.states.now enter ≡ Some nfa_state.CounterBegin }
+        requires runs { AreRunsBy self.now runs.old }
+        ensures on { IfOk result (ComesPast self.now enter place) }
+        ensures runs { AreRunsBy self.now runs.new }
+    {
+        let head = enter + 1;
+        let Some(NfaState::CounterLoop { bounds, after }) = self.states.get(head) else {
+            return Ok(Passed::Unknown);
+        };
+        let Some(test) = self.counted_test(head, *bounds) else {
+            return Ok(Passed::Unknown);
+        };
+        let most = bounds.hi;
+        let on = self.past_ascii_kept(test, head + 1, place, most, runs);
+        let (end, left) = self.past_at_most(alloc, test, on, most - (on - place))?;
+        Ok(behind_counter(*bounds, *after, end, left))
+    }
+
+    /// Past the characters from this place on that pass the test at this state.
+    fn past_all_kept(
+        &self,
+        alloc: Global,
+        test: &CharTest,
+        state: usize,
+        from: usize,
+        runs: &mut KeptRuns,
+    ) -> Result<usize, AllocError>
+        requires read { IsReadBy self.now.unicode test.now }
+        requires at { slice_get self.now.states.now state ≡ Some (nfa_state.Character test.now) }
+        requires runs { AreRunsBy self.now runs.old }
+        ensures on { IfOk result (RunsThrough self.now test.now from) }
+        ensures runs { AreRunsBy self.now runs.new }
+    {
+        let on = self.past_ascii_kept(test, state, from, usize::MAX, runs);
+        self.past_all(alloc, test, on)
+    }
+
+    /// Past at most so many characters of ASCII from this place on that pass the test at this state: to the end of the
+    /// run that is kept for it, and from there one by one.
+    fn past_ascii_kept(
+        &self,
+        test: &CharTest,
+        state: usize,
+        from: usize,
+        most: usize,
+        runs: &mut KeptRuns,
+    ) -> usize
+        requires read { IsReadBy self.now.unicode test.now }
+        requires at { slice_get self.now.states.now state ≡ Some (nfa_state.Character test.now) }
+        requires runs { AreRunsBy self.now runs.old }
+        ensures pass { AllPass (plain.passes [] self.now.unicode (test_of test.now))
+            self.now.text.now from result }
+        ensures further { from ≤ result }
+        ensures within { result ≤ from + most }
+        ensures runs { AreRunsBy self.now runs.new }
+    {
+        let text = self.text.as_bytes();
+        let last = text.len().min(from.saturating_add(most));
+        let kept = runs.around(state, from);
+        let on = kept.to.min(last).max(from);
+        let end = test.past_ascii(self.unicode, &text[..last], on);
+        let run = KeptRun {
+            from: kept.from,
+            to: kept.to.max(end),
+        };
+        runs.keep(state, run);
+        end
+    }
+}
