@@ -1,6 +1,6 @@
 -- Ways that a search comes to without taking a choice back.
-use Rattle.std.proofs.Common.{◌≡◌, ◌≤◌, ◌<◌, ◌+◌, ◌-◌, ◌&&◌, ◌==◌, ◌∷◌, ℕ, zero, suc, true≢false, Bool, true, false, List, [], Option, Some, None, Result, Ok, Err, IfOk, IsTrue, if◌then◌else◌, option_map, map, not, slice_get, slice_index_or, refl, sym, ap, ◌∙◌, subst, arith}
-use Rattle.std.proofs.lemmas.Bool.{cond-false, eqb-true}
+use Rattle.std.proofs.Common.{◌≡◌, ◌≤◌, ◌<◌, ◌+◌, ◌-◌, ◌&&◌, ◌∷◌, ℕ, zero, suc, true≢false, Bool, true, false, List, [], Option, Some, None, Result, Ok, Err, IfOk, IsTrue, if◌then◌else◌, option_map, map, not, slice_get, slice_index_or, refl, sym, ap, ◌∙◌, subst, arith}
+use Rattle.std.proofs.lemmas.Bool.{cond-false}
 use Rattle.std.proofs.lemmas.Str.{len_utf8_bounds}
 use denote.Bor.{Bor}
 use Rattle.std.specs.declared.alloc.AllocError.{AllocError}
@@ -53,12 +53,6 @@ and_parts false c e = absurd (true≢false (sym e))
 
 pub not_sure : {A : Type 0} → false ≡ true → A
 not_sure e = cc
-
--- there is no place between one and itself
-pub none_between : (from i to : ℕ) → (to == from) ≡ true → from ≤ i → i < to → ⊥
-none_between from i to same above below =
-    let e = eqb-true to from same in
-    omega (arith, e, above, below)
 
 module _ (searcher : Searcher) where
   abbrev pub Test : CharTest → ℕ → Bool

@@ -1,50 +1,85 @@
 //! One-pass matches that fail behind a loop or a choice: where each way that was kept for later fails too, there is none.
 
-ghost use Rattle.std.specs.Prelude.{◌≡◌, ℕ, IfOk, IfSome, IsTrue, None, Some, slice_get};
+ghost use Rattle.std.specs.Prelude.{◌≡◌, [], ℕ, IfOk, IfSome, IsTrue, None, Some, slice_get};
 ghost use Rattle.fancy_plain.specs.declared.nfa_state.NfaState.TheVariants as nfa_state;
 ghost use Rattle.fancy_plain.specs.CountedWays.{ComesPast};
-ghost use Rattle.fancy_plain.specs.OnePass.{AreDeadEnds, FailAtEach, Finds, IsChoice, IsDeadEnd};
+ghost use Rattle.fancy_plain.specs.GroupSpans.{AreGroupsOf};
+ghost use Rattle.fancy_plain.specs.OnePass.{AreDeadEnds, EndsOnePass, EndsOnePassWith, FailAtEach, Finds, IsChoice, IsDeadEnd};
 ghost use Rattle.fancy_plain.specs.Runs.{ExcludesEach, IsBody};
 ghost use Rattle.fancy_plain.specs.Searches.{IsSearcher};
 ghost use Rattle.fancy_plain.specs.Views.{IsReadBy};
 
 use crate::counted_ways::Passed;
+use crate::group_spans::GroupSpans;
 use crate::nfa_state::{CharTest, NfaState};
+use crate::one_pass::{OnePass, without_a_way};
 use crate::search::Searcher;
 use fancy_characters::look::holds;
 use std::alloc::{AllocError, Global};
 
-/// So many bytes behind its start a walk may fail that is made once more to be sure. Where more were passed in vain, a
-/// search is to note it, so that they are not passed from one start after the other.
+/// So many bytes behind its start a walk may fail for sure. Where more were passed in vain, a search is to note it, so that
+/// they are not passed from one start after the other.
 const MOST_SURE: usize = 64;
 
 impl Searcher<'_> {
-    /// Whether there is no way from the start, where a walk from there failed at this place and may have kept a way for
-    /// later.
+    /// As `walk`. Where starts lie apart, and a walk knows nothing, another may be sure that there is no way.
     #[inline(always)]
-    pub(crate) fn has_no_way(
+    pub(crate) fn walk_surely(&self, alloc: Global, start: usize) -> Result<OnePass, AllocError>
+        requires { IsSearcher self.now }
+        ensures { IfOk result (EndsOnePass self.now start) }
+    {
+        if self.starts_lie_apart() {
+            let searcher = Searcher { ..*self };
+            return searcher.walk_twice(alloc, start);
+        }
+        self.walk(alloc, start)
+    }
+
+    /// As `walk_groups`, and sure as `walk_surely` is.
+    #[inline(always)]
+    pub(crate) fn walk_groups_surely(
         &self,
         alloc: Global,
         start: usize,
-        place: usize,
-        is_sure: bool,
-    ) -> Result<bool, AllocError>
+        groups: &mut GroupSpans,
+    ) -> Result<OnePass, AllocError>
         requires searcher { IsSearcher self.now }
-        requires sure { IsTrue is_sure → Finds self.now start None }
-        ensures { IfOk result (λ has_none. IsTrue has_none → Finds self.now start None) }
+        requires groups { AreGroupsOf groups.old [] [] }
+        ensures { IfOk result (EndsOnePassWith self.now start groups.new) }
     {
-        if is_sure || !self.begins_with_loop() || place > start.saturating_add(MOST_SURE) {
-            return Ok(is_sure);
+        let way = self.walk_groups(alloc, start, groups)?;
+        if !matches!(way, OnePass::Unknown) || !self.starts_lie_apart() {
+            return Ok(way);
         }
         let searcher = Searcher { ..*self };
-        searcher.walks_in_vain(alloc, start)
+        let has_none = searcher.walks_in_vain(alloc, start)?;
+        Ok(without_a_way(has_none))
     }
 
-    /// A way may begin with a loop that takes nothing. Such nodes mostly stand in a look-around, which is asked at places of
-    /// its own. Where a way begins with a character, the next start mostly lies in what was passed in vain, and a search that
-    /// notes it is faster.
-    fn begins_with_loop(&self) -> bool {
-        matches!(self.states.get(0), Some(NfaState::LoopSplit(_, _)))
+    /// As `walk`. Where that knows nothing, another walk may be sure that there is no way.
+    #[inline(never)]
+    fn walk_twice(&self, alloc: Global, start: usize) -> Result<OnePass, AllocError>
+        requires { IsSearcher self.now }
+        ensures { IfOk result (EndsOnePass self.now start) }
+    {
+        let way = self.walk(alloc, start)?;
+        if !matches!(way, OnePass::Unknown) {
+            return Ok(way);
+        }
+        let has_none = self.walks_in_vain(alloc, start)?;
+        Ok(without_a_way(has_none))
+    }
+
+    /// The next start seldom lies in what a walk passed in vain: a way may begin with a loop that takes nothing, as mostly in
+    /// a look-around, which is asked at places of its own, or it begins with a mark of punctuation. Else a search that notes
+    /// what it passed is faster.
+    fn starts_lie_apart(&self) -> bool {
+        match self.states.get(0) {
+            Some(NfaState::LoopSplit(_, _)) => true,
+            Some(NfaState::Character(CharTest::One { c, casei: false })) =>
+                c.is_ascii_punctuation(),
+            _ => false,
+        }
     }
 
     /// A walk from the start fails, and so does each way that it keeps for later, at its first test.
@@ -62,7 +97,7 @@ impl Searcher<'_> {
                     place: end,
                     is_sure,
                 } => {
-                    if !is_sure {
+                    if !is_sure || end > start.saturating_add(MOST_SURE) {
                         return Ok(false);
                     }
                     at = after;

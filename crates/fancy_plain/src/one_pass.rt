@@ -49,7 +49,7 @@ impl Nfa {
             unicode: self.unicode,
             text,
         };
-        searcher.walk(alloc, ix)
+        searcher.walk_surely(alloc, ix)
     }
 
     /// As `one_pass_end`, also of nodes with groups: the spans of the groups that the way sets are written over these.
@@ -78,7 +78,7 @@ impl Nfa {
             unicode: self.unicode,
             text,
         };
-        searcher.walk_groups(alloc, ix, groups)
+        searcher.walk_groups_surely(alloc, ix, groups)
     }
 }
 
@@ -233,7 +233,8 @@ impl Searcher<'_> {
     }
 
     /// From state to state, where there is no group.
-    fn walk(&self, alloc: Global, ix: usize) -> Result<OnePass, AllocError>
+    #[inline(always)]
+    pub(crate) fn walk(&self, alloc: Global, ix: usize) -> Result<OnePass, AllocError>
         requires { IsSearcher self.now }
         ensures { IfOk result (EndsOnePass self.now ix) }
     {
@@ -253,10 +254,7 @@ impl Searcher<'_> {
                     continue 'states;
                 }
                 Passed::Ends => return Ok(OnePass::Ends(place)),
-                Passed::Fails => {
-                    let has_none = self.has_no_way(alloc, ix, place, is_sure)?;
-                    return Ok(without_a_way(has_none));
-                }
+                Passed::Fails => return Ok(without_a_way(is_sure)),
                 _ => return Ok(OnePass::Unknown),
             }
         }
@@ -264,7 +262,7 @@ impl Searcher<'_> {
     }
 
     /// From state to state, with the spans of groups.
-    fn walk_groups(
+    pub(crate) fn walk_groups(
         &self,
         alloc: Global,
         ix: usize,
@@ -302,10 +300,7 @@ impl Searcher<'_> {
                     continue 'states;
                 }
                 Passed::Ends => return Ok(OnePass::Ends(here)),
-                Passed::Fails => {
-                    let has_none = self.has_no_way(alloc, ix, here, is_sure)?;
-                    return Ok(without_a_way(has_none));
-                }
+                Passed::Fails => return Ok(without_a_way(is_sure)),
                 Passed::Unknown => return Ok(OnePass::Unknown),
             }
         }
@@ -361,7 +356,7 @@ impl Searcher<'_> {
                     return Ok(Passed::On {
                         at: *second,
                         place: end,
-                        is_sure: end == place,
+                        is_sure: false,
                     });
                 }
                 // the body of a lazy loop stands before its exit
@@ -376,11 +371,11 @@ impl Searcher<'_> {
                         is_sure: false,
                     });
                 }
-                let is_lost = self.fails_from(*first, place);
+                let next = chosen(self.fails_from(*first, place), *first, *second);
                 Ok(Passed::On {
-                    at: chosen(is_lost, *first, *second),
+                    at: next,
                     place,
-                    is_sure: is_lost,
+                    is_sure: false,
                 })
             }
             Some(NfaState::Split(first, second)) => {

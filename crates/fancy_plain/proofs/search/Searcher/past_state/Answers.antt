@@ -1,11 +1,11 @@
-use Rattle.std.proofs.Common.{◌+◌, Some, length, refl, sym, ap, ◌∙◌, subst, if◌then◌else◌}
+use Rattle.std.proofs.Common.{◌+◌, true≢false, false, Some, length, refl, sym, ap, ◌∙◌, subst, if◌then◌else◌}
 use Rattle.std.proofs.lemmas.Bool.{ltb-true}
 use Rattle.std.proofs.lemmas.Option.{slice_get_read}
 use Rattle.fancy_nfa.specs.NfaSearch as plain
 use Rattle.fancy_plain.specs.declared.nfa_state.NfaState.TheVariants as nfa_state
 use Rattle.fancy_plain.specs.OnePass.{Walks, config_at, opened_at}
 use Rattle.fancy_plain.specs.Views.{IsStateReadBy}
-use Rattle.fancy_plain.proofs.OnePassLaws.{branch_choice, chosen_of, closes, goes, loop_choice, loses, none_between, split_choice, succeeds, tries_only}
+use Rattle.fancy_plain.proofs.OnePassLaws.{branch_choice, chosen_of, closes, goes, loop_choice, loses, split_choice, succeeds, tries_only, unsure_by}
 use Rattle.fancy_plain.proofs.search.Searcher.past_state.Goals as goal
 
 pub returns-in-Some-Match : goal.returns-in-Some-Match
@@ -87,13 +87,11 @@ returns-in-Some-body_at c = λ s.
     let searcher = c.args.self.now in
     let states = searcher.states.now in
     let at = c.args.at in
-    let place = c.args.place in
     let found = c.in-Some-LoopSplit.ensures.lookup in
     let there = slice_get_read states (length states) at c.in-Some-LoopSplit.field-0.now refl (ltb-true at (length states) (sym found.0)) found.1
     ∙ ap Some c.in-Some-LoopSplit.field-0-is in
-    let place = c.args.place in
-    c.in_ok-end-in-Some-LoopSplit.ensures s at c.in-Some-LoopSplit.first c.in-Some-LoopSplit.second there c.in-Some-body_at.ensures _
-    (λ none i above below. absurd (none_between place i c.in_ok-end-in-Some-LoopSplit.end none above below))
+    c.in_ok-end-in-Some-LoopSplit.ensures s at c.in-Some-LoopSplit.first c.in-Some-LoopSplit.second there c.in-Some-body_at.ensures false
+    (λ e. absurd (true≢false (sym e)))
 
 pub returns-then-end-place : goal.returns-then-end-place
 returns-then-end-place c = λ s.
@@ -116,9 +114,11 @@ returns-else-end-place c = λ s.
     ∙ ap Some c.in-Some-LoopSplit.field-0-is in
     let first = c.in-Some-LoopSplit.first in
     let second = c.in-Some-LoopSplit.second in
-    let is_lost = c.fails_from-is_lost.result in
-    subst (λ i. Walks searcher is_lost (config_at s at place) (config_at s i place)) (sym c.chosen.ensures)
-    (chosen_of searcher s at first second place is_lost (loop_choice searcher at first second there) c.fails_from-is_lost.ensures)
+    let is_lost = c.fails_from.result in
+    let next = if is_lost then second else first in
+    subst (λ i. Walks searcher false (config_at s at place) (config_at s i place)) (sym c.chosen-next.ensures)
+    (unsure_by searcher is_lost (config_at s at place) (config_at s next place)
+    (chosen_of searcher s at first second place is_lost (loop_choice searcher at first second there) c.fails_from.ensures))
 
 pub returns-in-Some-Split : goal.returns-in-Some-Split
 returns-in-Some-Split c = λ s.
@@ -131,9 +131,9 @@ returns-in-Some-Split c = λ s.
     ∙ ap Some c.in-Some-Split.field-0-is in
     let first = c.in-Some-Split.first in
     let second = c.in-Some-Split.second in
-    let is_lost = c.fails_from-is_lost-in-Some-Split.result in
-    subst (λ i. Walks searcher is_lost (config_at s at place) (config_at s i place)) (sym c.chosen-in-Some-Split.ensures)
-    (chosen_of searcher s at first second place is_lost (split_choice searcher at first second there) c.fails_from-is_lost-in-Some-Split.ensures)
+    let is_lost = c.fails_from-is_lost.result in
+    subst (λ i. Walks searcher is_lost (config_at s at place) (config_at s i place)) (sym c.chosen.ensures)
+    (chosen_of searcher s at first second place is_lost (split_choice searcher at first second there) c.fails_from-is_lost.ensures)
 
 pub returns-in-Some-BranchSplit : goal.returns-in-Some-BranchSplit
 returns-in-Some-BranchSplit c = λ s.

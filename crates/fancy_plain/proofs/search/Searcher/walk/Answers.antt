@@ -1,4 +1,4 @@
-use Rattle.std.proofs.Common.{sym, subst}
+use Rattle.std.proofs.Common.{◌&&◌, sym, subst}
 use Rattle.fancy_nfa.specs.NfaSearch.{first_config}
 use Rattle.fancy_plain.specs.CountedWays.{ComesPast}
 use Rattle.fancy_plain.specs.OnePass.{Walks, config_at}
@@ -25,13 +25,12 @@ returns-in-Ends c =
     finds_end searcher c.states.is_sure c.args.ix (config_at start c.states.at c.states.place) c.states.invariant
     (subst (ComesPast searcher c.states.at c.states.place) c.in-Ends.is c.in_ok-after.ensures start)
 
-pub has_no_way-requires-clause-sure : goal.has_no_way-requires-clause-sure
-has_no_way-requires-clause-sure c = λ sure.
+pub returns-in-Fails : goal.returns-in-Fails
+returns-in-Fails c =
     let searcher = c.args.self.now in
     let start = first_config c.args.ix in
     let here = config_at start c.states.at c.states.place in
+    c.without_a_way.ensures.bare searcher c.args.ix
+    (λ sure.
     finds_none searcher c.args.ix here (subst (λ b. Walks searcher b start here) sure c.states.invariant)
-    (subst (ComesPast searcher c.states.at c.states.place) c.in-Fails.is c.in_ok-after.ensures start)
-
-pub returns-in-Fails : goal.returns-in-Fails
-returns-in-Fails c = c.without_a_way.ensures.bare c.args.self.now c.args.ix c.in_ok-has_none-in-Fails.ensures
+    (subst (ComesPast searcher c.states.at c.states.place) c.in-Fails.is c.in_ok-after.ensures start))

@@ -1,4 +1,4 @@
-use Rattle.std.proofs.Common.{◌∷◌, refl, sym, subst}
+use Rattle.std.proofs.Common.{[], ◌∷◌, ◌&&◌, true, refl, sym, subst}
 use Rattle.fancy_nfa.specs.NfaSearch.{first_config}
 use Rattle.fancy_plain.specs.CountedWays.{ComesPast}
 use Rattle.fancy_plain.specs.OnePass.{Walks, closed_at, config_at, opened_at}
@@ -66,15 +66,13 @@ returns-in-Ends c =
     (subst (ComesPast searcher c.states.at c.states.here) c.in-Ends.is c.in_ok-after.ensures s) in
     (config_at here found.0 here.place, (found.1, refl, c.states.invariant.1.1.1))
 
-pub has_no_way-requires-clause-sure : goal.has_no_way-requires-clause-sure
-has_no_way-requires-clause-sure c = λ sure.
+pub returns-in-Fails : goal.returns-in-Fails
+returns-in-Fails c =
     let searcher = c.args.self.now in
     let start = first_config c.args.ix in
     let s = c.states.invariant.0 in
     let here = config_at s c.states.at c.states.here in
+    c.without_a_way.ensures.grouped searcher c.args.ix c.states.groups
+    (λ sure.
     finds_none searcher c.args.ix here (subst (λ b. Walks searcher b start here) sure c.states.invariant.1.0)
-    (subst (ComesPast searcher c.states.at c.states.here) c.in-Fails.is c.in_ok-after.ensures s)
-
-pub returns-in-Fails : goal.returns-in-Fails
-returns-in-Fails c =
-    c.without_a_way.ensures.grouped c.args.self.now c.args.ix c.states.groups c.in_ok-has_none-in-Fails.ensures
+    (subst (ComesPast searcher c.states.at c.states.here) c.in-Fails.is c.in_ok-after.ensures s))
