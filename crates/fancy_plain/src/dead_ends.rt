@@ -70,15 +70,14 @@ impl Searcher<'_> {
         Ok(without_a_way(has_none))
     }
 
-    /// The next start seldom lies in what a walk passed in vain: a way may begin with a loop that takes nothing, as mostly in
-    /// a look-around, which is asked at places of its own, or it begins with a mark of punctuation. Else a search that notes
-    /// what it passed is faster.
+    /// The next start seldom lies in what a walk passed in vain: the nodes begin with a choice, branches or a loop that may
+    /// take nothing, and mostly stand in a look-around, which is asked at places of its own; or they begin with a mark of
+    /// punctuation. Else a search that notes what it passed is faster.
     fn starts_lie_apart(&self) -> bool {
         match self.states.get(0) {
-            Some(NfaState::LoopSplit(_, _)) => true,
             Some(NfaState::Character(CharTest::One { c, casei: false })) =>
                 c.is_ascii_punctuation(),
-            _ => false,
+            _ => self.choice_at(0).is_some(),
         }
     }
 
