@@ -10,6 +10,7 @@ pub mod MeaningLaws
 pub mod BoundsLaws
 pub mod MemosLaws
 pub mod PairsLaws
+pub mod AtomicPartsLaws
 pub mod SingleDelegateLaws
 pub mod SingleBranchLaws
 pub mod LastStartsLaws

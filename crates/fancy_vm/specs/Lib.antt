@@ -8,6 +8,7 @@ pub mod StartFilters
 pub mod TrailingNewlines
 pub mod LookBehindCaches
 pub mod Outcomes
+pub mod AtomicParts
 pub mod Means
 pub mod Bounds
 pub mod Steppers

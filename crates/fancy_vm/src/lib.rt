@@ -1,6 +1,7 @@
 //! The machine: states and runs of programs.
 #![tactic(auto)]
 
+mod atomic_parts;
 mod delegates;
 mod lazy;
 mod limits;

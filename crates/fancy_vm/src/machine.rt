@@ -41,7 +41,8 @@ pub(crate) struct Machine<'a> {
     /// Where the attempt began.
     pub(crate) start: usize,
     pub(crate) backtracks: usize,
-    /// How many instructions after the first one stand for the last step that passed over starts or rounds of a loop.
+    /// How many instructions after the first one stand for the last step that passed over starts, rounds of a loop or an
+    /// atomic part.
     pub(crate) passed: u64,
     pub(crate) state: State,
     /// The longest match so far, where the longest is asked for.
@@ -55,11 +56,20 @@ pub(crate) struct Machine<'a> {
     ghost is_cache: { IsLookBehindCache task.text.now look_behind_cache },
 }
 
+/// How far a step goes at the beginning of an atomic part.
+#[derive(Clone, Copy)]
+pub(crate) enum Stride {
+    /// By one instruction.
+    Instruction,
+    /// Behind the part, where it is one fragment.
+    Part,
+}
+
 /// What an instruction led to.
 #[derive(Clone, Copy)]
 pub(crate) enum Next {
     On,
-    /// Starts, or rounds of a loop, were passed over.
+    /// Starts, rounds of a loop or an atomic part were passed over.
     Passed,
     /// The match of the machine's slots is answered.
     Matches,

@@ -19,7 +19,7 @@ ghost use Rattle.fancy_program.specs.Programs.{prog_of};
 ghost use Rattle.fancy_vm.specs.Tasks.{IsUnused, allocator_of, default_at, default_task, options_of, task_of};
 
 use crate::longest::Longest;
-use crate::machine::{MAX_BRANCHES, Machine, Next, Stop, Task};
+use crate::machine::{MAX_BRANCHES, Machine, Next, Stop, Stride, Task};
 use crate::memos::Memos;
 use crate::search_limits::{SearchCost, SearchLimit, SearchLimits};
 use crate::start_filters::StartFilters;
@@ -519,7 +519,7 @@ impl Machine<'_> {
         let body: &[Insn] = &prog.body;
         'steps: while left > 0 {
             left -= 1;
-            match self.step(body, memos)? {
+            match self.step(body, memos, Stride::Part)? {
                 Next::On => {}
                 Next::Passed => {
                     left = left.saturating_sub(self.passed);

@@ -9,7 +9,7 @@ ghost use Rattle.fancy_vm.specs.Tasks.{task_of};
 ghost use Rattle.fancy_vm.specs.Steppers.{Begins, IsOnRun, config_in, task_in};
 
 use crate::longest::Longest;
-use crate::machine::{MAX_BRANCHES, Machine, Next, Task};
+use crate::machine::{MAX_BRANCHES, Machine, Next, Stride, Task};
 use crate::memos::Memos;
 use crate::runs::RunOptions;
 use crate::search_limits::SearchLimits;
@@ -137,7 +137,7 @@ impl<'a> Stepper<'a> {
             return Err(Error::RuntimeError(RuntimeError::StepLimitExceeded));
         }
         let prog = machine.task.prog;
-        let passed = match machine.step(&prog.body, &mut memos)? {
+        let passed = match machine.step(&prog.body, &mut memos, Stride::Instruction)? {
             Next::On => 0,
             Next::Passed => machine.passed,
             Next::Matches => return Ok(Progress::Ends(machine.ending(true)?)),
