@@ -90,6 +90,29 @@ module _ (searcher : Searcher) where
       on_dead nfa_state.Open at there (at + 1) place dead
       (λ s is. (record (plain.forward s) { opened = s.place ∷ s.opened }, (refl, ap (λ i. i + 1) is, refl)))
 
+  -- where ways meet
+  pub join_dead : (at place : ℕ) → slice_get (searcher.states).now at ≡ Some nfa_state.Join → IsDeadEnd searcher (at + 1) place →
+      IsDeadEnd searcher at place
+  join_dead at place there dead s f is here = go (f.failed (pair_of s)) refl
+    where
+      leads : next_of searcher (TakesUp s f) ≡ plain.tries true (pair_of s) (plain.forward s) [] (Some (state_of nfa_state.Join)) f
+      leads = stepped nfa_state.Join at there s f is (plain.Tries true (plain.forward s) []) refl
+
+      go : (b : Bool) → f.failed (pair_of s) ≡ b →
+          (steps : ℕ) × ((g : Search) × ((after_steps_of searcher steps (TakesUp s f) ≡ TakesBack g) × (g.frames ≡ f.frames)))
+      go true known = (1, (f, (leads ∙ cond-true (f.failed (pair_of s)) _ _ known, refl)))
+      go false known =
+          let kept : Search = record f { frames = Fails (pair_of s) ∷ f.frames } in
+          let x = dead (plain.forward s) kept (ap (λ i. i + 1) is) here in
+          let up = leads ∙ cond-false (f.failed (pair_of s)) _ _ known in
+          let back = ap (after_steps_of searcher x.0) up ∙ x.1.1.0 in (
+            suc (suc x.0),
+            (
+              plain.with_failed (pair_of s) (record x.1.0 { frames = f.frames }),
+              (one_more searcher (suc x.0) (TakesUp s f) (TakesBack x.1.0) back ∙ ap (λ l. plain.back_to l x.1.0) x.1.1.1, refl),
+            ),
+          )
+
   pub close_dead : (group at place : ℕ) → slice_get (searcher.states).now at ≡ Some (nfa_state.Close group) → IsDeadEnd searcher (at + 1) place →
       IsDeadEnd searcher at place
   close_dead group at place there dead = on_dead (nfa_state.Close group) at there (at + 1) place dead (λ s is. closes s is s.opened)

@@ -33,6 +33,7 @@ use Rattle.fancy_plain.specs.declared.group_spans.GroupSpans.{GroupSpans}
 use Rattle.fancy_plain.specs.GroupSpans.{AreGroupsOf, spans_in}
 use Rattle.fancy_plain.specs.CountedWays.{ComesPast}
 use Rattle.fancy_plain.specs.Nfas.{IsNfaOf}
+use Rattle.fancy_plain.specs.Ways.{HasNoWayAt}
 use Rattle.fancy_plain.specs.Views.{state_of, test_of}
 use Rattle.fancy_plain.proofs.BackLaws.{steps_then}
 use Rattle.fancy_plain.proofs.FirstWayLaws.{finds, same_end, way_at}
@@ -629,6 +630,11 @@ module _ (states : Bor (List NfaState)) (text : Bor (List ℕ)) (f : Nfa) (place
   pub one_pass_answered : (r : Result OnePass AllocError) → IfOk r (EndsOnePass nfa_searcher place) → IfOk r (IsOnePass text.now f place)
   one_pass_answered (Ok r) h = one_pass_is r h
   one_pass_answered (Err e) h = tt
+
+  pub none_answered : (r : Result Bool AllocError) → IfOk r (λ none. IsTrue none → Finds nfa_searcher place None) →
+      IfOk r (λ none. IsTrue none → HasNoWayAt text.now f place)
+  none_answered (Ok none) h = λ yes. one_pass_is one_pass.Fails (h yes)
+  none_answered (Err e) h = tt
 
   -- a way that is seen so
   seen_way : (s : plain.NfaConfig) (end : ℕ) (spans : ℕ → Option Span) (o : Option Seen) → s.place ≡ end →

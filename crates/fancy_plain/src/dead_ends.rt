@@ -8,9 +8,12 @@ ghost use Rattle.fancy_plain.specs.OnePass.{AreDeadEnds, EndsOnePass, EndsOnePas
 ghost use Rattle.fancy_plain.specs.Runs.{ExcludesEach, IsBody};
 ghost use Rattle.fancy_plain.specs.Searches.{IsSearcher};
 ghost use Rattle.fancy_plain.specs.Views.{IsReadBy};
+ghost use Rattle.fancy_plain.specs.Ways.{HasNoWayAt, IsOfNodes};
+ghost use Rattle.fancy_meaning.specs.Places.{is_place};
 
 use crate::counted_ways::Passed;
 use crate::group_spans::GroupSpans;
+use crate::nfa::Nfa;
 use crate::nfa_state::{CharTest, NfaState};
 use crate::one_pass::{OnePass, without_a_way};
 use crate::search::Searcher;
@@ -20,6 +23,23 @@ use std::alloc::{AllocError, Global};
 /// So many bytes behind its start a walk may fail for sure. Where more were passed in vain, a search is to note it, so that
 /// they are not passed from one start after the other.
 const MOST_SURE: usize = 64;
+
+impl Nfa {
+    /// One pass tells that the nodes have no way from `ix`, a character boundary of the text: it fails, and so does at its
+    /// first test each way that it leaves out.
+    pub fn fails_surely(&self, alloc: Global, text: &str, ix: usize) -> Result<bool, AllocError>
+        requires place { IsTrue (is_place text.now ix) }
+        requires nodes { ∥ IsOfNodes self.now ∥₁ }
+        ensures { IfOk result (λ fails. IsTrue fails → HasNoWayAt text.now self.now ix) }
+    {
+        let searcher = Searcher {
+            states: &self.states,
+            unicode: self.unicode,
+            text,
+        };
+        searcher.walks_in_vain(alloc, ix, usize::MAX)
+    }
+}
 
 impl Searcher<'_> {
     /// As `walk`. Where starts lie apart, and a walk knows nothing, another may be sure that there is no way.
@@ -52,7 +72,7 @@ impl Searcher<'_> {
             return Ok(way);
         }
         let searcher = Searcher { ..*self };
-        let has_none = searcher.walks_in_vain(alloc, start)?;
+        let has_none = searcher.walks_in_vain(alloc, start, MOST_SURE)?;
         Ok(without_a_way(has_none))
     }
 
@@ -66,7 +86,7 @@ impl Searcher<'_> {
         if !matches!(way, OnePass::Unknown) {
             return Ok(way);
         }
-        let has_none = self.walks_in_vain(alloc, start)?;
+        let has_none = self.walks_in_vain(alloc, start, MOST_SURE)?;
         Ok(without_a_way(has_none))
     }
 
@@ -81,9 +101,15 @@ impl Searcher<'_> {
         }
     }
 
-    /// A walk from the start fails, and so does each way that it keeps for later, at its first test.
+    /// A walk from the start fails, and so does each way that it keeps for later, at its first test. It goes so many bytes at
+    /// most.
     #[inline(never)]
-    fn walks_in_vain(&self, alloc: Global, start: usize) -> Result<bool, AllocError>
+    fn walks_in_vain(
+        &self,
+        alloc: Global,
+        start: usize,
+        most: usize,
+    ) -> Result<bool, AllocError>
         requires { IsSearcher self.now }
         ensures { IfOk result (λ has_none. IsTrue has_none → Finds self.now start None) }
     {
@@ -96,7 +122,7 @@ impl Searcher<'_> {
                     place: end,
                     is_sure,
                 } => {
-                    if !is_sure || end > start.saturating_add(MOST_SURE) {
+                    if !is_sure || end > start.saturating_add(most) {
                         return Ok(false);
                     }
                     at = after;
@@ -265,6 +291,10 @@ impl Searcher<'_> {
                     continue 'ways;
                 }
                 Some(NfaState::Open) => {
+                    at += 1;
+                    continue 'ways;
+                }
+                Some(NfaState::Join) => {
                     at += 1;
                     continue 'ways;
                 }

@@ -2,7 +2,7 @@
 
 ghost use Rattle.std.specs.Prelude.{◌≡◌, ◌<◌, Some, None, length, slice_get, slice_set, IfOk, IsTrue, OnOk};
 ghost use Rattle.fancy_meaning.specs.Places.{is_place};
-ghost use Rattle.fancy_fragments.specs.Fragments.{IsFirstWayOf, IsJoinedMemoFor, IsOnePassWayOf};
+ghost use Rattle.fancy_fragments.specs.Fragments.{HasNoWayFrom, IsFirstWayOf, IsJoinedMemoFor, IsOnePassWayOf};
 ghost use Rattle.fancy_plain.specs.GroupSpans.{spans_in};
 ghost use Rattle.fancy_plain.specs.Ways.{HasAscending};
 ghost use Rattle.fancy_vm.specs.MemoRuns.{AddsNoMemo, AreOfRuns};
@@ -27,6 +27,9 @@ pub(crate) struct RunMemo {
     run: u64,
 }
 
+/// So often a fragment without groups may be passed again in a run, to be sure that it fails.
+const MOST_AGAIN: usize = 16;
+
 /// By the place of a delegate in a program, what its searches have noted. Of a memo of an earlier run only the room is
 /// used again.
 pub(crate) struct Memos {
@@ -39,6 +42,8 @@ pub(crate) struct Memos {
     groups: GroupSpans,
     /// How often one pass over a fragment with groups told nothing in this run.
     unknown: usize,
+    /// How often more a fragment without groups may be passed again in this run.
+    again: usize,
     ghost of_runs: { AreOfRuns run by_place.items },
 }
 
@@ -51,6 +56,7 @@ impl Drop for Memos {
             cost: _,
             groups: _,
             unknown: _,
+            again: _,
         } = self;
     }
 }
@@ -90,6 +96,7 @@ impl Memos {
             cost: SearchCost::none(),
             groups: GroupSpans::new(alloc),
             unknown: 0,
+            again: MOST_AGAIN,
         }
     }
 
@@ -114,6 +121,7 @@ impl Memos {
     {
         self.cost.bytes = 0;
         self.unknown = 0;
+        self.again = MOST_AGAIN;
         match self.run.checked_add(1) {
             None => *self = Memos::new(alloc),
             Some(run) => self.run = run,
@@ -253,7 +261,7 @@ impl Memos {
         ensures ascends { IfOk result HasAscending }
         ensures memos { AreMemosOf task.now self.new }
     {
-        if !fragment.nfa().can_begin(task.text, ix) {
+        if !fragment.nfa().can_begin(task.text, ix) || self.fails_surely(task, fragment, pc, ix) {
             return Ok(FirstWay {
                 way: None,
                 visits: 0,
@@ -264,6 +272,30 @@ impl Memos {
         let run = self.run;
         self.by_place[pc] = Some(RunMemo { memo, run });
         way
+    }
+
+    /// Another pass over the fragment is sure that it has no way from `ix`. Passes are made so for few failures of a run,
+    /// before a search of the fragment noted anything, and no more after one that was not sure.
+    #[inline(never)]
+    fn fails_surely(
+        &mut self,
+        task: &Task<'_>,
+        fragment: &Fragment,
+        pc: usize,
+        ix: usize,
+    ) -> bool
+        requires place { IsTrue (is_place task.now.text.now ix) }
+        requires memos { AreMemosOf task.now self.old }
+        ensures none { IsTrue result → HasNoWayFrom task.now.text.now fragment.now ix }
+        ensures memos { AreMemosOf task.now self.new }
+    {
+        if self.again == 0 || !fragment.nfa().is_one_pass() || self.have_memoized(pc) {
+            return false;
+        }
+        let nfa = fragment.nfa();
+        let fails = matches!(nfa.fails_surely(task.alloc, task.text, ix), Ok(true));
+        self.again = if fails { self.again - 1 } else { 0 };
+        fails
     }
 
     /// Takes out what was noted in this run of the fragment at `pc` of the program.

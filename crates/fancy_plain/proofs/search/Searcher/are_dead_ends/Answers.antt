@@ -1,7 +1,7 @@
 use Rattle.std.proofs.Common.{Some, length, refl, sym, ap, ◌∙◌}
 use Rattle.std.proofs.lemmas.Bool.{ltb-true}
 use Rattle.std.proofs.lemmas.Option.{slice_get_read}
-use Rattle.fancy_plain.proofs.DeadEndLaws.{choice_dead, close_dead, each_dead, fails_dead, jump_dead, open_dead}
+use Rattle.fancy_plain.proofs.DeadEndLaws.{choice_dead, close_dead, each_dead, fails_dead, join_dead, jump_dead, open_dead}
 use Rattle.fancy_plain.proofs.search.Searcher.are_dead_ends.Goals as goal
 
 pub ways-preserved-in-Some : goal.ways-preserved-in-Some
@@ -31,6 +31,16 @@ ways-preserved-in-Some-Open c = λ other.
     let there = slice_get_read states (length states) at c.in-Some-Open.field-0.now refl (ltb-true at (length states) (sym found.0)) found.1
     ∙ ap Some c.in-Some-Open.field-0-is in
     c.ways.invariant (λ i above below. open_dead searcher at i there (other i above below))
+
+pub ways-preserved-in-Some-Join : goal.ways-preserved-in-Some-Join
+ways-preserved-in-Some-Join c = λ other.
+    let searcher = c.args.self.now in
+    let states = searcher.states.now in
+    let at = c.ways.at in
+    let found = c.in-Some-Join.ensures.lookup in
+    let there = slice_get_read states (length states) at c.in-Some-Join.field-0.now refl (ltb-true at (length states) (sym found.0)) found.1
+    ∙ ap Some c.in-Some-Join.field-0-is in
+    c.ways.invariant (λ i above below. join_dead searcher at i there (other i above below))
 
 pub ways-preserved : goal.ways-preserved
 ways-preserved c = λ other.
