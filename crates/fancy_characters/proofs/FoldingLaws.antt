@@ -1,7 +1,8 @@
 -- Folding of numbers, and rows of tests on characters.
-use Rattle.std.proofs.Common.{◌≡◌, ℕ, ◌+◌, ◌<◌, Bool, true, false, true≢false, ◌&&◌, ◌==◌, List, [], ◌∷◌, length, map, drop, get_or, slice_index_or, refl, sym, ap, ◌∙◌, ne_eqb, eq-eqb, ◌≢◌, Option, Some, None, if◌then◌else◌, option_and_then}
+use Rattle.std.proofs.Common.{◌≡◌, ℕ, ◌+◌, ◌-◌, ◌<◌, ◌≤◌, ◌⊎◌, arith, Bool, true, false, true≢false, ◌&&◌, ◌==◌, List, [], ◌∷◌, length, map, drop, get_or, slice_index_or, refl, sym, ap, ◌∙◌, ne_eqb, eq-eqb, ◌≢◌, Option, Some, None, if◌then◌else◌, option_and_then}
+use Rattle.std.proofs.lemmas.Bool.Decides.{nat_tests}
 use Rattle.std.proofs.lemmas.List.{drop-map}
-use Rattle.std.specs.Char.{len_utf8}
+use Rattle.std.specs.Char.{len_utf8, to_ascii_lowercase}
 use Rattle.ucd_table.proofs.Computing.{tables}
 use Rattle.ucd_table.proofs.RangedFacts.{points_ok, Stepped-at_points}
 use Rattle.regex_hir.specs.Text.{is_scalar, char_at}
@@ -26,6 +27,14 @@ fold_none c (x ∷ xs) h other = absurd (true≢false (sym (h refl) ∙ other))
 -- a number that is no character folds to itself
 pub fold_other : (c : ℕ) → is_scalar c ≡ false → c ≡ simple_fold c
 fold_other c = fold_none c (simple_folding c) (folds_characters c)
+
+-- ---- the two cases of an ASCII letter
+
+pub lower_or_upper : (l d : ℕ) → l ≡ to_ascii_lowercase d → (d ≡ l) ⊎ (d ≡ l - 32)
+lower_or_upper l d same = grind (arith, nat_tests, same)
+
+pub no_letter : (l d : ℕ) → l ≡ to_ascii_lowercase d → (97 ≤ l → l ≤ 122 → ⊥) → d ≡ l
+no_letter l d same other = grind (arith, nat_tests, same, other)
 
 -- ---- characters that are taken one after the other
 

@@ -7,3 +7,4 @@ pub mod AsciiLaws
 pub mod ClassLaws
 pub mod MembersLaws
 pub mod ThreadsLaws
+pub mod EscapeLaws

@@ -9,7 +9,9 @@ ghost use Rattle.fancy_meaning.specs.Moves.{past_char};
 ghost use Rattle.fancy_expr.specs.declared.error.Error.TheVariants.{Memory};
 
 pub use crate::compiled::{CompiledClass, class_ranges};
-pub use crate::folding::{CaseiLiteral, fold_equal, literal_takes, matches_literal_casei_unicode};
+pub use crate::folding::{
+    CaseiLiteral, ascii_folds, fold_equal, literal_takes, matches_literal_casei_unicode,
+};
 pub use crate::pieces::past_piece;
 use crate::spelling::len_utf8;
 use fancy_expr::error::Error;

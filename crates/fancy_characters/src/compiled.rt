@@ -7,6 +7,7 @@ ghost use Rattle.regex_class.specs.Ranges.{in_range, in_ranges};
 ghost use Rattle.fancy_characters.specs.Members.{AreMembersBy};
 ghost use Rattle.fancy_meaning.specs.Chars as meant;
 
+use crate::escapes::EscapeClass;
 use crate::members::members;
 use fancy_expr::error::{CompileError, Error};
 use regex::{Matcher, Regex};
@@ -18,10 +19,12 @@ use std::marker::Model;
 /// What tells whether a character beyond ASCII is in a class.
 #[derive(Drop)]
 pub(crate) enum Others {
+    /// The class that one escape stands for.
+    Escaped(EscapeClass),
     /// All characters of the class.
     Listed(Class),
     /// The regex that finds them.
-    Asked(Regex),
+    Asked(Box<Regex>),
 }
 
 /// The text of a class, its answers for the ASCII characters, and what answers for the others.
@@ -74,6 +77,15 @@ impl CompiledClass {
         ensures refused { IfErr result (IsClassRefusal unicode name.now casei) }
     {
         let inner = String::from_str(alloc, name)?;
+        if let Some(escape) = EscapeClass::of(name, unicode) {
+            return Ok(CompiledClass {
+                inner,
+                casei,
+                unicode,
+                ascii: escape.ascii(),
+                others: Others::Escaped(escape),
+            });
+        }
         let pattern = class_pattern(alloc, name, casei, unicode)?;
         let listed = match members(alloc, pattern.as_str()) {
             Ok(listed) => listed,
@@ -103,7 +115,7 @@ impl CompiledClass {
             casei,
             unicode,
             ascii: ascii_answers(alloc, &regex)?,
-            others: Others::Asked(regex),
+            others: Others::Asked(Box::new(alloc, regex)?),
         })
     }
 
@@ -132,6 +144,7 @@ impl CompiledClass {
             return Ok(self.takes_ascii(c as u8));
         }
         match &self.others {
+            Others::Escaped(escape) => Ok(escape.takes(c)),
             Others::Listed(members) => Ok(members.contains(c as u32)),
             Others::Asked(regex) => Ok(ask(&mut regex.matcher(alloc)?, c)),
         }

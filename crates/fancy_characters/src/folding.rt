@@ -1,6 +1,6 @@
 //! Simple case folding: characters and texts that fold to the same, and literals with folded characters.
 
-ghost use Rattle.std.specs.Prelude.{◌≡◌, ◌+◌, ◌≤◌, max, length, chars, option_map, IfSome};
+ghost use Rattle.std.specs.Prelude.{◌≡◌, ◌+◌, ◌<◌, ◌≤◌, ◌⊎◌, ℕ, IsTrue, max, length, chars, option_map, true, IfSome};
 ghost use Rattle.std.specs.Char.{to_ascii_lowercase};
 ghost use Rattle.ucd_case.specs.CaseFolding as table;
 ghost use Rattle.fancy_meaning.specs.Chars as meant;
@@ -21,6 +21,9 @@ pub fn fold_equal(a: char, b: char) -> bool
 fn fold_code(c: u32) -> u32
     ensures { result ≡ table.simple_fold c }
 {
+    if c < 128 {
+        return ascii_lower(c);
+    }
     match char::from_u32(c) {
         Some(c) => simple_fold(c) as u32,
         None => c,
@@ -73,6 +76,30 @@ fn folds_to(unicode: bool, a: u32, b: u32) -> bool
         fold_code(a) == fold_code(b)
     } else {
         ascii_lower(a) == ascii_lower(b)
+    }
+}
+
+/// The ASCII characters that a folded literal of the character `c` takes: both numbers, as far as they are of ASCII.
+pub fn ascii_folds(unicode: bool, c: u32) -> (u32, u32)
+    ensures { (d : ℕ) → d < 128 → IsTrue (meant.literal_takes unicode c true d)
+        → (d ≡ result.0) ⊎ (d ≡ result.1) }
+{
+    let lower = lower_case(unicode, c);
+    if 97 <= lower && lower <= 122 {
+        return (lower, lower - 32);
+    }
+    (lower, lower)
+}
+
+/// The lower case of each ASCII character that a folded literal of the character `c` takes, if it takes one.
+fn lower_case(unicode: bool, c: u32) -> u32
+    ensures { (d : ℕ) → d < 128 → IsTrue (meant.literal_takes unicode c true d)
+        → result ≡ to_ascii_lowercase d }
+{
+    if unicode {
+        fold_code(c)
+    } else {
+        ascii_lower(c)
     }
 }
 

@@ -3,6 +3,7 @@
 
 pub mod classes;
 mod compiled;
+mod escapes;
 mod folding;
 pub mod look;
 mod members;
