@@ -1,6 +1,7 @@
 //! With which characters a way can begin: found by the states that a search comes to before each of its first ones.
 
 ghost use Rattle.std.specs.Prelude.{◌≡◌, ◌&&◌, ℕ, ◌+◌, ◌<◌, [], true, false, map, slice_get, slice_index_or, Some, IfOk, IfSome};
+ghost use Rattle.fancy_meaning.specs.Chars.{literal_takes};
 ghost use Rattle.fancy_nfa.specs.NfaSearch.{passes};
 ghost use Rattle.fancy_plain.specs.FirstSets.{may_begin, covers, is_over, is_short, steps_within, IsLevel, AreFirstSets};
 ghost use Rattle.fancy_backtrack.specs.Loops.{loop_of};
@@ -8,6 +9,7 @@ ghost use Rattle.fancy_plain.specs.Views.{state_of, test_of, IsStateReadBy, IsRe
 
 use crate::nfa_state::{CharTest, NfaState};
 use fancy_backtrack::loops::Loop;
+use fancy_characters::classes::ascii_folds;
 use std::alloc::{AllocError, Global};
 
 /// At how many of a way's first places it is told which ASCII characters can stand there.
@@ -258,6 +260,7 @@ fn add_taken(test: &CharTest, unicode: bool, ascii: &mut [bool; 128])
 {
     match test {
         CharTest::One { c, casei: false } => add_one(*c as usize, ascii),
+        CharTest::One { c, casei: true } => add_folded(*c as u32, unicode, ascii),
         _ => add_each(test, unicode, ascii),
     }
 }
@@ -272,6 +275,18 @@ fn add_one(c: usize, ascii: &mut [bool; 128])
     }
 }
 
+/// Adds the ASCII characters that fold to the same as this character.
+fn add_folded(c: u32, unicode: bool, ascii: &mut [bool; 128])
+    ensures taken { (d : ℕ) → d < 128 → literal_takes unicode c true d ≡ true
+        → slice_index_or ascii.new d false ≡ true }
+    ensures kept { (d : ℕ) → slice_index_or ascii.old d false ≡ true
+        → slice_index_or ascii.new d false ≡ true }
+{
+    let (lower, upper) = ascii_folds(unicode, c);
+    add_one(lower as usize, ascii);
+    add_one(upper as usize, ascii);
+}
+
 fn add_each(test: &CharTest, unicode: bool, ascii: &mut [bool; 128])
     requires { IsReadBy unicode test.now }
     ensures taken { (c : ℕ) → c < 128 → passes [] unicode (test_of test.now) c ≡ true
@@ -280,8 +295,6 @@ fn add_each(test: &CharTest, unicode: bool, ascii: &mut [bool; 128])
         → slice_index_or ascii.new c false ≡ true }
 {
     'ask: for c in 0..128u8 {
-        if test.takes_ascii(unicode, c) {
-            ascii[c as usize] = true;
-        }
+        ascii[c as usize] = ascii[c as usize] | test.takes_ascii(unicode, c);
     }
 }

@@ -19,6 +19,7 @@ use crate::nfa::Nfa;
 use crate::nfa_state::{CharTest, NfaState};
 use crate::search::Searcher;
 use fancy_backtrack::loops::Loop;
+use fancy_characters::classes::ascii_folds;
 use fancy_characters::look::holds;
 use std::alloc::{AllocError, Global};
 
@@ -80,6 +81,16 @@ impl Nfa {
         };
         searcher.walk_groups_surely(alloc, ix, groups)
     }
+}
+
+/// The character is none of these; it is added if it is of ASCII.
+fn is_other(c: u32, taken: &mut [bool; 128]) -> bool {
+    if c >= 128 {
+        return true;
+    }
+    let is_other = !taken[c as usize];
+    taken[c as usize] = true;
+    is_other
 }
 
 impl Searcher<'_> {
@@ -192,15 +203,21 @@ impl Searcher<'_> {
         let Some(test) = self.test_at(at) else {
             return true;
         };
-        'ask: for c in 0..128u8 {
-            if test.takes_ascii(self.unicode, c) {
-                if taken[c as usize] {
-                    return false;
-                }
-                taken[c as usize] = true;
-            }
+        if let CharTest::One { c, casei } = test {
+            let (lower, upper) = if *casei {
+                ascii_folds(self.unicode, *c as u32)
+            } else {
+                (*c as u32, *c as u32)
+            };
+            return is_other(lower, taken) && (lower == upper || is_other(upper, taken));
         }
-        true
+        let mut are_others = true;
+        'ask: for c in 0..128u8 {
+            let passes = test.takes_ascii(self.unicode, c);
+            are_others = are_others & !(passes & taken[c as usize]);
+            taken[c as usize] = taken[c as usize] | passes;
+        }
+        are_others
     }
 
     /// Behind where groups begin or end, from this state on.
