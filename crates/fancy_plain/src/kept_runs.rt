@@ -20,7 +20,7 @@ use crate::search::Searcher;
 use std::alloc::{AllocError, Global};
 
 /// So many bytes are a long run.
-const LONG: usize = 256;
+pub(crate) const LONG: usize = 256;
 
 /// Bytes of ASCII one after the other that pass a test.
 #[derive(Clone, Copy)]
@@ -46,12 +46,6 @@ impl KeptRuns {
         KeptRuns {
             by_state: Vec::new(alloc),
         }
-    }
-
-    /// None was kept yet.
-    #[inline(always)]
-    pub fn is_empty(&self) -> bool {
-        self.by_state.is_empty()
     }
 
     /// The run that is kept for this state, where it reaches over the place, and else the empty one there.
@@ -96,7 +90,8 @@ impl KeptRuns {
 impl Nfa {
     ghost use Rattle.fancy_plain.specs.KeptRuns.{AreRunsOf};
 
-    /// As `one_pass_end`. Long runs over one character that an earlier match in this text kept are not gone over again.
+    /// As `one_pass_end`, also of nodes that count long. Long runs over one character that an earlier match in this text
+    /// kept are not gone over again.
     pub fn one_pass_end_kept(
         &self,
         alloc: Global,
@@ -110,7 +105,7 @@ impl Nfa {
         ensures way { IfOk result (IsOnePass text.now self.now ix) }
         ensures runs { AreRunsOf text.now self.now runs.new }
     {
-        if !self.is_one_pass {
+        if !self.is_one_pass && !self.counts_long {
             return Ok(OnePass::Unknown);
         }
         let searcher = Searcher {

@@ -16,6 +16,7 @@ ghost use Rattle.fancy_joining.specs.JoinedLoops.{joined};
 ghost use Rattle.std.proofs.Props.{props};
 
 use crate::first_sets::{first_sets, may_begin};
+use crate::kept_runs::LONG;
 use crate::layout::Layout;
 use crate::nfa_state::NfaState;
 use crate::required_bytes::{only_of, required_bytes};
@@ -34,8 +35,10 @@ pub struct Nfa {
     pub(crate) pair_bits: PairBits,
     /// The ASCII characters that can stand at a way's first places, level by level, beside any others.
     pub(crate) first_sets: Vec<[bool; 128]>,
-    /// Whether ways seem to need no choice and set no group.
+    /// Whether ways seem to need no choice, set no group, and do not count long.
     pub(crate) is_one_pass: bool,
+    /// Whether ways seem to need no choice, set no group, and have to take a long run over one character.
+    pub(crate) counts_long: bool,
     /// Where ways seem to need no choice and set groups, the first of these.
     pub(crate) one_pass_group: Option<usize>,
     /// Bytes of which every way takes one, if some are known.
@@ -56,6 +59,7 @@ impl Drop for Nfa {
             pair_bits: _,
             first_sets: _,
             is_one_pass: _,
+            counts_long: _,
             one_pass_group: _,
             required_bytes: _,
             required_byte: _,
@@ -123,12 +127,15 @@ impl Nfa {
         };
         let seems_one_pass = searcher.seems_one_pass();
         let group = first_group(&states);
+        let is_plain = seems_one_pass && group.is_none();
+        let has_long_count = has_long_count(&states);
         Ok(Nfa {
             states,
             unicode,
             pair_bits,
             first_sets,
-            is_one_pass: seems_one_pass && group.is_none(),
+            is_one_pass: is_plain && !has_long_count,
+            counts_long: is_plain && has_long_count,
             one_pass_group: if seems_one_pass { group } else { None },
             required_bytes,
             required_byte,
@@ -178,11 +185,19 @@ impl Nfa {
         may_begin(&self.first_sets, text.as_bytes(), ix)
     }
 
-    /// Ways seem to need no choice, and set no group.
+    /// Ways seem to need no choice, set no group, and do not count long.
     pub fn is_one_pass(&self) -> bool
         ensures { result ≡ self.now.is_one_pass }
     {
         self.is_one_pass
+    }
+
+    /// Ways seem to need no choice, set no group, and have to take a long run over one character. A match may fail far from
+    /// where it begins, so it is asked for by `one_pass_end_kept` alone.
+    pub fn counts_long(&self) -> bool
+        ensures { result ≡ self.now.counts_long }
+    {
+        self.counts_long
     }
 
     /// Whether no way can begin where this byte stands.
@@ -232,6 +247,18 @@ fn first_group(states: &[NfaState]) -> Option<usize> {
         }
     }
     first
+}
+
+/// A loop among these states takes a long run at least.
+fn has_long_count(states: &[NfaState]) -> bool {
+    'states: for nfa_state in states {
+        if let NfaState::CounterLoop { bounds, .. } = nfa_state {
+            if bounds.lo >= LONG {
+                return true;
+            }
+        }
+    }
+    false
 }
 
 /// What the loops among these states ask for.
