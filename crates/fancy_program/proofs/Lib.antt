@@ -11,3 +11,4 @@ pub mod PlacesLaws
 pub mod LeadingLaws
 pub mod LookLaws
 pub mod WalkLaws
+pub mod TurnsLaws

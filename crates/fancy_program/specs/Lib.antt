@@ -8,3 +8,4 @@ pub mod SingleDelegates
 pub mod Strategies
 pub mod LookPrefilters
 pub mod Walks
+pub mod Turns

@@ -13,4 +13,5 @@ pub mod required;
 mod shape;
 pub mod strategy;
 pub mod threads;
+pub mod turns;
 mod vector_scan;
