@@ -16,3 +16,4 @@ pub mod SingleBranchLaws
 pub mod LastStartsLaws
 pub mod RequiredLaws
 pub mod SearchLimitsLaws
+pub mod TurnsLaws

@@ -18,3 +18,4 @@ pub mod HeldWays
 pub mod SearchLimits
 pub mod SingleBranch
 pub mod LastStarts
+pub mod Turns

@@ -20,4 +20,5 @@ mod stepper;
 mod steps;
 mod strategy;
 mod trailing_newlines;
+mod turns;
 pub mod vm;

@@ -7,12 +7,15 @@ ghost use Rattle.fancy_state.specs.Held.{first_held};
 ghost use Rattle.fancy_vm.specs.Sound.{IsSound};
 ghost use Rattle.fancy_vm.specs.LookBehindCaches.{IsLookBehindCache};
 ghost use Rattle.fancy_vm.specs.TrailingNewlines.{AreTrailingNewlines};
+ghost use Rattle.fancy_vm.specs.Turns.{IsKeptRun};
+ghost use Rattle.fancy_program.specs.Programs.{prog_of};
 
 use crate::longest::Longest;
 use crate::look_behind_cache::LookBehindCache;
 use crate::runs::RunOptions;
 use crate::search_limits::SearchLimits;
 use crate::trailing_newlines::TrailingNewlines;
+use crate::turns::KeptRun;
 use fancy_expr::error::{Error, RuntimeError};
 use fancy_program::insn::Prog;
 use fancy_state::state::State;
@@ -41,8 +44,8 @@ pub(crate) struct Machine<'a> {
     /// Where the attempt began.
     pub(crate) start: usize,
     pub(crate) backtracks: usize,
-    /// How many instructions after the first one stand for the last step that passed over starts, rounds of a loop or an
-    /// atomic part.
+    /// How many instructions after the first one stand for the last step that passed over starts, rounds or turns of a
+    /// loop, or an atomic part.
     pub(crate) passed: u64,
     pub(crate) state: State,
     /// The longest match so far, where the longest is asked for.
@@ -51,9 +54,12 @@ pub(crate) struct Machine<'a> {
     pub(crate) trailing_newlines: TrailingNewlines,
     /// What the last long step back found.
     pub(crate) look_behind_cache: LookBehindCache,
+    /// The last long run of bytes that the body of a counted loop took one by one.
+    pub(crate) kept_run: KeptRun,
     ghost sound: { IsSound task state },
     ghost are_trailing_newlines: { AreTrailingNewlines task.text.now trailing_newlines },
     ghost is_cache: { IsLookBehindCache task.text.now look_behind_cache },
+    ghost is_kept_run: { IsKeptRun (prog_of task.prog.now).body task.text.now kept_run },
 }
 
 /// How far a step goes at the beginning of an atomic part.
@@ -69,7 +75,7 @@ pub(crate) enum Stride {
 #[derive(Clone, Copy)]
 pub(crate) enum Next {
     On,
-    /// Starts, rounds of a loop or an atomic part were passed over.
+    /// Starts, rounds or turns of a loop, or an atomic part were passed over.
     Passed,
     /// The match of the machine's slots is answered.
     Matches,
@@ -131,6 +137,7 @@ impl<'a> Machine<'a> {
             longest,
             trailing_newlines: TrailingNewlines::new(),
             look_behind_cache: LookBehindCache::new(),
+            kept_run: KeptRun::new(),
         }
     }
 

@@ -118,8 +118,8 @@ impl<'a> Stepper<'a> {
         self.steps
     }
 
-    /// Executes the next instruction, or all those of starts or of rounds of a lazy loop that are passed over together.
-    /// The stepper comes back where the run goes on.
+    /// Executes the next instruction, or all those of starts, or of rounds or turns of a loop, that are passed over
+    /// together. The stepper comes back where the run goes on.
     ///
     /// A `RuntimeError` tells which limit the run passed, and `Memory` that a request for memory was refused. Either
     /// ends the stepper.
