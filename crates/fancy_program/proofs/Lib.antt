@@ -10,5 +10,6 @@ pub mod ThreadsLaws
 pub mod PlacesLaws
 pub mod LeadingLaws
 pub mod LookLaws
+pub mod LookScanLaws
 pub mod WalkLaws
 pub mod TurnsLaws

@@ -6,6 +6,7 @@ pub mod Attempts
 pub mod LazyLoops
 pub mod SingleDelegates
 pub mod Strategies
+pub mod AsciiSets
 pub mod LookPrefilters
 pub mod Walks
 pub mod Turns

@@ -1,6 +1,7 @@
 //! Programs: instructions, what a run reads beside them, and what their shape tells.
 #![tactic(auto)]
 
+mod ascii_set;
 mod attempt;
 pub mod insn;
 pub mod lazy;

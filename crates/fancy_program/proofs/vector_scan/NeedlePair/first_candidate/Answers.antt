@@ -1,15 +1,16 @@
+use Rattle.std.proofs.Common.{arith}
 use Rattle.fancy_program.specs.StartRuns.{is_candidate}
 use Rattle.fancy_program.proofs.VectorScanLaws.{first_marked_within, none_before_marked, none_marked}
 use Rattle.fancy_program.proofs.vector_scan.NeedlePair.first_candidate.Goals as goal
 
 pub returns-then-candidates-eq0-clause-none : goal.returns-then-candidates-eq0-clause-none
 returns-then-candidates-eq0-clause-none g c none =
-    none_marked (is_candidate c.args.self c.args.text.now) c.args.pos c.candidates-candidates.result c.candidates-candidates.ensures c.if-candidates-eq0.true
+    none_marked (is_candidate c.args.self c.args.text.now) c.args.pos 32 c.candidates-candidates.result (omega arith) c.candidates-candidates.ensures c.if-candidates-eq0.true
 
 pub returns-clause-within : goal.returns-clause-within
 returns-clause-within g c =
-    first_marked_within (is_candidate c.args.self c.args.text.now) c.args.pos c.candidates-candidates.result c.candidates-candidates.ensures c.if-candidates-eq0.false
+    first_marked_within (is_candidate c.args.self c.args.text.now) c.args.pos 32 c.candidates-candidates.result (omega arith) c.candidates-candidates.ensures c.if-candidates-eq0.false
 
 pub returns-clause-before : goal.returns-clause-before
 returns-clause-before g c =
-    none_before_marked (is_candidate c.args.self c.args.text.now) c.args.pos c.candidates-candidates.result c.candidates-candidates.ensures c.if-candidates-eq0.false
+    none_before_marked (is_candidate c.args.self c.args.text.now) c.args.pos 32 c.candidates-candidates.result (omega arith) c.candidates-candidates.ensures c.if-candidates-eq0.false

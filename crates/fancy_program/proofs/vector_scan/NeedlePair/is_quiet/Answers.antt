@@ -14,4 +14,4 @@ returns g c quiet =
     quiet_more p pos (pos + 3 * 32) (pos + 128) _ c.candidates-fourth.ensures (eqb-true _ _ back.1) (omega arith)
     (quiet_more p pos (pos + 2 * 32) (pos + 3 * 32) _ c.candidates-third.ensures (eqb-true _ _ back.0) (omega arith)
     (quiet_more p pos (pos + 32) (pos + 2 * 32) _ c.candidates-second.ensures (eqb-true _ _ front.1) (omega arith)
-    (none_marked p pos _ c.candidates-first.ensures (eqb-true _ _ front.0))))
+    (none_marked p pos 32 _ (omega arith) c.candidates-first.ensures (eqb-true _ _ front.0))))
