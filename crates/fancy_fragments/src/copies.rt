@@ -60,7 +60,7 @@ fn boxed_copy(alloc: Global, expr: &Expr) -> Result<Box<Expr>, AllocError>
 fn copies_below(alloc: Global, expr: &Expr) -> Result<Vec<Expr>, AllocError>
     ensures { IfOk result (λ copies. map tree_of copies.items ≡ map tree_of (below expr.now)) }
 {
-    let mut copies = Vec::new(alloc);
+    let mut copies = Vec::with_capacity(alloc, part_count(expr))?;
     for i in 0..part_count(expr) {
         copies.push(copy_of(alloc, part(expr, i))?)?;
     }

@@ -192,7 +192,7 @@ fn nfa_of_joined(
 fn copies_of_nodes(alloc: Global, infos: &[Info]) -> Result<Vec<Expr>, AllocError>
     ensures { IfOk result (λ copies. map tree_of copies.items ≡ map plain_tree infos.now) }
 {
-    let mut copies = Vec::new(alloc);
+    let mut copies = Vec::with_capacity(alloc, infos.len())?;
     for info in infos {
         copies.push(copy_of(alloc, info.expr())?)?;
     }
