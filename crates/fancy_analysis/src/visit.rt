@@ -27,7 +27,7 @@ pub fn visit<'a>(
 {
     let inside = within_inside(expr, within);
     let mut next_group = start_inside(expr, start_group);
-    let mut children = Vec::new(alloc);
+    let mut children = Vec::with_capacity(alloc, part_count(expr))?;
     for i in 0..part_count(expr) {
         let child = visit(alloc, tables, part(expr, i), next_group, inside)?;
         next_group = child.end_group;
