@@ -1,7 +1,9 @@
 //! With which characters a way can begin: found by the states that a search comes to before each of its first ones.
 
 ghost use Rattle.std.specs.Prelude.{◌≡◌, ◌&&◌, ℕ, ◌+◌, ◌<◌, [], true, false, map, slice_get, slice_index_or, Some, IfOk, IfSome};
-ghost use Rattle.fancy_meaning.specs.Chars.{literal_takes};
+ghost use Rattle.fancy_meaning.specs.Chars.{any_takes, literal_takes};
+ghost use Rattle.fancy_meaning.specs.Machine.{class_test};
+ghost use Rattle.fancy_characters.specs.Classes.{class_of};
 ghost use Rattle.fancy_nfa.specs.NfaSearch.{passes};
 ghost use Rattle.fancy_plain.specs.FirstSets.{may_begin, covers, is_over, is_short, steps_within, IsLevel, AreFirstSets};
 ghost use Rattle.fancy_backtrack.specs.Loops.{loop_of};
@@ -9,7 +11,7 @@ ghost use Rattle.fancy_plain.specs.Views.{state_of, test_of, IsStateReadBy, IsRe
 
 use crate::nfa_state::{CharTest, NfaState};
 use fancy_backtrack::loops::Loop;
-use fancy_characters::classes::ascii_folds;
+use fancy_characters::classes::{CharClassMatcher, ascii_folds};
 use std::alloc::{AllocError, Global};
 
 /// At how many of a way's first places it is told which ASCII characters can stand there.
@@ -251,7 +253,8 @@ fn level_between(
 }
 
 /// Adds the ASCII characters that pass the test.
-fn add_taken(test: &CharTest, unicode: bool, ascii: &mut [bool; 128])
+#[inline(always)]
+pub(crate) fn add_taken(test: &CharTest, unicode: bool, ascii: &mut [bool; 128])
     requires { IsReadBy unicode test.now }
     ensures taken { (c : ℕ) → c < 128 → passes [] unicode (test_of test.now) c ≡ true
         → slice_index_or ascii.new c false ≡ true }
@@ -261,7 +264,8 @@ fn add_taken(test: &CharTest, unicode: bool, ascii: &mut [bool; 128])
     match test {
         CharTest::One { c, casei: false } => add_one(*c as usize, ascii),
         CharTest::One { c, casei: true } => add_folded(*c as u32, unicode, ascii),
-        _ => add_each(test, unicode, ascii),
+        CharTest::Any { newline, crlf } => add_any(*newline, *crlf, ascii),
+        CharTest::Class(class) => add_class(class, ascii),
     }
 }
 
@@ -287,14 +291,29 @@ fn add_folded(c: u32, unicode: bool, ascii: &mut [bool; 128])
     add_one(upper as usize, ascii);
 }
 
-fn add_each(test: &CharTest, unicode: bool, ascii: &mut [bool; 128])
-    requires { IsReadBy unicode test.now }
-    ensures taken { (c : ℕ) → c < 128 → passes [] unicode (test_of test.now) c ≡ true
+/// Adds the ASCII characters that any character may be.
+#[inline(always)]
+fn add_any(newline: bool, crlf: bool, ascii: &mut [bool; 128])
+    ensures taken { (c : ℕ) → c < 128 → any_takes newline crlf c ≡ true
         → slice_index_or ascii.new c false ≡ true }
     ensures kept { (c : ℕ) → slice_index_or ascii.old c false ≡ true
         → slice_index_or ascii.new c false ≡ true }
 {
     'ask: for c in 0..128u8 {
-        ascii[c as usize] = ascii[c as usize] | test.takes_ascii(unicode, c);
+        let is_taken = newline | !((c == 10) | (crlf & (c == 13)));
+        ascii[c as usize] = ascii[c as usize] | is_taken;
+    }
+}
+
+/// Adds the ASCII characters of the class.
+#[inline(always)]
+fn add_class(class: &CharClassMatcher, ascii: &mut [bool; 128])
+    ensures taken { (c : ℕ) → c < 128 → class_test (class_of class.now) c ≡ true
+        → slice_index_or ascii.new c false ≡ true }
+    ensures kept { (c : ℕ) → slice_index_or ascii.old c false ≡ true
+        → slice_index_or ascii.new c false ≡ true }
+{
+    'ask: for c in 0..128u8 {
+        ascii[c as usize] = ascii[c as usize] | class.takes_ascii(c);
     }
 }

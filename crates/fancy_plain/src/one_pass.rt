@@ -14,12 +14,12 @@ ghost use Rattle.fancy_plain.specs.Views.{IsReadBy};
 ghost use Rattle.fancy_plain.specs.Ways.{IsOfNodes};
 
 use crate::counted_ways::Passed;
+use crate::first_sets::add_taken;
 use crate::group_spans::GroupSpans;
 use crate::nfa::Nfa;
 use crate::nfa_state::{CharTest, NfaState};
 use crate::search::Searcher;
 use fancy_backtrack::loops::Loop;
-use fancy_characters::classes::ascii_folds;
 use fancy_characters::look::holds;
 use std::alloc::{AllocError, Global};
 
@@ -81,16 +81,6 @@ impl Nfa {
         };
         searcher.walk_groups_surely(alloc, ix, groups)
     }
-}
-
-/// The character is none of these; it is added if it is of ASCII.
-fn is_other(c: u32, taken: &mut [bool; 128]) -> bool {
-    if c >= 128 {
-        return true;
-    }
-    let is_other = !taken[c as usize];
-    taken[c as usize] = true;
-    is_other
 }
 
 impl Searcher<'_> {
@@ -203,19 +193,12 @@ impl Searcher<'_> {
         let Some(test) = self.test_at(at) else {
             return true;
         };
-        if let CharTest::One { c, casei } = test {
-            let (lower, upper) = if *casei {
-                ascii_folds(self.unicode, *c as u32)
-            } else {
-                (*c as u32, *c as u32)
-            };
-            return is_other(lower, taken) && (lower == upper || is_other(upper, taken));
-        }
+        let mut own = [false; 128];
+        add_taken(test, self.unicode, &mut own);
         let mut are_others = true;
-        'ask: for c in 0..128u8 {
-            let passes = test.takes_ascii(self.unicode, c);
-            are_others = are_others & !(passes & taken[c as usize]);
-            taken[c as usize] = taken[c as usize] | passes;
+        'ask: for c in 0..128usize {
+            are_others = are_others & !(own[c] & taken[c]);
+            taken[c] = taken[c] | own[c];
         }
         are_others
     }

@@ -10,6 +10,7 @@ ghost use Rattle.fancy_plain.specs.declared.nfa_state.NfaState.TheVariants as nf
 ghost use Rattle.fancy_plain.specs.Views.{state_of, test_of, IsStateReadBy, IsReadBy};
 ghost use Rattle.fancy_plain.specs.Ways.{HasNoWayAt};
 
+use crate::first_sets::add_taken;
 use crate::nfa::Nfa;
 use crate::nfa_state::{CharTest, NfaState};
 use memchr::memchr;
@@ -264,9 +265,11 @@ fn passing_bytes(test: &CharTest, unicode: bool) -> [bool; 256]
         → (byte < 128 → passes [] unicode (test_of test.now) byte ≡ true)
         → slice_index_or result byte false ≡ true }
 {
+    let mut ascii = [false; 128];
+    add_taken(test, unicode, &mut ascii);
     let mut bytes = [true; 256];
-    'ask: for c in 0..128u8 {
-        bytes[c as usize] = test.takes_ascii(unicode, c);
+    'ask: for c in 0..128usize {
+        bytes[c] = ascii[c];
     }
     bytes
 }
