@@ -7,4 +7,4 @@ pub mod AsciiLaws
 pub mod ClassLaws
 pub mod MembersLaws
 pub mod ThreadsLaws
-pub mod EscapeLaws
+pub mod SimpleLaws

@@ -2,4 +2,4 @@ pub mod ClassTexts
 pub mod Classes
 pub mod Literals
 pub mod Members
-pub mod EscapeClasses
+pub mod SimpleClasses

@@ -7,8 +7,8 @@ ghost use Rattle.regex_class.specs.Ranges.{in_range, in_ranges};
 ghost use Rattle.fancy_characters.specs.Members.{AreMembersBy};
 ghost use Rattle.fancy_meaning.specs.Chars as meant;
 
-use crate::escapes::EscapeClass;
 use crate::members::members;
+use crate::simple_classes::SimpleClass;
 use fancy_expr::error::{CompileError, Error};
 use regex::{Matcher, Regex};
 use regex_class::{Class, ClassRange};
@@ -19,8 +19,8 @@ use std::marker::Model;
 /// What tells whether a character beyond ASCII is in a class.
 #[derive(Drop)]
 pub(crate) enum Others {
-    /// The class that one escape stands for.
-    Escaped(EscapeClass),
+    /// The class that its text tells.
+    Simple(SimpleClass),
     /// All characters of the class.
     Listed(Class),
     /// The regex that finds them.
@@ -77,13 +77,13 @@ impl CompiledClass {
         ensures refused { IfErr result (IsClassRefusal unicode name.now casei) }
     {
         let inner = String::from_str(alloc, name)?;
-        if let Some(escape) = EscapeClass::of(name, unicode) {
+        if let Some(simple) = SimpleClass::of(name, casei, unicode) {
             return Ok(CompiledClass {
                 inner,
                 casei,
                 unicode,
-                ascii: escape.ascii(),
-                others: Others::Escaped(escape),
+                ascii: simple.ascii(),
+                others: Others::Simple(simple),
             });
         }
         let pattern = class_pattern(alloc, name, casei, unicode)?;
@@ -144,7 +144,7 @@ impl CompiledClass {
             return Ok(self.takes_ascii(c as u8));
         }
         match &self.others {
-            Others::Escaped(escape) => Ok(escape.takes(c)),
+            Others::Simple(simple) => Ok(simple.takes(c)),
             Others::Listed(members) => Ok(members.contains(c as u32)),
             Others::Asked(regex) => Ok(ask(&mut regex.matcher(alloc)?, c)),
         }

@@ -3,10 +3,10 @@
 
 pub mod classes;
 mod compiled;
-mod escapes;
 mod folding;
 pub mod look;
 mod members;
 mod pieces;
 pub mod places;
+mod simple_classes;
 mod spelling;

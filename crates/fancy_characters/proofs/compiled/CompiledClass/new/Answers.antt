@@ -5,25 +5,25 @@ use Rattle.regex_syntax.specs.Verdict.{Refuses, default_config}
 use Rattle.fancy_meaning.specs.Chars.{class_pattern, class_takes, is_class}
 use Rattle.fancy_characters.proofs.ClassLaws.{no_class_of_refusal, class_of_pattern, answers_class, members_of_class, regex_of, ascii_character}
 use Rattle.fancy_characters.specs.ClassTexts.{IsRegexOf, compiled_text}
-use Rattle.fancy_characters.specs.EscapeClasses.{is_in_escape}
-use Rattle.fancy_characters.proofs.EscapeLaws.{escape_takes, escape_is_class}
+use Rattle.fancy_characters.specs.SimpleClasses.{is_in_simple}
+use Rattle.fancy_characters.proofs.SimpleLaws.{simple_takes, simple_is_class}
 use Rattle.fancy_characters.proofs.compiled.CompiledClass.new.Goals as goal
 
 pub invariant_of-result : goal.invariant_of-result
 invariant_of-result c =
-    let escape = c.in-Some.escape in
+    let simple = c.in-Some.simple in
     let inner = c.in_ok-inner.ensures.ok ∙ c.in-Some.ensures.1 in
     let same = ap (λ u. class_takes u (string_bytes c.in_ok-inner.inner) c.args.casei) c.in-Some.ensures.0
     ∙ ap (λ text. class_takes true text c.args.casei) inner in
-    let takes : (k : ℕ) → IsScalar k → is_in_escape escape k ≡ class_takes c.args.unicode (string_bytes c.in_ok-inner.inner) c.args.casei k
-    = λ k scalar. escape_takes k scalar escape c.args.casei ∙ sym (ap (λ f. f k) same) in
+    let takes : (k : ℕ) → IsScalar k → is_in_simple simple k ≡ class_takes c.args.unicode (string_bytes c.in_ok-inner.inner) c.args.casei k
+    = λ k scalar. simple_takes k scalar simple c.args.casei c.in-Some.ensures.2 ∙ sym (ap (λ f. f k) same) in
     ((λ k h. c.ascii.ensures k h ∙ takes k (ascii_character k h)), takes)
 
 pub returns-in-Some-clause-is_class : goal.returns-in-Some-clause-is_class
 returns-in-Some-clause-is_class c =
     ap (λ u. is_class u c.args.name.now c.args.casei) c.in-Some.ensures.0
     ∙ ap (λ text. is_class true text c.args.casei) c.in-Some.ensures.1
-    ∙ escape_is_class c.in-Some.escape c.args.casei
+    ∙ simple_is_class c.in-Some.simple c.args.casei c.in-Some.ensures.2
 
 pub returns-in_default-kind : goal.returns-in_default-kind
 returns-in_default-kind c = record {

@@ -6,9 +6,9 @@ use Rattle.fancy_characters.proofs.ClassLaws.{answers_class}
 use Rattle.fancy_characters.specs.ClassTexts.{ClassText, compiled_text}
 use Rattle.fancy_characters.proofs.compiled.CompiledClass.takes.Goals as goal
 
-pub returns-in-Escaped : goal.returns-in-Escaped
-returns-in-Escaped c =
-    let takes = rw c.in-Escaped.is at c.self.invariant.1 in
+pub returns-in-Simple : goal.returns-in-Simple
+returns-in-Simple c =
+    let takes = rw c.in-Simple.is at c.self.invariant.1 in
     c.takes.ensures ∙ takes c.args.c c.ranges.c.0 ∙ ap (λ (t : ClassText). class_takes t.unicode t.inner t.casei c.args.c) c.self.view_is
 
 pub returns-in_ok-matcher-in-Asked : goal.returns-in_ok-matcher-in-Asked

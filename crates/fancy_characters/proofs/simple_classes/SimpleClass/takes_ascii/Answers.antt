@@ -1,7 +1,7 @@
 use Rattle.std.proofs.Common.{◌||◌, ◌==◌, sym, ap, ◌∙◌}
 use Rattle.ucd_perl.proofs.PerlLemmas.{is_word_char-ascii}
-use Rattle.fancy_characters.proofs.EscapeLaws.{digit-ascii, space-ascii}
-use Rattle.fancy_characters.proofs.escapes.EscapeClass.takes_ascii.Goals as goal
+use Rattle.fancy_characters.proofs.SimpleLaws.{digit-ascii, space-ascii}
+use Rattle.fancy_characters.proofs.simple_classes.SimpleClass.takes_ascii.Goals as goal
 
 pub returns-in-Word : goal.returns-in-Word
 returns-in-Word c =

@@ -1,6 +1,6 @@
 use Rattle.std.proofs.Common.{refl}
 use Rattle.ucd_perl.specs.Perl.{is_digit_char, is_space_char}
-use Rattle.fancy_characters.proofs.escapes.EscapeClass.takes.Goals as goal
+use Rattle.fancy_characters.proofs.simple_classes.SimpleClass.takes.Goals as goal
 
 pub returns-in-Digit : goal.returns-in-Digit
 unfolding is_digit_char
