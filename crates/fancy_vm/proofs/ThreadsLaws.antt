@@ -4,6 +4,7 @@ use Rattle.std.proofs.Crossing as std
 use Rattle.std.proofs.MapsCrossing as maps
 use Rattle.fancy_backtrack.specs.contracts.memo.Memo as Memo
 use Rattle.fancy_plain.specs.contracts.group_spans.GroupSpans as GroupSpans
+use Rattle.fancy_plain.specs.contracts.kept_runs.KeptRuns as KeptRuns
 use Rattle.fancy_fragments.proofs.ThreadsLaws.{start_filter_sends}
 use Rattle.fancy_vm.specs.contracts.memos.Memos as Memos
 use Rattle.fancy_vm.specs.contracts.runs.Room as Room
@@ -17,8 +18,11 @@ memo_sends = search (std.crosses, maps.crosses, sendable) depth 60 fits 20000
 groups_send : IsSend GroupSpans.the_field.row
 groups_send = search (std.crosses, sendable) depth 60 fits 20000
 
+kept_send : IsSend KeptRuns.the_field.row
+kept_send = search (std.crosses, sendable) depth 60 fits 20000
+
 memos_sends : IsSend Memos.the_field.row
-memos_sends = search (memo_sends, groups_send, std.crosses, sendable) depth 60 fits 20000
+memos_sends = search (memo_sends, groups_send, kept_send, std.crosses, sendable) depth 60 fits 20000
 
 start_filters_sends : IsSend StartFilters.the_field.row
 start_filters_sends = search (start_filter_sends, std.crosses, sendable) depth 60 fits 20000

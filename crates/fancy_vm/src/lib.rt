@@ -3,6 +3,7 @@
 
 mod atomic_parts;
 mod delegates;
+mod far_matches;
 mod lazy;
 mod limits;
 mod longest;

@@ -10,6 +10,7 @@ ghost use Rattle.fancy_vm.specs.TrailingNewlines.{AreTrailingNewlines};
 ghost use Rattle.fancy_vm.specs.Turns.{IsKeptRun};
 ghost use Rattle.fancy_program.specs.Programs.{prog_of};
 
+use crate::far_matches::FarMatches;
 use crate::longest::Longest;
 use crate::look_behind_cache::LookBehindCache;
 use crate::runs::RunOptions;
@@ -47,6 +48,8 @@ pub(crate) struct Machine<'a> {
     /// How many instructions after the first one stand for the last step that passed over starts, rounds or turns of a
     /// loop, or an atomic part.
     pub(crate) passed: u64,
+    /// The atomic parts made in one step that went far.
+    pub(crate) far_parts: FarMatches,
     pub(crate) state: State,
     /// The longest match so far, where the longest is asked for.
     pub(crate) longest: Longest,
@@ -133,6 +136,7 @@ impl<'a> Machine<'a> {
             start: pos,
             backtracks: 0,
             passed: 0,
+            far_parts: FarMatches::none(),
             state,
             longest,
             trailing_newlines: TrailingNewlines::new(),

@@ -2,33 +2,48 @@
 
 ghost use Rattle.std.specs.Prelude.{◌≡◌, ◌<◌, Some, None, length, slice_get, slice_set, IfOk, IsTrue, OnOk};
 ghost use Rattle.fancy_meaning.specs.Places.{is_place};
-ghost use Rattle.fancy_fragments.specs.Fragments.{HasNoWayFrom, IsFirstWayOf, IsJoinedMemoFor, IsOnePassWayOf};
+ghost use Rattle.fancy_fragments.specs.Fragments.{HasNoWayFrom, IsFirstWayOf, IsOnePassOf, IsOnePassWayOf};
 ghost use Rattle.fancy_plain.specs.GroupSpans.{spans_in};
 ghost use Rattle.fancy_plain.specs.Ways.{HasAscending};
 ghost use Rattle.fancy_vm.specs.MemoRuns.{AddsNoMemo, AreOfRuns};
 
+use crate::far_matches::FarMatches;
 use crate::machine::Task;
 use crate::search_limits::SearchCost;
 use fancy_backtrack::memo::Memo;
 use fancy_expr::error::Error;
 use fancy_fragments::fragment::Fragment;
-use fancy_plain::first_way::FirstWay;
+use fancy_plain::first_way::{FirstWay, Way};
 use fancy_plain::group_spans::GroupSpans;
+use fancy_plain::kept_runs::KeptRuns;
 use fancy_plain::one_pass::OnePass;
 use std::alloc::{AllocError, Global};
 
 /// So often one pass over fragments with groups may tell nothing in a run.
 const MOST_UNKNOWN: usize = 16;
 
-/// A memo, in a box since it goes to a search and back, and the run that wrote it.
+/// So often a fragment without groups may be passed again in a run, to be sure that it fails.
+const MOST_AGAIN: usize = 16;
+
+/// What is noted of a delegate, and the run that noted it.
 #[derive(Drop)]
 pub(crate) struct RunMemo {
+    /// In a box since it goes to a search and back.
     memo: Box<Memo>,
+    /// What its one-pass matches keep, until a search is made.
+    kept: Option<KeptRuns>,
     run: u64,
 }
 
-/// So often a fragment without groups may be passed again in a run, to be sure that it fails.
-const MOST_AGAIN: usize = 16;
+/// By what the next way of a delegate is found, as what this run noted of it says.
+#[derive(Clone, Copy)]
+pub(crate) enum Noted {
+    Nothing,
+    /// By runs that one-pass matches keep.
+    Runs,
+    /// By searches.
+    Memo,
+}
 
 /// By the place of a delegate in a program, what its searches have noted. Of a memo of an earlier run only the room is
 /// used again.
@@ -44,6 +59,8 @@ pub(crate) struct Memos {
     unknown: usize,
     /// How often more a fragment without groups may be passed again in this run.
     again: usize,
+    /// The one-pass matches of this run that went far and kept nothing.
+    far: FarMatches,
     ghost of_runs: { AreOfRuns run by_place.items },
 }
 
@@ -57,6 +74,7 @@ impl Drop for Memos {
             groups: _,
             unknown: _,
             again: _,
+            far: _,
         } = self;
     }
 }
@@ -72,7 +90,7 @@ fn grow(by_place: &mut Vec<Option<RunMemo>>, pc: usize) -> Result<(), AllocError
     Ok(())
 }
 
-/// Takes the memo at this place out.
+/// Takes the note at this place out.
 fn take_out(by_place: &mut Vec<Option<RunMemo>>, pc: usize) -> Option<RunMemo>
     requires { pc < length by_place.old.items }
     ensures found { slice_get by_place.old.items pc ≡ Some result }
@@ -83,7 +101,7 @@ fn take_out(by_place: &mut Vec<Option<RunMemo>>, pc: usize) -> Option<RunMemo>
 
 impl Memos {
     ghost use Rattle.fancy_vm.specs.declared.machine.Task as tasks;
-    ghost use Rattle.fancy_vm.specs.Memos.{AreMemosOf, fragment_at};
+    ghost use Rattle.fancy_vm.specs.Memos.{AreMemosOf, IsNoteOf, fragment_at};
     ghost use Rattle.fancy_vm.specs.SearchLimits.{no_cost};
 
     /// Nothing is noted.
@@ -97,6 +115,7 @@ impl Memos {
             groups: GroupSpans::new(alloc),
             unknown: 0,
             again: MOST_AGAIN,
+            far: FarMatches::none(),
         }
     }
 
@@ -122,18 +141,22 @@ impl Memos {
         self.cost.bytes = 0;
         self.unknown = 0;
         self.again = MOST_AGAIN;
+        self.far = FarMatches::none();
         match self.run.checked_add(1) {
             None => *self = Memos::new(alloc),
             Some(run) => self.run = run,
         }
     }
 
-    /// A search of the fragment there was made in this run.
+    /// What is noted in this run of the delegate there.
     #[inline(always)]
-    pub(crate) fn have_memoized(&self, pc: usize) -> bool {
+    pub(crate) fn noted(&self, pc: usize) -> Noted {
         match self.by_place.get(pc) {
-            Some(Some(memo)) => memo.run == self.run,
-            _ => false,
+            Some(Some(note)) if note.run == self.run => match note.kept {
+                None => Noted::Memo,
+                Some(_) => Noted::Runs,
+            },
+            _ => Noted::Nothing,
         }
     }
 
@@ -219,6 +242,81 @@ impl Memos {
         }
     }
 
+    /// The first way from `ix` of the fragment at `pc` of the program, where it takes one pass, by long runs that earlier
+    /// such matches kept in this run. Where a search was made it is not known, so that no part of the text is passed in vain
+    /// again and again.
+    #[inline(never)]
+    pub(crate) fn kept_end(
+        &mut self,
+        task: &Task<'_>,
+        fragment: &Fragment,
+        pc: usize,
+        ix: usize,
+    ) -> Result<OnePass, AllocError>
+        requires place { IsTrue (is_place task.now.text.now ix) }
+        requires here { fragment_at task.now pc ≡ Some fragment.now }
+        requires memos { AreMemosOf task.now self.old }
+        ensures way { IfOk result (IsOnePassOf task.now.text.now fragment.now ix) }
+        ensures memos { AreMemosOf task.now self.new }
+    {
+        let RunMemo { memo, kept, run } = self.note_for(task, fragment, pc)?;
+        let Some(mut runs) = kept else {
+            self.by_place[pc] = Some(RunMemo {
+                memo,
+                kept: None,
+                run,
+            });
+            return Ok(OnePass::Unknown);
+        };
+        let way = fragment
+            .nfa()
+            .one_pass_end_kept(task.alloc, task.text, ix, &mut runs);
+        self.by_place[pc] = Some(RunMemo {
+            memo,
+            kept: Some(runs),
+            run,
+        });
+        way
+    }
+
+    /// Counts a one-pass match between these bytes of the fragment at `pc` of the program. Where those that went far passed
+    /// the text often in this run, the next ones keep long runs.
+    #[inline(always)]
+    pub(crate) fn count_match(
+        &mut self,
+        task: &Task<'_>,
+        fragment: &Fragment,
+        pc: usize,
+        from: usize,
+        end: usize,
+    ) -> Result<(), AllocError>
+        requires here { fragment_at task.now pc ≡ Some fragment.now }
+        requires memos { AreMemosOf task.now self.old }
+        ensures { AreMemosOf task.now self.new }
+    {
+        if self.far.pass_often(task.text, from, end) {
+            self.begin_note(task, fragment, pc)?;
+        }
+        Ok(())
+    }
+
+    /// Begins to keep runs of the fragment at `pc` of the program, if nothing is noted of it in this run.
+    #[inline(never)]
+    fn begin_note(
+        &mut self,
+        task: &Task<'_>,
+        fragment: &Fragment,
+        pc: usize,
+    ) -> Result<(), AllocError>
+        requires here { fragment_at task.now pc ≡ Some fragment.now }
+        requires memos { AreMemosOf task.now self.old }
+        ensures { AreMemosOf task.now self.new }
+    {
+        let note = self.note_for(task, fragment, pc)?;
+        self.by_place[pc] = Some(note);
+        Ok(())
+    }
+
     /// The first way from `ix` of a fragment with groups, where it takes one pass: its groups are held. Where that told
     /// nothing often in this run it is not asked for, so that no part of the text is passed in vain again and again.
     #[inline(always)]
@@ -246,7 +344,8 @@ impl Memos {
         Ok(way)
     }
 
-    /// The first way from `ix` of the fragment at `pc` of the program, by what this run noted of it.
+    /// The first way from `ix` of the fragment at `pc` of the program, by what this run noted of it. Where the fragment counts
+    /// long it takes one pass, as far as that tells.
     pub(crate) fn first_way(
         &mut self,
         task: &Task<'_>,
@@ -261,16 +360,43 @@ impl Memos {
         ensures ascends { IfOk result HasAscending }
         ensures memos { AreMemosOf task.now self.new }
     {
-        if !fragment.nfa().can_begin(task.text, ix) || self.fails_surely(task, fragment, pc, ix) {
+        if !fragment.nfa().can_begin(task.text, ix) {
             return Ok(FirstWay {
                 way: None,
                 visits: 0,
             });
         }
-        let mut memo = self.memo_for(task, fragment, pc)?;
+        if self.fails_surely(task, fragment, pc, ix) {
+            return Ok(FirstWay {
+                way: None,
+                visits: 0,
+            });
+        }
+        if fragment.nfa().counts_long() {
+            match self.kept_end(task, fragment, pc, ix)? {
+                OnePass::Ends(end) => {
+                    let spans = Vec::new(task.alloc);
+                    return Ok(FirstWay {
+                        way: Some(Way { end, spans }),
+                        visits: 0,
+                    });
+                }
+                OnePass::Fails => {
+                    return Ok(FirstWay {
+                        way: None,
+                        visits: 0,
+                    });
+                }
+                OnePass::Unknown => {}
+            }
+        }
+        let RunMemo { mut memo, run, .. } = self.note_for(task, fragment, pc)?;
         let way = self.cost.first_way(task, fragment, ix, &mut *memo);
-        let run = self.run;
-        self.by_place[pc] = Some(RunMemo { memo, run });
+        self.by_place[pc] = Some(RunMemo {
+            memo,
+            kept: None,
+            run,
+        });
         way
     }
 
@@ -289,7 +415,10 @@ impl Memos {
         ensures none { IsTrue result → HasNoWayFrom task.now.text.now fragment.now ix }
         ensures memos { AreMemosOf task.now self.new }
     {
-        if self.again == 0 || !fragment.nfa().is_one_pass() || self.have_memoized(pc) {
+        if self.again == 0 || !fragment.nfa().is_one_pass() {
+            return false;
+        }
+        if !matches!(self.noted(pc), Noted::Nothing) {
             return false;
         }
         let nfa = fragment.nfa();
@@ -298,28 +427,45 @@ impl Memos {
         fails
     }
 
-    /// Takes out what was noted in this run of the fragment at `pc` of the program.
-    fn memo_for(
+    /// Takes out what was noted in this run of the fragment at `pc` of the program. Where that is nothing, runs are to be
+    /// kept.
+    fn note_for(
         &mut self,
         task: &Task<'_>,
         fragment: &Fragment,
         pc: usize,
-    ) -> Result<Box<Memo>, AllocError>
+    ) -> Result<RunMemo, AllocError>
         requires here { fragment_at task.now pc ≡ Some fragment.now }
         requires memos { AreMemosOf task.now self.old }
-        ensures memo { IfOk result (λ m. IsJoinedMemoFor task.now.text.now fragment.now m.value) }
+        ensures note { IfOk result (IsNoteOf task.now.text.now fragment.now) }
+        ensures run { IfOk result (λ note. note.run ≡ self.new.run) }
         ensures room { OnOk result (pc < length self.new.by_place.items) }
         ensures memos { AreMemosOf task.now self.new }
     {
         grow(&mut self.by_place, pc)?;
         let pos = task.options.pos;
         match take_out(&mut self.by_place, pc) {
-            None => Ok(Box::new(task.alloc, fragment.joined_memo(task.alloc, pos))?),
-            Some(RunMemo { mut memo, run }) => {
+            None => Ok(RunMemo {
+                memo: Box::new(task.alloc, fragment.joined_memo(task.alloc, pos))?,
+                kept: Some(KeptRuns::new(task.alloc)),
+                run: self.run,
+            }),
+            Some(
+                RunMemo {
+                    mut memo,
+                    mut kept,
+                    run,
+                },
+            ) => {
                 if run != self.run {
                     fragment.clear_joined(&mut *memo, pos);
+                    kept = Some(KeptRuns::new(task.alloc));
                 }
-                Ok(memo)
+                Ok(RunMemo {
+                    memo,
+                    kept,
+                    run: self.run,
+                })
             }
         }
     }

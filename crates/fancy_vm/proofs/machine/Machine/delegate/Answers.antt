@@ -10,6 +10,6 @@ returns-in-Fails-clause-leads c =
     let t = plain_task c.args.self.now.task in
     let f = c.args.delegate.now.fragment in
     let ix = c.args.self.now.ix in
-    let none = subst (IsOnePassOf t.text f ix) c.in-Fails.is c.in_ok-end.ensures in
+    let none = subst (IsOnePassOf t.text f ix) c.in-Fails.is c.in_ok-end.ensures.way in
     subst (λ to. StepAnswers to c.fail.result c.fail.new.self)
     (sym (takes_none t (config_of c.args.self.now) (first_way t (fragment_of f) ix) (none t.pos t.continued))) c.fail.ensures.leads
