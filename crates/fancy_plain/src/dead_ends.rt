@@ -104,12 +104,7 @@ impl Searcher<'_> {
     /// A walk from the start fails, and so does each way that it keeps for later, at its first test. It goes so many bytes at
     /// most.
     #[inline(never)]
-    fn walks_in_vain(
-        &self,
-        alloc: Global,
-        start: usize,
-        most: usize,
-    ) -> Result<bool, AllocError>
+    fn walks_in_vain(&self, alloc: Global, start: usize, most: usize) -> Result<bool, AllocError>
         requires { IsSearcher self.now }
         ensures { IfOk result (λ has_none. IsTrue has_none → Finds self.now start None) }
     {

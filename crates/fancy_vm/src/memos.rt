@@ -403,13 +403,7 @@ impl Memos {
     /// Another pass over the fragment is sure that it has no way from `ix`. Passes are made so for few failures of a run,
     /// before a search of the fragment noted anything, and no more after one that was not sure.
     #[inline(never)]
-    fn fails_surely(
-        &mut self,
-        task: &Task<'_>,
-        fragment: &Fragment,
-        pc: usize,
-        ix: usize,
-    ) -> bool
+    fn fails_surely(&mut self, task: &Task<'_>, fragment: &Fragment, pc: usize, ix: usize) -> bool
         requires place { IsTrue (is_place task.now.text.now ix) }
         requires memos { AreMemosOf task.now self.old }
         ensures none { IsTrue result → HasNoWayFrom task.now.text.now fragment.now ix }
