@@ -1,4 +1,4 @@
-//! What searches of delegates have noted, for later ones of the same run.
+//! What searches and one-pass matches of delegates have noted, for later ones of the same run.
 
 ghost use Rattle.std.specs.Prelude.{◌≡◌, ◌<◌, Some, None, length, slice_get, slice_set, IfOk, IsTrue, OnOk};
 ghost use Rattle.fancy_meaning.specs.Places.{is_place};
@@ -45,7 +45,7 @@ pub(crate) enum Noted {
     Memo,
 }
 
-/// By the place of a delegate in a program, what its searches have noted. Of a memo of an earlier run only the room is
+/// By the place of a delegate in a program, what is noted of it. Of a note of an earlier run only the room of its memo is
 /// used again.
 pub(crate) struct Memos {
     by_place: Vec<Option<RunMemo>>,
