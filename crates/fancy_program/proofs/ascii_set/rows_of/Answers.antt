@@ -22,7 +22,8 @@ ask-preserved c =
         size = ap length w.rows-is ∙ loop.size;
         few = omega (arith, c.ask-test.true);
         agrees = λ x below.
-            ap (λ r. is_in_rows r x) w.rows-is ∙ rows_without rows byte loop.size c.ask-test.true c.args.set.now loop.agrees loop.clear w.if-set-byte.false x below;
+            ap (λ r. is_in_rows r x) w.rows-is
+            ∙ rows_without rows byte loop.size c.ask-test.true c.args.set.now loop.agrees loop.clear w.if-set-byte.false x below;
         clear = λ x above below. ap (λ r. is_in_rows r x) w.rows-is ∙ loop.clear x (omega (arith, above)) below;
       }
     ]
