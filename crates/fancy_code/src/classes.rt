@@ -38,7 +38,9 @@ fn reading(casei: bool, unicode: bool) -> &'static str
 fn class_key(alloc: Global, inner: &str, casei: bool, unicode: bool) -> Result<String, AllocError>
     ensures { IfOk result (λ key. string_bytes key ≡ class_key unicode inner.now casei) }
 {
-    let mut key = String::from_str(alloc, reading(casei, unicode))?;
+    let reading = reading(casei, unicode);
+    let mut key = String::with_capacity(alloc, reading.len() + inner.len())?;
+    key.push_str(reading)?;
     key.push_str(inner)?;
     Ok(key)
 }

@@ -1,7 +1,8 @@
 //! Delegates: equal ones are built once.
 
 ghost use Rattle.std.specs.List.{slice_get};
-ghost use Rattle.std.specs.Prelude.{◌≡◌, IfErr, IfSome, map, option_map};
+ghost use Rattle.std.specs.Prelude.{◌≡◌, IfErr, IfSome, map, option_map, string_bytes};
+ghost use Rattle.fancy_meaning.specs.Batches.{pattern_of};
 ghost use Rattle.fancy_info.specs.Infos.{info_facts, info_tree};
 ghost use Rattle.fancy_plain.specs.Searches.{IsMemory};
 ghost use Rattle.fancy_fragments.specs.Delegates.{delegate_instr};
@@ -23,7 +24,9 @@ type Key = (String, Option<usize>);
 #[derive(Drop)]
 pub struct SharedDelegates {
     delegates: Vec<Arc<Delegate>>,
-    /// Where those of this key stand among them.
+    /// The number at which the groups of the last one begin.
+    last_number: Option<usize>,
+    /// Where those of this key stand among them, but for the last one.
     places: BTreeMap<Key, Vec<usize>>,
     ghost known: { AreNamedAlike delegates.items },
 }
@@ -55,7 +58,7 @@ fn add_place(
         }
         None => {}
     }
-    let mut first = Vec::new(alloc);
+    let mut first = Vec::with_capacity(alloc, 1)?;
     first.push(place)?;
     places.insert(key, first)?;
     Ok(())
@@ -66,11 +69,23 @@ impl SharedDelegates {
     pub fn new(alloc: Global) -> SharedDelegates {
         SharedDelegates {
             delegates: Vec::new(alloc),
+            last_number: None,
             places: BTreeMap::new(alloc),
         }
     }
 
-    /// The delegate of these nodes, if it was built.
+    /// The last delegate, if it is that of these nodes.
+    fn find_last(&self, infos: &[Info], unicode: bool) -> Option<&Arc<Delegate>>
+        requires { AreEasyNeighbours infos.now }
+        ensures { IfSome result (λ d. IsDelegateOf unicode infos.now
+            (delegate_instr d.now.value)) }
+    {
+        let delegate = self.delegates.last()?;
+        let is_same = delegate.fragment().is_of(infos, unicode);
+        if is_same { Some(delegate) } else { None }
+    }
+
+    /// The delegate of these nodes, if it was built before the last one.
     fn find(&self, infos: &[Info], key: &Key, unicode: bool) -> Option<&Arc<Delegate>>
         requires { AreEasyNeighbours infos.now }
         ensures { IfSome result (λ d. IsDelegateOf unicode infos.now
@@ -85,26 +100,45 @@ impl SharedDelegates {
         None
     }
 
+    /// Notes where the last delegate stands, before another comes behind it.
+    fn note_last(&mut self, alloc: Global) -> Result<(), Error>
+        ensures same { self.new.delegates ≡ self.old.delegates }
+        ensures refused { IfErr result IsMemory }
+    {
+        let Some(last) = self.delegates.last() else {
+            return Ok(());
+        };
+        let key = (String::from_str(alloc, last.pattern())?, self.last_number);
+        add_place(&mut self.places, alloc, key, self.delegates.len() - 1)
+    }
+
     /// The delegate of easy neighbours with this pattern text, built where it is not there yet, or why there is none.
-    pub fn get(
+    pub(crate) fn get(
         &mut self,
         alloc: Global,
         infos: &[Info],
         text: String,
         unicode: bool,
     ) -> Result<Arc<Delegate>, Error>
-        requires { AreEasyNeighbours infos.now }
+        requires easy { AreEasyNeighbours infos.now }
+        requires text { string_bytes text ≡ pattern_of unicode (map info_tree infos.now) }
         ensures { IsMadeOf unicode infos.now
             (λ d. delegate_instr d.value ≡ delegate_of unicode (map info_tree infos.now)) result }
     {
+        match self.find_last(infos, unicode) {
+            Some(delegate) => return Ok(Arc::clone(delegate)?),
+            None => {}
+        }
         let key = (text, first_number(infos));
         match self.find(infos, &key, unicode) {
             Some(delegate) => return Ok(Arc::clone(delegate)?),
             None => {}
         }
-        let delegate = Delegate::build(alloc, infos, unicode)?;
+        let (text, number) = key;
+        let delegate = Delegate::named(alloc, text, infos, unicode)?;
         let shared = Arc::new(alloc, delegate)?;
-        add_place(&mut self.places, alloc, key, self.delegates.len())?;
+        self.note_last(alloc)?;
+        self.last_number = number;
         self.delegates.push(Arc::clone(&shared)?)?;
         Ok(shared)
     }

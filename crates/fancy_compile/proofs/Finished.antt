@@ -1,5 +1,5 @@
 -- From the writing of a whole program to what compiling answers.
-use Rattle.std.proofs.Common.{true, ◌≡◌, ℕ, ◌+◌, ◌*◌, max, Bool, if◌then◌else◌, [], ◌∷◌, None, ap, ◌∙◌, subst}
+use Rattle.std.proofs.Common.{true, ◌≡◌, ℕ, ◌+◌, ◌*◌, max, Bool, if◌then◌else◌, List, [], ◌∷◌, map, None, ap, ◌∙◌, subst}
 use Rattle.std.specs.List.{list_any}
 use Rattle.fancy_meaning.specs.Tree.{Tree}
 use Rattle.fancy_meaning.specs.Nodes.{nodes, group_count, is_keep_out}
@@ -14,7 +14,10 @@ use Rattle.fancy_compile.specs.declared.scope.Scope.{Scope}
 use Rattle.fancy_compile.specs.GroupTables.{IsTable}
 use Rattle.fancy_compile.specs.Nodes.{IsScopeOf}
 use Rattle.fancy_code.specs.Sites.{top}
-use Rattle.fancy_code.specs.Drafts.{Draft, Extends, Writes, is_easy}
+use Rattle.fancy_code.specs.declared.writer.CodeWriter.{CodeWriter}
+use Rattle.fancy_code.specs.Drafts.{Draft, Extends, Writes, draft_of, is_easy}
+use Rattle.fancy_program.specs.Insns.{insn_of}
+use Rattle.fancy_program.specs.declared.insn.Insn.{Insn}
 use Rattle.fancy_meaning.specs.AnalysisRefusals.{CompileError, AnalysisRefuses}
 use Rattle.fancy_meaning.specs.Fits.{program_fits}
 use Rattle.fancy_fits.proofs.Programs.{layouts_fit}
@@ -23,6 +26,12 @@ use Rattle.fancy_compile.proofs.Called.{table_nodes, table_numbers, table_known,
 use Rattle.fancy_compile.proofs.Known.{size_known}
 use Rattle.fancy_compile.proofs.Roots.{root_fine, root_known}
 use Rattle.fancy_compile.proofs.Compiled.{start, whole_code, made, same_program}
+
+-- a program in the making stays what it is when it gets other room for its instructions
+pub with_room : (items : List Insn) (writer : CodeWriter) (before : Draft) → items ≡ writer.code.items → draft_of writer ≡ before
+    → record { instrs = map insn_of items; fresh = writer.fresh; limit = writer.limit; fault = writer.fault } ≡ before
+with_room items writer before same is =
+    ap (λ (l : List Insn). record { instrs = map insn_of l; fresh = writer.fresh; limit = writer.limit; fault = writer.fault }) same ∙ is
 
 -- the scope of the root, with the table of its groups
 pub scope_of_table : (a : Analysed) (scope : Scope) → IsRoot (analysis a) scope.root.now

@@ -7,7 +7,7 @@ use Rattle.std.proofs.lemmas.List.{map-append, drop_all}
 use Rattle.std.proofs.lemmas.List.Elements.{filter_map-append}
 use Rattle.fancy_meaning.specs.Tree.{Tree, Trees, trees, Within}
 use Rattle.fancy_meaning.specs.Marks.{takes_nothing, marked_groups, group_number, marked_nodes, first_marked_nodes}
-use Rattle.fancy_meaning.specs.Nodes.{nodes, nodes_of_each, as_group, groups, target, body_in}
+use Rattle.fancy_meaning.specs.Nodes.{nodes, nodes_of_each, as_group, group_count, groups, target, body_in}
 use Rattle.fancy_meaning.specs.Options.{Analysis}
 use Rattle.fancy_expr.specs.declared.expr.Absent.{Absent}
 use Rattle.fancy_expr.specs.declared.expr.Absent.TheVariants as code_absent
@@ -73,6 +73,19 @@ groups_of_info a i k =
     in_among (info_tree i) ∙ ap groups_among (nodes_of_info a i k)
     ∙ among-append (info_tree i ∷ []) (nodes_of_each (trees (map info_tree (info_children i))))
     ∙ ap₂ (λ x y. x ++ y) (own_groups i) (each-among (info_children i))
+
+count_is : (e : Tree) → group_count e ≡ length (groups e)
+unfolding group_count
+count_is e = refl
+
+none_of : (gs : List (ℕ × Tree)) → length gs ≡ 0 → map group_node gs ≡ []
+none_of [] none = refl
+none_of (g ∷ gs) none = absurd (omega (arith, none))
+
+-- a node that ends at the number at which it begins has none
+pub no_groups : (a : Analysis) (i : Info) → IsKnown a i → (info_facts i).start_group ≡ (info_facts i).end_group → group_trees (info_tree i) ≡ []
+no_groups a i k same =
+    none_of (groups (info_tree i)) (omega (arith, same, k.node.end_group, count_is (info_tree i), ap group_count (tree_out i)))
 
 pub each_rest : (l : List Info) (i : ℕ) (x : Info) → i < length l → x ≡ get_or l i x
     → each_group_trees (drop i l) ≡ group_trees (info_tree x) ++ each_group_trees (drop (i + 1) l)

@@ -22,6 +22,9 @@ use fancy_info::info::Info;
 use fancy_program::insn::{Insn, Prog, ProgParts};
 use std::alloc::Global;
 
+/// Few everyday patterns take more instructions; for so many there is room from the start.
+const USUAL_LENGTH: usize = 16;
+
 fn is_unicode(mode: BytesMode) -> bool
     ensures yes { result ≡ true → mode_of mode ≡ plain.Unicode }
     ensures no { result ≡ false → ¬ (mode_of mode ≡ plain.Unicode) }
@@ -188,6 +191,7 @@ pub fn compile(alloc: Global, info: &Info, options: CompileOptions) -> Result<Pr
     };
     let fresh = first_fresh(total_groups(info), explicit_group_0, end_text);
     let mut writer = CodeWriter::new(alloc, fresh, options.max_prog_size);
+    writer.code.reserve(USUAL_LENGTH)?;
     scope.emit_program(&mut writer, options.anchored, end_text);
     finish(writer, info, options)
 }

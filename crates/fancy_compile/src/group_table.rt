@@ -55,6 +55,9 @@ fn gather<'i, 'a>(info: &'i Info<'a>, nodes: &mut Vec<&'i Info<'a>>) -> Result<(
     requires { (a : Analysis) × IsKnown a info.now }
     ensures { IfOk result (λ u. Gathers info.now nodes.old.items nodes.new.items) }
 {
+    if info.start_group() == info.end_group() {
+        return Ok(());
+    }
     gather_own(info, nodes)?;
     let children = info.children();
     for part in children {

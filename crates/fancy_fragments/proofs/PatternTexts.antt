@@ -1,5 +1,5 @@
 -- The pattern text of neighbouring nodes, one more at a time.
-use Rattle.std.proofs.Common.{◌≡◌, ℕ, ◌+◌, ◌<◌, ◌≤◌, Bool, List, [], ◌∷◌, ◌++◌, length, map, take, get_or, refl, sym, ap, ap₂, ◌∙◌, append_assoc}
+use Rattle.std.proofs.Common.{◌≡◌, ◌==◌, ℕ, ◌+◌, ◌<◌, ◌≤◌, Bool, true, List, [], ◌∷◌, ◌++◌, length, map, take, get_or, refl, sym, ap, ap₂, ◌∙◌, append_assoc, arith, eqb-true}
 use Rattle.std.proofs.lemmas.List.{map-append, take_all}
 use Rattle.fancy_meaning.specs.Batches.{pattern_of}
 use Rattle.fancy_meaning.specs.Options.{Analysis}
@@ -20,6 +20,11 @@ join_last : (ts : List Text) (t : Text) → joined [] (ts ++ t ∷ []) ≡ joine
 join_last [] t = refl
 join_last (s ∷ []) t = refl
 join_last (s ∷ r ∷ ts) t = ap (λ x. s ++ x) (join_last (r ∷ ts) t) ∙ sym (append_assoc s (joined [] (r ∷ ts)) t)
+
+-- behind an empty text there is the other alone
+pub first_text : (old part : Text) (n : ℕ) → n ≡ length old → (n == 0) ≡ true → part ≡ old ++ part
+first_text [] part n len none = refl
+first_text (c ∷ old) part n len none = absurd (omega (arith, len, eqb-true n 0 none))
 
 pub one_more_text : (is : List Info) (k : ℕ) (i : Info) (old new part : Text) → k < length is → i ≡ get_or is k i →
     old ≡ joined [] (map plain_text (take k is)) → part ≡ plain_text i → new ≡ old ++ part →

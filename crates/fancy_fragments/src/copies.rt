@@ -1,12 +1,10 @@
 //! Copies of expressions, with all below them.
 
 ghost use Rattle.std.specs.Prelude.{◌≡◌, IfOk, IsTrue, map};
-ghost use Rattle.fancy_expr.specs.Exprs.{below};
 ghost use Rattle.fancy_expr.specs.Views.{absent_of, tree_of, unresolved_of};
 ghost use Rattle.fancy_fragments.specs.Leaves.{holds_none, is_bare};
 
 use fancy_expr::expr::{Absent, AstNode, CaptureGroupTarget, Expr};
-use fancy_expr::parts::{part, part_count};
 use std::alloc::{AllocError, Global};
 
 /// The node with all below it, once more.
@@ -15,8 +13,8 @@ pub(crate) fn copy_of(alloc: Global, expr: &Expr) -> Result<Expr, AllocError>
     ensures { IfOk result (λ copy. tree_of copy ≡ tree_of expr.now) }
 {
     match expr {
-        Expr::Concat(_) => Ok(Expr::Concat(copies_below(alloc, expr)?)),
-        Expr::Alt(_) => Ok(Expr::Alt(copies_below(alloc, expr)?)),
+        Expr::Concat(parts) => Ok(Expr::Concat(copies_of(alloc, parts)?)),
+        Expr::Alt(branches) => Ok(Expr::Alt(copies_of(alloc, branches)?)),
         Expr::Group(body) => Ok(Expr::Group(boxed_copy(alloc, body)?)),
         Expr::LookAround(body, look) => Ok(Expr::LookAround(boxed_copy(alloc, body)?, *look)),
         Expr::Repeat {
@@ -55,23 +53,12 @@ fn boxed_copy(alloc: Global, expr: &Expr) -> Result<Box<Expr>, AllocError>
     Ok(Box::new(alloc, copy_of(alloc, expr)?)?)
 }
 
-/// The children of the node.
-#[cycle(copying)]
-fn copies_below(alloc: Global, expr: &Expr) -> Result<Vec<Expr>, AllocError>
-    ensures { IfOk result (λ copies. map tree_of copies.items ≡ map tree_of (below expr.now)) }
-{
-    let mut copies = Vec::with_capacity(alloc, part_count(expr))?;
-    for i in 0..part_count(expr) {
-        copies.push(copy_of(alloc, part(expr, i))?)?;
-    }
-    Ok(copies)
-}
-
 /// The nodes once more.
+#[cycle(copying)]
 pub(crate) fn copies_of(alloc: Global, exprs: &[Expr]) -> Result<Vec<Expr>, AllocError>
     ensures { IfOk result (λ copies. map tree_of copies.items ≡ map tree_of exprs.now) }
 {
-    let mut copies = Vec::new(alloc);
+    let mut copies = Vec::with_capacity(alloc, exprs.len())?;
     for expr in exprs {
         copies.push(copy_of(alloc, expr)?)?;
     }

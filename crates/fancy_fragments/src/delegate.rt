@@ -91,8 +91,26 @@ impl Delegate {
         ensures classes { IfOk result (λ f. HaveClasses unicode infos.now) }
         ensures refused { IfErr result (IsRefusedFor unicode infos.now) }
     {
-        let fragment = Fragment::build(alloc, infos, unicode)?;
         let pattern = pattern_text(alloc, infos)?;
+        Delegate::named(alloc, pattern, infos, unicode)
+    }
+
+    /// As `build`, under this name.
+    pub fn named(
+        alloc: Global,
+        pattern: String,
+        infos: &[Info],
+        unicode: bool,
+    ) -> Result<Delegate, Error>
+        requires { AreEasyNeighbours infos.now }
+        ensures delegate { IfOk result (λ d. delegate_instr d
+            ≡ plain.Instr.Delegate (string_bytes pattern)
+            (fragment unicode (map info_tree infos.now))
+            (group_range (map info_tree infos.now))) }
+        ensures classes { IfOk result (λ f. HaveClasses unicode infos.now) }
+        ensures refused { IfErr result (IsRefusedFor unicode infos.now) }
+    {
+        let fragment = Fragment::build(alloc, infos, unicode)?;
         Ok(Delegate::new(pattern, fragment, group_range(infos)))
     }
 
@@ -129,7 +147,11 @@ pub fn pattern_text(alloc: Global, infos: &[Info]) -> Result<String, Error>
     let mut text = String::new(alloc);
     for info in infos {
         let part = info.expr().to_str(alloc, 1)?;
-        text.push_str(&part)?;
+        if text.is_empty() {
+            text = part;
+        } else {
+            text.push_str(&part)?;
+        }
     }
     Ok(text)
 }

@@ -138,6 +138,33 @@ fn only_child<'i, 'a>(info: &'i Info<'a>) -> &'i Info<'a>
     &info.children()[0]
 }
 
+/// How many states to make room for: as many as the nodes are laid out as, or a few more.
+#[cycle(count)]
+pub(crate) fn room_for(infos: &[Info]) -> usize {
+    let mut count: usize = 0;
+    for info in infos {
+        count = count.saturating_add(room_for_node(info));
+    }
+    count
+}
+
+#[cycle(count)]
+fn room_for_node(info: &Info) -> usize {
+    let children = info.children();
+    let own = match info.expr() {
+        Expr::Any { .. } => return 1,
+        Expr::Literal { .. } => return 1,
+        Expr::Delegate { .. } => return 1,
+        Expr::Assertion(_) => return 1,
+        Expr::Concat(_) => 0,
+        Expr::Alt(_) => children.len().saturating_mul(2),
+        Expr::Group(_) => 2,
+        Expr::Repeat { .. } => 4,
+        _ => return 0,
+    };
+    room_for(children).saturating_add(own)
+}
+
 impl Layout {
     ghost use Rattle.fancy_plain.specs.ClassTexts.{no_text, texts_of};
     ghost use Rattle.fancy_plain.specs.Layouts.{Lays, LaysEach, LaysJoined, LaysNode, LaysOver, LaysRepeat, Replaces, states_in};

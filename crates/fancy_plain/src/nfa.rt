@@ -17,7 +17,7 @@ ghost use Rattle.std.proofs.Props.{props};
 
 use crate::first_sets::{first_sets, may_begin};
 use crate::kept_runs::LONG;
-use crate::layout::Layout;
+use crate::layout::{Layout, room_for};
 use crate::nfa_state::NfaState;
 use crate::required_bytes::{only_of, required_bytes};
 use crate::search::Searcher;
@@ -107,7 +107,7 @@ impl Nfa {
         ensures classes { IfOk result (λ f. HaveClasses unicode infos.now) }
         ensures refused { IfErr result (IsRefusedFor unicode infos.now) }
     {
-        let states = Vec::new(alloc);
+        let states = Vec::with_capacity(alloc, room_for(infos).saturating_add(1))?;
         let mut layout = Layout {
             alloc,
             unicode,

@@ -6,6 +6,9 @@ use Rattle.fancy_code.proofs.BatchCodes.{named, no_text, some_text}
 use Rattle.fancy_code.proofs.EasyClasses.{textless_classes}
 use Rattle.fancy_code.proofs.batches.delegate_insn.Goals as goal
 
+pub get-requires-clause-text : goal.get-requires-clause-text
+get-requires-clause-text c = c.in_ok-text.ensures.text c.args.unicode
+
 pub returns-then-is_empty : goal.returns-then-is_empty
 returns-then-is_empty c =
     let text = sym (c.in_ok-text.ensures.text c.args.unicode)

@@ -5,7 +5,7 @@ use Rattle.fancy_meaning.specs.Premises.{analysis}
 use Rattle.fancy_compile.specs.Compiled.{plan_with, refuses}
 use Rattle.fancy_code.specs.Drafts.{draft_of, is_easy, Writes}
 use Rattle.fancy_code.specs.Sites.{top}
-use Rattle.fancy_compile.proofs.Finished.{scope_of_table, writing_from_start}
+use Rattle.fancy_compile.proofs.Finished.{scope_of_table, with_room, writing_from_start}
 use Rattle.fancy_compile.proofs.Roots.{root_known}
 use Rattle.fancy_compile.proofs.compile.compile.Goals as goal
 
@@ -50,7 +50,7 @@ finish-requires c =
           c.explicit_capture_group_0-explicit_group_0.ensures (c.total_groups.ensures.value a r)
           c.first_fresh-fresh.result (draft_of c.emit_program.new.writer) c.first_fresh-fresh.ensures.value
           (subst (λ d. Writes (top p c.args.options.max_nesting) (program_code p (is_easy p.analysis)) (p.analysis.tree ∷ []) d
-          (draft_of c.emit_program.new.writer)) c.new-writer.ensures
+          (draft_of c.emit_program.new.writer)) (with_room c.reserve.new.self.items c.new-writer.result _ c.reserve.ensures.items c.new-writer.ensures)
           (c.emit_program.ensures p refl refl refl
           (scope_of_table a _ r c.explicit_capture_group_0-explicit_group_0.result c.explicit_capture_group_0-explicit_group_0.ensures _
           c.first_number.ensures c.in_ok-groups.ensures))),
@@ -65,7 +65,7 @@ returns c = λ a m.
     c.explicit_capture_group_0-explicit_group_0.ensures (c.total_groups.ensures.value a r)
     c.first_fresh-fresh.result (draft_of c.emit_program.new.writer) c.first_fresh-fresh.ensures.value
     (subst (λ d. Writes (top p c.args.options.max_nesting) (program_code p (is_easy p.analysis)) (p.analysis.tree ∷ []) d
-    (draft_of c.emit_program.new.writer)) c.new-writer.ensures
+    (draft_of c.emit_program.new.writer)) (with_room c.reserve.new.self.items c.new-writer.result _ c.reserve.ensures.items c.new-writer.ensures)
     (c.emit_program.ensures p refl refl refl
     (scope_of_table a _ r c.explicit_capture_group_0-explicit_group_0.result c.explicit_capture_group_0-explicit_group_0.ensures _
     c.first_number.ensures c.in_ok-groups.ensures))))

@@ -1,9 +1,23 @@
-use Rattle.std.proofs.Common.{◌<◌, ◌++◌, length, drop, ◌+◌, sym, ap, ◌∙◌, arith, append_assoc}
+use Rattle.std.proofs.Common.{◌≡◌, ◌<◌, ◌++◌, length, drop, ◌+◌, sym, ap, ◌∙◌, arith, append-nil, append_assoc}
 use Rattle.fancy_compile.specs.GroupTables.{is_group, own_trees, trees_of, group_trees}
 use Rattle.fancy_info.specs.Infos.{info_facts, info_children, info_tree}
 use Rattle.fancy_compile.proofs.Known.{fine_part, part_known, part_smaller}
-use Rattle.fancy_compile.proofs.GroupTable.{each_group_trees, groups_of_info, each_rest}
+use Rattle.fancy_compile.proofs.GroupTable.{each_group_trees, groups_of_info, no_groups, each_rest}
 use Rattle.fancy_compile.proofs.group_table.+gather.Goals as goal
+
+pub returns-then-start_group-end_group : goal.returns-then-start_group-end_group
+returns-then-start_group-end_group t c =
+    let i = c.args.info.now in
+    let old = trees_of c.args.nodes.now.items in
+    let same : (info_facts i).start_group ≡ (info_facts i).end_group = omega (
+      arith,
+      c.start_group.ensures,
+      c.end_group.ensures,
+      c.if-start_group-end_group.true,
+    ) in record {
+      nodes = λ a k. sym (ap (λ l. old ++ l) (no_groups a i k same) ∙ append-nil old);
+      known = λ a most k fine le all. all;
+    }
 
 pub loop-part-init : goal.loop-part-init
 loop-part-init t c =

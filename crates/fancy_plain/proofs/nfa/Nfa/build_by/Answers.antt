@@ -12,25 +12,25 @@ use Rattle.fancy_plain.proofs.nfa.Nfa.build_by.Goals as goal
 
 pub returns-in_err-lay_each-clause-refused : goal.returns-in_err-lay_each-clause-refused
 returns-in_err-lay_each-clause-refused c =
-    fault_passed (IsRefusedFor c.args.unicode c.args.infos.now) c.from_residual.result _ c.from_residual.ensures
+    fault_passed (IsRefusedFor c.args.unicode c.args.infos.now) c.from_residual-in_err-lay_each.result _ c.from_residual-in_err-lay_each.ensures
     (c.in_err-lay_each.ensures c.requires.0 c.requires.1)
 
 pub first_sets-requires : goal.first_sets-requires
 first_sets-requires c = λ i p at.
-    let s : Layout = record { alloc = c.args.alloc; unicode = c.args.unicode; states = c.new-states.result } in
-    one_read c.args.may_join c.requires.0 c.args.infos.now s c.lay_each.new.self c.new-states.ensures.items
+    let s : Layout = record { alloc = c.args.alloc; unicode = c.args.unicode; states = c.in_ok-states.states } in
+    one_read c.args.may_join c.requires.0 c.args.infos.now s c.lay_each.new.self c.in_ok-states.ensures.items
     (c.in_ok-lay_each.ensures c.requires.0 c.requires.1) c.push.new.self.items c.in_ok-push.ensures.items _ c.deref-2.ensures.value i p at
 
 pub required_bytes-required_bytes-requires : goal.required_bytes-required_bytes-requires
 required_bytes-required_bytes-requires c = λ i p at.
-    let s : Layout = record { alloc = c.args.alloc; unicode = c.args.unicode; states = c.new-states.result } in
-    one_read c.args.may_join c.requires.0 c.args.infos.now s c.lay_each.new.self c.new-states.ensures.items
+    let s : Layout = record { alloc = c.args.alloc; unicode = c.args.unicode; states = c.in_ok-states.states } in
+    one_read c.args.may_join c.requires.0 c.args.infos.now s c.lay_each.new.self c.in_ok-states.ensures.items
     (c.in_ok-lay_each.ensures c.requires.0 c.requires.1) c.push.new.self.items c.in_ok-push.ensures.items _ c.deref-3.ensures.value i p at
 
 pub seems_one_pass-seems_one_pass-requires : goal.seems_one_pass-seems_one_pass-requires
 seems_one_pass-seems_one_pass-requires c = λ i p at.
-    let s : Layout = record { alloc = c.args.alloc; unicode = c.args.unicode; states = c.new-states.result } in
-    one_read c.args.may_join c.requires.0 c.args.infos.now s c.lay_each.new.self c.new-states.ensures.items
+    let s : Layout = record { alloc = c.args.alloc; unicode = c.args.unicode; states = c.in_ok-states.states } in
+    one_read c.args.may_join c.requires.0 c.args.infos.now s c.lay_each.new.self c.in_ok-states.ensures.items
     (c.in_ok-lay_each.ensures c.requires.0 c.requires.1) c.push.new.self.items c.in_ok-push.ensures.items _ c.deref-4.ensures.value i p at
 
 pub returns-clause-nfa : goal.returns-clause-nfa
@@ -39,8 +39,8 @@ returns-clause-nfa c = λ a each fine.
     let infos = c.args.infos.now in
     let adds = c.in_ok-lay_each.ensures a each in
     let t = c.lay_each.new.self in
-    let s : Layout = record { alloc = c.args.alloc; unicode = c.args.unicode; states = c.new-states.result } in
-    let none = c.new-states.ensures.items in
+    let s : Layout = record { alloc = c.args.alloc; unicode = c.args.unicode; states = c.in_ok-states.states } in
+    let none = c.in_ok-states.ensures.items in
     let more = c.in_ok-push.ensures.items in record {
       states = all_states j a infos s t (ap (map state_of) none) adds (map state_of c.push.new.self.items)
           (ap (map state_of) more ∙ map-append state_of t.states.items (code.Match ∷ []));
