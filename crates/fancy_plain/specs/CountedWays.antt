@@ -1,5 +1,5 @@
 -- Loops that count over one character, where no choice in them is taken back.
-use Rattle.std.specs.Prelude.{◌≡◌, ◌≤◌, ◌<◌, ◌+◌, ◌-◌, ℕ, zero, suc, true, false, List, Some, slice_get}
+use Rattle.std.specs.Prelude.{◌≡◌, ◌≤◌, ◌<◌, ◌+◌, ◌-◌, ℕ, zero, suc, Bool, true, false, List, Some, slice_get}
 use Rattle.fancy_meaning.specs.Moves.{past_char}
 use Rattle.fancy_nfa.specs.NfaSearch.{NfaConfig, passes}
 use Rattle.fancy_backtrack.specs.declared.loops.Loop.{Loop}
@@ -12,12 +12,14 @@ use Rattle.fancy_plain.specs.Runs.{Excludes, IsBody}
 use Rattle.fancy_plain.specs.OnePass.{AreDeadEnds, Loses, Succeeds, Walks, closed_by, config_at, opened_at}
 use Rattle.fancy_plain.specs.Views.{test_of}
 
--- so many characters that pass stand between these places
+-- so many characters that the test takes stand between these places
+abbrev pub AreTaken : (text : List ℕ) → (takes : ℕ → Bool) → (count : ℕ) → (from to : ℕ) → Type 0
+AreTaken text takes zero from to = from ≡ to
+AreTaken text takes (suc n) from to = (i : ℕ) × (AreTaken text takes n from i × (past_char text takes i ≡ Some to))
+
+-- so many that pass
 abbrev pub PassesSome : Searcher → CharTest → (count : ℕ) → (from to : ℕ) → Type 0
-PassesSome t test zero from to = from ≡ to
-PassesSome t test (suc n) from to =
-    (i : ℕ) × (PassesSome t test n from i
-    × (past_char (t.text).now (passes (t.text).now t.unicode (test_of test)) i ≡ Some to))
+PassesSome t test = AreTaken (t.text).now (passes (t.text).now t.unicode (test_of test))
 
 -- the characters that pass end there, or these are as many as may be, so many less than that
 abbrev pub PassesMost : Searcher → CharTest → (most : ℕ) → (from to left : ℕ) → Type 0

@@ -1,15 +1,13 @@
 //! Long runs over one character, kept from one one-pass match to the next.
 
-ghost use Rattle.std.specs.Prelude.{◌≡◌, ◌≤◌, ◌+◌, ℕ, Bool, List, [], IfOk, IsTrue, Some, slice_get};
+ghost use Rattle.std.specs.Prelude.{◌≡◌, ◌≤◌, ◌+◌, ℕ, Bool, List, IfOk, IsTrue, Some, slice_get};
 ghost use Rattle.fancy_meaning.specs.Places.{is_place};
-ghost use Rattle.fancy_nfa.specs.NfaSearch as plain;
 ghost use Rattle.fancy_plain.specs.declared.nfa_state.NfaState as nfa_states;
 ghost use Rattle.fancy_plain.specs.declared.nfa_state.NfaState.TheVariants as nfa_state;
-ghost use Rattle.fancy_plain.specs.AsciiRuns.{AllPass};
-ghost use Rattle.fancy_plain.specs.CountedWays.{ComesPast};
-ghost use Rattle.fancy_plain.specs.OnePass.{EndsOnePass, IsOnePass};
+ghost use Rattle.fancy_plain.specs.CountedWays.{AreTaken, ComesPast, PassesMost};
+ghost use Rattle.fancy_plain.specs.OnePass.{EndsOnePass, IsOnePass, RunsPast};
 ghost use Rattle.fancy_plain.specs.Searches.{IsSearcher};
-ghost use Rattle.fancy_plain.specs.Views.{IsReadBy, test_of};
+ghost use Rattle.fancy_plain.specs.Views.{IsReadBy};
 ghost use Rattle.fancy_plain.specs.Ways.{IsOfNodes};
 
 use crate::counted_ways::{Passed, behind_counter};
@@ -17,16 +15,77 @@ use crate::nfa::Nfa;
 use crate::nfa_state::{CharTest, NfaState};
 use crate::one_pass::{OnePass, are_both, without_a_way};
 use crate::search::Searcher;
+use fancy_characters::places::past_any;
 use std::alloc::{AllocError, Global};
 
 /// So many bytes are a long run.
 pub(crate) const LONG: usize = 256;
 
-/// Bytes of ASCII one after the other that pass a test.
+/// Characters one after the other that pass a test.
 #[derive(Clone, Copy)]
 pub(crate) struct KeptRun {
     pub(crate) from: usize,
     pub(crate) to: usize,
+    /// How many they are.
+    pub(crate) count: usize,
+}
+
+impl KeptRun {
+    /// None, at this place.
+    #[inline(always)]
+    fn none_at(place: usize) -> KeptRun
+        ensures from { result.from ≡ place }
+        ensures to { result.to ≡ place }
+        ensures count { result.count ≡ 0 }
+    {
+        KeptRun {
+            from: place,
+            to: place,
+            count: 0,
+        }
+    }
+
+    /// What of it stands from this place on. It is empty where no character of the run begins there.
+    #[inline(always)]
+    fn behind(self, text: &[u8], place: usize) -> KeptRun
+        requires begins { self.from ≤ place }
+        requires ends { place ≤ self.to }
+        ensures { (takes : ℕ → Bool) → AreTaken text.now takes self.count self.from self.to
+            → AreTaken text.now takes result.count place result.to }
+    {
+        if self.count == self.to - self.from {
+            return KeptRun {
+                from: place,
+                to: self.to,
+                count: self.to - place,
+            };
+        }
+        self.behind_each(text, place)
+    }
+
+    /// The same, where not each character has one byte.
+    fn behind_each(self, text: &[u8], place: usize) -> KeptRun
+        requires ends { place ≤ self.to }
+        ensures { (takes : ℕ → Bool) → AreTaken text.now takes self.count self.from self.to
+            → AreTaken text.now takes result.count place result.to }
+    {
+        let mut rest = self;
+        'passed: while rest.from < place {
+            let Some(next) = past_any(text, true, false, rest.from) else {
+                return KeptRun::none_at(place);
+            };
+            rest = KeptRun {
+                from: next,
+                to: rest.to,
+                count: rest.count.saturating_sub(1),
+            };
+        }
+        if rest.from == place {
+            rest
+        } else {
+            KeptRun::none_at(place)
+        }
+    }
 }
 
 /// By the state of a loop's test, the last long run that the loop took. The run is empty where it took none.
@@ -48,38 +107,40 @@ impl KeptRuns {
         }
     }
 
-    /// The run that is kept for this state, where it reaches over the place, and else the empty one there.
-    fn around(&self, state: usize, place: usize) -> KeptRun
-        ensures passes { (text : List ℕ) (unicode : Bool) (states : List nfa_states.NfaState)
-            → AreRunsIn text unicode states self.now
-            → PassesAt text unicode states state result.from result.to }
-        ensures before { result.from ≤ place }
-        ensures behind { place ≤ result.to }
+    /// Of the run that is kept for this state what stands from the place on, if that is so many characters at most, and else
+    /// none.
+    #[inline(always)]
+    fn behind(&self, text: &[u8], state: usize, place: usize, most: usize) -> KeptRun
+        ensures passes { (unicode : Bool) (states : List nfa_states.NfaState)
+            → AreRunsIn text.now unicode states self.now
+            → PassesAt text.now unicode states state result.count place result.to }
+        ensures within { result.count ≤ most }
     {
         if state < self.by_state.len() {
             let run = self.by_state[state];
             if run.from <= place && place <= run.to {
-                return run;
+                let rest = run.behind(text, place);
+                if rest.count <= most {
+                    return rest;
+                }
             }
         }
-        KeptRun {
-            from: place,
-            to: place,
-        }
+        KeptRun::none_at(place)
     }
 
     /// Keeps this run for the state in place of the last one, if it is long. Where memory is refused it is not kept.
+    #[inline(always)]
     fn keep(&mut self, state: usize, run: KeptRun)
         ensures { (text : List ℕ) (unicode : Bool) (states : List nfa_states.NfaState)
             → AreRunsIn text unicode states self.old
-            → PassesAt text unicode states state run.from run.to
+            → PassesAt text unicode states state run.count run.from run.to
             → AreRunsIn text unicode states self.new }
     {
         if run.to.saturating_sub(run.from) < LONG {
             return;
         }
         'states: while self.by_state.len() <= state {
-            let Ok(()) = self.by_state.push(KeptRun { from: 0, to: 0 }) else {
+            let Ok(()) = self.by_state.push(KeptRun::none_at(0)) else {
                 return;
             };
         }
@@ -118,7 +179,7 @@ impl Nfa {
 }
 
 impl Searcher<'_> {
-    ghost use Rattle.fancy_plain.specs.KeptRuns.{AreRunsBy, RunsThrough};
+    ghost use Rattle.fancy_plain.specs.KeptRuns.{AreRunsBy};
 
     /// From state to state, where there is no group.
     fn walk_kept(
@@ -211,9 +272,7 @@ impl Searcher<'_> {
         let Some(test) = self.counted_test(head, *bounds) else {
             return Ok(Passed::Unknown);
         };
-        let most = bounds.hi;
-        let on = self.past_ascii_kept(test, head + 1, place, most, runs);
-        let (end, left) = self.past_at_most(alloc, test, on, most - (on - place))?;
+        let (end, left) = self.past_most_kept(alloc, test, head + 1, place, bounds.hi, runs)?;
         Ok(behind_counter(*bounds, *after, end, left))
     }
 
@@ -229,42 +288,38 @@ impl Searcher<'_> {
         requires read { IsReadBy self.now.unicode test.now }
         requires at { slice_get self.now.states.now state ≡ Some (nfa_state.Character test.now) }
         requires runs { AreRunsBy self.now runs.old }
-        ensures on { IfOk result (RunsThrough self.now test.now from) }
+        ensures on { IfOk result (RunsPast self.now test.now from) }
         ensures runs { AreRunsBy self.now runs.new }
     {
-        let on = self.past_ascii_kept(test, state, from, usize::MAX, runs);
-        self.past_all(alloc, test, on)
+        let (end, _) = self.past_most_kept(alloc, test, state, from, usize::MAX, runs)?;
+        Ok(end)
     }
 
-    /// Past at most so many characters of ASCII from this place on that pass the test at this state: to the end of the
-    /// run that is kept for it, and from there one by one.
-    fn past_ascii_kept(
+    /// Past at most so many characters from this place on that pass the test at this state, and how many less these were: to
+    /// the end of the run that is kept for it, and from there one by one.
+    fn past_most_kept(
         &self,
+        alloc: Global,
         test: &CharTest,
         state: usize,
         from: usize,
         most: usize,
         runs: &mut KeptRuns,
-    ) -> usize
+    ) -> Result<(usize, usize), AllocError>
         requires read { IsReadBy self.now.unicode test.now }
         requires at { slice_get self.now.states.now state ≡ Some (nfa_state.Character test.now) }
         requires runs { AreRunsBy self.now runs.old }
-        ensures pass { AllPass (plain.passes [] self.now.unicode (test_of test.now))
-            self.now.text.now from result }
-        ensures further { from ≤ result }
-        ensures within { result ≤ from + most }
+        ensures most { IfOk result (λ to. PassesMost self.now test.now most from to.0 to.1) }
         ensures runs { AreRunsBy self.now runs.new }
     {
-        let text = self.text.as_bytes();
-        let last = text.len().min(from.saturating_add(most));
-        let kept = runs.around(state, from);
-        let on = kept.to.min(last).max(from);
-        let end = test.past_ascii(self.unicode, &text[..last], on);
+        let kept = runs.behind(self.text.as_bytes(), state, from, most);
+        let (to, left) = self.past_at_most(alloc, test, kept.to, most - kept.count)?;
         let run = KeptRun {
-            from: kept.from,
-            to: kept.to.max(end),
+            from,
+            to,
+            count: most - left,
         };
         runs.keep(state, run);
-        end
+        Ok((to, left))
     }
 }

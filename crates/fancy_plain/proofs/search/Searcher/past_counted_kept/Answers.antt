@@ -1,22 +1,17 @@
-use Rattle.std.proofs.Common.{◌+◌, ◌-◌, Some, length, refl, sym, ap, ◌∙◌, arith}
+use Rattle.std.proofs.Common.{◌+◌, Some, length, refl, sym, ap, ◌∙◌, arith}
 use Rattle.std.proofs.lemmas.Bool.{ltb-true}
 use Rattle.std.proofs.lemmas.Option.{slice_get_read}
 use Rattle.fancy_plain.proofs.RunLaws.{body_read}
-use Rattle.fancy_plain.proofs.KeptRunsLaws.{most_behind}
 use Rattle.fancy_plain.specs.declared.nfa_state.NfaState.TheVariants as nfa_state
 use Rattle.fancy_plain.proofs.FirstSetLaws.{some_below}
 use Rattle.fancy_plain.proofs.search.Searcher.past_counted_kept.Goals as goal
 
-pub past_ascii_kept-on-requires-clause-read : goal.past_ascii_kept-on-requires-clause-read
-past_ascii_kept-on-requires-clause-read c =
+pub past_most_kept-requires-clause-read : goal.past_most_kept-requires-clause-read
+past_most_kept-requires-clause-read c =
     body_read c.args.self.now (c.args.enter + 1) (c.args.enter + 1 + 1) c.in-Some.test.now c.requires.searcher c.in-Some.ensures.body
 
-pub past_ascii_kept-on-requires-clause-at : goal.past_ascii_kept-on-requires-clause-at
-past_ascii_kept-on-requires-clause-at c = c.in-Some.ensures.body.0
-
-pub past_at_most-requires : goal.past_at_most-requires
-past_at_most-requires c =
-    body_read c.args.self.now (c.args.enter + 1) (c.args.enter + 1 + 1) c.in-Some.test.now c.requires.searcher c.in-Some.ensures.body
+pub past_most_kept-requires-clause-at : goal.past_most_kept-requires-clause-at
+past_most_kept-requires-clause-at c = c.in-Some.ensures.body.0
 
 pub returns-clause-on : goal.returns-clause-on
 returns-clause-on c =
@@ -27,12 +22,9 @@ returns-clause-on c =
     let there = slice_get_read states (length states) head c.in-Some-CounterLoop.field-0.now refl (ltb-true head (length states) (sym found.0)) found.1
     ∙ ap Some c.in-Some-CounterLoop.field-0-is in
     let bounds = c.in-Some-CounterLoop.bounds in
-    let kept = c.past_ascii_kept-on in
     c.behind_counter.ensures.comes searcher c.args.enter c.args.place c.in-Some.test.now
     (c.requires.at, there, c.in-Some.ensures.body, c.in-Some.ensures.greedy, c.in-Some.ensures.asks)
-    (most_behind searcher c.in-Some.test.now bounds.hi c.args.place kept.result c.in_ok-end.end c.in_ok-end.left
-    kept.ensures.further kept.ensures.within kept.ensures.pass c.in_ok-end.ensures)
-    (omega arith)
+    c.in_ok-end.ensures.most (omega arith)
 
 pub overflow_add-head : goal.overflow_add-head
 overflow_add-head c =

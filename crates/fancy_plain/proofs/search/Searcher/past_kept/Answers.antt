@@ -1,9 +1,9 @@
-use Rattle.std.proofs.Common.{Some, length, refl, sym, ap, ◌∙◌}
+use Rattle.std.proofs.Common.{false, Some, length, refl, sym, ap, ◌∙◌}
 use Rattle.std.proofs.lemmas.Bool.{ltb-true}
 use Rattle.std.proofs.lemmas.Option.{slice_get_read}
 use Rattle.fancy_plain.specs.declared.nfa_state.NfaState.TheVariants as nfa_state
 use Rattle.fancy_plain.specs.OnePass.{config_at}
-use Rattle.fancy_plain.proofs.OnePassLaws.{goes}
+use Rattle.fancy_plain.proofs.OnePassLaws.{goes, not_sure}
 use Rattle.fancy_plain.proofs.RunLaws.{body_read}
 use Rattle.fancy_plain.proofs.search.Searcher.past_kept.Goals as goal
 
@@ -31,7 +31,7 @@ returns-in_ok-end-in-Some-LoopSplit-clause-on c = λ s.
     let found = c.in-Some-LoopSplit.ensures.lookup in
     let there = slice_get_read states (length states) at c.in-Some-LoopSplit.field-0.now refl (ltb-true at (length states) (sym found.0)) found.1
     ∙ ap Some c.in-Some-LoopSplit.field-0-is in
-    c.in_ok-end-in-Some-LoopSplit.ensures.on s at c.in-Some-LoopSplit.first c.in-Some-LoopSplit.second there c.in-Some.ensures
+    c.in_ok-end-in-Some-LoopSplit.ensures.on s at c.in-Some-LoopSplit.first c.in-Some-LoopSplit.second there c.in-Some.ensures false not_sure
 
 pub past_counted_kept-requires-clause-at : goal.past_counted_kept-requires-clause-at
 past_counted_kept-requires-clause-at c =
