@@ -1,16 +1,18 @@
 //! Long runs over one character, kept from one one-pass match to the next.
 
-ghost use Rattle.std.specs.Prelude.{◌≡◌, ◌≤◌, ◌+◌, ℕ, Bool, List, IfOk, IsTrue, Some, slice_get};
+ghost use Rattle.std.specs.Prelude.{◌≡◌, ◌≤◌, ◌+◌, ℕ, Bool, List, [], IfOk, IsTrue, Some, slice_get};
 ghost use Rattle.fancy_meaning.specs.Places.{is_place};
 ghost use Rattle.fancy_plain.specs.declared.nfa_state.NfaState as nfa_states;
 ghost use Rattle.fancy_plain.specs.declared.nfa_state.NfaState.TheVariants as nfa_state;
 ghost use Rattle.fancy_plain.specs.CountedWays.{AreTaken, ComesPast, PassesMost};
-ghost use Rattle.fancy_plain.specs.OnePass.{EndsOnePass, IsOnePass, RunsPast};
+ghost use Rattle.fancy_plain.specs.GroupSpans.{AreGroupsOf, spans_in};
+ghost use Rattle.fancy_plain.specs.OnePass.{EndsOnePass, EndsOnePassWith, IsOnePass, IsOnePassWay, RunsPast};
 ghost use Rattle.fancy_plain.specs.Searches.{IsSearcher};
 ghost use Rattle.fancy_plain.specs.Views.{IsReadBy};
 ghost use Rattle.fancy_plain.specs.Ways.{IsOfNodes};
 
 use crate::counted_ways::{Passed, behind_counter};
+use crate::group_spans::GroupSpans;
 use crate::nfa::Nfa;
 use crate::nfa_state::{CharTest, NfaState};
 use crate::one_pass::{OnePass, are_both, without_a_way};
@@ -166,7 +168,7 @@ impl Nfa {
         ensures way { IfOk result (IsOnePass text.now self.now ix) }
         ensures runs { AreRunsOf text.now self.now runs.new }
     {
-        if !self.is_one_pass && !self.counts_long {
+        if self.one_pass_group.is_some() || !(self.is_one_pass || self.counts_long) {
             return Ok(OnePass::Unknown);
         }
         let searcher = Searcher {
@@ -175,6 +177,34 @@ impl Nfa {
             text,
         };
         searcher.walk_kept(alloc, ix, runs)
+    }
+
+    /// As `one_pass_end_kept`, also of nodes with groups: the spans of the groups that the way sets are written over these.
+    pub fn one_pass_way_kept(
+        &self,
+        alloc: Global,
+        text: &str,
+        ix: usize,
+        groups: &mut GroupSpans,
+        runs: &mut KeptRuns,
+    ) -> Result<OnePass, AllocError>
+        requires place { IsTrue (is_place text.now ix) }
+        requires nodes { ∥ IsOfNodes self.now ∥₁ }
+        requires runs { AreRunsOf text.now self.now runs.old }
+        ensures way { IfOk result (IsOnePassWay text.now self.now ix (spans_in groups.new)) }
+        ensures runs { AreRunsOf text.now self.now runs.new }
+    {
+        let Some(first) = self.one_pass_group else {
+            groups.begin(0);
+            return self.one_pass_end_kept(alloc, text, ix, runs);
+        };
+        groups.begin(first);
+        let searcher = Searcher {
+            states: &self.states,
+            unicode: self.unicode,
+            text,
+        };
+        searcher.walk_groups_kept(alloc, ix, groups, runs)
     }
 }
 
@@ -216,7 +246,57 @@ impl Searcher<'_> {
         Ok(OnePass::Unknown)
     }
 
+    /// From state to state, with the spans of groups.
+    fn walk_groups_kept(
+        &self,
+        alloc: Global,
+        ix: usize,
+        groups: &mut GroupSpans,
+        runs: &mut KeptRuns,
+    ) -> Result<OnePass, AllocError>
+        requires searcher { IsSearcher self.now }
+        requires groups { AreGroupsOf groups.old [] [] }
+        requires runs { AreRunsBy self.now runs.old }
+        ensures way { IfOk result (EndsOnePassWith self.now ix groups.new) }
+        ensures runs { AreRunsBy self.now runs.new }
+    {
+        let mut at = 0;
+        let mut here = ix;
+        let mut is_sure = true;
+        'states: for _ in 0..usize::MAX {
+            match self.past_kept(alloc, at, here, runs)? {
+                Passed::On {
+                    at: after,
+                    place: end,
+                    is_sure: is_exact,
+                } => {
+                    at = after;
+                    here = end;
+                    is_sure = are_both(is_sure, is_exact);
+                    continue 'states;
+                }
+                Passed::Opens { at: after } => {
+                    groups.open(here)?;
+                    at = after;
+                    continue 'states;
+                }
+                Passed::Closes { group, at: after } => {
+                    if !groups.close(group, here)? {
+                        return Ok(OnePass::Unknown);
+                    }
+                    at = after;
+                    continue 'states;
+                }
+                Passed::Ends => return Ok(OnePass::Ends(here)),
+                Passed::Fails => return Ok(without_a_way(is_sure)),
+                Passed::Unknown => return Ok(OnePass::Unknown),
+            }
+        }
+        Ok(OnePass::Unknown)
+    }
+
     /// Past this state, or past a loop over one character by what is kept.
+    #[inline(always)]
     fn past_kept(
         &self,
         alloc: Global,
@@ -252,6 +332,7 @@ impl Searcher<'_> {
     }
 
     /// Past the loop that begins here, where it counts over one character.
+    #[inline(always)]
     fn past_counted_kept(
         &self,
         alloc: Global,
@@ -277,6 +358,7 @@ impl Searcher<'_> {
     }
 
     /// Past the characters from this place on that pass the test at this state.
+    #[inline(always)]
     fn past_all_kept(
         &self,
         alloc: Global,

@@ -37,7 +37,7 @@ pub struct Nfa {
     pub(crate) first_sets: Vec<[bool; 128]>,
     /// Whether ways seem to need no choice, set no group, and do not count long.
     pub(crate) is_one_pass: bool,
-    /// Whether ways seem to need no choice, set no group, and have to take a long run over one character.
+    /// Whether ways seem to need no choice, and have to take a long run over one character.
     pub(crate) counts_long: bool,
     /// Where ways seem to need no choice and set groups, the first of these.
     pub(crate) one_pass_group: Option<usize>,
@@ -135,7 +135,7 @@ impl Nfa {
             pair_bits,
             first_sets,
             is_one_pass: is_plain && !has_long_count,
-            counts_long: is_plain && has_long_count,
+            counts_long: seems_one_pass && has_long_count,
             one_pass_group: if seems_one_pass { group } else { None },
             required_bytes,
             required_byte,
@@ -192,8 +192,8 @@ impl Nfa {
         self.is_one_pass
     }
 
-    /// Ways seem to need no choice, set no group, and have to take a long run over one character. A match may fail far from
-    /// where it begins, so it is asked for by `one_pass_end_kept` alone.
+    /// Ways seem to need no choice, and have to take a long run over one character. A match may fail far from where it
+    /// begins, so it is asked for by long runs that are kept.
     pub fn counts_long(&self) -> bool
         ensures { result ≡ self.now.counts_long }
     {

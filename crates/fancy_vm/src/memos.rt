@@ -209,7 +209,7 @@ impl Memos {
         if !fragment.nfa().can_begin(task.text, ix) {
             return OnePass::Fails;
         }
-        match self.one_pass_way(task, fragment, ix) {
+        match self.one_pass_way(task, fragment, pc, ix) {
             Ok(OnePass::Unknown) => self.searched_way(task, fragment, pc, ix),
             Ok(way) => way,
             Err(_) => OnePass::Unknown,
@@ -292,7 +292,8 @@ impl Memos {
     ) -> Result<(), AllocError>
         requires here { fragment_at task.now pc ≡ Some fragment.now }
         requires memos { AreMemosOf task.now self.old }
-        ensures { AreMemosOf task.now self.new }
+        ensures memos { AreMemosOf task.now self.new }
+        ensures groups { self.new.groups ≡ self.old.groups }
     {
         if self.far.pass_often(task.text, from, end) {
             self.begin_note(task, fragment, pc)?;
@@ -310,23 +311,27 @@ impl Memos {
     ) -> Result<(), AllocError>
         requires here { fragment_at task.now pc ≡ Some fragment.now }
         requires memos { AreMemosOf task.now self.old }
-        ensures { AreMemosOf task.now self.new }
+        ensures memos { AreMemosOf task.now self.new }
+        ensures groups { self.new.groups ≡ self.old.groups }
     {
         let note = self.note_for(task, fragment, pc)?;
         self.by_place[pc] = Some(note);
         Ok(())
     }
 
-    /// The first way from `ix` of a fragment with groups, where it takes one pass: its groups are held. Where that told
-    /// nothing often in this run it is not asked for, so that no part of the text is passed in vain again and again.
+    /// The first way from `ix` of the fragment with groups at `pc` of the program, where it takes one pass: its groups are
+    /// held. Where that told nothing often in this run it is not asked for, so that no part of the text is passed in vain
+    /// again and again.
     #[inline(always)]
     pub(crate) fn one_pass_way(
         &mut self,
         task: &Task<'_>,
         fragment: &Fragment,
+        pc: usize,
         ix: usize,
     ) -> Result<OnePass, AllocError>
         requires place { IsTrue (is_place task.now.text.now ix) }
+        requires here { fragment_at task.now pc ≡ Some fragment.now }
         requires memos { AreMemosOf task.now self.old }
         ensures way { IfOk result
             (IsOnePassWayOf task.now.text.now fragment.now ix (spans_in self.new.groups)) }
@@ -335,13 +340,76 @@ impl Memos {
         if fragment.nfa().is_one_pass() || self.unknown >= MOST_UNKNOWN {
             return Ok(OnePass::Unknown);
         }
-        let way = fragment
-            .nfa()
-            .one_pass_way(task.alloc, task.text, ix, &mut self.groups)?;
+        let way = self.way_with_groups(task, fragment, pc, ix)?;
         if matches!(way, OnePass::Unknown) {
-            self.unknown += 1;
+            self.unknown = self.unknown.saturating_add(1);
         }
         Ok(way)
+    }
+
+    /// The same, however often it told nothing: by long runs that earlier such matches kept in this run, where they did.
+    #[inline(always)]
+    fn way_with_groups(
+        &mut self,
+        task: &Task<'_>,
+        fragment: &Fragment,
+        pc: usize,
+        ix: usize,
+    ) -> Result<OnePass, AllocError>
+        requires place { IsTrue (is_place task.now.text.now ix) }
+        requires here { fragment_at task.now pc ≡ Some fragment.now }
+        requires memos { AreMemosOf task.now self.old }
+        ensures way { IfOk result
+            (IsOnePassWayOf task.now.text.now fragment.now ix (spans_in self.new.groups)) }
+        ensures memos { AreMemosOf task.now self.new }
+    {
+        let nfa = fragment.nfa();
+        match self.noted(pc) {
+            Noted::Nothing if !nfa.counts_long() => {}
+            Noted::Memo => return nfa.one_pass_way(task.alloc, task.text, ix, &mut self.groups),
+            _ => return self.kept_way(task, fragment, pc, ix),
+        }
+        let way = nfa.one_pass_way(task.alloc, task.text, ix, &mut self.groups)?;
+        if let OnePass::Ends(end) = way {
+            self.count_match(task, fragment, pc, ix, end)?;
+        }
+        Ok(way)
+    }
+
+    /// As `way_with_groups`, by long runs that are kept.
+    #[inline(never)]
+    fn kept_way(
+        &mut self,
+        task: &Task<'_>,
+        fragment: &Fragment,
+        pc: usize,
+        ix: usize,
+    ) -> Result<OnePass, AllocError>
+        requires place { IsTrue (is_place task.now.text.now ix) }
+        requires here { fragment_at task.now pc ≡ Some fragment.now }
+        requires memos { AreMemosOf task.now self.old }
+        ensures way { IfOk result
+            (IsOnePassWayOf task.now.text.now fragment.now ix (spans_in self.new.groups)) }
+        ensures memos { AreMemosOf task.now self.new }
+    {
+        let RunMemo { memo, kept, run } = self.note_for(task, fragment, pc)?;
+        let Some(mut runs) = kept else {
+            self.by_place[pc] = Some(RunMemo {
+                memo,
+                kept: None,
+                run,
+            });
+            return Ok(OnePass::Unknown);
+        };
+        let way = fragment
+            .nfa()
+            .one_pass_way_kept(task.alloc, task.text, ix, &mut self.groups, &mut runs);
+        self.by_place[pc] = Some(RunMemo {
+            memo,
+            kept: Some(runs),
+            run,
+        });
+        way
     }
 
     /// The first way from `ix` of the fragment at `pc` of the program, by what this run noted of it. Where the fragment counts
@@ -435,6 +503,7 @@ impl Memos {
         ensures run { IfOk result (λ note. note.run ≡ self.new.run) }
         ensures room { OnOk result (pc < length self.new.by_place.items) }
         ensures memos { AreMemosOf task.now self.new }
+        ensures groups { self.new.groups ≡ self.old.groups }
     {
         grow(&mut self.by_place, pc)?;
         let pos = task.options.pos;
