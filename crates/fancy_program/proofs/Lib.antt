@@ -13,3 +13,4 @@ pub mod LookLaws
 pub mod LookScanLaws
 pub mod WalkLaws
 pub mod TurnsLaws
+pub mod RunPrefilterLaws

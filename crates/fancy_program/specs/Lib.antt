@@ -4,6 +4,7 @@ pub mod StartPrefilters
 pub mod StartRuns
 pub mod Attempts
 pub mod LazyLoops
+pub mod RunPrefilters
 pub mod SingleDelegates
 pub mod Strategies
 pub mod AsciiSets

@@ -11,6 +11,7 @@ pub mod moves;
 pub mod prefilter;
 mod program;
 pub mod required;
+pub mod run_prefilter;
 mod shape;
 pub mod strategy;
 pub mod threads;

@@ -1,6 +1,6 @@
 //! One step in a text: from a place the place after what is taken, if it is there.
 
-ghost use Rattle.std.specs.Prelude.{◌≡◌, ◌&&◌, nat_le, IfOk};
+ghost use Rattle.std.specs.Prelude.{◌≡◌, ◌&&◌, nat_le, IfOk, IfSome};
 ghost use Rattle.fancy_meaning.specs.Moves as moves;
 ghost use Rattle.fancy_meaning.specs.Places as place;
 ghost use Rattle.fancy_meaning.specs.Machine.{class_test};
@@ -69,16 +69,28 @@ pub fn past_class(
     ensures { IfOk result
         (λ to. to ≡ moves.past_char text.now (class_test (class_of class.now)) ix) }
 {
+    match past_ascii(class, text, ix) {
+        Some(to) => Ok(to),
+        None => past_other(alloc, class, text, ix),
+    }
+}
+
+/// As `past_class`, where no character beyond ASCII stands there; `None` where one does.
+#[inline(always)]
+pub fn past_ascii(class: &CharClassMatcher, text: &str, ix: usize) -> Option<Option<usize>>
+    ensures { IfSome result
+        (λ to. to ≡ moves.past_char text.now (class_test (class_of class.now)) ix) }
+{
     let Some(byte) = text.as_bytes().get(ix) else {
-        return Ok(None);
+        return Some(None);
     };
     if *byte >= 128 {
-        return past_other(alloc, class, text, ix);
+        return None;
     }
     if class.takes_ascii(*byte) {
-        Ok(Some(ix + 1))
+        Some(Some(ix + 1))
     } else {
-        Ok(None)
+        Some(None)
     }
 }
 

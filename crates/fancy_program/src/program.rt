@@ -10,6 +10,7 @@ use crate::insn::{Insn, Prog, ProgParts};
 use crate::look_prefilter::{LookPrefilter, look_prefilter_of};
 use crate::prefilter::StartPrefilter;
 use crate::required::required_in;
+use crate::run_prefilter::RunPrefilter;
 use crate::strategy::Strategy;
 use crate::threads::{crosses_threads, is_shared_by_threads};
 
@@ -27,6 +28,7 @@ impl Prog {
         let insns: &[Insn] = &body;
         let prefilter = StartPrefilter::of(insns);
         let look_prefilter = look_prefilter_of(insns, &prefilter);
+        let run_prefilter = RunPrefilter::of(insns);
         let strategy = Strategy::of(insns, &prefilter);
         let required = required_in(insns, &prefilter);
         Prog {
@@ -34,6 +36,7 @@ impl Prog {
             parts,
             prefilter,
             look_prefilter,
+            run_prefilter,
             strategy,
             required,
         }

@@ -93,6 +93,60 @@ pub(crate) enum Stop {
     Memory,
 }
 
+/// A step's answer in one byte, which a function out of line hands over in a register: `Result<Next, Stop>` would go by
+/// memory, and with it the answer of each other step.
+#[derive(Clone, Copy)]
+pub(crate) enum PackedStep {
+    On,
+    Passed,
+    Matches,
+    Ends,
+    BacktrackLimitExceeded,
+    StackOverflow,
+    StepLimitExceeded,
+    Memory,
+}
+
+impl PackedStep {
+    ghost use Rattle.fancy_vm.specs.Outcomes.{unpacked};
+
+    #[inline(always)]
+    pub(crate) fn of(step: Result<Next, Stop>) -> PackedStep
+        ensures { unpacked result ≡ step }
+    {
+        match step {
+            Ok(Next::On) => PackedStep::On,
+            Ok(Next::Passed) => PackedStep::Passed,
+            Ok(Next::Matches) => PackedStep::Matches,
+            Ok(Next::Ends) => PackedStep::Ends,
+            Err(Stop::Limit(RuntimeError::BacktrackLimitExceeded)) => {
+                PackedStep::BacktrackLimitExceeded
+            }
+            Err(Stop::Limit(RuntimeError::StackOverflow)) => PackedStep::StackOverflow,
+            Err(Stop::Limit(RuntimeError::StepLimitExceeded)) => PackedStep::StepLimitExceeded,
+            Err(Stop::Memory) => PackedStep::Memory,
+        }
+    }
+
+    #[inline(always)]
+    pub(crate) fn unpack(self) -> Result<Next, Stop>
+        ensures { result ≡ unpacked self }
+    {
+        match self {
+            PackedStep::On => Ok(Next::On),
+            PackedStep::Passed => Ok(Next::Passed),
+            PackedStep::Matches => Ok(Next::Matches),
+            PackedStep::Ends => Ok(Next::Ends),
+            PackedStep::BacktrackLimitExceeded => {
+                Err(Stop::Limit(RuntimeError::BacktrackLimitExceeded))
+            }
+            PackedStep::StackOverflow => Err(Stop::Limit(RuntimeError::StackOverflow)),
+            PackedStep::StepLimitExceeded => Err(Stop::Limit(RuntimeError::StepLimitExceeded)),
+            PackedStep::Memory => Err(Stop::Memory),
+        }
+    }
+}
+
 impl From<AllocError> for Stop {
     ghost use Rattle.fancy_vm.specs.declared.machine.Stop.TheVariants as stop;
 

@@ -10,6 +10,7 @@ invariant_of-result c = record {
   fits = c.requires;
   begins = rw c.deref-insns.ensures.value at c.of-prefilter.ensures;
   looks = rw c.deref-insns.ensures.value at c.look_prefilter_of-look_prefilter.ensures;
+  runs = rw c.deref-insns.ensures.value at c.of-run_prefilter.ensures;
   decides = rw c.deref-insns.ensures.value at c.of-strategy.ensures;
   needs = required_kept (map insn_of c.args.body.items) c.required_in-required.result (rw c.deref-insns.ensures.value at c.required_in-required.ensures);
 }

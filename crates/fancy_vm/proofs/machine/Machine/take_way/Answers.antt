@@ -5,7 +5,7 @@ use Rattle.fancy_plain.specs.GroupSpans.{spans_in}
 use Rattle.fancy_fragments.specs.Fragments.{IsOnePassWayOf, fragment_of}
 use Rattle.fancy_vm.specs.Outcomes.{StepAnswers, config_of, plain_task}
 use Rattle.fancy_vm.proofs.PairsLaws.{groups_fit, takes_none, takes_seen}
-use Rattle.fancy_vm.proofs.machine.Machine.take_with_groups.Goals as goal
+use Rattle.fancy_vm.proofs.machine.Machine.take_way.Goals as goal
 
 pub returns-in-Fails-clause-leads : goal.returns-in-Fails-clause-leads
 returns-in-Fails-clause-leads c =

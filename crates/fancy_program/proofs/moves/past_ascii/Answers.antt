@@ -3,7 +3,7 @@ use Rattle.std.proofs.lemmas.Option.{slice_get-get_or, slice_get_past}
 use Rattle.fancy_meaning.specs.Machine.{class_test}
 use Rattle.fancy_characters.specs.Classes.{class_of}
 use Rattle.fancy_plain.proofs.FirstSetLaws.{past_ascii, past_end}
-use Rattle.fancy_program.proofs.moves.past_class.Goals as goal
+use Rattle.fancy_program.proofs.moves.past_ascii.Goals as goal
 
 pub returns-in_default : goal.returns-in_default
 returns-in_default c =
