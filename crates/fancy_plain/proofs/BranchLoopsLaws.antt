@@ -8,6 +8,7 @@ use Rattle.fancy_plain.specs.declared.nfa_state.NfaState.TheVariants as nfa_stat
 use Rattle.fancy_plain.specs.declared.search.Searcher.{Searcher}
 use Rattle.fancy_plain.specs.AsciiRuns.{AllPass, is_before}
 use Rattle.fancy_plain.specs.BranchLoops.{IteratesTo, LeadsBack}
+use Rattle.fancy_plain.specs.CountedWays.{PassesSome}
 use Rattle.fancy_plain.specs.OnePass.{IsFirstTest, Walks, config_at}
 use Rattle.fancy_plain.specs.Runs.{FailsFrom, Passes}
 use Rattle.fancy_plain.specs.Views.{test_of}
@@ -46,6 +47,12 @@ module _ (searcher : Searcher) (head first : ℕ) where
         by_choice searcher false true (config_at s head i) (config_at s branch i) (config_at s head j)
         (by_choice searcher false false (config_at s head i) (config_at s first i) (config_at s branch i) (goes_in s i second there) chosen)
         (back s i j past)
+
+    -- over characters that pass
+    pub iterates_taken : (n from to : ℕ) → LeadsBack searcher branch head test → PassesSome searcher test n from to → IteratesTo searcher head first from to
+    iterates_taken zero from to back same = subst (IteratesTo searcher head first from) same (iterates_none from)
+    iterates_taken (suc n) from to back (i, (some, past)) =
+        iterates_both from i to (iterates_taken n from i back some) (by_first back i to past)
 
     -- by the second, where the first one fails
     by_second : LeadsBack searcher other head test → (i j : ℕ) → FailsFrom searcher branch i →

@@ -22,7 +22,7 @@ use Rattle.fancy_plain.proofs.OnePassLaws.{past_char_further, runs_further, runs
 -- ---- what is kept
 
 -- in a list with one more at its end
-pub pushed_tells : (runs : List KeptRun) (new : KeptRun) (i : ℕ) (run : KeptRun) → slice_get (runs ++ new ∷ []) i ≡ Some run →
+pub pushed_tells : {A : Type 0} (runs : List A) (new : A) (i : ℕ) (run : A) → slice_get (runs ++ new ∷ []) i ≡ Some run →
     (new ≡ run) ⊎ (slice_get runs i ≡ Some run)
 pushed_tells [] new zero run e = inl (same_Some _ _ e)
 pushed_tells [] new (suc i) run e = absurd (none-some run e)
@@ -30,7 +30,7 @@ pushed_tells (r ∷ rs) new zero run e = inr e
 pushed_tells (r ∷ rs) new (suc i) run e = pushed_tells rs new i run e
 
 -- in a list with one in place of another
-pub set_tells : (runs : List KeptRun) (at : ℕ) (new : KeptRun) (i : ℕ) (run : KeptRun) → slice_get (slice_set runs at new) i ≡ Some run →
+pub set_tells : {A : Type 0} (runs : List A) (at : ℕ) (new : A) (i : ℕ) (run : A) → slice_get (slice_set runs at new) i ≡ Some run →
     ((i ≡ at) × (new ≡ run)) ⊎ (slice_get runs i ≡ Some run)
 set_tells [] at new i run e = inr e
 set_tells (r ∷ rs) zero new zero run e = inl (refl, same_Some _ _ e)

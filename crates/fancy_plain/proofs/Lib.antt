@@ -18,5 +18,6 @@ pub mod OnePassLaws
 pub mod CountedLaws
 pub mod BranchLoopsLaws
 pub mod KeptRunsLaws
+pub mod KeptEndsLaws
 pub mod ThreadsLaws
 pub mod JoinedLayout

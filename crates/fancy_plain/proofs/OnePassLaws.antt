@@ -26,7 +26,7 @@ use Rattle.fancy_plain.specs.declared.nfa.Nfa.{Nfa}
 use Rattle.fancy_plain.specs.AsciiRuns.{AllPass, is_before}
 use Rattle.fancy_plain.specs.Runs.{FailsFrom, IsBody, Passes}
 use Rattle.fancy_plain.specs.Searches.{after_steps_of, next_of}
-use Rattle.fancy_plain.specs.OnePass.{AreFails, EndsOnePass, EndsOnePassWith, Finds, IsBlank, IsChoice, IsDeadEnd, IsFirstTest, IsOnePass, IsOnePassWay, IsSeenWay, Loses, RunsLazily, RunsOn, RunsPast, Succeeds, Walks, closed_by, config_at, opened_at}
+use Rattle.fancy_plain.specs.OnePass.{AreBranches, AreFails, EndsOnePass, EndsOnePassWith, Finds, IsBlank, IsChoice, IsDeadEnd, IsFirstTest, IsOnePass, IsOnePassWay, IsSeenWay, Loses, RunsLazily, RunsOn, RunsPast, Succeeds, Walks, closed_by, config_at, opened_at}
 use Rattle.fancy_plain.specs.declared.counted_ways.Passed.{Passed}
 use Rattle.fancy_plain.specs.declared.counted_ways.Passed.TheVariants as passed
 use Rattle.fancy_plain.specs.declared.group_spans.GroupSpans.{GroupSpans}
@@ -373,11 +373,8 @@ module _ (searcher : Searcher) where
   chosen_of base at first second place is_lost choice fails =
       chosen_at base at first second place is_lost is_lost choice fails (λ lost sure. absurd (true≢false (sym sure ∙ lost)))
 
-  pub split_choice : (at first second : ℕ) → slice_get (searcher.states).now at ≡ Some (nfa_state.Split first second) → IsChoice searcher at first second
-  split_choice at first second there = (nfa_state.Split first second, (there, (false, λ s. refl)))
-
-  pub branch_choice : (at first second : ℕ) → slice_get (searcher.states).now at ≡ Some (nfa_state.BranchSplit first second) → IsChoice searcher at first second
-  branch_choice at first second there = (nfa_state.BranchSplit first second, (there, (false, λ s. refl)))
+  pub branches_choice : (at first second : ℕ) → AreBranches searcher at first second → IsChoice searcher at first second
+  branches_choice at first second h = (h.0, (h.1.0, (false, h.1.1)))
 
   pub loop_choice : (at first second : ℕ) → slice_get (searcher.states).now at ≡ Some (nfa_state.LoopSplit first second) → IsChoice searcher at first second
   loop_choice at first second there = (nfa_state.LoopSplit first second, (there, (true, λ s. refl)))

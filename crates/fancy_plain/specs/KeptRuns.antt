@@ -3,7 +3,6 @@ use Rattle.std.specs.Prelude.{◌≡◌, ℕ, Bool, List, Some, slice_get}
 use Rattle.fancy_nfa.specs.NfaSearch.{passes}
 use Rattle.fancy_plain.specs.declared.kept_runs.KeptRun.{KeptRun}
 use Rattle.fancy_plain.specs.declared.kept_runs.KeptRuns.{KeptRuns}
-use Rattle.fancy_plain.specs.declared.nfa.Nfa.{Nfa}
 use Rattle.fancy_plain.specs.declared.nfa_state.CharTest.{CharTest}
 use Rattle.fancy_plain.specs.declared.nfa_state.NfaState.{NfaState}
 use Rattle.fancy_plain.specs.declared.nfa_state.NfaState.TheVariants as nfa_state
@@ -22,10 +21,6 @@ abbrev pub AreRunsIn : (text : List ℕ) → (unicode : Bool) → List NfaState 
 AreRunsIn text unicode states runs =
     (state : ℕ) (run : KeptRun) → slice_get runs.by_state.items state ≡ Some run →
     PassesAt text unicode states state run.count run.from run.to
-
--- of the states of an NFA
-abbrev pub AreRunsOf : (text : List ℕ) → Nfa → KeptRuns → Type 0
-AreRunsOf text f = AreRunsIn text f.unicode f.states.items
 
 -- of the states and the text of a searcher
 abbrev pub AreRunsBy : Searcher → KeptRuns → Type 0

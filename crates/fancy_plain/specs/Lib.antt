@@ -14,5 +14,7 @@ pub mod AsciiRuns
 pub mod CountedWays
 pub mod BranchLoops
 pub mod KeptRuns
+pub mod KeptEnds
+pub mod OnePassCaches
 pub mod RequiredBytes
 pub mod LoopsInLoops

@@ -64,6 +64,12 @@ IsChoice t at first second =
     (p : NfaState) × ((slice_get (t.states).now at ≡ Some p) × ((is_memoized : Bool) × ((s : NfaConfig) →
     step_by (t.text).now t.unicode (state_of p) s ≡ Tries is_memoized (goes_to first s) (goes_to second s ∷ []))))
 
+-- this state tries these two branches, and nothing else
+abbrev pub AreBranches : Searcher → (at first second : ℕ) → Type 0
+AreBranches t at first second =
+    (p : NfaState) × ((slice_get (t.states).now at ≡ Some p) × ((s : NfaConfig) →
+    step_by (t.text).now t.unicode (state_of p) s ≡ Tries false (goes_to first s) (goes_to second s ∷ [])))
+
 -- A search that knows of no pair goes on from the one configuration to the other. Where that is sure, what it keeps for
 -- later has no way.
 abbrev pub Walks : Searcher → (is_sure : Bool) → (from to : NfaConfig) → Type 0

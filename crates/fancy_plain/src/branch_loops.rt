@@ -59,8 +59,10 @@ impl Searcher<'_> {
 
     /// The test at this state, if it is followed by the way back to the head.
     #[inline(always)]
-    fn test_before(&self, at: usize, head: usize) -> Option<&CharTest>
+    pub(crate) fn test_before(&self, at: usize, head: usize) -> Option<&CharTest>
         requires { IsSearcher self.now }
+        ensures at { IfSome result (λ test.
+            slice_get self.now.states.now at ≡ Some (nfa_state.Character test.now)) }
         ensures read { IfSome result (λ test. IsReadBy self.now.unicode test.now) }
         ensures back { IfSome result (λ test. LeadsBack self.now at head test.now) }
     {

@@ -44,11 +44,16 @@ impl Nfa {
 impl Searcher<'_> {
     /// As `walk`. Where starts lie apart, and a walk knows nothing, another may be sure that there is no way.
     #[inline(always)]
-    pub(crate) fn walk_surely(&self, alloc: Global, start: usize) -> Result<OnePass, AllocError>
+    pub(crate) fn walk_surely(
+        &self,
+        alloc: Global,
+        start: usize,
+        lie_apart: bool,
+    ) -> Result<OnePass, AllocError>
         requires { IsSearcher self.now }
         ensures { IfOk result (EndsOnePass self.now start) }
     {
-        if self.starts_lie_apart() {
+        if lie_apart {
             let searcher = Searcher { ..*self };
             return searcher.walk_twice(alloc, start);
         }
@@ -62,13 +67,14 @@ impl Searcher<'_> {
         alloc: Global,
         start: usize,
         groups: &mut GroupSpans,
+        lie_apart: bool,
     ) -> Result<OnePass, AllocError>
         requires searcher { IsSearcher self.now }
         requires groups { AreGroupsOf groups.old [] [] }
         ensures { IfOk result (EndsOnePassWith self.now start groups.new) }
     {
         let way = self.walk_groups(alloc, start, groups)?;
-        if !matches!(way, OnePass::Unknown) || !self.starts_lie_apart() {
+        if !matches!(way, OnePass::Unknown) || !lie_apart {
             return Ok(way);
         }
         let searcher = Searcher { ..*self };
@@ -93,7 +99,7 @@ impl Searcher<'_> {
     /// The next start seldom lies in what a walk passed in vain: the nodes begin with a choice, branches or a loop that may
     /// take nothing, and mostly stand in a look-around, which is asked at places of its own; or they begin with a mark of
     /// punctuation. Else a search that notes what it passed is faster.
-    fn starts_lie_apart(&self) -> bool {
+    pub(crate) fn starts_lie_apart(&self) -> bool {
         match self.states.get(0) {
             Some(NfaState::Character(CharTest::One { c, casei: false })) =>
                 c.is_ascii_punctuation(),

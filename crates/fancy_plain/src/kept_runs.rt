@@ -1,21 +1,15 @@
 //! Long runs over one character, kept from one one-pass match to the next.
 
-ghost use Rattle.std.specs.Prelude.{◌≡◌, ◌≤◌, ◌+◌, ℕ, Bool, List, [], IfOk, IsTrue, Some, slice_get};
-ghost use Rattle.fancy_meaning.specs.Places.{is_place};
+ghost use Rattle.std.specs.Prelude.{◌≡◌, ◌≤◌, ◌+◌, ℕ, Bool, List, IfOk, Some, slice_get};
 ghost use Rattle.fancy_plain.specs.declared.nfa_state.NfaState as nfa_states;
 ghost use Rattle.fancy_plain.specs.declared.nfa_state.NfaState.TheVariants as nfa_state;
 ghost use Rattle.fancy_plain.specs.CountedWays.{AreTaken, ComesPast, PassesMost};
-ghost use Rattle.fancy_plain.specs.GroupSpans.{AreGroupsOf, spans_in};
-ghost use Rattle.fancy_plain.specs.OnePass.{EndsOnePass, EndsOnePassWith, IsOnePass, IsOnePassWay, RunsPast};
+ghost use Rattle.fancy_plain.specs.OnePass.{RunsPast};
 ghost use Rattle.fancy_plain.specs.Searches.{IsSearcher};
 ghost use Rattle.fancy_plain.specs.Views.{IsReadBy};
-ghost use Rattle.fancy_plain.specs.Ways.{IsOfNodes};
 
 use crate::counted_ways::{Passed, behind_counter};
-use crate::group_spans::GroupSpans;
-use crate::nfa::Nfa;
 use crate::nfa_state::{CharTest, NfaState};
-use crate::one_pass::{OnePass, are_both, without_a_way};
 use crate::search::Searcher;
 use fancy_characters::places::past_any;
 use std::alloc::{AllocError, Global};
@@ -92,17 +86,17 @@ impl KeptRun {
 
 /// By the state of a loop's test, the last long run that the loop took. The run is empty where it took none.
 #[derive(Drop)]
-pub struct KeptRuns {
+pub(crate) struct KeptRuns {
     pub(crate) by_state: Vec<KeptRun>,
 }
 
 impl KeptRuns {
-    ghost use Rattle.fancy_plain.specs.declared.nfa.Nfa as nfa;
-    ghost use Rattle.fancy_plain.specs.KeptRuns.{AreRunsIn, AreRunsOf, PassesAt};
+    ghost use Rattle.fancy_plain.specs.KeptRuns.{AreRunsIn, PassesAt};
 
     /// None is kept, and no memory is taken.
-    pub fn new(alloc: Global) -> KeptRuns
-        ensures { (text : List ℕ) (f : nfa.Nfa) → AreRunsOf text f result }
+    pub(crate) fn new(alloc: Global) -> KeptRuns
+        ensures { (text : List ℕ) (unicode : Bool) (states : List nfa_states.NfaState)
+            → AreRunsIn text unicode states result }
     {
         KeptRuns {
             by_state: Vec::new(alloc),
@@ -150,154 +144,33 @@ impl KeptRuns {
     }
 }
 
-impl Nfa {
-    ghost use Rattle.fancy_plain.specs.KeptRuns.{AreRunsOf};
-
-    /// As `one_pass_end`, also of nodes that count long. Long runs over one character that an earlier match in this text
-    /// kept are not gone over again.
-    pub fn one_pass_end_kept(
-        &self,
-        alloc: Global,
-        text: &str,
-        ix: usize,
-        runs: &mut KeptRuns,
-    ) -> Result<OnePass, AllocError>
-        requires place { IsTrue (is_place text.now ix) }
-        requires nodes { ∥ IsOfNodes self.now ∥₁ }
-        requires runs { AreRunsOf text.now self.now runs.old }
-        ensures way { IfOk result (IsOnePass text.now self.now ix) }
-        ensures runs { AreRunsOf text.now self.now runs.new }
-    {
-        if self.one_pass_group.is_some() || !(self.is_one_pass || self.counts_long) {
-            return Ok(OnePass::Unknown);
-        }
-        let searcher = Searcher {
-            states: &self.states,
-            unicode: self.unicode,
-            text,
-        };
-        searcher.walk_kept(alloc, ix, runs)
-    }
-
-    /// As `one_pass_end_kept`, also of nodes with groups: the spans of the groups that the way sets are written over these.
-    pub fn one_pass_way_kept(
-        &self,
-        alloc: Global,
-        text: &str,
-        ix: usize,
-        groups: &mut GroupSpans,
-        runs: &mut KeptRuns,
-    ) -> Result<OnePass, AllocError>
-        requires place { IsTrue (is_place text.now ix) }
-        requires nodes { ∥ IsOfNodes self.now ∥₁ }
-        requires runs { AreRunsOf text.now self.now runs.old }
-        ensures way { IfOk result (IsOnePassWay text.now self.now ix (spans_in groups.new)) }
-        ensures runs { AreRunsOf text.now self.now runs.new }
-    {
-        let Some(first) = self.one_pass_group else {
-            groups.begin(0);
-            return self.one_pass_end_kept(alloc, text, ix, runs);
-        };
-        groups.begin(first);
-        let searcher = Searcher {
-            states: &self.states,
-            unicode: self.unicode,
-            text,
-        };
-        searcher.walk_groups_kept(alloc, ix, groups, runs)
-    }
-}
-
 impl Searcher<'_> {
     ghost use Rattle.fancy_plain.specs.KeptRuns.{AreRunsBy};
 
-    /// From state to state, where there is no group.
-    fn walk_kept(
+    /// Past this state, or past a loop by what is kept.
+    #[inline(never)]
+    pub(crate) fn past_kept(
         &self,
         alloc: Global,
-        ix: usize,
+        at: usize,
+        place: usize,
         runs: &mut KeptRuns,
-    ) -> Result<OnePass, AllocError>
+    ) -> Result<Passed, AllocError>
         requires searcher { IsSearcher self.now }
         requires runs { AreRunsBy self.now runs.old }
-        ensures way { IfOk result (EndsOnePass self.now ix) }
+        ensures on { IfOk result (ComesPast self.now at place) }
         ensures runs { AreRunsBy self.now runs.new }
     {
-        let mut at = 0;
-        let mut place = ix;
-        let mut is_sure = true;
-        'states: for _ in 0..usize::MAX {
-            match self.past_kept(alloc, at, place, runs)? {
-                Passed::On {
-                    at: after,
-                    place: end,
-                    is_sure: is_exact,
-                } => {
-                    at = after;
-                    place = end;
-                    is_sure = are_both(is_sure, is_exact);
-                    continue 'states;
-                }
-                Passed::Ends => return Ok(OnePass::Ends(place)),
-                Passed::Fails => return Ok(without_a_way(is_sure)),
-                _ => return Ok(OnePass::Unknown),
-            }
+        let passed = self.past_loop_kept(alloc, at, place, runs)?;
+        if !matches!(passed, Passed::Unknown) {
+            return Ok(passed);
         }
-        Ok(OnePass::Unknown)
+        self.past(alloc, at, place)
     }
 
-    /// From state to state, with the spans of groups.
-    fn walk_groups_kept(
-        &self,
-        alloc: Global,
-        ix: usize,
-        groups: &mut GroupSpans,
-        runs: &mut KeptRuns,
-    ) -> Result<OnePass, AllocError>
-        requires searcher { IsSearcher self.now }
-        requires groups { AreGroupsOf groups.old [] [] }
-        requires runs { AreRunsBy self.now runs.old }
-        ensures way { IfOk result (EndsOnePassWith self.now ix groups.new) }
-        ensures runs { AreRunsBy self.now runs.new }
-    {
-        let mut at = 0;
-        let mut here = ix;
-        let mut is_sure = true;
-        'states: for _ in 0..usize::MAX {
-            match self.past_kept(alloc, at, here, runs)? {
-                Passed::On {
-                    at: after,
-                    place: end,
-                    is_sure: is_exact,
-                } => {
-                    at = after;
-                    here = end;
-                    is_sure = are_both(is_sure, is_exact);
-                    continue 'states;
-                }
-                Passed::Opens { at: after } => {
-                    groups.open(here)?;
-                    at = after;
-                    continue 'states;
-                }
-                Passed::Closes { group, at: after } => {
-                    if !groups.close(group, here)? {
-                        return Ok(OnePass::Unknown);
-                    }
-                    at = after;
-                    continue 'states;
-                }
-                Passed::Ends => return Ok(OnePass::Ends(here)),
-                Passed::Fails => return Ok(without_a_way(is_sure)),
-                Passed::Unknown => return Ok(OnePass::Unknown),
-            }
-        }
-        Ok(OnePass::Unknown)
-    }
-
-    /// Past this state, or past a loop over one character by what is kept.
+    /// Past the jump or the loop at this state. It is not known where the loop's runs are not kept.
     #[inline(always)]
-    fn past_kept(
+    fn past_loop_kept(
         &self,
         alloc: Global,
         at: usize,
@@ -317,7 +190,7 @@ impl Searcher<'_> {
             }),
             Some(NfaState::LoopSplit(first, second)) => {
                 let Some(test) = self.body_at(*first, at) else {
-                    return self.past(alloc, at, place);
+                    return self.past_branches_kept(alloc, at, *first, place, runs);
                 };
                 let end = self.past_all_kept(alloc, test, *first, place, runs)?;
                 Ok(Passed::On {
@@ -327,8 +200,43 @@ impl Searcher<'_> {
                 })
             }
             Some(NfaState::CounterBegin) => self.past_counted_kept(alloc, at, place, runs),
-            _ => self.past(alloc, at, place),
+            _ => Ok(Passed::Unknown),
         }
+    }
+
+    /// Past iterations of the loop with this head, whose body begins at `first` with a branch of one character: as long as
+    /// they take this branch. It is not known where there are none.
+    #[inline(always)]
+    fn past_branches_kept(
+        &self,
+        alloc: Global,
+        head: usize,
+        first: usize,
+        place: usize,
+        runs: &mut KeptRuns,
+    ) -> Result<Passed, AllocError>
+        requires searcher { IsSearcher self.now }
+        requires loop_split { (second : ℕ) ×
+            (slice_get self.now.states.now head ≡ Some (nfa_state.LoopSplit first second)) }
+        requires runs { AreRunsBy self.now runs.old }
+        ensures on { IfOk result (ComesPast self.now head place) }
+        ensures runs { AreRunsBy self.now runs.new }
+    {
+        let Some(NfaState::Split(branch, _)) = self.states.get(first) else {
+            return Ok(Passed::Unknown);
+        };
+        let Some(test) = self.test_before(*branch, head) else {
+            return Ok(Passed::Unknown);
+        };
+        let (end, _) = self.past_most_kept(alloc, test, *branch, place, usize::MAX, runs)?;
+        if end <= place {
+            return Ok(Passed::Unknown);
+        }
+        Ok(Passed::On {
+            at: head,
+            place: end,
+            is_sure: false,
+        })
     }
 
     /// Past the loop that begins here, where it counts over one character.

@@ -41,6 +41,8 @@ pub struct Nfa {
     pub(crate) counts_long: bool,
     /// Where ways seem to need no choice and set groups, the first of these.
     pub(crate) one_pass_group: Option<usize>,
+    /// Whether a one-pass match that knows nothing is followed by a walk that may be sure that there is none.
+    pub(crate) is_walked_twice: bool,
     /// Bytes of which every way takes one, if some are known.
     pub(crate) required_bytes: Option<[bool; 256]>,
     /// That byte, where it is one alone.
@@ -61,6 +63,7 @@ impl Drop for Nfa {
             is_one_pass: _,
             counts_long: _,
             one_pass_group: _,
+            is_walked_twice: _,
             required_bytes: _,
             required_byte: _,
         } = self;
@@ -126,6 +129,7 @@ impl Nfa {
             text: "",
         };
         let seems_one_pass = searcher.seems_one_pass();
+        let is_walked_twice = searcher.starts_lie_apart();
         let group = first_group(&states);
         let is_plain = seems_one_pass && group.is_none();
         let has_long_count = has_long_count(&states);
@@ -137,6 +141,7 @@ impl Nfa {
             is_one_pass: is_plain && !has_long_count,
             counts_long: seems_one_pass && has_long_count,
             one_pass_group: if seems_one_pass { group } else { None },
+            is_walked_twice,
             required_bytes,
             required_byte,
         })

@@ -9,7 +9,7 @@ ghost use Rattle.fancy_plain.specs.Searches.{IsSearcher};
 ghost use Rattle.fancy_nfa.specs.NfaSearch.{NfaConfig};
 ghost use Rattle.fancy_plain.specs.CountedWays.{ComesPast};
 ghost use Rattle.fancy_plain.specs.GroupSpans.{AreGroupsOf, spans_in};
-ghost use Rattle.fancy_plain.specs.OnePass.{EndsOnePass, EndsOnePassWith, Finds, IsFirstTest, IsOnePass, IsOnePassWay, RunsOn, RunsPast, Walks, config_at};
+ghost use Rattle.fancy_plain.specs.OnePass.{AreBranches, EndsOnePass, EndsOnePassWith, Finds, IsFirstTest, IsOnePass, IsOnePassWay, RunsOn, RunsPast, Walks, config_at};
 ghost use Rattle.fancy_plain.specs.Views.{IsReadBy};
 ghost use Rattle.fancy_plain.specs.Ways.{IsOfNodes};
 
@@ -50,7 +50,7 @@ impl Nfa {
             unicode: self.unicode,
             text,
         };
-        searcher.walk_surely(alloc, ix)
+        searcher.walk_surely(alloc, ix, self.is_walked_twice)
     }
 
     /// As `one_pass_end`, also of nodes with groups: the spans of the groups that the way sets are written over these.
@@ -79,7 +79,7 @@ impl Nfa {
             unicode: self.unicode,
             text,
         };
-        searcher.walk_groups_surely(alloc, ix, groups)
+        searcher.walk_groups_surely(alloc, ix, groups, self.is_walked_twice)
     }
 }
 
@@ -378,22 +378,6 @@ impl Searcher<'_> {
                     is_sure: false,
                 })
             }
-            Some(NfaState::Split(first, second)) => {
-                let is_lost = self.fails_from(*first, place);
-                Ok(Passed::On {
-                    at: chosen(is_lost, *first, *second),
-                    place,
-                    is_sure: is_lost,
-                })
-            }
-            Some(NfaState::BranchSplit(first, second)) => {
-                let is_lost = self.fails_from(*first, place);
-                Ok(Passed::On {
-                    at: chosen(is_lost, *first, *second),
-                    place,
-                    is_sure: is_lost,
-                })
-            }
             Some(NfaState::Join) => Ok(Passed::On {
                 at: at + 1,
                 place,
@@ -405,7 +389,25 @@ impl Searcher<'_> {
                 at: at + 1,
             }),
             Some(NfaState::CounterBegin) => self.past_counted(alloc, at, place),
-            _ => Ok(Passed::Unknown),
+            _ => Ok(self.past_branch(at, place)),
+        }
+    }
+
+    /// As `past_state`, at a choice between branches.
+    #[inline(always)]
+    fn past_branch(&self, at: usize, place: usize) -> Passed
+        requires { IsSearcher self.now }
+        ensures { ComesPast self.now at place result }
+    {
+        let (first, other) = self.first_branch(at);
+        let Some(second) = other else {
+            return Passed::Unknown;
+        };
+        let is_lost = self.fails_from(first, place);
+        Passed::On {
+            at: chosen(is_lost, first, second),
+            place,
+            is_sure: is_lost,
         }
     }
 
@@ -417,25 +419,29 @@ impl Searcher<'_> {
     {
         let mut at = from;
         'branches: for _ in 0..self.states.len() {
-            match self.states.get(at) {
-                Some(NfaState::Split(first, second)) => {
-                    if !self.fails_behind_jump(*first, place) {
-                        return false;
-                    }
-                    at = *second;
-                    continue 'branches;
-                }
-                Some(NfaState::BranchSplit(first, second)) => {
-                    if !self.fails_behind_jump(*first, place) {
-                        return false;
-                    }
-                    at = *second;
-                    continue 'branches;
-                }
-                _ => return self.fails_behind_jump(at, place),
+            let (first, other) = self.first_branch(at);
+            if !self.fails_behind_jump(first, place) {
+                return false;
+            }
+            match other {
+                None => return true,
+                Some(second) => at = second,
             }
         }
         false
+    }
+
+    /// The first of two branches from this state and the other one, or else this state alone.
+    #[inline(always)]
+    fn first_branch(&self, at: usize) -> (usize, Option<usize>)
+        ensures alone { result.1 ≡ None → result.0 ≡ at }
+        ensures branches { IfSome result.1 (λ other. AreBranches self.now at result.0 other) }
+    {
+        match self.states.get(at) {
+            Some(NfaState::Split(first, second)) => (*first, Some(*second)),
+            Some(NfaState::BranchSplit(first, second)) => (*first, Some(*second)),
+            _ => (at, None),
+        }
     }
 
     /// A test is at this state, perhaps behind a jump and where groups begin or end, and the character at the place does

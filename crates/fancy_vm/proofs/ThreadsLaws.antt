@@ -4,7 +4,7 @@ use Rattle.std.proofs.Crossing as std
 use Rattle.std.proofs.MapsCrossing as maps
 use Rattle.fancy_backtrack.specs.contracts.memo.Memo as Memo
 use Rattle.fancy_plain.specs.contracts.group_spans.GroupSpans as GroupSpans
-use Rattle.fancy_plain.specs.contracts.kept_runs.KeptRuns as KeptRuns
+use Rattle.fancy_plain.specs.contracts.one_pass_cache.OnePassCache as OnePassCache
 use Rattle.fancy_fragments.proofs.ThreadsLaws.{start_filter_sends}
 use Rattle.fancy_vm.specs.contracts.memos.Memos as Memos
 use Rattle.fancy_vm.specs.contracts.runs.Room as Room
@@ -18,7 +18,7 @@ memo_sends = search (std.crosses, maps.crosses, sendable) depth 60 fits 20000
 groups_send : IsSend GroupSpans.the_field.row
 groups_send = search (std.crosses, sendable) depth 60 fits 20000
 
-kept_send : IsSend KeptRuns.the_field.row
+kept_send : IsSend OnePassCache.the_field.row
 kept_send = search (std.crosses, sendable) depth 60 fits 20000
 
 memos_sends : IsSend Memos.the_field.row

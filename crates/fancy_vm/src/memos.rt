@@ -15,8 +15,8 @@ use fancy_expr::error::Error;
 use fancy_fragments::fragment::Fragment;
 use fancy_plain::first_way::{FirstWay, Way};
 use fancy_plain::group_spans::GroupSpans;
-use fancy_plain::kept_runs::KeptRuns;
 use fancy_plain::one_pass::OnePass;
+use fancy_plain::one_pass_cache::OnePassCache;
 use std::alloc::{AllocError, Global};
 
 /// So often one pass over fragments with groups may tell nothing in a run.
@@ -31,7 +31,7 @@ pub(crate) struct RunMemo {
     /// In a box since it goes to a search and back.
     memo: Box<Memo>,
     /// What its one-pass matches keep, until a search is made.
-    kept: Option<KeptRuns>,
+    kept: Option<OnePassCache>,
     run: u64,
 }
 
@@ -260,7 +260,7 @@ impl Memos {
         ensures memos { AreMemosOf task.now self.new }
     {
         let RunMemo { memo, kept, run } = self.note_for(task, fragment, pc)?;
-        let Some(mut runs) = kept else {
+        let Some(mut cache) = kept else {
             self.by_place[pc] = Some(RunMemo {
                 memo,
                 kept: None,
@@ -270,10 +270,10 @@ impl Memos {
         };
         let way = fragment
             .nfa()
-            .one_pass_end_kept(task.alloc, task.text, ix, &mut runs);
+            .one_pass_end_kept(task.alloc, task.text, ix, &mut cache);
         self.by_place[pc] = Some(RunMemo {
             memo,
-            kept: Some(runs),
+            kept: Some(cache),
             run,
         });
         way
@@ -393,7 +393,7 @@ impl Memos {
         ensures memos { AreMemosOf task.now self.new }
     {
         let RunMemo { memo, kept, run } = self.note_for(task, fragment, pc)?;
-        let Some(mut runs) = kept else {
+        let Some(mut cache) = kept else {
             self.by_place[pc] = Some(RunMemo {
                 memo,
                 kept: None,
@@ -403,10 +403,10 @@ impl Memos {
         };
         let way = fragment
             .nfa()
-            .one_pass_way_kept(task.alloc, task.text, ix, &mut self.groups, &mut runs);
+            .one_pass_way_kept(task.alloc, task.text, ix, &mut self.groups, &mut cache);
         self.by_place[pc] = Some(RunMemo {
             memo,
-            kept: Some(runs),
+            kept: Some(cache),
             run,
         });
         way
@@ -510,7 +510,7 @@ impl Memos {
         match take_out(&mut self.by_place, pc) {
             None => Ok(RunMemo {
                 memo: Box::new(task.alloc, fragment.joined_memo(task.alloc, pos))?,
-                kept: Some(KeptRuns::new(task.alloc)),
+                kept: Some(OnePassCache::new(task.alloc)),
                 run: self.run,
             }),
             Some(
@@ -522,7 +522,7 @@ impl Memos {
             ) => {
                 if run != self.run {
                     fragment.clear_joined(&mut *memo, pos);
-                    kept = Some(KeptRuns::new(task.alloc));
+                    kept = Some(OnePassCache::new(task.alloc));
                 }
                 Ok(RunMemo {
                     memo,

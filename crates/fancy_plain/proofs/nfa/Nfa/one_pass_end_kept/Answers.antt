@@ -1,6 +1,7 @@
 use Rattle.std.proofs.Common.{◌<◌, length, slice_get, sym, ap, ◌∙◌, arith, subst}
 use Rattle.fancy_meaning.specs.Numbers.{usize_max}
 use Rattle.fancy_meaning.specs.Premises.{IsText}
+use Rattle.fancy_plain.specs.KeptEnds.{AreEndsIn}
 use Rattle.fancy_plain.specs.KeptRuns.{AreRunsIn}
 use Rattle.fancy_plain.proofs.ReadStates.{states_read}
 use Rattle.fancy_plain.proofs.OnePassLaws.{one_pass_answered}
@@ -10,9 +11,13 @@ pub walk_kept-requires-clause-searcher : goal.walk_kept-requires-clause-searcher
 walk_kept-requires-clause-searcher c = λ i p at.
     states_read c.args.self.now c.requires.nodes i p (ap (λ l. slice_get l i) (sym c.deref.ensures.value) ∙ at)
 
-pub walk_kept-requires-clause-runs : goal.walk_kept-requires-clause-runs
-walk_kept-requires-clause-runs c =
-    subst (λ l. AreRunsIn c.args.text.now c.args.self.now.unicode l c.args.runs.now) (sym c.deref.ensures.value) c.requires.runs
+pub walk_kept-requires-clause-cache : goal.walk_kept-requires-clause-cache
+walk_kept-requires-clause-cache c =
+    let f = c.args.self.now in
+    record {
+      runs = subst (λ l. AreRunsIn c.args.text.now f.unicode l c.args.cache.now.runs) (sym c.deref.ensures.value) c.requires.cache.runs;
+      ends = subst (λ l. AreEndsIn c.args.text.now f.unicode l c.args.cache.now.ends) (sym c.deref.ensures.value) c.requires.cache.ends;
+    }
 
 pub returns-clause-way : goal.returns-clause-way
 returns-clause-way c =
@@ -21,6 +26,11 @@ returns-clause-way c =
     one_pass_answered c.deref.result c.args.text c.args.self.now c.args.ix c.deref.ensures.value is_text c.requires.place
     c.walk_kept.result c.walk_kept.ensures.way
 
-pub returns-clause-runs : goal.returns-clause-runs
-returns-clause-runs c =
-    subst (λ l. AreRunsIn c.args.text.now c.args.self.now.unicode l c.walk_kept.new.runs) c.deref.ensures.value c.walk_kept.ensures.runs
+pub returns-clause-cache : goal.returns-clause-cache
+returns-clause-cache c =
+    let f = c.args.self.now in
+    let cache = c.walk_kept.new.cache in
+    record {
+      runs = subst (λ l. AreRunsIn c.args.text.now f.unicode l cache.runs) c.deref.ensures.value c.walk_kept.ensures.cache.runs;
+      ends = subst (λ l. AreEndsIn c.args.text.now f.unicode l cache.ends) c.deref.ensures.value c.walk_kept.ensures.cache.ends;
+    }

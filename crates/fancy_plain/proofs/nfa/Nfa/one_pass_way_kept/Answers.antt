@@ -12,7 +12,7 @@ walk_groups_kept-requires-clause-searcher c = λ i p at.
 
 pub walk_groups_kept-requires-clause-runs : goal.walk_groups_kept-requires-clause-runs
 walk_groups_kept-requires-clause-runs c =
-    subst (λ l. AreRunsIn c.args.text.now c.args.self.now.unicode l c.args.runs.now) (sym c.deref.ensures.value) c.requires.runs
+    subst (λ l. AreRunsIn c.args.text.now c.args.self.now.unicode l c.args.cache.now.runs) (sym c.deref.ensures.value) c.requires.cache.runs
 
 pub returns-in_default-clause-way : goal.returns-in_default-clause-way
 returns-in_default-clause-way c =
@@ -26,6 +26,10 @@ returns-clause-way c =
     one_pass_way_answered c.deref.result c.args.text c.args.self.now c.args.ix c.deref.ensures.value is_text c.requires.place
     c.walk_groups_kept.new.groups c.walk_groups_kept.result c.walk_groups_kept.ensures.way
 
-pub returns-clause-runs : goal.returns-clause-runs
-returns-clause-runs c =
-    subst (λ l. AreRunsIn c.args.text.now c.args.self.now.unicode l c.walk_groups_kept.new.runs) c.deref.ensures.value c.walk_groups_kept.ensures.runs
+pub returns-clause-cache : goal.returns-clause-cache
+returns-clause-cache c = record {
+  runs =
+      subst (λ l. AreRunsIn c.args.text.now c.args.self.now.unicode l c.walk_groups_kept.new.runs) c.deref.ensures.value
+      c.walk_groups_kept.ensures.runs;
+  ends = c.requires.cache.ends;
+}

@@ -5,7 +5,7 @@ use Rattle.fancy_nfa.specs.NfaSearch as plain
 use Rattle.fancy_plain.specs.declared.nfa_state.NfaState.TheVariants as nfa_state
 use Rattle.fancy_plain.specs.OnePass.{Walks, config_at, opened_at}
 use Rattle.fancy_plain.specs.Views.{IsStateReadBy}
-use Rattle.fancy_plain.proofs.OnePassLaws.{branch_choice, chosen_of, closes, goes, loop_choice, loses, split_choice, succeeds, tries_only, unsure_by}
+use Rattle.fancy_plain.proofs.OnePassLaws.{chosen_of, closes, goes, loop_choice, loses, succeeds, tries_only, unsure_by}
 use Rattle.fancy_plain.proofs.search.Searcher.past_state.Goals as goal
 
 pub returns-in-Some-Match : goal.returns-in-Some-Match
@@ -119,36 +119,6 @@ returns-else-end-place c = λ s.
     subst (λ i. Walks searcher false (config_at s at place) (config_at s i place)) (sym c.chosen-next.ensures)
     (unsure_by searcher is_lost (config_at s at place) (config_at s next place)
     (chosen_of searcher s at first second place is_lost (loop_choice searcher at first second there) c.fails_from.ensures))
-
-pub returns-in-Some-Split : goal.returns-in-Some-Split
-returns-in-Some-Split c = λ s.
-    let searcher = c.args.self.now in
-    let states = searcher.states.now in
-    let at = c.args.at in
-    let place = c.args.place in
-    let found = c.in-Some-Split.ensures.lookup in
-    let there = slice_get_read states (length states) at c.in-Some-Split.field-0.now refl (ltb-true at (length states) (sym found.0)) found.1
-    ∙ ap Some c.in-Some-Split.field-0-is in
-    let first = c.in-Some-Split.first in
-    let second = c.in-Some-Split.second in
-    let is_lost = c.fails_from-is_lost.result in
-    subst (λ i. Walks searcher is_lost (config_at s at place) (config_at s i place)) (sym c.chosen.ensures)
-    (chosen_of searcher s at first second place is_lost (split_choice searcher at first second there) c.fails_from-is_lost.ensures)
-
-pub returns-in-Some-BranchSplit : goal.returns-in-Some-BranchSplit
-returns-in-Some-BranchSplit c = λ s.
-    let searcher = c.args.self.now in
-    let states = searcher.states.now in
-    let at = c.args.at in
-    let place = c.args.place in
-    let found = c.in-Some-BranchSplit.ensures.lookup in
-    let there = slice_get_read states (length states) at c.in-Some-BranchSplit.field-0.now refl (ltb-true at (length states) (sym found.0)) found.1
-    ∙ ap Some c.in-Some-BranchSplit.field-0-is in
-    let first = c.in-Some-BranchSplit.first in
-    let second = c.in-Some-BranchSplit.second in
-    let is_lost = c.fails_from-is_lost-in-Some-BranchSplit.result in
-    subst (λ i. Walks searcher is_lost (config_at s at place) (config_at s i place)) (sym c.chosen-in-Some-BranchSplit.ensures)
-    (chosen_of searcher s at first second place is_lost (branch_choice searcher at first second there) c.fails_from-is_lost-in-Some-BranchSplit.ensures)
 
 pub returns-in-Some-Join : goal.returns-in-Some-Join
 returns-in-Some-Join c = λ s.

@@ -1,5 +1,5 @@
 use Rattle.std.proofs.Common.{refl, subst}
-use Rattle.fancy_plain.specs.KeptRuns.{AreRunsOf}
+use Rattle.fancy_plain.specs.OnePassCaches.{IsCacheOf}
 use Rattle.fancy_vm.proofs.MemosLaws.{memos_put, runs_of_note, runs_put}
 use Rattle.fancy_vm.proofs.memos.Memos.kept_end.Goals as goal
 
@@ -8,9 +8,9 @@ returns-in_default-clause-memos c =
     memos_put c.args.task.now c.args.fragment.now c.note_for.new.self _ c.args.pc _ refl refl c.note_for.ensures.memos c.requires.here
     (record { memo = c.in_ok-memo.ensures.note.memo; kept = tt })
 
-pub one_pass_end_kept-way-requires-clause-runs : goal.one_pass_end_kept-way-requires-clause-runs
-one_pass_end_kept-way-requires-clause-runs c =
-    runs_of_note c.args.task.now.text.now c.args.fragment.now c.in_ok-memo.field-0 c.in-Some.runs c.nfa.result.now c.in_ok-memo.ensures.note c.in-Some.is
+pub one_pass_end_kept-way-requires-clause-cache : goal.one_pass_end_kept-way-requires-clause-cache
+one_pass_end_kept-way-requires-clause-cache c =
+    runs_of_note c.args.task.now.text.now c.args.fragment.now c.in_ok-memo.field-0 c.in-Some.cache c.nfa.result.now c.in_ok-memo.ensures.note c.in-Some.is
     c.nfa.ensures.nfa
 
 pub invariant_of-self-2 : goal.invariant_of-self-2
@@ -24,5 +24,5 @@ returns-clause-memos c =
     memos_put c.args.task.now c.args.fragment.now c.note_for.new.self _ c.args.pc _ refl refl c.note_for.ensures.memos c.requires.here
     (record {
       memo = c.in_ok-memo.ensures.note.memo;
-      kept = subst (λ n. AreRunsOf text n c.one_pass_end_kept-way.new.runs) c.nfa.ensures.nfa c.one_pass_end_kept-way.ensures.runs;
+      kept = subst (λ n. IsCacheOf text n c.one_pass_end_kept-way.new.cache) c.nfa.ensures.nfa c.one_pass_end_kept-way.ensures.cache;
     })

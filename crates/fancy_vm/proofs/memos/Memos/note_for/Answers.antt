@@ -1,8 +1,8 @@
 use Rattle.std.proofs.Common.{Box, Global, Option, Some, IfSome, ap, refl, subst, sym, ◌∙◌}
 use Rattle.fancy_fragments.specs.Fragments.{IsJoinedMemoFor}
 use Rattle.fancy_backtrack.specs.declared.memo.Memo.{Memo}
-use Rattle.fancy_plain.specs.KeptRuns.{AreRunsOf}
-use Rattle.fancy_plain.specs.declared.kept_runs.KeptRuns.{KeptRuns}
+use Rattle.fancy_plain.specs.OnePassCaches.{IsCacheOf}
+use Rattle.fancy_plain.specs.declared.one_pass_cache.OnePassCache.{OnePassCache}
 use Rattle.fancy_vm.specs.MemoRuns.{IsKeptAt}
 use Rattle.fancy_vm.proofs.MemosLaws.{memos_left, take_adds}
 use Rattle.fancy_vm.proofs.memos.Memos.note_for.Goals as goal
@@ -42,7 +42,7 @@ returns-after-run-self-clause-note c =
     let text = c.args.task.now.text.now in
     let f = c.args.fragment.now in
     let is_memo : Box Memo Global → Type 0 = λ m. IsJoinedMemoFor text f m.value in
-    let is_kept : Option KeptRuns → Type 0 = λ k. IfSome k (AreRunsOf text f.nfa) in
+    let is_kept : Option OnePassCache → Type 0 = λ k. IfSome k (IsCacheOf text f.nfa) in
     let pc = c.args.pc in
     let found = c.in-Some.field-0 in
     elim c.if-run-self.branch [

@@ -5,7 +5,7 @@ use Rattle.fancy_plain.specs.declared.nfa_state.NfaState.TheVariants as nfa_stat
 use Rattle.fancy_plain.specs.OnePass.{config_at}
 use Rattle.fancy_plain.proofs.OnePassLaws.{goes, not_sure}
 use Rattle.fancy_plain.proofs.RunLaws.{body_read}
-use Rattle.fancy_plain.proofs.search.Searcher.past_kept.Goals as goal
+use Rattle.fancy_plain.proofs.search.Searcher.past_loop_kept.Goals as goal
 
 pub returns-in-Some-Jump-clause-on : goal.returns-in-Some-Jump-clause-on
 returns-in-Some-Jump-clause-on c = λ s.
@@ -40,3 +40,12 @@ past_counted_kept-requires-clause-at c =
     let found = c.in-Some-CounterBegin.ensures.lookup in
     slice_get_read states (length states) at c.in-Some-CounterBegin.field-0.now refl (ltb-true at (length states) (sym found.0)) found.1
     ∙ ap Some c.in-Some-CounterBegin.field-0-is
+
+pub past_branches_kept-requires-clause-loop_split : goal.past_branches_kept-requires-clause-loop_split
+past_branches_kept-requires-clause-loop_split c =
+    let states = c.args.self.now.states.now in
+    let at = c.args.at in
+    let found = c.in-Some-LoopSplit.ensures.lookup in
+    let there = slice_get_read states (length states) at c.in-Some-LoopSplit.field-0.now refl (ltb-true at (length states) (sym found.0)) found.1
+    ∙ ap Some c.in-Some-LoopSplit.field-0-is in
+    (c.in-Some-LoopSplit.second, there)
