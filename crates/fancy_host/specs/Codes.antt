@@ -10,8 +10,8 @@ use Rattle.fancy_vm.specs.declared.search_limits.SearchLimit.{SearchLimit}
 use Rattle.fancy_vm.specs.declared.search_limits.SearchLimit.TheVariants as search
 use Rattle.fancy_scanner.specs.declared.scan_limit.ScanLimit.{ScanLimit}
 use Rattle.fancy_scanner.specs.declared.scan_limit.ScanLimit.TheVariants as scan
-use Rattle.fancy_pattern.specs.declared.error.ErrorKind.{ErrorKind}
-use Rattle.fancy_pattern.specs.declared.error.ErrorKind.TheVariants as kind
+use Rattle.fancy_tokens.specs.declared.error.ErrorKind.{ErrorKind}
+use Rattle.fancy_tokens.specs.declared.error.ErrorKind.TheVariants as kind
 
 abbrev pub ok : ℕ
 ok = 0

@@ -30,7 +30,7 @@ use Rattle.fancy_pattern.proofs.FineNodes.{spelled_fine}
 use Rattle.fancy_expr.proofs.SoundNodes.{nodes_fine, all_one_char, sound_literal}
 use Rattle.fancy_pattern.specs.declared.options.ParseOptions.{ParseOptions}
 use Rattle.fancy_pattern.specs.Texts.{Text}
-use Rattle.fancy_pattern.specs.Tokens.{Placed}
+use Rattle.fancy_tokens.specs.Tokens.{Placed}
 use Rattle.fancy_pattern.specs.Naming.{named_in}
 use Rattle.fancy_pattern.specs.Described.{referred_to, references, first_past, up_to}
 use Rattle.fancy_pattern.specs.Spelling.{HasTokens, every_group, named_groups, IsTreeOf}

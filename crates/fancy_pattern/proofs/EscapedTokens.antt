@@ -7,13 +7,14 @@ use mathlib.Core.Logic.{⊎_elim}
 use Rattle.fancy_meaning.specs.Tree as tree
 use Rattle.fancy_meaning.specs.Tree.{Tree}
 use Rattle.fancy_meaning.specs.WellFormed.{most_groups}
-use Rattle.fancy_pattern.specs.declared.error.ErrorKind.TheVariants.{GeneralParseError}
-use Rattle.fancy_pattern.specs.declared.flags.Flags.{Flags}
+use Rattle.fancy_tokens.specs.declared.error.ErrorKind.TheVariants.{GeneralParseError}
+use Rattle.fancy_tokens.specs.declared.flags.Flags.{Flags}
 use Rattle.fancy_pattern.specs.Texts.{Text, fault_at, ◌>>=◌, gap_at, blank_at, comment_end, is_blank}
-use Rattle.fancy_pattern.specs.Tokens.{item, Placed, placed}
+use Rattle.fancy_tokens.specs.Tokens.{item, Placed, placed}
 use Rattle.fancy_pattern.specs.Escapes.{escape_at, other_escape_at}
 use Rattle.fancy_pattern.specs.Groups.{opening_at}
-use Rattle.fancy_pattern.specs.Items.{Found, found_at, outside_at, item_at, brace_at, sign_token, literal, opened_by, class_of}
+use Rattle.fancy_pattern.specs.Items.{Found, found_at, outside_at, item_at, brace_at, sign_token, literal, class_of}
+use Rattle.fancy_tokens.specs.Nesting.{opened_by}
 use Rattle.fancy_pattern.specs.Lexing.{at_start, Lexes, ended, token}
 use Rattle.fancy_pattern.specs.Grammar.{Names, SpellsAtom, SpellsPiece, SpellsPieces, SpellsBranch, SpellsBars, SpellsAlternatives, Takes, node_of, quantifier, is_at, is_empty, joined, branch_of}
 use Rattle.fancy_pattern.specs.Grammar as rule

@@ -1,8 +1,8 @@
 -- Where the reader is stuck is the place of a fault.
 use Rattle.std.proofs.Common.{◌≡◌, ◌<◌, List, [], ◌∷◌, ◌++◌, length, refl, sym, ap, ◌∙◌, subst, arith, append_assoc, append-nil}
 use Rattle.fancy_meaning.specs.Tree.{Tree}
-use Rattle.fancy_pattern.specs.declared.error.Fault.{Fault}
-use Rattle.fancy_pattern.specs.Tokens.{Placed}
+use Rattle.fancy_tokens.specs.declared.error.Fault.{Fault}
+use Rattle.fancy_tokens.specs.Tokens.{Placed}
 use Rattle.fancy_pattern.specs.Grammar.{Names, SpellsAlternatives}
 use Rattle.fancy_pattern.specs.Faults.{MisfitAt, IsPlace, at_token, at_name, CanBegin, IsFaultAt, stray, early}
 use Rattle.fancy_pattern.specs.Stuck.{Alike, SameFirst, both_ended, same_token, Stuck, anything, is_end}

@@ -11,14 +11,14 @@ use Rattle.fancy_meaning.specs.Tree.{Tree, trees}
 use Rattle.fancy_meaning.specs.Nodes.{nodes, nodes_of_each}
 use Rattle.fancy_meaning.specs.WellFormed.{IsUsize}
 use Rattle.fancy_expr.specs.Each.{Each}
-use Rattle.fancy_pattern.specs.declared.tokens.Enclosing.{Enclosing}
-use Rattle.fancy_pattern.specs.declared.tokens.Enclosing.TheVariants as enclosing
-use Rattle.fancy_pattern.specs.declared.tokens.Naming.{Naming}
-use Rattle.fancy_pattern.specs.declared.tokens.Naming.TheVariants as naming
-use Rattle.fancy_pattern.specs.declared.tokens.Quantifier.{Quantifier}
-use Rattle.fancy_pattern.specs.declared.tokens.Suffix.{Suffix}
-use Rattle.fancy_pattern.specs.declared.tokens.Suffix.TheVariants.{Turned, Possessive}
-use Rattle.fancy_pattern.specs.Tokens.{Target, Name, Number, Nowhere, Reference, Opening, Group, Token, Node, Refer, FlagsItem, Open, Quantified, Placed}
+use Rattle.fancy_tokens.specs.declared.tokens.Enclosing.{Enclosing}
+use Rattle.fancy_tokens.specs.declared.tokens.Enclosing.TheVariants as enclosing
+use Rattle.fancy_tokens.specs.declared.tokens.Naming.{Naming}
+use Rattle.fancy_tokens.specs.declared.tokens.Naming.TheVariants as naming
+use Rattle.fancy_tokens.specs.declared.tokens.Quantifier.{Quantifier}
+use Rattle.fancy_tokens.specs.declared.tokens.Suffix.{Suffix}
+use Rattle.fancy_tokens.specs.declared.tokens.Suffix.TheVariants.{Turned, Possessive}
+use Rattle.fancy_tokens.specs.Tokens.{Target, Name, Number, Nowhere, Reference, Opening, Group, Token, Node, Refer, FlagsItem, Open, Quantified, Placed}
 use Rattle.fancy_pattern.specs.Naming.{numbers_of, named_in, named_of, named_opening}
 use Rattle.fancy_pattern.specs.Stuck.{Within, whole, past}
 use Rattle.fancy_pattern.specs.Grammar.{Names, Takes, named, unresolved, several, by_groups, by_target, reference, node_of, opening, class_of, quantifier, suffixed, enclosed, is_empty, joined, alternated, SpellsAtom, node, class, opened, SpellsOpened, around, group, stopper, expression, asked, if_group, if_pattern, if_look, SpellsBodies, one_body, two_bodies, SpellsPiece, plain, quantified, SpellsPieces, no_piece, piece, SpellsBranch, branch, SpellsBars, no_bar, barred, SpellsAlternatives, branches}

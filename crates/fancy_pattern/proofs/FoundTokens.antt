@@ -14,17 +14,17 @@ use Rattle.fancy_meaning.specs.Tree.{Tree}
 use Rattle.fancy_meaning.specs.Nodes.{nodes, as_group}
 use Rattle.fancy_meaning.specs.WellFormed.{IsUsize, IsCount, IsFine, most_groups}
 use Rattle.fancy_expr.specs.Views.{bound_of}
-use Rattle.fancy_pattern.specs.declared.error.ErrorKind.{ErrorKind}
-use Rattle.fancy_pattern.specs.declared.error.Fault.{Fault}
-use Rattle.fancy_pattern.specs.declared.classes.ClassPlace.{ClassPlace}
-use Rattle.fancy_pattern.specs.declared.classes.Head.TheVariants as head
-use Rattle.fancy_pattern.specs.declared.flags.Flags.{Flags}
-use Rattle.fancy_pattern.specs.declared.items.Lexing.{Lexing}
-use Rattle.fancy_pattern.specs.declared.tokens.Naming.{Naming}
-use Rattle.fancy_pattern.specs.declared.tokens.Quantifier.{Quantifier}
-use Rattle.fancy_pattern.specs.declared.tokens.Quantifier.TheVariants.{Counts}
+use Rattle.fancy_tokens.specs.declared.error.ErrorKind.{ErrorKind}
+use Rattle.fancy_tokens.specs.declared.error.Fault.{Fault}
+use Rattle.fancy_tokens.specs.declared.lexing.ClassPlace.{ClassPlace}
+use Rattle.fancy_tokens.specs.declared.lexing.Head.TheVariants as head
+use Rattle.fancy_tokens.specs.declared.flags.Flags.{Flags}
+use Rattle.fancy_tokens.specs.declared.lexing.Lexing.{Lexing}
+use Rattle.fancy_tokens.specs.declared.tokens.Naming.{Naming}
+use Rattle.fancy_tokens.specs.declared.tokens.Quantifier.{Quantifier}
+use Rattle.fancy_tokens.specs.declared.tokens.Quantifier.TheVariants.{Counts}
 use Rattle.fancy_pattern.specs.Texts.{Text, Read, fault_at, ◌>>=◌, past_word, past_run}
-use Rattle.fancy_pattern.specs.Tokens.{Target, Number, Nowhere, Reference, If, Group, Opening, Placed, Token, Node, Refer, Open, Close, Quantified, Item, item}
+use Rattle.fancy_tokens.specs.Tokens.{Target, Number, Nowhere, Reference, If, Group, Opening, Placed, Token, Node, Refer, Open, Close, Quantified, Item, item}
 use Rattle.fancy_pattern.specs.Numbers.{number_of, level_of, signed}
 use Rattle.fancy_pattern.specs.Quantifiers.{Written, is_empty, count_of, lo_of, hi_of, counts_of, counts_at, written_at}
 use Rattle.std.specs.Char.{is_ascii_digit, is_ascii_alphanumeric}
@@ -33,13 +33,15 @@ use Rattle.fancy_pattern.specs.Flags.{letters_at, at_first}
 use Rattle.fancy_pattern.specs.Escapes.{hex_at, property_at, is_set, escape_at, literal_at, set_at, refer_at, numbered_at, other_escape_at, leaf_escape, literal_escape, own_escape}
 use Rattle.fancy_pattern.specs.Groups.{plain_group, verb_word_at, look_at, condition_number_at, enclosing_of, named_group_at, call_at, numbered_call_at, verb_at, absent_at, angle_at, python_at, flags_item_at, minus_at, condition_by_group_at, pattern_condition_at, group_condition_at, condition_at, other_question_at, question_at, opening_at}
 use Rattle.fancy_pattern.specs.Classes.{ClassItem, piece_item, inner, class_item_at, class_escape_at, bracket, closing_bracket}
-use Rattle.fancy_pattern.specs.Items.{sign_token, brace_at, item_at, outside_at, within_at, found_at, Found, opened_by, class_of}
+use Rattle.fancy_pattern.specs.Items.{sign_token, brace_at, item_at, outside_at, within_at, found_at, Found, class_of}
+use Rattle.fancy_tokens.specs.Nesting.{opened_by}
 use Rattle.fancy_pattern.specs.Grammar as grammar
 use Rattle.fancy_pattern.specs.Described.{opens_group}
-use Rattle.fancy_pattern.specs.Lexing.{State, GoesBy, Lexes, ended, gap, token, unread, misplaced}
-use Rattle.fancy_pattern.specs.declared.classes.Head.{Head}
-use Rattle.fancy_pattern.specs.declared.tokens.Naming.TheVariants as naming
-use Rattle.fancy_pattern.specs.declared.error.ErrorKind.TheVariants.{InvalidRepeat, InvalidEscape, InvalidBackref, GeneralParseError}
+use Rattle.fancy_pattern.specs.Lexing.{State, Lexes, ended, gap, token, unread, misplaced}
+use Rattle.fancy_tokens.specs.Nesting.{GoesBy}
+use Rattle.fancy_tokens.specs.declared.lexing.Head.{Head}
+use Rattle.fancy_tokens.specs.declared.tokens.Naming.TheVariants as naming
+use Rattle.fancy_tokens.specs.declared.error.ErrorKind.TheVariants.{InvalidRepeat, InvalidEscape, InvalidBackref, GeneralParseError}
 use Rattle.fancy_expr.specs.Each.{Each}
 
 -- the counts are in order, and below the largest number

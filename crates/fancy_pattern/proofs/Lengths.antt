@@ -1,8 +1,8 @@
 -- What is spelled takes tokens.
 use Rattle.std.proofs.Common.{ℕ, ◌+◌, ◌≤◌, List, length, Option, ap, arith}
 use Rattle.fancy_meaning.specs.Tree.{Tree}
-use Rattle.fancy_pattern.specs.declared.tokens.Suffix.{Suffix}
-use Rattle.fancy_pattern.specs.Tokens.{Opening, Token, Placed}
+use Rattle.fancy_tokens.specs.declared.tokens.Suffix.{Suffix}
+use Rattle.fancy_tokens.specs.Tokens.{Opening, Token, Placed}
 use Rattle.fancy_pattern.specs.Grammar.{Names, Takes, SpellsClass, class_end, class_piece, SpellsSuffix, no_suffix, a_suffix, SpellsAtom, node, class, opened, SpellsOpened, around, group, stopper, expression, asked, if_group, if_pattern, if_look, SpellsBodies, one_body, two_bodies, SpellsPiece, plain, quantified, SpellsPieces, no_piece, piece, SpellsBranch, branch, SpellsBars, no_bar, barred, SpellsAlternatives, branches}
 
 pub takes : {V : Type 0} {gives : Token → Option V} {x : List Placed} {v : V} {y : List Placed} → Takes gives x v y → length y + 1 ≤ length x

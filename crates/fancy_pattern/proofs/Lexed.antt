@@ -4,13 +4,14 @@ use Rattle.std.proofs.lemmas.Bool.{true≢false}
 use Rattle.std.specs.declared.alloc.AllocError.{AllocError}
 use Rattle.fancy_pattern.specs.declared.lexer.Lexer.{Lexer}
 use Rattle.fancy_pattern.specs.LexerViews.{state_of, text_of, placed_in, Steps, Pushes}
-use Rattle.fancy_pattern.specs.declared.error.Fault.{Fault}
-use Rattle.fancy_pattern.specs.declared.flags.Flags.{Flags}
-use Rattle.fancy_pattern.specs.declared.items.Lexing.{Lexing}
+use Rattle.fancy_tokens.specs.declared.error.Fault.{Fault}
+use Rattle.fancy_tokens.specs.declared.flags.Flags.{Flags}
+use Rattle.fancy_tokens.specs.declared.lexing.Lexing.{Lexing}
 use Rattle.fancy_pattern.specs.Texts.{Text, gap_at}
-use Rattle.fancy_pattern.specs.Tokens.{Token, Node, Refer, FlagsItem, Open, Bar, Close, Quantified, ClassOpen, ClassText, ClassClose, Broken, Placed, placed, broken}
+use Rattle.fancy_tokens.specs.Tokens.{Token, Node, Refer, FlagsItem, Open, Bar, Close, Quantified, ClassOpen, ClassText, ClassClose, Broken, Placed, placed, broken}
 use Rattle.fancy_pattern.specs.Items.{Found, IsLone, found_at}
-use Rattle.fancy_pattern.specs.Lexing.{State, at_start, IsAtToken, GoesBy, Lexes, gap, token}
+use Rattle.fancy_pattern.specs.Lexing.{State, at_start, IsAtToken, Lexes, gap, token}
+use Rattle.fancy_tokens.specs.Nesting.{GoesBy}
 
 -- past a token
 pub took_token : (old new : State) (text after rest : Text) (found : Found) (outer : List Flags) → IsAtToken old text →

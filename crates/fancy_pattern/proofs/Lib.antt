@@ -23,6 +23,7 @@ pub mod FaultPlaces
 pub mod Told
 pub mod FoundTokens
 pub mod Counting
+pub mod QuietTokens
 pub mod DescribedTrees
 pub mod FineNodes
 pub mod Unreferring

@@ -6,10 +6,10 @@ use Rattle.fancy_meaning.specs.Tree.{Tree, Literal}
 use Rattle.fancy_expr.specs.declared.expr.Expr.{Expr}
 use Rattle.fancy_expr.specs.Views.{tree_of}
 use Rattle.fancy_pattern.specs.declared.reader.Reader.{Reader}
-use Rattle.fancy_pattern.specs.declared.tokens.Quantifier.{Quantifier}
-use Rattle.fancy_pattern.specs.declared.tokens.Suffix.{Suffix}
-use Rattle.fancy_pattern.specs.declared.tokens.Suffix.TheVariants.{Turned, Possessive}
-use Rattle.fancy_pattern.specs.Tokens.{Placed}
+use Rattle.fancy_tokens.specs.declared.tokens.Quantifier.{Quantifier}
+use Rattle.fancy_tokens.specs.declared.tokens.Suffix.{Suffix}
+use Rattle.fancy_tokens.specs.declared.tokens.Suffix.TheVariants.{Turned, Possessive}
+use Rattle.fancy_tokens.specs.Tokens.{Placed}
 use Rattle.fancy_pattern.specs.Grammar.{Names, first_gives, is_at, is_empty, quantifier, node_of, node, suffixed, Takes, SpellsSuffix}
 use Rattle.fancy_pattern.specs.Reading.{point_of, Skips, Adds, Pushes, Quantifies, alone, by, SpellsSome, none_read, PushesRow}
 use Rattle.fancy_pattern.proofs.OneChars.{with_part}

@@ -14,9 +14,9 @@ use Rattle.fancy_expr.specs.Exprs.{below, exprs, exprs_of_each}
 use Rattle.fancy_expr.specs.Each.{Each}
 use Rattle.fancy_expr.specs.Sound.{IsOneChar}
 use Rattle.fancy_expr.proofs.Exprs.{nodes-exprs, exprs-below, below-concat, below-alt}
-use Rattle.fancy_pattern.specs.declared.tokens.Naming.{Naming}
-use Rattle.fancy_pattern.specs.declared.tokens.Naming.TheVariants as naming
-use Rattle.fancy_pattern.specs.Tokens.{Target, Name, Number, Nowhere, Reference}
+use Rattle.fancy_tokens.specs.declared.tokens.Naming.{Naming}
+use Rattle.fancy_tokens.specs.declared.tokens.Naming.TheVariants as naming
+use Rattle.fancy_tokens.specs.Tokens.{Target, Name, Number, Nowhere, Reference}
 use Rattle.fancy_pattern.specs.Naming.{numbers_of}
 use Rattle.fancy_pattern.specs.Grammar.{Names, named, unresolved, several, by_groups, by_target, reference}
 use Rattle.fancy_pattern.specs.Reading.{OneCharEach}

@@ -3,14 +3,15 @@ use Rattle.std.proofs.Common.{◌≡◌, ℕ, Bool, List, [], ◌∷◌, ◌++�
 use Rattle.std.proofs.lemmas.Bool.{true≢false}
 use Rattle.std.proofs.lemmas.List.{same_from_push}
 use Rattle.fancy_meaning.specs.Tree.{Tree}
-use Rattle.fancy_pattern.specs.declared.error.Fault.{Fault}
-use Rattle.fancy_pattern.specs.declared.flags.Flags.{Flags}
-use Rattle.fancy_pattern.specs.declared.items.Lexing.{Lexing}
+use Rattle.fancy_tokens.specs.declared.error.Fault.{Fault}
+use Rattle.fancy_tokens.specs.declared.flags.Flags.{Flags}
+use Rattle.fancy_tokens.specs.declared.lexing.Lexing.{Lexing}
 use Rattle.fancy_pattern.specs.declared.options.ParseOptions.{ParseOptions}
 use Rattle.fancy_pattern.specs.Texts.{Text, gap_at}
-use Rattle.fancy_pattern.specs.Tokens.{Token, Open, Close, Placed, placed, broken}
+use Rattle.fancy_tokens.specs.Tokens.{Token, Open, Close, Placed, placed, broken}
 use Rattle.fancy_pattern.specs.Items.{Found}
-use Rattle.fancy_pattern.specs.Lexing.{State, IsAtToken, GoesBy, Lexes, ended, gap, token, unread, misplaced}
+use Rattle.fancy_pattern.specs.Lexing.{State, IsAtToken, Lexes, ended, gap, token, unread, misplaced}
+use Rattle.fancy_tokens.specs.Nesting.{GoesBy}
 use Rattle.fancy_pattern.specs.Grammar.{SpellsAlternatives}
 use Rattle.fancy_pattern.specs.Naming.{named_in}
 use Rattle.fancy_pattern.specs.Spelling.{ignores, HasTokens, every_group, named_groups, Spells}

@@ -9,12 +9,12 @@ use Rattle.fancy_expr.specs.declared.expr.Expr.{Expr}
 use Rattle.fancy_expr.specs.Views.{tree_of}
 use Rattle.fancy_pattern.specs.declared.failure.Failure.{Failure}
 use Rattle.fancy_pattern.specs.declared.reader.Reader.{Reader}
-use Rattle.fancy_pattern.specs.declared.kept.Placed.{Placed as Code}
-use Rattle.fancy_pattern.specs.declared.tokens.Quantifier.{Quantifier}
-use Rattle.fancy_pattern.specs.declared.tokens.Suffix.{Suffix}
-use Rattle.fancy_pattern.specs.declared.tokens.Enclosing.{Enclosing}
-use Rattle.fancy_pattern.specs.Tokens.{Reference, Token, Placed, Opening, Around, Group, AbsentBar, If, IfPattern, IfLook}
-use Rattle.fancy_pattern.specs.PatternViews.{placed_of}
+use Rattle.fancy_tokens.specs.declared.kept.Placed.{Placed as Code}
+use Rattle.fancy_tokens.specs.declared.tokens.Quantifier.{Quantifier}
+use Rattle.fancy_tokens.specs.declared.tokens.Suffix.{Suffix}
+use Rattle.fancy_tokens.specs.declared.tokens.Enclosing.{Enclosing}
+use Rattle.fancy_tokens.specs.Tokens.{Reference, Token, Placed, Opening, Around, Group, AbsentBar, If, IfPattern, IfLook}
+use Rattle.fancy_tokens.specs.PatternViews.{placed_of}
 use Rattle.fancy_pattern.specs.Grammar.{Names, Takes, first_gives, gives_some, is_at, is_branch_end, is_empty, is_repeatable, bar, closing, quantifier, class_text, class_close, class_of, joined, branch_of, alternated, suffixed, SpellsSuffix, SpellsClass, class_end, class_piece, class_open, opening, reference, enclosed, SpellsAtom, node, class, opened, SpellsOpened, around, group, stopper, expression, if_group, if_pattern, if_look, SpellsBodies, one_body, two_bodies, SpellsPiece, plain, quantified, SpellsPieces, no_piece, piece, SpellsBranch, branch, SpellsBars, no_bar, barred, SpellsAlternatives, branches}
 use Rattle.fancy_pattern.proofs.MadeNodes.{text_added, one_char}
 use Rattle.fancy_expr.specs.Each.{Each}

@@ -2,7 +2,7 @@
 use Rattle.std.proofs.Common.{◌≡◌, ℕ, ◌≤◌, false, List, [], ◌∷◌, ◌++◌, length, refl, sym, ap, ◌∙◌, subst, arith}
 use Rattle.std.proofs.lemmas.Bool.{true≢false}
 use Rattle.fancy_meaning.specs.Tree.{Tree}
-use Rattle.fancy_pattern.specs.Tokens.{Placed}
+use Rattle.fancy_tokens.specs.Tokens.{Placed}
 use Rattle.fancy_pattern.specs.Stuck.{Within, whole, Alike}
 use Rattle.fancy_pattern.specs.Reading.{Row, none_read, one_read}
 use Rattle.fancy_pattern.specs.Grammar.{Names, Takes, is_branch_end, bar, class_text, SpellsClass, class_end, class_piece, SpellsPiece, SpellsPieces, no_piece, piece, SpellsBranch, SpellsBars, no_bar, barred}

@@ -4,16 +4,16 @@ use Rattle.fancy_meaning.specs.Tree.{Tree}
 use Rattle.fancy_expr.specs.declared.expr.Expr.{Expr}
 use Rattle.fancy_expr.specs.declared.expr.ExprTree.{ExprTree}
 use Rattle.fancy_expr.specs.Views.{tree_of}
-use Rattle.fancy_pattern.specs.declared.flags.Flags.{Flags}
+use Rattle.fancy_tokens.specs.declared.flags.Flags.{Flags}
 use Rattle.fancy_pattern.specs.declared.options.ParseOptions.{ParseOptions}
 use Rattle.fancy_pattern.specs.declared.reader.Reader.{Reader}
-use Rattle.fancy_pattern.specs.declared.kept.Placed.{Placed as Code}
+use Rattle.fancy_tokens.specs.declared.kept.Placed.{Placed as Code}
 use Rattle.fancy_pattern.specs.Texts.{Text}
-use Rattle.fancy_pattern.specs.Tokens.{Placed}
+use Rattle.fancy_tokens.specs.Tokens.{Placed}
 use Rattle.fancy_pattern.specs.Lexing.{Lexes, at_start}
 use Rattle.fancy_pattern.specs.Naming.{named_in}
 use Rattle.fancy_pattern.specs.Grammar.{Names, SpellsAlternatives}
-use Rattle.fancy_pattern.specs.PatternViews.{placed_of}
+use Rattle.fancy_tokens.specs.PatternViews.{placed_of}
 use Rattle.fancy_pattern.specs.Reading.{point_of}
 use Rattle.fancy_pattern.specs.Described.{IsDescribed}
 use Rattle.fancy_pattern.specs.Spelling.{flags_of, ignores, HasTokens, every_group, named_groups, IsSpelled, IsTreeOf}

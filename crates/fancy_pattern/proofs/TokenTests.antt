@@ -4,9 +4,9 @@ use Rattle.std.specs.List.{list_any, count_by}
 use Rattle.std.proofs.lemmas.List.{drop_all, map-append, take_more}
 use Rattle.std.proofs.lemmas.List.Folds.{list_any-append}
 use Rattle.std.proofs.lemmas.List.Sums.{sum_by_push}
-use Rattle.fancy_pattern.specs.declared.kept.Placed.{Placed as Code}
-use Rattle.fancy_pattern.specs.Tokens.{Token, Placed}
-use Rattle.fancy_pattern.specs.PatternViews.{placed_of}
+use Rattle.fancy_tokens.specs.declared.kept.Placed.{Placed as Code}
+use Rattle.fancy_tokens.specs.Tokens.{Token, Placed}
+use Rattle.fancy_tokens.specs.PatternViews.{placed_of}
 
 -- the tokens from here on
 from_here : (f : Placed → Bool) (ts : List Code) (i : ℕ) (d : Code) → i < length ts →

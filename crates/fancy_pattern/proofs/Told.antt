@@ -8,7 +8,7 @@ use Rattle.fancy_meaning.specs.Tree.{Tree}
 use Rattle.fancy_expr.specs.declared.expr.ExprTree.{ExprTree}
 use Rattle.fancy_expr.specs.Sound.{IsWellFormedTree}
 use Rattle.fancy_expr.specs.Views.{tree_of}
-use Rattle.fancy_pattern.specs.declared.error.Fault.{Fault}
+use Rattle.fancy_tokens.specs.declared.error.Fault.{Fault}
 use Rattle.fancy_pattern.specs.declared.error.PatternError.{PatternError}
 use Rattle.fancy_pattern.specs.declared.error.PatternError.TheVariants.{Parse, Memory}
 use Rattle.fancy_pattern.specs.declared.failure.Failure.{Failure}
@@ -16,10 +16,10 @@ use Rattle.fancy_pattern.specs.declared.failure.Failure.TheVariants as failure
 use Rattle.fancy_pattern.specs.declared.options.ParseOptions.{ParseOptions}
 use Rattle.fancy_pattern.specs.declared.reader.Reader.{Reader}
 use Rattle.fancy_pattern.specs.Texts.{Text}
-use Rattle.fancy_pattern.specs.Tokens.{Placed}
+use Rattle.fancy_tokens.specs.Tokens.{Placed}
 use Rattle.fancy_pattern.specs.Naming.{named_in}
 use Rattle.fancy_pattern.specs.Grammar.{Names, SpellsAlternatives}
-use Rattle.fancy_pattern.specs.PatternViews.{placed_of}
+use Rattle.fancy_tokens.specs.PatternViews.{placed_of}
 use Rattle.fancy_pattern.specs.Reading.{point_of}
 use Rattle.fancy_pattern.specs.Faults.{IsFaultAt}
 use Rattle.fancy_pattern.specs.Stuck.{Fails, anything, IsMisfit}

@@ -1,5 +1,5 @@
 -- Where no token names a group, no node does.
-use Rattle.std.proofs.Common.{◌≡◌, ℕ, Bool, true, false, ◌||◌, not, cond, List, [], ◌∷◌, ◌++◌, map, filter, filter_map, Option, Some, None, is_some, refl, sym, ap, ◌∙◌, subst, append-nil}
+use Rattle.std.proofs.Common.{◌≡◌, ℕ, Bool, true, false, ◌||◌, not, cond, List, [], ◌∷◌, ◌++◌, map, filter, filter_map, Option, Some, None, is_some, refl, ap, ◌∙◌, subst, append-nil}
 use Rattle.std.proofs.lemmas.Bool.{true≢false}
 use Rattle.std.specs.List.{list_any}
 use Rattle.fancy_meaning.specs.Tree as tree
@@ -7,22 +7,22 @@ use Rattle.fancy_meaning.specs.Tree.{Tree, trees}
 use Rattle.fancy_meaning.specs.Nodes.{nodes, nodes_of_each}
 use Rattle.fancy_meaning.specs.WellFormed.{is_any_call}
 use Rattle.fancy_expr.specs.Each.{Each}
-use Rattle.fancy_pattern.specs.declared.kept.Kept.{Kept}
-use Rattle.fancy_pattern.specs.declared.kept.Kept.TheVariants as kept
-use Rattle.fancy_pattern.specs.declared.kept.Placed.{Placed as Code}
-use Rattle.fancy_pattern.specs.declared.tokens.Enclosing.{Enclosing}
-use Rattle.fancy_pattern.specs.declared.tokens.Enclosing.TheVariants as enclosing
-use Rattle.fancy_pattern.specs.declared.tokens.Leaf.{Leaf}
-use Rattle.fancy_pattern.specs.declared.tokens.Leaf.TheVariants as leaf
-use Rattle.fancy_pattern.specs.declared.tokens.Opening as code_opening
-use Rattle.fancy_pattern.specs.declared.tokens.Opening.TheVariants as opened_by
-use Rattle.fancy_pattern.specs.declared.tokens.Quantifier.{Quantifier}
-use Rattle.fancy_pattern.specs.declared.tokens.Suffix.{Suffix}
-use Rattle.fancy_pattern.specs.declared.tokens.Suffix.TheVariants.{Turned, Possessive}
-use Rattle.fancy_pattern.specs.declared.tokens.Token as code_token
-use Rattle.fancy_pattern.specs.declared.tokens.Token.TheVariants as token
-use Rattle.fancy_pattern.specs.Tokens.{Opening, If, Token, Node, Refer, FlagsItem, Open, Placed}
-use Rattle.fancy_pattern.specs.PatternViews.{leaf_of, opening_of, token_of, kept_of, placed_of}
+use Rattle.fancy_tokens.specs.declared.kept.Kept.{Kept}
+use Rattle.fancy_tokens.specs.declared.kept.Kept.TheVariants as kept
+use Rattle.fancy_tokens.specs.declared.kept.Placed.{Placed as Code}
+use Rattle.fancy_tokens.specs.declared.tokens.Enclosing.{Enclosing}
+use Rattle.fancy_tokens.specs.declared.tokens.Enclosing.TheVariants as enclosing
+use Rattle.fancy_tokens.specs.declared.tokens.Leaf.{Leaf}
+use Rattle.fancy_tokens.specs.declared.tokens.Leaf.TheVariants as leaf
+use Rattle.fancy_tokens.specs.declared.tokens.Opening as code_opening
+use Rattle.fancy_tokens.specs.declared.tokens.Opening.TheVariants as opened_by
+use Rattle.fancy_tokens.specs.declared.tokens.Quantifier.{Quantifier}
+use Rattle.fancy_tokens.specs.declared.tokens.Suffix.{Suffix}
+use Rattle.fancy_tokens.specs.declared.tokens.Suffix.TheVariants.{Turned, Possessive}
+use Rattle.fancy_tokens.specs.declared.tokens.Token as code_token
+use Rattle.fancy_tokens.specs.declared.tokens.Token.TheVariants as token
+use Rattle.fancy_tokens.specs.Tokens.{Opening, If, Token, Node, Refer, FlagsItem, Open, Placed}
+use Rattle.fancy_tokens.specs.PatternViews.{leaf_of, opening_of, token_of, kept_of, placed_of}
 use Rattle.fancy_pattern.specs.Faults.{asked_by}
 use Rattle.fancy_pattern.specs.Stuck.{Within, whole, past}
 use Rattle.fancy_pattern.specs.Grammar.{Names, Takes, node_of, opening, class_of, suffixed, enclosed, is_empty, joined, alternated, SpellsAtom, node, class, opened, SpellsOpened, around, group, stopper, expression, asked, if_group, if_pattern, if_look, SpellsBodies, one_body, two_bodies, SpellsPiece, plain, quantified, SpellsPieces, no_piece, piece, SpellsBranch, branch, SpellsBars, no_bar, barred, SpellsAlternatives, branches}

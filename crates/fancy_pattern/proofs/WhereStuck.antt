@@ -4,11 +4,11 @@ use Rattle.std.specs.Prelude.{IfErr}
 use Rattle.std.proofs.lemmas.Bool.{true≢false}
 use Rattle.fancy_meaning.specs.Tree as tree
 use Rattle.fancy_meaning.specs.Tree.{Tree}
-use Rattle.fancy_pattern.specs.declared.error.Fault.{Fault}
+use Rattle.fancy_tokens.specs.declared.error.Fault.{Fault}
 use Rattle.fancy_pattern.specs.declared.failure.Failure.{Failure}
 use Rattle.fancy_pattern.specs.declared.failure.Failure.TheVariants as failure
-use Rattle.fancy_pattern.specs.declared.tokens.Enclosing.{Enclosing}
-use Rattle.fancy_pattern.specs.Tokens.{Reference, Opening, Around, Group, AbsentBar, If, IfPattern, IfLook, Token, Node, Refer, FlagsItem, Open, Close, ClassOpen, ClassClose, Placed, placed}
+use Rattle.fancy_tokens.specs.declared.tokens.Enclosing.{Enclosing}
+use Rattle.fancy_tokens.specs.Tokens.{Reference, Opening, Around, Group, AbsentBar, If, IfPattern, IfLook, Token, Node, Refer, FlagsItem, Open, Close, ClassOpen, ClassClose, Placed, placed}
 use Rattle.fancy_pattern.specs.Grammar.{Names, Takes, first_gives, is_at, gives_some, is_branch_end, is_repeatable, bar, closing, quantifier, opening, node_of, class_open, class_text, class_close, reference, suffixed, alternated, SpellsClass, class_end, class_piece, SpellsAtom, node, class, opened, SpellsOpened, around, group, stopper, expression, asked, if_group, if_pattern, if_look, SpellsBodies, one_body, two_bodies, SpellsPiece, plain, quantified, SpellsPieces, no_piece, piece, SpellsBranch, branch, SpellsBars, no_bar, barred, SpellsAlternatives, branches}
 use Rattle.fancy_pattern.specs.Faults.{MisfitAt, IsPlace, at_token, at_name, asked_by, referring}
 use Rattle.fancy_pattern.specs.Stuck.{Within, whole, NoNode, Alike, SameFirst, both_ended, same_token, is_end, is_calm, anything, Stuck, Fails, IsMisfit, NoAtom, behind, unnamed, FailsOpened}

@@ -1,5 +1,5 @@
 -- Words at the front of a text.
-use Rattle.std.proofs.Common.{◌≡◌, ◌<◌, ◌∷◌, [], ℕ, List, None, Option, Some, length, refl, arith, drop, ◌+◌, sym, ◌∙◌, subst, ap, get_or, option_map, Bool, true, false, cond, ◌==◌, if◌then◌else◌}
+use Rattle.std.proofs.Common.{◌≡◌, ◌<◌, ◌∷◌, [], None, length, refl, arith, sym}
 use Rattle.std.proofs.lemmas.Option.{none-some}
 use Rattle.fancy_pattern.specs.Texts.{Text, past_word, past_common, uncons}
 

@@ -6,7 +6,7 @@ use Rattle.fancy_pattern.specs.Grammar.{Names}
 use Rattle.fancy_pattern.specs.Naming.{named_in, numbers_of}
 use Rattle.fancy_pattern.specs.Spelling.{HasTokens}
 use Rattle.fancy_pattern.specs.Texts.{Text}
-use Rattle.fancy_pattern.specs.Tokens.{Target, Name, Number, Nowhere, Token, Node, Refer, Open, If, ClassOpen, ClassClose, Placed}
+use Rattle.fancy_tokens.specs.Tokens.{Target, Name, Number, Nowhere, Token, Node, Refer, Open, If, ClassOpen, ClassClose, Placed}
 
 abbrev pub one_at_least : ℕ → ℕ
 one_at_least count = if count == 0 then 1 else count

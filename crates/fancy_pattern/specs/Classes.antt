@@ -1,14 +1,14 @@
 -- What stands in a class, and how it is handed on to `regex`.
-use Rattle.std.specs.Prelude.{ℕ, ◌+◌, ◌-◌, Bool, true, false, not, ◌||◌, List, [], ◌∷◌, ◌++◌, codes, Option, Some, None, Result, Ok, Err, if◌then◌else◌, ◌==◌, nat_le}
+use Rattle.std.specs.Prelude.{ℕ, ◌+◌, ◌-◌, Bool, not, ◌||◌, [], ◌∷◌, codes, Option, Some, None, Ok, Err, if◌then◌else◌, ◌==◌, nat_le}
 use Rattle.std.specs.Char.{is_ascii, is_ascii_alphanumeric}
-use Rattle.fancy_pattern.specs.declared.error.ErrorKind.TheVariants.{InvalidClass, InvalidEscape}
+use Rattle.fancy_tokens.specs.declared.error.ErrorKind.TheVariants.{InvalidClass, InvalidEscape}
 use Rattle.fancy_pattern.specs.declared.classes.ClassItem as code
-use Rattle.fancy_pattern.specs.declared.classes.ClassPlace.{ClassPlace}
-use Rattle.fancy_pattern.specs.declared.classes.Head.TheVariants.{Start, Caret, Inner}
+use Rattle.fancy_tokens.specs.declared.lexing.ClassPlace.{ClassPlace}
+use Rattle.fancy_tokens.specs.declared.lexing.Head.TheVariants.{Start, Caret, Inner}
 use Rattle.fancy_pattern.specs.Texts.{Text, Read, fault_at, ◌>>=◌, uncons}
 use Rattle.fancy_pattern.specs.Escapes.{hex_at, property_at, is_set}
-use Rattle.fancy_pattern.specs.Tokens.{Token, ClassText, ClassClose}
-use Rattle.fancy_pattern.specs.PatternViews.{token_of, code_text}
+use Rattle.fancy_tokens.specs.Tokens.{Token, ClassText, ClassClose}
+use Rattle.fancy_tokens.specs.PatternViews.{token_of, code_text}
 
 -- a token of a class, and the place behind it
 pub record ClassItem : Type 0 where

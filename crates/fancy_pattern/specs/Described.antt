@@ -9,7 +9,7 @@ use Rattle.fancy_meaning.specs.WellFormed.{is_any_call}
 use Rattle.fancy_expr.specs.declared.expr.ExprTree.{ExprTree}
 use Rattle.fancy_expr.specs.Views.{tree_of}
 use Rattle.fancy_pattern.specs.declared.survey.Survey.{Survey}
-use Rattle.fancy_pattern.specs.Tokens.{Target, Name, Number, Nowhere, Opening, Group, If, Token, Refer, Open, Placed}
+use Rattle.fancy_tokens.specs.Tokens.{Target, Name, Number, Nowhere, Opening, Group, If, Token, Refer, Open, Placed}
 use Rattle.fancy_pattern.specs.Naming.{named_in, numbers_of, numbers_in}
 
 -- ---- what tokens say

@@ -1,18 +1,18 @@
 -- What follows a backslash.
-use Rattle.std.specs.Prelude.{ℕ, suc, ◌+◌, ◌^◌, Bool, true, false, not, ◌&&◌, ◌||◌, List, [], ◌∷◌, length, take, drop, codes, encode_utf8_all, Option, Some, None, option_and_then, Result, Ok, Err, if◌then◌else◌, ◌==◌, nat_lt}
+use Rattle.std.specs.Prelude.{ℕ, ◌+◌, Bool, true, false, not, ◌&&◌, ◌||◌, [], ◌∷◌, length, take, drop, codes, encode_utf8_all, Option, Some, None, option_and_then, Ok, Err, if◌then◌else◌, ◌==◌, nat_lt}
 use lib.Utf8.{scalar}
 use Rattle.std.specs.Char.{is_ascii_digit, is_ascii_alphanumeric, is_digit}
 use Rattle.std.specs.List.{take_while}
 use Rattle.fancy_meaning.specs.Tree as tree
 use Rattle.fancy_meaning.specs.Tree.{Tree}
-use Rattle.fancy_pattern.specs.declared.error.ErrorKind.TheVariants.{TrailingBackslash, InvalidEscape, UnclosedUnicodeName, InvalidHex, InvalidCodepointValue}
-use Rattle.fancy_pattern.specs.declared.flags.Flags.{Flags}
-use Rattle.fancy_pattern.specs.declared.tokens.Naming.{Naming}
-use Rattle.fancy_pattern.specs.declared.tokens.Naming.TheVariants as naming
+use Rattle.fancy_tokens.specs.declared.error.ErrorKind.TheVariants.{TrailingBackslash, InvalidEscape, UnclosedUnicodeName, InvalidHex, InvalidCodepointValue}
+use Rattle.fancy_tokens.specs.declared.flags.Flags.{Flags}
+use Rattle.fancy_tokens.specs.declared.tokens.Naming.{Naming}
+use Rattle.fancy_tokens.specs.declared.tokens.Naming.TheVariants as naming
 use Rattle.fancy_pattern.specs.Texts.{Text, Read, fault_at, ◌>>=◌, uncons, past_run, past_word}
 use Rattle.fancy_pattern.specs.Numbers.{number_of}
 use Rattle.fancy_pattern.specs.Names.{number_at, delimited_at}
-use Rattle.fancy_pattern.specs.Tokens.{Token, Node, Refer, Number}
+use Rattle.fancy_tokens.specs.Tokens.{Token, Node, Refer, Number}
 
 -- a digit of a hexadecimal number
 abbrev pub is_hex : ℕ → Bool

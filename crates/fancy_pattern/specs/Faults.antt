@@ -2,10 +2,10 @@
 -- pattern.
 use Rattle.std.specs.Prelude.{◌≡◌, List, [], ◌∷◌, ◌++◌, Option, Some, None}
 use Rattle.fancy_meaning.specs.Tree.{Tree}
-use Rattle.fancy_pattern.specs.declared.error.ErrorKind.{ErrorKind}
-use Rattle.fancy_pattern.specs.declared.error.ErrorKind.TheVariants.{InvalidGroupNameBackref}
-use Rattle.fancy_pattern.specs.declared.error.Fault.{Fault}
-use Rattle.fancy_pattern.specs.Tokens.{Reference, Opening, If, Token, Refer, Open, Broken, Placed}
+use Rattle.fancy_tokens.specs.declared.error.ErrorKind.{ErrorKind}
+use Rattle.fancy_tokens.specs.declared.error.ErrorKind.TheVariants.{InvalidGroupNameBackref}
+use Rattle.fancy_tokens.specs.declared.error.Fault.{Fault}
+use Rattle.fancy_tokens.specs.Tokens.{Reference, Opening, If, Token, Refer, Open, Broken, Placed}
 use Rattle.fancy_pattern.specs.Grammar.{Names, first_gives, reference, SpellsAlternatives}
 
 -- what cannot be read says why

@@ -1,8 +1,7 @@
 -- The flags of a pattern: their letters, and the items that set them.
-use Rattle.std.specs.Prelude.{ℕ, Bool, true, false, not, ◌&&◌, List, [], ◌∷◌, Option, Some, None, Ok, Err, if◌then◌else◌, ◌==◌}
-use Rattle.fancy_pattern.specs.declared.error.ErrorKind.{ErrorKind}
-use Rattle.fancy_pattern.specs.declared.error.ErrorKind.TheVariants.{UnknownFlag, NonUnicodeUnsupported, UnclosedOpenParen}
-use Rattle.fancy_pattern.specs.declared.flags.Flags.{Flags}
+use Rattle.std.specs.Prelude.{ℕ, Bool, true, false, not, ◌&&◌, [], ◌∷◌, Option, Some, None, Ok, Err, if◌then◌else◌, ◌==◌}
+use Rattle.fancy_tokens.specs.declared.error.ErrorKind.TheVariants.{UnknownFlag, NonUnicodeUnsupported, UnclosedOpenParen}
+use Rattle.fancy_tokens.specs.declared.flags.Flags.{Flags}
 use Rattle.fancy_pattern.specs.declared.flags.FlagsItem.{FlagsItem}
 use Rattle.fancy_pattern.specs.declared.flags.Letters.{Letters}
 use Rattle.fancy_pattern.specs.declared.flags.LetterStep.{LetterStep}

@@ -1,18 +1,18 @@
 -- The grammar: which tokens spell which tree, as a relation between the tokens before it and those behind. Names are
 -- resolved by the groups that have them, each with its number.
-use Rattle.std.specs.Prelude.{◌≡◌, ℕ, ℤ, ◌-◌, ◌^◌, Bool, true, false, not, ◌&&◌, List, [], ◌∷◌, ◌++◌, map, reverse, filter, encode_utf8_all, codes, Option, Some, None, if◌then◌else◌, ◌==◌}
+use Rattle.std.specs.Prelude.{◌≡◌, ℕ, ℤ, ◌-◌, ◌^◌, Bool, true, false, not, List, [], ◌∷◌, ◌++◌, map, reverse, filter, encode_utf8_all, Option, Some, None}
 use Rattle.fancy_meaning.specs.Tree as tree
 use Rattle.fancy_meaning.specs.Tree.{Tree, trees}
 use Rattle.fancy_expr.specs.Views.{look_of, bound_of}
-use Rattle.fancy_pattern.specs.declared.tokens.Enclosing.{Enclosing}
-use Rattle.fancy_pattern.specs.declared.tokens.Enclosing.TheVariants as enclosing
-use Rattle.fancy_pattern.specs.declared.tokens.Naming.{Naming}
-use Rattle.fancy_pattern.specs.declared.tokens.Naming.TheVariants as naming
-use Rattle.fancy_pattern.specs.declared.tokens.Suffix.{Suffix}
-use Rattle.fancy_pattern.specs.declared.tokens.Suffix.TheVariants.{Turned, Possessive}
-use Rattle.fancy_pattern.specs.declared.tokens.Quantifier.{Quantifier}
-use Rattle.fancy_pattern.specs.declared.tokens.Quantifier.TheVariants.{Star, Plus, Question, Counts}
-use Rattle.fancy_pattern.specs.Tokens.{Target, Name, Number, Nowhere, Reference, Opening, Around, Group, AbsentBar, If, IfPattern, IfLook, Token, Node, Refer, FlagsItem, Open, Bar, Close, Quantified, ClassOpen, ClassText, ClassClose, Broken, Placed}
+use Rattle.fancy_tokens.specs.declared.tokens.Enclosing.{Enclosing}
+use Rattle.fancy_tokens.specs.declared.tokens.Enclosing.TheVariants as enclosing
+use Rattle.fancy_tokens.specs.declared.tokens.Naming.{Naming}
+use Rattle.fancy_tokens.specs.declared.tokens.Naming.TheVariants as naming
+use Rattle.fancy_tokens.specs.declared.tokens.Suffix.{Suffix}
+use Rattle.fancy_tokens.specs.declared.tokens.Suffix.TheVariants.{Turned, Possessive}
+use Rattle.fancy_tokens.specs.declared.tokens.Quantifier.{Quantifier}
+use Rattle.fancy_tokens.specs.declared.tokens.Quantifier.TheVariants.{Star, Plus, Question, Counts}
+use Rattle.fancy_tokens.specs.Tokens.{Target, Name, Number, Nowhere, Reference, Opening, Around, Group, AbsentBar, If, IfPattern, IfLook, Token, Node, Refer, FlagsItem, Open, Bar, Close, Quantified, ClassOpen, ClassText, ClassClose, Placed}
 use Rattle.fancy_pattern.specs.Naming.{numbers_of}
 
 -- the names of groups, each with a number

@@ -1,20 +1,20 @@
 -- What follows an opening parenthesis.
-use Rattle.std.specs.Prelude.{ℕ, ◌+◌, ℤ, Bool, true, false, ◌||◌, List, [], ◌∷◌, length, min, codes, Option, Some, None, option_and_then, Result, Ok, Err, if◌then◌else◌, ◌==◌, nat_le}
+use Rattle.std.specs.Prelude.{ℕ, ◌+◌, ℤ, ◌||◌, length, min, codes, Option, Some, None, option_and_then, Ok, Err, if◌then◌else◌, ◌==◌}
 use Rattle.std.specs.Char.{is_ascii_digit}
 use Rattle.std.specs.List.{take_while}
 use Rattle.fancy_meaning.specs.Tree as tree
 use Rattle.fancy_expr.specs.declared.expr.LookAround.TheVariants as look
-use Rattle.fancy_pattern.specs.declared.error.ErrorKind.TheVariants.{UnclosedOpenParen, UnknownFlag, InvalidBackref, GeneralParseError}
-use Rattle.fancy_pattern.specs.declared.flags.Flags.{Flags}
-use Rattle.fancy_pattern.specs.declared.tokens.Enclosing.{Enclosing}
-use Rattle.fancy_pattern.specs.declared.tokens.Enclosing.TheVariants as enclosing
-use Rattle.fancy_pattern.specs.declared.tokens.Naming.{Naming}
-use Rattle.fancy_pattern.specs.declared.tokens.Naming.TheVariants as naming
+use Rattle.fancy_tokens.specs.declared.error.ErrorKind.TheVariants.{UnclosedOpenParen, UnknownFlag, InvalidBackref, GeneralParseError}
+use Rattle.fancy_tokens.specs.declared.flags.Flags.{Flags}
+use Rattle.fancy_tokens.specs.declared.tokens.Enclosing.{Enclosing}
+use Rattle.fancy_tokens.specs.declared.tokens.Enclosing.TheVariants as enclosing
+use Rattle.fancy_tokens.specs.declared.tokens.Naming.{Naming}
+use Rattle.fancy_tokens.specs.declared.tokens.Naming.TheVariants as naming
 use Rattle.fancy_pattern.specs.Texts.{Text, Read, fault_at, ◌>>=◌, uncons, past_run, past_word, past_common}
 use Rattle.fancy_pattern.specs.Flags.{letters_at, at_first}
 use Rattle.fancy_pattern.specs.Numbers.{number_of}
 use Rattle.fancy_pattern.specs.Names.{name_at, closed_at, level_at, reference_at, delimited_at, named_at}
-use Rattle.fancy_pattern.specs.Tokens.{Number, Reference, Opening, Around, Group, AbsentBar, If, IfPattern, IfLook, Node, Refer, FlagsItem, Open, Item, item}
+use Rattle.fancy_tokens.specs.Tokens.{Number, Opening, Around, Group, AbsentBar, If, IfPattern, IfLook, Node, Refer, FlagsItem, Open, Item, item}
 
 abbrev pub around : Flags → Enclosing → Item
 around f e = item f (Open (Around e))
@@ -173,16 +173,20 @@ pattern_condition_at f text =
       | None ↦ (item f (Open IfPattern), text)
     ]
 
+-- a condition by what names a group between `<` and `>` or quotes
+abbrev pub named_condition_at : Flags → ℕ → Text → Read Item
+named_condition_at f opened text = do
+  r ← delimited_at opened naming.Exists text
+  rest ← closed_at 41 r.1
+  Ok (item f (Open (If r.0)), rest)
+
 -- `<name>)`, `'name')` and the like, or a pattern
 unfoldable pub group_condition_at : Flags → ℕ → Text → Read Item
 group_condition_at f opened text =
     elim (uncons text) [
       | None ↦ Ok (pattern_condition_at f text)
       | Some p ↦ if p.0 == 60 || p.0 == 39
-          then (do
-            r ← delimited_at opened naming.Exists text
-            rest ← closed_at 41 r.1
-            Ok (item f (Open (If r.0)), rest))
+          then named_condition_at f opened text
           else Ok (pattern_condition_at f text)
     ]
 

@@ -3,21 +3,22 @@ use Rattle.std.specs.Prelude.{ℕ, ◌+◌, true, false, not, Option, Some, None
 use Rattle.fancy_meaning.specs.Tree as tree
 use Rattle.fancy_meaning.specs.Tree.{Tree}
 use Rattle.fancy_meaning.specs.WellFormed.{most_groups}
-use Rattle.fancy_pattern.specs.declared.error.ErrorKind.TheVariants.{GeneralParseError}
-use Rattle.fancy_pattern.specs.declared.classes.ClassPlace.{ClassPlace}
-use Rattle.fancy_pattern.specs.declared.classes.Head.TheVariants as head
-use Rattle.fancy_pattern.specs.declared.flags.Flags.{Flags}
-use Rattle.fancy_pattern.specs.declared.items.Lexing.{Lexing}
+use Rattle.fancy_tokens.specs.declared.error.ErrorKind.TheVariants.{GeneralParseError}
+use Rattle.fancy_tokens.specs.declared.lexing.ClassPlace.{ClassPlace}
+use Rattle.fancy_tokens.specs.declared.lexing.Head.TheVariants as head
+use Rattle.fancy_tokens.specs.declared.flags.Flags.{Flags}
+use Rattle.fancy_tokens.specs.declared.lexing.Lexing.{Lexing}
 use Rattle.fancy_pattern.specs.declared.items.Found as code
-use Rattle.fancy_pattern.specs.declared.tokens.Quantifier.{Quantifier}
-use Rattle.fancy_pattern.specs.declared.tokens.Quantifier.TheVariants.{Star, Plus, Question}
+use Rattle.fancy_tokens.specs.declared.tokens.Quantifier.{Quantifier}
+use Rattle.fancy_tokens.specs.declared.tokens.Quantifier.TheVariants.{Star, Plus, Question}
 use Rattle.fancy_pattern.specs.Texts.{Text, Read, fault_at, ◌>>=◌, uncons}
-use Rattle.fancy_pattern.specs.Tokens.{Opening, Group, Token, Node, Open, Bar, Close, Quantified, ClassOpen, Item, item}
+use Rattle.fancy_tokens.specs.Tokens.{Token, Node, Open, Bar, Close, Quantified, ClassOpen, Item, item}
 use Rattle.fancy_pattern.specs.Escapes.{escape_at}
 use Rattle.fancy_pattern.specs.Quantifiers.{counts_at}
 use Rattle.fancy_pattern.specs.Groups.{opening_at}
 use Rattle.fancy_pattern.specs.Classes.{class_item_at}
-use Rattle.fancy_pattern.specs.PatternViews.{token_of}
+use Rattle.fancy_tokens.specs.PatternViews.{token_of}
+use Rattle.fancy_tokens.specs.Nesting.{opened_by}
 
 -- `.`, by `s` and `R`
 abbrev pub any_of : Flags → Tree
@@ -80,15 +81,6 @@ item_at f opened text =
             else Ok (item f (literal f p.0), p.1)
       ]
     ]
-
-abbrev pub group_opened_by : Opening → ℕ
-group_opened_by (Group number name) = 1
-group_opened_by o = 0
-
--- how many groups a token opens
-abbrev pub opened_by : Token → ℕ
-opened_by (Open o) = group_opened_by o
-opened_by t = 0
 
 -- the class that is open behind a token
 abbrev pub class_of : Token → ClassPlace

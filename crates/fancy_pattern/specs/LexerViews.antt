@@ -1,10 +1,10 @@
 -- The contracts of the lexer's calls.
-use Rattle.std.specs.Prelude.{◌≡◌, ℕ, Bool, true, false, List, [], ◌∷◌, ◌++◌, map}
+use Rattle.std.specs.Prelude.{◌≡◌, Bool, true, false, List, [], ◌∷◌, ◌++◌, map}
 use Rattle.fancy_pattern.specs.declared.lexer.Lexer.{Lexer}
 use Rattle.fancy_pattern.specs.Texts.{Text}
-use Rattle.fancy_pattern.specs.Tokens.{Placed}
+use Rattle.fancy_tokens.specs.Tokens.{Placed}
 use Rattle.fancy_pattern.specs.Lexing.{State, Lexes}
-use Rattle.fancy_pattern.specs.PatternViews.{placed_of}
+use Rattle.fancy_tokens.specs.PatternViews.{placed_of}
 
 abbrev pub state_of : Lexer → State
 state_of l = record { now = l.now; outer = l.outer.items }

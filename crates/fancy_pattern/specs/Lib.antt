@@ -1,12 +1,10 @@
 pub mod Texts
 pub mod Flags
 pub mod Numbers
-pub mod Tokens
 pub mod Names
 pub mod Escapes
 pub mod Quantifiers
 pub mod Groups
-pub mod PatternViews
 pub mod Classes
 pub mod Items
 pub mod Lone

@@ -1,14 +1,21 @@
 -- Tokens that are found at once, and what holds behind them.
-use Rattle.std.specs.Prelude.{◌+◌, None}
-use Rattle.fancy_pattern.specs.declared.classes.ClassPlace.{ClassPlace}
-use Rattle.fancy_pattern.specs.declared.classes.Head.TheVariants as head
-use Rattle.fancy_pattern.specs.declared.items.Lexing.{Lexing}
-use Rattle.fancy_pattern.specs.Tokens.{Token, Open, Group}
+use Rattle.std.specs.Prelude.{◌≡◌, ◌+◌, None}
+use Rattle.fancy_tokens.specs.declared.lexing.ClassPlace.{ClassPlace}
+use Rattle.fancy_tokens.specs.declared.lexing.Head.TheVariants as head
+use Rattle.fancy_tokens.specs.declared.lexing.Lexing.{Lexing}
+use Rattle.fancy_tokens.specs.Tokens.{Token, Open, Group}
 use Rattle.fancy_pattern.specs.Classes.{ClassItem}
-use Rattle.fancy_pattern.specs.Items.{Found}
+use Rattle.fancy_tokens.specs.Nesting.{opened_by}
+use Rattle.fancy_pattern.specs.Items.{Found, IsLone, class_of}
 
 abbrev pub no_class : ClassPlace
 no_class = record { depth = 0; head = head.Inner }
+
+-- outside of classes, a token behind which nothing changes
+pub record IsQuiet (t : Token) : Type 0 where
+  pub lone : IsLone t
+  pub opens_none : opened_by t ≡ 0
+  pub no_class_behind : class_of t ≡ no_class
 
 -- a token of a class, and the place behind it
 abbrev pub class_token : Token → ClassPlace → ClassItem

@@ -1,7 +1,7 @@
 -- What is said of a pattern that cannot be read.
 use Rattle.std.specs.Prelude.{◌++◌, ℕ, List, codes, decimal}
-use Rattle.fancy_pattern.specs.declared.error.ErrorKind.{ErrorKind}
-use Rattle.fancy_pattern.specs.declared.error.ErrorKind.TheVariants as kind
+use Rattle.fancy_tokens.specs.declared.error.ErrorKind.{ErrorKind}
+use Rattle.fancy_tokens.specs.declared.error.ErrorKind.TheVariants as kind
 use Rattle.fancy_pattern.specs.declared.error.PatternError.{PatternError}
 use Rattle.fancy_pattern.specs.declared.error.PatternError.TheVariants.{Memory, Parse}
 

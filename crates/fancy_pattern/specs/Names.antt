@@ -1,14 +1,14 @@
 -- The names of groups, and what names a group.
-use Rattle.std.specs.Prelude.{ℕ, ◌+◌, ◌-◌, ◌^◌, ℤ, Bool, true, false, ◌&&◌, List, [], ◌∷◌, length, Option, Some, None, Result, Ok, Err, if◌then◌else◌, ◌==◌, nat_lt, nat_le}
+use Rattle.std.specs.Prelude.{ℕ, ◌+◌, ◌-◌, ◌^◌, ℤ, Bool, true, false, ◌&&◌, length, Option, Some, None, Result, Ok, Err, if◌then◌else◌, ◌==◌, nat_lt, nat_le}
 use Rattle.std.specs.Char.{is_ascii_digit}
 use Rattle.std.specs.List.{take_while}
-use Rattle.fancy_pattern.specs.declared.error.ErrorKind.TheVariants.{InvalidGroupName, InvalidBackref}
-use Rattle.fancy_pattern.specs.declared.error.Fault.{Fault}
-use Rattle.fancy_pattern.specs.declared.tokens.Naming.{Naming}
-use Rattle.fancy_pattern.specs.declared.tokens.Naming.TheVariants.{Backref, Exists, Call}
+use Rattle.fancy_tokens.specs.declared.error.ErrorKind.TheVariants.{InvalidGroupName, InvalidBackref}
+use Rattle.fancy_tokens.specs.declared.error.Fault.{Fault}
+use Rattle.fancy_tokens.specs.declared.tokens.Naming.{Naming}
+use Rattle.fancy_tokens.specs.declared.tokens.Naming.TheVariants.{Backref, Exists, Call}
 use Rattle.fancy_pattern.specs.Texts.{Text, Read, fault_at, ◌>>=◌, uncons, past_run, is_name_start, is_name_char}
 use Rattle.fancy_pattern.specs.Numbers.{number_of, level_of}
-use Rattle.fancy_pattern.specs.Tokens.{Target, Name, Number, Nowhere, Reference}
+use Rattle.fancy_tokens.specs.Tokens.{Target, Name, Number, Nowhere, Reference}
 
 -- a letter or `_`, then letters, digits and `_`
 unfoldable pub name_at : Text → Read Text

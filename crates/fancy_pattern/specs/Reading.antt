@@ -8,11 +8,11 @@ use Rattle.fancy_expr.specs.Views.{tree_of}
 use Rattle.fancy_expr.specs.declared.expr.Expr.{Expr}
 use Rattle.fancy_pattern.specs.declared.failure.Failure.{Failure}
 use Rattle.fancy_pattern.specs.declared.reader.Reader.{Reader}
-use Rattle.fancy_pattern.specs.declared.tokens.Quantifier.{Quantifier}
-use Rattle.fancy_pattern.specs.declared.tokens.Suffix.{Suffix}
-use Rattle.fancy_pattern.specs.Tokens.{Token, Placed}
+use Rattle.fancy_tokens.specs.declared.tokens.Quantifier.{Quantifier}
+use Rattle.fancy_tokens.specs.declared.tokens.Suffix.{Suffix}
+use Rattle.fancy_tokens.specs.Tokens.{Token, Placed}
 use Rattle.fancy_pattern.specs.Grammar.{Names, first_gives, is_at, is_branch_end, is_empty, is_repeatable, quantifier, closing, class_of, suffixed, alternated, node_of, Takes, SpellsSuffix, SpellsClass, SpellsPiece, SpellsBars, SpellsAlternatives}
-use Rattle.fancy_pattern.specs.PatternViews.{placed_of}
+use Rattle.fancy_tokens.specs.PatternViews.{placed_of}
 
 -- the tokens that are left
 abbrev pub point_of : Reader → List Placed

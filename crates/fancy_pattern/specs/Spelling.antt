@@ -4,15 +4,15 @@ use Rattle.std.specs.List.{list_any}
 use Rattle.fancy_meaning.specs.Tree.{Tree}
 use Rattle.fancy_expr.specs.declared.expr.ExprTree.{ExprTree}
 use Rattle.fancy_expr.specs.Views.{tree_of}
-use Rattle.fancy_pattern.specs.declared.error.Fault.{Fault}
+use Rattle.fancy_tokens.specs.declared.error.Fault.{Fault}
 use Rattle.fancy_pattern.specs.declared.error.PatternError.{PatternError}
 use Rattle.fancy_pattern.specs.declared.error.PatternError.TheVariants.{Parse, Memory}
 use Rattle.fancy_pattern.specs.declared.failure.Failure.{Failure}
 use Rattle.fancy_pattern.specs.declared.failure.Failure.TheVariants as failure
-use Rattle.fancy_pattern.specs.declared.flags.Flags.{Flags}
+use Rattle.fancy_tokens.specs.declared.flags.Flags.{Flags}
 use Rattle.fancy_pattern.specs.declared.options.ParseOptions.{ParseOptions}
 use Rattle.fancy_pattern.specs.Texts.{Text}
-use Rattle.fancy_pattern.specs.Tokens.{Opening, Group, Token, Open, Placed}
+use Rattle.fancy_tokens.specs.Tokens.{Opening, Group, Token, Open, Placed}
 use Rattle.fancy_pattern.specs.Lexing.{Lexes, at_start}
 use Rattle.fancy_pattern.specs.Naming.{named_in}
 use Rattle.fancy_pattern.specs.Grammar.{SpellsAlternatives}

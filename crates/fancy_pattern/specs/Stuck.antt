@@ -1,11 +1,11 @@
 -- Where a call of the reader is stuck: at a token that cannot stand there, whatever follows it.
 use Rattle.std.specs.Prelude.{◌≡◌, ℕ, Bool, true, not, List, [], ◌∷◌, ◌++◌, length, Option, None}
 use Rattle.fancy_meaning.specs.Tree.{Tree}
-use Rattle.fancy_pattern.specs.declared.error.ErrorKind.TheVariants.{InvalidGroupNameBackref}
-use Rattle.fancy_pattern.specs.declared.error.Fault.{Fault}
+use Rattle.fancy_tokens.specs.declared.error.ErrorKind.TheVariants.{InvalidGroupNameBackref}
+use Rattle.fancy_tokens.specs.declared.error.Fault.{Fault}
 use Rattle.fancy_pattern.specs.declared.failure.Failure.{Failure}
 use Rattle.fancy_pattern.specs.declared.failure.Failure.TheVariants as failure
-use Rattle.fancy_pattern.specs.Tokens.{Reference, Opening, If, Token, Refer, Placed}
+use Rattle.fancy_tokens.specs.Tokens.{Reference, Opening, If, Token, Refer, Placed}
 use Rattle.fancy_pattern.specs.Grammar.{Names, is_at, gives_some, quantifier, closing, reference, SpellsOpened}
 use Rattle.fancy_pattern.specs.Faults.{MisfitAt, IsPlace}
 

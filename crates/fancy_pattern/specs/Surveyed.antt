@@ -6,7 +6,7 @@ use Rattle.fancy_meaning.specs.Nodes.{nodes}
 use Rattle.fancy_meaning.specs.WellFormed.{is_any_call}
 use Rattle.fancy_pattern.specs.declared.survey.Survey.{Survey}
 use Rattle.fancy_pattern.specs.declared.facts.Facts.{Facts}
-use Rattle.fancy_pattern.specs.Tokens.{Token, Placed}
+use Rattle.fancy_tokens.specs.Tokens.{Token, Placed}
 use Rattle.fancy_pattern.specs.Faults.{referring}
 use Rattle.fancy_pattern.specs.Described.{references, opens_group, names_number}
 

@@ -1,12 +1,12 @@
 -- The words in which the characters of a pattern are read from the front.
-use Rattle.std.specs.Prelude.{ℕ, Bool, true, false, not, ◌&&◌, ◌||◌, List, [], ◌∷◌, length, drop, Option, Some, None, Result, Ok, Err, if◌then◌else◌, ◌==◌, codes}
+use Rattle.std.specs.Prelude.{ℕ, Bool, false, not, ◌&&◌, ◌||◌, List, [], ◌∷◌, length, drop, Option, Some, None, Result, Ok, Err, if◌then◌else◌, ◌==◌, codes}
 use Rattle.std.specs.Char.{is_ascii_digit, is_digit}
 use Rattle.std.specs.List.{take_while}
 use Rattle.unicode.specs.Binary.{is_alphabetic}
 use Rattle.fancy_pattern.specs.declared.characters.Test.{Test}
 use Rattle.fancy_pattern.specs.declared.characters.Test.TheVariants.{Digit, HexDigit, NameChar, Blank, InLine, InBraces}
-use Rattle.fancy_pattern.specs.declared.error.Fault.{Fault}
-use Rattle.fancy_pattern.specs.declared.error.ErrorKind.{ErrorKind}
+use Rattle.fancy_tokens.specs.declared.error.Fault.{Fault}
+use Rattle.fancy_tokens.specs.declared.error.ErrorKind.{ErrorKind}
 
 -- the characters that are left to read
 abbrev pub Text : Type 0

@@ -3,14 +3,14 @@
 ghost use Rattle.std.specs.Prelude.{◌≡◌, List, length, map, chars, IfOk};
 ghost use Rattle.fancy_pattern.specs.AtomSpans.{AreAtomSpans, class_end, is_class_close, leaf_count, left_of, leaves_of, one_at_least, span_end, spans_from};
 ghost use Rattle.fancy_pattern.specs.Naming.{pairs_in};
-ghost use Rattle.fancy_pattern.specs.PatternViews.{kept_of, placed_of, reference_of, target_of, token_of};
+ghost use Rattle.fancy_tokens.specs.PatternViews.{kept_of, placed_of, reference_of, target_of, token_of};
 
 use crate::facts::Facts;
 use crate::group_names::GroupNames;
-use crate::kept::{Kept, Placed};
 use crate::options::ParseOptions;
 use crate::pattern::{chars_of, tokens};
-use crate::tokens::{Opening, Target, Token};
+use fancy_tokens::kept::{Kept, Placed};
+use fancy_tokens::tokens::{Opening, Target, Token};
 use std::alloc::{AllocError, Global};
 
 /// An atom of a pattern: the characters of the pattern from `start` up to `end`, and how many leaves of the tree stand for

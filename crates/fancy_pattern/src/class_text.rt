@@ -1,9 +1,9 @@
 //! The text of a class as it is handed on.
 
 ghost use Rattle.std.specs.Prelude.{◌≡◌, ◌++◌, [], ◌∷◌, ◌/◌, ◌%◌, ◌≤◌, OnOk, encode_utf8_all, string_bytes};
-ghost use Rattle.fancy_pattern.specs.PatternViews.{piece_text, code_text, hex_digit, hex_length, hex_digits, hex_digits_text};
+ghost use Rattle.fancy_tokens.specs.PatternViews.{piece_text, code_text, hex_digit, hex_length, hex_digits, hex_digits_text};
 
-use crate::tokens::ClassPiece;
+use fancy_tokens::tokens::ClassPiece;
 use std::alloc::AllocError;
 
 const HEX_DIGITS: [char; 9] = ['0', '-', '9', 'A', '-', 'F', 'a', '-', 'f'];

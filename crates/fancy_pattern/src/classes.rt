@@ -6,30 +6,15 @@ ghost use Rattle.fancy_pattern.specs.Classes as plain;
 ghost use Rattle.fancy_pattern.specs.Classes.{inner, fixed_escape, own_piece, coded_at, kept_set_at, other_class_escape_at, class_escape_at, bracket, caret, class_item_at};
 ghost use Rattle.fancy_pattern.specs.Items.{IsLone};
 ghost use Rattle.fancy_pattern.specs.Lone.{class_token};
-ghost use Rattle.fancy_pattern.specs.PatternViews.{kept_of, piece_text, token_of};
+ghost use Rattle.fancy_tokens.specs.PatternViews.{kept_of, piece_text, token_of};
 
 use crate::characters::first;
-use crate::error::{ErrorKind, Fault, fault_at};
+use crate::error::fault_at;
 use crate::escapes::{hex_at, property_at};
-use crate::kept::Kept;
-use crate::tokens::{ClassPiece, Token};
-
-/// How far a class has come.
-#[derive(Clone, Copy)]
-pub enum Head {
-    /// Directly behind a `[`.
-    Start,
-    /// Directly behind `[^`.
-    Caret,
-    Inner,
-}
-
-/// How many classes are open, one in the other, and how far the innermost has come.
-#[derive(Clone, Copy)]
-pub struct ClassPlace {
-    pub depth: usize,
-    pub head: Head,
-}
+use fancy_tokens::error::{ErrorKind, Fault};
+use fancy_tokens::kept::Kept;
+use fancy_tokens::lexing::{ClassPlace, Head};
+use fancy_tokens::tokens::{ClassPiece, Token};
 
 /// A token of a class, and the place behind it.
 #[derive(Clone, Copy)]

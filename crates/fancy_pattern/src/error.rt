@@ -2,40 +2,14 @@
 
 ghost use Rattle.std.specs.Prelude.{◌≡◌};
 ghost use Rattle.fancy_pattern.specs.Texts.{fault_at};
+ghost use Rattle.fancy_pattern.specs.Messages.{kind_text};
 ghost use Rattle.fancy_pattern.specs.declared.error.PatternError.TheVariants.{Memory};
 
+pub use fancy_tokens::error::ErrorKind;
+use fancy_tokens::error::Fault;
 use std::alloc::AllocError;
 use std::error::Error;
 use std::fmt;
-
-/// What is wrong, by the names of fancy-regex.
-#[derive(Clone, Copy, Debug, PartialEq, Eq)]
-pub enum ErrorKind {
-    UnclosedOpenParen,
-    UnopenedCloseParen,
-    InvalidRepeat,
-    RecursionExceeded,
-    TrailingBackslash,
-    InvalidEscape,
-    UnclosedUnicodeName,
-    InvalidHex,
-    InvalidCodepointValue,
-    InvalidClass,
-    UnknownFlag,
-    NonUnicodeUnsupported,
-    InvalidGroupName,
-    InvalidGroupNameBackref,
-    InvalidBackref,
-    TargetNotRepeatable,
-    GeneralParseError,
-}
-
-/// A fault, and how many characters of the pattern begin where it is.
-#[derive(Clone, Copy)]
-pub struct Fault {
-    pub left: usize,
-    pub kind: ErrorKind,
-}
 
 /// A fault at the front of what is left.
 pub(crate) fn fault_at(kind: ErrorKind, text: &[char]) -> Fault
@@ -64,40 +38,36 @@ impl From<AllocError> for PatternError {
     }
 }
 
-impl ErrorKind {
-    ghost use Rattle.fancy_pattern.specs.Messages.{kind_text};
-
-    /// What stands there, and what was wanted.
-    fn text(self) -> &'static str
-        ensures { result.now ≡ kind_text self }
-    {
-        match self {
-            ErrorKind::UnclosedOpenParen => "a parenthesis is not closed: `)` is wanted",
-            ErrorKind::UnopenedCloseParen => "a `)` closes no parenthesis",
-            ErrorKind::InvalidRepeat => {
-                "the counts of a loop are out of order or too large: the first is to be at most the second"
-            }
-            ErrorKind::RecursionExceeded => "parentheses nest deeper than 250",
-            ErrorKind::TrailingBackslash =>
-                "a backslash ends the pattern: a character is wanted behind it",
-            ErrorKind::InvalidEscape => "no escape has this letter",
-            ErrorKind::UnclosedUnicodeName => "a property has no name, or its `}` is missing",
-            ErrorKind::InvalidHex =>
-                "a hexadecimal digit is wanted, or the `}` behind one to eight of them",
-            ErrorKind::InvalidCodepointValue => "no character has this number",
-            ErrorKind::InvalidClass => "a class is not closed: `]` is wanted",
-            ErrorKind::UnknownFlag => "no flag stands here: one of `imsxRUu` is wanted",
-            ErrorKind::NonUnicodeUnsupported => "the flag `u` cannot be cleared",
-            ErrorKind::InvalidGroupName => {
-                "this names no group: a letter or `_` is wanted, or a number, and what closes it"
-            }
-            ErrorKind::InvalidGroupNameBackref =>
-                "several groups have this name, so it cannot be called",
-            ErrorKind::InvalidBackref => "the number is too large",
-            ErrorKind::TargetNotRepeatable => "a quantifier follows nothing that can be repeated",
-            ErrorKind::GeneralParseError => {
-                "no verb goes on here, or there are more than a million groups"
-            }
+/// What stands there, and what was wanted.
+fn kind_text(kind: ErrorKind) -> &'static str
+    ensures { result.now ≡ kind_text kind }
+{
+    match kind {
+        ErrorKind::UnclosedOpenParen => "a parenthesis is not closed: `)` is wanted",
+        ErrorKind::UnopenedCloseParen => "a `)` closes no parenthesis",
+        ErrorKind::InvalidRepeat => {
+            "the counts of a loop are out of order or too large: the first is to be at most the second"
+        }
+        ErrorKind::RecursionExceeded => "parentheses nest deeper than 250",
+        ErrorKind::TrailingBackslash =>
+            "a backslash ends the pattern: a character is wanted behind it",
+        ErrorKind::InvalidEscape => "no escape has this letter",
+        ErrorKind::UnclosedUnicodeName => "a property has no name, or its `}` is missing",
+        ErrorKind::InvalidHex =>
+            "a hexadecimal digit is wanted, or the `}` behind one to eight of them",
+        ErrorKind::InvalidCodepointValue => "no character has this number",
+        ErrorKind::InvalidClass => "a class is not closed: `]` is wanted",
+        ErrorKind::UnknownFlag => "no flag stands here: one of `imsxRUu` is wanted",
+        ErrorKind::NonUnicodeUnsupported => "the flag `u` cannot be cleared",
+        ErrorKind::InvalidGroupName => {
+            "this names no group: a letter or `_` is wanted, or a number, and what closes it"
+        }
+        ErrorKind::InvalidGroupNameBackref =>
+            "several groups have this name, so it cannot be called",
+        ErrorKind::InvalidBackref => "the number is too large",
+        ErrorKind::TargetNotRepeatable => "a quantifier follows nothing that can be repeated",
+        ErrorKind::GeneralParseError => {
+            "no verb goes on here, or there are more than a million groups"
         }
     }
 }
@@ -111,7 +81,7 @@ impl fmt::Display for PatternError {
     fn fmt<W: fmt::Write>(&self, f: &mut fmt::Formatter<W>) -> fmt::Result {
         match self {
             PatternError::Parse { at, kind } => {
-                let text = kind.text();
+                let text = kind_text(*kind);
                 write!(f, "at byte {at}: {text}")
             }
             PatternError::Memory => write!(f, "memory ran out"),

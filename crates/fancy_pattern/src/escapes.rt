@@ -4,17 +4,18 @@ ghost use Rattle.std.specs.Prelude.{◌≡◌, ◌^◌, ◌<◌, ◌≤◌, ◌+
 ghost use Rattle.fancy_expr.specs.Views.{assertion_of};
 ghost use Rattle.fancy_pattern.specs.Texts.{seen};
 ghost use Rattle.fancy_pattern.specs.Escapes.{leaf_escape, char_of, hex_at, braced_hex_at, bare_hex_at, property_length, property_at, boundary_at, numbered_at, escape_at, literal_escape, own_escape, literal_at, set, set_at, refer_at, is_set, other_escape_at};
-ghost use Rattle.fancy_pattern.specs.Tokens.{Node};
-ghost use Rattle.fancy_pattern.specs.PatternViews.{leaf_of, reference_of, token_of};
+ghost use Rattle.fancy_tokens.specs.Tokens.{Node};
+ghost use Rattle.fancy_tokens.specs.PatternViews.{leaf_of, reference_of, token_of};
 
 use crate::characters::{Test, first, past_word, run_length, split_run};
-use crate::error::{ErrorKind, Fault, fault_at};
-use crate::flags::Flags;
-use crate::items::Lexing;
+use crate::error::fault_at;
 use crate::names::{delimited_at, number_at};
 use crate::numbers::number;
-use crate::tokens::{Leaf, Naming, Reference, Target, Token};
 use fancy_expr::expr::Assertion;
+use fancy_tokens::error::{ErrorKind, Fault};
+use fancy_tokens::flags::Flags;
+use fancy_tokens::lexing::Lexing;
+use fancy_tokens::tokens::{Leaf, Naming, Reference, Target, Token};
 
 /// The character with the number that these hexadecimal digits write.
 fn char_of(digits: &[char]) -> Option<char>

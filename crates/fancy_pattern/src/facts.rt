@@ -6,10 +6,10 @@ ghost use Rattle.fancy_pattern.specs.Faults.{asked_by};
 ghost use Rattle.fancy_pattern.specs.Described.{by_number, names_number, asks_number, is_group, opens_group};
 ghost use Rattle.fancy_pattern.specs.Surveyed.{names_group};
 ghost use Rattle.fancy_pattern.specs.Spelling.{has_name, opens_named};
-ghost use Rattle.fancy_pattern.specs.PatternViews.{kept_of, placed_of, token_of, opening_of, target_of};
+ghost use Rattle.fancy_tokens.specs.PatternViews.{kept_of, placed_of, token_of, opening_of, target_of};
 
-use crate::kept::{Kept, Placed};
-use crate::tokens::{Opening, Target, Token};
+use fancy_tokens::kept::{Kept, Placed};
+use fancy_tokens::tokens::{Opening, Target, Token};
 
 /// What tokens say of groups.
 #[derive(Clone, Copy)]

@@ -3,7 +3,7 @@
 ghost use Rattle.std.specs.Prelude.{◌≡◌};
 ghost use Rattle.fancy_pattern.specs.declared.failure.Failure.TheVariants.{Memory};
 
-use crate::error::Fault;
+use fancy_tokens::error::Fault;
 use std::alloc::{AllocError, AllocFailed};
 
 /// Why a call of the parser has no result.

@@ -5,30 +5,9 @@ ghost use Rattle.fancy_pattern.specs.Texts.{seen};
 ghost use Rattle.fancy_pattern.specs.Flags.{with_letter, letter_step, end_step, minus_step, flag_step, letters_at, at_first};
 
 use crate::characters::first;
-use crate::error::{ErrorKind, Fault, fault_at};
-
-/// The flags that hold at a place of a pattern.
-#[derive(Clone, Copy)]
-pub struct Flags {
-    /// `i`
-    pub casei: bool,
-    /// `m`
-    pub multi_line: bool,
-    /// `s`
-    pub dot_all: bool,
-    /// `x`
-    pub ignore_whitespace: bool,
-    /// `R`
-    pub crlf: bool,
-    /// `U`
-    pub swap_greed: bool,
-    /// `u`
-    pub unicode: bool,
-    /// At a line's start is what Oniguruma takes for it. No letter sets this.
-    pub oniguruma: bool,
-    /// A plain `( )` captures nothing. No letter sets this.
-    pub named_only: bool,
-}
+use crate::error::fault_at;
+use fancy_tokens::error::{ErrorKind, Fault};
+use fancy_tokens::flags::Flags;
 
 /// The flags with the one of this letter set or cleared.
 pub(crate) fn with_letter(flags: Flags, letter: char, on: bool) -> Option<Flags>

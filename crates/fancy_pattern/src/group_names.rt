@@ -3,8 +3,8 @@
 ghost use Rattle.std.specs.Prelude.{◌≡◌, ℕ, List, map, string_bytes};
 ghost use Rattle.fancy_pattern.specs.Naming.{numbers_of, numbers_in, pairs_in};
 
-use crate::kept::Placed;
 use crate::named::{numbers_of, pairs_of, text_of};
+use fancy_tokens::kept::Placed;
 use std::alloc::{AllocError, Global};
 use std::collections::BTreeMap;
 
@@ -21,7 +21,7 @@ impl GroupNames {
     ghost use Rattle.std.specs.List.{list_any};
     ghost use Rattle.fancy_pattern.specs.Spelling.{opens_named};
     ghost use Rattle.fancy_pattern.specs.Naming.{named_in};
-    ghost use Rattle.fancy_pattern.specs.PatternViews.{placed_of};
+    ghost use Rattle.fancy_tokens.specs.PatternViews.{placed_of};
 
     /// The names of these tokens, of which `has_names` tells whether there are any.
     pub(crate) fn of(

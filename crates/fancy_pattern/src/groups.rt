@@ -4,18 +4,20 @@ ghost use Rattle.std.specs.Prelude.{◌≡◌, ◌+◌, ◌^◌, ◌<◌, ◌≤
 ghost use Rattle.fancy_meaning.specs.WellFormed.{most_groups};
 ghost use Rattle.fancy_expr.specs.Views.{verb_of, look_of};
 ghost use Rattle.fancy_pattern.specs.Texts.{seen, past_common};
-ghost use Rattle.fancy_pattern.specs.Tokens as tokens;
+ghost use Rattle.fancy_tokens.specs.Tokens as tokens;
 ghost use Rattle.fancy_pattern.specs.Groups as plain;
-ghost use Rattle.fancy_pattern.specs.Groups.{plain_group, named_group_at, call_at, numbered_call_at, verb_word_at, past_verb_at, verb_at, absent_at, angle_at, python_at, condition_number_at, condition_at, condition_by_group_at, group_condition_at, look_at, pattern_condition_at, flags_item_at, minus_at, enclosing_of, other_question_at, question_at, opening_at};
-ghost use Rattle.fancy_pattern.specs.PatternViews.{item_of, opening_of, reference_of, target_of};
+ghost use Rattle.fancy_pattern.specs.Groups.{plain_group, named_group_at, call_at, numbered_call_at, verb_word_at, past_verb_at, verb_at, absent_at, angle_at, python_at, condition_number_at, condition_at, condition_by_group_at, named_condition_at, group_condition_at, look_at, pattern_condition_at, flags_item_at, minus_at, enclosing_of, other_question_at, question_at, opening_at};
+ghost use Rattle.fancy_tokens.specs.PatternViews.{item_of, opening_of, reference_of, target_of};
 
 use crate::characters::{Test, first, past_word, split_run};
-use crate::error::{ErrorKind, Fault, fault_at};
-use crate::flags::{Flags, flags_at};
+use crate::error::fault_at;
+use crate::flags::flags_at;
 use crate::names::{closed_at, delimited_at, level_at, name_at, named_at, reference_at};
 use crate::numbers::number;
-use crate::tokens::{Enclosing, Item, Leaf, Naming, Opening, Reference, Target, Token};
 use fancy_expr::expr::{BacktrackingControlVerb, LookAround};
+use fancy_tokens::error::{ErrorKind, Fault};
+use fancy_tokens::flags::Flags;
+use fancy_tokens::tokens::{Enclosing, Item, Leaf, Naming, Opening, Reference, Target, Token};
 
 /// A plain `(`: a group, unless only groups with names capture.
 fn plain_group<'a>(flags: Flags, opened: usize) -> Opening<'a>
@@ -379,7 +381,22 @@ fn condition_by_group_at<'a>(
     Ok((Item::new(flags, Token::Open(Opening::If(reference))), rest))
 }
 
-/// A condition by what names a group between `<` and `>` or quotes, or one that is a pattern.
+/// A condition by what names a group between `<` and `>` or quotes.
+fn named_condition_at(
+    flags: Flags,
+    opened: usize,
+    text: &[char],
+) -> Result<(Item<'_>, &[char]), Fault>
+    ensures value { seen (λ p. (item_of p.0, p.1.now)) result
+        ≡ named_condition_at flags opened text.now }
+    ensures shorter { IfOk result (λ p. length p.1.now ≤ length text.now) }
+{
+    let (reference, rest) = delimited_at(opened, Naming::Exists, text)?;
+    let rest = closed_at(')', rest)?;
+    Ok((Item::new(flags, Token::Open(Opening::If(reference))), rest))
+}
+
+/// The same, or a condition that is a pattern.
 #[tactic(auto, unfolding(crate::specs::Groups::group_condition_at))]
 fn group_condition_at(
     flags: Flags,
@@ -391,11 +408,8 @@ fn group_condition_at(
     ensures shorter { IfOk result (λ p. length p.1.now ≤ length text.now) }
 {
     match first(text) {
-        Some((c, _)) if c == '<' || c == '\'' => {
-            let (reference, rest) = delimited_at(opened, Naming::Exists, text)?;
-            let rest = closed_at(')', rest)?;
-            Ok((Item::new(flags, Token::Open(Opening::If(reference))), rest))
-        }
+        Some(('<', _)) => named_condition_at(flags, opened, text),
+        Some(('\'', _)) => named_condition_at(flags, opened, text),
         _ => Ok(pattern_condition_at(flags, text)),
     }
 }

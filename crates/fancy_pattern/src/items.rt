@@ -1,36 +1,31 @@
 //! The token at the front of a text.
 
-ghost use Rattle.std.specs.Prelude.{◌≡◌, ◌+◌, ◌^◌, ◌<◌, ◌≤◌, length, Ok, IfOk, IfSome, option_map, None};
+ghost use Rattle.std.specs.Prelude.{◌≡◌, ◌≢◌, ◌+◌, ◌^◌, ◌<◌, ◌≤◌, length, Ok, IfOk, IfSome, option_map, None, false};
 ghost use Rattle.fancy_meaning.specs.WellFormed.{most_groups};
-ghost use Rattle.fancy_pattern.specs.Texts.{seen, gap_at};
+ghost use Rattle.fancy_pattern.specs.Texts.{Text, seen, gap_at};
+ghost use Rattle.fancy_pattern.specs.Escapes.{escape_at};
 ghost use Rattle.fancy_meaning.specs.Tree.{Literal};
 ghost use Rattle.fancy_pattern.specs.Items as plain;
-ghost use Rattle.fancy_pattern.specs.Items.{any_of, start_of, end_of, quantified, brace_at, sign_token, item_at, opened_by, class_of, outside_at, within_at, IsLone, lone_found, found_at};
-ghost use Rattle.fancy_pattern.specs.Lone.{no_class, lone_in, next_group};
-ghost use Rattle.fancy_pattern.specs.Tokens.{Close};
-ghost use Rattle.fancy_pattern.specs.PatternViews.{leaf_of, kept_of, token_of, item_of, opening_of};
+ghost use Rattle.fancy_pattern.specs.Items.{any_of, start_of, end_of, quantified, brace_at, sign_token, item_at, class_of, outside_at, within_at, IsLone, lone_found, found_at};
+ghost use Rattle.fancy_pattern.specs.Lone.{no_class, lone_in, next_group, IsQuiet};
+ghost use Rattle.fancy_tokens.specs.Tokens.{Close, item};
+ghost use Rattle.fancy_tokens.specs.PatternViews.{leaf_of, kept_of, token_of, item_of, opening_of};
 
 use crate::characters::first;
-use crate::classes::{ClassPlace, Head, class_char_at, class_item_at};
-use crate::error::{ErrorKind, Fault, fault_at};
+use crate::classes::{class_char_at, class_item_at};
+use crate::error::fault_at;
 use crate::escapes::{escape_at, leaf_escape_at, set_escape_at};
-use crate::flags::Flags;
 use crate::groups::opening_at;
-use crate::kept::{Kept, narrow_quantifier};
+use crate::kept::narrow_quantifier;
 use crate::quantifiers::counts_at;
-use crate::tokens::{Item, Leaf, Opening, Quantifier, Token};
 use fancy_expr::expr::Assertion;
 use fancy_expr::well_formed::MOST_GROUPS;
-
-/// What holds at a place of a pattern.
-#[derive(Clone, Copy)]
-pub struct Lexing {
-    pub flags: Flags,
-    /// How many groups were opened.
-    pub opened: usize,
-    /// The class that is open; with depth 0 none is.
-    pub class: ClassPlace,
-}
+use fancy_tokens::error::{ErrorKind, Fault};
+use fancy_tokens::flags::Flags;
+use fancy_tokens::kept::Kept;
+use fancy_tokens::lexing::{ClassPlace, Head, Lexing};
+use fancy_tokens::nesting::opened_by;
+use fancy_tokens::tokens::{Item, Leaf, Opening, Quantifier, Token};
 
 /// A token, and what holds behind it.
 #[derive(Clone, Copy)]
@@ -166,28 +161,6 @@ fn item_at(flags: Flags, opened: usize, text: &[char]) -> Result<(Item<'_>, &[ch
     }
 }
 
-/// How many groups a token opens.
-fn opened_by(token: Token<'_>) -> usize
-    ensures value { result ≡ opened_by (token_of token.entry) }
-    ensures one { result ≤ 1 }
-{
-    match token {
-        Token::Open(opening) => group_opened_by(opening),
-        _ => 0,
-    }
-}
-
-fn group_opened_by(opening: Opening<'_>) -> usize
-    ensures value { result ≡ plain.group_opened_by
-        (opening_of opening.entry) }
-    ensures one { result ≤ 1 }
-{
-    match opening {
-        Opening::Group { .. } => 1,
-        _ => 0,
-    }
-}
-
 /// The class that is open behind a token.
 fn class_of(token: Token<'_>) -> ClassPlace
     ensures value { result ≡ class_of (token_of token.entry) }
@@ -263,10 +236,102 @@ fn within_at(now: Lexing, text: &[char]) -> Result<(Found<'_>, &[char]), Fault>
     ))
 }
 
+/// The tokens of one character that are no literals and neither begin nor end a group or a class, as they are kept.
+#[inline(always)]
+fn kept_sign<'a>(flags: Flags, c: char) -> Option<Kept<'a>>
+    requires no_closing { c ≢ 41 }
+    requires no_class { c ≢ 91 }
+    ensures value { option_map kept_of result ≡ sign_token flags c }
+    ensures quiet { IfSome result (λ k. IsQuiet (kept_of k)) }
+{
+    let greedy = !flags.swap_greed;
+    match c {
+        '.' => Some(Kept::Leaf(any_of(flags))),
+        '^' => Some(Kept::Leaf(start_of(flags))),
+        '$' => Some(Kept::Leaf(end_of(flags))),
+        '|' => Some(Kept::Bar),
+        '*' => Some(Kept::Star { greedy }),
+        '+' => Some(Kept::Plus { greedy }),
+        '?' => Some(Kept::Question { greedy }),
+        _ => None,
+    }
+}
+
+/// A `{` as it is kept: counts that are in order, or a literal; `after` follows it.
+#[inline(always)]
+#[tactic(auto, unfolding(crate::specs::Items::brace_at))]
+fn kept_brace_at<'a>(flags: Flags, after: &'a [char]) -> Option<(Kept<'a>, &'a [char])>
+    ensures value { (text : Text) → IfSome result (λ p. brace_at flags text after.now
+        ≡ Ok (kept_of p.0, p.1.now)) }
+    ensures quiet { IfSome result (λ p. IsQuiet (kept_of p.0)) }
+    ensures shorter { IfSome result (λ p. length p.1.now ≤ length after.now) }
+{
+    match counts_at(after, flags.ignore_whitespace) {
+        Some((counts, rest)) => match counts {
+            Ok(quantifier) => Some((narrow_quantifier(quantifier, !flags.swap_greed), rest)),
+            Err(_) => None,
+        },
+        None => Some((Kept::Leaf(literal_leaf(flags, '{')), after)),
+    }
+}
+
+/// An escape of one character, as it is kept; `text` begins behind its backslash.
+#[inline(always)]
+fn kept_escape_at<'a>(now: &Lexing, text: &'a [char]) -> Option<(Kept<'a>, &'a [char])>
+    ensures value { IfSome result (λ p. escape_at now.now.flags now.now.opened text.now
+        ≡ Ok (kept_of p.0, p.1.now)) }
+    ensures quiet { IfSome result (λ p. IsQuiet (kept_of p.0)) }
+    ensures shorter { IfSome result (λ p. length p.1.now ≤ length text.now) }
+{
+    match leaf_escape_at(now, text) {
+        Some((leaf, rest)) => Some((Kept::Leaf(leaf), rest)),
+        None => {
+            let (letter, text, rest) = set_escape_at(now, text)?;
+            let casei = now.flags.casei;
+            Some((
+                Kept::Set {
+                    casei,
+                    letter,
+                    text,
+                },
+                rest,
+            ))
+        }
+    }
+}
+
 /// Outside of classes and of free spacing, the token at the front and what follows it, where that is found at once: a
 /// character, counts, or an escape of one character, and nothing that begins or ends a group or a class.
 #[inline(always)]
-#[tactic(auto, unfolding(crate::specs::Items::outside_at, crate::specs::Items::item_at, crate::specs::Items::brace_at))]
+#[tactic(auto, unfolding(crate::specs::Items::item_at))]
+fn lone_item_at<'a>(now: &Lexing, text: &'a [char]) -> Option<(Kept<'a>, &'a [char])>
+    ensures value { IfSome result (λ p. item_at now.now.flags now.now.opened text.now
+        ≡ Ok (item now.now.flags (kept_of p.0), p.1.now)) }
+    ensures quiet { IfSome result (λ p. IsQuiet (kept_of p.0)) }
+    ensures no_gap { IfSome result (λ p. gap_at false text.now ≡ None) }
+    ensures shorter { IfSome result (λ p. length p.1.now + 1 ≤ length text.now) }
+{
+    let (c, after) = first(text)?;
+    match c {
+        '(' | ')' | '[' => None,
+        '{' => {
+            let (kept, rest) = kept_brace_at(now.flags, after)?;
+            Some((kept, rest))
+        }
+        '\\' => {
+            let (kept, rest) = kept_escape_at(now, after)?;
+            Some((kept, rest))
+        }
+        _ => match kept_sign(now.flags, c) {
+            Some(kept) => Some((kept, after)),
+            None => Some((Kept::Leaf(literal_leaf(now.flags, c)), after)),
+        },
+    }
+}
+
+/// The same, and what holds behind that token.
+#[inline(always)]
+#[tactic(auto, using(crate::proofs::QuietTokens::outside_of_item))]
 fn lone_outside_at<'a>(now: &Lexing, text: &'a [char]) -> Option<(Kept<'a>, &'a [char])>
     requires { now.now.opened ≤ most_groups }
     ensures value { IfSome result (λ p. outside_at now.now text.now
@@ -278,41 +343,8 @@ fn lone_outside_at<'a>(now: &Lexing, text: &'a [char]) -> Option<(Kept<'a>, &'a 
     if now.flags.ignore_whitespace {
         return None;
     }
-    let (c, after) = first(text)?;
-    let greedy = !now.flags.swap_greed;
-    match c {
-        '(' | ')' | '[' => None,
-        '{' => match counts_at(after, now.flags.ignore_whitespace) {
-            Some((counts, rest)) => match counts {
-                Ok(quantifier) => Some((narrow_quantifier(quantifier, greedy), rest)),
-                Err(_) => None,
-            },
-            None => Some((Kept::Leaf(literal_leaf(now.flags, c)), after)),
-        },
-        '\\' => match leaf_escape_at(now, after) {
-            Some((leaf, rest)) => Some((Kept::Leaf(leaf), rest)),
-            None => {
-                let (letter, text, rest) = set_escape_at(now, after)?;
-                let casei = now.flags.casei;
-                Some((
-                    Kept::Set {
-                        casei,
-                        letter,
-                        text,
-                    },
-                    rest,
-                ))
-            }
-        },
-        '.' => Some((Kept::Leaf(any_of(now.flags)), after)),
-        '^' => Some((Kept::Leaf(start_of(now.flags)), after)),
-        '$' => Some((Kept::Leaf(end_of(now.flags)), after)),
-        '|' => Some((Kept::Bar, after)),
-        '*' => Some((Kept::Star { greedy }, after)),
-        '+' => Some((Kept::Plus { greedy }, after)),
-        '?' => Some((Kept::Question { greedy }, after)),
-        _ => Some((Kept::Leaf(literal_leaf(now.flags, c)), after)),
-    }
+    let (kept, after) = lone_item_at(now, text)?;
+    Some((kept, after))
 }
 
 /// The token at the front, the class behind it and what follows it, where that is found at once.

@@ -4,13 +4,14 @@ ghost use Rattle.std.specs.Prelude.{◌≡◌, ◌+◌, ◌^◌, ◌<◌, ◌≤
 ghost use Rattle.fancy_meaning.specs.WellFormed.{most_groups};
 
 use crate::characters::past_gap;
-use crate::classes::{ClassPlace, Head};
-use crate::error::{ErrorKind, Fault};
-use crate::flags::Flags;
-use crate::items::{Lexing, closing_at, found_at, group_at, literal_at, lone_at, no_class};
-use crate::kept::{Counted, Kept, Placed, keep};
-use crate::nesting::{behind_token, enter};
-use crate::tokens::{Opening, Token};
+use crate::items::{closing_at, found_at, group_at, literal_at, lone_at, no_class};
+use crate::kept::{Counted, keep};
+use fancy_tokens::error::{ErrorKind, Fault};
+use fancy_tokens::flags::Flags;
+use fancy_tokens::kept::{Kept, Placed};
+use fancy_tokens::lexing::{ClassPlace, Head, Lexing};
+use fancy_tokens::nesting::{behind_token, enter};
+use fancy_tokens::tokens::{Opening, Token};
 use std::alloc::{AllocError, Global};
 
 /// What is known when a pattern has been read up to some character.
@@ -34,8 +35,8 @@ impl<'a> Lexer<'a> {
     ghost use Rattle.fancy_pattern.specs.Lone.{found_token, lone_in, next_group};
     ghost use Rattle.fancy_pattern.specs.Lexing.{at_start, IsAtToken, Lexes};
     ghost use Rattle.fancy_pattern.specs.LexerViews.{state_of, text_of, placed_in, Steps, Pushes};
-    ghost use Rattle.fancy_pattern.specs.PatternViews.{kept_of, placed_of};
-    ghost use Rattle.fancy_pattern.specs.Tokens.{Close, placed, broken};
+    ghost use Rattle.fancy_tokens.specs.PatternViews.{kept_of, placed_of};
+    ghost use Rattle.fancy_tokens.specs.Tokens.{Close, placed, broken};
 
     /// A token takes a character at least, so there is room for all of them.
     fn new(alloc: Global, flags: Flags, chars: &'a [char]) -> Result<Lexer<'a>, AllocError>

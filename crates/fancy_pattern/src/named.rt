@@ -5,10 +5,10 @@ ghost use Rattle.std.specs.Option.{option_map};
 ghost use Rattle.std.specs.List.{list_any};
 ghost use Rattle.fancy_pattern.specs.Spelling.{opens_named};
 ghost use Rattle.fancy_pattern.specs.Naming.{numbers_of, numbers_in, pairs_in, named_in, named_of, named_by, named_opening};
-ghost use Rattle.fancy_pattern.specs.PatternViews.{kept_of, placed_of, token_of, opening_of};
+ghost use Rattle.fancy_tokens.specs.PatternViews.{kept_of, placed_of, token_of, opening_of};
 
-use crate::kept::{Kept, Placed};
-use crate::tokens::{Opening, Token};
+use fancy_tokens::kept::{Kept, Placed};
+use fancy_tokens::tokens::{Opening, Token};
 use std::alloc::{AllocError, Global};
 use std::collections::BTreeMap;
 

@@ -3,12 +3,13 @@
 ghost use Rattle.std.specs.Prelude.{◌≡◌, ◌^◌, ◌<◌, ◌≤◌, ◌+◌, length, IfOk};
 ghost use Rattle.fancy_pattern.specs.Texts.{seen, is_name_start};
 ghost use Rattle.fancy_pattern.specs.Names.{name_at, number_at, back, onward, target_at, level_at, signed_level_at, level_for, closed_at, reference_at, closing_of, closing_brace, delimited_at, named_at};
-ghost use Rattle.fancy_pattern.specs.PatternViews.{target_of, reference_of};
+ghost use Rattle.fancy_tokens.specs.PatternViews.{target_of, reference_of};
 
 use crate::characters::{Test, first, split_run};
-use crate::error::{ErrorKind, Fault, fault_at};
+use crate::error::fault_at;
 use crate::numbers::{level, number};
-use crate::tokens::{Naming, Reference, Target};
+use fancy_tokens::error::{ErrorKind, Fault};
+use fancy_tokens::tokens::{Naming, Reference, Target};
 use unicode::properties::is_alphabetic;
 
 fn is_name_start(c: char) -> bool

@@ -12,8 +12,8 @@ ghost use Rattle.fancy_pattern.specs.Reading.{OneCharEach, Adds, AddsSome, Takes
 use crate::nodes::{
     alternated, conditional, enclosed, is_empty, is_plain, is_repeatable, joined, literal, suffixed,
 };
-use crate::tokens::{Enclosing, Quantifier, Suffix};
 use fancy_expr::expr::{Absent, Expr, LookAround};
+use fancy_tokens::tokens::{Enclosing, Quantifier, Suffix};
 use std::alloc::{AllocError, Global};
 
 /// The node on top; where there is none, nothing.

@@ -8,21 +8,21 @@ ghost use Rattle.std.specs.Option.{option_map};
 ghost use Rattle.fancy_pattern.specs.Grammar as grammar;
 ghost use Rattle.fancy_pattern.specs.Naming.{pairs_in};
 ghost use Rattle.fancy_pattern.specs.Grammar.{is_repeatable, lo_of, hi_of, named, unresolved};
-ghost use Rattle.fancy_pattern.specs.declared.tokens.Enclosing.TheVariants.{Plain};
-ghost use Rattle.fancy_pattern.specs.declared.tokens.Naming.TheVariants as naming;
+ghost use Rattle.fancy_tokens.specs.declared.tokens.Enclosing.TheVariants.{Plain};
+ghost use Rattle.fancy_tokens.specs.declared.tokens.Naming.TheVariants as naming;
 ghost use Rattle.fancy_expr.specs.Each.{Each};
 ghost use Rattle.fancy_pattern.specs.Reading.{OneCharEach};
 ghost use Rattle.fancy_pattern.specs.Stuck.{NoNode, NoAtom};
-ghost use Rattle.fancy_pattern.specs.PatternViews.{leaf_of, hex_class, kept_of, token_of, reference_of};
+ghost use Rattle.fancy_tokens.specs.PatternViews.{leaf_of, hex_class, kept_of, token_of, reference_of};
 
 use crate::class_text::push_escape;
-use crate::error::{ErrorKind, Fault};
 use crate::failure::Failure;
 use crate::group_names::GroupNames;
-use crate::kept::Kept;
 use crate::named::text_of;
-use crate::tokens::{Enclosing, Leaf, Naming, Quantifier, Reference, Suffix, Target, Token};
 use fancy_expr::expr::{Absent, AstNode, CaptureGroupTarget, Expr};
+use fancy_tokens::error::{ErrorKind, Fault};
+use fancy_tokens::kept::Kept;
+use fancy_tokens::tokens::{Enclosing, Leaf, Naming, Quantifier, Reference, Suffix, Target, Token};
 use std::alloc::{AllocError, Global};
 
 /// The node of an atom without text.

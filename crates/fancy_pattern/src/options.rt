@@ -4,7 +4,7 @@ ghost use Rattle.std.specs.Prelude.{◌≡◌};
 ghost use Rattle.fancy_pattern.specs.Options.{default_parsing};
 ghost use Rattle.fancy_pattern.specs.Spelling.{flags_of};
 
-use crate::flags::Flags;
+use fancy_tokens::flags::Flags;
 
 /// How a pattern is read. The first six are the flags with which it begins.
 #[derive(Clone, Copy, Debug, PartialEq, Eq)]

@@ -6,9 +6,9 @@ ghost use Rattle.fancy_pattern.specs.Quantifiers as plain;
 ghost use Rattle.fancy_pattern.specs.Quantifiers.{past_blanks, count_of, lo_of, hi_of, counts_of, digits_at, upper_at, written_at, counts_at};
 
 use crate::characters::{Test, first, past_run, past_word, split_run};
-use crate::error::ErrorKind;
 use crate::numbers::number;
-use crate::tokens::Quantifier;
+use fancy_tokens::error::ErrorKind;
+use fancy_tokens::tokens::Quantifier;
 
 /// The digits of counts as they are written.
 #[derive(Clone, Copy)]

@@ -8,24 +8,26 @@ ghost use Rattle.fancy_pattern.specs.Grammar.{Names, is_at, is_branch_end, bar, 
 ghost use Rattle.fancy_pattern.specs.Faults.{Tells};
 ghost use Rattle.fancy_pattern.specs.Stuck.{is_end, is_calm, anything, Fails, FailsOpened, IsMisfit};
 ghost use Rattle.fancy_pattern.specs.Naming.{pairs_in};
-ghost use Rattle.fancy_pattern.specs.PatternViews.{kept_of, token_of, opening_of, reference_of, piece_text};
+ghost use Rattle.fancy_tokens.specs.PatternViews.{kept_of, token_of, opening_of, reference_of, piece_text};
 ghost use Rattle.fancy_pattern.specs.Reading.{OneCharEach, point_of, next_token, Skips, ReadsTree, Adds, Pushes, PushesRow, SpellsSome, Boxes, SpellsLast, SpellsMore, SpellsRest, SpellsNode, Quantifies};
 ghost use Rattle.fancy_meaning.specs.Tree.{Tree, Literal};
-ghost use Rattle.fancy_pattern.specs.Tokens.{AbsentBar, Around, Group, If, Node};
+ghost use Rattle.fancy_tokens.specs.Tokens.{AbsentBar, Around, Group, If, Node};
 
 use crate::class_text::push_piece;
-use crate::error::{ErrorKind, Fault};
 use crate::failure::Failure;
 use crate::group_names::GroupNames;
-use crate::kept::{Kept, Placed};
 use crate::node_stack::{
     add_literal, drop_empty, empty_boxed, enclose_last, group_last, is_last_repeatable, look_boxed,
     pop_boxed, pop_first, popped, push_alternated, push_boxed, push_conditional, push_empty,
     push_expression, push_joined, push_literal, push_repeated, push_stopper, repeat_last,
 };
 use crate::nodes::{boxed_reference, node};
-use crate::tokens::{ClassPiece, Enclosing, Leaf, Opening, Quantifier, Reference, Suffix, Token};
 use fancy_expr::expr::Expr;
+use fancy_tokens::error::{ErrorKind, Fault};
+use fancy_tokens::kept::{Kept, Placed};
+use fancy_tokens::tokens::{
+    ClassPiece, Enclosing, Leaf, Opening, Quantifier, Reference, Suffix, Token,
+};
 use std::alloc::{AllocError, Global};
 
 /// What is left to read.

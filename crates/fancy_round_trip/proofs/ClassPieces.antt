@@ -9,14 +9,14 @@ use Rattle.std.proofs.lemmas.Bool.{true≢false, eqb-true, eqb-false, ne_eqb, lt
 use Rattle.std.proofs.lemmas.Bool.Decides.{nat_tests}
 use Rattle.std.proofs.lemmas.List.Sums.{take_while-cons}
 use Rattle.std.proofs.Math.Seq.{take-append-add, drop-append-add}
-use Rattle.fancy_pattern.specs.declared.error.ErrorKind.TheVariants.{InvalidEscape, UnclosedUnicodeName, InvalidHex, InvalidCodepointValue}
-use Rattle.fancy_pattern.specs.declared.classes.ClassPlace.{ClassPlace}
-use Rattle.fancy_pattern.specs.declared.classes.Head.{Head}
-use Rattle.fancy_pattern.specs.declared.classes.Head.TheVariants as head
+use Rattle.fancy_tokens.specs.declared.error.ErrorKind.TheVariants.{InvalidEscape, UnclosedUnicodeName, InvalidHex, InvalidCodepointValue}
+use Rattle.fancy_tokens.specs.declared.lexing.ClassPlace.{ClassPlace}
+use Rattle.fancy_tokens.specs.declared.lexing.Head.{Head}
+use Rattle.fancy_tokens.specs.declared.lexing.Head.TheVariants as head
 use Rattle.fancy_pattern.specs.Texts.{Text, Read, fault_at, ◌>>=◌, uncons, past_run}
-use Rattle.fancy_pattern.specs.Tokens.{Token, ClassText, ClassClose}
+use Rattle.fancy_tokens.specs.Tokens.{Token, ClassText, ClassClose}
 use Rattle.fancy_pattern.specs.Escapes.{hex_at, bare_hex_at, braced_hex_at, is_hex, char_of, property_at, property_length}
-use Rattle.fancy_pattern.specs.PatternViews.{code_text, hex_digits}
+use Rattle.fancy_tokens.specs.PatternViews.{code_text, hex_digits}
 use Rattle.fancy_pattern.specs.Classes.{ClassItem, piece_item, inner, is_kept, fixed_escape, own_piece, coded_at, kept_set_at, other_class_escape_at, class_escape_at, bracket, closing_bracket, caret, class_item_at}
 use Rattle.fancy_pattern.proofs.EscapedTokens.{not_if}
 use Rattle.fancy_round_trip.specs.ClassTexts.{outside, IsPiece, IsLast, AsWritten, goes}

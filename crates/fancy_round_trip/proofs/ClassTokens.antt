@@ -3,15 +3,17 @@ use Rattle.std.proofs.Common.{◌≡◌, ℕ, ◌+◌, ⊎_elim, Bool, true, fal
 use Rattle.std.proofs.lemmas.Bool.{true≢false}
 use Rattle.fancy_meaning.specs.WellFormed.{most_groups}
 use Rattle.fancy_expr.specs.Each.{Each}
-use Rattle.fancy_pattern.specs.declared.error.ErrorKind.TheVariants.{GeneralParseError}
-use Rattle.fancy_pattern.specs.declared.classes.ClassPlace.{ClassPlace}
-use Rattle.fancy_pattern.specs.declared.flags.Flags.{Flags}
-use Rattle.fancy_pattern.specs.declared.items.Lexing.{Lexing}
+use Rattle.fancy_tokens.specs.declared.error.ErrorKind.TheVariants.{GeneralParseError}
+use Rattle.fancy_tokens.specs.declared.lexing.ClassPlace.{ClassPlace}
+use Rattle.fancy_tokens.specs.declared.flags.Flags.{Flags}
+use Rattle.fancy_tokens.specs.declared.lexing.Lexing.{Lexing}
 use Rattle.fancy_pattern.specs.Texts.{Text, Read, fault_at, ◌>>=◌}
-use Rattle.fancy_pattern.specs.Tokens.{Token, ClassOpen, ClassText, ClassClose, Placed, Item}
+use Rattle.fancy_tokens.specs.Tokens.{Token, ClassOpen, ClassText, ClassClose, Placed, Item}
 use Rattle.fancy_pattern.specs.Classes.{ClassItem, class_item_at}
-use Rattle.fancy_pattern.specs.Items.{Found, found_at, outside_at, within_at, item_at, opened_by, class_of}
-use Rattle.fancy_pattern.specs.Lexing.{State, GoesBy, Lexes, ended, gap, token, unread, misplaced}
+use Rattle.fancy_pattern.specs.Items.{Found, found_at, outside_at, within_at, item_at, class_of}
+use Rattle.fancy_tokens.specs.Nesting.{opened_by}
+use Rattle.fancy_pattern.specs.Lexing.{State, Lexes, ended, gap, token, unread, misplaced}
+use Rattle.fancy_tokens.specs.Nesting.{GoesBy}
 use Rattle.fancy_pattern.specs.Grammar.{class_close, class_text, SpellsClass, class_end, class_piece}
 use Rattle.fancy_pattern.proofs.EscapedTokens.{not_if}
 use Rattle.fancy_round_trip.specs.ClassTexts.{at_head, IsLast, AsWritten, ends}

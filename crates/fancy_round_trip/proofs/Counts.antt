@@ -12,13 +12,13 @@ use Rattle.std.proofs.lemmas.List.Sums.{take_while-cons}
 use Rattle.std.proofs.Math.Seq.{drop-append_seam}
 use Rattle.fancy_meaning.specs.WellFormed.{IsCount}
 use Rattle.fancy_expr.specs.Views.{bound_of}
-use Rattle.fancy_pattern.specs.declared.error.ErrorKind.{ErrorKind}
-use Rattle.fancy_pattern.specs.declared.error.ErrorKind.TheVariants.{InvalidRepeat}
-use Rattle.fancy_pattern.specs.declared.flags.Flags.{Flags}
-use Rattle.fancy_pattern.specs.declared.tokens.Quantifier.{Quantifier}
-use Rattle.fancy_pattern.specs.declared.tokens.Quantifier.TheVariants.{Star, Plus, Question, Counts}
+use Rattle.fancy_tokens.specs.declared.error.ErrorKind.{ErrorKind}
+use Rattle.fancy_tokens.specs.declared.error.ErrorKind.TheVariants.{InvalidRepeat}
+use Rattle.fancy_tokens.specs.declared.flags.Flags.{Flags}
+use Rattle.fancy_tokens.specs.declared.tokens.Quantifier.{Quantifier}
+use Rattle.fancy_tokens.specs.declared.tokens.Quantifier.TheVariants.{Star, Plus, Question, Counts}
 use Rattle.fancy_pattern.specs.Texts.{Text, Read, fault_at, ◌>>=◌, uncons, past_word, past_run, gap_at}
-use Rattle.fancy_pattern.specs.Tokens.{Token, Item, Quantified, item}
+use Rattle.fancy_tokens.specs.Tokens.{Token, Item, Quantified, item}
 use Rattle.fancy_pattern.specs.Numbers.{number_of}
 use Rattle.fancy_pattern.specs.Quantifiers.{Written, is_empty, digits_at, upper_at, written_at, count_of, lo_of, hi_of, counts_of, counts_at}
 use Rattle.fancy_pattern.specs.Grammar as grammar

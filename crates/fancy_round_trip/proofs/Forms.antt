@@ -4,17 +4,18 @@ use Rattle.std.proofs.lemmas.Bool.{true≢false, and_parts}
 use Rattle.fancy_meaning.specs.Tree as tree
 use Rattle.fancy_meaning.specs.Tree.{Tree, Trees, none, more, children, trees}
 use Rattle.fancy_meaning.specs.WellFormed.{most_groups}
-use Rattle.fancy_pattern.specs.declared.flags.Flags.{Flags}
-use Rattle.fancy_pattern.specs.declared.tokens.Enclosing.TheVariants as enclosing
-use Rattle.fancy_pattern.specs.declared.tokens.Quantifier.{Quantifier}
-use Rattle.fancy_pattern.specs.declared.tokens.Quantifier.TheVariants.{Question}
-use Rattle.fancy_pattern.specs.declared.tokens.Suffix.{Suffix}
-use Rattle.fancy_pattern.specs.declared.tokens.Suffix.TheVariants.{Turned}
+use Rattle.fancy_tokens.specs.declared.flags.Flags.{Flags}
+use Rattle.fancy_tokens.specs.declared.tokens.Enclosing.TheVariants as enclosing
+use Rattle.fancy_tokens.specs.declared.tokens.Quantifier.{Quantifier}
+use Rattle.fancy_tokens.specs.declared.tokens.Quantifier.TheVariants.{Question}
+use Rattle.fancy_tokens.specs.declared.tokens.Suffix.{Suffix}
+use Rattle.fancy_tokens.specs.declared.tokens.Suffix.TheVariants.{Turned}
 use Rattle.fancy_pattern.specs.Texts.{Text, gap_at, blank_at, comment_end}
-use Rattle.fancy_pattern.specs.Tokens.{Token, Open, Around, Group, Bar, Close, Quantified, Placed, placed, item}
+use Rattle.fancy_tokens.specs.Tokens.{Token, Open, Around, Group, Bar, Close, Quantified, Placed, placed, item}
 use Rattle.fancy_pattern.specs.Groups.{opening_at, question_at}
 use Rattle.fancy_pattern.specs.Items.{item_at}
-use Rattle.fancy_pattern.specs.Lexing.{Lexes, most_nested}
+use Rattle.fancy_pattern.specs.Lexing.{Lexes}
+use Rattle.fancy_tokens.specs.Nesting.{most_nested}
 use Rattle.fancy_pattern.specs.Grammar.{Names, Takes, SpellsAtom, SpellsPiece, SpellsPieces, SpellsSuffix, SpellsBranch, SpellsBars, is_at, is_branch_end, is_empty, is_repeatable, quantifier, suffix, suffixed, bar, joined, alternated, branch_of}
 use Rattle.fancy_pattern.specs.Grammar as rule
 use Rattle.fancy_pattern.proofs.EscapedTokens.{not_if}

@@ -10,11 +10,11 @@ use Rattle.std.proofs.lemmas.Bool.{lt-ltb, le-ltb, ltb-true, ltb-false, ne_eqb}
 use Rattle.std.proofs.lemmas.List.Sums.{take_while-cons}
 use Rattle.std.proofs.Math.Seq.{drop-append_seam}
 use Rattle.fancy_expr.specs.Each.{Each}
-use Rattle.fancy_pattern.specs.declared.error.ErrorKind.TheVariants.{InvalidHex, InvalidCodepointValue}
+use Rattle.fancy_tokens.specs.declared.error.ErrorKind.TheVariants.{InvalidHex, InvalidCodepointValue}
 use Rattle.fancy_pattern.specs.Texts.{Text, Read, fault_at, uncons, past_run}
 use Rattle.fancy_pattern.specs.Numbers.{number_of}
 use Rattle.fancy_pattern.specs.Escapes.{is_hex, char_of, braced_hex_at}
-use Rattle.fancy_pattern.specs.PatternViews.{hex_digit, hex_digits}
+use Rattle.fancy_tokens.specs.PatternViews.{hex_digit, hex_digits}
 use Rattle.fancy_pattern.proofs.EscapedTokens.{not_if}
 use Rattle.fancy_round_trip.proofs.Steps.{is_if}
 

@@ -6,10 +6,10 @@ use Rattle.regex_syntax.specs.Reading.{◌∈◌, is_among}
 use Rattle.fancy_meaning.specs.Tree as tree
 use Rattle.fancy_meaning.specs.Tree.{Tree}
 use Rattle.fancy_meaning.specs.WellFormed.{most_groups}
-use Rattle.fancy_pattern.specs.declared.classes.ClassPlace.{ClassPlace}
-use Rattle.fancy_pattern.specs.declared.flags.Flags.{Flags}
+use Rattle.fancy_tokens.specs.declared.lexing.ClassPlace.{ClassPlace}
+use Rattle.fancy_tokens.specs.declared.flags.Flags.{Flags}
 use Rattle.fancy_pattern.specs.Texts.{Text, Read as Answer, ◌>>=◌, gap_at, past_word}
-use Rattle.fancy_pattern.specs.Tokens.{Token, Node, ClassOpen, ClassText, ClassClose, Placed, Item, placed, item}
+use Rattle.fancy_tokens.specs.Tokens.{Token, Node, ClassOpen, ClassText, ClassClose, Placed, Item, placed, item}
 use Rattle.fancy_pattern.specs.Escapes.{escape_at, other_escape_at, boundary_at, set_at, property_at, is_set, set}
 use Rattle.fancy_pattern.specs.Groups.{opening_at}
 use Rattle.fancy_pattern.specs.Items.{item_at, brace_at, sign_token, literal, start_of, end_of, any_of}

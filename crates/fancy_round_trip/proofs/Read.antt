@@ -3,12 +3,13 @@ use Rattle.std.proofs.Common.{◌≡◌, ℕ, ◌+◌, ◌<◌, ◌≤◌, Bool,
 use Rattle.std.proofs.lemmas.Bool.{true≢false}
 use Rattle.fancy_meaning.specs.Tree.{Tree, Trees, none, more, children}
 use Rattle.fancy_meaning.specs.WellFormed.{most_groups}
-use Rattle.fancy_pattern.specs.declared.flags.Flags.{Flags}
-use Rattle.fancy_pattern.specs.declared.tokens.Enclosing.TheVariants as enclosing
+use Rattle.fancy_tokens.specs.declared.flags.Flags.{Flags}
+use Rattle.fancy_tokens.specs.declared.tokens.Enclosing.TheVariants as enclosing
 use Rattle.fancy_pattern.specs.Texts.{Text, gap_at}
-use Rattle.fancy_pattern.specs.Tokens.{Token, Node, Open, Around, Bar, Close, Placed, placed, item}
+use Rattle.fancy_tokens.specs.Tokens.{Token, Node, Open, Around, Bar, Close, Placed, placed, item}
 use Rattle.fancy_pattern.specs.Items.{item_at}
-use Rattle.fancy_pattern.specs.Lexing.{State, Lexes, most_nested}
+use Rattle.fancy_pattern.specs.Lexing.{State, Lexes}
+use Rattle.fancy_tokens.specs.Nesting.{most_nested}
 use Rattle.fancy_pattern.specs.Grammar.{Names, SpellsAtom, SpellsPiece, SpellsPieces, SpellsBranch, SpellsBars, SpellsAlternatives, is_at, is_branch_end, is_empty, is_repeatable, quantifier, bar, joined, branch_of}
 use Rattle.fancy_pattern.specs.Grammar as rule
 use Rattle.fancy_round_trip.proofs.Steps.{at, base, node_step, open_step, close_step}

@@ -3,10 +3,10 @@ use Rattle.std.proofs.Common.{◌≡◌, ℕ, ◌+◌, Bool, true, false, ◌&&�
 use Rattle.std.proofs.lemmas.Bool.{true≢false}
 use Rattle.fancy_meaning.specs.Tree as tree
 use Rattle.fancy_meaning.specs.Tree.{Tree, Trees, none, more}
-use Rattle.fancy_pattern.specs.declared.flags.Flags.{Flags}
-use Rattle.fancy_pattern.specs.declared.tokens.Enclosing.TheVariants as enclosing
+use Rattle.fancy_tokens.specs.declared.flags.Flags.{Flags}
+use Rattle.fancy_tokens.specs.declared.tokens.Enclosing.TheVariants as enclosing
 use Rattle.fancy_pattern.specs.Texts.{Text}
-use Rattle.fancy_pattern.specs.Tokens.{Open, Around, item}
+use Rattle.fancy_tokens.specs.Tokens.{Open, Around, item}
 use Rattle.fancy_pattern.specs.Groups.{opening_at, question_at, other_question_at, flags_item_at}
 use Rattle.fancy_pattern.specs.Items.{item_at}
 use Rattle.fancy_pattern.specs.Grammar as rule

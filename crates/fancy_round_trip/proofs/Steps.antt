@@ -3,17 +3,19 @@ use Rattle.std.proofs.Common.{◌≡◌, ℕ, ◌+◌, ◌<◌, ◌≤◌, Bool,
 use Rattle.std.proofs.lemmas.Bool.{le-ltb, eqb-false}
 use Rattle.fancy_meaning.specs.Tree.{Tree}
 use Rattle.fancy_meaning.specs.WellFormed.{most_groups}
-use Rattle.fancy_pattern.specs.declared.error.Fault.{Fault}
-use Rattle.fancy_pattern.specs.declared.error.ErrorKind.TheVariants.{GeneralParseError}
-use Rattle.fancy_pattern.specs.declared.classes.ClassPlace.{ClassPlace}
-use Rattle.fancy_pattern.specs.declared.flags.Flags.{Flags}
-use Rattle.fancy_pattern.specs.declared.items.Lexing.{Lexing}
-use Rattle.fancy_pattern.specs.declared.tokens.Quantifier.{Quantifier}
+use Rattle.fancy_tokens.specs.declared.error.Fault.{Fault}
+use Rattle.fancy_tokens.specs.declared.error.ErrorKind.TheVariants.{GeneralParseError}
+use Rattle.fancy_tokens.specs.declared.lexing.ClassPlace.{ClassPlace}
+use Rattle.fancy_tokens.specs.declared.flags.Flags.{Flags}
+use Rattle.fancy_tokens.specs.declared.lexing.Lexing.{Lexing}
+use Rattle.fancy_tokens.specs.declared.tokens.Quantifier.{Quantifier}
 use Rattle.fancy_pattern.specs.Texts.{Text, fault_at, ◌>>=◌, gap_at, blank_at, comment_end}
-use Rattle.fancy_pattern.specs.Tokens.{Opening, Token, Node, Open, Bar, Close, Quantified, ClassOpen, ClassText, ClassClose, Placed, placed, item}
+use Rattle.fancy_tokens.specs.Tokens.{Opening, Token, Node, Open, Bar, Close, Quantified, ClassOpen, ClassText, ClassClose, Placed, placed, item}
 use Rattle.fancy_pattern.specs.Classes.{class_item_at}
-use Rattle.fancy_pattern.specs.Items.{Found, found_at, outside_at, within_at, item_at, opened_by, group_opened_by, class_of}
-use Rattle.fancy_pattern.specs.Lexing.{State, GoesBy, Lexes, token, levels, around_it, most_nested}
+use Rattle.fancy_pattern.specs.Items.{Found, found_at, outside_at, within_at, item_at, class_of}
+use Rattle.fancy_tokens.specs.Nesting.{opened_by, group_opened_by}
+use Rattle.fancy_pattern.specs.Lexing.{State, Lexes, token}
+use Rattle.fancy_tokens.specs.Nesting.{GoesBy, levels, around_it, most_nested}
 use Rattle.fancy_pattern.proofs.EscapedTokens.{not_if}
 use Rattle.fancy_round_trip.specs.ClassTexts.{at_head, outside, IsPiece, IsLast}
 

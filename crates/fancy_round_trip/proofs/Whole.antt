@@ -7,8 +7,9 @@ use Rattle.fancy_meaning.specs.PatternText.{text_of}
 use Rattle.fancy_expr.specs.Each.{Each}
 use Rattle.fancy_pattern.specs.declared.options.ParseOptions.{ParseOptions}
 use Rattle.fancy_pattern.specs.Texts.{Text}
-use Rattle.fancy_pattern.specs.Tokens.{Placed}
-use Rattle.fancy_pattern.specs.Lexing.{ended, most_nested}
+use Rattle.fancy_tokens.specs.Tokens.{Placed}
+use Rattle.fancy_pattern.specs.Lexing.{ended}
+use Rattle.fancy_tokens.specs.Nesting.{most_nested}
 use Rattle.fancy_pattern.specs.Naming.{named_in}
 use Rattle.fancy_pattern.specs.Spelling.{HasTokens, Spells, every_group, named_groups}
 use Rattle.fancy_pattern.proofs.FoundTokens.{FineToken, opened_in, tokens_fine, groups_few}

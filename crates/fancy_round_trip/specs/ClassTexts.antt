@@ -1,9 +1,9 @@
 -- Texts of classes that a pattern hands on just as they are written.
 use Rattle.std.specs.Prelude.{◌≡◌, ℕ, true, false, ◌||◌, List, [], ◌∷◌, ◌++◌, encode_utf8_all, Ok, ◌==◌}
-use Rattle.fancy_pattern.specs.declared.classes.ClassPlace.{ClassPlace}
-use Rattle.fancy_pattern.specs.declared.classes.Head.TheVariants as head
+use Rattle.fancy_tokens.specs.declared.lexing.ClassPlace.{ClassPlace}
+use Rattle.fancy_tokens.specs.declared.lexing.Head.TheVariants as head
 use Rattle.fancy_pattern.specs.Texts.{Text}
-use Rattle.fancy_pattern.specs.Tokens.{ClassClose}
+use Rattle.fancy_tokens.specs.Tokens.{ClassClose}
 use Rattle.fancy_pattern.specs.Escapes.{is_set, property_at}
 use Rattle.fancy_pattern.specs.Classes.{piece_item, class_item_at}
 

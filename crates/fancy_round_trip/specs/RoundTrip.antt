@@ -10,8 +10,8 @@ use Rattle.fancy_meaning.specs.WellFormed.{most_groups}
 use Rattle.fancy_meaning.specs.PatternText.{text_of}
 use Rattle.fancy_pattern.specs.declared.options.ParseOptions.{ParseOptions}
 use Rattle.fancy_pattern.specs.Texts.{Text}
-use Rattle.fancy_pattern.specs.Tokens.{Token, ClassText}
-use Rattle.fancy_pattern.specs.Lexing.{most_nested}
+use Rattle.fancy_tokens.specs.Tokens.{Token, ClassText}
+use Rattle.fancy_tokens.specs.Nesting.{most_nested}
 use Rattle.fancy_pattern.specs.Spelling.{Spells}
 use Rattle.fancy_round_trip.specs.Returning.{Returns, depth_of}
 

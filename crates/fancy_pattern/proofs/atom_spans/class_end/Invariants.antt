@@ -1,6 +1,6 @@
 use Rattle.std.proofs.Common.{◌≡◌, drop, map}
 use Rattle.fancy_pattern.specs.AtomSpans.{class_end}
-use Rattle.fancy_pattern.specs.PatternViews.{placed_of}
+use Rattle.fancy_tokens.specs.PatternViews.{placed_of}
 use Rattle.fancy_pattern.proofs.atom_spans.class_end.Given as goal
 
 abbrev pub invariant-loop-at : goal.invariant-loop-at

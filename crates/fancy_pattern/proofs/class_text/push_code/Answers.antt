@@ -1,5 +1,5 @@
 use Rattle.std.proofs.Common.{[], ◌∷◌, ◌++◌, codes, string_bytes}
-use Rattle.fancy_pattern.specs.PatternViews.{hex_digits}
+use Rattle.fancy_tokens.specs.PatternViews.{hex_digits}
 use Rattle.fancy_pattern.proofs.MadeNodes.{text_added}
 use Rattle.fancy_pattern.proofs.class_text.push_code.Goals as goal
 

@@ -1,6 +1,6 @@
 use Rattle.std.proofs.Common.{ℕ, List, ◌++◌, String, Global, string_bytes, map, ap, sym, ◌∙◌}
 use Rattle.fancy_pattern.specs.Naming.{pairs_in, named_of}
-use Rattle.fancy_pattern.specs.PatternViews.{placed_of}
+use Rattle.fancy_tokens.specs.PatternViews.{placed_of}
 use Rattle.fancy_pattern.proofs.NamedGroups.{one_token_more, unnamed}
 use Rattle.fancy_pattern.proofs.named.pairs_of.Goals as goal
 

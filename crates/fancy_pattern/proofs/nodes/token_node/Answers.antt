@@ -1,7 +1,7 @@
 use Rattle.std.proofs.Common.{ap}
 use Rattle.std.proofs.lemmas.Result.{err_from_is_err_and}
 use Rattle.fancy_pattern.specs.Naming.{pairs_in}
-use Rattle.fancy_pattern.specs.PatternViews.{token_of, reference_of}
+use Rattle.fancy_tokens.specs.PatternViews.{token_of, reference_of}
 use Rattle.fancy_pattern.proofs.OneChars.{reference_chars}
 use Rattle.fancy_pattern.proofs.WhereStuck.{unnamed_token}
 use Rattle.fancy_pattern.proofs.nodes.token_node.Goals as goal

@@ -1,6 +1,6 @@
 use Rattle.std.proofs.Common.{sym, ap, ◌∙◌, arith}
 use Rattle.fancy_pattern.specs.Spelling.{opens_named}
-use Rattle.fancy_pattern.specs.PatternViews.{placed_of}
+use Rattle.fancy_tokens.specs.PatternViews.{placed_of}
 use Rattle.fancy_pattern.proofs.TokenTests.{tested_more, tested_found, tested_all}
 use Rattle.fancy_pattern.proofs.pattern.has_names.Goals as goal
 

@@ -1,5 +1,5 @@
 use Rattle.std.proofs.Common.{map, ap}
-use Rattle.fancy_pattern.specs.PatternViews.{placed_of}
+use Rattle.fancy_tokens.specs.PatternViews.{placed_of}
 use Rattle.fancy_pattern.proofs.Spelled.{every_token, named_tokens}
 use Rattle.fancy_pattern.proofs.pattern.tokens.Goals as goal
 

@@ -1,5 +1,5 @@
 use Rattle.std.proofs.Common.{map, ap, sym, subst}
-use Rattle.fancy_pattern.specs.PatternViews.{placed_of}
+use Rattle.fancy_tokens.specs.PatternViews.{placed_of}
 use Rattle.fancy_pattern.specs.Spelling.{HasTokens}
 use Rattle.fancy_pattern.proofs.pattern.tree_of_chars.Goals as goal
 

@@ -3,7 +3,7 @@ use Rattle.std.proofs.lemmas.Result.{err_from_is_err_and}
 use Rattle.fancy_expr.specs.Views.{tree_of}
 use Rattle.fancy_pattern.specs.declared.reader.Reader.{Reader}
 use Rattle.fancy_pattern.specs.Naming.{pairs_in}
-use Rattle.fancy_pattern.specs.PatternViews.{placed_of}
+use Rattle.fancy_tokens.specs.PatternViews.{placed_of}
 use Rattle.fancy_pattern.specs.Reading.{OneCharEach}
 use Rattle.fancy_pattern.proofs.DescribedTrees.{well_formed}
 use Rattle.fancy_pattern.proofs.Told.{whole_fails, whole_left}

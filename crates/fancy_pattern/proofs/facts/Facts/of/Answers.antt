@@ -2,7 +2,7 @@ use Rattle.std.proofs.Common.{false, refl, sym, ap, cond, arith}
 use Rattle.fancy_pattern.specs.Described.{opens_group, names_number}
 use Rattle.fancy_pattern.specs.Surveyed.{names_group}
 use Rattle.fancy_pattern.specs.Spelling.{opens_named}
-use Rattle.fancy_pattern.specs.PatternViews.{placed_of}
+use Rattle.fancy_tokens.specs.PatternViews.{placed_of}
 use Rattle.fancy_pattern.proofs.TokenTests.{any_more, counted_more, silent_here}
 use Rattle.fancy_pattern.proofs.facts.Facts.of.Goals as goal
 

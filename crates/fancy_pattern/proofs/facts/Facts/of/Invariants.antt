@@ -3,7 +3,7 @@ use Rattle.std.specs.List.{list_any, count_by}
 use Rattle.fancy_pattern.specs.Described.{opens_group, names_number}
 use Rattle.fancy_pattern.specs.Surveyed.{names_group}
 use Rattle.fancy_pattern.specs.Spelling.{opens_named}
-use Rattle.fancy_pattern.specs.PatternViews.{placed_of}
+use Rattle.fancy_tokens.specs.PatternViews.{placed_of}
 use Rattle.fancy_pattern.proofs.facts.Facts.of.Given as goal
 
 abbrev pub invariant-loop-placed : goal.invariant-loop-placed

@@ -1,9 +1,10 @@
 use Rattle.std.proofs.Common.{[], ◌∷◌, length, refl, sym, ap, subst}
 use Rattle.fancy_pattern.specs.Lone.{found_token}
-use Rattle.fancy_pattern.specs.Lexing.{State, GoesBy, misplaced}
+use Rattle.fancy_pattern.specs.Lexing.{State, misplaced}
+use Rattle.fancy_tokens.specs.Nesting.{GoesBy}
 use Rattle.fancy_pattern.specs.LexerViews.{state_of}
-use Rattle.fancy_pattern.specs.PatternViews.{kept_of}
-use Rattle.fancy_pattern.specs.Tokens.{placed}
+use Rattle.fancy_tokens.specs.PatternViews.{kept_of}
+use Rattle.fancy_tokens.specs.Tokens.{placed}
 use Rattle.fancy_pattern.proofs.Lexed.{took_token, broke_off}
 use Rattle.fancy_pattern.proofs.lexer.Lexer.pass.Goals as goal
 

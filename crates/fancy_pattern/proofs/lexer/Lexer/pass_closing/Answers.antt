@@ -1,11 +1,11 @@
 use Rattle.std.proofs.Common.{[], ◌∷◌, length, refl, sym, ap, ◌∙◌, arith}
 use Rattle.std.proofs.lemmas.List.{nil_from_length}
-use Rattle.fancy_pattern.specs.declared.classes.ClassPlace.{ClassPlace}
-use Rattle.fancy_pattern.specs.declared.items.Lexing.{Lexing}
+use Rattle.fancy_tokens.specs.declared.lexing.ClassPlace.{ClassPlace}
+use Rattle.fancy_tokens.specs.declared.lexing.Lexing.{Lexing}
 use Rattle.fancy_pattern.specs.Items.{lone_found}
 use Rattle.fancy_pattern.specs.Lexing.{State, misplaced}
 use Rattle.fancy_pattern.specs.LexerViews.{state_of}
-use Rattle.fancy_pattern.specs.Tokens.{Close, placed}
+use Rattle.fancy_tokens.specs.Tokens.{Close, placed}
 use Rattle.fancy_pattern.proofs.Lexed.{took_token, broke_off}
 use Rattle.fancy_pattern.proofs.lexer.Lexer.pass_closing.Goals as goal
 

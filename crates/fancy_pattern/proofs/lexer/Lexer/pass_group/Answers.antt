@@ -1,11 +1,12 @@
 use Rattle.std.proofs.Common.{[], ◌∷◌, ◌+◌, None, length, refl, sym, ap, ◌∙◌, subst}
-use Rattle.fancy_pattern.specs.declared.classes.ClassPlace.{ClassPlace}
-use Rattle.fancy_pattern.specs.declared.flags.Flags.{Flags}
-use Rattle.fancy_pattern.specs.declared.items.Lexing.{Lexing}
+use Rattle.fancy_tokens.specs.declared.lexing.ClassPlace.{ClassPlace}
+use Rattle.fancy_tokens.specs.declared.flags.Flags.{Flags}
+use Rattle.fancy_tokens.specs.declared.lexing.Lexing.{Lexing}
 use Rattle.fancy_pattern.specs.Lone.{next_group}
-use Rattle.fancy_pattern.specs.Lexing.{State, Enters, misplaced}
+use Rattle.fancy_pattern.specs.Lexing.{State, misplaced}
+use Rattle.fancy_tokens.specs.Nesting.{Enters}
 use Rattle.fancy_pattern.specs.LexerViews.{state_of}
-use Rattle.fancy_pattern.specs.Tokens.{Open, Group, placed}
+use Rattle.fancy_tokens.specs.Tokens.{Open, Group, placed}
 use Rattle.fancy_pattern.proofs.Lexed.{took_token, broke_off}
 use Rattle.fancy_pattern.proofs.lexer.Lexer.pass_group.Goals as goal
 

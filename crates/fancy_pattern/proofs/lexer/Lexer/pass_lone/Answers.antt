@@ -1,10 +1,10 @@
 use Rattle.std.proofs.Common.{[], ◌∷◌, length, refl, sym, ap}
-use Rattle.fancy_pattern.specs.declared.items.Lexing.{Lexing}
+use Rattle.fancy_tokens.specs.declared.lexing.Lexing.{Lexing}
 use Rattle.fancy_pattern.specs.Lone.{lone_in}
 use Rattle.fancy_pattern.specs.Lexing.{State}
 use Rattle.fancy_pattern.specs.LexerViews.{state_of}
-use Rattle.fancy_pattern.specs.PatternViews.{kept_of}
-use Rattle.fancy_pattern.specs.Tokens.{placed}
+use Rattle.fancy_tokens.specs.PatternViews.{kept_of}
+use Rattle.fancy_tokens.specs.Tokens.{placed}
 use Rattle.fancy_pattern.proofs.Lexed.{took_token, goes_on}
 use Rattle.fancy_pattern.proofs.lexer.Lexer.pass_lone.Goals as goal
 

@@ -1,7 +1,7 @@
 use Rattle.std.proofs.Common.{List, ◌++◌, length}
 use Rattle.fancy_pattern.specs.Lexing.{Lexes, at_start}
 use Rattle.fancy_pattern.specs.LexerViews.{state_of, text_of, placed_in}
-use Rattle.fancy_pattern.specs.Tokens.{Placed}
+use Rattle.fancy_tokens.specs.Tokens.{Placed}
 use Rattle.fancy_pattern.proofs.lexer.Lexer.tokens.Given as goal
 
 -- the tokens so far begin those of the pattern

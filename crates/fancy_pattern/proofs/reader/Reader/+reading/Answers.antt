@@ -5,9 +5,9 @@ use Rattle.fancy_meaning.specs.Tree.{Literal}
 use Rattle.fancy_expr.specs.Views.{tree_of, look_of}
 use Rattle.fancy_pattern.specs.Grammar.{bar, closing, opening, class_open, enclosed, node, node_of, SpellsBranch, SpellsBodies, SpellsOpened, asked, no_bar, branch, no_piece, branches}
 use Rattle.fancy_pattern.specs.Naming.{pairs_in}
-use Rattle.fancy_pattern.specs.PatternViews.{opening_of, reference_of}
+use Rattle.fancy_tokens.specs.PatternViews.{opening_of, reference_of}
 use Rattle.fancy_pattern.specs.Reading.{point_of, Pushes, SpellsLast, none_read}
-use Rattle.fancy_pattern.specs.Tokens.{AbsentBar, Around, Group, If, IfPattern, IfLook}
+use Rattle.fancy_tokens.specs.Tokens.{AbsentBar, Around, Group, If, IfPattern, IfLook}
 use Rattle.fancy_pattern.proofs.OneChars.{reference_chars}
 use Rattle.fancy_pattern.proofs.Points as points
 use Rattle.fancy_pattern.proofs.WhereStuck as stuck

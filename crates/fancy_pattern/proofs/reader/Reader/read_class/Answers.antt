@@ -1,6 +1,6 @@
 use Rattle.std.proofs.Common.{string_bytes, refl, sym, ◌∙◌, arith}
 use Rattle.fancy_pattern.specs.Grammar.{class_text, class_close}
-use Rattle.fancy_pattern.specs.PatternViews.{piece_text}
+use Rattle.fancy_tokens.specs.PatternViews.{piece_text}
 use Rattle.fancy_pattern.proofs.Points.{class_begin, class_next, class_done, takes_next, takes_at}
 use Rattle.fancy_pattern.specs.Reading.{point_of}
 use Rattle.fancy_pattern.proofs.WhereStuck.{class_fails}

@@ -3,7 +3,7 @@ use Rattle.std.proofs.lemmas.Result.{err_from_is_err_and}
 use Rattle.fancy_expr.specs.Views.{tree_of}
 use Rattle.fancy_pattern.specs.Grammar.{node_of}
 use Rattle.fancy_pattern.specs.Naming.{pairs_in}
-use Rattle.fancy_pattern.specs.PatternViews.{kept_of}
+use Rattle.fancy_tokens.specs.PatternViews.{kept_of}
 use Rattle.fancy_pattern.specs.Reading.{point_of, OneCharEach}
 use Rattle.fancy_pattern.proofs.Points.{takes_next}
 use Rattle.fancy_pattern.proofs.WhereStuck.{no_atom, unnamed_atom, given_by, nothing_given}

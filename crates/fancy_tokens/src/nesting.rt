@@ -1,14 +1,14 @@
-//! How groups stand in one another, and the flags that hold behind them.
+//! How groups stand in one another, the flags that hold behind them, and how many were opened.
 
 ghost use Rattle.std.specs.Prelude.{◌≡◌, ◌≤◌, IfOk, MatchResult};
-ghost use Rattle.fancy_pattern.specs.PatternViews.{kept_of, opening_of, token_of};
-ghost use Rattle.fancy_pattern.specs.Tokens.{Open};
-ghost use Rattle.fancy_pattern.specs.Lexing.{has_two, Enters, Leaves, GoesBy};
+ghost use Rattle.fancy_tokens.specs.PatternViews.{kept_of, opening_of, token_of};
+ghost use Rattle.fancy_tokens.specs.Tokens.{Open};
+ghost use Rattle.fancy_tokens.specs.Nesting.{has_two, Enters, Leaves, GoesBy, opened_by, group_opened_by};
 
 use crate::error::{ErrorKind, Fault};
 use crate::flags::Flags;
-use crate::items::Lexing;
 use crate::kept::Kept;
+use crate::lexing::Lexing;
 use crate::tokens::{Opening, Token};
 use std::alloc::AllocError;
 
@@ -28,7 +28,7 @@ fn has_two(opening: Opening<'_>) -> bool
 
 /// A group is entered: the flags around it are kept, once for each parenthesis.
 #[inline(always)]
-pub(crate) fn enter(
+pub fn enter(
     outer: &mut Vec<Flags>,
     flags: Flags,
     opening: Opening<'_>,
@@ -67,7 +67,7 @@ fn leave(outer: &mut Vec<Flags>, behind: Lexing, left: usize) -> Result<Lexing, 
 }
 
 /// What holds behind a token, or why it cannot stand; `outer` has the flags around each group that is open.
-pub(crate) fn behind_token(
+pub fn behind_token(
     outer: &mut Vec<Flags>,
     flags: Flags,
     kept: &Kept<'_>,
@@ -125,5 +125,26 @@ fn behind_wide(
         Token::Open(opening) => behind_opening(outer, flags, opening, behind, left),
         Token::Close => Ok(leave(outer, behind, left)),
         _ => Ok(Ok(behind)),
+    }
+}
+
+/// How many groups a token opens.
+pub fn opened_by(token: Token<'_>) -> usize
+    ensures value { result ≡ opened_by (token_of token.entry) }
+    ensures one { result ≤ 1 }
+{
+    match token {
+        Token::Open(opening) => group_opened_by(opening),
+        _ => 0,
+    }
+}
+
+fn group_opened_by(opening: Opening<'_>) -> usize
+    ensures value { result ≡ group_opened_by (opening_of opening.entry) }
+    ensures one { result ≤ 1 }
+{
+    match opening {
+        Opening::Group { .. } => 1,
+        _ => 0,
     }
 }

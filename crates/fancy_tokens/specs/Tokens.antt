@@ -1,12 +1,12 @@
 -- Tokens as plain values: what a pattern is made of, with the flags of the place taken into account.
 use Rattle.std.specs.Prelude.{ℕ, ℤ, Bool, List, Option}
 use Rattle.fancy_meaning.specs.Tree.{Tree, Look}
-use Rattle.fancy_pattern.specs.declared.error.ErrorKind.{ErrorKind}
-use Rattle.fancy_pattern.specs.declared.error.Fault.{Fault}
-use Rattle.fancy_pattern.specs.declared.flags.Flags.{Flags}
-use Rattle.fancy_pattern.specs.declared.tokens.Enclosing.{Enclosing}
-use Rattle.fancy_pattern.specs.declared.tokens.Naming.{Naming}
-use Rattle.fancy_pattern.specs.declared.tokens.Quantifier.{Quantifier}
+use Rattle.fancy_tokens.specs.declared.error.ErrorKind.{ErrorKind}
+use Rattle.fancy_tokens.specs.declared.error.Fault.{Fault}
+use Rattle.fancy_tokens.specs.declared.flags.Flags.{Flags}
+use Rattle.fancy_tokens.specs.declared.tokens.Enclosing.{Enclosing}
+use Rattle.fancy_tokens.specs.declared.tokens.Naming.{Naming}
+use Rattle.fancy_tokens.specs.declared.tokens.Quantifier.{Quantifier}
 
 -- how a group is named: by a name, by a number that was counted from here where it was relative, or by one that leads
 -- nowhere

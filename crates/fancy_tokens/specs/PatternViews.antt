@@ -4,23 +4,23 @@ use Rattle.std.specs.Option.{option_map}
 use Rattle.fancy_meaning.specs.Tree as tree
 use Rattle.fancy_meaning.specs.Tree.{Tree}
 use Rattle.fancy_expr.specs.Views.{assertion_of, look_of, verb_of}
-use Rattle.fancy_pattern.specs.declared.tokens.Leaf.{Leaf}
-use Rattle.fancy_pattern.specs.declared.tokens.Leaf.TheVariants as leaf
-use Rattle.fancy_pattern.specs.declared.tokens.Target as code_target
-use Rattle.fancy_pattern.specs.declared.tokens.Target.TheVariants as target
-use Rattle.fancy_pattern.specs.declared.tokens.Reference as code_reference
-use Rattle.fancy_pattern.specs.declared.tokens.Opening as code_opening
-use Rattle.fancy_pattern.specs.declared.tokens.Opening.TheVariants as opening
-use Rattle.fancy_pattern.specs.declared.tokens.ClassPiece.{ClassPiece}
-use Rattle.fancy_pattern.specs.declared.tokens.ClassPiece.TheVariants as piece
-use Rattle.fancy_pattern.specs.declared.tokens.Quantifier.TheVariants as quantifier
-use Rattle.fancy_pattern.specs.declared.tokens.Token as code_token
-use Rattle.fancy_pattern.specs.declared.tokens.Token.TheVariants as token
-use Rattle.fancy_pattern.specs.declared.tokens.Item as code_item
-use Rattle.fancy_pattern.specs.declared.kept.Kept as code_kept
-use Rattle.fancy_pattern.specs.declared.kept.Kept.TheVariants as kept
-use Rattle.fancy_pattern.specs.declared.kept.Placed as code_placed
-use Rattle.fancy_pattern.specs.Tokens as plain
+use Rattle.fancy_tokens.specs.declared.tokens.Leaf.{Leaf}
+use Rattle.fancy_tokens.specs.declared.tokens.Leaf.TheVariants as leaf
+use Rattle.fancy_tokens.specs.declared.tokens.Target as code_target
+use Rattle.fancy_tokens.specs.declared.tokens.Target.TheVariants as target
+use Rattle.fancy_tokens.specs.declared.tokens.Reference as code_reference
+use Rattle.fancy_tokens.specs.declared.tokens.Opening as code_opening
+use Rattle.fancy_tokens.specs.declared.tokens.Opening.TheVariants as opening
+use Rattle.fancy_tokens.specs.declared.tokens.ClassPiece.{ClassPiece}
+use Rattle.fancy_tokens.specs.declared.tokens.ClassPiece.TheVariants as piece
+use Rattle.fancy_tokens.specs.declared.tokens.Quantifier.TheVariants as quantifier
+use Rattle.fancy_tokens.specs.declared.tokens.Token as code_token
+use Rattle.fancy_tokens.specs.declared.tokens.Token.TheVariants as token
+use Rattle.fancy_tokens.specs.declared.tokens.Item as code_item
+use Rattle.fancy_tokens.specs.declared.kept.Kept as code_kept
+use Rattle.fancy_tokens.specs.declared.kept.Kept.TheVariants as kept
+use Rattle.fancy_tokens.specs.declared.kept.Placed as code_placed
+use Rattle.fancy_tokens.specs.Tokens as plain
 
 abbrev pub hex_class : Bool → List ℕ
 hex_class negated = if negated then codes "[^0-9A-Fa-f]" else codes "[0-9A-Fa-f]"

@@ -1,7 +1,7 @@
 //! Tokens: what a pattern is made of, each with its place. The flags of that place are taken into account.
 
 ghost use Rattle.std.specs.Prelude.{◌≡◌};
-ghost use Rattle.fancy_pattern.specs.Tokens as plain;
+ghost use Rattle.fancy_tokens.specs.Tokens as plain;
 
 use crate::error::ErrorKind;
 use crate::flags::Flags;
@@ -150,10 +150,10 @@ pub struct Item<'a> {
 }
 
 impl<'a> Item<'a> {
-    ghost use Rattle.fancy_pattern.specs.Tokens.{item};
-    ghost use Rattle.fancy_pattern.specs.PatternViews.{item_of, token_of};
+    ghost use Rattle.fancy_tokens.specs.Tokens.{item};
+    ghost use Rattle.fancy_tokens.specs.PatternViews.{item_of, token_of};
 
-    pub(crate) fn new(flags: Flags, token: Token<'a>) -> Item<'a>
+    pub fn new(flags: Flags, token: Token<'a>) -> Item<'a>
         ensures { item_of result ≡ item flags (token_of token.entry) }
     {
         Item { token, flags }
