@@ -169,6 +169,7 @@ impl State {
 
     /// Takes the last branch off, with its slots and its explicit stack, and answers its places in the program and in
     /// the text. There has to be one. It takes no memory.
+    #[inline(always)]
     pub fn pop(&mut self) -> (usize, usize)
         requires { 0 < length self.old.branches }
         ensures branch { self.old.branches

@@ -80,6 +80,8 @@ pub(crate) enum Next {
     On,
     /// Starts, rounds or turns of a loop, or an atomic part were passed over.
     Passed,
+    /// The machine is to fall back to the last branch. No step answers so, but a part of one.
+    Fails,
     /// The match of the machine's slots is answered.
     Matches,
     /// The match that is held is answered, or none.
@@ -99,6 +101,7 @@ pub(crate) enum Stop {
 pub(crate) enum PackedStep {
     On,
     Passed,
+    Fails,
     Matches,
     Ends,
     BacktrackLimitExceeded,
@@ -117,6 +120,7 @@ impl PackedStep {
         match step {
             Ok(Next::On) => PackedStep::On,
             Ok(Next::Passed) => PackedStep::Passed,
+            Ok(Next::Fails) => PackedStep::Fails,
             Ok(Next::Matches) => PackedStep::Matches,
             Ok(Next::Ends) => PackedStep::Ends,
             Err(Stop::Limit(RuntimeError::BacktrackLimitExceeded)) => {
@@ -135,6 +139,7 @@ impl PackedStep {
         match self {
             PackedStep::On => Ok(Next::On),
             PackedStep::Passed => Ok(Next::Passed),
+            PackedStep::Fails => Ok(Next::Fails),
             PackedStep::Matches => Ok(Next::Matches),
             PackedStep::Ends => Ok(Next::Ends),
             PackedStep::BacktrackLimitExceeded => {
@@ -171,7 +176,7 @@ impl From<Stop> for Error {
 }
 
 impl<'a> Machine<'a> {
-    ghost use Rattle.fancy_vm.specs.Outcomes.{StepAnswers, config_of, held_match, plain_task, with_branch};
+    ghost use Rattle.fancy_vm.specs.Outcomes.{IsNoFailure, StepAnswers, config_of, held_match, plain_task, with_branch};
     ghost use Rattle.fancy_vm.specs.Stops.{IsPushStop};
 
     pub(crate) fn begin(task: &Task<'a>, state: State, longest: Longest) -> Machine<'a>
@@ -207,12 +212,23 @@ impl<'a> Machine<'a> {
         self.state.get(slot)
     }
 
-    /// Falls back to the last branch.
+    /// The step is to fall back, which all steps do at one place (`fall_back`).
     #[inline(always)]
     pub(crate) fn fail(&mut self) -> Result<Next, Stop>
         ensures task { self.new.task ≡ self.old.task }
         ensures leads { StepAnswers
             (machine.fail (plain_task self.old.task) (config_of self.old)) result self.new }
+    {
+        Ok(Next::Fails)
+    }
+
+    /// Falls back to the last branch.
+    #[inline(always)]
+    pub(crate) fn fall_back(&mut self) -> Result<Next, Stop>
+        ensures task { self.new.task ≡ self.old.task }
+        ensures leads { StepAnswers
+            (machine.fail (plain_task self.old.task) (config_of self.old)) result self.new }
+        ensures fell { IsNoFailure result }
     {
         if self.state.backtrack_count() == 0 {
             return Ok(Next::Ends);
@@ -220,9 +236,24 @@ impl<'a> Machine<'a> {
         if self.backtracks >= self.task.options.backtrack_limit {
             return Err(Stop::Limit(RuntimeError::BacktrackLimitExceeded));
         }
+        self.fall();
+        Ok(Next::On)
+    }
+
+    /// Takes the last branch, where there is one and the limit allows it.
+    #[inline(always)]
+    pub(crate) fn fall(&mut self)
+        requires some { 0 < length self.old.state.branches }
+        requires within { self.old.backtracks < self.old.task.options.now.backtrack_limit }
+        ensures task { self.new.task ≡ self.old.task }
+        ensures passed { self.new.passed ≡ self.old.passed }
+        ensures fewer { length self.new.state.branches < length self.old.state.branches }
+        ensures falls { machine.fail (plain_task self.old.task) (config_of self.old)
+            ≡ config.Goes (config_of self.new) }
+    {
+        let _limit = self.task.options.backtrack_limit;
         self.backtracks += 1;
         (self.pc, self.ix) = self.state.pop();
-        Ok(Next::On)
     }
 
     /// Goes on at the next instruction where the test holds, and else fails.

@@ -527,6 +527,7 @@ impl Machine<'_> {
                         return Ok(false);
                     }
                 }
+                Next::Fails => unreachable!(),
                 Next::Matches => return Ok(true),
                 Next::Ends => return Ok(false),
             }

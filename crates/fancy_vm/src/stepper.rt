@@ -140,6 +140,7 @@ impl<'a> Stepper<'a> {
         let passed = match machine.step(&prog.body, &mut memos, Stride::Instruction)? {
             Next::On => 0,
             Next::Passed => machine.passed,
+            Next::Fails => unreachable!(),
             Next::Matches => return Ok(Progress::Ends(machine.ending(true)?)),
             Next::Ends => return Ok(Progress::Ends(machine.ending(false)?)),
         };
