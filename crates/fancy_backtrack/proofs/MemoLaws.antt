@@ -250,7 +250,7 @@ module _ (continuation : Continuation) (s t : plain.NfaConfig) (ts : List plain.
 
   pub tries_anew : (p : Option states.NfaState) → f.failed (plain.pair_of s) ≡ false →
       plain.next_by (continuation s) p s f
-      ≡ plain.TakesUp t (plain.with_frames (plain.others ts ++ (plain.Fails (plain.pair_of s) ∷ [])) (plain.visited p f))
+      ≡ plain.TakesUp t (plain.with_frames (plain.others ts ++ (plain.Fails s ∷ [])) (plain.visited p f))
   tries_anew p w = ap (λ l. plain.next_by l p s f) e ∙ cond-false (f.failed (plain.pair_of s)) _ _ w
 
 -- ---- what does not change what a memo stands for

@@ -20,7 +20,7 @@ Continuation = plain.NfaConfig → plain.StepResult
 
 -- the pair is kept to be memoized, where it is one that is memoized
 abbrev pub fails_of : Bool → plain.NfaConfig → List Frame
-fails_of true s = Fails (pair_of s) ∷ []
+fails_of true s = Fails s ∷ []
 fails_of false s = []
 
 abbrev pub fails_before : Bool → plain.NfaConfig → List Frame → List Frame
@@ -31,7 +31,7 @@ abbrev pub Keeps : Bool → plain.StepResult → plain.NfaConfig → (rest frame
 Keeps true l s rest frames =
     (is_memoized : Bool) × ((first : plain.NfaConfig) × ((other : plain.NfaConfig) ×
     ((l ≡ plain.Tries is_memoized first (other ∷ [])) × (frames ≡ Other other ∷ (fails_of is_memoized s ++ rest)))))
-Keeps false l s rest frames = frames ≡ Fails (pair_of s) ∷ rest
+Keeps false l s rest frames = frames ≡ Fails s ∷ rest
 
 -- what choices on a path keep for later, the last one first
 abbrev pub AreKept : Continuation → List Entry → (path : ℕ) → List StackFrame → List Frame → Type 0
@@ -82,7 +82,7 @@ IsLoopSplitOf continuation first out s =
 -- behind n iterations the way out of the loop is tried later at each place, the last one first
 abbrev pub run_frames : (out : plain.NfaConfig → plain.NfaConfig) → ℕ → plain.NfaConfig → List Frame → List Frame
 run_frames out zero s frames = frames
-run_frames out (suc n) s frames = Other (out (onward n s)) ∷ Fails (pair_of (onward n s)) ∷ run_frames out n s frames
+run_frames out (suc n) s frames = Other (out (onward n s)) ∷ Fails (onward n s) ∷ run_frames out n s frames
 
 -- each takes up the head and the character
 abbrev pub run_search : (out : plain.NfaConfig → plain.NfaConfig) → ℕ → plain.NfaConfig → Search → Search

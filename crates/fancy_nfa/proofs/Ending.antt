@@ -1,6 +1,6 @@
 -- A search comes to its end: each configuration leads to lower ones alone.
 use Rattle.std.proofs.Common.{◌≡◌, ℕ, zero, suc, ◌+◌, Bool, true, false, if◌then◌else◌, List, [], ◌∷◌, ◌++◌, Option, Some, None, slice_get, refl, sym, subst, ap}
-use Rattle.fancy_nfa.specs.NfaSearch.{NfaConfig, Pair, StepResult, Found, Lost, Goes, Tries, Frame, Fails, Search, Next, TakesUp, TakesBack, Ends, pair_of, visited, others, with_frames, next_by, back_to}
+use Rattle.fancy_nfa.specs.NfaSearch.{NfaConfig, StepResult, Found, Lost, Goes, Tries, Frame, Fails, Search, Next, TakesUp, TakesBack, Ends, pair_of, visited, others, with_frames, next_by, back_to}
 use Rattle.fancy_nfa.proofs.Positions.{Ground, Position, Positions, AllLower, IsLower, count_at, step_result_of, next_of, after, StepFacts, Step, step, visited_is, tried_is}
 use Rattle.fancy_nfa.proofs.Descent.{at_each}
 
@@ -47,8 +47,8 @@ module _ (w : Ground) where
       and_then here.frames more (TakesUp s here) (h.0 here)
       (λ back e'. through ss more back h.1 e')))
 
-  fees_pair : (x : Pair) (more : List Frame) (found : Search) → found.frames ≡ Fails x ∷ more → GetsBack more (TakesBack found)
-  fees_pair x more found e =
+  fees_pair : (s : NfaConfig) (more : List Frame) (found : Search) → found.frames ≡ Fails s ∷ more → GetsBack more (TakesBack found)
+  fees_pair s more found e =
       one_more more (TakesBack found) (subst (λ l. GetsBack more (back_to l found)) (sym e) (0, refl))
 
   all_come_back : {s : NfaConfig} (p : Position w s) (ss : List NfaConfig) (rs : Positions w ss) → AllLower w ss rs p →
@@ -72,7 +72,7 @@ module _ (w : Ground) where
   by_step {s} p (Tries true t ts) found h below = go (found.failed (pair_of s))
     where
       more : List Frame
-      more = Fails (pair_of s) ∷ found.frames
+      more = Fails s ∷ found.frames
 
       now : Search
       now = record found { frames = others ts ++ more; visits = found.visits + count_at w s }
@@ -81,13 +81,13 @@ module _ (w : Ground) where
       all = all_come_back p (t ∷ ts) h.0 h.1 below
 
       go : (b : Bool) → GetsBack found.frames (if b then TakesBack found
-          else TakesUp t (with_frames (others ts ++ (Fails (pair_of s) ∷ [])) (visited (slice_get w.states s.at) found)))
+          else TakesUp t (with_frames (others ts ++ (Fails s ∷ [])) (visited (slice_get w.states s.at) found)))
       go true = (0, refl)
       go false =
           subst (λ f. GetsBack found.frames (TakesUp t f)) (tried_is w s ts found)
           (and_then now.frames found.frames (TakesUp t now) (all.0 now)
           (λ back e. and_then more found.frames (TakesBack back) (through ts more back all.1 e)
-          (λ last e'. fees_pair (pair_of s) found.frames last e')))
+          (λ last e'. fees_pair s found.frames last e')))
 
   module _ (facts : StepFacts w) where
     comes_back : (s : NfaConfig) (p : Position w s) → ComesBack s

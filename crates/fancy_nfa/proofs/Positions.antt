@@ -204,9 +204,9 @@ visited_is w s found = go (is_counted (slice_get w.states s.at))
 
 -- with all that its pair leads to before the pair
 pub tried_is : (w : Ground) (s : NfaConfig) (ts : List NfaConfig) (found : Search) →
-    record found { frames = others ts ++ (Fails (pair_of s) ∷ found.frames); visits = found.visits + count_at w s }
-    ≡ with_frames (others ts ++ (Fails (pair_of s) ∷ [])) (visited (slice_get w.states s.at) found)
+    record found { frames = others ts ++ (Fails s ∷ found.frames); visits = found.visits + count_at w s }
+    ≡ with_frames (others ts ++ (Fails s ∷ [])) (visited (slice_get w.states s.at) found)
 tried_is w s ts found =
     ap (λ l. record found { frames = l; visits = found.visits + count_at w s })
-    (sym (append_assoc (others ts) (Fails (pair_of s) ∷ []) found.frames))
-    ∙ ap (with_frames (others ts ++ (Fails (pair_of s) ∷ []))) (visited_is w s found)
+    (sym (append_assoc (others ts) (Fails s ∷ []) found.frames))
+    ∙ ap (with_frames (others ts ++ (Fails s ∷ []))) (visited_is w s found)

@@ -9,7 +9,7 @@ use Rattle.fancy_nfa.proofs.Positions.{Ground, Position, Positions, AllLower, Is
 abbrev IsTried : Pair → List Frame → Type 0
 IsTried x [] = ⊥
 IsTried x (Other s ∷ frames) = IsTried x frames
-IsTried x (Fails y ∷ frames) = (y ≡ x) ⊎ IsTried x frames
+IsTried x (Fails s ∷ frames) = (pair_of s ≡ x) ⊎ IsTried x frames
 
 tried_among : (x : Pair) (ss : List NfaConfig) (frames : List Frame) → IsTried x (others ss ++ frames) → IsTried x frames
 tried_among x [] frames h = h
@@ -91,7 +91,7 @@ module _ (w : Ground) (start : ℕ) where
   under_on frames to under x tried = let h = under x tried in (h.0, h.1, h.2, in_more h.3 to)
 
   under_tried : {s t : NfaConfig} (p : Position w s) (frames : List Frame) → LeadsTo w (step_result_of w s) t → Under frames s →
-      Under (Fails (pair_of s) ∷ frames) t
+      Under (Fails s ∷ frames) t
   under_tried {s} p frames to under x tried =
       ⊎_elim (λ e. (s, p, sym e, in_one to)) (λ h. under_on frames to under x h) tried
 
@@ -190,7 +190,7 @@ module _ (w : Ground) (start : ℕ) where
         all = all_on p (t ∷ ts) h.0 on h.1
 
         more : List Frame
-        more = Fails (pair_of s) ∷ found.frames
+        more = Fails s ∷ found.frames
 
         here : (u : NfaConfig) → IsOneOf w (t ∷ ts) u → Under more u
         here u one = under_tried p found.frames (subst (λ l. LeadsTo w l u) (sym is) one) under
@@ -200,7 +200,7 @@ module _ (w : Ground) (start : ℕ) where
 
         go : (b : Bool) → found.failed (pair_of s) ≡ b →
             Counted (if b then TakesBack found
-            else TakesUp t (with_frames (others ts ++ (Fails (pair_of s) ∷ [])) (visited (slice_get w.states s.at) found)))
+            else TakesUp t (with_frames (others ts ++ (Fails s ∷ [])) (visited (slice_get w.states s.at) found)))
         go true e = (
           xs,
           (
@@ -234,12 +234,12 @@ module _ (w : Ground) (start : ℕ) where
         Account frames found.failed xs → Counted (back_to frames found)
     counts_back xs [] found within account = (xs, (within, account.0, all_tried [] found.failed xs account))
     counts_back xs (Other s ∷ frames) found within account = (xs, (within.0, within.1, within.2, within.3, account))
-    counts_back xs (Fails x ∷ frames) found within account = (
+    counts_back xs (Fails s ∷ frames) found within account = (
       xs,
       (
         within,
-        account_on (Fails x ∷ frames) frames found.failed (with_failed x found).failed xs
-            (λ y e. or_true (same_pair x y) (found.failed y) e)
+        account_on (Fails s ∷ frames) frames found.failed (with_failed (pair_of s) found).failed xs
+            (λ y e. or_true (same_pair (pair_of s) y) (found.failed y) e)
             (λ y k. ⊎_elim (λ e. inl (or_same y e)) (λ tried. inr tried) k) account,
       ),
     )
@@ -248,8 +248,8 @@ module _ (w : Ground) (start : ℕ) where
         or_true true b e = refl
         or_true false b e = e
 
-        or_same : (y : Pair) → x ≡ y → (same_pair x y || found.failed y) ≡ true
-        or_same y e = ap (λ b. b || found.failed y) (ap (same_pair x) (sym e) ∙ pairs.itself x)
+        or_same : (y : Pair) → pair_of s ≡ y → (same_pair (pair_of s) y || found.failed y) ≡ true
+        or_same y e = ap (λ b. b || found.failed y) (ap (same_pair (pair_of s)) (sym e) ∙ pairs.itself (pair_of s))
 
     counts_next : (n : Next) → Counted n → Counted (next_of w n)
     counts_next (TakesUp s found) h =

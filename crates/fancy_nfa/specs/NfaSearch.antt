@@ -133,8 +133,8 @@ module _ (text : List ℕ) (unicode : Bool) where
 -- what is tried when all before it has no way
 pub data Frame : Type 0 where
   Other : NfaConfig → Frame
-  -- all that this pair leads to has no way
-  Fails : Pair → Frame
+  -- all that the pair of this configuration leads to has no way
+  Fails : NfaConfig → Frame
 
 pub record Search : Type 0 where
   pub frames : List Frame
@@ -180,23 +180,23 @@ abbrev pub with_failed : Pair → Search → Search
 with_failed p s = record s { failed = λ q. same_pair p q || s.failed q }
 
 -- a pair is taken up if it is not known to have no way
-abbrev pub tries : Bool → Pair → NfaConfig → List NfaConfig → Option NfaState → Search → Next
-tries false pair s ss p found = TakesUp s (with_frames (others ss) (visited p found))
-tries true pair s ss p found =
-    if found.failed pair then TakesBack found
-    else TakesUp s (with_frames (others ss ++ (Fails pair ∷ [])) (visited p found))
+abbrev pub tries : Bool → (from : NfaConfig) → NfaConfig → List NfaConfig → Option NfaState → Search → Next
+tries false from s ss p found = TakesUp s (with_frames (others ss) (visited p found))
+tries true from s ss p found =
+    if found.failed (pair_of from) then TakesBack found
+    else TakesUp s (with_frames (others ss ++ (Fails from ∷ [])) (visited p found))
 
 abbrev pub next_by : StepResult → Option NfaState → NfaConfig → Search → Next
 next_by Found p s found = Ends (Some s) (visited p found)
 next_by Lost p s found = TakesBack (visited p found)
 next_by (Goes t) p s found = TakesUp t (visited p found)
-next_by (Tries is_memoized t ts) p s found = tries is_memoized (pair_of s) t ts p found
+next_by (Tries is_memoized t ts) p s found = tries is_memoized s t ts p found
 
 -- back to what is tried later
 abbrev pub back_to : List Frame → Search → Next
 back_to [] found = Ends None found
 back_to (Other s ∷ frames) found = TakesUp s (record found { frames = frames })
-back_to (Fails pair ∷ frames) found = TakesBack (with_failed pair (record found { frames = frames }))
+back_to (Fails s ∷ frames) found = TakesBack (with_failed (pair_of s) (record found { frames = frames }))
 
 module _ (text : List ℕ) (unicode : Bool) (states : List NfaState) where
   abbrev pub step_result : NfaConfig → StepResult

@@ -128,7 +128,7 @@ search_memoized continuation m new f p same failed h = record {
 
 -- the last choice was tried: its pair is memoized
 pub back_memoized : (searcher : Searcher) (next : plain.Next) (steps : ℕ) (f : plain.Search) (s : plain.NfaConfig) (rest : List plain.Frame) →
-    after_steps_of searcher steps next ≡ plain.TakesBack f → f.frames ≡ plain.Fails (plain.pair_of s) ∷ rest →
+    after_steps_of searcher steps next ≡ plain.TakesBack f → f.frames ≡ plain.Fails s ∷ rest →
     after_steps_of searcher (suc steps) next ≡ plain.TakesBack (plain.with_failed (plain.pair_of s) (record f { frames = rest }))
 back_memoized searcher next steps f s rest e keeps =
     one_more searcher steps next (plain.TakesBack f) e ∙ ap (λ l. plain.back_to l f) keeps

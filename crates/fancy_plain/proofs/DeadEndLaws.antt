@@ -95,14 +95,14 @@ module _ (searcher : Searcher) where
       IsDeadEnd searcher at place
   join_dead at place there dead s f is here = go (f.failed (pair_of s)) refl
     where
-      leads : next_of searcher (TakesUp s f) ≡ plain.tries true (pair_of s) (plain.forward s) [] (Some (state_of nfa_state.Join)) f
+      leads : next_of searcher (TakesUp s f) ≡ plain.tries true s (plain.forward s) [] (Some (state_of nfa_state.Join)) f
       leads = stepped nfa_state.Join at there s f is (plain.Tries true (plain.forward s) []) refl
 
       go : (b : Bool) → f.failed (pair_of s) ≡ b →
           (steps : ℕ) × ((g : Search) × ((after_steps_of searcher steps (TakesUp s f) ≡ TakesBack g) × (g.frames ≡ f.frames)))
       go true known = (1, (f, (leads ∙ cond-true (f.failed (pair_of s)) _ _ known, refl)))
       go false known =
-          let kept : Search = record f { frames = Fails (pair_of s) ∷ f.frames } in
+          let kept : Search = record f { frames = Fails s ∷ f.frames } in
           let x = dead (plain.forward s) kept (ap (λ i. i + 1) is) here in
           let up = leads ∙ cond-false (f.failed (pair_of s)) _ _ known in
           let back = ap (after_steps_of searcher x.0) up ∙ x.1.1.0 in (
@@ -161,7 +161,7 @@ module _ (searcher : Searcher) where
       memoized leads true known =
           (1, (f, (stepped p at there s f is (plain.Tries true (goes_to first s) (goes_to second s ∷ [])) (leads s) ∙ cond-true (f.failed (pair_of s)) _ _ known, refl)))
       memoized leads false known =
-          let x = both (Fails (pair_of s) ∷ visited.frames)
+          let x = both (Fails s ∷ visited.frames)
           (stepped p at there s f is (plain.Tries true (goes_to first s) (goes_to second s ∷ [])) (leads s) ∙ cond-false (f.failed (pair_of s)) _ _ known) in (
             suc x.0,
             (

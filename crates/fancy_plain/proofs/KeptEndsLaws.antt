@@ -1,13 +1,19 @@
 -- Where one-pass matches end that are kept.
-use Rattle.std.proofs.Common.{◌≡◌, ◌+◌, ℕ, Bool, false, List, [], ◌∷◌, ◌++◌, Some, slice_get, slice_set, refl, ◌∙◌, subst, ⊎_elim}
+use Rattle.std.proofs.Common.{◌≡◌, ◌+◌, ℕ, Bool, false, List, [], ◌∷◌, ◌++◌, Option, Some, None, IfSome, slice_get, slice_set, refl, sym, ◌∙◌, subst, ⊎_elim}
 use Rattle.std.proofs.lemmas.Option.{none-some}
+use denote.Bor.{Bor}
 use Rattle.fancy_nfa.specs.NfaSearch as plain
 use Rattle.fancy_nfa.specs.NfaSearch.{TakesUp, first_config, first_search}
 use Rattle.fancy_plain.specs.declared.kept_ends.KeptEnd.{KeptEnd}
+use Rattle.fancy_plain.specs.declared.kept_ends.KeptEnds.{KeptEnds}
 use Rattle.fancy_plain.specs.declared.kept_ends.Passage.{Passage}
+use Rattle.fancy_plain.specs.declared.nfa.Nfa.{Nfa}
 use Rattle.fancy_plain.specs.declared.nfa_state.NfaState.{NfaState}
+use Rattle.fancy_plain.specs.declared.one_pass_cache.OnePassCache.{OnePassCache}
 use Rattle.fancy_plain.specs.declared.search.Searcher.{Searcher}
-use Rattle.fancy_plain.specs.KeptEnds.{EndsFrom}
+use Rattle.fancy_plain.specs.KeptEnds.{AreEndsBy, AreEndsIn, EndsFrom}
+use Rattle.fancy_plain.specs.KeptRuns.{AreRunsIn}
+use Rattle.fancy_plain.specs.OnePassCaches.{IsCacheBy, IsCacheOf}
 use Rattle.fancy_plain.specs.OnePass.{EndsOnePass, Succeeds, Walks, config_at}
 use Rattle.fancy_plain.specs.declared.one_pass.OnePass.TheVariants as one_pass
 use Rattle.fancy_plain.proofs.BackLaws.{steps_then}
@@ -42,6 +48,13 @@ module _ (t : Searcher) where
   EachLeads passages at place =
       (i : ℕ) (p : Passage) → slice_get passages i ≡ Some p → (s : plain.NfaConfig) → Walks t false (config_at s p.state p.place) (config_at s at place)
 
+  pub found_by : (o : Option ℕ) (ends : KeptEnds) (at place : ℕ) →
+      IfSome o (λ end. (text : List ℕ) (unicode : Bool) (states : List NfaState) → AreEndsIn text unicode states ends →
+      EndsFrom text unicode states at place end) →
+      IfSome o (λ end. AreEndsBy t ends → EndsFrom (t.text).now t.unicode (t.states).now at place end)
+  found_by None ends at place h = tt
+  found_by (Some end) ends at place h = h (t.text).now t.unicode (t.states).now
+
   pub none_lead : (passages : List Passage) (at place : ℕ) → passages ≡ [] → EachLeads passages at place
   none_lead passages at place e i p there = absurd (none-some p (subst (λ l. slice_get l i ≡ Some p) e there))
 
@@ -64,36 +77,65 @@ module _ (t : Searcher) where
   -- what leads to an end ends there
   pub ends_behind : (b : Bool) (from start at place end : ℕ) → ((s : plain.NfaConfig) → Walks t b (config_at s from start) (config_at s at place)) →
       EndsFrom (t.text).now t.unicode (t.states).now at place end → EndsFrom (t.text).now t.unicode (t.states).now from start end
-  ends_behind b from start at place end w ends s f blank =
-      let x = w s f blank in
-      let y = ends s x.1.0 x.1.1.1 in (
+  ends_behind b from start at place end w ends a es states_are f blank =
+      let x = w (first_config start) f blank in
+      let y = ends a es states_are x.1.0 x.1.1.1 in (
         y.0,
         (
           x.0 + y.1.0,
           (
             y.1.1.0,
-            steps_then t x.0 y.1.0 (TakesUp (config_at s from start) f) (TakesUp (config_at s at place) x.1.0) x.1.1.0 ∙ y.1.1.1,
+            (
+              steps_then t x.0 y.1.0 (TakesUp (config_at (first_config start) from start) f) (TakesUp (config_at (first_config start) at place) x.1.0)
+                  x.1.1.0 ∙ y.1.1.1.0,
+              y.1.1.1.1,
+              y.1.1.1.2,
+            ),
           ),
         ),
       )
 
   pub ends_here : (at place : ℕ) → ((s : plain.NfaConfig) → Succeeds t (config_at s at place)) →
       EndsFrom (t.text).now t.unicode (t.states).now at place place
-  ends_here at place succeeds s f blank = succeeds s f blank
+  ends_here at place succeeds a es states_are f blank =
+      let x = succeeds (first_config place) f blank in
+      (config_at (first_config place) x.0 place, (x.1.0, (x.1.1.0, (x.1.1.1, refl, refl))))
 
   -- a search from the start that comes there
   pub finds_kept : (b : Bool) (ix at place end : ℕ) → Walks t b (first_config ix) (config_at (first_config ix) at place) →
       EndsFrom (t.text).now t.unicode (t.states).now at place end → EndsOnePass t ix (one_pass.Ends end)
-  finds_kept b ix at place end w ends =
+  finds_kept b ix at place end w ends a es states_are =
       let x = w (first_search (λ q. false)) (λ q. refl) in
-      let y = ends (first_config ix) x.1.0 x.1.1.1 in (
+      let y = ends a es states_are x.1.0 x.1.1.1 in (
         y.0,
         (
-          x.0 + y.1.0,
           (
-            y.1.1.0,
-            steps_then t x.0 y.1.0 (TakesUp (first_config ix) (first_search (λ q. false))) (TakesUp (config_at (first_config ix) at place) x.1.0) x.1.1.0
-                ∙ y.1.1.1,
+            x.0 + y.1.0,
+            (
+              y.1.1.0,
+              steps_then t x.0 y.1.0 (TakesUp (first_config ix) (first_search (λ q. false))) (TakesUp (config_at (first_config ix) at place) x.1.0)
+                  x.1.1.0 ∙ y.1.1.1.0,
+            ),
           ),
+          y.1.1.1.1,
+          y.1.1.1.2,
         ),
       )
+
+-- ---- what is kept by an NFA, and by the searcher of its states
+
+module _ (states : Bor (List NfaState)) (text : Bor (List ℕ)) (f : Nfa) (cache : OnePassCache) (same : states.now ≡ f.states.items) where
+  abbrev nfa_searcher : Searcher
+  nfa_searcher = record { states = states; unicode = f.unicode; text = text }
+
+  pub cache_by : IsCacheOf text.now f cache → IsCacheBy nfa_searcher cache
+  cache_by h = record {
+    runs = subst (λ l. AreRunsIn text.now f.unicode l cache.runs) (sym same) h.runs;
+    ends = subst (λ l. AreEndsIn text.now f.unicode l cache.ends) (sym same) h.ends;
+  }
+
+  pub cache_of : IsCacheBy nfa_searcher cache → IsCacheOf text.now f cache
+  cache_of h = record {
+    runs = subst (λ l. AreRunsIn text.now f.unicode l cache.runs) same h.runs;
+    ends = subst (λ l. AreEndsIn text.now f.unicode l cache.ends) same h.ends;
+  }

@@ -12,7 +12,7 @@ module _ (P : NfaConfig → Type 0) where
   abbrev FramesKeep : List Frame → Type 0
   FramesKeep [] = Unit {0}
   FramesKeep (Other s ∷ frames) = P s × FramesKeep frames
-  FramesKeep (Fails p ∷ frames) = FramesKeep frames
+  FramesKeep (Fails s ∷ frames) = FramesKeep frames
 
   -- it is not the end, and leads to configurations alone of which it holds
   abbrev pub StepKeeps : StepResult → Type 0
@@ -41,32 +41,32 @@ module _ (P : NfaConfig → Type 0) where
   others_keep [] frames h l = l
   others_keep (t ∷ ts) frames h l = (h.0, others_keep ts frames h.1 l)
 
-  memoized_keeps : (ts : List NfaConfig) (p : Pair) (frames : List Frame) → AllKeep ts → FramesKeep frames →
-      FramesKeep ((others ts ++ (Fails p ∷ [])) ++ frames)
-  memoized_keeps [] p frames h l = l
-  memoized_keeps (t ∷ ts) p frames h l = (h.0, memoized_keeps ts p frames h.1 l)
+  memoized_keeps : (ts : List NfaConfig) (s : NfaConfig) (frames : List Frame) → AllKeep ts → FramesKeep frames →
+      FramesKeep ((others ts ++ (Fails s ∷ [])) ++ frames)
+  memoized_keeps [] s frames h l = l
+  memoized_keeps (t ∷ ts) s frames h l = (h.0, memoized_keeps ts s frames h.1 l)
 
-  tries_keeps : (is_memoized : Bool) (pair : Pair) (t : NfaConfig) (ts : List NfaConfig) (o : Option NfaState) (f : Search) →
-      P t → AllKeep ts → FramesKeep f.frames → NextKeeps (tries is_memoized pair t ts o f)
-  tries_keeps false pair t ts o f h hs l = (h, others_keep ts (visited o f).frames hs (visited_keeps o f l))
-  tries_keeps true pair t ts o f h hs l = go (f.failed pair)
+  tries_keeps : (is_memoized : Bool) (s t : NfaConfig) (ts : List NfaConfig) (o : Option NfaState) (f : Search) →
+      P t → AllKeep ts → FramesKeep f.frames → NextKeeps (tries is_memoized s t ts o f)
+  tries_keeps false s t ts o f h hs l = (h, others_keep ts (visited o f).frames hs (visited_keeps o f l))
+  tries_keeps true s t ts o f h hs l = go (f.failed (pair_of s))
     where
       go : (b : Bool) →
-          NextKeeps (if b then TakesBack f else TakesUp t (with_frames (others ts ++ (Fails pair ∷ [])) (visited o f)))
+          NextKeeps (if b then TakesBack f else TakesUp t (with_frames (others ts ++ (Fails s ∷ [])) (visited o f)))
       go true = l
-      go false = (h, memoized_keeps ts pair (visited o f).frames hs (visited_keeps o f l))
+      go false = (h, memoized_keeps ts s (visited o f).frames hs (visited_keeps o f l))
 
   by_step : (step_result : StepResult) (o : Option NfaState) (s : NfaConfig) (f : Search) → StepKeeps step_result → FramesKeep f.frames →
       NextKeeps (next_by step_result o s f)
   by_step Found o s f h l = absurd h
   by_step Lost o s f h l = visited_keeps o f l
   by_step (Goes t) o s f h l = (h, visited_keeps o f l)
-  by_step (Tries is_memoized t ts) o s f h l = tries_keeps is_memoized (pair_of s) t ts o f h.0 h.1 l
+  by_step (Tries is_memoized t ts) o s f h l = tries_keeps is_memoized s t ts o f h.0 h.1 l
 
   back_keeps : (frames : List Frame) (f : Search) → FramesKeep frames → NextKeeps (back_to frames f)
   back_keeps [] f l = tt
   back_keeps (Other s ∷ frames) f l = l
-  back_keeps (Fails p ∷ frames) f l = l
+  back_keeps (Fails s ∷ frames) f l = l
 
   module _ (text : List ℕ) (unicode : Bool) (states : List NfaState) (leads : (s : NfaConfig) → P s → StepKeeps (step_result text unicode states s)) where
     step_keeps : (n : Next) → NextKeeps n → NextKeeps (next text unicode states n)

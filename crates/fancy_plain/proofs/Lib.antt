@@ -19,5 +19,6 @@ pub mod CountedLaws
 pub mod BranchLoopsLaws
 pub mod KeptRunsLaws
 pub mod KeptEndsLaws
+pub mod FoundEndsLaws
 pub mod ThreadsLaws
 pub mod JoinedLayout

@@ -1,5 +1,5 @@
 -- Ways that a search comes to without taking a choice back.
-use Rattle.std.proofs.Common.{◌≡◌, ◌≤◌, ◌<◌, ◌+◌, ◌-◌, ◌&&◌, ◌∷◌, ℕ, zero, suc, true≢false, Bool, true, false, List, [], Option, Some, None, Result, Ok, Err, IfOk, IsTrue, if◌then◌else◌, option_map, map, not, slice_get, slice_index_or, refl, sym, ap, ◌∙◌, subst, arith}
+use Rattle.std.proofs.Common.{◌≡◌, ◌≤◌, ◌<◌, ◌+◌, ◌-◌, ◌&&◌, ◌∷◌, ℕ, zero, suc, true≢false, Bool, true, false, List, [], Option, Some, None, Result, Ok, Err, IfOk, IsTrue, if◌then◌else◌, option_map, map, not, slice_get, slice_index_or, refl, sym, ap, ap₂, ◌∙◌, subst, arith}
 use Rattle.std.proofs.lemmas.Bool.{cond-false}
 use Rattle.std.proofs.lemmas.Str.{len_utf8_bounds}
 use denote.Bor.{Bor}
@@ -125,8 +125,8 @@ module _ (searcher : Searcher) where
               ∙ steps_then searcher x.0 y.0 (TakesUp s on) (TakesBack x.1.0) x.1.1.0 ∙ y.1.1,
         ),
       )
-  goes_back (Fails p ∷ frames) f e h =
-      let x = goes_back frames (plain.with_failed p (record f { frames = frames })) refl h in
+  goes_back (Fails s ∷ frames) f e h =
+      let x = goes_back frames (plain.with_failed (pair_of s) (record f { frames = frames })) refl h in
       (suc x.0, (x.1.0, ap (λ l. after_steps_of searcher x.0 (plain.back_to l f)) e ∙ x.1.1))
 
   pub finds_none : (ix : ℕ) (s : plain.NfaConfig) → Walks searcher true (plain.first_config ix) s → Loses searcher s → Finds searcher ix None
@@ -208,7 +208,7 @@ module _ (searcher : Searcher) where
         let c = plain.is_counted (Some (state_of p)) in (
           1,
           (
-            plain.with_frames (Fails (pair_of s) ∷ []) (plain.visited (Some (state_of p)) f),
+            plain.with_frames (Fails s ∷ []) (plain.visited (Some (state_of p)) f),
             (
               stepped f (plain.Tries true t []) leads ∙ cond-false (f.failed (pair_of s)) _ _ (blank (pair_of s)),
               counted_blank c f blank,
@@ -235,7 +235,7 @@ module _ (searcher : Searcher) where
         let v = plain.visited (Some (state_of p)) f in (
           1,
           (
-            plain.with_frames (Other u ∷ Fails (pair_of s) ∷ []) v,
+            plain.with_frames (Other u ∷ Fails s ∷ []) v,
             (
               stepped f (plain.Tries true t (u ∷ [])) leads ∙ cond-false (f.failed (pair_of s)) _ _ (blank (pair_of s)),
               counted_blank c f blank,
@@ -271,7 +271,7 @@ module _ (searcher : Searcher) where
     tries_memoized t u leads fails f blank =
         let c = plain.is_counted (Some (state_of p)) in
         let v = plain.visited (Some (state_of p)) f in
-        let g : Search = plain.with_frames (Other u ∷ Fails (pair_of s) ∷ []) v in
+        let g : Search = plain.with_frames (Other u ∷ Fails s ∷ []) v in
         let x = fails t g refl refl in
         let up : next_of searcher (TakesUp s f) ≡ TakesUp t g =
         stepped f (plain.Tries true t (u ∷ [])) leads ∙ cond-false (f.failed (pair_of s)) _ _ (blank (pair_of s)) in
@@ -279,7 +279,7 @@ module _ (searcher : Searcher) where
         steps_then searcher 1 x.0 (TakesUp s f) (TakesUp t g) up ∙ x.1.1 in (
           1 + x.0 + 1,
           (
-            record v { frames = Fails (pair_of s) ∷ v.frames; visits = v.visits + x.1.0 },
+            record v { frames = Fails s ∷ v.frames; visits = v.visits + x.1.0 },
             (
               steps_then searcher (1 + x.0) 1 (TakesUp s f) (TakesBack (record g { visits = g.visits + x.1.0 })) gone,
               counted_blank c f blank,
@@ -309,6 +309,10 @@ module _ (searcher : Searcher) where
           ),
         ),
       )
+
+  pub ends_bare : (ix place : ℕ) → (at : ℕ) × Finds searcher ix (Some (config_at (plain.first_config ix) at place)) →
+      EndsOnePass searcher ix (one_pass.Ends place)
+  ends_bare ix place h a es states_are = (config_at (plain.first_config ix) h.0 place, (h.1, refl, refl))
 
   -- a group ends
   pub closes : (group : ℕ) (base : plain.NfaConfig) (at place : ℕ) → slice_get (searcher.states).now at ≡ Some (nfa_state.Close group) →
@@ -465,7 +469,7 @@ module _ (searcher : Searcher) where
       (body : IsBody (searcher.states).now head first test) where
     abbrev taken : ℕ → Search → Search
     taken i f = record f {
-      frames = Other (config_at base second i) ∷ Fails (pair_of (config_at base head i)) ∷ f.frames;
+      frames = Other (config_at base second i) ∷ Fails (config_at base head i) ∷ f.frames;
       visits = f.visits + 1;
     }
 
@@ -498,7 +502,7 @@ module _ (searcher : Searcher) where
         ∙ ap (λ o. plain.next_by (plain.goes_past (config_at base first i) o) (Some (states.Character (test_of test))) (config_at base first i) g) none in (
           3,
           (
-            record f { frames = Fails (pair_of (config_at base head i)) ∷ f.frames; visits = f.visits + 1 + 1 },
+            record f { frames = Fails (config_at base head i) ∷ f.frames; visits = f.visits + 1 + 1 },
             (ap (after_steps_of searcher 2) (loop_splits i f blank) ∙ ap (next_of searcher) gone, blank, λ e h. h),
           ),
         )
@@ -620,7 +624,10 @@ module _ (states : Bor (List NfaState)) (text : Bor (List ℕ)) (f : Nfa) (place
       (sym (same_end text.now f place (λ p. false) is_text at no_pairs a es h pos continued steps way g ended))
 
   pub one_pass_is : (r : OnePass) → EndsOnePass nfa_searcher place r → IsOnePass text.now f place r
-  one_pass_is (one_pass.Ends end) (i, h) = first_at (Some (config_at (plain.first_config place) i end)) h
+  one_pass_is (one_pass.Ends end) h = λ a es is pos continued.
+      let states_are = ap (map state_of) same ∙ is.states in
+      let x = h a es (is.easy, states_are) in
+      first_at (Some x.0) x.1.0 a es is pos continued ∙ ap₂ (λ i spans. Some (i, spans_of spans)) x.1.1 x.1.2
   one_pass_is one_pass.Fails h = first_at None h
   one_pass_is one_pass.Unknown h = tt
 

@@ -94,7 +94,7 @@ module _ (searcher : Searcher) (here : NfaConfig) (first : ℕ) (out : plain.Nfa
     (counted : plain.is_counted (slice_get (map state_of (searcher.states).now) here.at) ≡ true) where
   abbrev taken : Search → plain.NfaConfig → Search
   taken g t = record g {
-    frames = plain.Other (out t) ∷ plain.Fails (pair_of t) ∷ g.frames;
+    frames = plain.Other (out t) ∷ plain.Fails t ∷ g.frames;
     visits = g.visits + 1;
   }
 
@@ -104,7 +104,7 @@ module _ (searcher : Searcher) (here : NfaConfig) (first : ℕ) (out : plain.Nfa
       let t = onward n s in
       let all = map state_of (searcher.states).now in
       ap (λ l. plain.next_by l (slice_get all s.at) t g) (loop_splits n) ∙ cond-false (g.failed (pair_of t)) _ _ free
-      ∙ ap (λ c. TakesUp (goes_to first t) (plain.with_frames (plain.Other (out t) ∷ plain.Fails (pair_of t) ∷ [])
+      ∙ ap (λ c. TakesUp (goes_to first t) (plain.with_frames (plain.Other (out t) ∷ plain.Fails t ∷ [])
       (if c then record g { visits = g.visits + 1 } else g))) (ap (λ k. plain.is_counted (slice_get all k)) (sym at) ∙ counted)
 
   body_step : (t : plain.NfaConfig) (g : Search) →
@@ -123,7 +123,7 @@ module _ (searcher : Searcher) (here : NfaConfig) (first : ℕ) (out : plain.Nfa
   pub body_fails : (f : Search) → f.failed (pair_of s) ≡ false → Excludes searcher test s.place →
       (continuation_of searcher s ≡ plain.Tries true (goes_to first s) (out s ∷ []))
       × (after_steps_of searcher 3 (TakesUp s f)
-      ≡ TakesUp (out s) (record f { frames = plain.Fails (pair_of s) ∷ f.frames; visits = f.visits + 2 }))
+      ≡ TakesUp (out s) (record f { frames = plain.Fails s ∷ f.frames; visits = f.visits + 2 }))
   body_fails f free none =
       let same : s.place + 0 ≡ s.place = omega arith in
       let step_result : continuation_of searcher s ≡ plain.Tries true (goes_to first s) (out s ∷ []) =
@@ -134,7 +134,7 @@ module _ (searcher : Searcher) (here : NfaConfig) (first : ℕ) (out : plain.Nfa
       let g = taken f s in
       let up : next_of searcher (TakesUp s f) ≡ TakesUp (goes_to first s) g =
       ap (λ l. plain.next_by l (slice_get all s.at) s f) step_result ∙ cond-false (f.failed (pair_of s)) _ _ free
-      ∙ ap (λ c. TakesUp (goes_to first s) (plain.with_frames (plain.Other (out s) ∷ plain.Fails (pair_of s) ∷ [])
+      ∙ ap (λ c. TakesUp (goes_to first s) (plain.with_frames (plain.Other (out s) ∷ plain.Fails s ∷ [])
       (if c then record f { visits = f.visits + 1 } else f))) (ap (λ k. plain.is_counted (slice_get all k)) (sym at) ∙ counted) in
       let gone : next_of searcher (TakesUp (goes_to first s) g) ≡ plain.TakesBack (record g { visits = g.visits + 1 }) =
       next_there searcher (nfa_state.Character test) (record here { at = first }) (goes_to first s) refl body g
@@ -142,7 +142,7 @@ module _ (searcher : Searcher) (here : NfaConfig) (first : ℕ) (out : plain.Nfa
       let two : f.visits + 1 + 1 ≡ f.visits + 2 = omega arith in (
         step_result,
         ap (after_steps_of searcher 2) up ∙ ap (next_of searcher) gone
-            ∙ ap (λ v. TakesUp (out s) (record f { frames = plain.Fails (pair_of s) ∷ f.frames; visits = v })) two,
+            ∙ ap (λ v. TakesUp (out s) (record f { frames = plain.Fails s ∷ f.frames; visits = v })) two,
       )
 
   -- where an iteration after n of them comes to
@@ -415,8 +415,8 @@ pub back_lost : (searcher : Searcher) (next : plain.Next) (steps : ℕ) (f : Sea
     ≡ plain.TakesBack (plain.with_failed (pair_of s) (record f { frames = rest; visits = f.visits + 1 })))
 back_lost searcher next steps f here s rest back at place lost (is_memoized, (one, (other, (step_result, frames)))) =
     let is = lost s one other is_memoized (sym at) (sym place) step_result in
-    let kept : f.frames ≡ plain.Other other ∷ plain.Fails (pair_of s) ∷ rest = frames ∙ ap (λ b. plain.Other other ∷ (fails_of b s ++ rest)) is.0 in
-    let g : Search = record f { frames = plain.Fails (pair_of s) ∷ rest } in
+    let kept : f.frames ≡ plain.Other other ∷ plain.Fails s ∷ rest = frames ∙ ap (λ b. plain.Other other ∷ (fails_of b s ++ rest)) is.0 in
+    let g : Search = record f { frames = plain.Fails s ∷ rest } in
     let up = one_more searcher steps next (plain.TakesBack f) back ∙ ap (λ l. plain.back_to l f) kept in
     let fails = is.2 other g refl is.1 in
     let gone = steps_then searcher (suc steps) fails.0 next (TakesUp other g) up ∙ fails.1 in
@@ -481,7 +481,7 @@ test_passed searcher m counted on test t g there pass more h here =
 
 -- the other way on is taken up, where the pair is kept to be memoized and two states were taken up
 abbrev pub out_of : plain.NfaConfig → plain.NfaConfig → Search → plain.Next
-out_of s other f = TakesUp other (record f { frames = plain.Fails (pair_of s) ∷ f.frames; visits = f.visits + 2 })
+out_of s other f = TakesUp other (record f { frames = plain.Fails s ∷ f.frames; visits = f.visits + 2 })
 
 -- where the search is when the loop is left: what take_other is asked, and how it came there
 pub record Left (searcher : Searcher) (counted : Memo) (here : NfaConfig) (s : plain.NfaConfig) (f : Search) : Type 0 where

@@ -1,19 +1,24 @@
 -- Where one-pass matches end that come to a place.
-use Rattle.std.specs.Prelude.{◌≡◌, ℕ, Bool, false, List, Some, map, slice_get}
-use Rattle.fancy_nfa.specs.NfaSearch.{Ends, NfaConfig, Search, TakesUp, after_steps}
+use Rattle.std.specs.Prelude.{◌≡◌, ℕ, Bool, false, List, [], Some, map, slice_get}
+use Rattle.fancy_meaning.specs.Options.{Analysis}
+use Rattle.fancy_meaning.specs.Tree.{Tree}
+use Rattle.fancy_nfa.specs.NfaSearch.{Ends, NfaConfig, Search, TakesUp, after_steps, first_config}
 use Rattle.fancy_plain.specs.declared.kept_ends.KeptEnd.{KeptEnd}
 use Rattle.fancy_plain.specs.declared.kept_ends.KeptEnds.{KeptEnds}
 use Rattle.fancy_plain.specs.declared.kept_ends.Passage.{Passage}
 use Rattle.fancy_plain.specs.declared.nfa_state.NfaState.{NfaState}
 use Rattle.fancy_plain.specs.declared.search.Searcher.{Searcher}
-use Rattle.fancy_plain.specs.OnePass.{IsBlank, Walks, config_at}
+use Rattle.fancy_plain.specs.OnePass.{AreStatesOf, IsBlank, Walks, config_at}
 use Rattle.fancy_plain.specs.Views.{state_of}
 
--- a search that knows of no pair ends there, if it takes up this state at this place
+-- a search that knows of no pair ends there and sets no group, if it takes up this state at this place outside loops that
+-- count and groups
 abbrev pub EndsFrom : (text : List ℕ) → (unicode : Bool) → List NfaState → (state place end : ℕ) → Type 0
 EndsFrom text unicode states state place end =
-    (s : NfaConfig) (f : Search) → IsBlank f → (at : ℕ) × ((steps : ℕ) × ((g : Search) ×
-    (after_steps text unicode (map state_of states) steps (TakesUp (config_at s state place) f) ≡ Ends (Some (config_at s at end)) g)))
+    (a : Analysis) (es : List Tree) → AreStatesOf a es states → (f : Search) → IsBlank f →
+    (s : NfaConfig) × ((steps : ℕ) × ((g : Search) ×
+    ((after_steps text unicode (map state_of states) steps (TakesUp (config_at (first_config place) state place) f)
+    ≡ Ends (Some s) g) × (s.place ≡ end) × (s.spans ≡ []))))
 
 -- so it is with each end that is kept
 abbrev pub AreEndsIn : (text : List ℕ) → (unicode : Bool) → List NfaState → KeptEnds → Type 0

@@ -15,6 +15,7 @@ pub mod CountedWays
 pub mod BranchLoops
 pub mod KeptRuns
 pub mod KeptEnds
+pub mod FoundEnds
 pub mod OnePassCaches
 pub mod RequiredBytes
 pub mod LoopsInLoops

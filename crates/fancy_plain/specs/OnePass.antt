@@ -1,9 +1,10 @@
 -- Ways that a search comes to without taking a choice back.
-use Rattle.std.specs.Prelude.{◌≡◌, ◌≤◌, ◌<◌, ℕ, Bool, true, false, List, [], ◌∷◌, Option, Some, None, slice_get}
+use Rattle.std.specs.Prelude.{◌≡◌, ◌≤◌, ◌<◌, ℕ, Bool, true, false, List, [], ◌∷◌, map, Option, Some, None, slice_get}
 use Rattle.fancy_meaning.specs.Tree.{Tree}
 use Rattle.fancy_meaning.specs.Options.{Analysis}
 use Rattle.fancy_nfa.specs.NfaSearch.{Ends, Fails, Frame, Other, Pair, Search, NfaConfig, TakesBack, TakesUp, Tries, first_config, first_search, goes_to, step_by}
-use Rattle.fancy_nfa.specs.FirstWays.{Seen, first_seen, spans_of}
+use Rattle.fancy_nfa.specs.FirstWays.{AreEasy, Seen, first_seen, spans_of}
+use Rattle.fancy_nfa.specs.NfaCode.{states_of}
 use Rattle.fancy_plain.specs.declared.nfa_state.CharTest.{CharTest}
 use Rattle.fancy_plain.specs.declared.nfa_state.NfaState.{NfaState}
 use Rattle.fancy_plain.specs.declared.nfa_state.NfaState.TheVariants as nfa_state
@@ -56,7 +57,7 @@ AreDeadEnds t at from to = (i : ℕ) → from ≤ i → i < to → IsDeadEnd t a
 abbrev pub AreFails : Searcher → List Frame → Type 0
 AreFails t [] = Unit {0}
 AreFails t (Other s ∷ frames) = IsDeadEnd t s.at s.place × AreFails t frames
-AreFails t (Fails p ∷ frames) = AreFails t frames
+AreFails t (Fails s ∷ frames) = AreFails t frames
 
 -- this state tries these two ways, and nothing else
 abbrev pub IsChoice : Searcher → (at first second : ℕ) → Type 0
@@ -126,8 +127,14 @@ Finds t place way =
     (steps : ℕ) × ((g : Search) ×
     (after_steps_of t steps (TakesUp (first_config place) (first_search (λ p. false))) ≡ Ends way g))
 
+-- these are the states of neighbouring nodes, none of them hard
+abbrev pub AreStatesOf : Analysis → List Tree → List NfaState → Type 0
+AreStatesOf a es states = AreEasy a es × (map state_of states ≡ states_of a.tree es)
+
 abbrev pub EndsOnePass : Searcher → (place : ℕ) → OnePass → Type 0
-EndsOnePass t place (one_pass.Ends end) = (at : ℕ) × Finds t place (Some (config_at (first_config place) at end))
+EndsOnePass t place (one_pass.Ends end) =
+    (a : Analysis) (es : List Tree) → AreStatesOf a es (t.states).now →
+    (s : NfaConfig) × (Finds t place (Some s) × (s.place ≡ end) × (s.spans ≡ []))
 EndsOnePass t place one_pass.Fails = Finds t place None
 EndsOnePass t place one_pass.Unknown = Unit {0}
 

@@ -10,6 +10,9 @@ use std::alloc::Global;
 /// So many bytes of a text share a note.
 const BLOCK: usize = 64;
 
+/// So many bytes are near.
+pub(crate) const NEAR: usize = 256;
+
 /// A match comes to this state and place.
 #[derive(Clone, Copy)]
 pub(crate) struct Passage {
@@ -132,8 +135,22 @@ impl KeptEnds {
         }
     }
 
+    /// An end is kept for a place near behind this one.
+    pub(crate) fn has_near(&self, place: usize) -> bool {
+        let first = place / BLOCK;
+        'rows: for block in first..first.saturating_add(NEAR / BLOCK) {
+            let Some(kept) = self.by_block.get(block) else {
+                return false;
+            };
+            if kept.place >= place && kept.place - place < NEAR {
+                return true;
+            }
+        }
+        false
+    }
+
     /// Keeps this for the block of its place. Where memory is refused it is not kept.
-    fn keep(&mut self, kept: KeptEnd)
+    pub(crate) fn keep(&mut self, kept: KeptEnd)
         ensures ends { (text : List ℕ) (unicode : Bool) (states : List NfaState)
             → EndsFrom text unicode states kept.state kept.place kept.end
             → AreEndsIn text unicode states self.old → AreEndsIn text unicode states self.new }

@@ -7,6 +7,7 @@ mod counted_ways;
 mod dead_ends;
 mod first_sets;
 pub mod first_way;
+mod found_ends;
 pub mod group_spans;
 mod kept_ends;
 mod kept_runs;

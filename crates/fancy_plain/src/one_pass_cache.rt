@@ -66,7 +66,7 @@ impl Nfa {
             unicode: self.unicode,
             text,
         };
-        searcher.walk_kept(alloc, ix, cache)
+        searcher.walk_kept(alloc, ix, usize::MAX, cache)
     }
 
     /// As `one_pass_end_kept`, also of nodes with groups: the spans of the groups that the way sets are written over these.
@@ -99,11 +99,12 @@ impl Nfa {
 }
 
 impl Searcher<'_> {
-    /// From state to state, where there is no group.
-    fn walk_kept(
+    /// From state to state, where there is no group, and so many bytes or up to a place for which an end is kept.
+    pub(crate) fn walk_kept(
         &self,
         alloc: Global,
         ix: usize,
+        most: usize,
         cache: &mut OnePassCache,
     ) -> Result<OnePass, AllocError>
         requires searcher { IsSearcher self.now }
@@ -119,6 +120,9 @@ impl Searcher<'_> {
             if let Some(end) = self.kept_end(at, place, &mut cache.ends) {
                 cache.ends.settle(end);
                 return Ok(OnePass::Ends(end));
+            }
+            if place.saturating_sub(ix) > most {
+                return Ok(OnePass::Unknown);
             }
             match self.past_kept(alloc, at, place, &mut cache.runs)? {
                 Passed::On {

@@ -49,7 +49,7 @@ returns-in_ok-keep-in-Out-clause-leads c = λ continuation s f h here e.
     let pair = pair_kept c.args.self.now c.has_failed.new.self c.count-2.new.self c.keep.new.self c.has_failed.ensures.rest c.count-2.ensures
     c.keep.ensures.rest continuation c.args.config s f h here in
     let counted = record f { visits = f.visits + 1 } in
-    let frames = plain.Fails (pair_of s) ∷ f.frames in
+    let frames = plain.Fails s ∷ f.frames in
     let there = off l c.args.after s t around in (
       record counted { frames = frames },
       (
@@ -77,7 +77,7 @@ returns-in_ok-keep-in-In-clause-leads c = λ continuation s f h here e.
     let pair = pair_kept c.args.self.now c.has_failed.new.self c.count-2.new.self c.keep-in-In.new.self c.has_failed.ensures.rest c.count-2.ensures
     c.keep-in-In.ensures.rest continuation c.args.config s f h here in
     let counted = record f { visits = f.visits + 1 } in
-    let frames = plain.Fails (pair_of s) ∷ f.frames in
+    let frames = plain.Fails s ∷ f.frames in
     let kept = c.in_ok-keep-in-In.ensures.ok continuation counted s frames pair.search pair.before refl in
     let inside = pair.link c.in-Some.outer (omega (arith, ends.1.1, here.counters_link)) in
     subst (λ n. Simulates continuation s f.failed n c.counter_in.result c.counter_in.new.self) (sym anew)
@@ -96,7 +96,7 @@ returns-in_ok-keep-in-InOrOut-clause-leads c = λ continuation s f h here e.
     let pair = pair_kept c.args.self.now c.has_failed.new.self c.count-2.new.self c.keep-in-InOrOut.new.self c.has_failed.ensures.rest c.count-2.ensures
     c.keep-in-InOrOut.ensures.rest continuation c.args.config s f h here in
     let counted = record f { visits = f.visits + 1 } in
-    let frames = plain.Other (off (loop_of c.args.bounds) c.args.after s t around) ∷ plain.Fails (pair_of s) ∷ f.frames in
+    let frames = plain.Other (off (loop_of c.args.bounds) c.args.after s t around) ∷ plain.Fails s ∷ f.frames in
     let kept = c.in_ok-keep-in-InOrOut.ensures.ok continuation counted s frames pair.search pair.before (true, (_, (_, (led, refl)))) in
     let inside = pair.link c.in-Some.outer (omega (arith, ends.1.1, here.counters_link)) in
     subst (λ n. Simulates continuation s f.failed n c.counter_in-in-InOrOut.result c.counter_in-in-InOrOut.new.self) (sym anew)
@@ -116,7 +116,7 @@ returns-in_ok-keep-in-OutOrIn-clause-leads c = λ continuation s f h here e.
     let pair = pair_kept c.args.self.now c.has_failed.new.self c.count-2.new.self c.keep-in-OutOrIn.new.self c.has_failed.ensures.rest c.count-2.ensures
     c.keep-in-OutOrIn.ensures.rest continuation c.args.config s f h here in
     let counted = record f { visits = f.visits + 1 } in
-    let frames = plain.Other (on (loop_of c.args.bounds) c.args.after s t around) ∷ plain.Fails (pair_of s) ∷ f.frames in
+    let frames = plain.Other (on (loop_of c.args.bounds) c.args.after s t around) ∷ plain.Fails s ∷ f.frames in
     let there = off l c.args.after s t around in (
       record counted { frames = frames },
       (

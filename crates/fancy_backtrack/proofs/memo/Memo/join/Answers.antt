@@ -24,13 +24,13 @@ pub returns-clause-leads : goal.returns-clause-leads
 returns-clause-leads c = λ continuation s f h here e.
     let same = c.has_failed.ensures.rest in
     let trail = ap (λ (m : Memo). m.trail) c.keep.ensures.rest ∙ ap (λ (m : Memo). m.trail) same in (
-      record f { frames = plain.Fails (pair_of s) ∷ f.frames },
+      record f { frames = plain.Fails s ∷ f.frames },
       (
         plain.forward s,
         (
           tries_anew continuation s _ _ f e (Some states.Join)
               (sym (c.in_ok-has_failed.ensures.ok s f.failed here h.failed) ∙ c.if-branch.false),
-          c.in_ok-keep.ensures.ok continuation f s (plain.Fails (pair_of s) ∷ f.frames)
+          c.in_ok-keep.ensures.ok continuation f s (plain.Fails s ∷ f.frames)
               (renumbered continuation c.args.self.now f h c.has_failed.new.self same)
               (here_by c.args.self.now c.has_failed.new.self c.args.config s (ap (λ (m : Memo). m.trail) same) here) refl,
           subst (λ (x : NfaConfig). IsHere c.keep.new.self x (plain.forward s)) (sym c.forward.ensures)

@@ -22,7 +22,7 @@ returns-then-branch-clause-leads c = λ continuation s second f h here e. (
 pub returns-clause-leads : goal.returns-clause-leads
 returns-clause-leads c = λ continuation s second f h here e.
     let same = c.has_failed.ensures.rest in
-    let frames = plain.Other (plain.goes_to second s) ∷ plain.Fails (pair_of s) ∷ f.frames in
+    let frames = plain.Other (plain.goes_to second s) ∷ plain.Fails s ∷ f.frames in
     let counted = record f { visits = f.visits + 1 } in
     subst (λ n. Simulates continuation s f.failed n c.choose.result c.choose.new.self)
     (sym (tries_anew continuation s _ _ f e (Some (states.LoopSplit c.args.first second))

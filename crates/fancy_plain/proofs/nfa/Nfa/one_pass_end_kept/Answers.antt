@@ -1,8 +1,7 @@
-use Rattle.std.proofs.Common.{◌<◌, length, slice_get, sym, ap, ◌∙◌, arith, subst}
+use Rattle.std.proofs.Common.{◌<◌, length, slice_get, sym, ap, ◌∙◌, arith}
 use Rattle.fancy_meaning.specs.Numbers.{usize_max}
 use Rattle.fancy_meaning.specs.Premises.{IsText}
-use Rattle.fancy_plain.specs.KeptEnds.{AreEndsIn}
-use Rattle.fancy_plain.specs.KeptRuns.{AreRunsIn}
+use Rattle.fancy_plain.proofs.KeptEndsLaws.{cache_by, cache_of}
 use Rattle.fancy_plain.proofs.ReadStates.{states_read}
 use Rattle.fancy_plain.proofs.OnePassLaws.{one_pass_answered}
 use Rattle.fancy_plain.proofs.nfa.Nfa.one_pass_end_kept.Goals as goal
@@ -12,12 +11,7 @@ walk_kept-requires-clause-searcher c = λ i p at.
     states_read c.args.self.now c.requires.nodes i p (ap (λ l. slice_get l i) (sym c.deref.ensures.value) ∙ at)
 
 pub walk_kept-requires-clause-cache : goal.walk_kept-requires-clause-cache
-walk_kept-requires-clause-cache c =
-    let f = c.args.self.now in
-    record {
-      runs = subst (λ l. AreRunsIn c.args.text.now f.unicode l c.args.cache.now.runs) (sym c.deref.ensures.value) c.requires.cache.runs;
-      ends = subst (λ l. AreEndsIn c.args.text.now f.unicode l c.args.cache.now.ends) (sym c.deref.ensures.value) c.requires.cache.ends;
-    }
+walk_kept-requires-clause-cache c = cache_by c.deref.result c.args.text c.args.self.now c.args.cache.now c.deref.ensures.value c.requires.cache
 
 pub returns-clause-way : goal.returns-clause-way
 returns-clause-way c =
@@ -28,9 +22,4 @@ returns-clause-way c =
 
 pub returns-clause-cache : goal.returns-clause-cache
 returns-clause-cache c =
-    let f = c.args.self.now in
-    let cache = c.walk_kept.new.cache in
-    record {
-      runs = subst (λ l. AreRunsIn c.args.text.now f.unicode l cache.runs) c.deref.ensures.value c.walk_kept.ensures.cache.runs;
-      ends = subst (λ l. AreEndsIn c.args.text.now f.unicode l cache.ends) c.deref.ensures.value c.walk_kept.ensures.cache.ends;
-    }
+    cache_of c.deref.result c.args.text c.args.self.now c.walk_kept.new.cache c.deref.ensures.value c.walk_kept.ensures.cache

@@ -20,12 +20,12 @@ returns-in_ok-keep-in-LoopSplit-clause-leads c = λ s first other is_memoized f 
     (c.requires ∙ ap Some c.in-LoopSplit.is) in
     let same = same_tries _ _ _ _ _ _ (sym e ∙ by) in
     let there = plain.goes_to c.in-LoopSplit.second s in (
-      record f { frames = plain.Fails (pair_of s) ∷ rest },
+      record f { frames = plain.Fails s ∷ rest },
       (
         there,
         (
           ap₂ (λ n o. TakesUp o (record f { frames = fails_before n s rest })) same.0 same.1,
-          c.in_ok-keep-in-LoopSplit.ensures.ok (continuation_of searcher) (record f { frames = rest }) s (plain.Fails (pair_of s) ∷ rest) h here refl,
+          c.in_ok-keep-in-LoopSplit.ensures.ok (continuation_of searcher) (record f { frames = rest }) s (plain.Fails s ∷ rest) h here refl,
           subst (λ (x : NfaConfig). IsHere c.keep.new.self x there) (sym c.goes_to-in-LoopSplit.ensures)
               (here_at c.keep.new.self c.args.config s c.in-LoopSplit.second c.in-LoopSplit.second refl
               (here_by c.args.m.now c.keep.new.self c.args.config s (ap (λ (m : Memo). m.trail) c.keep.ensures.rest) here)),
@@ -42,8 +42,8 @@ returns-in_ok-keep-in-CounterLoop-clause-leads c = λ s first other is_memoized 
     let memoized = counter_loop_fees (loop_of c.in-CounterLoop.bounds) c.in-CounterLoop.after s first other s.counters is_memoized (sym by ∙ e) in
     subst (λ n. Simulates (continuation_of searcher) s f.failed (TakesUp other (record f { frames = fails_before n s rest }))
     c.other_counter.result c.other_counter.new.self) (sym memoized)
-    (c.other_counter.ensures.leads (continuation_of searcher) s first other (record f { frames = plain.Fails (pair_of s) ∷ rest })
-    (c.in_ok-keep-in-CounterLoop.ensures.ok (continuation_of searcher) (record f { frames = rest }) s (plain.Fails (pair_of s) ∷ rest) h here refl)
+    (c.other_counter.ensures.leads (continuation_of searcher) s first other (record f { frames = plain.Fails s ∷ rest })
+    (c.in_ok-keep-in-CounterLoop.ensures.ok (continuation_of searcher) (record f { frames = rest }) s (plain.Fails s ∷ rest) h here refl)
     (here_by c.args.m.now c.keep-in-CounterLoop.new.self c.args.config s (ap (λ (m : Memo). m.trail) c.keep-in-CounterLoop.ensures.rest) here)
     (sym by ∙ e ∙ ap (λ n. plain.Tries n first (other ∷ [])) memoized))
 

@@ -1,8 +1,8 @@
-use Rattle.std.proofs.Common.{◌&&◌, sym, subst}
+use Rattle.std.proofs.Common.{sym, subst}
 use Rattle.fancy_nfa.specs.NfaSearch.{first_config}
 use Rattle.fancy_plain.specs.CountedWays.{ComesPast}
 use Rattle.fancy_plain.specs.OnePass.{Walks, config_at}
-use Rattle.fancy_plain.proofs.OnePassLaws.{both_sure, finds_end, finds_none, stays}
+use Rattle.fancy_plain.proofs.OnePassLaws.{both_sure, ends_bare, finds_end, finds_none, stays}
 use Rattle.fancy_plain.proofs.search.Searcher.walk.Goals as goal
 
 pub states-init : goal.states-init
@@ -22,8 +22,9 @@ pub returns-in-Ends : goal.returns-in-Ends
 returns-in-Ends c =
     let searcher = c.args.self.now in
     let start = first_config c.args.ix in
-    finds_end searcher c.states.is_sure c.args.ix (config_at start c.states.at c.states.place) c.states.invariant
-    (subst (ComesPast searcher c.states.at c.states.place) c.in-Ends.is c.in_ok-after.ensures start)
+    ends_bare searcher c.args.ix c.states.place
+    (finds_end searcher c.states.is_sure c.args.ix (config_at start c.states.at c.states.place) c.states.invariant
+    (subst (ComesPast searcher c.states.at c.states.place) c.in-Ends.is c.in_ok-after.ensures start))
 
 pub returns-in-Fails : goal.returns-in-Fails
 returns-in-Fails c =

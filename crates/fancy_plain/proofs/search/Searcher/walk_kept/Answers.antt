@@ -3,7 +3,7 @@ use Rattle.fancy_nfa.specs.NfaSearch.{first_config}
 use Rattle.fancy_plain.specs.CountedWays.{ComesPast}
 use Rattle.fancy_plain.specs.OnePass.{Walks, config_at}
 use Rattle.fancy_plain.proofs.KeptEndsLaws.{ends_here, finds_kept, leads_on}
-use Rattle.fancy_plain.proofs.OnePassLaws.{both_sure, finds_end, finds_none, stays}
+use Rattle.fancy_plain.proofs.OnePassLaws.{both_sure, ends_bare, finds_end, finds_none, stays}
 use Rattle.fancy_plain.proofs.search.Searcher.walk_kept.Goals as goal
 
 pub states-init : goal.states-init
@@ -40,8 +40,9 @@ pub returns-in-Ends-clause-way : goal.returns-in-Ends-clause-way
 returns-in-Ends-clause-way c =
     let searcher = c.args.self.now in
     let start = first_config c.args.ix in
-    finds_end searcher c.states.is_sure c.args.ix (config_at start c.states.at c.states.place) c.states.invariant.walks
-    (subst (ComesPast searcher c.states.at c.states.place) c.in-Ends.is c.in_ok-after.ensures.on start)
+    ends_bare searcher c.args.ix c.states.place
+    (finds_end searcher c.states.is_sure c.args.ix (config_at start c.states.at c.states.place) c.states.invariant.walks
+    (subst (ComesPast searcher c.states.at c.states.place) c.in-Ends.is c.in_ok-after.ensures.on start))
 
 pub returns-in-Fails-clause-way : goal.returns-in-Fails-clause-way
 returns-in-Fails-clause-way c =
@@ -93,5 +94,11 @@ returns-in-Fails-clause-cache c = record {
 pub returns-in_default-2-clause-cache : goal.returns-in_default-2-clause-cache
 returns-in_default-2-clause-cache c = record {
   runs = c.past_kept.ensures.runs;
+  ends = c.kept_end.ensures.ends c.states.invariant.cache.ends;
+}
+
+pub returns-then-saturating_sub-most-clause-cache : goal.returns-then-saturating_sub-most-clause-cache
+returns-then-saturating_sub-most-clause-cache c = record {
+  runs = c.states.invariant.cache.runs;
   ends = c.kept_end.ensures.ends c.states.invariant.cache.ends;
 }
