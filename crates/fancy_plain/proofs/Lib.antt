@@ -20,5 +20,7 @@ pub mod BranchLoopsLaws
 pub mod KeptRunsLaws
 pub mod KeptEndsLaws
 pub mod FoundEndsLaws
+pub mod BranchTablesLaws
+pub mod FailingBranchesLaws
 pub mod ThreadsLaws
 pub mod JoinedLayout

@@ -13,6 +13,8 @@ pub mod OnePass
 pub mod AsciiRuns
 pub mod CountedWays
 pub mod BranchLoops
+pub mod BranchTables
+pub mod FailingBranches
 pub mod KeptRuns
 pub mod KeptEnds
 pub mod FoundEnds

@@ -3,8 +3,10 @@
 
 mod ascii_runs;
 mod branch_loops;
+mod branch_tables;
 mod counted_ways;
 mod dead_ends;
+mod failing_branches;
 mod first_sets;
 pub mod first_way;
 mod found_ends;

@@ -1,12 +1,13 @@
 //! The NFA of neighbouring easy nodes.
 
 ghost use Rattle.std.specs.Option.{ForSome};
-ghost use Rattle.std.specs.Prelude.{◌≡◌, ◌<◌, ◌+◌, ℕ, List, Some, false, true, IfErr, IfOk, IfSome, IsTrue, map, slice_get};
+ghost use Rattle.std.specs.Prelude.{◌≡◌, ◌<◌, ◌+◌, ℕ, List, Some, false, true, IfErr, IfOk, IfSome, IsTrue, length, map, slice_get};
 ghost use Rattle.fancy_info.specs.Infos.{info_tree};
 ghost use Rattle.fancy_expr.specs.Each.{Each};
 ghost use Rattle.fancy_meaning.specs.Options.{Analysis};
 ghost use Rattle.fancy_meaning.specs.Places.{is_place};
 ghost use Rattle.fancy_meaning.specs.Premises.{IsText};
+ghost use Rattle.fancy_plain.specs.BranchTables.{AreTables};
 ghost use Rattle.fancy_plain.specs.FirstSets.{may_begin, AreFirstSets};
 ghost use Rattle.fancy_plain.specs.RequiredBytes.{AreRequired, IsOnlyOf};
 ghost use Rattle.fancy_plain.specs.LoopsInLoops.{begins_loop, has_loop_in_loop, is_counter_loop};
@@ -15,6 +16,7 @@ ghost use Rattle.fancy_plain.specs.Views.{state_of};
 ghost use Rattle.fancy_joining.specs.JoinedLoops.{joined};
 ghost use Rattle.std.proofs.Props.{props};
 
+use crate::branch_tables::BranchTables;
 use crate::first_sets::{first_sets, may_begin};
 use crate::kept_runs::LONG;
 use crate::layout::{Layout, room_for};
@@ -47,8 +49,11 @@ pub struct Nfa {
     pub(crate) required_bytes: Option<[bool; 256]>,
     /// That byte, where it is one alone.
     pub(crate) required_byte: Option<u8>,
+    /// Of alternations with many branches, which one comes next.
+    pub(crate) branches: BranchTables,
     ghost begin: { AreFirstSets unicode (map state_of states.items) first_sets.items },
     ghost need: { IfSome required_bytes (AreRequired unicode (map state_of states.items)) } by { Prim.hlevel props },
+    ghost tables: { AreTables unicode states.items branches },
     ghost only: { ForSome required_byte (IsOnlyOf required_bytes) },
 }
 
@@ -66,6 +71,7 @@ impl Drop for Nfa {
             is_walked_twice: _,
             required_bytes: _,
             required_byte: _,
+            branches: _,
         } = self;
     }
 }
@@ -123,6 +129,7 @@ impl Nfa {
         let first_sets = first_sets(alloc, &states, unicode)?;
         let required_bytes = required_bytes(&states, unicode);
         let required_byte = only_of(&required_bytes);
+        let branches = BranchTables::of(alloc, &states, unicode)?;
         let searcher = Searcher {
             states: &states,
             unicode,
@@ -144,6 +151,7 @@ impl Nfa {
             is_walked_twice,
             required_bytes,
             required_byte,
+            branches,
         })
     }
 
@@ -188,6 +196,13 @@ impl Nfa {
         ensures none { result ≡ false → HasNoWayAt text.now self.now ix }
     {
         may_begin(&self.first_sets, text.as_bytes(), ix)
+    }
+
+    /// How many states it has.
+    pub fn state_count(&self) -> usize
+        ensures { result ≡ length self.now.states.items }
+    {
+        self.states.len()
     }
 
     /// Ways seem to need no choice, set no group, and do not count long.

@@ -23,6 +23,8 @@ const SEARCH: u64 = 4;
 const VISITS: u64 = 32;
 /// To ask costs about as much as so many attempts.
 const ASKING: usize = 8;
+/// As the nodes are compared then, it costs one more for each two states beyond so many.
+const FEW_STATES: usize = 64;
 /// To make a filter costs about as much as so many attempts.
 const MAKING: usize = 4_096;
 
@@ -110,7 +112,7 @@ impl StartFilters {
         }
         let each = ix.saturating_sub(self.begun) / self.patience.max(1);
         if each > BYTES {
-            self.patience = patience_after(self.patience, 0);
+            self.patience = patience_after(self.patience, false);
             return ix;
         }
         if !self.is_made(alloc, fragment) {
@@ -123,7 +125,8 @@ impl StartFilters {
             Some(to) => to,
             None => ix,
         };
-        self.patience = patience_after(self.patience, (to - ix) / each.max(1));
+        let passed = (to - ix) / each.max(1);
+        self.patience = patience_after(self.patience, passed >= asking_cost(fragment));
         to
     }
 
@@ -165,11 +168,17 @@ impl StartFilters {
     }
 }
 
-/// The patience after about so many attempts were passed over.
-fn patience_after(patience: usize, passed: usize) -> usize {
-    if passed < ASKING {
-        patience.saturating_mul(2).min(GREATEST_PATIENCE)
-    } else {
+/// About as many attempts as the filter of this fragment costs to be asked.
+fn asking_cost(fragment: &Fragment) -> usize {
+    let more = fragment.nfa().state_count().saturating_sub(FEW_STATES);
+    ASKING.saturating_add(more / 2)
+}
+
+/// The patience after the filter was asked, which paid or not.
+fn patience_after(patience: usize, has_paid: bool) -> usize {
+    if has_paid {
         PATIENCE
+    } else {
+        patience.saturating_mul(2).min(GREATEST_PATIENCE)
     }
 }

@@ -1,11 +1,14 @@
-use Rattle.std.proofs.Common.{[], ◌∷◌, map, refl, sym, ap, ◌∙◌}
+use Rattle.std.proofs.Common.{[], ◌∷◌, map, IfSome, refl, sym, ap, ◌∙◌, subst}
 use Rattle.std.proofs.lemmas.List.{map-append}
 use Rattle.fancy_expr.specs.Each.{Each}
 use Rattle.fancy_info.specs.Infos.{info_tree}
 use Rattle.fancy_joining.proofs.JoinedNodes.{joining_keeps_nodes}
 use Rattle.fancy_plain.specs.declared.nfa_state.NfaState.TheVariants as code
 use Rattle.fancy_plain.specs.declared.layout.Layout.{Layout}
+use Rattle.fancy_plain.specs.BranchTables.{AreTables}
+use Rattle.fancy_plain.specs.FirstSets.{AreFirstSets}
 use Rattle.fancy_plain.specs.Nfas.{IsRefusedFor}
+use Rattle.fancy_plain.specs.RequiredBytes.{AreRequired}
 use Rattle.fancy_plain.specs.Views.{state_of}
 use Rattle.fancy_plain.proofs.Built.{are_easy, fault_passed, all_states, all_read, one_read}
 use Rattle.fancy_plain.proofs.nfa.Nfa.build_by.Goals as goal
@@ -27,11 +30,17 @@ required_bytes-required_bytes-requires c = λ i p at.
     one_read c.args.may_join c.requires.0 c.args.infos.now s c.lay_each.new.self c.in_ok-states.ensures.items
     (c.in_ok-lay_each.ensures c.requires.0 c.requires.1) c.push.new.self.items c.in_ok-push.ensures.items _ c.deref-3.ensures.value i p at
 
+pub of-requires : goal.of-requires
+of-requires c = λ i p at.
+    let s : Layout = record { alloc = c.args.alloc; unicode = c.args.unicode; states = c.in_ok-states.states } in
+    one_read c.args.may_join c.requires.0 c.args.infos.now s c.lay_each.new.self c.in_ok-states.ensures.items
+    (c.in_ok-lay_each.ensures c.requires.0 c.requires.1) c.push.new.self.items c.in_ok-push.ensures.items _ c.deref-4.ensures.value i p at
+
 pub seems_one_pass-seems_one_pass-requires : goal.seems_one_pass-seems_one_pass-requires
 seems_one_pass-seems_one_pass-requires c = λ i p at.
     let s : Layout = record { alloc = c.args.alloc; unicode = c.args.unicode; states = c.in_ok-states.states } in
     one_read c.args.may_join c.requires.0 c.args.infos.now s c.lay_each.new.self c.in_ok-states.ensures.items
-    (c.in_ok-lay_each.ensures c.requires.0 c.requires.1) c.push.new.self.items c.in_ok-push.ensures.items _ c.deref-4.ensures.value i p at
+    (c.in_ok-lay_each.ensures c.requires.0 c.requires.1) c.push.new.self.items c.in_ok-push.ensures.items _ c.deref-5.ensures.value i p at
 
 pub returns-clause-nfa : goal.returns-clause-nfa
 returns-clause-nfa c = λ a each fine.
@@ -51,3 +60,14 @@ returns-clause-nfa c = λ a each fine.
 
 pub returns-clause-classes : goal.returns-clause-classes
 returns-clause-classes c = (c.in_ok-lay_each.ensures c.requires.0 c.requires.1).classes
+
+pub invariant_of-result : goal.invariant_of-result
+invariant_of-result c = record {
+  begin =
+      subst (λ l. AreFirstSets c.args.unicode (map state_of l) c.in_ok-first_sets.first_sets.items) c.deref-2.ensures.value c.in_ok-first_sets.ensures;
+  need =
+      subst (λ l. IfSome c.required_bytes-required_bytes.result (AreRequired c.args.unicode (map state_of l))) c.deref-3.ensures.value
+      c.required_bytes-required_bytes.ensures;
+  tables = subst (λ l. AreTables c.args.unicode l c.in_ok-branches.branches) c.deref-4.ensures.value c.in_ok-branches.ensures;
+  only = c.only_of-required_byte.ensures;
+}
