@@ -1,5 +1,6 @@
 pub mod Tasks
 pub mod MemoRuns
+pub mod SearchEnds
 pub mod Memos
 pub mod Ready
 pub mod Sound

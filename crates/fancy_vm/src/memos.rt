@@ -2,16 +2,19 @@
 
 ghost use Rattle.std.specs.Prelude.{◌≡◌, ◌<◌, Some, None, length, slice_get, slice_set, IfOk, IsTrue, OnOk};
 ghost use Rattle.fancy_meaning.specs.Places.{is_place};
-ghost use Rattle.fancy_fragments.specs.Fragments.{HasNoWayFrom, IsFirstWayOf, IsOnePassOf, IsOnePassWayOf};
+ghost use Rattle.fancy_fragments.specs.Fragments.{HasNoWayFrom, IsFirstWayOf, IsOnePassOf, IsOnePassWayOf, joined_nfa};
+ghost use Rattle.fancy_plain.specs.FoundEnds.{ChoicesEndAt, ChoicesLead};
 ghost use Rattle.fancy_plain.specs.GroupSpans.{spans_in};
 ghost use Rattle.fancy_plain.specs.Ways.{HasAscending};
 ghost use Rattle.fancy_vm.specs.MemoRuns.{AddsNoMemo, AreOfRuns};
+ghost use Rattle.fancy_vm.specs.SearchEnds.{AreEndsOf};
 
 use crate::far_matches::FarMatches;
 use crate::machine::Task;
 use crate::search_limits::SearchCost;
 use fancy_backtrack::memo::Memo;
 use fancy_expr::error::Error;
+use fancy_fragments::first_way::{keep_joined_ends, kept_joined_end};
 use fancy_fragments::fragment::Fragment;
 use fancy_plain::first_way::{FirstWay, Way};
 use fancy_plain::group_spans::GroupSpans;
@@ -25,6 +28,12 @@ const MOST_UNKNOWN: usize = 16;
 /// So often a fragment without groups may be passed again in a run, to be sure that it fails.
 const MOST_AGAIN: usize = 16;
 
+/// So often one after the other a walk may come to no kept end in a run.
+const MOST_VAIN: usize = 16;
+
+/// A search that goes so many bytes goes far.
+const FAR: usize = 256;
+
 /// What is noted of a delegate, and the run that noted it.
 #[derive(Drop)]
 pub(crate) struct RunMemo {
@@ -32,6 +41,8 @@ pub(crate) struct RunMemo {
     memo: Box<Memo>,
     /// What its one-pass matches keep, until a search is made.
     kept: Option<OnePassCache>,
+    /// Where its searches ended, once one went far.
+    ends: Option<Box<OnePassCache>>,
     run: u64,
 }
 
@@ -39,7 +50,7 @@ pub(crate) struct RunMemo {
 #[derive(Clone, Copy)]
 pub(crate) enum Noted {
     Nothing,
-    /// By runs that one-pass matches keep.
+    /// By runs and ends that one-pass matches keep.
     Runs,
     /// By searches.
     Memo,
@@ -59,6 +70,8 @@ pub(crate) struct Memos {
     unknown: usize,
     /// How often more a fragment without groups may be passed again in this run.
     again: usize,
+    /// How many walks came to no kept end since one last did.
+    vain: usize,
     /// The one-pass matches of this run that went far and kept nothing.
     far: FarMatches,
     ghost of_runs: { AreOfRuns run by_place.items },
@@ -74,6 +87,7 @@ impl Drop for Memos {
             groups: _,
             unknown: _,
             again: _,
+            vain: _,
             far: _,
         } = self;
     }
@@ -99,6 +113,46 @@ fn take_out(by_place: &mut Vec<Option<RunMemo>>, pc: usize) -> Option<RunMemo>
     by_place[pc].take()
 }
 
+/// What is kept of a fragment's searches, with where the last one of this memo ended. Where memory is refused nothing is kept.
+#[inline(never)]
+fn with_end(
+    task: &Task<'_>,
+    fragment: &Fragment,
+    ix: usize,
+    end: usize,
+    memo: &Memo,
+    ends: Option<Box<OnePassCache>>,
+) -> Option<Box<OnePassCache>>
+    requires place { IsTrue (is_place task.now.text.now ix) }
+    requires choices { ChoicesEndAt task.now.text.now (joined_nfa fragment.now) memo.now end }
+    requires ends { AreEndsOf task.now.text.now fragment.now ends }
+    ensures { AreEndsOf task.now.text.now fragment.now result }
+{
+    let mut cache = ends_or_none(task, fragment, ends)?;
+    match keep_joined_ends(task.alloc, fragment, task.text, ix, end, memo, &mut *cache) {
+        Ok(()) => Some(cache),
+        Err(_) => None,
+    }
+}
+
+/// What is kept, at first nothing.
+fn ends_or_none(
+    task: &Task<'_>,
+    fragment: &Fragment,
+    ends: Option<Box<OnePassCache>>,
+) -> Option<Box<OnePassCache>>
+    requires { AreEndsOf task.now.text.now fragment.now ends }
+    ensures { AreEndsOf task.now.text.now fragment.now result }
+{
+    match ends {
+        Some(cache) => Some(cache),
+        None => match Box::new(task.alloc, OnePassCache::new(task.alloc)) {
+            Ok(cache) => Some(cache),
+            Err(_) => None,
+        },
+    }
+}
+
 impl Memos {
     ghost use Rattle.fancy_vm.specs.declared.machine.Task as tasks;
     ghost use Rattle.fancy_vm.specs.Memos.{AreMemosOf, IsNoteOf, fragment_at};
@@ -115,6 +169,7 @@ impl Memos {
             groups: GroupSpans::new(alloc),
             unknown: 0,
             again: MOST_AGAIN,
+            vain: 0,
             far: FarMatches::none(),
         }
     }
@@ -141,6 +196,7 @@ impl Memos {
         self.cost.bytes = 0;
         self.unknown = 0;
         self.again = MOST_AGAIN;
+        self.vain = 0;
         self.far = FarMatches::none();
         match self.run.checked_add(1) {
             None => *self = Memos::new(alloc),
@@ -242,8 +298,8 @@ impl Memos {
         }
     }
 
-    /// The first way from `ix` of the fragment at `pc` of the program, where it takes one pass, by long runs that earlier
-    /// such matches kept in this run. Where a search was made it is not known, so that no part of the text is passed in vain
+    /// The first way from `ix` of the fragment at `pc` of the program, where it takes one pass, by the long runs and the ends that
+    /// earlier such matches kept in this run. Where a search was made it is not known, so that no part of the text is passed in vain
     /// again and again.
     #[inline(never)]
     pub(crate) fn kept_end(
@@ -259,11 +315,17 @@ impl Memos {
         ensures way { IfOk result (IsOnePassOf task.now.text.now fragment.now ix) }
         ensures memos { AreMemosOf task.now self.new }
     {
-        let RunMemo { memo, kept, run } = self.note_for(task, fragment, pc)?;
+        let RunMemo {
+            memo,
+            kept,
+            ends,
+            run,
+        } = self.note_for(task, fragment, pc)?;
         let Some(mut cache) = kept else {
             self.by_place[pc] = Some(RunMemo {
                 memo,
                 kept: None,
+                ends,
                 run,
             });
             return Ok(OnePass::Unknown);
@@ -274,13 +336,14 @@ impl Memos {
         self.by_place[pc] = Some(RunMemo {
             memo,
             kept: Some(cache),
+            ends,
             run,
         });
         way
     }
 
     /// Counts a one-pass match between these bytes of the fragment at `pc` of the program. Where those that went far passed
-    /// the text often in this run, the next ones keep long runs.
+    /// the text often in this run, the next ones keep long runs and ends.
     #[inline(always)]
     pub(crate) fn count_match(
         &mut self,
@@ -301,7 +364,7 @@ impl Memos {
         Ok(())
     }
 
-    /// Begins to keep runs of the fragment at `pc` of the program, if nothing is noted of it in this run.
+    /// Begins to keep runs and ends of the fragment at `pc` of the program, if nothing is noted of it in this run.
     #[inline(never)]
     fn begin_note(
         &mut self,
@@ -347,7 +410,7 @@ impl Memos {
         Ok(way)
     }
 
-    /// The same, however often it told nothing: by long runs that earlier such matches kept in this run, where they did.
+    /// The same, however often it told nothing: by what earlier such matches kept in this run, where they did.
     #[inline(always)]
     fn way_with_groups(
         &mut self,
@@ -376,7 +439,7 @@ impl Memos {
         Ok(way)
     }
 
-    /// As `way_with_groups`, by long runs that are kept.
+    /// As `way_with_groups`, by what is kept.
     #[inline(never)]
     fn kept_way(
         &mut self,
@@ -392,11 +455,17 @@ impl Memos {
             (IsOnePassWayOf task.now.text.now fragment.now ix (spans_in self.new.groups)) }
         ensures memos { AreMemosOf task.now self.new }
     {
-        let RunMemo { memo, kept, run } = self.note_for(task, fragment, pc)?;
+        let RunMemo {
+            memo,
+            kept,
+            ends,
+            run,
+        } = self.note_for(task, fragment, pc)?;
         let Some(mut cache) = kept else {
             self.by_place[pc] = Some(RunMemo {
                 memo,
                 kept: None,
+                ends,
                 run,
             });
             return Ok(OnePass::Unknown);
@@ -407,6 +476,7 @@ impl Memos {
         self.by_place[pc] = Some(RunMemo {
             memo,
             kept: Some(cache),
+            ends,
             run,
         });
         way
@@ -440,31 +510,180 @@ impl Memos {
                 visits: 0,
             });
         }
-        if fragment.nfa().counts_long() {
-            match self.kept_end(task, fragment, pc, ix)? {
-                OnePass::Ends(end) => {
-                    let spans = Vec::new(task.alloc);
-                    return Ok(FirstWay {
-                        way: Some(Way { end, spans }),
-                        visits: 0,
-                    });
-                }
-                OnePass::Fails => {
-                    return Ok(FirstWay {
-                        way: None,
-                        visits: 0,
-                    });
-                }
-                OnePass::Unknown => {}
+        match self.noted_end(task, fragment, pc, ix)? {
+            OnePass::Ends(end) => {
+                let spans = Vec::new(task.alloc);
+                return Ok(FirstWay {
+                    way: Some(Way { end, spans }),
+                    visits: 0,
+                });
             }
+            OnePass::Fails => {
+                return Ok(FirstWay {
+                    way: None,
+                    visits: 0,
+                });
+            }
+            OnePass::Unknown => {}
         }
-        let RunMemo { mut memo, run, .. } = self.note_for(task, fragment, pc)?;
+        self.searched(task, fragment, pc, ix)
+    }
+
+    /// The same by a search.
+    fn searched(
+        &mut self,
+        task: &Task<'_>,
+        fragment: &Fragment,
+        pc: usize,
+        ix: usize,
+    ) -> Result<FirstWay, Error>
+        requires place { IsTrue (is_place task.now.text.now ix) }
+        requires here { fragment_at task.now pc ≡ Some fragment.now }
+        requires memos { AreMemosOf task.now self.old }
+        ensures first { IfOk result (IsFirstWayOf task.now.text.now fragment.now ix) }
+        ensures ascends { IfOk result HasAscending }
+        ensures memos { AreMemosOf task.now self.new }
+    {
+        let RunMemo {
+            mut memo,
+            ends,
+            run,
+            ..
+        } = self.note_for(task, fragment, pc)?;
         let way = self.cost.first_way(task, fragment, ix, &mut *memo);
+        let ends = self.with_found(task, fragment, ix, &way, &*memo, ends);
         self.by_place[pc] = Some(RunMemo {
             memo,
             kept: None,
+            ends,
             run,
         });
+        way
+    }
+
+    /// The first way from `ix` of the fragment at `pc` of the program, as far as one pass tells by what this run noted.
+    #[inline(always)]
+    fn noted_end(
+        &mut self,
+        task: &Task<'_>,
+        fragment: &Fragment,
+        pc: usize,
+        ix: usize,
+    ) -> Result<OnePass, AllocError>
+        requires place { IsTrue (is_place task.now.text.now ix) }
+        requires here { fragment_at task.now pc ≡ Some fragment.now }
+        requires memos { AreMemosOf task.now self.old }
+        ensures way { IfOk result (IsOnePassOf task.now.text.now fragment.now ix) }
+        ensures memos { AreMemosOf task.now self.new }
+    {
+        if fragment.nfa().counts_long() {
+            let way = self.kept_end(task, fragment, pc, ix)?;
+            if !matches!(way, OnePass::Unknown) {
+                return Ok(way);
+            }
+        }
+        self.found_end(task, fragment, pc, ix)
+    }
+
+    /// What is kept of a fragment's searches, with where this one ended if it went far and set no group.
+    #[inline(always)]
+    fn with_found(
+        &self,
+        task: &Task<'_>,
+        fragment: &Fragment,
+        ix: usize,
+        found: &Result<FirstWay, Error>,
+        memo: &Memo,
+        ends: Option<Box<OnePassCache>>,
+    ) -> Option<Box<OnePassCache>>
+        requires place { IsTrue (is_place task.now.text.now ix) }
+        requires choices { IfOk found.now
+            (ChoicesLead task.now.text.now (joined_nfa fragment.now) memo.now) }
+        requires ends { AreEndsOf task.now.text.now fragment.now ends }
+        ensures { AreEndsOf task.now.text.now fragment.now result }
+    {
+        let Ok(answer) = found else {
+            return ends;
+        };
+        let Some(way) = &answer.way else {
+            return ends;
+        };
+        if way.end.saturating_sub(ix) < FAR || self.vain >= MOST_VAIN {
+            return ends;
+        }
+        if !way.spans.is_empty() {
+            return ends;
+        }
+        with_end(task, fragment, ix, way.end, memo, ends)
+    }
+
+    /// The first way from `ix` of the fragment at `pc` of the program, where one pass comes to an end that a search of this
+    /// run kept. Where walks came to none often it is not known, so that no part of the text is passed in vain again and
+    /// again.
+    #[inline(always)]
+    fn found_end(
+        &mut self,
+        task: &Task<'_>,
+        fragment: &Fragment,
+        pc: usize,
+        ix: usize,
+    ) -> Result<OnePass, AllocError>
+        requires place { IsTrue (is_place task.now.text.now ix) }
+        requires here { fragment_at task.now pc ≡ Some fragment.now }
+        requires memos { AreMemosOf task.now self.old }
+        ensures way { IfOk result (IsOnePassOf task.now.text.now fragment.now ix) }
+        ensures memos { AreMemosOf task.now self.new }
+    {
+        match self.by_place.get(pc) {
+            Some(Some(note))
+                if note.run == self.run && note.ends.is_some() && self.vain < MOST_VAIN => {
+                self.walked_end(task, fragment, pc, ix)
+            }
+            _ => Ok(OnePass::Unknown),
+        }
+    }
+
+    /// As `found_end`, by a walk.
+    #[inline(never)]
+    fn walked_end(
+        &mut self,
+        task: &Task<'_>,
+        fragment: &Fragment,
+        pc: usize,
+        ix: usize,
+    ) -> Result<OnePass, AllocError>
+        requires place { IsTrue (is_place task.now.text.now ix) }
+        requires here { fragment_at task.now pc ≡ Some fragment.now }
+        requires memos { AreMemosOf task.now self.old }
+        ensures way { IfOk result (IsOnePassOf task.now.text.now fragment.now ix) }
+        ensures memos { AreMemosOf task.now self.new }
+    {
+        let RunMemo {
+            memo,
+            kept,
+            ends,
+            run,
+        } = self.note_for(task, fragment, pc)?;
+        let Some(mut cache) = ends else {
+            self.by_place[pc] = Some(RunMemo {
+                memo,
+                kept,
+                ends: None,
+                run,
+            });
+            return Ok(OnePass::Unknown);
+        };
+        let way = kept_joined_end(task.alloc, fragment, task.text, ix, &mut *cache);
+        self.by_place[pc] = Some(RunMemo {
+            memo,
+            kept,
+            ends: Some(cache),
+            run,
+        });
+        self.vain = match &way {
+            Ok(OnePass::Unknown) => self.vain.saturating_add(1),
+            _ => 0,
+        };
         way
     }
 
@@ -489,8 +708,8 @@ impl Memos {
         fails
     }
 
-    /// Takes out what was noted in this run of the fragment at `pc` of the program. Where that is nothing, runs are to be
-    /// kept.
+    /// Takes out what was noted in this run of the fragment at `pc` of the program. Where that is nothing, runs and ends
+    /// are to be kept.
     fn note_for(
         &mut self,
         task: &Task<'_>,
@@ -511,22 +730,26 @@ impl Memos {
             None => Ok(RunMemo {
                 memo: Box::new(task.alloc, fragment.joined_memo(task.alloc, pos))?,
                 kept: Some(OnePassCache::new(task.alloc)),
+                ends: None,
                 run: self.run,
             }),
             Some(
                 RunMemo {
                     mut memo,
                     mut kept,
+                    mut ends,
                     run,
                 },
             ) => {
                 if run != self.run {
                     fragment.clear_joined(&mut *memo, pos);
                     kept = Some(OnePassCache::new(task.alloc));
+                    ends = None;
                 }
                 Ok(RunMemo {
                     memo,
                     kept,
+                    ends,
                     run: self.run,
                 })
             }

@@ -6,7 +6,7 @@ use Rattle.fancy_vm.proofs.memos.Memos.kept_end.Goals as goal
 pub returns-in_default-clause-memos : goal.returns-in_default-clause-memos
 returns-in_default-clause-memos c =
     memos_put c.args.task.now c.args.fragment.now c.note_for.new.self _ c.args.pc _ refl refl c.note_for.ensures.memos c.requires.here
-    (record { memo = c.in_ok-memo.ensures.note.memo; kept = tt })
+    (record { memo = c.in_ok-memo.ensures.note.memo; kept = tt; ends = c.in_ok-memo.ensures.note.ends })
 
 pub one_pass_end_kept-way-requires-clause-cache : goal.one_pass_end_kept-way-requires-clause-cache
 one_pass_end_kept-way-requires-clause-cache c =
@@ -24,5 +24,6 @@ returns-clause-memos c =
     memos_put c.args.task.now c.args.fragment.now c.note_for.new.self _ c.args.pc _ refl refl c.note_for.ensures.memos c.requires.here
     (record {
       memo = c.in_ok-memo.ensures.note.memo;
+      ends = c.in_ok-memo.ensures.note.ends;
       kept = subst (λ n. IsCacheOf text n c.one_pass_end_kept-way.new.cache) c.nfa.ensures.nfa c.one_pass_end_kept-way.ensures.cache;
     })

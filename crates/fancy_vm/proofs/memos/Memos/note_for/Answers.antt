@@ -4,6 +4,7 @@ use Rattle.fancy_backtrack.specs.declared.memo.Memo.{Memo}
 use Rattle.fancy_plain.specs.OnePassCaches.{IsCacheOf}
 use Rattle.fancy_plain.specs.declared.one_pass_cache.OnePassCache.{OnePassCache}
 use Rattle.fancy_vm.specs.MemoRuns.{IsKeptAt}
+use Rattle.fancy_vm.specs.SearchEnds.{AreEndsOf}
 use Rattle.fancy_vm.proofs.MemosLaws.{memos_left, take_adds}
 use Rattle.fancy_vm.proofs.memos.Memos.note_for.Goals as goal
 use Rattle.fancy_vm.proofs.memos.Memos.note_for.Goals.{then-run-self, in-Some-1, in-None-1, else-run-self}
@@ -31,6 +32,7 @@ returns-in_ok-new-in-None-clause-note c =
     record {
       memo = subst (IsJoinedMemoFor text f) (sym c.in_ok-new-in-None.ensures.ok) (c.joined_memo.ensures text);
       kept = c.new-in-None.ensures text f.nfa;
+      ends = tt;
     }
 
 pub returns-in_ok-new-in-None-clause-memos : goal.returns-in_ok-new-in-None-clause-memos
@@ -43,15 +45,24 @@ returns-after-run-self-clause-note c =
     let f = c.args.fragment.now in
     let is_memo : Box Memo Global → Type 0 = λ m. IsJoinedMemoFor text f m.value in
     let is_kept : Option OnePassCache → Type 0 = λ k. IfSome k (IsCacheOf text f.nfa) in
+    let is_ends : Option (Box OnePassCache Global) → Type 0 = AreEndsOf text f in
     let pc = c.args.pc in
     let found = c.in-Some.field-0 in
     elim c.if-run-self.branch [
       | then-run-self w ↦
-          record { memo = subst is_memo (sym w.memo-is) (w.clear_joined.ensures text); kept = subst is_kept (sym w.kept-is) (w.new-then-run-self.ensures text f.nfa) }
+          record {
+            memo = subst is_memo (sym w.memo-is) (w.clear_joined.ensures text);
+            kept = subst is_kept (sym w.kept-is) (w.new-then-run-self.ensures text f.nfa);
+            ends = subst is_ends (sym w.ends-is) tt;
+          }
       | else-run-self w ↦
           let note = c.requires.memos.each pc found (c.in_ok-grow.ensures.same pc found (c.take_out.ensures.found ∙ ap Some c.in-Some.is))
           w.if-run-self.false f c.requires.here in
-          record { memo = subst is_memo (sym w.memo-is) note.memo; kept = subst is_kept (sym w.kept-is) note.kept }
+          record {
+            memo = subst is_memo (sym w.memo-is) note.memo;
+            kept = subst is_kept (sym w.kept-is) note.kept;
+            ends = subst is_ends (sym w.ends-is) note.ends;
+          }
     ]
 
 pub returns-after-run-self-clause-memos : goal.returns-after-run-self-clause-memos
