@@ -1,28 +1,31 @@
 -- A search goes past branches that fail at their first test.
-use Rattle.std.proofs.Common.{◌≡◌, ◌≤◌, ◌<◌, ◌+◌, ◌∷◌, [], ℕ, zero, suc, Bool, true, false, not, if◌then◌else◌, List, Option, Some, None, IsTrue, map, replicate, slice_get, slice_set, true≢false, ◌⊎◌, ⊎_elim, inl, inr, IfSome, refl, sym, ap, ◌∙◌, subst, arith}
-use Rattle.std.proofs.lemmas.Bool.{cases_lt}
+use Rattle.std.proofs.Common.{◌≡◌, ◌≤◌, ◌<◌, ◌+◌, ◌-◌, ◌==◌, ◌++◌, ◌∷◌, [], ℕ, zero, suc, Bool, true, false, not, if◌then◌else◌, List, Option, Some, None, replicate, slice_get, slice_set, true≢false, ◌⊎◌, ⊎_elim, inl, inr, IfSome, refl, sym, ap, ◌∙◌, subst, arith}
+use Rattle.std.proofs.lemmas.Bool.{cases_lt, eqb-true}
 use Rattle.std.proofs.lemmas.Option.{none-some, same_Some}
-use Rattle.fancy_nfa.specs.NfaStates as states
 use Rattle.fancy_nfa.specs.NfaSearch as plain
 use Rattle.fancy_nfa.specs.NfaSearch.{Search, TakesBack, TakesUp, goes_to, passes, visited}
 use Rattle.fancy_backtrack.specs.declared.trail.NfaConfig.{NfaConfig}
 use Rattle.fancy_plain.specs.declared.branch_tables.BranchTables.{BranchTables}
+use Rattle.fancy_plain.specs.declared.branch_tables.FirstBranches.{FirstBranches}
+use Rattle.fancy_plain.specs.declared.branch_tables.Mark.{Mark}
+use Rattle.fancy_plain.specs.declared.branch_tables.NextBranch.{NextBranch}
 use Rattle.fancy_plain.specs.declared.branch_tables.Skip.{Skip}
 use Rattle.fancy_plain.specs.declared.nfa_state.CharTest.{CharTest}
+use Rattle.fancy_plain.specs.declared.nfa_state.CharTest.TheVariants as char_test
 use Rattle.fancy_plain.specs.declared.nfa_state.NfaState.{NfaState}
 use Rattle.fancy_plain.specs.declared.nfa_state.NfaState.TheVariants as nfa_state
 use Rattle.fancy_plain.specs.declared.search.Searcher.{Searcher}
 use Rattle.fancy_plain.specs.FailingBranches.{Skips, SkipsTo}
-use Rattle.fancy_plain.specs.BranchTables.{past_choice, past_choices, past_next, refuses, takes, AreTables, IsBefore, IsLeast}
-use Rattle.fancy_plain.specs.OnePass.{AreBranches}
+use Rattle.fancy_plain.specs.BranchTables.{past_choice, past_choices, past_next, refuses, takes, AreFirst, AreMarked, AreMarks, AreTables, IsLeast, IsNext}
 use Rattle.fancy_plain.specs.Runs.{FailsAtOnce}
 use Rattle.fancy_plain.specs.Searches.{after_steps_of, next_of}
 use Rattle.fancy_plain.specs.Views.{state_of, test_of}
-use Rattle.fancy_plain.proofs.BackLaws.{one_more, steps_then}
+use Rattle.fancy_plain.proofs.BackLaws.{steps_then}
+use Rattle.fancy_plain.proofs.KeptRunsLaws.{pushed_tells}
 use Rattle.fancy_plain.proofs.RunLaws.{refused_by_test, test_fails}
 use Rattle.fancy_plain.proofs.SearchLaws.{next_there}
 
-below_or : (c below : ℕ) → c < below + 1 → (c ≡ below) ⊎ (c < below)
+pub below_or : (c below : ℕ) → c < below + 1 → (c ≡ below) ⊎ (c < below)
 below_or c below lt = elim (cases_lt c below) [
   | inl less ↦ inr less
   | inr not_less ↦ inl (omega (arith, lt, not_less))
@@ -33,6 +36,13 @@ still_below i at lt other = ⊎_elim (λ same. absurd (other same)) (λ less. le
 
 some_is : {x y : ℕ} → ◌≡◌ {A = Option ℕ} (Some x) (Some y) → x ≡ y
 some_is e = cc
+
+some_state : {x y : NfaState} → ◌≡◌ {A = Option NfaState} (Some x) (Some y) → x ≡ y
+some_state e = cc
+
+-- a choice has one second way
+pub second_is : {a b x y : ℕ} → ◌≡◌ {A = Option NfaState} (Some (nfa_state.Split a x)) (Some (nfa_state.Split b y)) → x ≡ y
+second_is e = cc
 
 -- ---- past branches, by the states alone
 
@@ -85,16 +95,46 @@ module _ (unicode : Bool) (all : List NfaState) where
       ap (past_choice unicode all c) there ∙ ap (λ b. if b then Some second else None) refused in
       ap (λ n. past_choices unicode all c n (Some at)) next ∙ ap (past_choices unicode all c count) past ∙ h
 
-  -- the way on from a choice
-  pub before_leads : (c at first second : ℕ) (test : CharTest) (behind skip : Skip) → slice_get all at ≡ Some (nfa_state.BranchSplit first second) →
-      slice_get all first ≡ Some (nfa_state.Character test) → (is_taken : Bool) → passes [] unicode (test_of test) c ≡ is_taken →
-      IsBefore is_taken at behind skip → past_choices unicode all c behind.passed (Some second) ≡ Some behind.to →
-      past_choices unicode all c skip.passed (Some at) ≡ Some skip.to
-  before_leads c at first second test behind skip there body true taken h leads =
-      ap (λ n. past_choices unicode all c n (Some at)) h.1 ∙ ap Some (sym h.0)
-  before_leads c at first second test behind skip there body false taken h leads =
-      ap (λ n. past_choices unicode all c n (Some at)) h.1 ∙ past_one_more c behind.passed at first second behind.to test there body taken leads
-      ∙ ap Some (sym h.0)
+  -- the way on by a mark
+  pub mark_leads : (c behind rank : ℕ) (mark : Mark) (skip : Skip) → skip.to ≡ mark.to → skip.passed ≡ rank - mark.rank →
+      past_choices unicode all c (rank - mark.rank) (Some behind) ≡ Some mark.to → past_choices unicode all c skip.passed (Some behind) ≡ Some skip.to
+  mark_leads c behind rank mark skip to passed h = ap (λ n. past_choices unicode all c n (Some behind)) passed ∙ h ∙ ap Some (sym to)
+
+  -- back over a choice
+  pub marked_back : (at first second rank : ℕ) (test : CharTest) (mark : Mark) (old new : List Mark) →
+      slice_get all at ≡ Some (nfa_state.BranchSplit first second) → slice_get all first ≡ Some (nfa_state.Character test) →
+      mark.to ≡ at → mark.rank ≡ rank + 1 → AreMarked unicode test mark old new → AreMarks unicode all second rank old →
+      AreMarks unicode all at (rank + 1) new
+  marked_back at first second rank test mark old new there body to count marked h c m small read =
+      ⊎_elim
+      (λ same. subst (λ (w : Mark). (w.rank ≤ rank + 1) × (past_choices unicode all c (rank + 1 - w.rank) (Some at) ≡ Some w.to)) (sym same) here)
+      (λ kept. before kept.1 (h c m small kept.0))
+      (marked c m small read)
+    where
+      here : (mark.rank ≤ rank + 1) × (past_choices unicode all c (rank + 1 - mark.rank) (Some at) ≡ Some mark.to)
+      here =
+          let none : rank + 1 - mark.rank ≡ 0 = omega (arith, count) in
+          (omega (arith, count), ap (λ n. past_choices unicode all c n (Some at)) none ∙ ap Some (sym to))
+
+      before : passes [] unicode (test_of test) c ≡ false → (m.rank ≤ rank) × (past_choices unicode all c (rank - m.rank) (Some second) ≡ Some m.to) →
+          (m.rank ≤ rank + 1) × (past_choices unicode all c (rank + 1 - m.rank) (Some at) ≡ Some m.to)
+      before fails g =
+          let le = g.0 in
+          let more : rank + 1 - m.rank ≡ rank - m.rank + 1 = omega (arith, le) in (
+            omega (arith, le),
+            ap (λ n. past_choices unicode all c n (Some at)) more ∙ past_one_more c (rank - m.rank) at first second m.to test there body fails g.1,
+          )
+
+-- a character that is not folded takes itself alone
+pub other_fails : (unicode : Bool) (c d : ℕ) → (d ≡ c → ⊥) → passes [] unicode (test_of (char_test.One c false)) d ≡ false
+other_fails unicode c d other = go (c == d) refl
+  where
+    go : (b : Bool) → (c == d) ≡ b → (c == d) ≡ false
+    go true e = absurd (other (sym (eqb-true c d e)))
+    go false e = e
+
+pub takes_itself : (unicode : Bool) (c d : ℕ) → passes [] unicode (test_of (char_test.One c false)) d ≡ true → d ≡ c
+takes_itself unicode c d taken = sym (eqb-true c d taken)
 
 -- in a list with one in place of another
 pub set_apart : {A : Type 0} (l : List A) (at : ℕ) (new : A) (i : ℕ) (x : A) → slice_get (slice_set l at new) i ≡ Some x →
@@ -167,11 +207,37 @@ module _ (unicode : Bool) (all : List NfaState) (at behind below : ℕ) where
       before (Some f) fewer g c less passes =
           past_fewer unicode all c below skip.passed f.passed behind f.to skip.to fewer (g.1 c less passes) leads
 
+-- what stands in the lists does not change
+pub tables_kept : (unicode : Bool) (all : List NfaState) (old new : BranchTables) → new.alternations.items ≡ old.alternations.items →
+    new.choices ≡ old.choices → AreTables unicode all old → AreTables unicode all new
+tables_kept unicode all old new alternations choices h = record {
+  alternations = λ i a there. h.alternations i a (subst (λ l. slice_get l i ≡ Some a) alternations there);
+  choices = λ i b there. h.choices i b (subst (λ v. slice_get v.items i ≡ Some b) choices there);
+}
+
 -- what else is kept does not matter
 pub tables_same : (unicode : Bool) (all : List NfaState) (old new : BranchTables) → new.alternations ≡ old.alternations → new.choices ≡ old.choices →
     AreTables unicode all old → AreTables unicode all new
-tables_same unicode all old new alternations choices h = record {
+tables_same unicode all old new alternations choices h = tables_kept unicode all old new (ap (λ v. v.items) alternations) choices h
+
+-- one choice more is kept
+pub one_more_choice : (unicode : Bool) (all : List NfaState) (old new : BranchTables) (more : NextBranch) → new.alternations ≡ old.alternations →
+    new.choices.items ≡ old.choices.items ++ more ∷ [] → IsNext unicode all more → AreTables unicode all old → AreTables unicode all new
+one_more_choice unicode all old new more alternations choices next h = record {
   alternations = λ i a there. h.alternations i a (subst (λ v. slice_get v.items i ≡ Some a) alternations there);
+  choices = λ i b there.
+      ⊎_elim (λ same. subst (IsNext unicode all) same next) (h.choices i b)
+      (pushed_tells old.choices.items more i b (subst (λ l. slice_get l i ≡ Some b) choices there));
+}
+
+-- or one alternation
+pub one_more_first : (unicode : Bool) (all : List NfaState) (old new : BranchTables) (more : FirstBranches) →
+    new.alternations.items ≡ old.alternations.items ++ more ∷ [] → new.choices ≡ old.choices → AreFirst unicode all more → AreTables unicode all old →
+    AreTables unicode all new
+one_more_first unicode all old new more alternations choices first h = record {
+  alternations = λ i a there.
+      ⊎_elim (λ same. subst (AreFirst unicode all) same first) (h.alternations i a)
+      (pushed_tells old.alternations.items more i a (subst (λ l. slice_get l i ≡ Some a) alternations there));
   choices = λ i b there. h.choices i b (subst (λ v. slice_get v.items i ≡ Some b) choices there);
 }
 
@@ -257,9 +323,6 @@ module _ (t : Searcher) (place : ℕ) where
         steps_then t x.0 y.0 (TakesUp s f) (TakesUp (goes_to second s) v) x.1 ∙ y.1
             ∙ ap (λ k. TakesUp (goes_to skip.to s) (record f { visits = k })) (sum ∙ ap (λ k. f.visits + 1 + k) (sym count)),
       )
-    where
-      some_state : {x y : NfaState} → ◌≡◌ {A = Option NfaState} (Some x) (Some y) → x ≡ y
-      some_state e = cc
 
   -- a further branch, and more behind it
   pub others_skipped : (at first second : ℕ) (skip : Skip) → slice_get (t.states).now at ≡ Some (nfa_state.BranchSplit first second) →
@@ -268,9 +331,6 @@ module _ (t : Searcher) (place : ℕ) where
       let same : nfa_state.BranchSplit first second ≡ p = some_state (sym there ∙ is) in
       subst (λ q. (steps : ℕ) × (after_steps_of t steps (TakesUp s f)
       ≡ TakesUp (goes_to skip.to s) (record f { visits = (visited (Some (state_of q)) f).visits + skip.passed }))) same (g s f e here)
-    where
-      some_state : {x y : NfaState} → ◌≡◌ {A = Option NfaState} (Some x) (Some y) → x ≡ y
-      some_state e = cc
 
   -- ---- by the character that stands there
 

@@ -12,11 +12,13 @@ use Rattle.fancy_plain.specs.Views.{state_of}
 abbrev pub SkipsTo : Searcher → (at place to count : ℕ) → Type 0
 SkipsTo t at place to count =
     (s : plain.NfaConfig) (f : Search) → s.at ≡ at → s.place ≡ place →
-    (steps : ℕ) × (after_steps_of t steps (TakesUp s f) ≡ TakesUp (goes_to to s) (record f { visits = f.visits + count }))
+    (steps : ℕ) × (after_steps_of t steps (TakesUp s f)
+    ≡ TakesUp (goes_to to s) (record f { visits = f.visits + count }))
 
 -- a choice between branches is taken up, and the search goes on past so many of them
 abbrev pub Skips : Searcher → (at place : ℕ) → Skip → Type 0
 Skips t at place skip =
-    (p : NfaState) → slice_get (t.states).now at ≡ Some p → (s : plain.NfaConfig) (f : Search) → s.at ≡ at → s.place ≡ place →
+    (p : NfaState) → slice_get (t.states).now at ≡ Some p → (s : plain.NfaConfig) (f : Search) → s.at ≡ at →
+    s.place ≡ place →
     (steps : ℕ) × (after_steps_of t steps (TakesUp s f)
     ≡ TakesUp (goes_to skip.to s) (record f { visits = (visited (Some (state_of p)) f).visits + skip.passed }))

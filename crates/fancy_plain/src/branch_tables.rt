@@ -1,11 +1,12 @@
 //! Alternations of many branches: which branch is the next that an ASCII character can begin.
 
-ghost use Rattle.std.specs.Prelude.{◌≡◌, ◌<◌, ◌+◌, [], ℕ, Bool, List, IfSome, IfOk, IsTrue, Some, slice_get, true};
-ghost use Rattle.fancy_nfa.specs.NfaSearch.{passes};
+ghost use Rattle.std.specs.Prelude.{◌≡◌, ◌<◌, ◌+◌, ◌-◌, ℕ, Bool, List, IfSome, IfOk, Some, false, slice_get};
+ghost use Rattle.fancy_plain.specs.declared.nfa_state.CharTest.TheVariants as char_test;
 ghost use Rattle.fancy_plain.specs.declared.nfa_state.NfaState.{NfaState};
 ghost use Rattle.fancy_plain.specs.declared.nfa_state.NfaState.TheVariants as nfa_state;
-ghost use Rattle.fancy_plain.specs.BranchTables.{AreNearest, AreTables, IsBefore, IsLeast, IsNext, past_choices, takes};
-ghost use Rattle.fancy_plain.specs.Views.{IsReadBy, IsStateReadBy, test_of};
+ghost use Rattle.fancy_plain.specs.BranchTables.{AreMarked, AreMarks, AreNearest, AreTables};
+ghost use Rattle.fancy_plain.specs.BranchTables.{IsLeast, IsLeastMarked, IsNext, past_choices, takes};
+ghost use Rattle.fancy_plain.specs.Views.{IsReadBy, IsStateReadBy};
 
 use crate::nfa_state::{CharTest, NfaState};
 use std::alloc::{AllocError, Global};
@@ -36,6 +37,15 @@ pub(crate) struct NextBranch {
     /// The first test of the branch before.
     pub(crate) before: usize,
     pub(crate) skip: Skip,
+}
+
+/// While an alternation is gone over from its end: the nearest branch that takes a character.
+#[derive(Clone, Copy)]
+pub(crate) struct Mark {
+    /// The choice before it.
+    pub(crate) to: usize,
+    /// So many choices lie behind that one.
+    pub(crate) rank: usize,
 }
 
 /// The alternations of an NFA that have many branches which begin with a test on one character.
@@ -97,22 +107,30 @@ impl BranchTables {
         };
         self.make_room(states.len())?;
         let mut behind = last.second;
-        let skip = Skip {
+        let mut marks = [Mark {
             to: behind,
-            passed: 0,
-        };
-        let mut nearest = Box::new(alloc, [skip; 128])?;
+            rank: 0,
+        }; 128];
+        let mut rank = 0;
         let mut i = choices.len();
         'choices: while i > 1 {
             i -= 1;
-            let split = choices[i].split;
-            if !pass_back(states, unicode, split, behind, &mut *nearest) {
+            let choice = choices[i];
+            let Some(test) = branch_test(states, choice.split, choice.first, behind) else {
                 return Ok(());
+            };
+            let mark = Mark {
+                to: choice.split,
+                rank: rank + 1,
+            };
+            let next = mark_taken(&mut marks, test, unicode, rank, mark);
+            if rank > 0 {
+                self.add_choice(behind, choice.first, next)?;
             }
-            behind = split;
-            self.add_choice(states, unicode, behind, choices[i - 1].first, &*nearest)?;
+            behind = choice.split;
+            rank += 1;
         }
-        self.add_first(states, unicode, split, behind, nearest)
+        self.add_first(alloc, states, unicode, split, behind, rank, &mut marks)
     }
 
     /// A number for each of so many states.
@@ -129,19 +147,15 @@ impl BranchTables {
     /// Adds the choice at this state, where the branch before begins with the test at `before`.
     fn add_choice(
         &mut self,
-        states: &[NfaState],
-        unicode: bool,
         split: usize,
         before: usize,
-        nearest: &[Skip; 128],
+        next: Option<Skip>,
     ) -> Result<(), AllocError>
-        requires reads { (i : ℕ) (p : NfaState) → slice_get states.now i ≡ Some p
-            → IsStateReadBy unicode p }
-        requires nearest { AreNearest unicode states.now split nearest.now }
-        requires tables { AreTables unicode states.now self.old }
-        ensures { AreTables unicode states.now self.new }
+        ensures { (unicode : Bool) (states : List NfaState)
+            → IsLeast unicode states before split 128 next → AreTables unicode states self.old
+            → AreTables unicode states self.new }
     {
-        let Some(skip) = least(states, unicode, before, split, nearest) else {
+        let Some(skip) = next else {
             return Ok(());
         };
         let number = self.choices.len();
@@ -157,27 +171,38 @@ impl BranchTables {
     /// Adds the alternation of which the first choice is at `split`, and the next at `behind`.
     fn add_first(
         &mut self,
+        alloc: Global,
         states: &[NfaState],
         unicode: bool,
         split: usize,
         behind: usize,
-        nearest: Box<[Skip; 128]>,
+        rank: usize,
+        marks: &mut [Mark; 128],
     ) -> Result<(), AllocError>
-        requires nearest { AreNearest unicode states.now behind nearest.value }
+        requires reads { (i : ℕ) (p : NfaState) → slice_get states.now i ≡ Some p
+            → IsStateReadBy unicode p }
+        requires marks { AreMarks unicode states.now behind rank marks.old }
         requires tables { AreTables unicode states.now self.old }
         ensures { AreTables unicode states.now self.new }
     {
-        let Some(NfaState::Split(_, second)) = states.get(split) else {
+        let Some(NfaState::Split(first, second)) = states.get(split) else {
+            return Ok(());
+        };
+        let Some(NfaState::Character(test)) = states.get(*first) else {
             return Ok(());
         };
         if *second != behind {
             return Ok(());
         }
+        let by_character = Box::new(alloc, skips_of(&*marks, rank))?;
+        let mark = Mark { to: split, rank };
+        let next = mark_taken(marks, test, unicode, rank, mark);
+        self.add_choice(behind, *first, next)?;
         let number = self.alternations.len();
         self.set_number(split, number);
         self.alternations.push(FirstBranches {
             split,
-            by_character: nearest,
+            by_character,
         })?;
         Ok(())
     }
@@ -293,84 +318,105 @@ fn choices_from(
     Ok(choices)
 }
 
-/// Goes back over the choice at `split` to make from the ways on from `behind` those from there.
-fn pass_back(
-    states: &[NfaState],
-    unicode: bool,
-    split: usize,
-    behind: usize,
-    nearest: &mut [Skip; 128],
-) -> bool
-    requires reads { (i : ℕ) (p : NfaState) → slice_get states.now i ≡ Some p
-        → IsStateReadBy unicode p }
-    requires behind { AreNearest unicode states.now behind nearest.old }
-    ensures { IsTrue result → AreNearest unicode states.now split nearest.new }
-{
-    let Some(NfaState::BranchSplit(first, second)) = states.get(split) else {
-        return false;
-    };
-    let Some(NfaState::Character(test)) = states.get(*first) else {
-        return false;
-    };
-    if *second != behind {
-        return false;
-    }
-    'characters: for c in 0..128usize {
-        let Some(from_behind) = nearest.get(c) else {
-            return false;
-        };
-        let Some(skip) = skip_before(test, unicode, c as u8, split, *from_behind) else {
-            return false;
-        };
-        nearest[c] = skip;
-    }
-    true
-}
-
-/// The way on from the choice at `split`, whose branch begins with this test, by the one from behind it.
+/// The first test of the branch at `first`, if the choice at `split` stands before it and the state `behind`.
 #[inline(always)]
-fn skip_before(test: &CharTest, unicode: bool, c: u8, split: usize, behind: Skip) -> Option<Skip>
-    requires small { c < 128 }
-    requires read { IsReadBy unicode test.now }
-    ensures { IfSome result (IsBefore (passes [] unicode (test_of test.now) c) split behind) }
+fn branch_test(states: &[NfaState], split: usize, first: usize, behind: usize) -> Option<&CharTest>
+    ensures { IfSome result (λ test.
+        (slice_get states.now split ≡ Some (nfa_state.BranchSplit first behind))
+        × (slice_get states.now first ≡ Some (nfa_state.Character test.now))) }
 {
-    if test.takes_ascii(unicode, c) {
-        return Some(Skip {
-            to: split,
-            passed: 0,
-        });
-    }
-    Some(Skip {
-        to: behind.to,
-        passed: behind.passed.checked_add(1)?,
-    })
-}
-
-/// Of the ways on for the characters that pass the test at this state the one that passes the fewest branches.
-fn least(
-    states: &[NfaState],
-    unicode: bool,
-    at: usize,
-    behind: usize,
-    nearest: &[Skip; 128],
-) -> Option<Skip>
-    requires reads { (i : ℕ) (p : NfaState) → slice_get states.now i ≡ Some p
-        → IsStateReadBy unicode p }
-    requires nearest { AreNearest unicode states.now behind nearest.now }
-    ensures { IfSome result (λ skip. (c : ℕ) → c < 128
-        → takes unicode (slice_get states.now at) c ≡ true
-        → past_choices unicode states.now c skip.passed (Some behind) ≡ Some skip.to) }
-{
-    let Some(NfaState::Character(test)) = states.get(at) else {
+    let Some(NfaState::BranchSplit(one, second)) = states.get(split) else {
         return None;
     };
+    if *one != first || *second != behind {
+        return None;
+    }
+    match states.get(first) {
+        Some(NfaState::Character(test)) => Some(test),
+        _ => None,
+    }
+}
+
+/// By character the way on from a choice, behind which so many were passed back.
+fn skips_of(marks: &[Mark; 128], rank: usize) -> [Skip; 128]
+    ensures { (unicode : Bool) (states : List NfaState) (behind : ℕ)
+        → AreMarks unicode states behind rank marks.now
+        → AreNearest unicode states behind result }
+{
+    let mut skips = [Skip { to: 0, passed: 0 }; 128];
+    'characters: for c in 0..128usize {
+        skips[c] = skip_to(marks[c], rank);
+    }
+    skips
+}
+
+/// The way on from a choice to a marked branch, where so many choices behind it were passed back.
+#[inline(always)]
+fn skip_to(mark: Mark, rank: usize) -> Skip
+    ensures to { result.to ≡ mark.to }
+    ensures passed { result.passed ≡ rank - mark.rank }
+{
+    Skip {
+        to: mark.to,
+        passed: rank.saturating_sub(mark.rank),
+    }
+}
+
+/// Gives this mark to each character that the test takes, and tells the way on by one of their old marks that passes the
+/// fewest branches.
+fn mark_taken(
+    marks: &mut [Mark; 128],
+    test: &CharTest,
+    unicode: bool,
+    rank: usize,
+    mark: Mark,
+) -> Option<Skip>
+    requires { IsReadBy unicode test.now }
+    ensures marks { AreMarked unicode test.now mark marks.old marks.new }
+    ensures least { IsLeastMarked unicode test.now rank marks.old 128 result }
+{
+    match test {
+        CharTest::One { c, casei: false } => mark_one(marks, *c, rank, mark),
+        _ => mark_each(marks, test, unicode, rank, mark),
+    }
+}
+
+/// Gives this mark to this character, if it is of ASCII, and tells the way on that it had.
+#[inline(always)]
+fn mark_one(marks: &mut [Mark; 128], c: char, rank: usize, mark: Mark) -> Option<Skip>
+    ensures marks { (unicode : Bool)
+        → AreMarked unicode (char_test.One c false) mark marks.old marks.new }
+    ensures least { (unicode : Bool)
+        → IsLeastMarked unicode (char_test.One c false) rank marks.old 128 result }
+{
+    let at = c as usize;
+    if at >= 128 {
+        return None;
+    }
+    let skip = skip_to(marks[at], rank);
+    marks[at] = mark;
+    Some(skip)
+}
+
+/// As `mark_taken`, one character after the other.
+fn mark_each(
+    marks: &mut [Mark; 128],
+    test: &CharTest,
+    unicode: bool,
+    rank: usize,
+    mark: Mark,
+) -> Option<Skip>
+    requires { IsReadBy unicode test.now }
+    ensures marks { AreMarked unicode test.now mark marks.old marks.new }
+    ensures least { IsLeastMarked unicode test.now rank marks.old 128 result }
+{
     let mut found: Option<Skip> = None;
     'characters: for c in 0..128usize {
-        let Some(skip) = nearest.get(c) else {
-            return None;
-        };
         let is_taken = test.takes_ascii(unicode, c as u8);
-        found = lesser(is_taken, found, *skip);
+        found = lesser(is_taken, found, skip_to(marks[c], rank));
+        if is_taken {
+            marks[c] = mark;
+        }
     }
     found
 }

@@ -1,4 +1,4 @@
-use Rattle.std.proofs.Common.{◌≤◌, Some, IfSome, sym, subst, arith}
+use Rattle.std.proofs.Common.{◌≤◌, IfSome, sym, subst, arith}
 use Rattle.fancy_plain.specs.declared.branch_tables.Skip.{Skip}
 use Rattle.fancy_plain.specs.BranchTables.{IsLeast}
 use Rattle.fancy_plain.proofs.BranchTablesLaws.{least_now, least_still}
