@@ -53,11 +53,13 @@ impl Searcher<'_> {
         requires { IsSearcher self.now }
         ensures { IfOk result (EndsOnePass self.now start) }
     {
-        if lie_apart {
-            let searcher = Searcher { ..*self };
-            return searcher.walk_twice(alloc, start);
+        let way = self.walk(alloc, start)?;
+        if !matches!(way, OnePass::Unknown) || !lie_apart {
+            return Ok(way);
         }
-        self.walk(alloc, start)
+        let searcher = Searcher { ..*self };
+        let has_none = searcher.walks_in_vain(alloc, start, MOST_SURE)?;
+        Ok(without_a_way(has_none))
     }
 
     /// As `walk_groups`, and sure as `walk_surely` is.
@@ -79,20 +81,6 @@ impl Searcher<'_> {
         }
         let searcher = Searcher { ..*self };
         let has_none = searcher.walks_in_vain(alloc, start, MOST_SURE)?;
-        Ok(without_a_way(has_none))
-    }
-
-    /// As `walk`. Where that knows nothing, another walk may be sure that there is no way.
-    #[inline(never)]
-    fn walk_twice(&self, alloc: Global, start: usize) -> Result<OnePass, AllocError>
-        requires { IsSearcher self.now }
-        ensures { IfOk result (EndsOnePass self.now start) }
-    {
-        let way = self.walk(alloc, start)?;
-        if !matches!(way, OnePass::Unknown) {
-            return Ok(way);
-        }
-        let has_none = self.walks_in_vain(alloc, start, MOST_SURE)?;
         Ok(without_a_way(has_none))
     }
 
