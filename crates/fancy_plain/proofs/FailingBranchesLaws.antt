@@ -1,6 +1,6 @@
 -- A choice between branches is taken up.
 use Rattle.std.proofs.Common.{◌≡◌, ◌+◌, ◌∷◌, [], ℕ, Bool, true, false, if◌then◌else◌, List, Option, Some, Ok, Result, map, option_map, slice_get, refl, sym, ap, ◌∙◌, subst}
-use Rattle.std.proofs.lemmas.Option.{slice_get-map}
+use Rattle.std.proofs.lemmas.Option.{same_Some, slice_get-map}
 use Rattle.std.specs.declared.alloc.AllocError.{AllocError}
 use Rattle.fancy_nfa.specs.NfaStates as states
 use Rattle.fancy_nfa.specs.NfaSearch as plain
@@ -12,9 +12,12 @@ use Rattle.fancy_backtrack.specs.declared.trail.NfaConfig.{NfaConfig}
 use Rattle.fancy_backtrack.specs.Memos.{IsHere, IsSearch, Simulates, saturated}
 use Rattle.fancy_backtrack.proofs.MemoLaws.{here_at, here_by, more_states}
 use Rattle.fancy_plain.specs.declared.nfa_state.NfaState.{NfaState}
+use Rattle.fancy_plain.specs.declared.nfa_state.NfaState.TheVariants as nfa_state
 use Rattle.fancy_plain.specs.declared.search.Searcher.{Searcher}
 use Rattle.fancy_plain.specs.declared.branch_tables.Skip.{Skip}
 use Rattle.fancy_plain.specs.FailingBranches.{Skips}
+use Rattle.fancy_plain.specs.OnePass.{AreBranches}
+use Rattle.fancy_plain.specs.Runs.{FailsAtOnce}
 use Rattle.fancy_plain.specs.Searches.{ComesTo, continuation_of}
 use Rattle.fancy_plain.specs.Views.{state_of}
 use Rattle.fancy_plain.proofs.BackLaws.{comes_by}
@@ -41,6 +44,18 @@ module _ (t : Searcher) where
   abbrev Leads : (p : NfaState) (first second : ℕ) → Type 0
   Leads p first second = (s : plain.NfaConfig) →
       plain.step_by (t.text).now t.unicode (state_of p) s ≡ plain.Tries false (goes_to first s) (goes_to second s ∷ [])
+
+  -- a choice has one first branch, which fails
+  pub split_fails : (at first second place : ℕ) → AreBranches t at first second → FailsAtOnce t first place → (one other : ℕ) →
+      slice_get (t.states).now at ≡ Some (nfa_state.Split one other) → FailsAtOnce t one place
+  split_fails at first second place branches fails one other there =
+      let s : plain.NfaConfig = record { at = at; place = place; counters = []; opened = []; spans = [] } in
+      subst (λ k. FailsAtOnce t k place)
+      (sym (ap tried (ap (λ p. plain.step_by (t.text).now t.unicode (state_of p) s) (same_Some _ _ (sym there ∙ branches.1.0)) ∙ branches.1.1 s))) fails
+    where
+      tried : plain.StepResult → ℕ
+      tried (plain.Tries is_lazy first others) = first.at
+      tried other = 0
 
   pub counted_there : (p : NfaState) (at : ℕ) → slice_get (t.states).now at ≡ Some p →
       slice_get (map state_of (t.states).now) at ≡ Some (state_of p)

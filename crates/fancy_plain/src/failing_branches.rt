@@ -38,6 +38,9 @@ impl Searcher<'_> {
             → IsHere m.old config s → ComesTo self.now (TakesUp s f) result m.new }
         ensures budget { m.new.budget ≡ m.old.budget }
     {
+        if !self.fails_at(first, config.place) {
+            return m.choose(config, first);
+        }
         let Some(skip) = self.past_failing(branches, config.at, config.place) else {
             return m.choose(config, first);
         };
@@ -49,23 +52,18 @@ impl Searcher<'_> {
         }
     }
 
-    /// From this choice past the branches that fail at their first test, if there are some.
+    /// From this choice, whose first branch fails at its first test, past it and others that do.
     #[inline(never)]
-    pub(crate) fn past_failing(
-        &self,
-        branches: &BranchTables,
-        at: usize,
-        place: usize,
-    ) -> Option<Skip>
+    fn past_failing(&self, branches: &BranchTables, at: usize, place: usize) -> Option<Skip>
         requires searcher { IsSearcher self.now }
         requires tables { AreTables self.now.unicode self.now.states.now branches.now }
+        requires fails { (first second : ℕ)
+            → slice_get self.now.states.now at ≡ Some (nfa_state.Split first second)
+            → FailsAtOnce self.now first place }
         ensures { IfSome result (Skips self.now at place) }
     {
         match self.states.get(at) {
             Some(NfaState::Split(first, second)) => {
-                if !self.fails_at(*first, place) {
-                    return None;
-                }
                 self.past_first(branches, at, *first, *second, place)
             }
             Some(NfaState::BranchSplit(_, _)) => {

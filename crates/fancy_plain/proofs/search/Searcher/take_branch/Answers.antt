@@ -11,9 +11,30 @@ use Rattle.fancy_plain.specs.declared.nfa_state.NfaState.TheVariants as nfa_stat
 use Rattle.fancy_plain.specs.Searches.{continuation_of}
 use Rattle.fancy_plain.specs.Views.{state_of}
 use Rattle.fancy_plain.proofs.BackLaws.{comes_further}
-use Rattle.fancy_plain.proofs.FailingBranchesLaws.{branch_taken, counted_there, skipped_goes, skipped_search}
+use Rattle.fancy_plain.proofs.FailingBranchesLaws.{branch_taken, counted_there, skipped_goes, skipped_search, split_fails}
 use Rattle.fancy_plain.proofs.SearchLaws.{steps_by}
 use Rattle.fancy_plain.proofs.search.Searcher.take_branch.Goals as goal
+
+pub past_failing-requires-clause-fails : goal.past_failing-requires-clause-fails
+past_failing-requires-clause-fails c = λ one other there.
+    split_fails c.args.self.now c.args.config.at c.args.first c.requires.at.0 c.args.config.place c.requires.at.1
+    (c.fails_at.ensures c.if-not-fails_at.false) one other there
+
+pub returns-then-not-fails_at-clause-leads : goal.returns-then-not-fails_at-clause-leads
+returns-then-not-fails_at-clause-leads c = λ s f h here.
+    let t = c.args.self.now in
+    let config = c.args.config in
+    let first = c.args.first in
+    let branches = c.requires.at in
+    let second = branches.0 in
+    let p = branches.1.0 in
+    let there = branches.1.1.0 in
+    let leads = branches.1.1.1 in
+    let v = visited (Some (state_of p)) f in
+    let counted = subst (λ o. IsSearch (continuation_of t) c.args.m.now (visited o f)) (counted_there t p config.at there) h in
+    branch_taken t config p first second s f c.choose.result c.choose.new.self here.at there leads
+    (c.choose.ensures.leads (continuation_of t) s v (plain.Other (goes_to second s) ∷ v.frames) counted here
+    (false, (goes_to first s, (goes_to second s, (steps_by t p config s here.at there ∙ leads s, refl)))))
 
 pub returns-in_default-clause-leads : goal.returns-in_default-clause-leads
 returns-in_default-clause-leads c = λ s f h here.
@@ -27,8 +48,8 @@ returns-in_default-clause-leads c = λ s f h here.
     let leads = branches.1.1.1 in
     let v = visited (Some (state_of p)) f in
     let counted = subst (λ o. IsSearch (continuation_of t) c.args.m.now (visited o f)) (counted_there t p config.at there) h in
-    branch_taken t config p first second s f c.choose.result c.choose.new.self here.at there leads
-    (c.choose.ensures.leads (continuation_of t) s v (plain.Other (goes_to second s) ∷ v.frames) counted here
+    branch_taken t config p first second s f c.choose-in_default.result c.choose-in_default.new.self here.at there leads
+    (c.choose-in_default.ensures.leads (continuation_of t) s v (plain.Other (goes_to second s) ∷ v.frames) counted here
     (false, (goes_to first s, (goes_to second s, (steps_by t p config s here.at there ∙ leads s, refl)))))
 
 pub returns-in-Some-BranchSplit-clause-leads : goal.returns-in-Some-BranchSplit-clause-leads
