@@ -4,4 +4,5 @@ pub mod Nodes
 pub mod Fragments
 pub mod Delegates
 pub mod Leading
+pub mod LeadingRuns
 pub mod StartFilters

@@ -22,5 +22,6 @@ pub mod KeptEndsLaws
 pub mod FoundEndsLaws
 pub mod BranchTablesLaws
 pub mod FailingBranchesLaws
+pub mod LeadingRunsLaws
 pub mod ThreadsLaws
 pub mod JoinedLayout

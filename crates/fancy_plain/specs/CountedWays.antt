@@ -26,8 +26,8 @@ abbrev pub PassesMost : Searcher → CharTest → (most : ℕ) → (from to left
 PassesMost t test most from to left =
     (left ≤ most) × PassesSome t test (most - left) from to × (0 < left → Excludes t test to)
 
--- a loop over this test begins there, with these bounds and this state behind it: it goes on first, and asks no iteration
--- whether it moves
+-- a loop over this test begins there, with these bounds and this state behind it: it goes on first, and asks no
+-- iteration whether it moves
 abbrev pub BeginsLoop : Searcher → (enter : ℕ) → Loop → (after : ℕ) → CharTest → Type 0
 BeginsLoop t enter bounds after test =
     (slice_get (t.states).now enter ≡ Some nfa_state.CounterBegin)
@@ -39,7 +39,8 @@ abbrev pub ComesPast : Searcher → (at place : ℕ) → Passed → Type 0
 ComesPast t at place (passed.On next end is_sure) =
     (s : NfaConfig) → Walks t is_sure (config_at s at place) (config_at s next end)
 ComesPast t at place passed.Ends = (s : NfaConfig) → Succeeds t (config_at s at place)
-ComesPast t at place (passed.Opens next) = (s : NfaConfig) → Walks t true (config_at s at place) (opened_at s next place)
+ComesPast t at place (passed.Opens next) =
+    (s : NfaConfig) → Walks t true (config_at s at place) (opened_at s next place)
 ComesPast t at place (passed.Closes group next) = (s : NfaConfig) (opened : List ℕ) → s.opened ≡ opened →
     Walks t true (config_at s at place) (closed_by s group opened next place)
 ComesPast t at place passed.Fails = (s : NfaConfig) → Loses t (config_at s at place)

@@ -11,8 +11,8 @@ use Rattle.fancy_plain.specs.declared.search.Searcher.{Searcher}
 use Rattle.fancy_plain.specs.OnePass.{AreStatesOf, IsBlank, Walks, config_at}
 use Rattle.fancy_plain.specs.Views.{state_of}
 
--- a search that knows of no pair ends there and sets no group, if it takes up this state at this place outside loops that
--- count and groups
+-- a search that knows of no pair ends there and sets no group, if it takes up this state at this place outside loops
+-- that count and groups
 abbrev pub EndsFrom : (text : List ℕ) → (unicode : Bool) → List NfaState → (state place end : ℕ) → Type 0
 EndsFrom text unicode states state place end =
     (a : Analysis) (es : List Tree) → AreStatesOf a es states → (f : Search) → IsBlank f →

@@ -21,3 +21,5 @@ pub mod FoundEnds
 pub mod OnePassCaches
 pub mod RequiredBytes
 pub mod LoopsInLoops
+pub mod LeadingLoops
+pub mod LeadingRuns

@@ -43,7 +43,8 @@ closed_by s group (from ∷ opened) at place = closed_at s group from opened at 
 abbrev pub IsBlank : Search → Type 0
 IsBlank f = (p : Pair) → f.failed p ≡ false
 
--- a search that takes up this state at this place, whatever it knows, goes back after some steps and keeps no more for later
+-- a search that takes up this state at this place, whatever it knows, goes back after some steps and keeps no more for
+-- later
 abbrev pub IsDeadEnd : Searcher → (at place : ℕ) → Type 0
 IsDeadEnd t at place =
     (s : NfaConfig) (f : Search) → s.at ≡ at → s.place ≡ place →
@@ -92,8 +93,8 @@ Loses t from =
     (steps : ℕ) × ((g : Search) × ((after_steps_of t steps (TakesUp from f) ≡ TakesBack g)
     × (AreFails t f.frames → AreFails t g.frames)))
 
--- It goes so over a loop over this test, from its head to its head. That is sure where what stands behind the loop is a dead
--- end up to there.
+-- It goes so over a loop over this test, from its head to its head. That is sure where what stands behind the loop is a
+-- dead end up to there.
 abbrev pub RunsOn : Searcher → CharTest → (from to : ℕ) → Type 0
 RunsOn t test from to =
     (s : NfaConfig) (head first second : ℕ) → slice_get (t.states).now head ≡ Some (nfa_state.LoopSplit first second) →

@@ -15,6 +15,7 @@ mod kept_ends;
 mod kept_runs;
 mod layout;
 mod lazy_loops;
+pub mod leading_runs;
 pub mod nfa;
 mod nfa_state;
 pub mod one_pass;

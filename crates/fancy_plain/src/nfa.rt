@@ -10,6 +10,7 @@ ghost use Rattle.fancy_meaning.specs.Premises.{IsText};
 ghost use Rattle.fancy_plain.specs.BranchTables.{AreTables};
 ghost use Rattle.fancy_plain.specs.FirstSets.{may_begin, AreFirstSets};
 ghost use Rattle.fancy_plain.specs.RequiredBytes.{AreRequired, IsOnlyOf};
+ghost use Rattle.fancy_plain.specs.LeadingLoops.{IsLeadingRun};
 ghost use Rattle.fancy_plain.specs.LoopsInLoops.{begins_loop, has_loop_in_loop, is_counter_loop};
 ghost use Rattle.fancy_plain.specs.Neighbours.{AreNeighbours, IsEasy};
 ghost use Rattle.fancy_plain.specs.Views.{state_of};
@@ -20,6 +21,7 @@ use crate::branch_tables::BranchTables;
 use crate::first_sets::{first_sets, may_begin};
 use crate::kept_runs::LONG;
 use crate::layout::{Layout, room_for};
+use crate::leading_runs::leading_run;
 use crate::nfa_state::NfaState;
 use crate::required_bytes::{only_of, required_bytes};
 use crate::search::Searcher;
@@ -51,10 +53,13 @@ pub struct Nfa {
     pub(crate) required_byte: Option<u8>,
     /// Of alternations with many branches, which one comes next.
     pub(crate) branches: BranchTables,
+    /// The state of the test of the greedy loop over one character with which each way begins, if there is one.
+    pub(crate) leading_run: Option<usize>,
     ghost begin: { AreFirstSets unicode (map state_of states.items) first_sets.items },
     ghost need: { IfSome required_bytes (AreRequired unicode (map state_of states.items)) } by { Prim.hlevel props },
     ghost tables: { AreTables unicode states.items branches },
     ghost only: { ForSome required_byte (IsOnlyOf required_bytes) },
+    ghost leads: { ForSome leading_run (λ at. ∥ IsLeadingRun states.items at ∥₁) },
 }
 
 // Not derived: whoever owns one calls this drop, and would prove a derived one again (docs/GATE.md).
@@ -72,6 +77,7 @@ impl Drop for Nfa {
             required_bytes: _,
             required_byte: _,
             branches: _,
+            leading_run: _,
         } = self;
     }
 }
@@ -130,13 +136,14 @@ impl Nfa {
         let required_bytes = required_bytes(&states, unicode);
         let required_byte = only_of(&required_bytes);
         let branches = BranchTables::of(alloc, &states, unicode)?;
+        let leading_run = leading_run(&states);
         let searcher = Searcher {
             states: &states,
             unicode,
             text: "",
         };
         let seems_one_pass = searcher.seems_one_pass();
-        let is_walked_twice = searcher.starts_lie_apart();
+        let is_walked_twice = searcher.is_walked_twice(leading_run);
         let group = first_group(&states);
         let is_plain = seems_one_pass && group.is_none();
         let has_long_count = has_long_count(&states);
@@ -152,6 +159,7 @@ impl Nfa {
             required_bytes,
             required_byte,
             branches,
+            leading_run,
         })
     }
 

@@ -1,5 +1,6 @@
 use Rattle.std.proofs.Common.{[], ◌∷◌, map, IfSome, refl, sym, ap, ◌∙◌, subst}
 use Rattle.std.proofs.lemmas.List.{map-append}
+use Rattle.std.specs.Option.{ForSome}
 use Rattle.fancy_expr.specs.Each.{Each}
 use Rattle.fancy_info.specs.Infos.{info_tree}
 use Rattle.fancy_joining.proofs.JoinedNodes.{joining_keeps_nodes}
@@ -7,6 +8,7 @@ use Rattle.fancy_plain.specs.declared.nfa_state.NfaState.TheVariants as code
 use Rattle.fancy_plain.specs.declared.layout.Layout.{Layout}
 use Rattle.fancy_plain.specs.BranchTables.{AreTables}
 use Rattle.fancy_plain.specs.FirstSets.{AreFirstSets}
+use Rattle.fancy_plain.specs.LeadingLoops.{IsLeadingRun}
 use Rattle.fancy_plain.specs.Nfas.{IsRefusedFor}
 use Rattle.fancy_plain.specs.RequiredBytes.{AreRequired}
 use Rattle.fancy_plain.specs.Views.{state_of}
@@ -40,7 +42,7 @@ pub seems_one_pass-seems_one_pass-requires : goal.seems_one_pass-seems_one_pass-
 seems_one_pass-seems_one_pass-requires c = λ i p at.
     let s : Layout = record { alloc = c.args.alloc; unicode = c.args.unicode; states = c.in_ok-states.states } in
     one_read c.args.may_join c.requires.0 c.args.infos.now s c.lay_each.new.self c.in_ok-states.ensures.items
-    (c.in_ok-lay_each.ensures c.requires.0 c.requires.1) c.push.new.self.items c.in_ok-push.ensures.items _ c.deref-5.ensures.value i p at
+    (c.in_ok-lay_each.ensures c.requires.0 c.requires.1) c.push.new.self.items c.in_ok-push.ensures.items _ c.deref-6.ensures.value i p at
 
 pub returns-clause-nfa : goal.returns-clause-nfa
 returns-clause-nfa c = λ a each fine.
@@ -70,4 +72,6 @@ invariant_of-result c = record {
       c.required_bytes-required_bytes.ensures;
   tables = subst (λ l. AreTables c.args.unicode l c.in_ok-branches.branches) c.deref-4.ensures.value c.in_ok-branches.ensures;
   only = c.only_of-required_byte.ensures;
+  leads =
+      subst (λ l. ForSome c.leading_run-leading_run.result (λ at. ∥ IsLeadingRun l at ∥₁)) c.deref-5.ensures.value c.leading_run-leading_run.ensures;
 }
