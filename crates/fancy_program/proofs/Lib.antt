@@ -13,4 +13,5 @@ pub mod LookLaws
 pub mod LookScanLaws
 pub mod WalkLaws
 pub mod TurnsLaws
+pub mod AtomicPartsLaws
 pub mod RunPrefilterLaws
