@@ -18,7 +18,7 @@ use Rattle.fancy_plain.specs.declared.nfa_state.NfaState as code
 use Rattle.fancy_plain.specs.declared.nfa_state.NfaState.TheVariants as variant
 use Rattle.fancy_plain.specs.declared.nfa_state.CharTest as code_test
 use Rattle.fancy_plain.specs.Views.{state_of}
-use Rattle.fancy_plain.specs.FirstSets.{AreFirstSets, IsLevel, IsWithin, covers, counter_loop_within, is_begun_by, is_over, is_past, is_short, steps_within, may_begin, TakesAmong}
+use Rattle.fancy_plain.specs.FirstSets.{AreFirstSets, AreLevels, IsLevel, IsWithin, covers, counter_loop_within, is_begun_by, is_over, is_past, is_short, steps_within, may_begin, TakesAmong}
 use Rattle.fancy_plain.proofs.KeptLaws.{StepKeeps, finds_none}
 
 both : (a b : Bool) → (a && b) ≡ true → (a ≡ true) × (b ≡ true)
@@ -76,7 +76,7 @@ pub record IsReached (counter : ℕ) (counters : List LoopCounter) : Type 0 wher
 reached_any : (counters : List LoopCounter) → IsReached 255 counters
 reached_any counters = record { comes = omega arith; known = λ small. absurd (omega (arith, small)) }
 
-reached_there : (there counter : ℕ) (counters : List LoopCounter) → (there == counter || there == 255) ≡ true → IsReached counter counters →
+pub reached_there : (there counter : ℕ) (counters : List LoopCounter) → (there == counter || there == 255) ≡ true → IsReached counter counters →
     IsReached there counters
 reached_there there counter counters e h = go (there == counter) (there == 255) refl refl e
   where
@@ -84,6 +84,10 @@ reached_there there counter counters e h = go (there == counter) (there == 255) 
     go true b p q e = subst (λ w. IsReached w counters) (sym (eqb-true there counter p)) h
     go false true p q e = subst (λ w. IsReached w counters) (sym (eqb-true there 255 q)) (reached_any counters)
     go false false p q e = absurd (true≢false (sym e))
+
+-- where a search begins
+pub first_reached : (reached : List ℕ) → covers reached 0 255 ≡ true → IsReached (slice_index_or reached 0 0) []
+first_reached reached first = reached_there (slice_index_or reached 0 0) 255 [] first (reached_any [])
 
 past_is_last : (hi : Option ℕ) (count counter : ℕ) → count + 1 ≡ counter → is_last hi count ≡ is_past hi counter
 past_is_last None count counter is = refl
@@ -123,35 +127,20 @@ module _ (l : plain.Loop) (counter : ℕ) (place : ℕ) (t : LoopCounter) (small
 -- ---- levels
 
 module _ (unicode : Bool) (states : List NfaState) where
-  -- one level after the other, from states that are reached to those that are reached behind the last
-  abbrev pub AreLevels : (reached : List ℕ) → (levels : List (List Bool)) → (last : List ℕ) → Type 0
-  AreLevels reached [] last = reached ≡ last
-  AreLevels reached (ascii ∷ levels) last =
-      (after : List ℕ) × (IsLevel unicode states reached ascii after × AreLevels after levels last)
-
   pub one_more : (reached : List ℕ) (levels : List (List Bool)) (last : List ℕ) (ascii : List Bool) (after : List ℕ) →
-      AreLevels reached levels last → IsLevel unicode states last ascii after → AreLevels reached (levels ++ (ascii ∷ [])) after
+      AreLevels unicode states reached levels last → IsLevel unicode states last ascii after →
+      AreLevels unicode states reached (levels ++ (ascii ∷ [])) after
   one_more reached [] last ascii after e h = (after, (subst (λ r. IsLevel unicode states r ascii after) (sym e) h, refl))
   one_more reached (level ∷ levels) last ascii after (next, (is, more)) h =
       (next, (is, one_more next levels last ascii after more h))
 
--- ---- where a search stands
+-- ---- what leads on from a state that is reached, where the property holds of what is reached at the same place
 
-module _ (text : List ℕ) (unicode : Bool) (states : List NfaState) where
-  -- at a state of some level, from which on no such characters stand
-  pub record Inside (s : NfaConfig) : Type 0 where
-    pub reached : List ℕ
-    pub levels : List (List Bool)
-    pub last : List ℕ
-    pub leads : AreLevels unicode states reached levels last
-    pub here : IsReached (slice_index_or reached s.at 0) s.counters
-    pub out : may_begin levels text s.place ≡ false
+module _ (text : List ℕ) (unicode : Bool) (states : List NfaState) (P : NfaConfig → Type 0) where
+  abbrev pub StepInside : StepResult → Type 0
+  StepInside = StepKeeps P
 
-  abbrev StepInside : StepResult → Type 0
-  StepInside = StepKeeps Inside
-
-  -- ---- what leads on from a state that is reached
-  holds_inside : (s : NfaConfig) (b : Bool) → Inside (forward s) → StepInside (if b then Goes (forward s) else Lost)
+  holds_inside : (s : NfaConfig) (b : Bool) → P (forward s) → StepInside (if b then Goes (forward s) else Lost)
   holds_inside s true h = h
   holds_inside s false h = tt
 
@@ -159,7 +148,7 @@ module _ (text : List ℕ) (unicode : Bool) (states : List NfaState) where
     abbrev head : (over few : Bool) → StepResult
     head over few = if over then Tries true off [] else if few then Tries true on [] else choice_step l.greedy on off
 
-    either_inside : (over few : Bool) → Inside on → Inside off → StepInside (head over few)
+    either_inside : (over few : Bool) → P on → P off → StepInside (head over few)
     either_inside over few h k = go over few l.greedy
       where
         go : (over few greedy : Bool) →
@@ -169,70 +158,23 @@ module _ (text : List ℕ) (unicode : Bool) (states : List NfaState) where
         go false false true = (h, (k, tt))
         go false false false = (k, (h, tt))
 
-    on_inside : (over few : Bool) → over ≡ false → few ≡ true → Inside on → StepInside (head over few)
+    on_inside : (over few : Bool) → over ≡ false → few ≡ true → P on → StepInside (head over few)
     on_inside true few e f h = absurd (true≢false e)
     on_inside false true e f h = (h, tt)
     on_inside false false e f h = absurd (true≢false (sym f))
 
-    off_inside : (over few : Bool) → over ≡ true → Inside off → StepInside (head over few)
+    off_inside : (over few : Bool) → over ≡ true → P off → StepInside (head over few)
     off_inside true few e h = (h, tt)
     off_inside false few e h = absurd (true≢false (sym e))
 
-  module _ (s : NfaConfig) (reached : List ℕ) (ascii : List Bool) (levels : List (List Bool)) (after last : List ℕ)
-      (level : IsLevel unicode states reached ascii after) (more : AreLevels unicode states after levels last)
-      (here : IsReached (slice_index_or reached s.at 0) s.counters)
-      (out : may_begin (ascii ∷ levels) text s.place ≡ false) where
+  module _ (s : NfaConfig) (reached : List ℕ) (here : IsReached (slice_index_or reached s.at 0) s.counters)
+      (keeps : (t : NfaConfig) → t.place ≡ s.place → IsReached (slice_index_or reached t.at 0) t.counters → P t) where
     abbrev counter : ℕ
     counter = slice_index_or reached s.at 0
 
     -- at the same place
-    stays_at : (t : NfaConfig) → t.place ≡ s.place → (w : ℕ) → covers reached t.at w ≡ true → IsReached w t.counters → Inside t
-    stays_at t same w covered there =
-        record {
-          reached = reached;
-          levels = ascii ∷ levels;
-          last = last;
-          leads = (after, (level, more));
-          here = reached_there (slice_index_or reached t.at 0) w t.counters covered there;
-          out = ap (may_begin (ascii ∷ levels) text) same ∙ out;
-        }
-
-    -- past a character
-    goes_on : covers after (s.at + 1) counter ≡ true → may_begin levels text (s.place + 1) ≡ false →
-        Inside (record (forward s) { place = s.place + 1 })
-    goes_on covered rest =
-        record {
-          reached = after;
-          levels = levels;
-          last = last;
-          leads = more;
-          here = reached_there (slice_index_or after (s.at + 1) 0) counter s.counters covered here;
-          out = rest;
-        }
-
-    module _ (test : plain.CharTest) (covered : covers after (s.at + 1) counter ≡ true) (among : TakesAmong unicode ascii (plain.Character test)) where
-      abbrev past : Option ℕ
-      past = past_char text (passes text unicode test) s.place
-
-      by_past : (o : Option ℕ) → past ≡ o → StepInside (goes_past s o) → StepInside (goes_past s past)
-      by_past o e h = subst (λ o. StepInside (goes_past s o)) (sym e) h
-
-      by_passed : (b : ℕ) → slice_get text s.place ≡ Some b → b < 128 → (passed : Bool) → passes text unicode test b ≡ passed →
-          (slice_index_or ascii b false && may_begin levels text (s.place + 1)) ≡ false → StepInside (goes_past s past)
-      by_passed b at small false e rest = by_past None (past_ascii text (passes text unicode test) s.place b at small false e) tt
-      by_passed b at small true e rest =
-          by_past (Some (s.place + 1)) (past_ascii text (passes text unicode test) s.place b at small true e)
-          (goes_on covered (ap (λ a. a && may_begin levels text (s.place + 1)) (sym (among b small (passes_alike text unicode test b ∙ e))) ∙ rest))
-
-      take_inside : (o : Option ℕ) → slice_get text s.place ≡ o →
-          is_begun_by ascii (may_begin levels text (s.place + 1)) o ≡ false → StepInside (goes_past s past)
-      take_inside None at none = by_past None (past_end text (passes text unicode test) s.place at) tt
-      take_inside (Some b) at none = go (nat_lt b 128) refl
-        where
-          go : (small : Bool) → nat_lt b 128 ≡ small → StepInside (goes_past s past)
-          go true e =
-              by_passed b at (ltb-true b 128 e) (passes text unicode test b) refl (sym (cond-true (nat_lt b 128) _ _ e) ∙ none)
-          go false e = absurd (true≢false (sym (cond-false (nat_lt b 128) _ _ e) ∙ none))
+    stays_at : (t : NfaConfig) → t.place ≡ s.place → (w : ℕ) → covers reached t.at w ≡ true → IsReached w t.counters → P t
+    stays_at t same w covered there = keeps t same (reached_there (slice_index_or reached t.at 0) w t.counters covered there)
 
     close_inside : (g : ℕ) (opened : List ℕ) → covers reached (s.at + 1) counter ≡ true → StepInside (close_step g s opened)
     close_inside g [] covered = stays_at (forward s) refl counter covered here
@@ -269,33 +211,127 @@ module _ (text : List ℕ) (unicode : Bool) (states : List NfaState) where
     counter_loop_inside l off [] h leads = tt
     counter_loop_inside l off (t ∷ ts) h leads = counter_inside l off t ts h (is_over l counter) (is_short l counter) refl refl leads
 
-    two : (a b : ℕ) → (covers reached a counter && covers reached b counter) ≡ true → Inside (goes_to a s) × (Inside (goes_to b s) × Unit {0})
+    two : (a b : ℕ) → (covers reached a counter && covers reached b counter) ≡ true → P (goes_to a s) × (P (goes_to b s) × Unit {0})
     two a b e =
         let r = both (covers reached a counter) (covers reached b counter) e in
         (stays_at (goes_to a s) refl counter r.0 here, (stays_at (goes_to b s) refl counter r.1 here, tt))
 
-    step_inside : (o : Option NfaState) → IsWithin unicode reached ascii after s.at o → StepInside (step_at text unicode o s)
-    step_inside None h = tt
-    step_inside (Some plain.Match) h = absurd (true≢false (sym h.0))
-    step_inside (Some (plain.Character test)) h = take_inside test h.0 h.1 (slice_get text s.place) refl out
-    step_inside (Some (plain.Holds a)) h = holds_inside s (holds text s.place unicode a) (stays_at (forward s) refl counter h.0 here)
-    step_inside (Some plain.Open) h = stays_at (record (forward s) { opened = s.place ∷ s.opened }) refl counter h.0 here
-    step_inside (Some (plain.Close g)) h = close_inside g s.opened h.0
-    step_inside (Some (plain.Split a b)) h = two a b h.0
-    step_inside (Some (plain.BranchSplit a b)) h = two a b h.0
-    step_inside (Some (plain.LoopSplit a b)) h = two a b h.0
-    step_inside (Some (plain.Jump to)) h = stays_at (goes_to to s) refl counter h.0 here
-    step_inside (Some plain.Join) h = (stays_at (forward s) refl counter h.0 here, tt)
-    step_inside (Some plain.CounterBegin) h =
-        stays_at (record (forward s) { counters = record { count = 0; since = None } ∷ s.counters }) refl 1 h.0
+    -- but for a character, which has to be taken so
+    pub steps_inside : (after : List ℕ) (p : NfaState) → steps_within reached after s.at counter p ≡ true →
+        ((test : plain.CharTest) → p ≡ plain.Character test →
+        StepInside (goes_past s (past_char text (passes text unicode test) s.place))) →
+        StepInside (step_at text unicode (Some p) s)
+    steps_inside after plain.Match h takes = absurd (true≢false (sym h))
+    steps_inside after (plain.Character test) h takes = takes test refl
+    steps_inside after (plain.Holds a) h takes = holds_inside s (holds text s.place unicode a) (stays_at (forward s) refl counter h here)
+    steps_inside after plain.Open h takes = stays_at (record (forward s) { opened = s.place ∷ s.opened }) refl counter h here
+    steps_inside after (plain.Close g) h takes = close_inside g s.opened h
+    steps_inside after (plain.Split a b) h takes = two a b h
+    steps_inside after (plain.BranchSplit a b) h takes = two a b h
+    steps_inside after (plain.LoopSplit a b) h takes = two a b h
+    steps_inside after (plain.Jump to) h takes = stays_at (goes_to to s) refl counter h here
+    steps_inside after plain.Join h takes = (stays_at (forward s) refl counter h here, tt)
+    steps_inside after plain.CounterBegin h takes =
+        stays_at (record (forward s) { counters = record { count = 0; since = None } ∷ s.counters }) refl 1 h
         (record { comes = omega arith; known = λ small. (refl, refl) })
-    step_inside (Some (plain.CounterLoop l off)) h = counter_loop_inside l off s.counters here h.0
+    steps_inside after (plain.CounterLoop l off) h takes = counter_loop_inside l off s.counters here h
 
-  config_inside : (s : NfaConfig) → Inside s → StepInside (step_at text unicode (slice_get states s.at) s)
+    -- past a character, where the property holds behind each of ASCII that stands here and passes
+    module _ (test : plain.CharTest) where
+      abbrev past : Option ℕ
+      past = past_char text (passes text unicode test) s.place
+
+      by_past : (o : Option ℕ) → past ≡ o → StepInside (goes_past s o) → StepInside (goes_past s past)
+      by_past o e h = subst (λ o. StepInside (goes_past s o)) (sym e) h
+
+      by_passed : (b : ℕ) → slice_get text s.place ≡ Some b → b < 128 → (passed : Bool) → passes text unicode test b ≡ passed →
+          (passes [] unicode test b ≡ true → P (record (forward s) { place = s.place + 1 })) → StepInside (goes_past s past)
+      by_passed b at small false e behind = by_past None (past_ascii text (passes text unicode test) s.place b at small false e) tt
+      by_passed b at small true e behind =
+          by_past (Some (s.place + 1)) (past_ascii text (passes text unicode test) s.place b at small true e)
+          (behind (passes_alike text unicode test b ∙ e))
+
+      pub takes_inside : (o : Option ℕ) → slice_get text s.place ≡ o →
+          ((b : ℕ) → o ≡ Some b → (b < 128) × (passes [] unicode test b ≡ true → P (record (forward s) { place = s.place + 1 }))) →
+          StepInside (goes_past s past)
+      takes_inside None at behind = by_past None (past_end text (passes text unicode test) s.place at) tt
+      takes_inside (Some b) at behind =
+          let h = behind b refl in
+          by_passed b at h.0 (passes text unicode test b) refl h.1
+
+-- ---- where a search stands
+
+-- an ASCII character stands there that is none of these, or the rest does not follow it
+pub begun_by_none : (ascii : List Bool) (rest : Bool) (b : ℕ) → is_begun_by ascii rest (Some b) ≡ false →
+    (b < 128) × ((slice_index_or ascii b false && rest) ≡ false)
+begun_by_none ascii rest b none = go (nat_lt b 128) refl
+  where
+    go : (small : Bool) → nat_lt b 128 ≡ small → (b < 128) × ((slice_index_or ascii b false && rest) ≡ false)
+    go true e = (ltb-true b 128 e, sym (cond-true (nat_lt b 128) _ _ e) ∙ none)
+    go false e = absurd (true≢false (sym (cond-false (nat_lt b 128) _ _ e) ∙ none))
+
+module _ (text : List ℕ) (unicode : Bool) (states : List NfaState) where
+  -- at a state of some level, from which on no such characters stand
+  pub record Inside (s : NfaConfig) : Type 0 where
+    pub reached : List ℕ
+    pub levels : List (List Bool)
+    pub last : List ℕ
+    pub leads : AreLevels unicode states reached levels last
+    pub here : IsReached (slice_index_or reached s.at 0) s.counters
+    pub out : may_begin levels text s.place ≡ false
+
+  -- past a character of the level
+  pub inside_behind : (s : NfaConfig) (after last : List ℕ) (ascii : List Bool) (levels : List (List Bool)) (counter : ℕ) →
+      AreLevels unicode states after levels last → IsReached counter s.counters → covers after (s.at + 1) counter ≡ true →
+      (b : ℕ) → (slice_index_or ascii b false && may_begin levels text (s.place + 1)) ≡ false → slice_index_or ascii b false ≡ true →
+      Inside (record (forward s) { place = s.place + 1 })
+  inside_behind s after last ascii levels counter more here covered b none is_in =
+      record {
+        reached = after;
+        levels = levels;
+        last = last;
+        leads = more;
+        here = reached_there (slice_index_or after (s.at + 1) 0) counter s.counters covered here;
+        out = ap (λ a. a && may_begin levels text (s.place + 1)) (sym is_in) ∙ none;
+      }
+
+  module _ (s : NfaConfig) (reached : List ℕ) (ascii : List Bool) (levels : List (List Bool)) (after last : List ℕ)
+      (level : IsLevel unicode states reached ascii after) (more : AreLevels unicode states after levels last)
+      (here : IsReached (slice_index_or reached s.at 0) s.counters)
+      (out : may_begin (ascii ∷ levels) text s.place ≡ false) where
+    keeps : (t : NfaConfig) → t.place ≡ s.place → IsReached (slice_index_or reached t.at 0) t.counters → Inside t
+    keeps t same there =
+        record {
+          reached = reached;
+          levels = ascii ∷ levels;
+          last = last;
+          leads = (after, (level, more));
+          here = there;
+          out = ap (may_begin (ascii ∷ levels) text) same ∙ out;
+        }
+
+    by_state : (p : NfaState) → IsWithin unicode reached ascii after s.at (Some p) → StepKeeps Inside (step_at text unicode (Some p) s)
+    by_state p h =
+        steps_inside text unicode states Inside s reached here keeps after p h.0
+        (λ test is. takes_inside text unicode states Inside s reached here keeps test (slice_get text s.place) refl
+        (λ b at.
+        let none = begun_by_none ascii (may_begin levels text (s.place + 1)) b (ap (is_begun_by ascii (may_begin levels text (s.place + 1))) (sym at) ∙ out) in (
+          none.0,
+          λ passed.
+              inside_behind s after last ascii levels (slice_index_or reached s.at 0) more here
+              (subst (λ q. steps_within reached after s.at (slice_index_or reached s.at 0) q ≡ true) is h.0) b none.1
+              (subst (TakesAmong unicode ascii) is h.1 b none.0 passed),
+        )))
+
+    step_inside : (o : Option NfaState) → IsWithin unicode reached ascii after s.at o → StepKeeps Inside (step_at text unicode o s)
+    step_inside None h = tt
+    step_inside (Some p) h = by_state p h
+
+  pub config_inside : (s : NfaConfig) → Inside s → StepKeeps Inside (step_at text unicode (slice_get states s.at) s)
   config_inside s h = go h.levels h.leads h.out
     where
       go : (levels : List (List Bool)) → AreLevels unicode states h.reached levels h.last → may_begin levels text s.place ≡ false →
-          StepInside (step_at text unicode (slice_get states s.at) s)
+          StepKeeps Inside (step_at text unicode (slice_get states s.at) s)
       go [] leads out = absurd (true≢false out)
       go (ascii ∷ levels) (after, (level, more)) out =
           step_inside s h.reached ascii levels after h.last level more h.here out (slice_get states s.at)
@@ -314,7 +350,7 @@ are_first_sets unicode states reached levels last first leads text place out =
           levels = levels;
           last = last;
           leads = leads;
-          here = reached_there (slice_index_or reached 0 0) 255 [] first (reached_any []);
+          here = first_reached reached first;
           out = out;
         }
 

@@ -270,7 +270,7 @@ counted_by text f place memo known knows (Err e) h = tt
 -- ---- where no way can begin
 
 -- where no search finds a way, the nodes have none
-no_way_found : (text : List ℕ) (f : Nfa) (place : ℕ) → IsText text → IsTrue (is_place text place) →
+pub no_way_found : (text : List ℕ) (f : Nfa) (place : ℕ) → IsText text → IsTrue (is_place text place) →
     ((failed : Pair → Bool) (steps : ℕ) (way : Option plain.NfaConfig) (found : Search) →
     searched text f.unicode (map state_of f.states.items) failed place steps ≡ Ends way found → way ≡ None) →
     HasNoWayAt text f place

@@ -5,7 +5,7 @@ use Rattle.fancy_nfa.specs.NfaSearch.{StepResult, Found, Lost, Goes, Tries, Fram
 use Rattle.fancy_nfa.specs.FirstWays.{searched}
 
 module _ (P : NfaConfig → Type 0) where
-  abbrev AllKeep : List NfaConfig → Type 0
+  abbrev pub AllKeep : List NfaConfig → Type 0
   AllKeep [] = Unit {0}
   AllKeep (s ∷ ss) = P s × AllKeep ss
 

@@ -11,6 +11,8 @@ pub mod FirstWayLaws
 pub mod ReadStates
 pub mod KeptLaws
 pub mod FirstSetLaws
+pub mod RunFiltersLaws
+pub mod RunLevelsLaws
 pub mod RequiredBytesLaws
 pub mod GroupSpansLaws
 pub mod DeadEndLaws

@@ -86,3 +86,9 @@ IsWithin unicode reached ascii after at (Some p) =
 abbrev pub IsLevel : Bool → List NfaState → (reached : List ℕ) → (ascii : List Bool) → (after : List ℕ) → Type 0
 IsLevel unicode states reached ascii after =
     (at : ℕ) → 0 < slice_index_or reached at 0 → IsWithin unicode reached ascii after at (slice_get states at)
+
+-- one level after the other, from states that are reached to those that are reached behind the last
+abbrev pub AreLevels : Bool → List NfaState → (reached : List ℕ) → (levels : List (List Bool)) → (last : List ℕ) → Type 0
+AreLevels unicode states reached [] last = reached ≡ last
+AreLevels unicode states reached (ascii ∷ levels) last =
+    (after : List ℕ) × (IsLevel unicode states reached ascii after × AreLevels unicode states after levels last)

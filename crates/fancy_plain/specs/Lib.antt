@@ -20,6 +20,8 @@ pub mod KeptEnds
 pub mod FoundEnds
 pub mod OnePassCaches
 pub mod RequiredBytes
+pub mod RunFilters
+pub mod RunLevels
 pub mod LoopsInLoops
 pub mod LeadingLoops
 pub mod LeadingRuns

@@ -1,11 +1,11 @@
 //! With which characters a way can begin: found by the states that a search comes to before each of its first ones.
 
-ghost use Rattle.std.specs.Prelude.{◌≡◌, ◌&&◌, ℕ, ◌+◌, ◌<◌, [], true, false, map, slice_get, slice_index_or, Some, IfOk, IfSome};
+ghost use Rattle.std.specs.Prelude.{◌≡◌, ◌&&◌, ℕ, List, ◌+◌, ◌<◌, [], true, false, map, slice_get, slice_index_or, Some, IfOk, IfSome};
 ghost use Rattle.fancy_meaning.specs.Chars.{any_takes, literal_takes};
 ghost use Rattle.fancy_meaning.specs.Machine.{class_test};
 ghost use Rattle.fancy_characters.specs.Classes.{class_of};
 ghost use Rattle.fancy_nfa.specs.NfaSearch.{passes};
-ghost use Rattle.fancy_plain.specs.FirstSets.{may_begin, covers, is_over, is_short, steps_within, IsLevel, AreFirstSets};
+ghost use Rattle.fancy_plain.specs.FirstSets.{may_begin, covers, is_over, is_short, steps_within, AreLevels, IsLevel, AreFirstSets};
 ghost use Rattle.fancy_backtrack.specs.Loops.{loop_of};
 ghost use Rattle.fancy_plain.specs.Views.{state_of, test_of, IsStateReadBy, IsReadBy};
 
@@ -21,7 +21,7 @@ const LEVELS: usize = 5;
 const PASSES: usize = 4;
 
 /// It is not known how many iterations were begun.
-const ANY_COUNTER: u8 = 255;
+pub(crate) const ANY_COUNTER: u8 = 255;
 
 /// The ASCII characters that can stand at a way's first places, level by level, beside any others. There are no more
 /// levels where a way may have ended, and so none if one may take nothing.
@@ -33,12 +33,30 @@ pub(crate) fn first_sets(
     requires { (i : ℕ) (p : NfaState) → slice_get states.now i ≡ Some p → IsStateReadBy unicode p }
     ensures { IfOk result (λ levels. AreFirstSets unicode (map state_of states.now) levels.items) }
 {
-    let mut levels = Vec::new(alloc);
-    let mut reached = first_states(alloc, states)?;
+    let reached = first_states(alloc, states)?;
     if !covers(&reached, 0, ANY_COUNTER) {
-        return Ok(levels);
+        return Ok(Vec::new(alloc));
     }
-    'levels: for _ in 0..LEVELS {
+    let levels = levels_from(alloc, states, unicode, reached, LEVELS)?;
+    Ok(levels)
+}
+
+/// The ASCII characters that a search can take from these states on, at so many levels at most, and no more where a way
+/// may have ended.
+pub(crate) fn levels_from(
+    alloc: Global,
+    states: &[NfaState],
+    unicode: bool,
+    first: Vec<u8>,
+    most: usize,
+) -> Result<Vec<[bool; 128]>, AllocError>
+    requires { (i : ℕ) (p : NfaState) → slice_get states.now i ≡ Some p → IsStateReadBy unicode p }
+    ensures { IfOk result (λ levels. (last : List ℕ)
+        × AreLevels unicode (map state_of states.now) first.items levels.items last) }
+{
+    let mut levels = Vec::new(alloc);
+    let mut reached = first;
+    'levels: for _ in 0..most {
         let after = next_states(alloc, states, &reached)?;
         let Some(ascii) = level_between(states, unicode, &reached, &after) else {
             return Ok(levels);
@@ -88,7 +106,7 @@ fn is_short(bounds: Loop, counter: u8) -> bool
     counter < ANY_COUNTER && counter as usize <= bounds.lo
 }
 
-fn counter_at(reached: &[u8], at: usize) -> u8
+pub(crate) fn counter_at(reached: &[u8], at: usize) -> u8
     ensures { result ≡ slice_index_or reached.now at 0 }
 {
     match reached.get(at) {
@@ -98,7 +116,7 @@ fn counter_at(reached: &[u8], at: usize) -> u8
 }
 
 /// Whether the search may come to the state with this counter.
-fn covers(reached: &[u8], at: usize, counter: u8) -> bool
+pub(crate) fn covers(reached: &[u8], at: usize, counter: u8) -> bool
     ensures { result ≡ covers reached.now at counter }
 {
     let there = counter_at(reached, at);
@@ -106,7 +124,7 @@ fn covers(reached: &[u8], at: usize, counter: u8) -> bool
 }
 
 /// The states that a search comes to before it takes a character.
-fn first_states(alloc: Global, states: &[NfaState]) -> Result<Vec<u8>, AllocError> {
+pub(crate) fn first_states(alloc: Global, states: &[NfaState]) -> Result<Vec<u8>, AllocError> {
     let mut reached = Vec::new(alloc);
     reached.resize(states.len(), 0)?;
     add(&mut reached, 0, ANY_COUNTER);
@@ -115,7 +133,11 @@ fn first_states(alloc: Global, states: &[NfaState]) -> Result<Vec<u8>, AllocErro
 }
 
 /// The states that it comes to after that, before it takes one more.
-fn next_states(alloc: Global, states: &[NfaState], reached: &[u8]) -> Result<Vec<u8>, AllocError> {
+pub(crate) fn next_states(
+    alloc: Global,
+    states: &[NfaState],
+    reached: &[u8],
+) -> Result<Vec<u8>, AllocError> {
     let mut after = Vec::new(alloc);
     after.resize(states.len(), 0)?;
     for at in 0..states.len() {
@@ -128,7 +150,7 @@ fn next_states(alloc: Global, states: &[NfaState], reached: &[u8]) -> Result<Vec
 }
 
 /// Adds what the states lead to, again as long as that may lead further.
-fn follow(states: &[NfaState], reached: &mut [u8]) {
+pub(crate) fn follow(states: &[NfaState], reached: &mut [u8]) {
     for _ in 0..PASSES {
         let mut has_led_back = false;
         for at in 0..states.len() {
@@ -178,7 +200,7 @@ fn add_both(reached: &mut [u8], at: usize, to: (usize, usize), counter: u8) -> b
 }
 
 /// Adds the state with this counter, and answers whether that was news. A state with two counters may have any.
-fn add(reached: &mut [u8], at: usize, counter: u8) -> bool {
+pub(crate) fn add(reached: &mut [u8], at: usize, counter: u8) -> bool {
     if at >= reached.len() || counter == 0 || covers(reached, at, counter) {
         return false;
     }
@@ -191,7 +213,7 @@ fn add(reached: &mut [u8], at: usize, counter: u8) -> bool {
 }
 
 /// Whether the state at `at` leads to states that were reached alone, or by a character to those after that.
-fn steps_on(nfa_state: &NfaState, at: usize, reached: &[u8], after: &[u8]) -> bool
+pub(crate) fn steps_on(nfa_state: &NfaState, at: usize, reached: &[u8], after: &[u8]) -> bool
     requires { at < usize.MAX }
     ensures { result
         ≡ steps_within reached.now after.now at (slice_index_or reached.now at 0)
@@ -227,7 +249,7 @@ fn covers_both(reached: &[u8], first: usize, second: usize, counter: u8) -> bool
 
 /// The ASCII characters that the states reached take, if they lead to each other alone, or by a character to those
 /// after that.
-fn level_between(
+pub(crate) fn level_between(
     states: &[NfaState],
     unicode: bool,
     reached: &[u8],

@@ -21,6 +21,7 @@ mod nfa_state;
 pub mod one_pass;
 pub mod one_pass_cache;
 pub mod required_bytes;
+pub mod run_filters;
 mod runs;
 mod search;
 mod test_runs;

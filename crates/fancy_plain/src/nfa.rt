@@ -13,6 +13,7 @@ ghost use Rattle.fancy_plain.specs.RequiredBytes.{AreRequired, IsOnlyOf};
 ghost use Rattle.fancy_plain.specs.LeadingLoops.{IsLeadingRun};
 ghost use Rattle.fancy_plain.specs.LoopsInLoops.{begins_loop, has_loop_in_loop, is_counter_loop};
 ghost use Rattle.fancy_plain.specs.Neighbours.{AreNeighbours, IsEasy};
+ghost use Rattle.fancy_plain.specs.RunFilters.{IsRunFilter};
 ghost use Rattle.fancy_plain.specs.Views.{state_of};
 ghost use Rattle.fancy_joining.specs.JoinedLoops.{joined};
 ghost use Rattle.std.proofs.Props.{props};
@@ -24,6 +25,7 @@ use crate::layout::{Layout, room_for};
 use crate::leading_runs::leading_run;
 use crate::nfa_state::NfaState;
 use crate::required_bytes::{only_of, required_bytes};
+use crate::run_filters::RunFilter;
 use crate::search::Searcher;
 use fancy_backtrack::memo::Memo;
 use fancy_backtrack::pair_bits::{Loops, PairBits};
@@ -55,10 +57,14 @@ pub struct Nfa {
     pub(crate) branches: BranchTables,
     /// The state of the test of the greedy loop over one character with which each way begins, if there is one.
     pub(crate) leading_run: Option<usize>,
+    /// What stands behind a run with which each way begins, if there is one.
+    pub(crate) run_filter: Option<Box<RunFilter>>,
     ghost begin: { AreFirstSets unicode (map state_of states.items) first_sets.items },
     ghost need: { IfSome required_bytes (AreRequired unicode (map state_of states.items)) } by { Prim.hlevel props },
     ghost tables: { AreTables unicode states.items branches },
     ghost only: { ForSome required_byte (IsOnlyOf required_bytes) },
+    ghost runs: { IfSome run_filter
+        (λ filter. IsRunFilter unicode (map state_of states.items) filter.value) } by { Prim.hlevel props },
     ghost leads: { ForSome leading_run (λ at. ∥ IsLeadingRun states.items at ∥₁) },
 }
 
@@ -78,11 +84,13 @@ impl Drop for Nfa {
             required_byte: _,
             branches: _,
             leading_run: _,
+            run_filter: _,
         } = self;
     }
 }
 
 impl Nfa {
+    ghost use Rattle.fancy_plain.specs.LeadingRuns.{FiltersRuns};
     ghost use Rattle.fancy_plain.specs.Nfas.{AreFine, HaveClasses, IsNfaOf, IsRefusedFor};
     ghost use Rattle.fancy_plain.specs.Ways.{HasNoWayAt, IsMemoOf};
     ghost use Rattle.fancy_backtrack.specs.Memos.{HaveFailed};
@@ -137,6 +145,7 @@ impl Nfa {
         let required_byte = only_of(&required_bytes);
         let branches = BranchTables::of(alloc, &states, unicode)?;
         let leading_run = leading_run(&states);
+        let run_filter = RunFilter::of(alloc, &states, unicode)?;
         let searcher = Searcher {
             states: &states,
             unicode,
@@ -160,6 +169,7 @@ impl Nfa {
             required_byte,
             branches,
             leading_run,
+            run_filter,
         })
     }
 
@@ -204,6 +214,20 @@ impl Nfa {
         ensures none { result ≡ false → HasNoWayAt text.now self.now ix }
     {
         may_begin(&self.first_sets, text.as_bytes(), ix)
+    }
+
+    /// The filter of runs of characters with which ways begin, if they seem to begin so.
+    #[inline(always)]
+    pub fn run_filter(&self) -> Option<&RunFilter>
+        ensures { IfSome result (λ filter. FiltersRuns self.now filter.now) }
+    {
+        match &self.run_filter {
+            None => None,
+            Some(filter) => {
+                let filter: &RunFilter = filter;
+                Some(filter)
+            }
+        }
     }
 
     /// How many states it has.
