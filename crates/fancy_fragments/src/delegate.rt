@@ -68,7 +68,12 @@ impl Delegate {
         fragment: Fragment,
         capture_groups: Option<CaptureGroupRange>,
     ) -> Delegate
-        ensures { delegate_instr result ≡ plain.Instr.Delegate (string_bytes pattern)
+        ensures kept { result ≡ record {
+          pattern = pattern;
+          fragment = fragment;
+          capture_groups = capture_groups;
+        } }
+        ensures instr { delegate_instr result ≡ plain.Instr.Delegate (string_bytes pattern)
             (fragment_of fragment) (range_of capture_groups) }
     {
         Delegate {

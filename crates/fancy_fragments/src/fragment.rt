@@ -135,14 +135,18 @@ impl Fragment {
 
     /// As `memo`, for `first_way_joined`.
     pub fn joined_memo(&self, alloc: Global, pos: usize) -> Memo
-        ensures { (text : List ℕ) → IsJoinedMemoFor text self.now result }
+        ensures memo { (text : List ℕ) → IsJoinedMemoFor text self.now result }
+        ensures knows { HaveFailed result (λ pair. false) }
+        ensures budget { result.budget ≡ record { visits = u64.MAX; bytes = usize.MAX } }
     {
         self.joined_nfa().memo(alloc, pos)
     }
 
     /// As `clear`, for `first_way_joined`.
     pub fn clear_joined(&self, memo: &mut Memo, pos: usize)
-        ensures { (text : List ℕ) → IsJoinedMemoFor text self.now memo.new }
+        ensures memo { (text : List ℕ) → IsJoinedMemoFor text self.now memo.new }
+        ensures knows { HaveFailed memo.new (λ pair. false) }
+        ensures budget { memo.new.budget ≡ memo.old.budget }
     {
         self.joined_nfa().clear(memo, pos);
     }

@@ -116,6 +116,7 @@ impl Nfa {
         ensures nfa { IfOk result (λ f. (a : Analysis)
             → Each (IsEasy a) infos.now → AreFine (map info_tree infos.now)
             → IsNfaOf a (map (joined true) (map info_tree infos.now)) unicode f) }
+        ensures classes { IfOk result (λ f. HaveClasses unicode infos.now) }
         ensures refused { IfErr result (IsRefusedFor unicode infos.now) }
     {
         Nfa::build_by(alloc, infos, unicode, true)

@@ -30,7 +30,7 @@ returns-in_ok-new-in-None-clause-note c =
     let text = c.args.task.now.text.now in
     let f = c.args.fragment.now in
     record {
-      memo = subst (IsJoinedMemoFor text f) (sym c.in_ok-new-in-None.ensures.ok) (c.joined_memo.ensures text);
+      memo = subst (IsJoinedMemoFor text f) (sym c.in_ok-new-in-None.ensures.ok) (c.joined_memo.ensures.memo text);
       kept = c.new-in-None.ensures text f.nfa;
       ends = tt;
     }
@@ -51,7 +51,7 @@ returns-after-run-self-clause-note c =
     elim c.if-run-self.branch [
       | then-run-self w ↦
           record {
-            memo = subst is_memo (sym w.memo-is) (w.clear_joined.ensures text);
+            memo = subst is_memo (sym w.memo-is) (w.clear_joined.ensures.memo text);
             kept = subst is_kept (sym w.kept-is) (w.new-then-run-self.ensures text f.nfa);
             ends = subst is_ends (sym w.ends-is) tt;
           }
