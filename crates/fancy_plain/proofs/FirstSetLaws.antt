@@ -167,6 +167,29 @@ module _ (text : List ℕ) (unicode : Bool) (states : List NfaState) (P : NfaCon
     off_inside true few e h = (h, tt)
     off_inside false few e h = absurd (true≢false (sym e))
 
+  -- past a character, where the property holds behind each of ASCII that stands here and passes
+  module _ (s : NfaConfig) (test : plain.CharTest) where
+    abbrev past : Option ℕ
+    past = past_char text (passes text unicode test) s.place
+
+    by_past : (o : Option ℕ) → past ≡ o → StepInside (goes_past s o) → StepInside (goes_past s past)
+    by_past o e h = subst (λ o. StepInside (goes_past s o)) (sym e) h
+
+    by_passed : (b : ℕ) → slice_get text s.place ≡ Some b → b < 128 → (passed : Bool) → passes text unicode test b ≡ passed →
+        (passes [] unicode test b ≡ true → P (record (forward s) { place = s.place + 1 })) → StepInside (goes_past s past)
+    by_passed b at small false e behind = by_past None (past_ascii text (passes text unicode test) s.place b at small false e) tt
+    by_passed b at small true e behind =
+        by_past (Some (s.place + 1)) (past_ascii text (passes text unicode test) s.place b at small true e)
+        (behind (passes_alike text unicode test b ∙ e))
+
+    pub takes_inside : (o : Option ℕ) → slice_get text s.place ≡ o →
+        ((b : ℕ) → o ≡ Some b → (b < 128) × (passes [] unicode test b ≡ true → P (record (forward s) { place = s.place + 1 }))) →
+        StepInside (goes_past s past)
+    takes_inside None at behind = by_past None (past_end text (passes text unicode test) s.place at) tt
+    takes_inside (Some b) at behind =
+        let h = behind b refl in
+        by_passed b at h.0 (passes text unicode test b) refl h.1
+
   module _ (s : NfaConfig) (reached : List ℕ) (here : IsReached (slice_index_or reached s.at 0) s.counters)
       (keeps : (t : NfaConfig) → t.place ≡ s.place → IsReached (slice_index_or reached t.at 0) t.counters → P t) where
     abbrev counter : ℕ
@@ -236,29 +259,6 @@ module _ (text : List ℕ) (unicode : Bool) (states : List NfaState) (P : NfaCon
         (record { comes = omega arith; known = λ small. (refl, refl) })
     steps_inside after (plain.CounterLoop l off) h takes = counter_loop_inside l off s.counters here h
 
-    -- past a character, where the property holds behind each of ASCII that stands here and passes
-    module _ (test : plain.CharTest) where
-      abbrev past : Option ℕ
-      past = past_char text (passes text unicode test) s.place
-
-      by_past : (o : Option ℕ) → past ≡ o → StepInside (goes_past s o) → StepInside (goes_past s past)
-      by_past o e h = subst (λ o. StepInside (goes_past s o)) (sym e) h
-
-      by_passed : (b : ℕ) → slice_get text s.place ≡ Some b → b < 128 → (passed : Bool) → passes text unicode test b ≡ passed →
-          (passes [] unicode test b ≡ true → P (record (forward s) { place = s.place + 1 })) → StepInside (goes_past s past)
-      by_passed b at small false e behind = by_past None (past_ascii text (passes text unicode test) s.place b at small false e) tt
-      by_passed b at small true e behind =
-          by_past (Some (s.place + 1)) (past_ascii text (passes text unicode test) s.place b at small true e)
-          (behind (passes_alike text unicode test b ∙ e))
-
-      pub takes_inside : (o : Option ℕ) → slice_get text s.place ≡ o →
-          ((b : ℕ) → o ≡ Some b → (b < 128) × (passes [] unicode test b ≡ true → P (record (forward s) { place = s.place + 1 }))) →
-          StepInside (goes_past s past)
-      takes_inside None at behind = by_past None (past_end text (passes text unicode test) s.place at) tt
-      takes_inside (Some b) at behind =
-          let h = behind b refl in
-          by_passed b at h.0 (passes text unicode test b) refl h.1
-
 -- ---- where a search stands
 
 -- an ASCII character stands there that is none of these, or the rest does not follow it
@@ -313,7 +313,7 @@ module _ (text : List ℕ) (unicode : Bool) (states : List NfaState) where
     by_state : (p : NfaState) → IsWithin unicode reached ascii after s.at (Some p) → StepKeeps Inside (step_at text unicode (Some p) s)
     by_state p h =
         steps_inside text unicode states Inside s reached here keeps after p h.0
-        (λ test is. takes_inside text unicode states Inside s reached here keeps test (slice_get text s.place) refl
+        (λ test is. takes_inside text unicode states Inside s test (slice_get text s.place) refl
         (λ b at.
         let none = begun_by_none ascii (may_begin levels text (s.place + 1)) b (ap (is_begun_by ascii (may_begin levels text (s.place + 1))) (sym at) ∙ out) in (
           none.0,

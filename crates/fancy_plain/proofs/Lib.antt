@@ -12,6 +12,8 @@ pub mod ReadStates
 pub mod KeptLaws
 pub mod FirstSetLaws
 pub mod RunFiltersLaws
+pub mod BranchFiltersLaws
+pub mod BranchMarksLaws
 pub mod RunLevelsLaws
 pub mod RequiredBytesLaws
 pub mod GroupSpansLaws

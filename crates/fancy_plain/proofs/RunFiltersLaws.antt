@@ -103,7 +103,7 @@ module _ (unicode : Bool) (states : List NfaState) (begun : Beginning) (f : RunF
           (p : NfaState) → IsWithin unicode reached ascii after s.at (Some p) → StepKeeps InRun (step_at text unicode (Some p) s)
       run_step after ascii more on p h =
           steps_inside text unicode states InRun s reached here keeps after p h.0
-          (λ test is. takes_inside text unicode states InRun s reached here keeps test (slice_get text s.place) refl (λ c at. takes test is c at))
+          (λ test is. takes_inside text unicode states InRun s test (slice_get text s.place) refl (λ c at. takes test is c at))
         where
           counter : ℕ
           counter = slice_index_or reached s.at 0
@@ -175,7 +175,7 @@ module _ (unicode : Bool) (states : List NfaState) (begun : Beginning) (f : RunF
         leave : (p : NfaState) → IsWithin unicode wide (h.level).out after s.at (Some p) → StepKeeps InRun (step_at text unicode (Some p) s)
         leave p w =
             steps_inside text unicode states InRun s wide h.here keeps after p w.0
-            (λ test is. takes_inside text unicode states InRun s wide h.here keeps test (slice_get text s.place) refl (λ c at. takes test is c at))
+            (λ test is. takes_inside text unicode states InRun s test (slice_get text s.place) refl (λ c at. takes test is c at))
           where
             counter : ℕ
             counter = slice_index_or wide s.at 0

@@ -12,6 +12,8 @@ pub mod GroupSpans
 pub mod OnePass
 pub mod AsciiRuns
 pub mod CountedWays
+pub mod BranchFilters
+pub mod BranchMarks
 pub mod BranchLoops
 pub mod BranchTables
 pub mod FailingBranches
@@ -25,3 +27,4 @@ pub mod RunLevels
 pub mod LoopsInLoops
 pub mod LeadingLoops
 pub mod LeadingRuns
+pub mod LeadingBranches

@@ -2,6 +2,7 @@
 #![tactic(auto)]
 
 mod ascii_runs;
+pub mod branch_filters;
 mod branch_loops;
 mod branch_tables;
 mod counted_ways;

@@ -7,6 +7,7 @@ ghost use Rattle.fancy_expr.specs.Each.{Each};
 ghost use Rattle.fancy_meaning.specs.Options.{Analysis};
 ghost use Rattle.fancy_meaning.specs.Places.{is_place};
 ghost use Rattle.fancy_meaning.specs.Premises.{IsText};
+ghost use Rattle.fancy_plain.specs.BranchFilters.{IsBranchFilter};
 ghost use Rattle.fancy_plain.specs.BranchTables.{AreTables};
 ghost use Rattle.fancy_plain.specs.FirstSets.{may_begin, AreFirstSets};
 ghost use Rattle.fancy_plain.specs.RequiredBytes.{AreRequired, IsOnlyOf};
@@ -18,6 +19,7 @@ ghost use Rattle.fancy_plain.specs.Views.{state_of};
 ghost use Rattle.fancy_joining.specs.JoinedLoops.{joined};
 ghost use Rattle.std.proofs.Props.{props};
 
+use crate::branch_filters::BranchFilter;
 use crate::branch_tables::BranchTables;
 use crate::first_sets::{first_sets, may_begin};
 use crate::kept_runs::LONG;
@@ -59,12 +61,16 @@ pub struct Nfa {
     pub(crate) leading_run: Option<usize>,
     /// What stands behind a run with which each way begins, if there is one.
     pub(crate) run_filter: Option<Box<RunFilter>>,
+    /// With which characters ways by the branches begin, if they seem to begin with an alternation.
+    pub(crate) branch_filter: Option<Box<BranchFilter>>,
     ghost begin: { AreFirstSets unicode (map state_of states.items) first_sets.items },
     ghost need: { IfSome required_bytes (AreRequired unicode (map state_of states.items)) } by { Prim.hlevel props },
     ghost tables: { AreTables unicode states.items branches },
     ghost only: { ForSome required_byte (IsOnlyOf required_bytes) },
     ghost runs: { IfSome run_filter
         (λ filter. IsRunFilter unicode (map state_of states.items) filter.value) } by { Prim.hlevel props },
+    ghost alternation: { IfSome branch_filter
+        (λ filter. IsBranchFilter unicode (map state_of states.items) filter.value) } by { Prim.hlevel props },
     ghost leads: { ForSome leading_run (λ at. ∥ IsLeadingRun states.items at ∥₁) },
 }
 
@@ -85,11 +91,13 @@ impl Drop for Nfa {
             branches: _,
             leading_run: _,
             run_filter: _,
+            branch_filter: _,
         } = self;
     }
 }
 
 impl Nfa {
+    ghost use Rattle.fancy_plain.specs.LeadingBranches.{FiltersBranches};
     ghost use Rattle.fancy_plain.specs.LeadingRuns.{FiltersRuns};
     ghost use Rattle.fancy_plain.specs.Nfas.{AreFine, HaveClasses, IsNfaOf, IsRefusedFor};
     ghost use Rattle.fancy_plain.specs.Ways.{HasNoWayAt, IsMemoOf};
@@ -147,6 +155,7 @@ impl Nfa {
         let branches = BranchTables::of(alloc, &states, unicode)?;
         let leading_run = leading_run(&states);
         let run_filter = RunFilter::of(alloc, &states, unicode)?;
+        let branch_filter = BranchFilter::of(alloc, &states, unicode)?;
         let searcher = Searcher {
             states: &states,
             unicode,
@@ -171,6 +180,7 @@ impl Nfa {
             branches,
             leading_run,
             run_filter,
+            branch_filter,
         })
     }
 
@@ -226,6 +236,20 @@ impl Nfa {
             None => None,
             Some(filter) => {
                 let filter: &RunFilter = filter;
+                Some(filter)
+            }
+        }
+    }
+
+    /// The filter of branches with which ways begin, if they seem to begin so.
+    #[inline(always)]
+    pub fn branch_filter(&self) -> Option<&BranchFilter>
+        ensures { IfSome result (λ filter. FiltersBranches self.now filter.now) }
+    {
+        match &self.branch_filter {
+            None => None,
+            Some(filter) => {
+                let filter: &BranchFilter = filter;
                 Some(filter)
             }
         }

@@ -1,0 +1,10 @@
+use Rattle.std.proofs.Common.{◌≡◌, ℕ, ◌<◌, ◌+◌, ◌*◌, true, false, length, slice_index_or}
+use Rattle.std.specs.Int.{bit_at}
+use Rattle.fancy_plain.specs.BranchMarks.{HasMarksOf}
+use Rattle.fancy_plain.proofs.branch_filters.BranchFilter.add_each.Given as goal
+
+abbrev pub invariant-characters : goal.invariant-characters
+invariant-characters l =
+    ((branch : ℕ) → bit_at l.fn.bit branch ≡ 1 → (c : ℕ) → c < l.c → slice_index_or l.fn.ascii c false ≡ true →
+    bit_at (slice_index_or l.self.branches (l.fn.i * 128 + c) 0) branch ≡ 1)
+    × HasMarksOf l.self l.fn.self × (length l.self.branches ≡ 384)
