@@ -5,4 +5,5 @@ pub mod Fragments
 pub mod Delegates
 pub mod Leading
 pub mod LeadingRuns
+pub mod LeadingBranches
 pub mod StartFilters
