@@ -417,7 +417,8 @@ module _ (states : Bor (List NfaState)) (text : Bor (List ℕ)) (f : Nfa) (same 
   module _ (taken : List Bool) (bare : slice_get f.states.items 0 ≡ Some nfa_state.Open → ⊥)
       (ends_behind : slice_get f.states.items (leads.run).exit ≡ Some nfa_state.Match)
       (takes_ascii : (c : ℕ) → c < 128 → slice_index_or taken c false ≡ passes [] f.unicode (test_of leads.test) c)
-      (from to : ℕ) (here : IsTrue (is_place text.now from)) (some : from < to)
+      (least : ℕ) (at_once : least ≡ 0 → leads.head ≡ 0)
+      (from to : ℕ) (here : IsTrue (is_place text.now from)) (enough : from + least ≤ to)
       (inside : (i : ℕ) → from ≤ i → i < to → HasAscii taken true text.now i) (stops : HasAscii taken false text.now to) where
     abbrev Test : ℕ → Bool
     Test = passes text.now f.unicode (test_of leads.test)
@@ -452,6 +453,14 @@ module _ (states : Bor (List NfaState)) (text : Bor (List ℕ)) (f : Nfa) (same 
         go zero groups = refl
         go (suc n) groups = absurd (bare (groups 0 (omega arith)))
 
+    -- where the loop is entered past its head, it takes one character at the least
+    takes_some : leads.head ≡ leads.opens + 1 → from < to
+    takes_some behind = go least at_once enough
+      where
+        go : (n : ℕ) → (n ≡ 0 → leads.head ≡ 0) → from + n ≤ to → from < to
+        go zero at_head within = let none = at_head refl in absurd (omega (arith, none, behind))
+        go (suc n) at_head within = omega (arith, within)
+
     -- from the start to the head
     goes_in : Enters f.states.items leads.opens leads.head →
         (i : ℕ) × (from ≤ i) × (i ≤ to) × Walks nfa_searcher false (first_config from) (config_at (first_config from) leads.head i)
@@ -460,11 +469,12 @@ module _ (states : Bor (List NfaState)) (text : Bor (List ℕ)) (f : Nfa) (same 
         let base = first_config from in (
           from,
           omega arith,
-          omega (arith, some),
+          omega (arith, enough),
           subst (λ k. Walks nfa_searcher false base (config_at base k from)) (sym at_head) (remains nfa_searcher false base),
         )
     goes_in (inr (behind, jump)) =
         let base = first_config from in
+        let some : from < to = takes_some behind in
         let body : leads.opens + 2 ≡ leads.head + 1 = omega (arith, behind) in
         let last : leads.head + 1 + 1 ≡ leads.head + 2 = omega arith in
         let entered : Walks nfa_searcher true base (config_at base (leads.head + 1) from) =

@@ -1,10 +1,11 @@
 -- Greedy loops over one character with which each way begins: where there is no way, and where the way ends.
-use Rattle.std.specs.Prelude.{◌≡◌, ◌≤◌, ◌<◌, ℕ, Bool, true, false, List, Some, None, slice_get, slice_index_or}
+use Rattle.std.specs.Prelude.{◌≡◌, ◌≤◌, ◌<◌, ◌+◌, ℕ, Bool, true, false, List, Some, None, slice_get, slice_index_or}
 use Rattle.fancy_meaning.specs.Tree.{Tree}
 use Rattle.fancy_meaning.specs.Options.{Analysis}
 use Rattle.fancy_meaning.specs.Places.{is_place}
 use Rattle.fancy_meaning.specs.Premises.{IsText}
 use Rattle.fancy_nfa.specs.FirstWays.{first_seen}
+use Rattle.fancy_plain.specs.declared.leading_runs.OnlyRun.{OnlyRun}
 use Rattle.fancy_plain.specs.declared.nfa.Nfa.{Nfa}
 use Rattle.fancy_plain.specs.declared.one_pass.OnePass.TheVariants as one_pass
 use Rattle.fancy_plain.specs.declared.run_filters.RunFilter.{RunFilter}
@@ -27,10 +28,11 @@ HasNoWayAlong text f from to = (a : Analysis) (es : List Tree) → IsNfaOf a es 
 abbrev pub HasAscii : List Bool → (is_in : Bool) → List ℕ → ℕ → Type 0
 HasAscii set is_in text i = (b : ℕ) × ((slice_get text i ≡ Some b) × (b < 128) × (slice_index_or set b false ≡ is_in))
 
--- the nodes are a loop that takes these ASCII characters, as many as there are, and no others
-abbrev pub IsOnlyRun : Nfa → List Bool → Type 0
-IsOnlyRun f taken = (text : List ℕ) (from to : ℕ) → IsText text → is_place text from ≡ true → from < to →
-    ((i : ℕ) → from ≤ i → i < to → HasAscii taken true text i) → HasAscii taken false text to →
+-- The nodes are a loop that takes these ASCII characters, as many as there are, and no others. It has to take some, or
+-- may take none.
+abbrev pub IsOnlyRun : Nfa → OnlyRun → Type 0
+IsOnlyRun f run = (text : List ℕ) (from to : ℕ) → IsText text → is_place text from ≡ true → from + run.least ≤ to →
+    ((i : ℕ) → from ≤ i → i < to → HasAscii run.taken true text i) → HasAscii run.taken false text to →
     IsOnePass text f from (one_pass.Ends to)
 
 -- the nodes have no way from a place of a run that the filter knows

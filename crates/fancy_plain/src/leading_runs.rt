@@ -15,6 +15,15 @@ use crate::nfa::Nfa;
 use crate::nfa_state::{CharTest, NfaState};
 use crate::search::Searcher;
 
+/// A greedy loop over one character, which takes as many as there are.
+#[derive(Clone, Copy)]
+pub struct OnlyRun {
+    /// The ASCII characters that it takes.
+    pub taken: [bool; 256],
+    /// How many it takes at the least: none, or one.
+    pub least: usize,
+}
+
 impl Nfa {
     /// The place behind the ASCII characters from `ix` on that the loop takes with which each way begins: if there is no
     /// way from `ix`, there is none from any place up to there. It is `ix` where ways do not begin with such a loop.
@@ -35,8 +44,8 @@ impl Nfa {
         test.past_ascii(self.unicode, text.as_bytes(), ix)
     }
 
-    /// The ASCII characters that a way takes, where the nodes are one greedy loop over one character and nothing else.
-    pub fn only_run(&self) -> Option<[bool; 256]>
+    /// The loop, where the nodes are one greedy loop over one character and nothing else.
+    pub fn only_run(&self) -> Option<OnlyRun>
         requires nodes { ∥ IsOfNodes self.now ∥₁ }
         ensures { IfSome result (IsOnlyRun self.now) }
     {
@@ -45,7 +54,11 @@ impl Nfa {
             return None;
         }
         match self.states.get(at) {
-            Some(NfaState::Character(test)) => Some(taken_by(test, self.unicode)),
+            Some(NfaState::Character(test)) => {
+                let taken = taken_by(test, self.unicode);
+                let least = least_of(at);
+                Some(OnlyRun { taken, least })
+            }
             _ => None,
         }
     }
@@ -80,6 +93,14 @@ impl Searcher<'_> {
     pub(crate) fn is_walked_twice(&self, leading_run: Option<usize>) -> bool {
         leading_run.is_some() || self.starts_lie_apart()
     }
+}
+
+/// How many characters the loop takes at the least whose test is at this state, where no group begins before: it is
+/// entered at its head, or past it.
+fn least_of(at: usize) -> usize
+    ensures { result ≡ 0 → at ≡ 1 }
+{
+    if at == 1 { 0 } else { 1 }
 }
 
 /// The ASCII characters that pass the test.
