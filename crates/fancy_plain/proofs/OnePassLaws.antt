@@ -400,6 +400,25 @@ module _ (searcher : Searcher) where
         ),
       )
 
+  -- what fails behind a character that passes
+  pub behind_fails : (test : CharTest) (at place : ℕ) → slice_get (searcher.states).now at ≡ Some (nfa_state.Character test) →
+      Passes searcher test place → FailsFrom searcher (at + 1) (place + 1) → FailsFrom searcher at place
+  behind_fails test at place there pass fails s f is here =
+      let on : plain.NfaConfig = record (plain.forward s) { place = place + 1 } in
+      let v : Search = record f { visits = f.visits + 1 } in
+      let past = ap (past_char (searcher.text).now (Test test)) here ∙ pass in
+      let x = fails on v (ap (λ i. i + 1) is) refl in
+      let visits : f.visits + 1 + x.1.0 ≡ f.visits + (1 + x.1.0) = omega arith in (
+        1 + x.0,
+        (
+          1 + x.1.0,
+          steps_then searcher 1 x.0 (TakesUp s f) (TakesUp on v)
+              (next_there searcher (nfa_state.Character test) (at_state at) s (sym is) there f
+              ∙ ap (λ o. plain.next_by (plain.goes_past s o) (Some (states.Character (test_of test))) s f) past) ∙ x.1.1
+              ∙ ap (λ n. TakesBack (record f { visits = n })) visits,
+        ),
+      )
+
   -- what fails, where a group begins before it
   pub open_fails : (at place : ℕ) → slice_get (searcher.states).now at ≡ Some nfa_state.Open → FailsFrom searcher (at + 1) place → FailsFrom searcher at place
   open_fails at place there fails s f is here =

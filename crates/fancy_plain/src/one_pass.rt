@@ -1,9 +1,10 @@
 //! One-pass matches, which need no choice: each test passes where it stands, and each loop takes what it can.
 
-ghost use Rattle.std.specs.Prelude.{◌≡◌, ◌≤◌, ◌&&◌, [], if◌then◌else◌, ℕ, IfOk, IfSome, IsTrue, None, true};
+ghost use Rattle.std.specs.Prelude.{◌≡◌, ◌≤◌, ◌&&◌, [], if◌then◌else◌, ℕ, IfOk, IfSome, IsTrue, None, Some, slice_get, true};
 ghost use Rattle.fancy_meaning.specs.Places.{is_place};
 ghost use Rattle.fancy_plain.specs.declared.search.Searcher as searcher_view;
 ghost use Rattle.fancy_plain.specs.declared.group_spans.GroupSpans as group_spans;
+ghost use Rattle.fancy_plain.specs.declared.nfa_state.NfaState.TheVariants as nfa_state;
 ghost use Rattle.fancy_plain.specs.Runs.{FailsFrom};
 ghost use Rattle.fancy_plain.specs.Searches.{IsSearcher};
 ghost use Rattle.fancy_nfa.specs.NfaSearch.{NfaConfig};
@@ -371,7 +372,7 @@ impl Searcher<'_> {
                         is_sure: false,
                     });
                 }
-                let next = chosen(self.fails_from(*first, place), *first, *second);
+                let next = chosen(self.fails_soon(*first, place), *first, *second);
                 Ok(Passed::On {
                     at: next,
                     place,
@@ -403,7 +404,7 @@ impl Searcher<'_> {
         let Some(second) = other else {
             return Passed::Unknown;
         };
-        let is_lost = self.fails_from(first, place);
+        let is_lost = self.fails_branch(first, second, place);
         Passed::On {
             at: chosen(is_lost, first, second),
             place,
@@ -431,6 +432,21 @@ impl Searcher<'_> {
         false
     }
 
+    /// As `fails_from`, of the first of two branches, and as `fails_soon` where that is a part that may be left out.
+    #[inline(always)]
+    fn fails_branch(&self, first: usize, second: usize, place: usize) -> bool
+        requires { IsSearcher self.now }
+        ensures { IsTrue result → FailsFrom self.now first place }
+    {
+        self.fails_from(first, place) || (self.is_join(second) && self.fails_second(first, place))
+    }
+
+    /// A part that may be left out ends at this state.
+    #[inline(always)]
+    fn is_join(&self, at: usize) -> bool {
+        matches!(self.states.get(at), Some(NfaState::Join))
+    }
+
     /// The first of two branches from this state and the other one, or else this state alone.
     #[inline(always)]
     fn first_branch(&self, at: usize) -> (usize, Option<usize>)
@@ -453,6 +469,46 @@ impl Searcher<'_> {
     {
         match self.test_at(at) {
             Some(test) => self.is_excluded(test, place),
+            None => false,
+        }
+    }
+
+    /// As `fails_from`, or the character there passes a test that comes first, and the next one fails the test behind.
+    #[inline(always)]
+    fn fails_soon(&self, from: usize, place: usize) -> bool
+        requires { IsSearcher self.now }
+        ensures { IsTrue result → FailsFrom self.now from place }
+    {
+        self.fails_from(from, place) || self.fails_second(from, place)
+    }
+
+    /// A test is at this state, perhaps behind a jump and where groups begin or end. A character of one byte passes it, and
+    /// the next one fails the test behind.
+    #[inline(never)]
+    fn fails_second(&self, at: usize, place: usize) -> bool
+        requires { IsSearcher self.now }
+        ensures { IsTrue result → FailsFrom self.now at place }
+    {
+        let first = self.behind_groups(self.behind_jump(at));
+        match self.states.get(first) {
+            Some(NfaState::Character(test)) => self.fails_behind(test, first, place),
+            _ => false,
+        }
+    }
+
+    /// A character of one byte passes the test at this state, and the next one fails the test behind.
+    #[inline(always)]
+    fn fails_behind(&self, test: &CharTest, at: usize, place: usize) -> bool
+        requires searcher { IsSearcher self.now }
+        requires read { IsReadBy self.now.unicode test.now }
+        requires there { slice_get self.now.states.now at ≡ Some (nfa_state.Character test.now) }
+        ensures { IsTrue result → FailsFrom self.now at place }
+    {
+        let (Some(next), Some(after)) = (at.checked_add(1), place.checked_add(1)) else {
+            return false;
+        };
+        match self.test_at(next) {
+            Some(second) => self.is_excluded(second, after) && self.passes(test, place),
             None => false,
         }
     }

@@ -56,7 +56,7 @@ impl Searcher<'_> {
 
     /// A character of ASCII is here that passes the test.
     #[inline(always)]
-    fn passes(&self, test: &CharTest, place: usize) -> bool
+    pub(crate) fn passes(&self, test: &CharTest, place: usize) -> bool
         requires { IsReadBy self.now.unicode test.now }
         ensures passes { IsTrue result → Passes self.now test.now place }
         ensures within { IsTrue result → place < length self.now.text.now }

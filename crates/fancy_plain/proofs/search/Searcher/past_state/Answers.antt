@@ -114,11 +114,11 @@ returns-else-end-place c = λ s.
     ∙ ap Some c.in-Some-LoopSplit.field-0-is in
     let first = c.in-Some-LoopSplit.first in
     let second = c.in-Some-LoopSplit.second in
-    let is_lost = c.fails_from.result in
+    let is_lost = c.fails_soon.result in
     let next = if is_lost then second else first in
     subst (λ i. Walks searcher false (config_at s at place) (config_at s i place)) (sym c.chosen-next.ensures)
     (unsure_by searcher is_lost (config_at s at place) (config_at s next place)
-    (chosen_of searcher s at first second place is_lost (loop_choice searcher at first second there) c.fails_from.ensures))
+    (chosen_of searcher s at first second place is_lost (loop_choice searcher at first second there) c.fails_soon.ensures))
 
 pub returns-in-Some-Join : goal.returns-in-Some-Join
 returns-in-Some-Join c = λ s.
