@@ -8,7 +8,7 @@ use Rattle.std.proofs.lemmas.Bool.{and_parts, and_from}
 use Rattle.regex.proofs.Utf8Lemmas.{IsCharBoundary-of_test}
 use Rattle.fancy_meaning.specs.Options as plain
 use Rattle.fancy_meaning.specs.Places.{is_place}
-use Rattle.fancy_vm.specs.Tasks.{options_of as run_options_of}
+use Rattle.fancy_steps.specs.Tasks.{options_of as run_options_of}
 use Rattle.fancy_notation.specs.Words.{when}
 use Rattle.fancy_notation.proofs.WordFacts.{by_test}
 use Rattle.fancy_expr.specs.declared.error.Error.{Error}

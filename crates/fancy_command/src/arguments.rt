@@ -2,7 +2,7 @@
 
 ghost use Rattle.std.specs.Prelude.{◌≡◌, ℕ, ◌+◌, ◌^◌, ◌<◌, false, None, Some, map, string_bytes};
 ghost use Rattle.fancy_notation.specs.Words.{found};
-ghost use Rattle.fancy_vm.specs.Tasks.{options_of as run_options_of};
+ghost use Rattle.fancy_steps.specs.Tasks.{options_of as run_options_of};
 ghost use Rattle.fancy_command.specs.Arguments as line;
 
 use fancy_analysis::analyze::AnalyzeContext;

@@ -23,7 +23,7 @@ use Rattle.fancy_laws.proofs.Every.{Every, item, no_item, every_filter, every_if
 use Rattle.fancy_laws.proofs.Forward.{ways_go_forward}
 use Rattle.fancy_laws.proofs.Moves.{is_place_parts}
 use Rattle.fancy_laws.proofs.WaysOf.{every_place_from}
-use Rattle.fancy_vm.specs.Outcomes.{first_pair}
+use Rattle.fancy_steps.specs.Outcomes.{first_pair}
 use Rattle.fancy_starts.specs.Matches.{Found, has_keep_out, match_of}
 use Rattle.fancy_starts.proofs.Firsts.{found_there}
 use Rattle.fancy_starts.proofs.LaterStarts.{places_before}

@@ -8,7 +8,7 @@ use Rattle.fancy_meaning.specs.Options.{Plan, RunOptions}
 use Rattle.fancy_meaning.specs.Places.{is_place, places_from}
 use Rattle.fancy_meaning.specs.Premises.{Input, IsText, plan}
 use Rattle.fancy_meaning.specs.Theorems.{EasyRun, outcome}
-use Rattle.fancy_vm.specs.Outcomes.{first_pair}
+use Rattle.fancy_steps.specs.Outcomes.{first_pair}
 use Rattle.fancy_starts.specs.Matches.{has_keep_out}
 use Rattle.fancy_bounds.specs.StartsBegun.{begun}
 use Rattle.fancy_matches.specs.Listing.{Standing, after, all_matches, at_start, found_at, listed_one, options_at}

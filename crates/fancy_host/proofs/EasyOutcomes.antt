@@ -12,8 +12,8 @@ use Rattle.fancy_expr.specs.declared.error.Error.{Error}
 use Rattle.fancy_expr.specs.declared.error.Error.TheVariants as error
 use Rattle.fancy_expr.specs.declared.error.RuntimeError.{RuntimeError}
 use Rattle.fancy_expr.specs.declared.error.RuntimeError.TheVariants as run
-use Rattle.fancy_vm.specs.declared.search_limits.SearchLimit.{SearchLimit}
-use Rattle.fancy_vm.specs.declared.search_limits.SearchLimit.TheVariants as search
+use Rattle.fancy_steps.specs.declared.search_limits.SearchLimit.{SearchLimit}
+use Rattle.fancy_steps.specs.declared.search_limits.SearchLimit.TheVariants as search
 use Rattle.fancy_search.specs.Searches.{IsCompiledFrom}
 use Rattle.fancy_search.specs.declared.search.Compiled.{Compiled}
 use Rattle.fancy_matches.specs.Listing.{Standing, backtracks_for, options_at}

@@ -5,7 +5,7 @@ use Rattle.std.proofs.lemmas.List.Elements.{All-append, All-nil}
 use Rattle.std.proofs.lemmas.Option.{none-some}
 use Rattle.fancy_meaning.specs.Answer.{span_numbers}
 use Rattle.fancy_meaning.specs.Numbers.{usize_max}
-use Rattle.fancy_vm.specs.Outcomes.{first_pair}
+use Rattle.fancy_steps.specs.Outcomes.{first_pair}
 use Rattle.fancy_matches.specs.Listing.{group_span}
 use Rattle.fancy_matches.specs.Regexes.{numbers_in}
 use Rattle.fancy_matches.specs.declared.found.Captures.{Captures}

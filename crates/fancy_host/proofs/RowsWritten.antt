@@ -8,8 +8,8 @@ use Rattle.std.proofs.lemmas.List.Elements.{All-append, All-nil}
 use Rattle.fancy_meaning.specs.Options.{RunOptions}
 use Rattle.fancy_meaning.specs.Premises.{Input, IsText, plan}
 use Rattle.fancy_expr.specs.declared.error.Error.{Error}
-use Rattle.fancy_vm.specs.SearchLimits.{EndsBy}
-use Rattle.fancy_vm.specs.declared.search_limits.SearchLimit.{SearchLimit}
+use Rattle.fancy_steps.specs.SearchLimits.{EndsBy}
+use Rattle.fancy_steps.specs.declared.search_limits.SearchLimit.{SearchLimit}
 use Rattle.fancy_search.specs.Searches.{HasSource, IsCompiledFrom}
 use Rattle.fancy_search.specs.declared.search.Compiled.{Compiled}
 use Rattle.fancy_matches.specs.Listing.{ComesTo, Standing, stays}

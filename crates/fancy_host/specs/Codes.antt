@@ -6,8 +6,8 @@ use Rattle.fancy_expr.specs.declared.error.RuntimeError.{RuntimeError}
 use Rattle.fancy_expr.specs.declared.error.RuntimeError.TheVariants as limit
 use Rattle.fancy_expr.specs.declared.error.CompileError.{CompileError}
 use Rattle.fancy_expr.specs.declared.error.CompileError.TheVariants as refusal
-use Rattle.fancy_vm.specs.declared.search_limits.SearchLimit.{SearchLimit}
-use Rattle.fancy_vm.specs.declared.search_limits.SearchLimit.TheVariants as search
+use Rattle.fancy_steps.specs.declared.search_limits.SearchLimit.{SearchLimit}
+use Rattle.fancy_steps.specs.declared.search_limits.SearchLimit.TheVariants as search
 use Rattle.fancy_scanner.specs.declared.scan_limit.ScanLimit.{ScanLimit}
 use Rattle.fancy_scanner.specs.declared.scan_limit.ScanLimit.TheVariants as scan
 use Rattle.fancy_tokens.specs.declared.error.ErrorKind.{ErrorKind}

@@ -8,8 +8,8 @@ use Rattle.fancy_expr.specs.declared.error.Error.{Error}
 use Rattle.fancy_expr.specs.declared.error.Error.TheVariants.{Memory}
 use Rattle.fancy_search.specs.declared.search.Compiled.{Compiled}
 use Rattle.fancy_search.specs.Searches.{IsCompiledFrom}
-use Rattle.fancy_vm.specs.SearchLimits.{EndsBy}
-use Rattle.fancy_vm.specs.declared.search_limits.SearchLimit.{SearchLimit}
+use Rattle.fancy_steps.specs.SearchLimits.{EndsBy}
+use Rattle.fancy_steps.specs.declared.search_limits.SearchLimit.{SearchLimit}
 use Rattle.fancy_replace.specs.Pieces.{as_limit, rewrite}
 use Rattle.fancy_replace.specs.Reading.{expansion}
 use Rattle.fancy_replace.specs.Replacements.{FailsAfter, to_replace}

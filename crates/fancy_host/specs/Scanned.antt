@@ -7,7 +7,7 @@ use Rattle.fancy_meaning.specs.Numbers.{usize_max}
 use Rattle.fancy_meaning.specs.Places.{is_place}
 use Rattle.fancy_expr.specs.declared.error.Error.{Error}
 use Rattle.fancy_expr.specs.declared.expr.ExprTree.{ExprTree}
-use Rattle.fancy_vm.specs.Outcomes.{first_pair}
+use Rattle.fancy_steps.specs.Outcomes.{first_pair}
 use Rattle.fancy_matches.specs.Listing.{group_span}
 use Rattle.fancy_matches.specs.Regexes.{numbers_in}
 use Rattle.fancy_scanner.specs.Scanning.{IsScannerOf, IsTreeOf, Rule, Scans}

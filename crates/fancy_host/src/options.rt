@@ -1,7 +1,7 @@
 //! What a host asks.
 
 ghost use Rattle.std.specs.Prelude.{◌≡◌};
-ghost use Rattle.fancy_vm.specs.Tasks.{options_of as run_options_of};
+ghost use Rattle.fancy_steps.specs.Tasks.{options_of as run_options_of};
 ghost use Rattle.fancy_host.specs.Hosted as hosted;
 ghost use Rattle.fancy_host.specs.Lists as lists;
 

@@ -7,7 +7,7 @@ ghost use Rattle.fancy_matches.specs.Listing.{begun_at, group_span};
 ghost use Rattle.fancy_matches.specs.Regexes.{numbers_in};
 ghost use Rattle.fancy_search.specs.Requests as requests;
 ghost use Rattle.fancy_search.specs.Searches.{search_fits};
-ghost use Rattle.fancy_vm.specs.Tasks.{options_of as run_options_of};
+ghost use Rattle.fancy_steps.specs.Tasks.{options_of as run_options_of};
 ghost use Rattle.fancy_scanner.specs.Scanning.{IsScannerOf, KeepsTrees, Rule};
 ghost use Rattle.fancy_scanner.specs.Scans.{GoesOn, IsScanOf};
 ghost use Rattle.fancy_scanner.specs.Scans as kept;

@@ -2,8 +2,9 @@
 
 ghost use Rattle.std.specs.Prelude.{◌≡◌, [], IsTrue, MatchResult, None, string_bytes};
 ghost use Rattle.fancy_meaning.specs.Fits.{run_fits};
-ghost use Rattle.fancy_vm.specs.SearchLimits.{StaysWithin, limits_of, passed_of};
-ghost use Rattle.fancy_vm.specs.Tasks.{options_of as run_options_of, task_of};
+ghost use Rattle.fancy_steps.specs.SearchLimits.{StaysWithin};
+ghost use Rattle.fancy_vm.specs.Scratches.{limits_of, passed_of};
+ghost use Rattle.fancy_steps.specs.Tasks.{options_of as run_options_of, task_of};
 ghost use Rattle.fancy_search.specs.Searches.{HasSource, program};
 ghost use Rattle.fancy_matches.specs.Regexes.{standing_of};
 ghost use Rattle.fancy_replace.specs.Pieces.{as_limit};

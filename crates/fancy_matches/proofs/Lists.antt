@@ -25,7 +25,7 @@ use Rattle.fancy_laws.proofs.Chosen.{every_chosen}
 use Rattle.fancy_laws.proofs.Every.{Every, every_one, every_if, every_filter, every_first, every_weaker}
 use Rattle.fancy_laws.proofs.Moves.{is_place_parts, past_char_tells}
 use Rattle.fancy_laws.proofs.WaysOf.{every_place_from}
-use Rattle.fancy_vm.specs.Outcomes.{first_pair}
+use Rattle.fancy_steps.specs.Outcomes.{first_pair}
 use Rattle.fancy_matches.specs.Listing.{AreSpans, ComesTo, by_match, past_match, stays, group_span, Standing, after, found_at, AreApart, IsPast, PiecesJoin, in_turn, part, pieces, all_spans, at_start, further, is_listed, left, listed, listed_one, next_pos, options_at}
 
 -- ---- what an answer has

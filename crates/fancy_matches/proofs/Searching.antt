@@ -17,11 +17,11 @@ use Rattle.fancy_meaning.specs.Premises.{Input, plan, IsAccepted, IsSpan, IsText
 use Rattle.fancy_expr.specs.declared.error.Error.{Error}
 use Rattle.fancy_expr.specs.declared.error.Error.TheVariants as error
 use Rattle.fancy_vm.specs.Means.{IsMeaningPair}
-use Rattle.fancy_vm.specs.Outcomes.{RunAnswers, RunAnswersPair, first_pair}
+use Rattle.fancy_steps.specs.Outcomes.{RunAnswers, RunAnswersPair, first_pair}
 use Rattle.fancy_program.specs.Programs.{prog_of}
-use Rattle.fancy_vm.specs.Tasks.{options_of as run_options_of, task_of}
+use Rattle.fancy_steps.specs.Tasks.{options_of as run_options_of, task_of}
 use Rattle.fancy_program.specs.declared.insn.Prog.{Prog}
-use Rattle.fancy_vm.specs.declared.runs.RunOptions.{RunOptions}
+use Rattle.fancy_steps.specs.declared.options.RunOptions.{RunOptions}
 use Rattle.fancy_search.specs.declared.search.Compiled.{Compiled}
 use Rattle.fancy_search.specs.Searches.{Bounds, HasSource, IsCompiledFrom, Promises, instructions_of, program}
 use Rattle.fancy_search.proofs.Bounded.{run_bounds}

@@ -10,10 +10,11 @@ use Rattle.fancy_meaning.specs.Places.{is_place}
 use Rattle.fancy_meaning.specs.Premises.{Input, plan, IsAccepted}
 use Rattle.fancy_expr.specs.declared.error.Error.{Error}
 use Rattle.fancy_expr.specs.declared.error.Error.TheVariants as error
-use Rattle.fancy_vm.specs.Outcomes.{first_pair}
-use Rattle.fancy_vm.specs.SearchLimits.{StaysWithin, cost_of, passed_by}
-use Rattle.fancy_vm.specs.Tasks.{options_of as run_options_of}
-use Rattle.fancy_vm.specs.declared.search_limits.SearchLimit.{SearchLimit}
+use Rattle.fancy_steps.specs.Outcomes.{first_pair}
+use Rattle.fancy_steps.specs.SearchLimits.{StaysWithin, passed_by}
+use Rattle.fancy_vm.specs.Scratches.{cost_of}
+use Rattle.fancy_steps.specs.Tasks.{options_of as run_options_of}
+use Rattle.fancy_steps.specs.declared.search_limits.SearchLimit.{SearchLimit}
 use Rattle.fancy_search.specs.Searches.{Bounds, IsCompiledFrom, Promises, instructions_of}
 use Rattle.fancy_search.specs.declared.search.Compiled.{Compiled}
 use Rattle.fancy_matches.specs.Listing.{AreApart, ComesTo, Standing, all_matches, all_spans, at_start, left, options_at, options_for}

@@ -3,7 +3,7 @@
 ghost use Rattle.std.specs.Prelude.{◌≡◌, ◌≤◌, IfOk, IfSome, length, option_map, slice_index_or, slice_range};
 ghost use Rattle.fancy_meaning.specs.Numbers.{usize_max};
 ghost use Rattle.fancy_meaning.specs.Premises.{IsSpan};
-ghost use Rattle.fancy_vm.specs.Outcomes.{first_pair};
+ghost use Rattle.fancy_steps.specs.Outcomes.{first_pair};
 ghost use Rattle.fancy_matches.specs.Listing.{AreSpans, group_span};
 
 use std::alloc::{AllocError, Global};

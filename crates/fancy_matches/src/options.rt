@@ -1,7 +1,7 @@
 //! How the searches of a regex are made.
 
 ghost use Rattle.std.specs.Prelude.{◌≡◌};
-ghost use Rattle.fancy_vm.specs.Tasks.{options_of as run_options_of};
+ghost use Rattle.fancy_steps.specs.Tasks.{options_of as run_options_of};
 ghost use Rattle.fancy_matches.specs.Listing as list;
 
 use fancy_vm::vm::{RunOptions, SearchLimits};

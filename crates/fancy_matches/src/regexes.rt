@@ -7,8 +7,8 @@ ghost use Rattle.fancy_meaning.specs.Options as plain;
 ghost use Rattle.fancy_meaning.specs.Places as places;
 ghost use Rattle.fancy_meaning.specs.Premises.{Input};
 ghost use Rattle.fancy_expr.specs.Sound.{IsWellFormedTree};
-ghost use Rattle.fancy_vm.specs.Tasks.{options_of as run_options_of, task_of};
-ghost use Rattle.fancy_vm.specs.SearchLimits.{no_limits};
+ghost use Rattle.fancy_steps.specs.Tasks.{options_of as run_options_of, task_of};
+ghost use Rattle.fancy_steps.specs.SearchLimits.{no_limits};
 ghost use Rattle.fancy_search.specs.Searches.{HasSource, IsNestedOver, IsRefusedAs, input_of, program, search_fits};
 ghost use Rattle.fancy_matches.specs.Listing as list;
 

@@ -4,9 +4,10 @@ ghost use Rattle.std.specs.Prelude.{◌≡◌, ◌-◌, ◌<◌, ℕ, [], IfOk, 
 ghost use Rattle.fancy_meaning.specs.Fits.{run_fits};
 ghost use Rattle.fancy_meaning.specs.MatchState.{Span};
 ghost use Rattle.fancy_meaning.specs.Premises.{Input};
-ghost use Rattle.fancy_vm.specs.SearchLimits.{StaysWithin, limits_of, passed_of};
-ghost use Rattle.fancy_vm.specs.Tasks.{options_of as run_options_of, task_of};
-ghost use Rattle.fancy_vm.specs.Outcomes.{first_pair};
+ghost use Rattle.fancy_steps.specs.SearchLimits.{StaysWithin};
+ghost use Rattle.fancy_vm.specs.Scratches.{limits_of, passed_of};
+ghost use Rattle.fancy_steps.specs.Tasks.{options_of as run_options_of, task_of};
+ghost use Rattle.fancy_steps.specs.Outcomes.{first_pair};
 ghost use Rattle.fancy_search.specs.Searches.{HasSource, IsCompiledFrom, program};
 ghost use Rattle.fancy_matches.specs.Regexes.{EndsOn, Shows, StepsBy, StepsToMatch, numbers_in, shown_captures, shown_match, span_of, standing_of, with_numbers, with_span};
 

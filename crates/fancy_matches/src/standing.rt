@@ -1,7 +1,7 @@
 //! Where a list of matches stands.
 
 ghost use Rattle.std.specs.Prelude.{◌≡◌, ◌≤◌, length};
-ghost use Rattle.fancy_vm.specs.Tasks.{options_of};
+ghost use Rattle.fancy_steps.specs.Tasks.{options_of};
 ghost use Rattle.fancy_matches.specs.Listing as list;
 
 use fancy_characters::places::past_any;

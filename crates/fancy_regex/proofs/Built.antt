@@ -5,9 +5,9 @@ use Rattle.fancy_meaning.specs.Premises.{Input}
 use Rattle.fancy_expr.specs.Views.{parsed_of}
 use Rattle.fancy_expr.specs.declared.expr.ExprTree.{ExprTree}
 use Rattle.std.proofs.lemmas.Option.{none-some}
-use Rattle.fancy_vm.specs.Tasks.{options_of as run_options_of}
-use Rattle.fancy_vm.specs.declared.search_limits.SearchLimit.TheVariants as limit
-use Rattle.fancy_vm.specs.declared.search_limits.SearchLimits.{SearchLimits}
+use Rattle.fancy_steps.specs.Tasks.{options_of as run_options_of}
+use Rattle.fancy_steps.specs.declared.search_limits.SearchLimit.TheVariants as limit
+use Rattle.fancy_steps.specs.declared.search_limits.SearchLimits.{SearchLimits}
 use Rattle.fancy_search.specs.Searches.{IsCompiledFrom, IsNestedOver, IsRefusedAs}
 use Rattle.fancy_matches.specs.Listing.{options_for}
 use Rattle.fancy_matches.specs.Regexes as engine

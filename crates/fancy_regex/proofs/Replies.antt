@@ -8,8 +8,8 @@ use Rattle.fancy_meaning.specs.Premises.{Input, plan, IsText}
 use Rattle.fancy_expr.specs.declared.error.Error as engine
 use Rattle.fancy_expr.specs.declared.error.Error.TheVariants.{Memory}
 use Rattle.fancy_expr.specs.declared.error.Error.TheVariants as of_engine
-use Rattle.fancy_vm.specs.SearchLimits.{EndsBy}
-use Rattle.fancy_vm.specs.declared.search_limits.SearchLimit.{SearchLimit}
+use Rattle.fancy_steps.specs.SearchLimits.{EndsBy}
+use Rattle.fancy_steps.specs.declared.search_limits.SearchLimit.{SearchLimit}
 use Rattle.fancy_matches.specs.Listing.{ComesTo, Standing, by_match, ended, options_at, past_match, stays}
 use Rattle.fancy_matches.specs.Regexes.{FailsBy, FindsCaptures as FindsGroups, GivesBy, IsNoLimit, IsNoLimitWhereEasy, Shows, passed_in, shown_captures as engine_shown, with_numbers}
 use Rattle.fancy_matches.specs.declared.found.Captures.{Captures as Groups}

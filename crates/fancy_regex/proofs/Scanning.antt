@@ -8,7 +8,7 @@ use Rattle.fancy_expr.specs.Views.{parsed_of}
 use Rattle.fancy_expr.specs.declared.expr.ExprTree.{ExprTree}
 use Rattle.fancy_matches.specs.Regexes.{shown_captures}
 use Rattle.fancy_matches.specs.declared.found.Captures as engine
-use Rattle.fancy_vm.specs.declared.search_limits.SearchLimits.{SearchLimits}
+use Rattle.fancy_steps.specs.declared.search_limits.SearchLimits.{SearchLimits}
 use Rattle.fancy_scanner.specs.Scanning.{Rule}
 use Rattle.fancy_regex.specs.Options.{analysis, compilation, limits, running}
 use Rattle.fancy_regex.specs.Scanners.{NamedGroups, rule_for}

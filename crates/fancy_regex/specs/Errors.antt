@@ -2,8 +2,8 @@
 use Rattle.std.specs.Prelude.{ℕ, List, codes, Option, Some, None, Result, Ok, Err}
 use Rattle.fancy_expr.specs.declared.error.Error as engine
 use Rattle.fancy_expr.specs.declared.error.Error.TheVariants as of_engine
-use Rattle.fancy_vm.specs.declared.search_limits.SearchLimit.{SearchLimit}
-use Rattle.fancy_vm.specs.declared.search_limits.SearchLimit.TheVariants as limit
+use Rattle.fancy_steps.specs.declared.search_limits.SearchLimit.{SearchLimit}
+use Rattle.fancy_steps.specs.declared.search_limits.SearchLimit.TheVariants as limit
 use Rattle.fancy_pattern.specs.Messages as pattern
 use Rattle.fancy_pattern.specs.declared.error.PatternError.{PatternError}
 use Rattle.fancy_pattern.specs.declared.error.PatternError.TheVariants as of_parser

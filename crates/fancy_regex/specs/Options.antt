@@ -6,7 +6,7 @@ use Rattle.fancy_meaning.specs.Premises.{Input}
 use Rattle.fancy_expr.specs.Views.{parsed_of}
 use Rattle.fancy_expr.specs.declared.expr.ExprTree.{ExprTree}
 use Rattle.fancy_matches.specs.Listing.{backtracks_for}
-use Rattle.fancy_vm.specs.declared.search_limits.SearchLimits.{SearchLimits}
+use Rattle.fancy_steps.specs.declared.search_limits.SearchLimits.{SearchLimits}
 use Rattle.fancy_pattern.specs.Options.{default_parsing}
 use Rattle.fancy_regex.specs.declared.options.RegexOptions.{RegexOptions}
 

@@ -10,7 +10,7 @@ use Rattle.fancy_matches.specs.Regexes as engine
 use Rattle.fancy_matches.specs.declared.regexes.Regex as engine_regex
 use Rattle.fancy_matches.specs.Regexes.{Shows, with_numbers, with_span}
 use Rattle.fancy_replace.specs.Replacements as replacements
-use Rattle.fancy_vm.specs.declared.search_limits.SearchLimit.{SearchLimit}
+use Rattle.fancy_steps.specs.declared.search_limits.SearchLimit.{SearchLimit}
 use Rattle.fancy_regex.specs.Errors.{engine_error, limit_in, limit_of_item, reply_of}
 use Rattle.fancy_regex.specs.Found.{shown_captures, shown_match}
 use Rattle.fancy_regex.specs.declared.error.Error.{Error}

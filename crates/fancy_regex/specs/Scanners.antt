@@ -15,7 +15,7 @@ use Rattle.fancy_scanner.specs.declared.scan_text.ScanStep as engine_step
 use Rattle.fancy_scanner.specs.declared.scan_text.TreeMatch.{TreeMatch}
 use Rattle.fancy_scanner.specs.declared.scanner.Scan.{Scan}
 use Rattle.fancy_scanner.specs.declared.scanner.Scanner as engine_scanner
-use Rattle.fancy_vm.specs.declared.search_limits.SearchLimit.{SearchLimit}
+use Rattle.fancy_steps.specs.declared.search_limits.SearchLimit.{SearchLimit}
 use Rattle.fancy_matches.specs.Regexes as found
 use Rattle.fancy_regex.specs.Builders.{AreNamesOf, IsTreeOf}
 use Rattle.fancy_regex.specs.Errors.{engine_error}

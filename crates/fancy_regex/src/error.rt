@@ -2,7 +2,7 @@
 
 ghost use Rattle.std.specs.Prelude.{◌≡◌, None};
 ghost use Rattle.fancy_expr.specs.declared.error.Error.TheVariants as engine;
-ghost use Rattle.fancy_vm.specs.SearchLimits.{EndsBy};
+ghost use Rattle.fancy_steps.specs.SearchLimits.{EndsBy};
 ghost use Rattle.fancy_regex.specs.Errors.{engine_error, limit_told, of_pattern};
 ghost use Rattle.fancy_regex.specs.declared.error.Error.TheVariants.{Memory};
 

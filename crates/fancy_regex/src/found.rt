@@ -7,7 +7,7 @@ ghost use Rattle.std.specs.Str.{bytes_eq};
 ghost use Rattle.std.proofs.Common.{rules};
 ghost use Rattle.std.specs.Iterator.{at_most};
 ghost use Rattle.fancy_matches.specs.Listing.{group_span};
-ghost use Rattle.fancy_vm.specs.Outcomes.{first_pair};
+ghost use Rattle.fancy_steps.specs.Outcomes.{first_pair};
 ghost use Rattle.fancy_replace.specs.Reading.{expansion};
 ghost use Rattle.fancy_regex.specs.Names.{group_count, names_in, numbers_named};
 ghost use Rattle.fancy_regex.specs.Found.{NextGroup, captures_names, captures_text, first_span, numbers_in, part_of, span_of, text_of};

@@ -3,7 +3,7 @@
 ghost use Rattle.std.specs.Prelude.{◌≡◌, ℕ, [], IsTrue, List};
 ghost use Rattle.fancy_info.specs.Infos.{analysis_options_of};
 ghost use Rattle.fancy_compile.specs.Compiled.{compile_options_of};
-ghost use Rattle.fancy_vm.specs.Tasks.{options_of as run_options_of};
+ghost use Rattle.fancy_steps.specs.Tasks.{options_of as run_options_of};
 ghost use Rattle.fancy_search.specs.Searches.{search_fits};
 ghost use Rattle.fancy_matches.specs.Listing.{options_for};
 ghost use Rattle.fancy_regex.specs.Options.{analysis, compilation, default_options, limits, running};

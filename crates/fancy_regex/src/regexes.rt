@@ -10,7 +10,7 @@ ghost use Rattle.fancy_matches.specs.Regexes.{standing_of};
 ghost use Rattle.fancy_replace.specs.Pieces.{as_limit};
 ghost use Rattle.fancy_matches.specs.declared.regexes.Regex as engine_regex;
 ghost use Rattle.fancy_regex.specs.Builders.{IsBuilt, IsRefused};
-ghost use Rattle.fancy_vm.specs.SearchLimits.{EndsBy};
+ghost use Rattle.fancy_steps.specs.SearchLimits.{EndsBy};
 ghost use Rattle.fancy_regex.specs.Errors.{engine_error, limit_told};
 ghost use Rattle.fancy_regex.specs.Found.{captures_names, shown_captures, shown_match};
 ghost use Rattle.fancy_regex.specs.Lists.{Begins, HaveNames, GivesCaptures, GivesMatch, captures_iteration, matches_iteration};

@@ -9,7 +9,7 @@ use Rattle.fancy_meaning.specs.Places.{is_place}
 use Rattle.fancy_meaning.specs.Premises.{Input, IsText, plan}
 use Rattle.fancy_expr.specs.declared.error.Error.{Error}
 use Rattle.fancy_search.specs.Searches.{IsCompiledFrom}
-use Rattle.fancy_vm.specs.Outcomes.{first_pair}
+use Rattle.fancy_steps.specs.Outcomes.{first_pair}
 use Rattle.fancy_matches.specs.Listing.{AreApart, ComesTo, Standing, all_matches}
 use Rattle.fancy_matches.specs.Regexes.{FailsBy, GivesCaptures, IsRegexOf, captures_text, compiled_of, left_of, numbers_in, options_in, passed_in, standing_of}
 use Rattle.fancy_matches.specs.declared.found.Captures.{Captures}

@@ -7,8 +7,8 @@ use Rattle.std.proofs.lemmas.List.Folds.{drop_split}
 use Rattle.fancy_meaning.specs.Options as plain
 use Rattle.fancy_meaning.specs.Premises.{Input, IsText, plan}
 use Rattle.fancy_expr.specs.declared.error.Error.{Error}
-use Rattle.fancy_vm.specs.Outcomes.{first_pair}
-use Rattle.fancy_vm.specs.SearchLimits.{EndsBy}
+use Rattle.fancy_steps.specs.Outcomes.{first_pair}
+use Rattle.fancy_steps.specs.SearchLimits.{EndsBy}
 use Rattle.fancy_matches.specs.Listing.{AreApart, ComesTo, PiecesJoin, all_matches, all_spans, at_start, in_turn, part, stays}
 use Rattle.fancy_matches.specs.Regexes.{FailsBy, IsNoLimitWhereEasy, IsRegexOf, IsSame, captures_text, left_of, numbers_in, passed_in, standing_of}
 use Rattle.fancy_matches.specs.declared.regexes.Regex.{Regex}

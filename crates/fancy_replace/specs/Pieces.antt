@@ -1,6 +1,6 @@
 -- What is done with the matches of a text: the pieces between them, and other text in their place.
 use Rattle.std.specs.Prelude.{◌==◌, ◌<◌, ℕ, zero, suc, List, [], map, take, Option, Some, None, if◌then◌else◌}
-use Rattle.fancy_vm.specs.Outcomes.{first_pair}
+use Rattle.fancy_steps.specs.Outcomes.{first_pair}
 use Rattle.fancy_matches.specs.Listing.{in_turn, pieces}
 
 -- so many from the start, or all

@@ -7,7 +7,7 @@ use Rattle.fancy_meaning.specs.Options as plain
 use Rattle.fancy_meaning.specs.Premises.{Input, plan}
 use Rattle.fancy_expr.specs.declared.error.Error.{Error}
 use Rattle.fancy_expr.specs.declared.error.Error.TheVariants.{Memory}
-use Rattle.fancy_vm.specs.Outcomes.{first_pair}
+use Rattle.fancy_steps.specs.Outcomes.{first_pair}
 use Rattle.fancy_matches.specs.Listing.{ComesTo, Standing, all_matches, at_start, part}
 use Rattle.fancy_matches.specs.Regexes.{FailsAt, IsNoLimitWhereEasy, IsRegexOf, IsSame, StaysIn}
 use Rattle.fancy_matches.specs.declared.regexes.Regex.{Regex}

@@ -4,7 +4,7 @@ use Rattle.std.specs.Borrow.{MutBor}
 use Rattle.fancy_meaning.specs.Options as plain
 use Rattle.fancy_meaning.specs.Premises.{Input, plan}
 use Rattle.fancy_expr.specs.declared.error.Error.{Error}
-use Rattle.fancy_vm.specs.SearchLimits.{EndsBy}
+use Rattle.fancy_steps.specs.SearchLimits.{EndsBy}
 use Rattle.fancy_matches.specs.Listing.{ComesTo, PiecesJoin, all_matches, all_spans, at_start, in_turn, part}
 use Rattle.fancy_matches.specs.Regexes.{FailsBy, IsNoLimitWhereEasy, IsRegexOf, IsSame, passed_in, standing_of}
 use Rattle.fancy_matches.specs.declared.regexes.Regex.{Regex}

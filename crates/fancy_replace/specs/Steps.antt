@@ -5,7 +5,7 @@ use Rattle.fancy_meaning.specs.Options as plain
 use Rattle.fancy_meaning.specs.Places.{is_place}
 use Rattle.fancy_meaning.specs.Premises.{Input, IsSpan, plan}
 use Rattle.fancy_expr.specs.declared.error.Error.{Error}
-use Rattle.fancy_vm.specs.Outcomes.{first_pair}
+use Rattle.fancy_steps.specs.Outcomes.{first_pair}
 use Rattle.fancy_matches.specs.Listing.{ComesTo, at_start}
 use Rattle.fancy_matches.specs.Regexes.{FailsBy, IsNoLimitWhereEasy, IsRegexOf, IsSame, StaysIn, captures_text, left_of, numbers_in, passed_in, standing_of}
 use Rattle.fancy_matches.specs.declared.regexes.Regex.{Regex}

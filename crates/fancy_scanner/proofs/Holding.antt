@@ -5,7 +5,7 @@ use Rattle.std.proofs.lemmas.Option.{none-some, same_Some}
 use Rattle.fancy_meaning.specs.Answer.{Search, answer, search_of}
 use Rattle.fancy_meaning.specs.Nodes.{group_count}
 use Rattle.fancy_meaning.specs.Premises.{plan}
-use Rattle.fancy_vm.specs.Outcomes.{first_pair}
+use Rattle.fancy_steps.specs.Outcomes.{first_pair}
 use Rattle.fancy_matches.specs.Listing.{begun_at}
 use Rattle.fancy_matches.specs.Regexes.{FindsCaptures, shown_captures, with_numbers}
 use Rattle.fancy_matches.specs.declared.found.Captures.{Captures}

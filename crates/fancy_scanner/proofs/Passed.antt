@@ -3,9 +3,10 @@ use Rattle.std.proofs.Common.{◌≡◌, ◌≢◌, ℕ, zero, suc, ◌-◌, ◌
 use Rattle.std.specs.Prelude.{option_and_then, slice_get}
 use Rattle.std.proofs.lemmas.Bool.Decides.{eqb_tells}
 use Rattle.std.proofs.lemmas.Option.{none-some}
-use Rattle.fancy_vm.specs.SearchLimits.{cost_of, passed_by}
-use Rattle.fancy_vm.specs.declared.search_limits.SearchLimit.{SearchLimit}
-use Rattle.fancy_vm.specs.declared.search_limits.SearchLimits.{SearchLimits}
+use Rattle.fancy_vm.specs.Scratches.{cost_of}
+use Rattle.fancy_steps.specs.SearchLimits.{passed_by}
+use Rattle.fancy_steps.specs.declared.search_limits.SearchLimit.{SearchLimit}
+use Rattle.fancy_steps.specs.declared.search_limits.SearchLimits.{SearchLimits}
 use Rattle.fancy_matches.specs.Regexes.{passed_in}
 use Rattle.fancy_scanner.specs.Limits.{AreDistinct, IsToldUpTo, TellsPassed, passed_among, passed_at, passed_from, unless_held}
 use Rattle.fancy_scanner.specs.Scanning.{AreTreesOf, IsRuleAt, MayPass, Rule, search_limit, stopped_view, trees_of}

@@ -4,7 +4,7 @@ use Rattle.std.proofs.lemmas.Bool.{cases_lt, eq-eqb, lt-ltb, or_parts, true≢fa
 use Rattle.std.proofs.lemmas.Bool.Decides.{nat_tests}
 use Rattle.fancy_meaning.specs.Places.{places_from}
 use Rattle.fancy_meaning.specs.Premises.{plan}
-use Rattle.fancy_vm.specs.Outcomes.{first_pair}
+use Rattle.fancy_steps.specs.Outcomes.{first_pair}
 use Rattle.fancy_starts.specs.Matches.{Found, match_of}
 use Rattle.fancy_starts.proofs.LaterStarts.{places_before}
 use Rattle.fancy_starts.proofs.Matches.{match_of_answer}

@@ -1,6 +1,6 @@
 -- Which limits of their delegates the searches for trees passed, and that these are told.
 use Rattle.std.specs.Prelude.{◌≡◌, ◌≤◌, ℕ, Bool, true, false, List, Option, Some, None, IfSome, option_and_then, slice_get}
-use Rattle.fancy_vm.specs.declared.search_limits.SearchLimit.{SearchLimit}
+use Rattle.fancy_steps.specs.declared.search_limits.SearchLimit.{SearchLimit}
 use Rattle.fancy_matches.specs.Regexes.{passed_in}
 use Rattle.fancy_scanner.specs.Scanning.{search_limit, trees_of}
 use Rattle.fancy_scanner.specs.Scans.{answers_of, is_kept}

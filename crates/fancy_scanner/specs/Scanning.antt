@@ -7,13 +7,13 @@ use Rattle.fancy_meaning.specs.Premises.{Input, plan, IsAccepted}
 use Rattle.fancy_expr.specs.declared.error.Error.{Error}
 use Rattle.fancy_expr.specs.declared.error.Error.TheVariants as error
 use Rattle.fancy_expr.specs.declared.expr.ExprTree.{ExprTree}
-use Rattle.fancy_vm.specs.Outcomes.{first_pair}
-use Rattle.fancy_vm.specs.SearchLimits.{no_limits, passed_by}
-use Rattle.fancy_vm.specs.Tasks.{options_of as run_options_of}
-use Rattle.fancy_vm.specs.declared.search_limits.SearchCost.{SearchCost}
-use Rattle.fancy_vm.specs.declared.search_limits.SearchLimit.{SearchLimit}
-use Rattle.fancy_vm.specs.declared.search_limits.SearchLimit.TheVariants as search
-use Rattle.fancy_vm.specs.declared.search_limits.SearchLimits.{SearchLimits}
+use Rattle.fancy_steps.specs.Outcomes.{first_pair}
+use Rattle.fancy_steps.specs.SearchLimits.{no_limits, passed_by}
+use Rattle.fancy_steps.specs.Tasks.{options_of as run_options_of}
+use Rattle.fancy_steps.specs.declared.search_limits.SearchCost.{SearchCost}
+use Rattle.fancy_steps.specs.declared.search_limits.SearchLimit.{SearchLimit}
+use Rattle.fancy_steps.specs.declared.search_limits.SearchLimit.TheVariants as search
+use Rattle.fancy_steps.specs.declared.search_limits.SearchLimits.{SearchLimits}
 use Rattle.fancy_search.specs.Searches.{Bounds, Promises, input_of, instructions_of}
 use Rattle.fancy_search.specs.declared.search.SearchOptions.{SearchOptions}
 use Rattle.fancy_matches.specs.Listing.{backtracks_for, begun_at, options_for}

@@ -3,7 +3,7 @@ use Rattle.std.specs.Prelude.{◌≡◌, ◌≤◌, ℕ, Bool, false, List, [], 
 use Rattle.fancy_meaning.specs.Answer.{Search, search_of}
 use Rattle.fancy_meaning.specs.Places.{places_from}
 use Rattle.fancy_meaning.specs.Premises.{plan}
-use Rattle.fancy_vm.specs.Outcomes.{first_pair}
+use Rattle.fancy_steps.specs.Outcomes.{first_pair}
 use Rattle.fancy_bounds.specs.StartsBegun.{begun}
 use Rattle.fancy_matches.specs.Listing.{begun_at}
 use Rattle.fancy_scanner.specs.Lasting.{MatchesLast, holds_at, is_anchored}

@@ -2,7 +2,7 @@
 
 ghost use Rattle.std.specs.Prelude.{◌≡◌, ◌||◌};
 ghost use Rattle.fancy_meaning.specs.Premises.{plan};
-ghost use Rattle.fancy_vm.specs.Tasks.{options_of as run_options_of};
+ghost use Rattle.fancy_steps.specs.Tasks.{options_of as run_options_of};
 ghost use Rattle.fancy_search.specs.Searches.{input_of};
 ghost use Rattle.fancy_scanner.specs.Lasting.{IsLasting, is_anchored};
 ghost use Rattle.fancy_scanner.specs.Lasting as lasting;

@@ -3,7 +3,7 @@
 ghost use Rattle.std.specs.Prelude.{◌≡◌, MatchOption, None};
 ghost use Rattle.fancy_matches.specs.Regexes.{IsNoLimit};
 ghost use Rattle.fancy_scanner.specs.Scanning.{error_of, search_limit};
-ghost use Rattle.fancy_vm.specs.SearchLimits.{EndsBy};
+ghost use Rattle.fancy_steps.specs.SearchLimits.{EndsBy};
 
 use fancy_expr::error::{Error, RuntimeError};
 use fancy_vm::vm::SearchLimit;

@@ -10,7 +10,7 @@ ghost use Rattle.fancy_scanner.specs.Limits.{TellsPassed, passed_at, passed_from
 ghost use Rattle.fancy_scanner.specs.Scanning.{AreEasy, AreEasyRuns, IsRuleAt, IsStoppedByDelegates, Rule, Scans, trees_of};
 ghost use Rattle.fancy_scanner.specs.Scans as scans;
 ghost use Rattle.fancy_scanner.specs.Scans.{GoesOn, HasRoom, IsScanOf, KeepsHeld, answers_of, captures_result, scan_result, text_of};
-ghost use Rattle.fancy_vm.specs.SearchLimits.{EndsBy};
+ghost use Rattle.fancy_steps.specs.SearchLimits.{EndsBy};
 
 use crate::answers::Answer;
 use crate::scan_cache::ScanCache;

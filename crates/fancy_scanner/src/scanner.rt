@@ -12,7 +12,7 @@ ghost use Rattle.fancy_scanner.specs.Scanning as scanning;
 ghost use Rattle.fancy_scanner.specs.Scanning.{AreEasy, AreEasyRuns, IsRuleAt, IsStoppedByDelegates, IsScannerOf, IsTreeOf, KeepsTrees, RuleMatch, Rule, Scans, in_text, lasting_at, limits_in, match_view, rule_match, rule_of, start_of, trees_of};
 ghost use Rattle.fancy_scanner.specs.Limits.{TellsPassed, passed_at, passed_with};
 ghost use Rattle.fancy_scanner.specs.Scans.{BeginsScan, IsScanBy, IsWholeIn, KeepsAnswers, answers_in, told_with};
-ghost use Rattle.fancy_vm.specs.SearchLimits.{StaysWithin};
+ghost use Rattle.fancy_steps.specs.SearchLimits.{StaysWithin};
 
 use crate::lasting::Lasting;
 use crate::scan_cache::ScanCache;

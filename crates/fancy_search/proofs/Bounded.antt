@@ -10,10 +10,10 @@ use Rattle.fancy_meaning.specs.Premises.{Input}
 use Rattle.fancy_expr.specs.declared.error.Error.{Error}
 use Rattle.fancy_expr.specs.declared.error.Error.TheVariants as error
 use Rattle.fancy_program.specs.Programs.{prog_of}
-use Rattle.fancy_vm.specs.declared.runs.RunOptions.{RunOptions}
+use Rattle.fancy_steps.specs.declared.options.RunOptions.{RunOptions}
 use Rattle.fancy_vm.specs.Bounds.{IfLimit, MayPass, RunMayPass}
-use Rattle.fancy_vm.specs.Outcomes.{RunAnswers}
-use Rattle.fancy_vm.specs.Tasks.{task_of, options_of as run_options_of}
+use Rattle.fancy_steps.specs.Outcomes.{RunAnswers}
+use Rattle.fancy_steps.specs.Tasks.{task_of, options_of as run_options_of}
 use Rattle.fancy_vm.proofs.BoundsLaws as runs
 use Rattle.fancy_search.specs.declared.search.Compiled.{Compiled}
 use Rattle.fancy_search.specs.Searches.{IsCompiledFrom, Bounds, program}

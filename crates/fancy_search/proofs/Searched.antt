@@ -27,12 +27,12 @@ use Rattle.fancy_analysis.specs.Analyses.{IsAnalysisOf, IsRefusedAs}
 use Rattle.fancy_info.specs.Infos.{analysis_options_of}
 use Rattle.fancy_program.proofs.FitsLaws.{run_implicit}
 use Rattle.fancy_program.specs.declared.insn.Prog.{Prog}
-use Rattle.fancy_vm.specs.declared.runs.RunOptions.{RunOptions}
+use Rattle.fancy_steps.specs.declared.options.RunOptions.{RunOptions}
 use Rattle.fancy_vm.specs.Means.{IsMeaning, numbers_of}
-use Rattle.fancy_vm.specs.Outcomes.{RunAnswers}
-use Rattle.fancy_vm.specs.Stops.{outcome_of}
+use Rattle.fancy_steps.specs.Outcomes.{RunAnswers}
+use Rattle.fancy_steps.specs.Stops.{outcome_of}
 use Rattle.fancy_program.specs.Programs.{prog_of}
-use Rattle.fancy_vm.specs.Tasks.{task_of, options_of as run_options_of}
+use Rattle.fancy_steps.specs.Tasks.{task_of, options_of as run_options_of}
 use Rattle.fancy_compile.specs.declared.options.CompileOptions.{CompileOptions}
 use Rattle.fancy_compile.specs.Compiled.{Compiles, MayAnswer, MayCompile, plan_with, refuses, too_big}
 use Rattle.fancy_search.specs.declared.search.Compiled.{Compiled}

@@ -1,7 +1,7 @@
 //! What a user asks of a search, said once for all stages.
 
 ghost use Rattle.std.specs.Prelude.{◌≡◌};
-ghost use Rattle.fancy_vm.specs.Tasks.{options_of as run_options_of};
+ghost use Rattle.fancy_steps.specs.Tasks.{options_of as run_options_of};
 ghost use Rattle.fancy_search.specs.Requests as asked;
 
 use crate::search::SearchOptions;

@@ -7,9 +7,10 @@ ghost use Rattle.fancy_meaning.specs.Premises.{Input};
 ghost use Rattle.fancy_info.specs.Infos.{analysis_options_of};
 ghost use Rattle.fancy_compile.specs.Compiled.{compile_options_of};
 ghost use Rattle.fancy_expr.specs.Sound.{IsWellFormedTree};
-ghost use Rattle.fancy_vm.specs.Means.{answer_in};
-ghost use Rattle.fancy_vm.specs.SearchLimits.{StaysWithin, limits_of, passed_of};
-ghost use Rattle.fancy_vm.specs.Tasks.{default_at, options_of as run_options_of, task_of};
+ghost use Rattle.fancy_steps.specs.Outcomes.{answer_in};
+ghost use Rattle.fancy_steps.specs.SearchLimits.{StaysWithin};
+ghost use Rattle.fancy_vm.specs.Scratches.{limits_of, passed_of};
+ghost use Rattle.fancy_steps.specs.Tasks.{default_at, options_of as run_options_of, task_of};
 ghost use Rattle.fancy_search.specs.Searches.{Bounds, IsCompiledFrom, IsMadeWithin, IsNestedOver, IsRefusedAs, Promises, PromisesWithin, input_of, program, search_fits};
 ghost use Rattle.fancy_search.specs.Searches as searches;
 

@@ -18,8 +18,8 @@ use Rattle.fancy_meaning.specs.Theorems.{EasyRun, outcome}
 use Rattle.fancy_headline.proofs.Bounds.{branch_bound, backtrack_bound, instruction_bound}
 use Rattle.fancy_vm.specs.Bounds.{IfLimit, IsBelowBound, RunMayPass}
 use Rattle.fancy_vm.specs.Means.{IsProgramOf}
-use Rattle.fancy_vm.specs.Outcomes.{RunAnswers, RunAnswersPair}
-use Rattle.fancy_vm.specs.Stops.{outcome_of}
+use Rattle.fancy_steps.specs.Outcomes.{RunAnswers, RunAnswersPair}
+use Rattle.fancy_steps.specs.Stops.{outcome_of}
 use Rattle.fancy_vm.proofs.MeaningLaws.{may_run}
 
 module _ (program : Prog) (text : List ℕ) (o : RunOptions) (utf8 : IsUtf8 text) (small : length text < usize_max) where

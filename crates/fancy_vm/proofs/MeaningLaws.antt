@@ -17,7 +17,7 @@ use Rattle.fancy_meaning.specs.Theorems as theorem
 use Rattle.fancy_headline.proofs.Answered.{headline}
 use Rattle.fancy_meaning.specs.Fits.{run_fits}
 use Rattle.fancy_vm.specs.Means.{IsMeaning, IsMeaningPair, IsProgramOf, numbers_of}
-use Rattle.fancy_vm.specs.Outcomes.{RunAnswers, RunAnswersPair, first_pair}
+use Rattle.fancy_steps.specs.Outcomes.{RunAnswers, RunAnswersPair, first_pair}
 use Rattle.fancy_program.proofs.FitsLaws.{run_place, run_not_empty, run_longest}
 
 -- an outcome that is an answer passes no limit, and is of one answer

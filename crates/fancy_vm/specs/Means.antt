@@ -1,5 +1,5 @@
 -- What a run answers, in the words of the tree.
-use Rattle.std.specs.Prelude.{ℕ, Bool, true, false, ◌≡◌, List, Option, Some, None, Result, Ok, Err, option_map, length}
+use Rattle.std.specs.Prelude.{ℕ, ◌≡◌, List, Option, option_map, length}
 use Rattle.std.specs.declared.vec.Vec.{Vec}
 use Rattle.std.specs.declared.alloc.Global.{Global}
 use Rattle.fancy_meaning.specs.Answer.{answer, search_of}
@@ -7,8 +7,7 @@ use Rattle.fancy_meaning.specs.Options.{RunOptions}
 use Rattle.fancy_meaning.specs.Instr.{Prog}
 use Rattle.fancy_meaning.specs.Layout.{layout}
 use Rattle.fancy_meaning.specs.Premises.{Input, plan, IsAccepted}
-use Rattle.fancy_expr.specs.declared.error.Error.{Error}
-use Rattle.fancy_vm.specs.Outcomes.{first_pair}
+use Rattle.fancy_steps.specs.Outcomes.{first_pair}
 
 -- the tree is laid out as this program
 abbrev pub IsProgramOf : Input → Prog → Type 0
@@ -27,9 +26,3 @@ pub record IsMeaningPair (program : Prog) (text : List ℕ) (o : RunOptions) (fo
 
 abbrev pub numbers_of : Option (Vec ℕ Global) → Option (List ℕ)
 numbers_of found = option_map (λ numbers. numbers.items) found
-
--- what is answered by whether there is a match and by the numbers that were written
-abbrev pub answer_in : Result Bool Error → Vec ℕ Global → Result (Option (Vec ℕ Global)) Error
-answer_in (Ok true) numbers = Ok (Some numbers)
-answer_in (Ok false) numbers = Ok None
-answer_in (Err e) numbers = Err e

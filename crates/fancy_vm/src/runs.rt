@@ -1,94 +1,34 @@
 //! Runs of a program.
 
-ghost use Rattle.std.specs.Prelude.{◌≡◌, IsTrue, IsUtf8, IfOk, IfErr, OnOk, None, false};
+ghost use Rattle.std.specs.Prelude.{◌≡◌, IsTrue, IfOk, IfErr, OnOk, None};
 ghost use Rattle.fancy_meaning.specs.Config as config;
-ghost use Rattle.fancy_meaning.specs.Places.{is_place};
 ghost use Rattle.fancy_meaning.specs.Machine as machine;
 ghost use Rattle.fancy_meaning.specs.Fits.{run_fits};
 ghost use Rattle.fancy_meaning.specs.Premises.{IsText};
 ghost use Rattle.fancy_vm.specs.Bounds.{IfLimit, RunMayPass};
 ghost use Rattle.fancy_vm.specs.Founds.{IsMatchWith};
-ghost use Rattle.fancy_vm.specs.Memos.{AreMemosOf};
-ghost use Rattle.fancy_vm.specs.Means.{IsMeaning, IsMeaningPair, answer_in, numbers_of};
-ghost use Rattle.fancy_vm.specs.Outcomes.{RunEnds, RunAnswers, RunAnswersPair, config_of, ending, held_match, plain_task};
+ghost use Rattle.fancy_vm.specs.Means.{IsMeaning, IsMeaningPair, numbers_of};
+ghost use Rattle.fancy_steps.specs.Outcomes.{RunAnswers, RunAnswersPair, answer_in, held_match, plain_task};
 ghost use Rattle.fancy_vm.specs.Ready.{AreFresh, IsReady};
-ghost use Rattle.fancy_vm.specs.SearchLimits.{StaysWithin, limits_of, no_limits, passed_of};
+ghost use Rattle.fancy_steps.specs.SearchLimits.{StaysWithin, no_limits};
 ghost use Rattle.fancy_state.specs.Held.{first_held};
 ghost use Rattle.fancy_state.specs.Refused.{IsMemory};
 ghost use Rattle.fancy_program.specs.Programs.{prog_of};
-ghost use Rattle.fancy_vm.specs.Tasks.{IsUnused, allocator_of, default_at, default_task, options_of, task_of};
+ghost use Rattle.fancy_vm.specs.Scratches.{IsUnused, allocator_of, limits_of, passed_of};
+ghost use Rattle.fancy_steps.specs.Tasks.{default_at, default_task, options_of, task_of};
 
-use crate::longest::Longest;
-use crate::machine::{MAX_BRANCHES, Machine, Next, Stop, Stride, Task};
-use crate::memos::Memos;
-use crate::search_limits::{SearchCost, SearchLimit, SearchLimits};
 use crate::start_filters::StartFilters;
-use crate::strategy::Found;
-use fancy_characters::places::is_place;
-use fancy_expr::error::{Error, RuntimeError};
-use fancy_program::insn::{Insn, Prog};
+use crate::strategy::{Found, run_by_strategy, write_groups, write_pair};
+use fancy_expr::error::Error;
+use fancy_program::insn::Prog;
 use fancy_program::threads::crosses_threads;
 use fancy_state::state::State;
+use fancy_steps::longest::Longest;
+use fancy_steps::machine::{MAX_BRANCHES, Machine, Task};
+use fancy_steps::memos::Memos;
+use fancy_steps::options::RunOptions;
+use fancy_steps::search_limits::{SearchCost, SearchLimit, SearchLimits};
 use std::alloc::Global;
-
-/// How a program is run.
-#[derive(Clone, Copy, Debug)]
-pub struct RunOptions {
-    /// Where the search begins, a byte of the text.
-    pub pos: usize,
-    /// The first start alone is tried.
-    pub anchored: bool,
-    /// The previous match ended at `pos`.
-    pub continued: bool,
-    /// A match has to take something.
-    pub not_empty: bool,
-    /// Of the matches at the earliest start that has one, the longest in bytes is answered, and of several that are as
-    /// long the first; where this is not set, the first of all.
-    pub leftmost_longest: bool,
-    /// How often a run may fall back to a branch.
-    pub backtrack_limit: usize,
-    /// How many instructions a run may execute.
-    pub step_limit: u64,
-}
-
-impl RunOptions {
-    /// The default from this place on.
-    fn from_pos(pos: usize) -> RunOptions
-        ensures { options_of result ≡ default_at pos }
-    {
-        RunOptions {
-            pos,
-            anchored: false,
-            continued: true,
-            not_empty: false,
-            leftmost_longest: false,
-            backtrack_limit: 1_000_000,
-            step_limit: u64::MAX,
-        }
-    }
-
-    /// A run with these options may be made: `pos` is a character boundary of the text, group 0 is implicit, and
-    /// `not_empty` and `leftmost_longest` are set only where the analysis knew of them.
-    #[tactic(auto, unfolding(fancy_meaning::specs::Fits::run_fits))]
-    pub fn fits(&self, prog: &Prog, text: &str) -> bool
-        ensures { result ≡ run_fits (task_of prog.now text.now self.now) }
-    {
-        is_place(text.as_bytes(), self.pos)
-            && !prog.parts.explicit_group_0
-            && (!self.leftmost_longest || prog.parts.leftmost_longest)
-            && (!self.not_empty || prog.parts.find_not_empty)
-    }
-}
-
-impl Default for RunOptions {
-    /// From the text's start, not anchored, continued, with empty matches, at most 1,000,000 backtracks and as many
-    /// instructions as can be counted.
-    fn default() -> RunOptions
-        ensures { options_of result ≡ default_at 0 }
-    {
-        RunOptions::from_pos(0)
-    }
-}
 
 /// Memory that runs use again, of this allocator, and how much the delegates of a run may take. No answer depends on
 /// it: a run that passes a limit has none.
@@ -127,7 +67,7 @@ impl Drop for Room {
 }
 
 impl Scratch {
-    ghost use Rattle.fancy_vm.specs.SearchLimits.{cost_of};
+    ghost use Rattle.fancy_vm.specs.Scratches.{cost_of};
 
     /// Holds no memory yet, and takes none. There is no limit.
     pub fn new(alloc: Global) -> Scratch
@@ -238,7 +178,7 @@ pub fn run_into(
         alloc,
         limits: scratch.limits,
     };
-    let answer = task.run_into(&mut scratch.room, numbers);
+    let answer = scratch.room.run_into(&task, numbers);
     match scratch.passed() {
         None => answer,
         Some(_) => Err(Error::Memory),
@@ -269,7 +209,7 @@ pub fn run_spans(
         alloc,
         limits: scratch.limits,
     };
-    let answer = task.run_spans(&mut scratch.room);
+    let answer = scratch.room.run_spans(&task);
     match scratch.passed() {
         None => answer,
         Some(_) => Err(Error::Memory),
@@ -293,44 +233,43 @@ pub fn run_default(
     run(alloc, prog, text, &RunOptions::from_pos(pos), &mut scratch)
 }
 
-impl Task<'_> {
+impl Room {
+    ghost use Rattle.fancy_steps.specs.SearchLimits.{no_cost};
+    ghost use Rattle.fancy_vm.specs.Scratches.{cost_in};
+
     /// Whether there is a match. Its numbers are written over these.
-    fn run_into(&self, room: &mut Room, numbers: &mut Vec<usize>) -> Result<bool, Error>
-        requires text { IsText self.now.text.now }
-        requires fits { IsTrue (run_fits (plain_task self.now)) }
-        ensures { RunAnswers (machine.run (plain_task self.now)) (answer_in result numbers.new) }
+    fn run_into(&mut self, task: &Task<'_>, numbers: &mut Vec<usize>) -> Result<bool, Error>
+        requires text { IsText task.now.text.now }
+        requires fits { IsTrue (run_fits (plain_task task.now)) }
+        ensures { RunAnswers (machine.run (plain_task task.now)) (answer_in result numbers.new) }
     {
-        room.forget_cost();
-        match self.run_by_strategy(room)? {
+        self.forget_cost();
+        match run_by_strategy(task, self)? {
             Found::Match(start, end) => {
-                self.write_pair(numbers, start, end)?;
+                write_pair(task, numbers, start, end)?;
                 Ok(true)
             }
-            Found::WithGroups(start, end) => room.write_match(self, numbers, start, end),
+            Found::WithGroups(start, end) => self.write_match(task, numbers, start, end),
             Found::NoMatch => Ok(false),
-            Found::Unknown => room.answer(self, numbers),
+            Found::Unknown => self.answer(task, numbers),
         }
     }
 
     /// The first pair of the numbers.
-    fn run_spans(&self, room: &mut Room) -> Result<Option<(usize, usize)>, Error>
-        requires text { IsText self.now.text.now }
-        requires fits { IsTrue (run_fits (plain_task self.now)) }
-        ensures { RunAnswersPair (machine.run (plain_task self.now)) result }
+    fn run_spans(&mut self, task: &Task<'_>) -> Result<Option<(usize, usize)>, Error>
+        requires text { IsText task.now.text.now }
+        requires fits { IsTrue (run_fits (plain_task task.now)) }
+        ensures { RunAnswersPair (machine.run (plain_task task.now)) result }
     {
-        room.forget_cost();
-        match self.run_by_strategy(room)? {
+        self.forget_cost();
+        match run_by_strategy(task, self)? {
             Found::Match(start, end) | Found::WithGroups(start, end) => {
                 Ok(Some((start.min(end), end)))
             }
             Found::NoMatch => Ok(None),
-            Found::Unknown => room.answer_pair(self),
+            Found::Unknown => self.answer_pair(task),
         }
     }
-}
-
-impl Room {
-    ghost use Rattle.fancy_vm.specs.SearchLimits.{no_cost, cost_in};
 
     /// What the delegates of the last run took.
     #[inline(always)]
@@ -367,7 +306,7 @@ impl Room {
         let Some(memos) = &self.memos else {
             unreachable!()
         };
-        task.write_groups(memos, numbers, start, end)?;
+        write_groups(task, memos, numbers, start, end)?;
         Ok(true)
     }
 
@@ -499,105 +438,5 @@ impl Room {
         let Machine { state, longest, .. } = m;
         self.state = Some(state);
         self.longest = Some(longest);
-    }
-}
-
-impl Machine<'_> {
-    /// Steps until the match of the slots is to be answered, or the run ends: then the match that is held is to be
-    /// answered, or none.
-    #[inline(never)]
-    fn run(&mut self, memos: &mut Memos) -> Result<bool, Stop>
-        requires begins { config_of self.old ≡ machine.begin (plain_task self.old.task) }
-        requires text { IsUtf8 self.old.task.text.now }
-        requires place { IsTrue (is_place self.old.task.text.now self.old.task.options.now.pos) }
-        requires memos { AreMemosOf self.old.task memos.old }
-        ensures task { self.new.task ≡ self.old.task }
-        ensures finds { RunEnds (machine.run (plain_task self.old.task)) result self.new }
-    {
-        let mut left = self.task.options.step_limit;
-        let prog = self.task.prog;
-        let body: &[Insn] = &prog.body;
-        'steps: while left > 0 {
-            left -= 1;
-            match self.step(body, memos, Stride::Part)? {
-                Next::On => {}
-                Next::Passed => {
-                    left = left.saturating_sub(self.passed);
-                    if self.has_one_start() && self.is_over(left) {
-                        return Ok(false);
-                    }
-                }
-                Next::Fails => unreachable!(),
-                Next::Matches => return Ok(true),
-                Next::Ends => return Ok(false),
-            }
-        }
-        Err(Stop::Limit(RuntimeError::StepLimitExceeded))
-    }
-
-    /// Only the text's beginning is a start.
-    #[inline(always)]
-    fn has_one_start(&self) -> bool {
-        match &self.task.prog.prefilter {
-            None => false,
-            Some(prefilter) => prefilter.is_beginning(),
-        }
-    }
-
-    /// With so many instructions left the run ends without a match: it is at the search, and no start is left.
-    #[inline(never)]
-    fn is_over(&self, left: u64) -> bool
-        requires place { IsTrue (is_place self.now.task.text.now self.now.ix) }
-        ensures { IsTrue result → machine.exec (plain_task self.now.task) left (config_of self.now)
-            ≡ ending false self.now }
-    {
-        if self.pc != 0 || self.state.backtrack_count() != 0 || self.longest.is_held() {
-            return false;
-        }
-        self.task.has_no_start(self.ix, left, self.backtracks)
-    }
-
-    /// Writes the numbers that the run answers over these.
-    fn answer(&mut self, memos: &mut Memos, numbers: &mut Vec<usize>) -> Result<bool, Error>
-        requires begins { config_of self.old ≡ machine.begin (plain_task self.old.task) }
-        requires text { IsUtf8 self.old.task.text.now }
-        requires place { IsTrue (is_place self.old.task.text.now self.old.task.options.now.pos) }
-        requires memos { AreMemosOf self.old.task memos.old }
-        ensures { RunAnswers
-            (machine.run (plain_task self.old.task))
-            (answer_in result numbers.new) }
-    {
-        let by_slots = self.run(memos)?;
-        self.write_ending(by_slots, numbers)
-    }
-
-    /// Writes the numbers of a run that ends here over these: of the slots, or else of the match that is held, if one
-    /// is. Tells whether there is a match.
-    pub(crate) fn write_ending(
-        &self,
-        by_slots: bool,
-        numbers: &mut Vec<usize>,
-    ) -> Result<bool, Error>
-        ensures { RunAnswers (ending by_slots self.now) (answer_in result numbers.new) }
-    {
-        if !by_slots {
-            return Ok(self.longest.copy_numbers(numbers)?);
-        }
-        self.copy_numbers(numbers)?;
-        Ok(true)
-    }
-
-    /// The first pair of the numbers that the run answers.
-    fn answer_pair(&mut self, memos: &mut Memos) -> Result<Option<(usize, usize)>, Error>
-        requires begins { config_of self.old ≡ machine.begin (plain_task self.old.task) }
-        requires text { IsUtf8 self.old.task.text.now }
-        requires place { IsTrue (is_place self.old.task.text.now self.old.task.options.now.pos) }
-        requires memos { AreMemosOf self.old.task memos.old }
-        ensures { RunAnswersPair (machine.run (plain_task self.old.task)) result }
-    {
-        if !self.run(memos)? {
-            return Ok(self.longest.first_pair());
-        }
-        Ok(Some(self.first_pair()))
     }
 }

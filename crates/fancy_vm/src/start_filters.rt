@@ -4,9 +4,9 @@ ghost use Rattle.std.specs.Prelude.{◌≡◌, ◌-◌, ◌≤◌, IfSome, IsTru
 ghost use Rattle.fancy_meaning.specs.Places.{is_place};
 ghost use Rattle.fancy_fragments.specs.StartFilters.{IsFilterOf};
 
-use crate::starts::begins_with_text;
 use fancy_fragments::fragment::Fragment;
 use fancy_fragments::start_filter::StartFilter;
+use fancy_steps::starts::begins_with_text;
 use std::alloc::Global;
 
 /// So many attempts fail before the filter is asked, or asked again where that paid.

@@ -4,18 +4,18 @@ ghost use Rattle.std.specs.Prelude.{◌≡◌, length, IsTrue, IfOk, IfErr};
 ghost use Rattle.fancy_meaning.specs.Fits.{run_fits};
 ghost use Rattle.fancy_meaning.specs.Places.{is_place};
 ghost use Rattle.fancy_state.specs.Refused.{IsMemory};
-ghost use Rattle.fancy_vm.specs.Outcomes.{RunAnswers, ending};
-ghost use Rattle.fancy_vm.specs.Tasks.{task_of};
+ghost use Rattle.fancy_steps.specs.Outcomes.{RunAnswers, ending};
+ghost use Rattle.fancy_steps.specs.Tasks.{task_of};
 ghost use Rattle.fancy_vm.specs.Steppers.{Begins, IsOnRun, config_in, task_in};
 
-use crate::longest::Longest;
-use crate::machine::{MAX_BRANCHES, Machine, Next, Stride, Task};
-use crate::memos::Memos;
-use crate::runs::RunOptions;
-use crate::search_limits::SearchLimits;
 use fancy_expr::error::{Error, RuntimeError};
 use fancy_program::insn::Prog;
 use fancy_state::state::State;
+use fancy_steps::longest::Longest;
+use fancy_steps::machine::{MAX_BRANCHES, Machine, Next, Stride, Task};
+use fancy_steps::memos::Memos;
+use fancy_steps::options::RunOptions;
+use fancy_steps::search_limits::SearchLimits;
 use std::alloc::Global;
 use std::marker::Model;
 
@@ -141,8 +141,8 @@ impl<'a> Stepper<'a> {
             Next::On => 0,
             Next::Passed => machine.passed,
             Next::Fails => unreachable!(),
-            Next::Matches => return Ok(Progress::Ends(machine.ending(true)?)),
-            Next::Ends => return Ok(Progress::Ends(machine.ending(false)?)),
+            Next::Matches => return Ok(Progress::Ends(ending_of(&machine, true)?)),
+            Next::Ends => return Ok(Progress::Ends(ending_of(&machine, false)?)),
         };
         if passed >= left {
             return Err(Error::RuntimeError(RuntimeError::StepLimitExceeded));
@@ -155,15 +155,13 @@ impl<'a> Stepper<'a> {
     }
 }
 
-impl Machine<'_> {
-    /// As `write_ending`, with a vector of its own.
-    fn ending(&self, by_slots: bool) -> Result<Option<Vec<usize>>, Error>
-        ensures { RunAnswers (ending by_slots self.now) result }
-    {
-        let mut numbers = Vec::new(self.task.alloc);
-        if !self.write_ending(by_slots, &mut numbers)? {
-            return Ok(None);
-        }
-        Ok(Some(numbers))
+/// As `write_ending`, with a vector of its own.
+fn ending_of(machine: &Machine<'_>, by_slots: bool) -> Result<Option<Vec<usize>>, Error>
+    ensures { RunAnswers (ending by_slots machine.now) result }
+{
+    let mut numbers = Vec::new(machine.task.alloc);
+    if !machine.write_ending(by_slots, &mut numbers)? {
+        return Ok(None);
     }
+    Ok(Some(numbers))
 }

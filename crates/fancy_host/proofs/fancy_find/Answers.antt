@@ -1,5 +1,5 @@
 use Rattle.std.proofs.Common.{◌∙◌, Option, sym, ap, subst}
-use Rattle.fancy_vm.specs.declared.search_limits.SearchLimit.{SearchLimit}
+use Rattle.fancy_steps.specs.declared.search_limits.SearchLimit.{SearchLimit}
 use Rattle.fancy_host.specs.Hosted.{FindsFirst, passed_of, tree_in, tree_of, unsearched}
 use Rattle.fancy_host.proofs.Answered.{found_by}
 use Rattle.fancy_host.proofs.EasyOutcomes.{find_easy}

@@ -1,5 +1,5 @@
 use Rattle.std.proofs.Common.{◌∙◌, Option, sym, ap, subst}
-use Rattle.fancy_vm.specs.declared.search_limits.SearchLimit.{SearchLimit}
+use Rattle.fancy_steps.specs.declared.search_limits.SearchLimit.{SearchLimit}
 use Rattle.fancy_host.specs.Lists.{FindsAll, span_alone, unsearched}
 use Rattle.fancy_host.specs.Hosted.{passed_of, tree_in, tree_of}
 use Rattle.fancy_host.proofs.Listed.{all_found_by}

@@ -1,5 +1,5 @@
 use Rattle.std.proofs.Common.{◌∙◌, Option, sym, ap, subst}
-use Rattle.fancy_vm.specs.declared.search_limits.SearchLimit.{SearchLimit}
+use Rattle.fancy_steps.specs.declared.search_limits.SearchLimit.{SearchLimit}
 use Rattle.fancy_host.specs.Hosted.{not_utf8, passed_of, tree_in, tree_of}
 use Rattle.fancy_host.specs.Rewritten.{ReplacesIn, by_no_text, unsearched}
 use Rattle.fancy_host.proofs.TextReplaced.{replaced_by}

@@ -4,8 +4,8 @@ use Rattle.fancy_laws.proofs.Characters.{cut_of_place}
 use Rattle.fancy_meaning.specs.Numbers.{usize_max}
 use Rattle.fancy_meaning.specs.Places.{is_place}
 use Rattle.fancy_meaning.specs.Premises.{IsText}
-use Rattle.fancy_vm.specs.SearchLimits.{passed_of}
-use Rattle.fancy_vm.specs.Tasks.{options_of as run_options_of}
+use Rattle.fancy_vm.specs.Scratches.{passed_of}
+use Rattle.fancy_steps.specs.Tasks.{options_of as run_options_of}
 use Rattle.fancy_matches.specs.Regexes.{standing_of}
 use Rattle.fancy_host.proofs.LimitsPassed.{stays_so}
 use Rattle.fancy_host.proofs.TextRewritten.{GoesOn, at_first, ends_by_limit, ends_by_none, fails_by, goes_further, next_begins, next_starts_at_place, rest_is}

@@ -1,6 +1,6 @@
 use Rattle.std.proofs.Common.{◌≡◌, None, string_bytes}
-use Rattle.fancy_vm.specs.SearchLimits.{limits_of, passed_of}
-use Rattle.fancy_vm.specs.Tasks.{options_of as run_options_of}
+use Rattle.fancy_vm.specs.Scratches.{limits_of, passed_of}
+use Rattle.fancy_steps.specs.Tasks.{options_of as run_options_of}
 use Rattle.fancy_matches.specs.Regexes.{standing_of}
 use Rattle.fancy_host.proofs.TextRewritten.{GoesOn}
 use Rattle.fancy_host.proofs.rewriting.rewrite.Given as goal

@@ -2,9 +2,9 @@ use Rattle.std.proofs.Common.{sym, subst, arith}
 use Rattle.std.proofs.lemmas.Result.{err_from_is_err_and}
 use Rattle.std.specs.Prelude.{chars}
 use Rattle.fancy_expr.specs.Sound.{IsWellFormedTree}
-use Rattle.fancy_vm.specs.Tasks.{options_of as run_options_of}
+use Rattle.fancy_steps.specs.Tasks.{options_of as run_options_of}
 use Rattle.fancy_pattern.specs.Spelling.{IsError, IsTreeOf}
-use Rattle.fancy_vm.specs.declared.search_limits.SearchLimits.{SearchLimits}
+use Rattle.fancy_steps.specs.declared.search_limits.SearchLimits.{SearchLimits}
 use Rattle.fancy_search.specs.Searches.{input_of}
 use Rattle.fancy_matches.specs.Listing.{options_for}
 use Rattle.fancy_scanner.specs.Scanning.{IsTreeOf as IsScanTreeOf, rule_of}

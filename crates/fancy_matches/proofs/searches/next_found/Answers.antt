@@ -4,8 +4,8 @@ use Rattle.fancy_meaning.specs.MatchState.{Span}
 use Rattle.fancy_meaning.specs.Numbers.{usize_max}
 use Rattle.fancy_meaning.specs.Places.{is_place}
 use Rattle.fancy_meaning.specs.Premises.{Input, IsText}
-use Rattle.fancy_vm.specs.Outcomes.{first_pair}
-use Rattle.fancy_vm.specs.Tasks.{options_of as run_options_of}
+use Rattle.fancy_steps.specs.Outcomes.{first_pair}
+use Rattle.fancy_steps.specs.Tasks.{options_of as run_options_of}
 use Rattle.fancy_search.specs.Searches.{IsCompiledFrom}
 use Rattle.fancy_matches.specs.Listing.{after, is_listed}
 use Rattle.fancy_matches.specs.Regexes.{EndsOn, Shows, StepsBy, standing_of}

@@ -1,11 +1,11 @@
 use Rattle.std.proofs.Common.{◌<◌, ◌∙◌, length, arith, sym}
 use Rattle.fancy_meaning.specs.Numbers.{usize_max}
-use Rattle.fancy_vm.specs.Means.{answer_in}
+use Rattle.fancy_steps.specs.Outcomes.{answer_in}
 use Rattle.fancy_program.specs.Programs.{prog_of}
-use Rattle.fancy_vm.specs.Tasks.{options_of}
+use Rattle.fancy_steps.specs.Tasks.{options_of}
 use Rattle.fancy_vm.proofs.BoundsLaws.{run_bounds}
 use Rattle.fancy_vm.proofs.MeaningLaws.{run_means}
-use Rattle.fancy_vm.proofs.SearchLimitsLaws.{stays_within}
+use Rattle.fancy_steps.proofs.SearchLimitsLaws.{stays_within}
 use Rattle.fancy_vm.proofs.runs.run_into.Goals as goal
 
 pub returns-in-None-clause-headline : goal.returns-in-None-clause-headline

@@ -1,10 +1,10 @@
 use Rattle.std.proofs.Common.{◌<◌, ◌∙◌, length, arith, sym}
 use Rattle.fancy_meaning.specs.Numbers.{usize_max}
 use Rattle.fancy_program.specs.Programs.{prog_of}
-use Rattle.fancy_vm.specs.Tasks.{options_of}
+use Rattle.fancy_steps.specs.Tasks.{options_of}
 use Rattle.fancy_vm.proofs.BoundsLaws.{run_bounds_pair}
 use Rattle.fancy_vm.proofs.MeaningLaws.{run_means_pair}
-use Rattle.fancy_vm.proofs.SearchLimitsLaws.{stays_within}
+use Rattle.fancy_steps.proofs.SearchLimitsLaws.{stays_within}
 use Rattle.fancy_vm.proofs.runs.run_spans.Goals as goal
 
 pub returns-in-None-clause-headline : goal.returns-in-None-clause-headline

@@ -1,5 +1,5 @@
 use Rattle.std.proofs.Common.{◌∙◌, sym, ap₂, subst}
-use Rattle.fancy_vm.specs.SearchLimits.{StaysWithin}
+use Rattle.fancy_steps.specs.SearchLimits.{StaysWithin}
 use Rattle.fancy_host.specs.Hosted.{Answers, answered, compiled_of, outcome_of, passed_in, written}
 use Rattle.fancy_host.proofs.Answered.{fits_by, promised_by, unfit_answers}
 use Rattle.fancy_host.proofs.LimitsPassed.{passed_so}

@@ -1,5 +1,5 @@
 use Rattle.std.proofs.Common.{◌∙◌, sym, ap, subst}
-use Rattle.fancy_vm.specs.SearchLimits.{StaysWithin}
+use Rattle.fancy_steps.specs.SearchLimits.{StaysWithin}
 use Rattle.fancy_host.specs.Hosted.{compiled_of, passed_in}
 use Rattle.fancy_host.specs.Whether.{Tells, told, whether}
 use Rattle.fancy_host.proofs.Answered.{fits_by, promised_by}

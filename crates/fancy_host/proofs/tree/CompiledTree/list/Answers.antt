@@ -2,7 +2,7 @@ use Rattle.std.proofs.Common.{◌≡◌, false, true, [], refl, sym, ◌∙◌, 
 use Rattle.fancy_meaning.specs.Fits.{run_fits}
 use Rattle.fancy_program.specs.Programs.{prog_of}
 use Rattle.fancy_search.specs.Searches.{program}
-use Rattle.fancy_vm.specs.SearchLimits.{passed_of}
+use Rattle.fancy_vm.specs.Scratches.{passed_of}
 use Rattle.fancy_matches.specs.Regexes as matches
 use Rattle.fancy_host.specs.Hosted.{compiled_of, passed_in}
 use Rattle.fancy_host.specs.Lists.{Lists, Writes, does_not_fit, listed, listing, standing_of, width_of}

@@ -2,7 +2,7 @@ use Rattle.std.proofs.Common.{◌≡◌, false, true, [], string_bytes, sym, ap,
 use Rattle.fancy_meaning.specs.Fits.{run_fits}
 use Rattle.fancy_program.specs.Programs.{prog_of}
 use Rattle.fancy_search.specs.Searches.{program}
-use Rattle.fancy_vm.specs.SearchLimits.{EndsBy}
+use Rattle.fancy_steps.specs.SearchLimits.{EndsBy}
 use Rattle.fancy_replace.specs.Pieces.{as_limit}
 use Rattle.fancy_host.specs.Hosted.{compiled_of, failure_by, passed_in}
 use Rattle.fancy_host.specs.Rewritten.{FailsToRewrite, IsRewritten, Replaces, WritesWhole, does_not_fit, fails, replaced, writing}

@@ -1,5 +1,5 @@
 use Rattle.std.proofs.Common.{ℕ, List, MatchResult, string_bytes, if◌then◌else◌, sym, ap, ◌∙◌, subst}
-use Rattle.fancy_vm.specs.Tasks.{options_of as run_options_of}
+use Rattle.fancy_steps.specs.Tasks.{options_of as run_options_of}
 use Rattle.fancy_replace.specs.Pieces.{as_limit}
 use Rattle.fancy_replace.specs.Reading.{expansion}
 use Rattle.fancy_host.specs.Hosted.{compiled_of, names_of}

@@ -1,6 +1,6 @@
 use Rattle.std.proofs.Common.{◌≤◌, length, ◌∙◌, subst, sym}
 use Rattle.fancy_meaning.specs.Premises.{IsSpan}
-use Rattle.fancy_vm.specs.Outcomes.{first_pair}
+use Rattle.fancy_steps.specs.Outcomes.{first_pair}
 use Rattle.fancy_matches.specs.Listing.{AreSpans}
 use Rattle.fancy_matches.proofs.found.Captures.try_clone.Goals as goal
 

@@ -3,7 +3,7 @@ use Rattle.fancy_meaning.specs.Fits.{run_fits}
 use Rattle.fancy_search.specs.Searches.{HasSource, IsCompiledFrom, program}
 use Rattle.fancy_matches.specs.Listing.{begun_at}
 use Rattle.fancy_matches.specs.Regexes.{Shows}
-use Rattle.fancy_vm.specs.Tasks.{options_of as run_options_of, task_of}
+use Rattle.fancy_steps.specs.Tasks.{options_of as run_options_of, task_of}
 use Rattle.fancy_matches.proofs.Easy.{easy_search}
 use Rattle.fancy_matches.proofs.Searching.{fits_begun}
 use Rattle.fancy_matches.proofs.Stepping.{stays_limited}

@@ -2,8 +2,9 @@ use Rattle.std.proofs.Common.{◌≡◌, ◌<◌, [], true, length, Some, Ok, Er
 use Rattle.fancy_meaning.specs.Fits.{run_fits}
 use Rattle.fancy_meaning.specs.Numbers.{usize_max}
 use Rattle.fancy_search.specs.Searches.{HasSource, program}
-use Rattle.fancy_vm.specs.SearchLimits.{StaysWithin, cost_of, passed_by}
-use Rattle.fancy_vm.specs.Tasks.{options_of as run_options_of, task_of}
+use Rattle.fancy_steps.specs.SearchLimits.{StaysWithin, passed_by}
+use Rattle.fancy_vm.specs.Scratches.{cost_of}
+use Rattle.fancy_steps.specs.Tasks.{options_of as run_options_of, task_of}
 use Rattle.fancy_matches.specs.Regexes.{GivesBy, standing_of}
 use Rattle.fancy_matches.proofs.Searching.{fits_listed}
 use Rattle.fancy_matches.proofs.Stepping.{easy_step, error_within, gives_error, gives_none, gives_some, stays_limited}

@@ -3,8 +3,8 @@ use Rattle.fancy_meaning.specs.Numbers.{usize_max}
 use Rattle.fancy_meaning.specs.Premises.{IsText}
 use Rattle.fancy_laws.proofs.Moves.{is_place_parts}
 use Rattle.fancy_search.specs.Searches.{Promises, program}
-use Rattle.fancy_vm.specs.Outcomes.{first_pair}
-use Rattle.fancy_vm.specs.Tasks.{options_of as run_options_of, task_of}
+use Rattle.fancy_steps.specs.Outcomes.{first_pair}
+use Rattle.fancy_steps.specs.Tasks.{options_of as run_options_of, task_of}
 use Rattle.fancy_program.proofs.FitsLaws.{run_place}
 use Rattle.fancy_matches.proofs.Searching.{captures_sound}
 use Rattle.fancy_matches.proofs.searches.CapturesFromSearch.search.Goals as goal

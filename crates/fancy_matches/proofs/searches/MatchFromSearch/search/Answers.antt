@@ -7,9 +7,9 @@ use Rattle.fancy_meaning.specs.Numbers.{usize_max}
 use Rattle.fancy_meaning.specs.Premises.{plan}
 use Rattle.fancy_laws.proofs.Moves.{is_place_parts}
 use Rattle.fancy_vm.specs.Means.{IsMeaningPair}
-use Rattle.fancy_vm.specs.Outcomes.{RunAnswersPair}
+use Rattle.fancy_steps.specs.Outcomes.{RunAnswersPair}
 use Rattle.fancy_program.specs.Programs.{prog_of}
-use Rattle.fancy_vm.specs.Tasks.{options_of as run_options_of, task_of}
+use Rattle.fancy_steps.specs.Tasks.{options_of as run_options_of, task_of}
 use Rattle.fancy_program.specs.declared.insn.Prog.{Prog}
 use Rattle.fancy_matches.proofs.Searching.{pair_fails, pair_found, pair_shown, pair_sound}
 use Rattle.fancy_matches.proofs.searches.MatchFromSearch.search.Goals as goal

@@ -1,7 +1,7 @@
 use Rattle.std.proofs.Common.{ap, sym, subst, ◌∙◌}
 use Rattle.fancy_expr.specs.Views.{parsed_of}
 use Rattle.fancy_search.specs.Searches.{IsRefusedAs}
-use Rattle.fancy_vm.specs.Tasks.{options_of as run_options_of}
+use Rattle.fancy_steps.specs.Tasks.{options_of as run_options_of}
 use Rattle.fancy_info.specs.Infos.{analysis_options_of}
 use Rattle.fancy_compile.specs.Compiled.{compile_options_of}
 use Rattle.fancy_regex.specs.Builders.{options}

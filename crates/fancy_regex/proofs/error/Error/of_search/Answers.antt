@@ -1,5 +1,5 @@
 use Rattle.std.proofs.Common.{sym, subst}
-use Rattle.fancy_vm.specs.SearchLimits.{EndsBy}
+use Rattle.fancy_steps.specs.SearchLimits.{EndsBy}
 use Rattle.fancy_regex.proofs.error.Error.of_search.Goals as goal
 
 pub returns-in-CompileError-clause-limit : goal.returns-in-CompileError-clause-limit

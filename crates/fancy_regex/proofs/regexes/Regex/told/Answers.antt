@@ -1,5 +1,5 @@
 use Rattle.std.proofs.Common.{sym, subst, ◌∙◌}
-use Rattle.fancy_vm.specs.SearchLimits.{EndsBy}
+use Rattle.fancy_steps.specs.SearchLimits.{EndsBy}
 use Rattle.fancy_regex.proofs.regexes.Regex.told.Goals as goal
 
 pub returns-clause-limit : goal.returns-clause-limit

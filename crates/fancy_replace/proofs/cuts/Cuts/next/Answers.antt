@@ -1,7 +1,7 @@
 use Rattle.std.proofs.Common.{◌≡◌, ◌≤◌, IfErr, IfSome, true, true≢false, map, Some, refl, sym, ap, ◌∙◌, subst, slice_range}
 use Rattle.fancy_laws.proofs.Characters.{cut_of_place}
 use Rattle.fancy_meaning.specs.Places.{is_place}
-use Rattle.fancy_vm.specs.Outcomes.{first_pair}
+use Rattle.fancy_steps.specs.Outcomes.{first_pair}
 use Rattle.fancy_matches.specs.Regexes.{GivesCaptures, IsNoLimitWhereEasy, StaysInStep, left_of, standing_of}
 use Rattle.fancy_matches.proofs.Stepping.{of_same}
 use Rattle.fancy_replace.specs.Pieces.{take_limit}

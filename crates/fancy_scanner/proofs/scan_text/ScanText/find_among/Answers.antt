@@ -4,7 +4,7 @@ use Rattle.fancy_meaning.specs.Places.{is_place}
 use Rattle.fancy_scanner.specs.Among.{answers_among}
 use Rattle.fancy_scanner.specs.Scans.{found_match, text_of}
 use Rattle.fancy_scanner.proofs.Kept.{goes_twice, held_still}
-use Rattle.fancy_vm.specs.SearchLimits.{EndsBy}
+use Rattle.fancy_steps.specs.SearchLimits.{EndsBy}
 use Rattle.fancy_scanner.specs.Limits.{passed_among}
 use Rattle.fancy_scanner.proofs.Passed.{TellsFrom, index_of, none_past_order, tells_all, tells_nothing}
 use Rattle.fancy_scanner.proofs.Rules.{IsScanFrom, easy_by_delegates, easy_never_stops}

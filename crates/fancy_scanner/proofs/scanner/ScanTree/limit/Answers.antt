@@ -1,6 +1,6 @@
 use Rattle.std.proofs.Common.{sym, ap, ◌∙◌, subst}
 use Rattle.fancy_search.specs.Searches.{IsCompiledFrom}
-use Rattle.fancy_vm.specs.Tasks.{options_of as run_options_of}
+use Rattle.fancy_steps.specs.Tasks.{options_of as run_options_of}
 use Rattle.fancy_matches.specs.Listing.{options_for}
 use Rattle.fancy_matches.specs.declared.options.RegexOptions.{RegexOptions}
 use Rattle.fancy_scanner.proofs.scanner.ScanTree.limit.Goals as goal

@@ -1,6 +1,6 @@
 use Rattle.std.proofs.Common.{refl, sym, ap, subst}
 use Rattle.std.proofs.lemmas.List.{length-set}
-use Rattle.fancy_vm.specs.SearchLimits.{StaysWithin}
+use Rattle.fancy_steps.specs.SearchLimits.{StaysWithin}
 use Rattle.fancy_scanner.specs.declared.scanner.ScanTree.{ScanTree}
 use Rattle.fancy_scanner.proofs.Passed.{passed_of}
 use Rattle.fancy_scanner.proofs.Reading.{get_other, get_same}

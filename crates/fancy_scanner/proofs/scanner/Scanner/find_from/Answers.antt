@@ -1,7 +1,7 @@
 use Rattle.std.proofs.Common.{◌≡◌, ◌-◌, ◌<◌, length, Ok, None, refl, sym, ap, ◌∙◌, subst, arith}
 use Rattle.fancy_matches.specs.Listing.{begun_at}
 use Rattle.fancy_matches.specs.Regexes.{FindsCaptures}
-use Rattle.fancy_vm.specs.SearchLimits.{EndsBy, StaysWithin}
+use Rattle.fancy_steps.specs.SearchLimits.{EndsBy, StaysWithin}
 use Rattle.fancy_scanner.specs.Limits.{passed_at}
 use Rattle.fancy_scanner.specs.Scanning.{MayFail, MayPass, trees_of}
 use Rattle.fancy_scanner.proofs.Passed.{TellsFrom, found_told, index_in, limit_told, none_past, none_told, rule_passes, tells_all, tells_nothing}

@@ -1,4 +1,4 @@
-use Rattle.fancy_vm.specs.Means.{answer_in}
+use Rattle.fancy_steps.specs.Outcomes.{answer_in}
 use Rattle.fancy_search.proofs.Bounded.{search_may_pass}
 use Rattle.fancy_search.proofs.Searched.{run_promises}
 use Rattle.fancy_search.proofs.search.Compiled.search_into.Goals as goal

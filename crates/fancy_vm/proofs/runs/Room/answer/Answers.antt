@@ -1,9 +1,8 @@
 use Rattle.std.proofs.Common.{subst, sym, IsTrue}
 use Rattle.fancy_meaning.specs.Machine as machine
 use Rattle.fancy_meaning.specs.Places.{is_place}
-use Rattle.fancy_vm.specs.Means.{answer_in}
-use Rattle.fancy_vm.specs.Outcomes.{RunAnswers, plain_task}
-use Rattle.fancy_vm.specs.declared.machine.Task.{Task}
+use Rattle.fancy_steps.specs.Outcomes.{RunAnswers, answer_in, plain_task}
+use Rattle.fancy_steps.specs.declared.machine.Task.{Task}
 use Rattle.fancy_program.proofs.FitsLaws.{run_implicit, run_place}
 use Rattle.fancy_vm.proofs.runs.Room.answer.Goals as goal
 

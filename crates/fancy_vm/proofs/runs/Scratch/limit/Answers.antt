@@ -1,6 +1,6 @@
 use Rattle.std.proofs.Common.{◌∙◌, ap}
-use Rattle.fancy_vm.specs.SearchLimits.{passed_by}
-use Rattle.fancy_vm.proofs.SearchLimitsLaws.{no_cost_passes}
+use Rattle.fancy_steps.specs.SearchLimits.{passed_by}
+use Rattle.fancy_steps.proofs.SearchLimitsLaws.{no_cost_passes}
 use Rattle.fancy_vm.proofs.runs.Scratch.limit.Goals as goal
 
 pub returns-clause-passed : goal.returns-clause-passed

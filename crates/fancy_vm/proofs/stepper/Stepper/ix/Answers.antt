@@ -1,6 +1,6 @@
 use Rattle.std.proofs.Common.{refl, subst, IsTrue}
 use Rattle.fancy_meaning.specs.Places.{is_place}
-use Rattle.fancy_vm.specs.Outcomes.{config_of, plain_task}
+use Rattle.fancy_steps.specs.Outcomes.{config_of, plain_task}
 use Rattle.fancy_vm.specs.Steppers.{StepperView}
 use Rattle.fancy_vm.proofs.SteppersLaws.{stands_at}
 use Rattle.fancy_vm.proofs.stepper.Stepper.ix.Goals as goal

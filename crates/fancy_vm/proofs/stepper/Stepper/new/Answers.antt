@@ -1,9 +1,9 @@
 use Rattle.std.proofs.Common.{◌≡◌, subst, sym, IsTrue, IsUtf8}
 use Rattle.fancy_meaning.specs.Fits.{run_fits}
 use Rattle.fancy_meaning.specs.Machine.{begin}
-use Rattle.fancy_vm.specs.Outcomes.{config_of, plain_task}
-use Rattle.fancy_vm.specs.Tasks.{task_of}
-use Rattle.fancy_vm.specs.declared.machine.Task.{Task}
+use Rattle.fancy_steps.specs.Outcomes.{config_of, plain_task}
+use Rattle.fancy_steps.specs.Tasks.{task_of}
+use Rattle.fancy_steps.specs.declared.machine.Task.{Task}
 use Rattle.fancy_program.proofs.FitsLaws.{run_implicit}
 use Rattle.fancy_vm.proofs.SteppersLaws.{at_start}
 use Rattle.fancy_vm.proofs.stepper.Stepper.new.Goals as goal

@@ -3,12 +3,12 @@ use Rattle.std.proofs.lemmas.Result.{err_from_is_err_and}
 use Rattle.fancy_meaning.specs.Config.{Outcome}
 use Rattle.fancy_meaning.specs.Fits.{run_fits}
 use Rattle.fancy_meaning.specs.Machine as machine
-use Rattle.fancy_vm.specs.Memos.{AreMemosOf}
-use Rattle.fancy_vm.specs.Outcomes.{RunAnswers, config_of, ending, plain_task}
-use Rattle.fancy_vm.specs.Stops.{error_of}
+use Rattle.fancy_steps.specs.Memos.{AreMemosOf}
+use Rattle.fancy_steps.specs.Outcomes.{RunAnswers, config_of, ending, plain_task}
+use Rattle.fancy_steps.specs.Stops.{error_of}
 use Rattle.fancy_vm.specs.Steppers.{StepperView, view_of, task_in}
 use Rattle.fancy_vm.specs.StepperSteps.{IsFurther}
-use Rattle.fancy_vm.specs.declared.machine.Task.{Task}
+use Rattle.fancy_steps.specs.declared.machine.Task.{Task}
 use Rattle.fancy_vm.proofs.SteppersLaws.{Counts, ends_so, goes_by, past_limit, stands_at, stops_so, steps_by}
 use Rattle.fancy_vm.proofs.stepper.Stepper.step.Goals as goal
 use Rattle.fancy_vm.proofs.stepper.Stepper.step.Goals.{in-On, in-Passed}
@@ -36,8 +36,8 @@ returns-in-Matches c =
     let some : 0 < t.step_limit - c.self.inside.steps = omega (arith, c.if-left-eq0.false) in
     let same = ends_so t c.self.inside.steps (config_of m) (ending true c.step.new.self) c.self.invariant.on_run some
     (rw c.in-Matches.is at c.in_ok-step.ensures.leads) in
-    subst (λ (w : StepperView). RunAnswers (machine.run (task_in w)) (Ok c.in_ok-ending-in-Matches.field-0)) c.self.view_is
-    (subst (λ (o : Outcome). RunAnswers o (Ok c.in_ok-ending-in-Matches.field-0)) (sym same) c.in_ok-ending-in-Matches.ensures)
+    subst (λ (w : StepperView). RunAnswers (machine.run (task_in w)) (Ok c.in_ok-ending_of-in-Matches.field-0)) c.self.view_is
+    (subst (λ (o : Outcome). RunAnswers o (Ok c.in_ok-ending_of-in-Matches.field-0)) (sym same) c.in_ok-ending_of-in-Matches.ensures)
 
 pub returns-in-Ends : goal.returns-in-Ends
 returns-in-Ends c =
@@ -46,8 +46,8 @@ returns-in-Ends c =
     let some : 0 < t.step_limit - c.self.inside.steps = omega (arith, c.if-left-eq0.false) in
     let same = ends_so t c.self.inside.steps (config_of m) (ending false c.step.new.self) c.self.invariant.on_run some
     (rw c.in-Ends.is at c.in_ok-step.ensures.leads) in
-    subst (λ (w : StepperView). RunAnswers (machine.run (task_in w)) (Ok c.in_ok-ending-in-Ends.field-0)) c.self.view_is
-    (subst (λ (o : Outcome). RunAnswers o (Ok c.in_ok-ending-in-Ends.field-0)) (sym same) c.in_ok-ending-in-Ends.ensures)
+    subst (λ (w : StepperView). RunAnswers (machine.run (task_in w)) (Ok c.in_ok-ending_of-in-Ends.field-0)) c.self.view_is
+    (subst (λ (o : Outcome). RunAnswers o (Ok c.in_ok-ending_of-in-Ends.field-0)) (sym same) c.in_ok-ending_of-in-Ends.ensures)
 
 pub returns-then-passed-left : goal.returns-then-passed-left
 returns-then-passed-left c =

@@ -1,0 +1,13 @@
+pub mod BranchesLaws
+pub mod ThreadsLaws
+pub mod NumbersLaws
+pub mod CountLaws
+pub mod StepLaws
+pub mod LookBehindCacheLaws
+pub mod TrailingNewlinesLaws
+pub mod MemosLaws
+pub mod PairsLaws
+pub mod AtomicPartsLaws
+pub mod LastStartsLaws
+pub mod SearchLimitsLaws
+pub mod TurnsLaws

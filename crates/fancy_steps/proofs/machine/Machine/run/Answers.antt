@@ -1,0 +1,160 @@
+use Rattle.std.proofs.Common.{◌≡◌, ◌-◌, ◌<◌, ℕ, sym, ap, ◌∙◌, subst, refl, Err, IsTrue, IsUtf8, true, false}
+use Rattle.std.proofs.lemmas.Result.{err_from_is_err_and}
+use Rattle.fancy_meaning.specs.Config.{Config, Ends, Goes, Outcome}
+use Rattle.fancy_meaning.specs.Machine as machine
+use Rattle.fancy_meaning.specs.Places.{is_place}
+use Rattle.fancy_laws.proofs.Every.{no_item}
+use Rattle.fancy_steps.specs.Memos.{AreMemosOf}
+use Rattle.fancy_steps.specs.Outcomes.{StepAnswers, config_of, ending, plain_task, RunEnds}
+use Rattle.fancy_steps.specs.declared.machine.Task.{Task}
+use Rattle.fancy_program.proofs.PlacesLaws.{GoesToPlaces, IsAtPlaces, step_at_leads}
+use Rattle.fancy_program.proofs.StartsLaws.{all_at_places, runs_past}
+use Rattle.fancy_steps.proofs.StepLaws.{exec_step, next_of, runs_on, runs_out, stop_finds}
+use Rattle.fancy_steps.proofs.machine.Machine.run.Goals as goal
+
+pub steps-init : goal.steps-init
+unfolding machine.run
+steps-init c =
+    let task = c.args.self.now.task in
+    record {
+      task = refl;
+      memos = c.requires.memos;
+      places = subst (IsAtPlaces task.text.now) (sym c.requires.begins) (record { here = c.requires.place; branches = no_item });
+      same = ap (machine.exec (plain_task task) task.options.now.step_limit) c.requires.begins;
+    }
+
+pub step-requires-clause-memos : goal.step-requires-clause-memos
+step-requires-clause-memos c = subst (λ (t : Task). AreMemosOf t c.steps.memos) (sym c.steps.invariant.task) c.steps.invariant.memos
+
+pub step-requires-clause-place : goal.step-requires-clause-place
+step-requires-clause-place c =
+    subst (λ (t : Task). IsTrue (is_place (t.text).now c.steps.self.ix)) (sym c.steps.invariant.task) c.steps.invariant.places.here
+
+-- a step that passed over starts, or rounds of a loop, whatever the machine's task is written as
+passed_leads : (after now task : Task) (here : Config) (passed : ℕ) (new : Config) → after ≡ now → now ≡ task →
+    machine.after_steps (plain_task after) passed (next_of (plain_task now) here) ≡ Goes new →
+    machine.after_steps (plain_task task) passed (next_of (plain_task task) here) ≡ Goes new
+passed_leads after now task here passed new stays same leads =
+    subst (λ (u : Task). machine.after_steps (plain_task u) passed (next_of (plain_task u) here) ≡ Goes new) same
+    (subst (λ (u : Task). machine.after_steps (plain_task u) passed (next_of (plain_task now) here) ≡ Goes new) stays leads)
+
+module _ (task : Task) (here new : Config) (passed : ℕ) (leads : machine.after_steps (plain_task task) passed (next_of (plain_task task) here) ≡ Goes new)
+  where
+    passed_places : IsUtf8 (task.text).now → IsAtPlaces (task.text).now here → IsAtPlaces (task.text).now new
+    passed_places utf8 at =
+        let t = plain_task task in
+        let body = ((task.prog).now).body.items in
+        subst (GoesToPlaces (task.text).now) leads
+        (all_at_places t body utf8 refl passed (next_of t here) (step_at_leads t utf8 body here.pc here at))
+
+    -- the run from there
+    passed_same : (left rest : ℕ) → 0 < left → rest ≡ left - 1 - passed → machine.exec (plain_task task) left here ≡ machine.run (plain_task task) →
+        machine.exec (plain_task task) rest new ≡ machine.run (plain_task task)
+    passed_same left rest some all same =
+        let t = plain_task task in
+        ap (λ n. machine.exec t n new) all
+        ∙ sym (runs_past t passed (left - 1) (next_of t here) new leads)
+        ∙ sym (exec_step t here left (next_of t here) some refl) ∙ same
+
+pub is_over-requires : goal.is_over-requires
+is_over-requires c =
+    let task = c.args.self.now.task in
+    let here = config_of c.steps.self in
+    let new = config_of c.step.new.self in
+    let leads = passed_leads c.step.new.self.task c.steps.self.task task here c.step.new.self.passed new c.in_ok-step.ensures.task c.steps.invariant.task
+    (rw c.in-Passed.is at c.in_ok-step.ensures.leads) in
+    let places = passed_places task here new c.step.new.self.passed leads c.requires.text c.steps.invariant.places in
+    record {
+      place = subst (λ (t : Task). IsTrue (is_place (t.text).now c.step.new.self.ix)) (sym (c.in_ok-step.ensures.task ∙ c.steps.invariant.task)) places.here;
+    }
+
+pub steps-preserved : goal.steps-preserved
+steps-preserved c =
+    let task = c.args.self.now.task in
+    let here = config_of c.steps.self in
+    let new = config_of c.step.new.self in
+    let passed = c.step.new.self.passed in
+    let left : ℕ = c.steps.left in
+    let leads = passed_leads c.step.new.self.task c.steps.self.task task here passed new c.in_ok-step.ensures.task c.steps.invariant.task
+    (rw c.in-Passed.is at c.in_ok-step.ensures.leads) in
+    record {
+      task = c.in_ok-step.ensures.task ∙ c.steps.invariant.task;
+      memos = subst (λ (u : Task). AreMemosOf u c.step.new.memos) c.steps.invariant.task c.in_ok-step.ensures.memos;
+      places = passed_places task here new passed leads c.requires.text c.steps.invariant.places;
+      same = passed_same task here new passed leads left c.saturating_sub-left.result c.steps-test.true c.saturating_sub-left.ensures c.steps.invariant.same;
+    }
+
+pub returns-then-is_over-clause-task : goal.returns-then-is_over-clause-task
+returns-then-is_over-clause-task c = c.in_ok-step.ensures.task ∙ c.steps.invariant.task
+
+pub returns-then-is_over-clause-finds : goal.returns-then-is_over-clause-finds
+returns-then-is_over-clause-finds c =
+    let task = c.args.self.now.task in
+    let here = config_of c.steps.self in
+    let now = c.step.new.self in
+    let new = config_of now in
+    let left : ℕ = c.steps.left in
+    let rest : ℕ = c.saturating_sub-left.result in
+    let leads = passed_leads now.task c.steps.self.task task here now.passed new c.in_ok-step.ensures.task c.steps.invariant.task
+    (rw c.in-Passed.is at c.in_ok-step.ensures.leads) in
+    sym (passed_same task here new now.passed leads left rest c.steps-test.true c.saturating_sub-left.ensures c.steps.invariant.same)
+    ∙ subst (λ (t : Task). machine.exec (plain_task t) rest new ≡ ending false now) (c.in_ok-step.ensures.task ∙ c.steps.invariant.task)
+    (c.is_over.ensures c.if-is_over.true)
+
+pub steps-preserved-in-On : goal.steps-preserved-in-On
+steps-preserved-in-On c =
+    let task = c.args.self.now.task in
+    let now = config_of c.steps.self in
+    let new = config_of c.step.new.self in
+    let left : ℕ = c.steps.left in
+    let leads : next_of (plain_task task) now ≡ Goes new =
+    subst (λ (t : Task). next_of (plain_task t) now ≡ Goes new) c.steps.invariant.task (rw c.in-On.is at c.in_ok-step.ensures.leads) in
+    record {
+      task = c.in_ok-step.ensures.task ∙ c.steps.invariant.task;
+      memos = subst (λ (t : Task). AreMemosOf t c.step.new.memos) c.steps.invariant.task c.in_ok-step.ensures.memos;
+      places = subst (GoesToPlaces task.text.now) leads
+          (step_at_leads (plain_task task) c.requires.text task.prog.now.body.items c.steps.self.pc now c.steps.invariant.places);
+      same = sym (runs_on (plain_task task) now new left c.steps-test.true leads) ∙ c.steps.invariant.same;
+    }
+
+pub returns-in_err-step-clause-finds : goal.returns-in_err-step-clause-finds
+returns-in_err-step-clause-finds c =
+    let task = c.args.self.now.task in
+    let now = config_of c.steps.self in
+    let new = c.step.new.self in
+    let left : ℕ = c.steps.left in
+    let stop = c.in_err-step.field-0.0 in
+    let p = err_from_is_err_and c.from_residual.result c.from_residual.ensures.1 in
+    let leads = subst (λ (t : Task). StepAnswers (next_of (plain_task t) now) (Err stop) new) c.steps.invariant.task c.in_err-step.ensures.leads in
+    rw (p.1, p.2)
+    (subst (λ (o : Outcome). RunEnds o (Err stop) new) c.steps.invariant.same
+    (stop_finds (plain_task task) now new left stop c.steps-test.true leads))
+
+pub returns-in_err-step-clause-task : goal.returns-in_err-step-clause-task
+returns-in_err-step-clause-task c = c.in_err-step.ensures.task ∙ c.steps.invariant.task
+
+pub returns-in-Matches-clause-task : goal.returns-in-Matches-clause-task
+returns-in-Matches-clause-task c = c.in_ok-step.ensures.task ∙ c.steps.invariant.task
+
+pub returns-in-Matches-clause-finds : goal.returns-in-Matches-clause-finds
+returns-in-Matches-clause-finds c =
+    let task = c.args.self.now.task in
+    let now = config_of c.steps.self in
+    let left : ℕ = c.steps.left in
+    let end = Ends (ending true c.step.new.self) in
+    let leads : next_of (plain_task task) now ≡ end =
+    subst (λ (t : Task). next_of (plain_task t) now ≡ end) c.steps.invariant.task (rw c.in-Matches.is at c.in_ok-step.ensures.leads) in
+    sym c.steps.invariant.same ∙ runs_out (plain_task task) now left _ c.steps-test.true leads
+
+pub returns-in-Ends-clause-task : goal.returns-in-Ends-clause-task
+returns-in-Ends-clause-task c = c.in_ok-step.ensures.task ∙ c.steps.invariant.task
+
+pub returns-in-Ends-clause-finds : goal.returns-in-Ends-clause-finds
+returns-in-Ends-clause-finds c =
+    let task = c.args.self.now.task in
+    let now = config_of c.steps.self in
+    let left : ℕ = c.steps.left in
+    let end = Ends (ending false c.step.new.self) in
+    let leads : next_of (plain_task task) now ≡ end =
+    subst (λ (t : Task). next_of (plain_task t) now ≡ end) c.steps.invariant.task (rw c.in-Ends.is at c.in_ok-step.ensures.leads) in
+    sym c.steps.invariant.same ∙ runs_out (plain_task task) now left _ c.steps-test.true leads

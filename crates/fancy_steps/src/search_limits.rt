@@ -1,0 +1,151 @@
+//! How much the searches of a run's delegates may take together, and what they took.
+
+ghost use Rattle.std.specs.Prelude.{◌≡◌, ◌+◌, ◌-◌, ℕ, min, None, IfOk, IsTrue, OnOk};
+ghost use Rattle.fancy_meaning.specs.Places.{is_place};
+ghost use Rattle.fancy_fragments.specs.Fragments.{IsFirstWayOf, IsJoinedMemoFor, joined_nfa};
+ghost use Rattle.fancy_plain.specs.FoundEnds.{ChoicesLead};
+ghost use Rattle.fancy_plain.specs.Ways.{HasAscending};
+ghost use Rattle.fancy_steps.specs.SearchLimits.{held_by, left_of, no_cost, no_limits, passed_by};
+
+use crate::machine::Task;
+use fancy_backtrack::budget::Budget;
+use fancy_backtrack::memo::Memo;
+use fancy_expr::error::Error;
+use fancy_fragments::first_way::first_way_joined;
+use fancy_fragments::fragment::Fragment;
+use fancy_plain::first_way::FirstWay;
+
+/// How much the searches of the delegates of one run may take together. Without a limit they may take as much as can
+/// be counted.
+#[derive(Clone, Copy, Debug)]
+pub struct SearchLimits {
+    /// How many states they may take up.
+    pub visits: Option<u64>,
+    /// How many bytes what they keep may hold at one time.
+    pub bytes: Option<usize>,
+}
+
+/// A limit that a run passed.
+#[derive(Clone, Copy, Debug, PartialEq, Eq)]
+pub enum SearchLimit {
+    Visits,
+    Bytes,
+}
+
+/// What the searches of the delegates of one run took.
+#[derive(Clone, Copy, Debug)]
+pub struct SearchCost {
+    /// How many states they took up.
+    pub visits: u64,
+    /// How many bytes what they keep holds, where these are limited; they are not counted where they are not.
+    pub bytes: usize,
+}
+
+impl SearchLimits {
+    /// There is none.
+    pub fn none() -> SearchLimits
+        ensures { result ≡ no_limits }
+    {
+        SearchLimits {
+            visits: None,
+            bytes: None,
+        }
+    }
+
+    /// The limit that is passed by such a cost, that on visits where both are.
+    #[inline(always)]
+    pub fn passed_by(&self, cost: SearchCost) -> Option<SearchLimit>
+        ensures { result ≡ passed_by self.now cost }
+    {
+        if let Some(most) = self.visits {
+            if most < cost.visits {
+                return Some(SearchLimit::Visits);
+            }
+        }
+        if let Some(most) = self.bytes {
+            if most < cost.bytes {
+                return Some(SearchLimit::Bytes);
+            }
+        }
+        None
+    }
+
+    /// How many bytes the memo holds, where these are limited.
+    #[inline(always)]
+    fn held(&self, memo: &Memo) -> usize
+        ensures { result ≡ held_by self.now memo.now }
+    {
+        match self.bytes {
+            None => 0,
+            Some(_) => memo.bytes(),
+        }
+    }
+
+    /// What a search may take behind others of this cost.
+    #[inline(always)]
+    fn left(&self, cost: SearchCost) -> Budget
+        ensures visits { result.visits ≡ left_of u64.MAX self.now.visits cost.visits }
+        ensures bytes { result.bytes ≡ left_of usize.MAX self.now.bytes cost.bytes }
+    {
+        Budget {
+            visits: match self.visits {
+                None => u64::MAX,
+                Some(most) => most.saturating_sub(cost.visits),
+            },
+            bytes: match self.bytes {
+                None => usize::MAX,
+                Some(most) => most.saturating_sub(cost.bytes),
+            },
+        }
+    }
+}
+
+impl SearchCost {
+    /// At the beginning of a run.
+    pub fn none() -> SearchCost
+        ensures { result ≡ no_cost }
+    {
+        SearchCost {
+            visits: 0,
+            bytes: 0,
+        }
+    }
+
+    /// The first way from `ix` of the fragment, by what this memo has noted and within what the limits leave, which adds to
+    /// the cost. It is `Memory` where a limit is passed.
+    #[inline(always)]
+    pub(crate) fn first_way(
+        &mut self,
+        task: &Task<'_>,
+        fragment: &Fragment,
+        ix: usize,
+        memo: &mut Memo,
+    ) -> Result<FirstWay, Error>
+        requires place { IsTrue (is_place task.now.text.now ix) }
+        requires memo { IsJoinedMemoFor task.now.text.now fragment.now memo.old }
+        ensures first { IfOk result (IsFirstWayOf task.now.text.now fragment.now ix) }
+        ensures ascends { IfOk result HasAscending }
+        ensures memo { IsJoinedMemoFor task.now.text.now fragment.now memo.new }
+        ensures choices { IfOk result
+            (ChoicesLead task.now.text.now (joined_nfa fragment.now) memo.new) }
+        ensures within { OnOk result (passed_by task.now.limits self.new ≡ None) }
+        ensures visits { IfOk result
+            (λ found. self.new.visits ≡ min u64.MAX (self.old.visits + found.visits)) }
+        ensures bytes { self.new.bytes ≡ min usize.MAX
+            (self.old.bytes - held_by task.now.limits memo.old + held_by task.now.limits memo.new) }
+    {
+        self.bytes = self.bytes.saturating_sub(task.limits.held(memo));
+        memo.limit(task.limits.left(*self));
+        let way = first_way_joined(task.alloc, fragment, task.text, ix, memo);
+        let visits = match &way {
+            Ok(found) => found.visits,
+            Err(_) => memo.visits(),
+        };
+        self.visits = self.visits.saturating_add(visits);
+        self.bytes = self.bytes.saturating_add(task.limits.held(memo));
+        if task.limits.passed_by(*self).is_some() {
+            return Err(Error::Memory);
+        }
+        way
+    }
+}

@@ -1,9 +1,0 @@
-use Rattle.std.proofs.Common.{length, ◌+◌, ◌-◌}
-use Rattle.fancy_vm.specs.MemoRuns.{AddsNoMemo}
-use Rattle.fancy_vm.proofs.memos.grow.Given as goal
-
-abbrev pub invariant-places : goal.invariant-places
-invariant-places l = AddsNoMemo l.initial.by_place.items l.by_place.items
-
-abbrev pub decreases-places : goal.decreases-places
-decreases-places l = l.pc + 1 - length l.by_place.items

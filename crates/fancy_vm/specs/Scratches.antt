@@ -1,0 +1,33 @@
+-- What a scratch holds, and what its last run took.
+use Rattle.std.specs.Prelude.{◌≡◌, Option, Some, None}
+use Rattle.std.specs.declared.alloc.Global.{Global}
+use Rattle.fancy_steps.specs.SearchLimits.{no_cost, passed_by}
+use Rattle.fancy_steps.specs.declared.memos.Memos.{Memos}
+use Rattle.fancy_steps.specs.declared.search_limits.SearchCost.{SearchCost}
+use Rattle.fancy_steps.specs.declared.search_limits.SearchLimit.{SearchLimit}
+use Rattle.fancy_steps.specs.declared.search_limits.SearchLimits.{SearchLimits}
+use Rattle.fancy_vm.specs.declared.runs.Scratch.{Scratch}
+
+-- the allocator of what a scratch holds
+abbrev pub allocator_of : Scratch → Global
+allocator_of s = (s.room).alloc
+
+-- it holds no memory
+abbrev pub IsUnused : Scratch → Type 0
+IsUnused s =
+    ((s.room).state ≡ None) × (((s.room).memos ≡ None) × (((s.room).longest ≡ None) × (((s.room).filters).filter ≡ None)))
+
+abbrev pub cost_in : Option Memos → SearchCost
+cost_in None = no_cost
+cost_in (Some memos) = memos.cost
+
+abbrev pub limits_of : Scratch → SearchLimits
+limits_of s = s.limits
+
+-- what the delegates of its last run took
+abbrev pub cost_of : Scratch → SearchCost
+cost_of s = cost_in (s.room).memos
+
+-- the limit that its last run passed
+abbrev pub passed_of : Scratch → Option SearchLimit
+passed_of s = passed_by (limits_of s) (cost_of s)
