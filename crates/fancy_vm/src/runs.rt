@@ -67,6 +67,7 @@ impl Drop for Room {
 }
 
 impl Scratch {
+    ghost use Rattle.fancy_steps.specs.SearchLimits.{no_cost};
     ghost use Rattle.fancy_vm.specs.Scratches.{cost_of};
 
     /// Holds no memory yet, and takes none. There is no limit.
@@ -92,6 +93,7 @@ impl Scratch {
     pub fn limit(&mut self, limits: SearchLimits)
         ensures limits { limits_of self.new ≡ limits }
         ensures passed { passed_of self.new ≡ None }
+        ensures cost { cost_of self.new ≡ no_cost }
     {
         self.limits = limits;
         self.room.forget_cost();
