@@ -48,6 +48,8 @@ pub struct Machine<'a> {
     /// How many instructions after the first one stand for the last step that passed over starts, rounds or turns of a
     /// loop, or an atomic part.
     pub passed: u64,
+    /// The run prefilter was asked of all starts before this byte: in vain, where the search comes to one.
+    pub(crate) asked: usize,
     /// The atomic parts made in one step that went far.
     pub(crate) far_parts: FarMatches,
     pub state: State,
@@ -195,6 +197,7 @@ impl<'a> Machine<'a> {
             start: pos,
             backtracks: 0,
             passed: 0,
+            asked: 0,
             far_parts: FarMatches::none(),
             state,
             longest,
