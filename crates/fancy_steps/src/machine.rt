@@ -7,7 +7,7 @@ ghost use Rattle.fancy_state.specs.Held.{first_held};
 ghost use Rattle.fancy_steps.specs.Sound.{IsSound};
 ghost use Rattle.fancy_steps.specs.LookBehindCaches.{IsLookBehindCache};
 ghost use Rattle.fancy_steps.specs.TrailingNewlines.{AreTrailingNewlines};
-ghost use Rattle.fancy_steps.specs.Turns.{IsKeptRun};
+ghost use Rattle.fancy_steps.specs.Turns.{AreKeptRuns};
 ghost use Rattle.fancy_program.specs.Programs.{prog_of};
 
 use crate::far_matches::FarMatches;
@@ -16,7 +16,7 @@ use crate::look_behind_cache::LookBehindCache;
 use crate::options::RunOptions;
 use crate::search_limits::SearchLimits;
 use crate::trailing_newlines::TrailingNewlines;
-use crate::turns::KeptRun;
+use crate::turns::KeptRuns;
 use fancy_expr::error::{Error, RuntimeError};
 use fancy_program::insn::Prog;
 use fancy_state::state::State;
@@ -59,12 +59,12 @@ pub struct Machine<'a> {
     pub(crate) trailing_newlines: TrailingNewlines,
     /// What the last long step back found.
     pub(crate) look_behind_cache: LookBehindCache,
-    /// The last long run of bytes that the body of a counted loop took one by one.
-    pub(crate) kept_run: KeptRun,
+    /// The long runs of bytes that the bodies of counted loops took one by one.
+    pub(crate) kept_runs: KeptRuns,
     ghost sound: { IsSound task state },
     ghost are_trailing_newlines: { AreTrailingNewlines task.text.now trailing_newlines },
     ghost is_cache: { IsLookBehindCache task.text.now look_behind_cache },
-    ghost is_kept_run: { IsKeptRun (prog_of task.prog.now).body task.text.now kept_run },
+    ghost are_kept_runs: { AreKeptRuns (prog_of task.prog.now).body task.text.now kept_runs },
 }
 
 /// How far a step goes at the beginning of an atomic part.
@@ -203,7 +203,7 @@ impl<'a> Machine<'a> {
             longest,
             trailing_newlines: TrailingNewlines::new(),
             look_behind_cache: LookBehindCache::new(),
-            kept_run: KeptRun::new(),
+            kept_runs: KeptRuns::new(task.alloc),
         }
     }
 

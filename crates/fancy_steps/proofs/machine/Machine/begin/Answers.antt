@@ -25,7 +25,7 @@ invariant_of-result c =
           (record { slots = len; small = omega (arith, len); max_stack = refl; implicit = c.requires.implicit });
       are_trailing_newlines = c.new.ensures c.args.task.now.text.now;
       is_cache = c.new-2.ensures c.args.task.now.text.now;
-      is_kept_run = c.new-3.ensures (prog_of c.args.task.now.prog.now).body c.args.task.now.text.now;
+      are_kept_runs = c.new-3.ensures (prog_of c.args.task.now.prog.now).body c.args.task.now.text.now;
     }
 
 pub returns-clause-begins : goal.returns-clause-begins
