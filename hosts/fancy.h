@@ -123,7 +123,8 @@ struct fancy_scanner {
  *
  * Parts of a pattern without look-around, references and the like are searched for by an automaton, and a search that may
  * take long is one of these parts: no limit of steps or of backtracks reaches into it. visit_limit says how many states
- * all these parts may take up in one search together, and memory_limit how many bytes what they keep may hold at one time.
+ * all these parts may take up in one search together, and memory_limit how many bytes what they keep may hold at one time;
+ * outside these parts, the places to which a search may fall back may hold as many (the machine looks at each 64th).
  * A state costs some 20 to 100 ns, so the default of 100,000,000 bounds a search to several seconds at worst; everyday
  * patterns need a few for each byte of the text, if any. A search that passes one of both is FANCY_VISIT_LIMIT_EXCEEDED
  * or FANCY_MEMORY_LIMIT_EXCEEDED. With both unset an easy tree passes no limit but those of its own steps and backtracks,
@@ -162,7 +163,7 @@ struct fancy_options {
 
     /* of searches: see above */
     uint64_t visit_limit;      /* how many states a search may visit in parts that an automaton searches for; 100,000,000 */
-    size_t memory_limit;       /* how many bytes it may keep for that; 268,435,456 (256 MiB) */
+    size_t memory_limit;       /* how many bytes it may keep there and elsewhere; 268,435,456 (256 MiB) */
 
     uint64_t reserved[2];      /* 0: room for options to come, so that the struct keeps its size */
 };

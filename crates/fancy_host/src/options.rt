@@ -66,7 +66,7 @@ pub struct FancyOptions {
     pub named_groups_only: bool,
     /// How many states the delegates of a search may take up together; 0 is no limit.
     pub visit_limit: u64,
-    /// How many bytes what they keep may hold at one time; 0 is no limit.
+    /// How many bytes what they keep may hold at one time, and as many the branches of the search; 0 is no limit.
     pub memory_limit: usize,
     pub reserved: Reserved,
 }

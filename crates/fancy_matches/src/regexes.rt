@@ -108,7 +108,7 @@ impl Regex {
         })
     }
 
-    /// The delegates of each later search may take so much together, and there is no such limit before. A search that
+    /// Each later search may take so much, its delegates together, and there is no such limit before. A search that
     /// passes one is `Error::Memory`, and `passed` tells which.
     pub fn limit(&mut self, limits: SearchLimits)
         ensures compiled { compiled_of self.new ≡ compiled_of self.old }

@@ -223,8 +223,9 @@ impl<'p> RegexBuilder<'p> {
         }
     }
 
-    /// How many bytes a search may keep at one time for plain parts of the pattern, or with `None` any number. Unless set it
-    /// is 256 MiB. A search that keeps more is `Error::MemoryLimitExceeded`.
+    /// How many bytes a search may keep at one time for plain parts of the pattern, and as many for the places to which it
+    /// may fall back elsewhere, or with `None` any number. Unless set it is 256 MiB. A search that keeps more is
+    /// `Error::MemoryLimitExceeded`.
     #[must_use]
     pub fn memory_limit(self, limit: Option<usize>) -> RegexBuilder<'p>
         ensures { result ≡ with_options self.entry

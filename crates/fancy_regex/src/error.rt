@@ -27,7 +27,7 @@ pub enum Error {
     NestLimitExceeded,
     /// A search visited more states of plain parts of the pattern than `visit_limit` allows.
     VisitLimitExceeded,
-    /// A search kept more bytes for plain parts of the pattern than `memory_limit` allows.
+    /// A search kept more bytes for plain parts of the pattern, or to fall back, than `memory_limit` allows.
     MemoryLimitExceeded,
     /// A request for memory was refused.
     Memory,

@@ -18,7 +18,7 @@ pub enum ScanLimit {
     /// The delegates of the search took up more states than `SearchLimits::visits` allows.
     #[error("too many states were visited")]
     VisitLimitExceeded,
-    /// They held more bytes than `SearchLimits::bytes` allows.
+    /// They, or the branches of the search, held more bytes than `SearchLimits::bytes` allows.
     #[error("too much memory was held")]
     MemoryLimitExceeded,
 }

@@ -101,7 +101,7 @@ impl ScanTree {
         Ok(ScanTree { regex, lasting })
     }
 
-    /// The delegates of each search for the tree may take so much together; before, there is no such limit. A search that
+    /// Each search for the tree may take so much, its delegates together; before, there is no such limit. A search that
     /// passes one is told as stopped by it.
     pub fn limit(&mut self, limits: SearchLimits)
         ensures { (r : Rule) (text : List ℕ)

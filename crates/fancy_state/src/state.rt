@@ -1,6 +1,6 @@
 //! Slots, an explicit stack, and the branches that a run can fall back to.
 
-ghost use Rattle.std.specs.Prelude.{◌≡◌, ◌-◌, ◌<◌, ◌≤◌, [], ◌∷◌, None, Some, nat_le, nat_lt, length, drop, take, reverse, slice_index, slice_set, IfOk, OnOk, OnErr, IfErr, MatchOption};
+ghost use Rattle.std.specs.Prelude.{◌≡◌, ◌*◌, ◌-◌, ◌<◌, ◌≤◌, [], ◌∷◌, None, Some, min, nat_le, nat_lt, length, drop, take, reverse, slice_index, slice_set, IfOk, OnOk, OnErr, IfErr, MatchOption};
 ghost use Rattle.fancy_state.specs.Held.{below, first_held, held_branch};
 ghost use Rattle.fancy_state.specs.Refused.{IsRefused, IsMemory};
 ghost use Rattle.fancy_state.specs.OldValues.{IsNewest};
@@ -9,6 +9,12 @@ use crate::old_values::Cells;
 use fancy_expr::error::{Error, RuntimeError};
 use std::alloc::{AllocError, Global};
 use std::marker::Model;
+
+/// How many bytes a branch holds.
+const BRANCH: usize = 24;
+
+/// How many bytes a change holds that is logged.
+const CHANGE: usize = 16;
 
 /// What a failure falls back to.
 #[derive(Drop)]
@@ -303,6 +309,15 @@ impl State {
         ensures { result ≡ length self.now.branches }
     {
         self.branches.len()
+    }
+
+    /// How many bytes the branches and the log hold, each entry by its size, which is 24 for a branch. With what vectors
+    /// keep spare it may be twice as much.
+    pub fn bytes(&self) -> usize
+        ensures { min usize.MAX (24 * length self.now.branches) ≤ result }
+    {
+        let branches = self.backtrack_count().saturating_mul(BRANCH);
+        branches.saturating_add(self.cells.mark().saturating_mul(CHANGE))
     }
 
     /// Keeps the first `count` branches, of which there are so many, the slots and the explicit stack: each kept branch

@@ -25,6 +25,9 @@ use std::alloc::{AllocError, Global};
 /// How many branches a run may hold.
 pub const MAX_BRANCHES: usize = 1_000_000;
 
+/// At each so many branches the machine looks at how many bytes it holds.
+const LOOK: usize = 64;
+
 /// What is run, on what, and how.
 #[derive(Clone, Copy)]
 pub struct Task<'a> {
@@ -316,7 +319,28 @@ impl<'a> Machine<'a> {
         if self.state.is_full() {
             return Err(Stop::Limit(RuntimeError::StackOverflow));
         }
+        if self.state.backtrack_count() % LOOK == 0 && self.holds_too_much() {
+            return Err(Stop::Memory);
+        }
         self.state.add_branch(pc, self.ix)?;
         Ok(())
+    }
+
+    /// The branches and the log hold more bytes than the limit allows.
+    #[cold]
+    #[inline(never)]
+    fn holds_too_much(&self) -> bool {
+        match self.task.limits.bytes {
+            None => false,
+            Some(most) => self.state.bytes() > most,
+        }
+    }
+
+    /// How many bytes the branches and the log hold, where these are limited.
+    pub fn held_bytes(&self) -> usize {
+        match self.task.limits.bytes {
+            None => 0,
+            Some(_) => self.state.bytes(),
+        }
     }
 }

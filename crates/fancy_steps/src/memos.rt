@@ -1,6 +1,6 @@
 //! What searches and one-pass matches of delegates have noted, for later ones of the same run.
 
-ghost use Rattle.std.specs.Prelude.{◌≡◌, ◌<◌, Some, None, length, slice_get, slice_set, IfOk, IsTrue, OnOk};
+ghost use Rattle.std.specs.Prelude.{◌≡◌, ◌<◌, Some, None, length, max, slice_get, slice_set, IfOk, IsTrue, OnOk};
 ghost use Rattle.fancy_meaning.specs.Places.{is_place};
 ghost use Rattle.fancy_fragments.specs.Fragments.{HasNoWayFrom, IsFirstWayOf, IsOnePassOf, IsOnePassWayOf, joined_nfa};
 ghost use Rattle.fancy_plain.specs.FoundEnds.{ChoicesEndAt, ChoicesLead};
@@ -186,6 +186,14 @@ impl Memos {
         ensures { self.new.cost ≡ no_cost }
     {
         self.cost = SearchCost::none();
+    }
+
+    /// The machine of this run holds so many bytes besides. What is more counts.
+    pub fn count_bytes(&mut self, bytes: usize)
+        ensures visits { self.new.cost.visits ≡ self.old.cost.visits }
+        ensures bytes { self.new.cost.bytes ≡ max self.old.cost.bytes bytes }
+    {
+        self.cost.bytes = self.cost.bytes.max(bytes);
     }
 
     /// For another run, of which nothing is noted yet. What was taken up counts on.

@@ -15,13 +15,14 @@ use fancy_fragments::first_way::first_way_joined;
 use fancy_fragments::fragment::Fragment;
 use fancy_plain::first_way::FirstWay;
 
-/// How much the searches of the delegates of one run may take together. Without a limit they may take as much as can
-/// be counted.
+/// How much the searches of the delegates of one run may take together, and how many bytes the run may hold. Without a
+/// limit they may take as much as can be counted.
 #[derive(Clone, Copy, Debug)]
 pub struct SearchLimits {
     /// How many states they may take up.
     pub visits: Option<u64>,
-    /// How many bytes what they keep may hold at one time.
+    /// How many bytes what they keep may hold at one time, and as many the branches of the run and its log together. Those
+    /// are looked at where 64 branches are added.
     pub bytes: Option<usize>,
 }
 
@@ -32,12 +33,13 @@ pub enum SearchLimit {
     Bytes,
 }
 
-/// What the searches of the delegates of one run took.
+/// What one run took.
 #[derive(Clone, Copy, Debug)]
 pub struct SearchCost {
-    /// How many states they took up.
+    /// How many states the searches of its delegates took up.
     pub visits: u64,
-    /// How many bytes what they keep holds, where these are limited; they are not counted where they are not.
+    /// How many bytes what these keep holds, or its branches and its log, whichever is more. Where bytes are not limited
+    /// they are not counted.
     pub bytes: usize,
 }
 

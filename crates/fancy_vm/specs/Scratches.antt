@@ -24,7 +24,7 @@ cost_in (Some memos) = memos.cost
 abbrev pub limits_of : Scratch → SearchLimits
 limits_of s = s.limits
 
--- what the delegates of its last run took
+-- what its last run took
 abbrev pub cost_of : Scratch → SearchCost
 cost_of s = cost_in (s.room).memos
 

@@ -89,7 +89,7 @@ impl Scratch {
         }
     }
 
-    /// The delegates of each later run may take so much together.
+    /// Each later run may take so much, its delegates together.
     pub fn limit(&mut self, limits: SearchLimits)
         ensures limits { limits_of self.new ≡ limits }
         ensures passed { passed_of self.new ≡ None }
@@ -99,7 +99,7 @@ impl Scratch {
         self.room.forget_cost();
     }
 
-    /// How much the delegates of a run may take.
+    /// How much a run may take.
     pub fn limits(&self) -> SearchLimits
         ensures { result ≡ limits_of self.now }
     {
@@ -235,6 +235,12 @@ pub fn run_default(
     run(alloc, prog, text, &RunOptions::from_pos(pos), &mut scratch)
 }
 
+/// The run ended for want of memory.
+#[inline(always)]
+fn wants_memory<T>(answer: &Result<T, Error>) -> bool {
+    matches!(answer, Err(Error::Memory))
+}
+
 impl Room {
     ghost use Rattle.fancy_steps.specs.SearchLimits.{no_cost};
     ghost use Rattle.fancy_vm.specs.Scratches.{cost_in};
@@ -325,7 +331,7 @@ impl Room {
             unreachable!()
         };
         let answer = m.answer(memos, numbers);
-        self.keep(m);
+        self.keep(m, wants_memory(&answer));
         answer
     }
 
@@ -342,7 +348,7 @@ impl Room {
             unreachable!()
         };
         let answer = m.answer_pair(memos);
-        self.keep(m);
+        self.keep(m, wants_memory(&answer));
         answer
     }
 
@@ -434,11 +440,23 @@ impl Room {
         }
     }
 
-    /// Keeps the memory of a run for the next one.
+    /// Keeps the memory of a run for the next one. What it held counts where it ended for want of memory.
     #[inline(always)]
-    fn keep(&mut self, m: Machine<'_>) {
+    fn keep(&mut self, m: Machine<'_>, wants_memory: bool) {
+        if wants_memory {
+            self.count_bytes(m.held_bytes());
+        }
         let Machine { state, longest, .. } = m;
         self.state = Some(state);
         self.longest = Some(longest);
+    }
+
+    /// The machine of the run held so many bytes.
+    #[cold]
+    #[inline(never)]
+    fn count_bytes(&mut self, bytes: usize) {
+        if let Some(memos) = &mut self.memos {
+            memos.count_bytes(bytes);
+        }
     }
 }

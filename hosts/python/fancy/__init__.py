@@ -47,7 +47,7 @@ def compile(pattern: AnyPattern, flags: int = 0, **options: Any) -> Pattern:
 
     Options: backtrack_limit (how often a search may fall back to a branch), step_limit (how many instructions it may
     execute), visit_limit (how many states it may visit in the parts that an automaton searches for; 100,000,000, some
-    seconds at worst, and 0 is no limit), memory_limit (how many bytes it may keep for them; 256 MiB, and 0 is no limit),
+    seconds at worst, and 0 is no limit), memory_limit (how many bytes it may keep there, or to fall back; 256 MiB, and 0 is no limit),
     max_prog_size (how many instructions the program of a pattern may have), max_nesting (how many nodes may be
     written out in one another), find_not_empty (a match has to take something), leftmost_longest (the longest match at the
     earliest start is found, and not the first), and crlf, swap_greed, oniguruma and
