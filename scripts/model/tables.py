@@ -4,7 +4,7 @@ import re
 from pathlib import Path
 
 ROOT = Path(__file__).resolve().parent.parent.parent
-TABLES = re.compile(r"^const TABLES: \[&str; \d+\] = \[(.*?)\];", re.M | re.S)
+TABLES = re.compile(r"^(?:const|static) TABLES: \[&str; \d+\] = \[(.*?)\];", re.M | re.S)
 
 
 def table(name):

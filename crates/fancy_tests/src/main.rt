@@ -34,7 +34,7 @@ use crate::tables::print_table;
 use fancy_regex_engine::vm::Scratch;
 use std::io;
 
-const TABLES: [&str; 50] = [
+static TABLES: [&str; 50] = [
     "searches/example",
     "searches/answers",
     "searches/everyday",
@@ -90,7 +90,7 @@ const TABLES: [&str; 50] = [
 fn main(rt: HostRuntime) -> io::Result<()> {
     // One scratch serves all rows.
     let mut scratch = Scratch::new(rt.alloc());
-    for table in TABLES {
+    for table in &TABLES {
         print_table(&rt, table, &mut scratch)?;
     }
     Ok(())

@@ -22,7 +22,7 @@ enum Kind {
 }
 
 /// Each option: its name, its letter if it has one, what is written, and what it says.
-const OPTIONS: [(&str, Option<char>, Kind, &str); 19] = [
+static OPTIONS: [(&str, Option<char>, Kind, &str); 19] = [
     (
         "fixed-strings",
         Some('F'),
@@ -180,8 +180,8 @@ pub fn command<'a>(alloc: Global) -> Result<Command<'a>, AllocError> {
         .no_binary_name(true)
         .arg(pattern)?
         .arg(files)?;
-    for (name, letter, kind, help) in OPTIONS {
-        command = command.arg(argument(alloc, name, letter, kind, help))?;
+    for (name, letter, kind, help) in &OPTIONS {
+        command = command.arg(argument(alloc, name, *letter, *kind, help))?;
     }
     Ok(command)
 }

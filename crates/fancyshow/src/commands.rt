@@ -90,7 +90,7 @@ enum Kind {
 }
 
 /// Each part: its name, what it takes, and what it is for.
-const PARTS: [(&str, Takes, &str); 11] = [
+static PARTS: [(&str, Takes, &str); 11] = [
     ("find", Takes::Place, "The first match and its groups"),
     ("why", Takes::Place, WHY),
     ("all", Takes::Text, "All matches, each marked in the text"),
@@ -117,7 +117,7 @@ const PARTS: [(&str, Takes, &str); 11] = [
 ];
 
 /// Each argument: its name, the parts that take it, what is written, and what it says.
-const ARGUMENTS: [(&str, Takes, Kind, &str); 27] = [
+static ARGUMENTS: [(&str, Takes, Kind, &str); 27] = [
     ("PATTERN", Takes::Pattern, Kind::Word, "The pattern"),
     (
         "tree",
@@ -298,9 +298,9 @@ fn part<'a>(
     about: &'a str,
 ) -> Result<Command<'a>, AllocError> {
     let mut part = Command::new(alloc, name).about(about);
-    for (name, of, kind, help) in ARGUMENTS {
-        if takes.has(of) {
-            part = part.arg(argument(alloc, name, kind, help))?;
+    for (name, of, kind, help) in &ARGUMENTS {
+        if takes.has(*of) {
+            part = part.arg(argument(alloc, name, *kind, help))?;
         }
     }
     Ok(part)
@@ -315,8 +315,8 @@ pub fn command<'a>(alloc: Global) -> Result<Command<'a>, AllocError> {
         .no_binary_name(true)
         .subcommand_required(true)
         .arg_required_else_help(true);
-    for (name, takes, about) in PARTS {
-        command = command.subcommand(part(alloc, name, takes, about)?)?;
+    for (name, takes, about) in &PARTS {
+        command = command.subcommand(part(alloc, name, *takes, about)?)?;
     }
     Ok(command)
 }

@@ -11,7 +11,7 @@ pub struct Style {
 }
 
 /// The styles, each with the beginning of the names that have it. The first that fits is taken.
-const STYLES: [(&str, Style); 16] = [
+static STYLES: [(&str, Style); 16] = [
     (
         "comment",
         Style {
@@ -128,9 +128,9 @@ const STYLES: [(&str, Style); 16] = [
 
 /// The style of a name, if it has one.
 fn style_of_name(name: &str) -> Option<Style> {
-    for (beginning, style) in STYLES {
+    for (beginning, style) in &STYLES {
         if name.starts_with(beginning) {
-            return Some(style);
+            return Some(*style);
         }
     }
     None
