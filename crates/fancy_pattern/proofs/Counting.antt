@@ -17,6 +17,7 @@ use Rattle.fancy_tokens.specs.Tokens.{Target, Name, Number, Nowhere, Reference, 
 use Rattle.fancy_pattern.specs.Naming.{numbers_of}
 use Rattle.fancy_tokens.specs.Nesting.{group_opened_by, opened_by}
 use Rattle.fancy_pattern.specs.Grammar.{Names, Takes, named, unresolved, several, by_groups, by_target, reference, node_of, opening, bar, closing, class_open, class_text, class_close, quantifier, suffix, suffixed, enclosed, is_empty, joined, branch_of, alternated, SpellsClass, class_end, class_piece, SpellsSuffix, no_suffix, a_suffix, SpellsAtom, node, class, opened, SpellsOpened, around, group, stopper, expression, asked, if_group, if_pattern, if_look, SpellsBodies, one_body, two_bodies, SpellsPiece, plain, quantified, SpellsPieces, no_piece, piece, SpellsBranch, branch, SpellsBars, no_bar, barred, SpellsAlternatives, branches}
+use Rattle.fancy_pattern.proofs.Namesakes.{several_nodes}
 use Rattle.fancy_pattern.proofs.FoundTokens.{FineToken, opened_in}
 
 count : List Tree → ℕ
@@ -62,11 +63,8 @@ same_tree : (e d : Tree) → count (nodes e) ≡ 0 → Some e ≡ Some d → cou
 same_tree e d h is = let same : e ≡ d = cc in subst (λ t. count (nodes t) ≡ 0) same h
 
 several_count : (n : Naming) (level : Option ℤ) (gs : List ℕ) (e : Tree) → several n level gs ≡ Some e → count (nodes e) ≡ 0
-several_count (naming.Backref casei) level gs e is =
-    same_tree _ e (alt_count (map (named (naming.Backref casei) level) (reverse gs)) ∙ all_named (naming.Backref casei) level (reverse gs)) is
-several_count naming.Exists level gs e is =
-    same_tree _ e (alt_count (map (named naming.Exists level) (reverse gs)) ∙ all_named naming.Exists level (reverse gs)) is
-several_count naming.Call level gs e is = absurd (cc)
+several_count n level gs e is =
+    same_tree _ e (alt_count (map (named n level) (reverse gs)) ∙ all_named n level (reverse gs)) (several_nodes n level gs e is)
 
 by_groups_count : (n : Naming) (level : Option ℤ) (gs : List ℕ) (e : Tree) → by_groups n level gs ≡ Some e → count (nodes e) ≡ 0
 by_groups_count n level [] e is = same_tree _ e (unresolved_count n) is

@@ -23,6 +23,7 @@ use Rattle.fancy_pattern.specs.Naming.{numbers_of, named_in, named_of, named_ope
 use Rattle.fancy_pattern.specs.Stuck.{Within, whole, past}
 use Rattle.fancy_pattern.specs.Grammar.{Names, Takes, named, unresolved, several, by_groups, by_target, reference, node_of, opening, class_of, quantifier, suffixed, enclosed, is_empty, joined, alternated, SpellsAtom, node, class, opened, SpellsOpened, around, group, stopper, expression, asked, if_group, if_pattern, if_look, SpellsBodies, one_body, two_bodies, SpellsPiece, plain, quantified, SpellsPieces, no_piece, piece, SpellsBranch, branch, SpellsBars, no_bar, barred, SpellsAlternatives, branches}
 use Rattle.fancy_pattern.proofs.Splits as splits
+use Rattle.fancy_pattern.proofs.Namesakes.{several_nodes}
 use Rattle.fancy_pattern.proofs.FoundTokens.{FineToken, FineTarget, FineOpening, FineReference, FineCounts, FineBut}
 
 each_append : {X : Type 0} (P : X → Type 0) (xs ys : List X) → Each P xs → Each P ys → Each P (xs ++ ys)
@@ -102,11 +103,8 @@ same_fine e d h is = let same : e ≡ d = cc in subst AllFine same h
 
 several_fine : (n : Naming) (level : Option ℤ) (g : ℕ) (gs : List ℕ) (e : Tree) → Each IsUsize (g ∷ gs) → IfSome level (FitsSigned w64) →
     several n level (g ∷ gs) ≡ Some e → AllFine e
-several_fine (naming.Backref casei) level g gs e h k is =
-    same_fine _ e (alt_fine (naming.Backref casei) level (reverse (g ∷ gs)) (some_reversed g gs) (each_reverse (g ∷ gs) h) k) is
-several_fine naming.Exists level g gs e h k is =
-    same_fine _ e (alt_fine naming.Exists level (reverse (g ∷ gs)) (some_reversed g gs) (each_reverse (g ∷ gs) h) k) is
-several_fine naming.Call level g gs e h k is = absurd (cc)
+several_fine n level g gs e h k is =
+    same_fine _ e (alt_fine n level (reverse (g ∷ gs)) (some_reversed g gs) (each_reverse (g ∷ gs) h) k) (several_nodes n level (g ∷ gs) e is)
 
 by_groups_fine : (n : Naming) (level : Option ℤ) (gs : List ℕ) (e : Tree) → Each IsUsize gs → IfSome level (FitsSigned w64) → by_groups n level gs ≡ Some e →
     AllFine e

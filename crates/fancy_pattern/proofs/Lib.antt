@@ -4,6 +4,7 @@ pub mod Lexed
 pub mod NamedGroups
 pub mod NodeStacks
 pub mod MadeNodes
+pub mod Namesakes
 pub mod OneChars
 pub mod Points
 pub mod Literals

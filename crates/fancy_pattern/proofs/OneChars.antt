@@ -20,6 +20,7 @@ use Rattle.fancy_tokens.specs.Tokens.{Target, Name, Number, Nowhere, Reference}
 use Rattle.fancy_pattern.specs.Naming.{numbers_of}
 use Rattle.fancy_pattern.specs.Grammar.{Names, named, unresolved, several, by_groups, by_target, reference}
 use Rattle.fancy_pattern.specs.Reading.{OneCharEach}
+use Rattle.fancy_pattern.proofs.Namesakes.{several_nodes}
 
 each_append : {X : Type 0} (P : X → Type 0) (xs ys : List X) → Each P xs → Each P ys → Each P (xs ++ ys)
 each_append P [] ys h k = k
@@ -69,9 +70,7 @@ same_none : (e d : Tree) → NoLiterals e → Some e ≡ Some d → NoLiterals d
 same_none e d h is = let same : e ≡ d = cc in subst NoLiterals same h
 
 several_none : (n : Naming) (level : Option ℤ) (gs : List ℕ) (e : Tree) → several n level gs ≡ Some e → NoLiterals e
-several_none (naming.Backref casei) level gs e is = same_none _ e (tt, row_none (naming.Backref casei) level (reverse gs)) is
-several_none naming.Exists level gs e is = same_none _ e (tt, row_none naming.Exists level (reverse gs)) is
-several_none naming.Call level gs e is = absurd (cc)
+several_none n level gs e is = same_none _ e (tt, row_none n level (reverse gs)) (several_nodes n level gs e is)
 
 by_groups_none : (n : Naming) (level : Option ℤ) (gs : List ℕ) (e : Tree) → by_groups n level gs ≡ Some e → NoLiterals e
 by_groups_none n level [] e is = same_none _ e (unresolved_none n) is

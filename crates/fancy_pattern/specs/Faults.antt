@@ -28,7 +28,8 @@ referring (Refer r) = Some r
 referring (Open o) = asked_by o
 referring t = None
 
--- the fault is at the next token, or at the name in it where several groups have that name, so it cannot be called
+-- the fault is at the next token, or at the name in it: several groups have that name, so it cannot be called, or too
+-- many, so it cannot be referred to
 pub data IsPlace (names : Names) (f : Fault) (x : List Placed) : Type 0 where
   at_token : MisfitAt f x → IsPlace names f x
   at_name : (r : Reference) → first_gives referring x ≡ Some r → reference names r ≡ None →

@@ -1,6 +1,6 @@
 -- The grammar: which tokens spell which tree, as a relation between the tokens before it and those behind. Names are
 -- resolved by the groups that have them, each with its number.
-use Rattle.std.specs.Prelude.{◌≡◌, ℕ, ℤ, ◌-◌, ◌^◌, Bool, true, false, not, List, [], ◌∷◌, ◌++◌, map, reverse, filter, encode_utf8_all, Option, Some, None}
+use Rattle.std.specs.Prelude.{◌≡◌, ℕ, ℤ, ◌-◌, ◌^◌, Bool, true, false, not, List, [], ◌∷◌, ◌++◌, length, map, reverse, filter, encode_utf8_all, Option, Some, None, if◌then◌else◌, nat_le}
 use Rattle.fancy_meaning.specs.Tree as tree
 use Rattle.fancy_meaning.specs.Tree.{Tree, trees}
 use Rattle.fancy_expr.specs.Views.{look_of, bound_of}
@@ -34,12 +34,17 @@ unresolved (naming.Backref casei) = tree.AstNode tree.UnresolvedOther
 unresolved naming.Exists = tree.AstNode tree.UnresolvedOther
 unresolved naming.Call = tree.AstNode tree.UnresolvedCall
 
--- a name that several groups have: each of them, the last first; it cannot be called
+-- so many groups may have a name that is referred to
+abbrev pub most_namesakes : ℕ
+most_namesakes = 100
+
+-- a name that several groups have: each of them, the last first, unless they are too many; it cannot be called
 abbrev pub several : Naming → Option ℤ → List ℕ → Option Tree
-several (naming.Backref casei) level gs =
-    Some (tree.Alt (trees (map (named (naming.Backref casei) level) (reverse gs))))
-several naming.Exists level gs = Some (tree.Alt (trees (map (named naming.Exists level) (reverse gs))))
 several naming.Call level gs = None
+several n level gs =
+    if nat_le (length gs) most_namesakes
+    then Some (tree.Alt (trees (map (named n level) (reverse gs))))
+    else None
 
 -- by the groups that have the name
 abbrev pub by_groups : Naming → Option ℤ → List ℕ → Option Tree

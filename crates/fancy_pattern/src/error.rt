@@ -62,8 +62,9 @@ fn kind_text(kind: ErrorKind) -> &'static str
         ErrorKind::InvalidGroupName => {
             "this names no group: a letter or `_` is wanted, or a number, and what closes it"
         }
-        ErrorKind::InvalidGroupNameBackref =>
-            "several groups have this name, so it cannot be called",
+        ErrorKind::InvalidGroupNameBackref => {
+            "several groups have this name, so it cannot be called, or more than 100, so it cannot be referred to"
+        }
         ErrorKind::InvalidBackref => "the number is too large",
         ErrorKind::TargetNotRepeatable => "a quantifier follows nothing that can be repeated",
         ErrorKind::GeneralParseError => {

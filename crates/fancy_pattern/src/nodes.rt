@@ -1,6 +1,6 @@
 //! The nodes of the tree that is made.
 
-ghost use Rattle.std.specs.Prelude.{◌≡◌, ◌++◌, ◌∷◌, [], map, reverse, not, filter, true, false, IfOk, IfErr, IfSome, OnOk, encode_utf8_all, string_bytes, Some, if◌then◌else◌};
+ghost use Rattle.std.specs.Prelude.{◌≡◌, ◌++◌, ◌∷◌, [], map, reverse, not, filter, true, false, IfOk, IfErr, IfSome, OnOk, encode_utf8_all, string_bytes, Some, None, if◌then◌else◌};
 ghost use Rattle.fancy_meaning.specs.Tree as tree;
 ghost use Rattle.fancy_meaning.specs.Tree.{trees};
 ghost use Rattle.fancy_expr.specs.Views.{tree_of};
@@ -24,6 +24,9 @@ use fancy_tokens::error::{ErrorKind, Fault};
 use fancy_tokens::kept::Kept;
 use fancy_tokens::tokens::{Enclosing, Leaf, Naming, Quantifier, Reference, Suffix, Target, Token};
 use std::alloc::{AllocError, Global};
+
+/// So many groups may have a name that is referred to.
+const MOST_NAMESAKES: usize = 100;
 
 /// The node of an atom without text.
 pub(crate) fn leaf(alloc: Global, leaf: Leaf) -> Result<Expr, AllocError>
@@ -159,7 +162,7 @@ fn each_group(
     Ok(Expr::Alt(nodes))
 }
 
-/// The node for these groups, which have the name, unless they are several and are called.
+/// The node for these groups, which have the name, unless they are several and are called, or too many.
 fn by_groups(
     alloc: Global,
     reference: Reference<'_>,
@@ -184,7 +187,17 @@ fn by_groups(
     }
 }
 
-/// The nodes for several groups, the last first.
+/// The fault of a name that begins here and that too many groups have.
+fn ambiguous_name(left: usize) -> Failure
+    ensures { NoNode None left result }
+{
+    Failure::Fault(Fault {
+        left,
+        kind: ErrorKind::InvalidGroupNameBackref,
+    })
+}
+
+/// The nodes for several groups, the last first, unless they are called, or too many.
 fn several(alloc: Global, reference: Reference<'_>, groups: &[usize]) -> Result<Expr, Failure>
     ensures made { IfOk result (λ e. Some (tree_of e)
         ≡ grammar.several reference.entry.naming reference.entry.level groups.now) }
@@ -192,11 +205,11 @@ fn several(alloc: Global, reference: Reference<'_>, groups: &[usize]) -> Result<
         (grammar.several reference.entry.naming reference.entry.level groups.now)
         reference.entry.left) }
 {
+    if groups.len() > MOST_NAMESAKES {
+        return Err(ambiguous_name(reference.left));
+    }
     match reference.naming {
-        Naming::Call => Err(Failure::Fault(Fault {
-            left: reference.left,
-            kind: ErrorKind::InvalidGroupNameBackref,
-        })),
+        Naming::Call => Err(ambiguous_name(reference.left)),
         Naming::Backref { .. } => Ok(each_group(alloc, reference.naming, reference.level, groups)?),
         Naming::Exists => Ok(each_group(alloc, reference.naming, reference.level, groups)?),
     }

@@ -21,6 +21,7 @@ use Rattle.fancy_pattern.specs.Stuck.{Within, whole, past}
 use Rattle.fancy_pattern.specs.Spelling.{HasTokens, every_group, named_groups, Spells}
 use Rattle.fancy_pattern.specs.Grammar.{Names, Takes, named, unresolved, several, by_groups, by_target, reference, node_of, quantifier, class_open, suffixed, enclosed, is_empty, is_repeatable, joined, alternated, SpellsClass, SpellsAtom, node, class, opened, SpellsOpened, around, group, stopper, expression, asked, if_group, if_pattern, if_look, SpellsBodies, one_body, two_bodies, SpellsPiece, plain, quantified, SpellsPieces, no_piece, piece, SpellsBranch, branch, SpellsBars, no_bar, barred, SpellsAlternatives, branches}
 use Rattle.fancy_pattern.proofs.Splits as splits
+use Rattle.fancy_pattern.proofs.Namesakes.{several_nodes}
 use Rattle.fancy_pattern.proofs.FoundTokens.{FineToken, FineCounts, tokens_fine}
 use Rattle.fancy_round_trip.specs.ClassTexts.{at_head, brackets, IsClass}
 use Rattle.fancy_round_trip.specs.Returning.{Returns, EachReturns, returns_assertion, none_empty}
@@ -87,10 +88,8 @@ hard_same : (e d : Tree) → is_plain e ≡ false → Some e ≡ Some d → is_p
 hard_same e d h is = let same : e ≡ d = cc in subst (λ t. is_plain t ≡ false) same h
 
 several_hard : (n : Naming) (level : Option ℤ) (g : ℕ) (gs : List ℕ) (e : Tree) → several n level (g ∷ gs) ≡ Some e → is_plain e ≡ false
-several_hard (naming.Backref casei) level g gs e is =
-    hard_same _ e (row_hard (naming.Backref casei) level (reverse (g ∷ gs)) (some_reversed g gs)) is
-several_hard naming.Exists level g gs e is = hard_same _ e (row_hard naming.Exists level (reverse (g ∷ gs)) (some_reversed g gs)) is
-several_hard naming.Call level g gs e is = absurd (cc)
+several_hard n level g gs e is =
+    hard_same _ e (row_hard n level (reverse (g ∷ gs)) (some_reversed g gs)) (several_nodes n level (g ∷ gs) e is)
 
 by_groups_hard : (n : Naming) (level : Option ℤ) (gs : List ℕ) (e : Tree) → by_groups n level gs ≡ Some e → is_plain e ≡ false
 by_groups_hard n level [] e is = hard_same _ e (unresolved_hard n) is
