@@ -53,7 +53,7 @@ sentences =
     ∷ codes "no flag stands here: one of `imsxRUu` is wanted"
     ∷ codes "the flag `u` cannot be cleared"
     ∷ codes "this names no group: a letter or `_` is wanted, or a number, and what closes it"
-    ∷ codes "several groups have this name, so it cannot be called"
+    ∷ codes "several groups have this name, so it cannot be called, or more than 100, so it cannot be referred to"
     ∷ codes "the number is too large"
     ∷ codes "a quantifier follows nothing that can be repeated"
     ∷ codes "no verb goes on here, or there are more than a million groups"

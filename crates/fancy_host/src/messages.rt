@@ -54,7 +54,8 @@ fn sentence_of(code: u32) -> &'static str
         32 => "no flag stands here: one of `imsxRUu` is wanted",
         33 => "the flag `u` cannot be cleared",
         34 => "this names no group: a letter or `_` is wanted, or a number, and what closes it",
-        35 => "several groups have this name, so it cannot be called",
+        35 =>
+            "several groups have this name, so it cannot be called, or more than 100, so it cannot be referred to",
         36 => "the number is too large",
         37 => "a quantifier follows nothing that can be repeated",
         38 => "no verb goes on here, or there are more than a million groups",

@@ -59,7 +59,7 @@ pub enum ParseError {
     TargetNotRepeatable,
     /// No name and no number of a group, or not what closes it.
     InvalidGroupName,
-    /// Several groups have the name that is called.
+    /// Several groups have the name that is called, or more than 100 the name that is referred to.
     InvalidGroupNameBackref,
 }
 
@@ -180,7 +180,7 @@ impl ParseError {
             ParseError::TargetNotRepeatable => "a quantifier follows nothing that can be repeated",
             ParseError::InvalidGroupName => "this names no group",
             ParseError::InvalidGroupNameBackref => {
-                "several groups have this name, so it cannot be called"
+                "several groups have this name, so it cannot be called, or more than 100, so it cannot be referred to"
             }
         }
     }
