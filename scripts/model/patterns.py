@@ -502,6 +502,9 @@ class Reader:
 
 # ---- the notation
 
+# so many groups may have a name that is referred to
+MOST_NAMESAKES = 100
+
 
 def named_tree(asked, group):
     """One group, in the notation."""
@@ -523,7 +526,7 @@ def resolved(asked, names):
         return NOWHERE
     if len(groups) == 1:
         return named_tree(asked, groups[0])
-    if asked.naming == "call":
+    if asked.naming == "call" or len(groups) > MOST_NAMESAKES:
         raise Fault("InvalidGroupNameBackref", asked.at)
     return f"(alt {' '.join(named_tree(asked, it) for it in reversed(groups))})"
 
