@@ -2,8 +2,8 @@
 
 ghost use Rattle.std.specs.Prelude.{◌≡◌, ◌<◌, ◌≤◌, ◌+◌, ℕ, IfSome, IsTrue, None, Some, false, is_some, length, map, true};
 ghost use Rattle.std.specs.List.{range_with_len};
-ghost use Rattle.std.specs.Simd.Lanes.{mask_l};
-ghost use Rattle.fancy_program.specs.StartRuns.{AreBare, AreSingle, AreNeedlesOf, IsBare, IsSingle, is_candidate};
+ghost use Rattle.std.specs.Simd.Lanes.{mask_l, top};
+ghost use Rattle.fancy_program.specs.StartRuns.{AreBare, AreSingle, AreNeedlesOf, IsBare, IsSingle, MarksNeedles, is_candidate, is_hit};
 
 use std::simd::prelude::*;
 
@@ -11,10 +11,10 @@ use std::simd::prelude::*;
 pub(crate) const VECTOR: usize = 32;
 
 /// How many bytes are scanned at once where the next candidate is far.
-const WIDE: usize = 128;
+pub(crate) const WIDE: usize = 128;
 
 /// It is taken for far behind so many bytes without one: to scan so many at once in vain costs as much as two vectors.
-const FAR: usize = 256;
+pub(crate) const FAR: usize = 256;
 
 /// Needles: the ASCII characters from `first` to `last`, and up to two more. 128 stands for one that is missing.
 #[derive(Clone, Copy)]
@@ -102,6 +102,39 @@ impl Needles {
     pub(crate) fn are_common(self) -> bool {
         is_common(self.first) || is_common(self.second) || is_common(self.third)
     }
+
+    /// Lanes whose top bit is set where a needle or a byte that is not ASCII stands in the vector.
+    #[inline(always)]
+    fn hits<const KIND: usize>(self, block: u8x32) -> u8x32
+        requires lanes { length block ≡ VECTOR }
+        requires single { BYTES ≤ KIND → IsSingle self }
+        requires bare { ONE_BYTE ≤ KIND → IsBare self }
+        ensures { map (top 7) result ≡ map (is_hit self) block }
+    {
+        block.simd_max(self.found::<KIND>(block))
+    }
+
+    /// Lanes that have all bits where a needle stands in the vector, and else none. A byte that is not ASCII may have all.
+    #[inline(always)]
+    fn found<const KIND: usize>(self, block: u8x32) -> u8x32
+        requires lanes { length block ≡ VECTOR }
+        requires single { BYTES ≤ KIND → IsSingle self }
+        requires bare { ONE_BYTE ≤ KIND → IsBare self }
+        ensures { MarksNeedles self block result }
+    {
+        let one = block.simd_eq(u8x32::splat(self.first));
+        if KIND >= ONE_BYTE {
+            return one.select(u8x32::splat(255), u8x32::splat(0));
+        }
+        let others = block.simd_eq(u8x32::splat(self.second))
+            | block.simd_eq(u8x32::splat(self.third));
+        if KIND >= BYTES {
+            return (one | others).select(u8x32::splat(255), u8x32::splat(0));
+        }
+        let range = block.simd_ge(u8x32::splat(self.first))
+            & block.simd_le(u8x32::splat(self.last));
+        (range | others).select(u8x32::splat(255), u8x32::splat(0))
+    }
 }
 
 /// The byte is a small letter, a digit or a space, as most of many texts are.
@@ -171,12 +204,10 @@ impl NeedlePair {
     }
 
     /// The first position from `pos` on that has a candidate in the next 128 bytes, or fewer bytes than that up to `end`.
-    /// It is `pos` where the last candidate, at `near`, is not far.
     #[inline(always)]
     pub(crate) fn past_quiet<const LEN: usize, const KIND: usize>(
         self,
         text: &[u8],
-        near: usize,
         pos: usize,
         end: usize,
     ) -> usize
@@ -190,9 +221,6 @@ impl NeedlePair {
         ensures within { result < end }
         ensures quiet { (k : ℕ) → pos ≤ k → k < result → is_candidate self text.now k ≡ false }
     {
-        if pos.saturating_sub(near) < FAR {
-            return pos;
-        }
         let mut at = pos;
         'quiet: while WIDE < end - at && self.is_quiet::<LEN, KIND>(text, at) {
             at += WIDE;
@@ -246,21 +274,9 @@ impl NeedlePair {
         requires none { self.second ≡ None }
         ensures { result ≡ mask_l (map (is_candidate self text.now) (range_with_len pos VECTOR)) }
     {
-        let needles = self.first;
         let block = u8x32::from_slice(&text[pos..]);
-        let high = block.simd_ge(u8x32::splat(128));
-        let one = high | block.simd_eq(u8x32::splat(needles.first));
-        if KIND >= ONE_BYTE {
-            return one.to_bitmask();
-        }
-        let others = block.simd_eq(u8x32::splat(needles.second))
-            | block.simd_eq(u8x32::splat(needles.third));
-        if KIND >= BYTES {
-            return (one | others).to_bitmask();
-        }
-        let range = block.simd_ge(u8x32::splat(needles.first))
-            & block.simd_le(u8x32::splat(needles.last));
-        ((high | range) | others).to_bitmask()
+        let hits = self.first.hits::<KIND>(block);
+        hits.simd_ge(u8x32::splat(128)).to_bitmask()
     }
 
     /// The candidates where these are the second needles.
@@ -272,30 +288,14 @@ impl NeedlePair {
         requires second { self.second ≡ Some second }
         ensures { result ≡ mask_l (map (is_candidate self text.now) (range_with_len pos VECTOR)) }
     {
-        let needles = self.first;
         let block = u8x32::from_slice(&text[pos..]);
         let after = u8x32::from_slice(&text[pos + 1..]);
-        let high = block.simd_ge(u8x32::splat(128));
-        let high_after = after.simd_ge(u8x32::splat(128));
-        let one = high | block.simd_eq(u8x32::splat(needles.first));
-        let one_after = high_after | after.simd_eq(u8x32::splat(second.first));
-        if KIND >= ONE_BYTE {
-            return ((one & one_after) | high).to_bitmask();
-        }
-        let others = block.simd_eq(u8x32::splat(needles.second))
-            | block.simd_eq(u8x32::splat(needles.third));
-        let others_after = after.simd_eq(u8x32::splat(second.second))
-            | after.simd_eq(u8x32::splat(second.third));
-        if KIND >= BYTES {
-            return (((one | others) & (one_after | others_after)) | high).to_bitmask();
-        }
-        let range = block.simd_ge(u8x32::splat(needles.first))
-            & block.simd_le(u8x32::splat(needles.last));
-        let range_after = after.simd_ge(u8x32::splat(second.first))
-            & after.simd_le(u8x32::splat(second.last));
-        let hits = (high | range) | others;
-        let hits_after = (high_after | range_after) | others_after;
-        ((hits & hits_after) | high).to_bitmask()
+        let next = second.hits::<KIND>(after);
+        let found = self.first.found::<KIND>(block);
+        let both = found
+            .simd_ge(u8x32::splat(128))
+            .select(next, u8x32::splat(0));
+        (block | both).simd_ge(u8x32::splat(128)).to_bitmask()
     }
 }
 
