@@ -1,6 +1,6 @@
 //! The machine at work on a text.
 
-ghost use Rattle.std.specs.Prelude.{◌≡◌, ◌+◌, ◌<◌, ◌≤◌, length, OnOk, IfErr, None, false};
+ghost use Rattle.std.specs.Prelude.{◌≡◌, ◌+◌, ◌*◌, ◌<◌, ◌≤◌, length, min, OnOk, IfErr, None, is_some, false, true};
 ghost use Rattle.fancy_meaning.specs.Config as config;
 ghost use Rattle.fancy_meaning.specs.Machine as machine;
 ghost use Rattle.fancy_state.specs.Held.{first_held};
@@ -25,8 +25,8 @@ use std::alloc::{AllocError, Global};
 /// How many branches a run may hold.
 pub const MAX_BRANCHES: usize = 1_000_000;
 
-/// At each so many branches the machine looks at how many bytes it holds.
-const LOOK: usize = 64;
+/// The machine looks at how many bytes it holds where so many branches were added.
+const BRANCHES_BETWEEN_LOOKS: usize = 64;
 
 /// What is run, on what, and how.
 #[derive(Clone, Copy)]
@@ -319,7 +319,7 @@ impl<'a> Machine<'a> {
         if self.state.is_full() {
             return Err(Stop::Limit(RuntimeError::StackOverflow));
         }
-        if self.state.backtrack_count() % LOOK == 0 && self.holds_too_much() {
+        if self.state.backtrack_count() % BRANCHES_BETWEEN_LOOKS == 0 && self.holds_too_much() {
             return Err(Stop::Memory);
         }
         self.state.add_branch(pc, self.ix)?;
@@ -336,8 +336,12 @@ impl<'a> Machine<'a> {
         }
     }
 
-    /// How many bytes the branches and the log hold, where these are limited.
-    pub fn held_bytes(&self) -> usize {
+    /// How many bytes the branches and the log hold, where these are limited, and else 0.
+    pub fn held_bytes(&self) -> usize
+        ensures unlimited { self.now.task.limits.bytes ≡ None → result ≡ 0 }
+        ensures limited { is_some self.now.task.limits.bytes ≡ true
+            → min usize.MAX (24 * length self.now.state.branches) ≤ result }
+    {
         match self.task.limits.bytes {
             None => 0,
             Some(_) => self.state.bytes(),
