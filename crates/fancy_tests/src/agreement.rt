@@ -1,7 +1,6 @@
 //! What calls answered, a line `CALL ANSWER` for each, as text, so that it can be compared.
 
-use crate::columns::push_differ;
-use std::alloc::AllocError;
+use crate::line::Line;
 
 /// The call and its answer.
 fn parts(line: &str) -> (&str, &str) {
@@ -36,10 +35,10 @@ pub fn differing(said: &str) -> Option<&str> {
 }
 
 /// The answer of the first call, or which call does not agree with it.
-pub fn push_agreed(line: &mut String, said: &str) -> Result<(), AllocError> {
+pub fn push_agreed(line: &mut Line, said: &str) {
     if let Some(call) = differing(said) {
-        return push_differ(line, call);
+        return line.differ(call);
     }
     let (_call, answer) = parts(said.lines().next().unwrap_or(""));
-    line.push_str(answer)
+    line.text(answer);
 }

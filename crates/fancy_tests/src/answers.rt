@@ -1,86 +1,77 @@
 //! What each call that searches answers, as a line `CALL ANSWER`.
 
+use crate::line::Line;
 use fancy_regex_engine::error::Error;
 use fancy_regex_engine::expr::{ExprTree, is_well_formed};
 use fancy_regex_engine::search::{SearchOptions, search};
 use fancy_regex_engine::vm::{Prog, RunOptions, Scratch, run, run_default, run_spans};
-use std::alloc::{AllocError, Global};
+use std::alloc::Global;
 
 /// The numbers, or that there is no match, or why there is no answer.
-pub fn push_numbers(
-    said: &mut String,
-    call: &str,
-    found: &Result<Option<Vec<usize>>, Error>,
-) -> Result<(), AllocError> {
+fn push_numbers(said: &mut Line, call: &str, found: &Result<Option<Vec<usize>>, Error>) {
+    said.text(call).text(" ");
     match found {
-        Ok(Some(numbers)) => writeln!(said, "{call} {numbers:?}"),
-        Ok(None) => writeln!(said, "{call} none"),
-        Err(error) => writeln!(said, "{call} {error:?}"),
-    }
+        Ok(Some(numbers)) => said.debug(numbers),
+        Ok(None) => said.text("none"),
+        Err(error) => said.debug(error),
+    };
+    said.text("\n");
 }
 
 /// Start and end, the first two of the numbers.
-fn push_pair(
-    said: &mut String,
-    found: &Result<Option<(usize, usize)>, Error>,
-) -> Result<(), AllocError> {
+fn push_pair(said: &mut Line, found: &Result<Option<(usize, usize)>, Error>) {
+    said.text("run_spans ");
     match found {
-        Ok(Some((from, to))) => writeln!(said, "run_spans [{from}, {to}"),
-        Ok(None) => writeln!(said, "run_spans none"),
-        Err(error) => writeln!(said, "run_spans {error:?}"),
-    }
+        Ok(Some((from, to))) => said.text("[").value(*from).text(", ").value(*to),
+        Ok(None) => said.text("none"),
+        Err(error) => said.debug(error),
+    };
+    said.text("\n");
 }
 
 /// The run answers.
 pub fn push_run(
-    said: &mut String,
+    said: &mut Line,
     alloc: Global,
     prog: &Prog,
     text: &str,
     options: &RunOptions,
     scratch: &mut Scratch,
-) -> Result<(), AllocError> {
-    if !options.fits(prog, text) {
-        return said.push_str("run does not fit\n");
+) {
+    if options.fits(prog, text) {
+        push_numbers(said, "run", &run(alloc, prog, text, options, scratch));
+    } else {
+        said.text("run does not fit\n");
     }
-    push_numbers(said, "run", &run(alloc, prog, text, options, scratch))
 }
 
 /// The run that answers with the span alone.
 pub fn push_spans(
-    said: &mut String,
+    said: &mut Line,
     alloc: Global,
     prog: &Prog,
     text: &str,
     options: &RunOptions,
     scratch: &mut Scratch,
-) -> Result<(), AllocError> {
-    if !options.fits(prog, text) {
-        return Ok(());
+) {
+    if options.fits(prog, text) {
+        push_pair(said, &run_spans(alloc, prog, text, options, scratch));
     }
-    push_pair(said, &run_spans(alloc, prog, text, options, scratch))
 }
 
 /// The run with default options, where these are set.
-pub fn push_default(
-    said: &mut String,
-    alloc: Global,
-    prog: &Prog,
-    text: &str,
-    options: &RunOptions,
-) -> Result<(), AllocError> {
+pub fn push_default(said: &mut Line, alloc: Global, prog: &Prog, text: &str, options: &RunOptions) {
     let default = RunOptions {
         pos: options.pos,
         ..RunOptions::default()
     };
-    if !is_default(options) || !default.fits(prog, text) {
-        return Ok(());
+    if is_default(options) && default.fits(prog, text) {
+        push_numbers(
+            said,
+            "run_default",
+            &run_default(alloc, prog, text, options.pos),
+        );
     }
-    push_numbers(
-        said,
-        "run_default",
-        &run_default(alloc, prog, text, options.pos),
-    )
 }
 
 /// Nothing but the place is set for the run.
@@ -94,15 +85,16 @@ fn is_default(options: &RunOptions) -> bool {
 
 /// The whole search.
 pub fn push_search(
-    said: &mut String,
+    said: &mut Line,
     alloc: Global,
     tree: &ExprTree,
     text: &str,
     options: &SearchOptions,
     scratch: &mut Scratch,
-) -> Result<(), AllocError> {
-    if !is_well_formed(tree) || !options.fits(text) {
-        return said.push_str("search does not fit\n");
+) {
+    if is_well_formed(tree) && options.fits(text) {
+        push_numbers(said, "search", &search(alloc, tree, text, options, scratch));
+    } else {
+        said.text("search does not fit\n");
     }
-    push_numbers(said, "search", &search(alloc, tree, text, options, scratch))
 }

@@ -1,6 +1,7 @@
 //! One character and one place: classes, folding, pieces, assertions.
 
 use crate::columns::{folded_chars, number, pair, split, with_codes, with_line_ends};
+use crate::line::Line;
 use crate::trees::read;
 use fancy_regex_engine::classes::{
     CaseiLiteral, CharClassMatcher, fold_equal, matches_literal_casei_unicode, past_piece,
@@ -18,7 +19,7 @@ fn name_of(class: &CharClassMatcher) -> &str {
 }
 
 /// The class's name, and how many bytes of the text it takes; `i` where it is folded, `a` where by ASCII.
-fn push_class(line: &mut String, alloc: Global, key: &str) -> Result<(), Error> {
+fn push_class(line: &mut Line, alloc: Global, key: &str) -> Result<(), Error> {
     let (name, rest) = split(key);
     let (letters, text) = split(rest);
     let text = with_codes(alloc, text)?;
@@ -26,39 +27,44 @@ fn push_class(line: &mut String, alloc: Global, key: &str) -> Result<(), Error> 
     let unicode = !letters.contains('a');
     let class = CharClassMatcher::codepoint(alloc, name, casei, unicode)?;
     let taken = class.match_len(alloc, text.as_str(), 0)?;
-    Ok(write!(line, "{} {taken:?}", name_of(&class))?)
+    line.text(name_of(&class)).text(" ").debug(&taken);
+    Ok(())
 }
 
 /// How many bytes of the text end a line by ASCII and by Unicode.
-fn push_newline(line: &mut String, alloc: Global, text: &str) -> Result<(), Error> {
-    let ascii = CharClassMatcher::Newline { unicode: false }.match_len(alloc, text, 0)?;
-    let unicode = CharClassMatcher::Newline { unicode: true }.match_len(alloc, text, 0)?;
-    Ok(write!(line, "{ascii:?} {unicode:?}")?)
+fn push_newline(line: &mut Line, alloc: Global, text: &str) -> Result<(), Error> {
+    let text = with_codes(alloc, text)?;
+    let ascii = CharClassMatcher::Newline { unicode: false };
+    line.debug(&ascii.match_len(alloc, text.as_str(), 0)?);
+    let unicode = CharClassMatcher::Newline { unicode: true };
+    line.text(" ")
+        .debug(&unicode.match_len(alloc, text.as_str(), 0)?);
+    Ok(())
 }
 
 /// Whether the texts are equal when they are folded, and their first characters.
-fn push_folds(line: &mut String, key: &str) -> Result<(), AllocError> {
+fn push_folds(line: &mut Line, key: &str) {
     let (one, other) = split(key);
-    let whole = matches_literal_casei_unicode(one, other);
-    let first = match (one.chars().next(), other.chars().next()) {
-        (Some(one), Some(other)) => fold_equal(one, other),
-        _ => false,
-    };
-    write!(line, "{whole} {first}")
+    line.value(matches_literal_casei_unicode(one, other));
+    line.text(" ")
+        .value(match (one.chars().next(), other.chars().next()) {
+            (Some(one), Some(other)) => fold_equal(one, other),
+            _ => false,
+        });
 }
 
 /// How many bytes a literal takes at a place.
-fn push_literal(line: &mut String, alloc: Global, key: &str) -> Result<(), AllocError> {
+fn push_literal(line: &mut Line, alloc: Global, key: &str) -> Result<(), AllocError> {
     let (chars, rest) = split(key);
     let (letters, rest) = split(rest);
     let (text, ix) = split(rest);
     let literal = CaseiLiteral::new(folded_chars(alloc, chars)?, !letters.contains('a'));
-    let taken = literal.match_len(text, number(ix));
-    write!(line, "{taken:?}")
+    line.debug(&literal.match_len(text, number(ix)));
+    Ok(())
 }
 
 /// Where a piece of the text ends that stands at a place again.
-fn push_piece(line: &mut String, alloc: Global, key: &str) -> Result<(), AllocError> {
+fn push_piece(line: &mut Line, alloc: Global, key: &str) -> Result<(), AllocError> {
     let (text, rest) = split(key);
     let (letters, rest) = split(rest);
     let (ends, ix) = split(rest);
@@ -66,8 +72,8 @@ fn push_piece(line: &mut String, alloc: Global, key: &str) -> Result<(), AllocEr
     let casei = letters.contains('i');
     let unicode = !letters.contains('a');
     let (from, to) = pair(ends);
-    let end = past_piece(text.as_str(), unicode, casei, from, to, number(ix));
-    write!(line, "{end:?}")
+    line.debug(&past_piece(text.as_str(), unicode, casei, from, to, number(ix)));
+    Ok(())
 }
 
 /// The assertion that the tree is.
@@ -79,32 +85,31 @@ fn assertion(alloc: Global, tree: &str) -> Result<Assertion, Error> {
 }
 
 /// The places of the text where the assertion holds.
-fn push_places(line: &mut String, alloc: Global, key: &str) -> Result<(), Error> {
+fn push_held(line: &mut Line, assertion: Assertion, unicode: bool, text: &str) {
+    line.text("at");
+    for ix in 0..text.len() + 1 {
+        if text.is_char_boundary(ix) && holds(assertion, unicode, text, ix) {
+            line.text(" ").value(ix);
+        }
+    }
+}
+
+/// The places of the text where the assertion that the tree is holds.
+fn push_places(line: &mut Line, alloc: Global, key: &str) -> Result<(), Error> {
     let (tree, rest) = split(key);
     let (letters, text) = split(rest);
     let assertion = assertion(alloc, tree)?;
     let text = with_line_ends(alloc, text)?;
-    line.push_str("at")?;
-    for ix in 0..text.len() + 1 {
-        let text = text.as_str();
-        if text.is_char_boundary(ix) && holds(assertion, !letters.contains('a'), text, ix) {
-            write!(line, " {ix}")?;
-        }
-    }
+    push_held(line, assertion, !letters.contains('a'), text.as_str());
     Ok(())
 }
 
 /// What comes out for the key of a row.
-pub fn push_character(
-    line: &mut String,
-    alloc: Global,
-    table: &str,
-    key: &str,
-) -> Result<(), Error> {
+pub fn push_character(line: &mut Line, alloc: Global, table: &str, key: &str) -> Result<(), Error> {
     match table {
         "classes" => push_class(line, alloc, key)?,
-        "newlines" => push_newline(line, alloc, with_codes(alloc, key)?.as_str())?,
-        "folds" => push_folds(line, key)?,
+        "newlines" => push_newline(line, alloc, key)?,
+        "folds" => push_folds(line, key),
         "literals" => push_literal(line, alloc, key)?,
         "places" => push_places(line, alloc, key)?,
         _ => push_piece(line, alloc, key)?,

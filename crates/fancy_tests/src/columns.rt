@@ -1,5 +1,6 @@
 //! The columns of a row, with ` | ` between them.
 
+use crate::line::Line;
 use std::alloc::{AllocError, Global};
 use std::collections::BTreeMap;
 
@@ -48,23 +49,22 @@ pub fn limits(words: &str) -> (usize, Option<u64>, Option<u64>) {
 }
 
 /// `9*a` is nine letters a.
-fn push_run(text: &mut String, run: &str) -> Result<(), AllocError> {
+fn push_run(text: &mut Line, run: &str) {
     let (count, letters) = run.split_once('*').unwrap_or(("0", ""));
     for _ in 0..number(count) {
-        text.push_str(letters)?;
+        text.text(letters);
     }
-    Ok(())
 }
 
 /// The column, in which `<9*a>` is nine letters a.
 pub fn written_out(alloc: Global, column: &str) -> Result<String, AllocError> {
-    let mut text = String::new(alloc);
+    let mut text = Line::new(alloc);
     for piece in column.split('>') {
         let (plain, run) = piece.split_once('<').unwrap_or((piece, ""));
-        text.push_str(plain)?;
-        push_run(&mut text, run)?;
+        text.text(plain);
+        push_run(&mut text, run);
     }
-    Ok(text)
+    text.into_string()
 }
 
 /// The column, in which `\n` and `\r` are the ends of lines.
@@ -75,23 +75,24 @@ pub fn with_line_ends(alloc: Global, column: &str) -> Result<String, AllocError>
 }
 
 /// The character of this code in decimal digits.
-fn push_code(text: &mut String, code: &str) -> Result<(), AllocError> {
+fn push_code(text: &mut Line, code: &str) {
     match code.parse::<u32>().map(char::from_u32) {
-        Ok(Some(character)) => text.push(character),
-        _ => text.push_str("no character"),
-    }
+        Ok(Some(character)) => text.value(character),
+        _ => text.text("no character"),
+    };
 }
 
 /// The column, in which `&8232;` is the character of this code.
 pub fn with_codes(alloc: Global, column: &str) -> Result<String, AllocError> {
+    let mut text = Line::new(alloc);
     let mut pieces = column.split('&');
-    let mut text = String::from_str(alloc, pieces.next().unwrap_or(""))?;
+    text.text(pieces.next().unwrap_or(""));
     for piece in pieces {
         let (code, plain) = piece.split_once(';').unwrap_or((piece, ""));
-        push_code(&mut text, code)?;
-        text.push_str(plain)?;
+        push_code(&mut text, code);
+        text.text(plain);
     }
-    Ok(text)
+    text.into_string()
 }
 
 /// The words that stand in brackets.
@@ -157,19 +158,12 @@ pub fn names_of(alloc: Global, column: &str) -> Result<BTreeMap<String, Vec<usiz
 }
 
 /// Spells the ends of lines as `\\n` and `\\r`.
-pub fn push_spelled(line: &mut String, text: &str) -> Result<(), AllocError> {
+pub fn push_spelled(line: &mut Line, text: &str) {
     for character in text.chars() {
         match character {
-            '\n' => line.push_str("\\n")?,
-            '\r' => line.push_str("\\r")?,
-            _ => line.push(character)?,
-        }
+            '\n' => line.text("\\n"),
+            '\r' => line.text("\\r"),
+            _ => line.value(character),
+        };
     }
-    Ok(())
-}
-
-/// Where calls do not agree.
-pub fn push_differ(line: &mut String, call: &str) -> Result<(), AllocError> {
-    line.clear();
-    write!(line, "DIFFER: {call}")
 }

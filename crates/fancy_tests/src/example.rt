@@ -1,11 +1,12 @@
 //! What a host writes to search a text for a tree.
 
 use crate::columns::split;
+use crate::line::Line;
 use fancy_regex_engine::error::Error;
 use fancy_regex_engine::expr::read_tree;
 use fancy_regex_engine::search::{SearchOptions, search};
 use fancy_regex_engine::vm::Scratch;
-use std::alloc::{AllocError, Global};
+use std::alloc::Global;
 
 /// Start and end of each group of the first match, in bytes of the text.
 fn find(alloc: Global, tree: &str, text: &str) -> Result<Option<Vec<usize>>, Error> {
@@ -15,11 +16,11 @@ fn find(alloc: Global, tree: &str, text: &str) -> Result<Option<Vec<usize>>, Err
 }
 
 /// The numbers, or that there is no match, or why there is no answer, as a user reads it.
-pub fn push_example(line: &mut String, alloc: Global, key: &str) -> Result<(), AllocError> {
+pub fn push_example(line: &mut Line, alloc: Global, key: &str) {
     let (tree, text) = split(key);
     match find(alloc, tree, text) {
-        Ok(Some(numbers)) => write!(line, "{numbers:?}"),
-        Ok(None) => line.push_str("no match"),
-        Err(error) => write!(line, "{error}"),
-    }
+        Ok(Some(numbers)) => line.debug(&numbers),
+        Ok(None) => line.text("no match"),
+        Err(error) => line.value(error),
+    };
 }

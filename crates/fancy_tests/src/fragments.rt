@@ -8,58 +8,50 @@ ghost use Rattle.fancy_fragments.specs.Nodes.{AreEasyNeighbours};
 use crate::columns::{number, split, written_out};
 use crate::easy::easy_children;
 use crate::layouts::context;
+use crate::line::Line;
 use crate::trees::read;
 use fancy_characters::places::is_place;
 use fancy_regex_engine::analyze::{Info, analyze};
 use fancy_regex_engine::error::Error;
 use fancy_regex_engine::expr::{ExprTree, is_well_formed};
 use fancy_regex_engine::plain::{FirstWay, Fragment, Memo, Way, first_way, first_way_with};
-use std::alloc::{AllocError, Global};
+use std::alloc::Global;
 
 /// Where the way ends, and number, start and end of each group that it sets.
-fn push_way(line: &mut String, way: &Way) -> Result<(), AllocError> {
-    let end = way.end;
-    write!(line, "to {end}")?;
+fn push_way(line: &mut Line, way: &Way) {
+    line.text("to ").value(way.end);
     for (group, from, to) in &way.spans {
-        write!(line, " ({group},{from},{to})")?;
+        line.text(" (").value(*group).text(",");
+        line.value(*from).text(",").value(*to).text(")");
     }
-    Ok(())
 }
 
 /// How many points were taken up, or only whether no more were than the bound allows.
-fn push_visits(
-    line: &mut String,
-    table: &str,
-    visits: u64,
-    bound: usize,
-) -> Result<(), AllocError> {
+fn push_visits(line: &mut Line, table: &str, visits: u64, bound: usize) {
     if table != "compared_ways" {
-        return write!(line, ", {visits} of {bound}");
-    }
-    if visits <= bound as u64 {
-        write!(line, ", within {bound}")
+        line.text(", ").value(visits).text(" of ");
+    } else if visits <= bound as u64 {
+        line.text(", within ");
     } else {
-        write!(line, ", MORE than {bound}")
+        line.text(", MORE than ");
     }
+    line.value(bound);
 }
 
 /// The way, or none, and what was taken up.
-fn push_found(
-    line: &mut String,
-    table: &str,
-    found: &FirstWay,
-    bound: usize,
-) -> Result<(), AllocError> {
+fn push_found(line: &mut Line, table: &str, found: &FirstWay, bound: usize) {
     match &found.way {
-        Some(way) => push_way(line, way)?,
-        None => line.push_str("none")?,
+        Some(way) => push_way(line, way),
+        None => {
+            line.text("none");
+        }
     }
-    push_visits(line, table, found.visits, bound)
+    push_visits(line, table, found.visits, bound);
 }
 
 /// The first way from a place of the text; the columns are the text, the place, and the bound.
 fn push_first_way(
-    line: &mut String,
+    line: &mut Line,
     alloc: Global,
     table: &str,
     fragment: &Fragment,
@@ -69,11 +61,13 @@ fn push_first_way(
     let (place, bound) = split(rest);
     let text = written_out(alloc, text)?;
     let ix = number(place);
-    if !is_place(text.as_bytes(), ix) {
-        return Ok(line.push_str("no place")?);
+    if is_place(text.as_bytes(), ix) {
+        let found = first_way(alloc, fragment, text.as_str(), ix)?;
+        push_found(line, table, &found, number(bound));
+    } else {
+        line.text("no place");
     }
-    let found = first_way(alloc, fragment, text.as_str(), ix)?;
-    Ok(push_found(line, table, &found, number(bound))?)
+    Ok(())
 }
 
 /// How many points searches from all places of the text take up, each by itself.
@@ -107,37 +101,44 @@ fn visits_together(
 }
 
 /// The searches from all places of the text but its end.
-fn push_starts(
-    line: &mut String,
+fn push_visited(
+    line: &mut Line,
     alloc: Global,
     fragment: &Fragment,
     text: &str,
 ) -> Result<(), Error> {
-    let text = written_out(alloc, text)?;
     let mut memo = fragment.memo(alloc, 0);
-    let together = visits_together(alloc, fragment, text.as_str(), &mut memo)?;
-    let alone = visits_alone(alloc, fragment, text.as_str())?;
-    Ok(write!(line, "{together} together, {alone} alone")?)
+    line.value(visits_together(alloc, fragment, text, &mut memo)?);
+    line.text(" together, ");
+    line.value(visits_alone(alloc, fragment, text)?);
+    line.text(" alone");
+    Ok(())
 }
 
 /// What the table asks of the fragment.
 fn push_told(
-    line: &mut String,
+    line: &mut Line,
     alloc: Global,
     table: &str,
     fragment: &Fragment,
     columns: &str,
 ) -> Result<(), Error> {
     match table {
-        "builds" => Ok(line.push_str("built")?),
-        "starts" => push_starts(line, alloc, fragment, columns),
+        "builds" => {
+            line.text("built");
+            Ok(())
+        }
+        "starts" => {
+            let text = written_out(alloc, columns)?;
+            push_visited(line, alloc, fragment, text.as_str())
+        }
         _ => push_first_way(line, alloc, table, fragment, columns),
     }
 }
 
 /// The same of the fragment of these nodes, where a class is read by Unicode.
 fn push_of_nodes(
-    line: &mut String,
+    line: &mut Line,
     alloc: Global,
     table: &str,
     infos: &[Info<'_>],
@@ -152,30 +153,28 @@ fn push_of_nodes(
 
 /// The same of the children of the tree.
 fn push_of_tree(
-    line: &mut String,
+    line: &mut Line,
     alloc: Global,
     table: &str,
     tree: &ExprTree,
     columns: &str,
 ) -> Result<(), Error> {
     if !is_well_formed(tree) {
-        return Ok(line.push_str("not well formed")?);
+        line.text("not well formed");
+        return Ok(());
     }
     let info = analyze(alloc, tree, context(""))?;
     match easy_children(tree, &info) {
         Some(infos) => push_of_nodes(line, alloc, table, infos, columns),
-        None => Ok(line.push_str("hard")?),
+        None => {
+            line.text("hard");
+            Ok(())
+        }
     }
 }
 
 /// What comes out for the key of a row: TREE, and the columns after it.
-pub fn push_fragment(
-    line: &mut String,
-    alloc: Global,
-    table: &str,
-    key: &str,
-) -> Result<(), Error> {
+pub fn push_fragment(line: &mut Line, alloc: Global, table: &str, key: &str) -> Result<(), Error> {
     let (tree, columns) = split(key);
-    let tree = read(alloc, tree)?;
-    push_of_tree(line, alloc, table, &tree, columns)
+    push_of_tree(line, alloc, table, &read(alloc, tree)?, columns)
 }

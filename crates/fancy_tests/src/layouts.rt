@@ -1,13 +1,14 @@
 //! Trees and their programs.
 
-use crate::columns::push_spelled;
+use crate::columns::{push_spelled, split};
+use crate::line::Line;
 use fancy_regex_engine::analyze::AnalyzeContext;
 use fancy_regex_engine::compile::CompileOptions;
 use fancy_regex_engine::error::Error;
 use fancy_regex_engine::expr::{ExprTree, is_well_formed, read_tree};
 use fancy_regex_engine::search::{Compiled, options_fit};
 use fancy_regex_engine::vm::{Insn, Prog};
-use std::alloc::{AllocError, Global};
+use std::alloc::Global;
 
 /// The program of a tree.
 pub fn compiled(
@@ -42,38 +43,22 @@ fn program(alloc: Global, tree: &ExprTree, letters: &str) -> Result<Prog, Error>
     compiled(alloc, tree, context(letters), options)
 }
 
-/// The instructions, with the ends of lines as they are.
-fn push_insns(line: &mut String, insns: &[Insn]) -> Result<(), AllocError> {
-    for insn in insns {
-        if !line.is_empty() {
-            line.push(' ')?;
-        }
-        write!(line, "{insn}")?;
-    }
-    Ok(())
-}
-
 /// The instructions, in which ends of lines are `\n` and `\r`.
-fn push_body(line: &mut String, alloc: Global, insns: &[Insn]) -> Result<(), AllocError> {
-    let mut text = String::new(alloc);
-    push_insns(&mut text, insns)?;
-    push_spelled(line, text.as_str())
-}
-
-/// The instructions of the tree's program.
-fn push_program(
-    line: &mut String,
-    alloc: Global,
-    tree: &ExprTree,
-    letters: &str,
-) -> Result<(), Error> {
-    let prog = program(alloc, tree, letters)?;
-    Ok(push_body(line, alloc, prog.body())?)
+fn push_body(line: &mut Line, alloc: Global, insns: &[Insn]) {
+    let mut text = Line::new(alloc);
+    for insn in insns {
+        if !text.is_empty() {
+            text.text(" ");
+        }
+        text.value(insn);
+    }
+    push_spelled(line, text.as_str());
 }
 
 /// The instructions of the program of TREE, with the options of the letters after it.
-pub fn push_layout(line: &mut String, alloc: Global, key: &str) -> Result<(), Error> {
-    let (tree, letters) = key.split_once(" | ").unwrap_or((key, ""));
-    let tree = read_tree(alloc, tree)?;
-    push_program(line, alloc, &tree, letters)
+pub fn push_layout(line: &mut Line, alloc: Global, key: &str) -> Result<(), Error> {
+    let (tree, letters) = split(key);
+    let prog = program(alloc, &read_tree(alloc, tree)?, letters)?;
+    push_body(line, alloc, prog.body());
+    Ok(())
 }

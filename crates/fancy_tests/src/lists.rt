@@ -1,15 +1,16 @@
 //! Lists of matches and of pieces, and texts with their matches replaced.
 
 use crate::columns::{number, split as columns, with_line_ends, words_of, written_out};
+use crate::line::Line;
 use crate::replacements::push_replacement;
-use crate::spans::{close, push_group, push_none, push_span};
+use crate::spans::{close, push_group, push_item, push_none};
 use fancy_matches::found::Captures;
 use fancy_matches::regexes::Regex;
 use fancy_regex_engine::arguments::read_arguments;
 use fancy_regex_engine::error::Error;
 use fancy_regex_engine::expr::{ExprTree, is_well_formed, read_tree};
 use fancy_replace::split::{split, splitn};
-use std::alloc::{AllocError, Global};
+use std::alloc::Global;
 
 /// The most groups that are printed.
 const MOST_GROUPS: usize = 10;
@@ -34,59 +35,56 @@ pub fn regex(alloc: Global, tree: &str, words: &str) -> Result<Regex, Error> {
 }
 
 /// A match with its groups that are set on the line, and alone among the spans.
-fn push_captures(
-    line: &mut String,
-    spans: &mut String,
-    captures: &Captures<'_>,
-) -> Result<(), AllocError> {
+fn push_captures(line: &mut Line, spans: &mut Line, captures: &Captures<'_>) {
     let whole = captures.whole();
-    push_span(line, whole.start(), whole.end())?;
+    push_item(spans, whole.start(), whole.end());
+    push_item(line, whole.start(), whole.end());
     for group in 1..MOST_GROUPS {
         if let Some(found) = captures.get(group) {
-            push_group(line, group, found.start(), found.end())?;
+            push_group(line, group, found.start(), found.end());
         }
     }
-    push_span(spans, whole.start(), whole.end())
 }
 
 /// All matches, by the iterator that gives groups.
 fn push_all_captures(
-    line: &mut String,
-    spans: &mut String,
+    line: &mut Line,
+    spans: &mut Line,
     regex: &mut Regex,
     text: &str,
 ) -> Result<(), Error> {
     for captures in regex.captures_iter(text) {
-        push_captures(line, spans, &captures?)?;
+        push_captures(line, spans, &captures?);
     }
     Ok(())
 }
 
 /// All matches, by the one that gives none.
-fn push_all_matches(spans: &mut String, regex: &mut Regex, text: &str) -> Result<(), Error> {
+fn push_all_matches(spans: &mut Line, regex: &mut Regex, text: &str) -> Result<(), Error> {
     for found in regex.find_iter(text) {
         let found = found?;
-        push_span(spans, found.start(), found.end())?;
+        push_item(spans, found.start(), found.end());
     }
     Ok(())
 }
 
 /// The matches with their groups, where both iterators agree on where they are.
 pub fn push_found(
-    line: &mut String,
+    line: &mut Line,
     alloc: Global,
     regex: &mut Regex,
     text: &str,
 ) -> Result<(), Error> {
-    let (mut spans, mut others) = (String::new(alloc), String::new(alloc));
+    let (mut spans, mut others) = (Line::new(alloc), Line::new(alloc));
     push_all_captures(line, &mut spans, regex, text)?;
     push_all_matches(&mut others, regex, text)?;
-    Ok(close(line, spans.as_str(), others.as_str())?)
+    close(line, spans.as_str(), others.as_str());
+    Ok(())
 }
 
 /// The same in the text of a column.
 fn push_matches(
-    line: &mut String,
+    line: &mut Line,
     alloc: Global,
     regex: &mut Regex,
     text: &str,
@@ -96,21 +94,23 @@ fn push_matches(
 }
 
 /// TEXT, how many at most: the pieces.
-fn push_pieces(line: &mut String, regex: &mut Regex, text: &str, limit: &str) -> Result<(), Error> {
+fn push_pieces(line: &mut Line, regex: &mut Regex, text: &str, limit: &str) -> Result<(), Error> {
     if limit == "all" {
         for piece in split(regex, text) {
-            write!(line, "[{}]", piece?)?;
+            line.text("[").text(piece?).text("]");
         }
     } else {
         for piece in splitn(regex, text, number(limit)) {
-            write!(line, "[{}]", piece?)?;
+            line.text("[").text(piece?).text("]");
         }
     }
-    Ok(push_none(line)?)
+    push_none(line);
+    Ok(())
 }
 
-fn push_answer(
-    line: &mut String,
+/// What the table asks of the regex.
+fn push_told(
+    line: &mut Line,
     alloc: Global,
     table: &str,
     regex: &mut Regex,
@@ -125,10 +125,16 @@ fn push_answer(
 }
 
 /// TREE, TEXT, and more: what the table asks of the regex of the tree.
-pub fn push_list(line: &mut String, alloc: Global, table: &str, key: &str) -> Result<(), Error> {
+pub fn push_list(line: &mut Line, alloc: Global, table: &str, key: &str) -> Result<(), Error> {
     let (tree, rest) = columns(key);
     let (text, rest) = columns(rest);
     let words = if table == "matches" { rest } else { "" };
-    let mut regex = regex(alloc, tree, words)?;
-    push_answer(line, alloc, table, &mut regex, text, rest)
+    push_told(
+        line,
+        alloc,
+        table,
+        &mut regex(alloc, tree, words)?,
+        text,
+        rest,
+    )
 }

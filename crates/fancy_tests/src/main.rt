@@ -14,6 +14,7 @@ mod example;
 mod fragments;
 mod instructions;
 mod layouts;
+mod line;
 mod lists;
 mod pattern_scans;
 mod printed;

@@ -1,20 +1,21 @@
 //! A text from place to place of many patterns.
 
 use crate::columns::{number, split, with_codes};
+use crate::line::Line;
 use crate::regexes::{builder_of, regex_of};
 use crate::scans::{push_agreed, push_found, push_missing, push_stopped};
 use crate::spans::push_numbered;
 use fancy_characters::places::is_place;
 use fancy_regex::{Error, ScanText, Scanner};
 use fancy_scanner::scanner::Scanner as TreeScanner;
-use std::alloc::{AllocError, Global};
+use std::alloc::Global;
 
 /// What a scan says, what the engine says from each place alone, and what the groups `n` took.
 #[derive(Drop)]
 struct Said {
-    kept: String,
-    found: String,
-    named: String,
+    kept: Line,
+    found: Line,
+    named: Line,
 }
 
 /// Adds a pattern, with options by these words, and to the other scanner the engine of its regex.
@@ -49,12 +50,12 @@ fn add_all(
 }
 
 /// What the group `n` of the match that is kept of this pattern took, after a space.
-fn push_named(named: &mut String, scan: &ScanText<'_, '_>, index: usize) -> Result<(), Error> {
+fn push_named(named: &mut Line, scan: &ScanText<'_, '_>, index: usize) -> Result<(), Error> {
     let Some(captures) = scan.captures(index)? else {
         return Ok(());
     };
     if let Some(found) = captures.name("n") {
-        write!(named, " {}", found.as_str())?;
+        named.text(" ").text(found.as_str());
     }
     Ok(())
 }
@@ -65,16 +66,12 @@ fn push_step(said: &mut Said, scan: &mut ScanText<'_, '_>, pos: usize) -> Result
         return Ok(());
     }
     let step = scan.find_from(pos)?;
-    push_stopped(&mut said.kept, &step.stopped)?;
+    push_stopped(&mut said.kept, &step.stopped);
     let Some(first) = step.found else {
         return Ok(());
     };
-    push_numbered(
-        &mut said.kept,
-        first.index,
-        first.whole.start(),
-        first.whole.end(),
-    )?;
+    let (from, to) = (first.whole.start(), first.whole.end());
+    push_numbered(&mut said.kept, first.index, from, to);
     push_named(&mut said.named, scan, first.index)
 }
 
@@ -90,8 +87,8 @@ fn push_steps(
         let (before, after) = (said.kept.len(), said.found.len());
         push_found(&mut said.found, compiled, scan.text(), pos)?;
         push_step(said, scan, pos)?;
-        push_missing(&mut said.kept, before)?;
-        push_missing(&mut said.found, after)?;
+        push_missing(&mut said.kept, before);
+        push_missing(&mut said.found, after);
     }
     Ok(())
 }
@@ -107,14 +104,14 @@ fn push_scanned(said: &mut Said, alloc: Global, key: &str) -> Result<(), Error> 
 }
 
 /// PATTERNS, options, TEXT, PLACES: from each of the places on the first match, and then what the groups `n` took.
-pub fn push_pattern_scan(line: &mut String, alloc: Global, key: &str) -> Result<(), Error> {
-    let key = with_codes(alloc, key)?;
+pub fn push_pattern_scan(line: &mut Line, alloc: Global, key: &str) -> Result<(), Error> {
     let mut said = Said {
-        kept: String::new(alloc),
-        found: String::new(alloc),
-        named: String::new(alloc),
+        kept: Line::new(alloc),
+        found: Line::new(alloc),
+        named: Line::new(alloc),
     };
-    push_scanned(&mut said, alloc, key.as_str())?;
-    push_agreed(line, said.kept.as_str(), said.found.as_str())?;
-    Ok(line.push_str(said.named.as_str())?)
+    push_scanned(&mut said, alloc, key)?;
+    push_agreed(line, said.kept.as_str(), said.found.as_str());
+    line.text(said.named.as_str());
+    Ok(())
 }

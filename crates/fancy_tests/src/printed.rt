@@ -1,7 +1,7 @@
 //! What a command wrote, and with what status.
 
-use crate::columns::push_differ;
-use std::alloc::{AllocError, Global};
+use crate::line::Line;
+use std::alloc::Global;
 
 /// What a command wrote on standard output and on standard error.
 #[derive(Drop)]
@@ -32,18 +32,22 @@ impl Printed {
     }
 
     /// The line on standard output, if its status goes with it.
-    pub fn push_answer(&self, line: &mut String, status: u8) -> Result<(), AllocError> {
+    pub fn push_answer(&self, line: &mut Line, status: u8) {
         match line_of(&self.out) {
-            Some(out) if self.err.is_empty() && status == wanted_status(out) => line.push_str(out),
-            _ => push_differ(line, "command"),
+            Some(out) if self.err.is_empty() && status == wanted_status(out) => {
+                line.text(out);
+            }
+            _ => line.differ("command"),
         }
     }
 
     /// The status, and the line on standard error.
-    pub fn push_misuse(&self, line: &mut String, status: u8) -> Result<(), AllocError> {
+    pub fn push_misuse(&self, line: &mut Line, status: u8) {
         match line_of(&self.err) {
-            Some(err) if self.out.is_empty() => write!(line, "{status} {err}"),
-            _ => push_differ(line, "command"),
+            Some(err) if self.out.is_empty() => {
+                line.value(status).text(" ").text(err);
+            }
+            _ => line.differ("command"),
         }
     }
 }

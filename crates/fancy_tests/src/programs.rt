@@ -4,6 +4,7 @@ use crate::agreement::push_agreed;
 use crate::answers::{push_default, push_run as push_answer};
 use crate::columns::{limits, pair, split, with_codes};
 use crate::instructions::instruction;
+use crate::line::Line;
 use fancy_regex_engine::error::Error;
 use fancy_regex_engine::vm::{Insn, Prog, ProgParts, RunOptions, Scratch};
 use std::alloc::{AllocError, Global};
@@ -46,36 +47,35 @@ fn options(words: &str) -> RunOptions {
 }
 
 /// What the program is besides its text, where no text is given.
-fn push_parts(line: &mut String, prog: &Prog) -> Result<(), AllocError> {
-    let (length, groups) = (prog.body().len(), prog.total_groups());
-    let (most, explicit) = (prog.max_size(), prog.explicit_group_0());
-    let not_empty = prog.find_not_empty();
-    let is_ended = matches!(prog.body().last(), Some(Insn::End));
-    let is_small = std::mem::size_of::<Insn>() <= 64;
-    write!(
-        line,
-        "{length} {groups} {most} {explicit} {not_empty} {is_ended} {is_small}"
-    )
+fn push_parts(line: &mut Line, prog: &Prog) {
+    line.value(prog.body().len()).text(" ");
+    line.value(prog.total_groups()).text(" ");
+    line.value(prog.max_size()).text(" ");
+    line.value(prog.explicit_group_0()).text(" ");
+    line.value(prog.find_not_empty()).text(" ");
+    line.value(matches!(prog.body().last(), Some(Insn::End)));
+    line.text(" ").value(std::mem::size_of::<Insn>() <= 64);
 }
 
 /// What the run answers, and the one with default options, where these are set.
 fn push_answers(
-    said: &mut String,
+    line: &mut Line,
     alloc: Global,
     prog: &Prog,
     text: &str,
     words: &str,
     scratch: &mut Scratch,
-) -> Result<(), AllocError> {
+) {
     let options = options(words);
-    let text = with_codes(alloc, text)?;
-    push_answer(said, alloc, prog, text.as_str(), &options, scratch)?;
-    push_default(said, alloc, prog, text.as_str(), &options)
+    let mut said = Line::new(alloc);
+    push_answer(&mut said, alloc, prog, text, &options, scratch);
+    push_default(&mut said, alloc, prog, text, &options);
+    push_agreed(line, said.as_str());
 }
 
 /// What is asked of the program: what it is besides its text, or its numbers.
 fn push_told(
-    line: &mut String,
+    line: &mut Line,
     alloc: Global,
     prog: &Prog,
     text: &str,
@@ -83,16 +83,17 @@ fn push_told(
     scratch: &mut Scratch,
 ) -> Result<(), AllocError> {
     if after == "parts" {
-        return push_parts(line, prog);
+        push_parts(line, prog);
+    } else {
+        let text = with_codes(alloc, text)?;
+        push_answers(line, alloc, prog, text.as_str(), after, scratch);
     }
-    let mut said = String::new(alloc);
-    push_answers(&mut said, alloc, prog, text, after, scratch)?;
-    push_agreed(line, said.as_str())
+    Ok(())
 }
 
 /// The numbers of a run: GROUPS,SLOTS, instructions, TEXT, and the place with its limits.
 pub fn push_run(
-    line: &mut String,
+    line: &mut Line,
     alloc: Global,
     key: &str,
     scratch: &mut Scratch,
@@ -103,8 +104,8 @@ pub fn push_run(
     let body = body(alloc, words)?;
     let parts = parts(numbers, words.contains("Reject"));
     if !parts.fits(&body) {
-        return Ok(line.push_str("does not fit")?);
+        line.text("does not fit");
+        return Ok(());
     }
-    let prog = Prog::new(body, parts);
-    Ok(push_told(line, alloc, &prog, text, after, scratch)?)
+    Ok(push_told(line, alloc, &Prog::new(body, parts), text, after, scratch)?)
 }

@@ -1,44 +1,45 @@
 //! What the calls of a regex answer.
 
 use crate::columns::{number, split};
+use crate::line::Line;
 use crate::replacements::template;
 use crate::spans::push_none;
 use fancy_characters::places::is_place;
 use fancy_regex::{Captures, Error, Match, NoExpand, Part, Parts, Regex, escape};
-use std::alloc::{AllocError, Global};
+use std::alloc::Global;
 use std::borrow::CowStr;
 use std::ops::Range;
 
 /// Before an item of a list.
-fn push_space(line: &mut String) -> Result<(), AllocError> {
-    if line.is_empty() {
-        return Ok(());
+fn push_space(line: &mut Line) {
+    if !line.is_empty() {
+        line.text(" ");
     }
-    line.push(' ')
 }
 
 /// START-END, and what it took in brackets.
-pub fn push_match(line: &mut String, found: Match<'_>) -> Result<(), AllocError> {
-    let (start, end) = (found.start(), found.end());
-    write!(line, "{start}-{end}[{}]", found.as_str())
+fn push_match(line: &mut Line, found: Match<'_>) {
+    line.value(found.start()).text("-").value(found.end());
+    line.text("[").text(found.as_str()).text("]");
 }
 
 /// The match, or that there is none.
-fn push_found(line: &mut String, found: Option<Match<'_>>) -> Result<(), AllocError> {
+fn push_found(line: &mut Line, found: Option<Match<'_>>) {
     match found {
         Some(found) => push_match(line, found),
-        None => line.push_str("none"),
+        None => {
+            line.text("none");
+        }
     }
 }
 
 /// The match by all that can be asked of it.
-fn push_facts(line: &mut String, found: Match<'_>) -> Result<(), AllocError> {
-    let (len, is_empty, range) = (found.len(), found.is_empty(), found.range());
-    let (text, other): (&str, Range<usize>) = (found.into(), found.into());
-    write!(
-        line,
-        "{found:?} {len} {is_empty} {range:?} {text} {other:?}"
-    )
+fn push_facts(line: &mut Line, found: Match<'_>) {
+    let (text, range): (&str, Range<usize>) = (found.into(), found.into());
+    line.debug(&found).text(" ").value(found.len());
+    line.text(" ").value(found.is_empty());
+    line.text(" ").debug(&found.range());
+    line.text(" ").text(text).text(" ").debug(&range);
 }
 
 /// The first match, from the place on that the argument may name.
@@ -56,32 +57,49 @@ fn is_first(regex: &mut Regex, text: &str, argument: &str) -> Result<bool, Error
 }
 
 /// Each group after a space, and `-` for one that is not set.
-fn push_groups(line: &mut String, captures: &Captures<'_>) -> Result<(), AllocError> {
+fn push_groups(line: &mut Line, captures: &Captures<'_>) {
     for group in captures.iter() {
-        push_space(line)?;
+        push_space(line);
         match group {
-            Some(found) => push_match(line, found)?,
-            None => line.push('-')?,
+            Some(found) => push_match(line, found),
+            None => {
+                line.text("-");
+            }
         }
     }
+}
+
+/// The template, filled in.
+fn push_expanded(
+    line: &mut Line,
+    alloc: Global,
+    captures: &Captures<'_>,
+    template: &str,
+) -> Result<(), Error> {
+    let mut text = String::new(alloc);
+    captures.expand(template, &mut text)?;
+    line.text(text.as_str());
     Ok(())
 }
 
 /// What the call asks of the groups.
 fn push_captures(
-    line: &mut String,
+    line: &mut Line,
+    alloc: Global,
     captures: &Captures<'_>,
     call: &str,
     argument: &str,
     template: &str,
 ) -> Result<(), Error> {
     match call {
-        "get" => push_found(line, captures.get(number(argument)))?,
-        "name" => push_found(line, captures.name(argument))?,
-        "get_match" => push_match(line, captures.get_match())?,
-        "len" => write!(line, "{}", captures.len())?,
-        "expand" => captures.expand(template, line)?,
-        _ => push_groups(line, captures)?,
+        "get" => push_found(line, captures.get(number(argument))),
+        "name" => push_found(line, captures.name(argument)),
+        "get_match" => push_match(line, captures.get_match()),
+        "len" => {
+            line.value(captures.len());
+        }
+        "expand" => return push_expanded(line, alloc, captures, template),
+        _ => push_groups(line, captures),
     }
     Ok(())
 }
@@ -102,7 +120,8 @@ fn captured<'t>(
 
 /// What the call asks of the groups of the first match.
 fn push_captured(
-    line: &mut String,
+    line: &mut Line,
+    alloc: Global,
     regex: &mut Regex,
     text: &str,
     call: &str,
@@ -110,43 +129,49 @@ fn push_captured(
     template: &str,
 ) -> Result<(), Error> {
     match captured(regex, text, call, argument)? {
-        Some(captures) => push_captures(line, &captures, call, argument, template),
-        None => Ok(line.push_str("none")?),
+        Some(captures) => push_captures(line, alloc, &captures, call, argument, template),
+        None => {
+            line.text("none");
+            Ok(())
+        }
     }
 }
 
 /// All matches.
-fn push_matches(line: &mut String, regex: &mut Regex, text: &str) -> Result<(), Error> {
+fn push_matches(line: &mut Line, regex: &mut Regex, text: &str) -> Result<(), Error> {
     for found in regex.find_iter(text) {
-        push_space(line)?;
-        push_match(line, found?)?;
+        push_space(line);
+        push_match(line, found?);
     }
-    Ok(push_none(line)?)
+    push_none(line);
+    Ok(())
 }
 
 /// The groups of all matches, with `;` between these.
-fn push_all_captures(line: &mut String, regex: &mut Regex, text: &str) -> Result<(), Error> {
+fn push_all_captures(line: &mut Line, regex: &mut Regex, text: &str) -> Result<(), Error> {
     for captures in regex.captures_iter(text) {
         if !line.is_empty() {
-            line.push(';')?;
+            line.text(";");
         }
-        push_groups(line, &captures?)?;
+        push_groups(line, &captures?);
     }
-    Ok(push_none(line)?)
+    push_none(line);
+    Ok(())
 }
 
 /// The pieces of the text, at most so many where a number is given.
-fn push_pieces(line: &mut String, regex: &mut Regex, text: &str, limit: &str) -> Result<(), Error> {
+fn push_pieces(line: &mut Line, regex: &mut Regex, text: &str, limit: &str) -> Result<(), Error> {
     if limit.is_empty() {
         for piece in regex.split(text) {
-            write!(line, "[{}]", piece?)?;
+            line.text("[").text(piece?).text("]");
         }
     } else {
         for piece in regex.splitn(text, number(limit)) {
-            write!(line, "[{}]", piece?)?;
+            line.text("[").text(piece?).text("]");
         }
     }
-    Ok(push_none(line)?)
+    push_none(line);
+    Ok(())
 }
 
 /// The text with matches replaced, by what the call and its argument name.
@@ -173,7 +198,7 @@ fn replaced<'t>(
 
 /// The text with matches replaced.
 fn push_replaced(
-    line: &mut String,
+    line: &mut Line,
     alloc: Global,
     regex: &mut Regex,
     text: &str,
@@ -182,62 +207,70 @@ fn push_replaced(
     by: &str,
 ) -> Result<(), Error> {
     let text = replaced(alloc, regex, text, call, argument, by)?;
-    Ok(line.push_str(text.as_ref())?)
-}
-
-/// The names of the groups after a space, and `-` for one without a name.
-fn push_names(line: &mut String, regex: &Regex) -> Result<(), AllocError> {
-    for name in regex.capture_names() {
-        push_space(line)?;
-        line.push_str(name.unwrap_or("-"))?;
-    }
+    line.text(text.as_ref());
     Ok(())
 }
 
+/// The names of the groups after a space, and `-` for one without a name.
+fn push_names(line: &mut Line, regex: &Regex) {
+    for name in regex.capture_names() {
+        push_space(line);
+        line.text(name.unwrap_or("-"));
+    }
+}
+
 /// What the iterators of the matches say of themselves.
-fn push_iterators(line: &mut String, regex: &mut Regex, text: &str) -> Result<(), AllocError> {
+fn push_iterators(line: &mut Line, regex: &mut Regex, text: &str) {
     let matches = regex.find_iter(text);
-    line.push_str(matches.regex().as_str())?;
-    line.push_str(matches.text())?;
+    line.text(matches.regex().as_str()).text(matches.text());
     let captures = regex.captures_iter(text);
-    line.push_str(captures.regex().as_str())?;
-    line.push_str(captures.text())
+    line.text(captures.regex().as_str()).text(captures.text());
 }
 
 /// What the regex says of its pattern.
-fn push_about(line: &mut String, regex: &Regex, call: &str) -> Result<(), AllocError> {
+fn push_about(line: &mut Line, regex: &Regex, call: &str) {
     match call {
-        "captures_len" => write!(line, "{}", regex.captures_len()),
+        "captures_len" => {
+            line.value(regex.captures_len());
+        }
         "capture_names" => push_names(line, regex),
-        "display" => write!(line, "{regex} {regex:?}"),
-        _ => line.push_str(regex.as_str()),
+        "display" => {
+            line.value(regex).text(" ").debug(regex);
+        }
+        _ => {
+            line.text(regex.as_str());
+        }
     }
 }
 
 /// What a search for the first match answers.
 fn push_search(
-    line: &mut String,
+    line: &mut Line,
     regex: &mut Regex,
     text: &str,
     call: &str,
     argument: &str,
 ) -> Result<(), Error> {
     match call {
-        "is_match" => write!(line, "{}", regex.is_match(text)?)?,
-        "is_first" => write!(line, "{}", is_first(regex, text, argument)?)?,
+        "is_match" => {
+            line.value(regex.is_match(text)?);
+        }
+        "is_first" => {
+            line.value(is_first(regex, text, argument)?);
+        }
         "match" => {
             if let Some(found) = regex.find(text)? {
-                push_facts(line, found)?;
+                push_facts(line, found);
             }
         }
-        _ => push_found(line, found(regex, text, argument)?)?,
+        _ => push_found(line, found(regex, text, argument)?),
     }
     Ok(())
 }
 
 /// CALL with its argument, TEXT, and a template: what the regex answers to the call.
 pub fn push_call(
-    line: &mut String,
+    line: &mut Line,
     alloc: Global,
     regex: &mut Regex,
     columns: &str,
@@ -255,11 +288,18 @@ pub fn push_call(
         "replace" | "replacen" | "replace_all" => {
             push_replaced(line, alloc, regex, text, call, argument, by)
         }
-        "as_str" | "display" | "captures_len" | "capture_names" => Ok(push_about(
-            line, regex, call,
-        )?),
-        "iterators" => Ok(push_iterators(line, regex, text)?),
-        "escape" => Ok(line.push_str(escape(alloc, text)?.as_str())?),
-        _ => push_captured(line, regex, text, call, argument, by),
+        "as_str" | "display" | "captures_len" | "capture_names" => {
+            push_about(line, regex, call);
+            Ok(())
+        }
+        "iterators" => {
+            push_iterators(line, regex, text);
+            Ok(())
+        }
+        "escape" => {
+            line.text(escape(alloc, text)?.as_str());
+            Ok(())
+        }
+        _ => push_captured(line, alloc, regex, text, call, argument, by),
     }
 }

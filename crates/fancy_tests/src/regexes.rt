@@ -1,6 +1,7 @@
 //! Patterns by the names of fancy-regex: their regexes, built with the options of a row.
 
-use crate::columns::{number, push_differ, split, with_codes, written_out};
+use crate::columns::{number, split, with_codes, written_out};
+use crate::line::Line;
 use crate::pattern_scans::push_pattern_scan;
 use crate::regex_calls::push_call;
 use fancy_regex::{Error, Regex, RegexBuilder};
@@ -55,34 +56,34 @@ pub fn regex_of(alloc: Global, pattern: &str, words: &str) -> Result<Regex, Erro
     builder_of(pattern, words).build(alloc)
 }
 
-/// What a clone of the regex answers.
-fn push_by_clone(
-    again: &mut String,
-    alloc: Global,
-    regex: &Regex,
-    columns: &str,
-) -> Result<(), Error> {
-    push_call(again, alloc, &mut regex.try_clone()?, columns)
-}
-
 /// What the regex answers, and what its clone does.
 fn push_twice(
-    line: &mut String,
-    again: &mut String,
+    line: &mut Line,
+    again: &mut Line,
     alloc: Global,
     regex: &mut Regex,
     columns: &str,
 ) -> Result<(), Error> {
-    push_by_clone(again, alloc, regex, columns)?;
+    push_call(again, alloc, &mut regex.try_clone()?, columns)?;
     push_call(line, alloc, regex, columns)
 }
 
-/// The same of the regex of the pattern.
-fn push_both(line: &mut String, again: &mut String, alloc: Global, key: &str) -> Result<(), Error> {
+/// PATTERN, options, CALL, TEXT, and a template: what the regex answers to the call, and what its clone does.
+fn push_both(line: &mut Line, again: &mut Line, alloc: Global, key: &str) -> Result<(), Error> {
     let (pattern, rest) = split(key);
     let (words, columns) = split(rest);
     let mut regex = regex_of(alloc, pattern, words)?;
     push_twice(line, again, alloc, &mut regex, columns)
+}
+
+/// The same, if the clone answers the same.
+fn push_answered(line: &mut Line, alloc: Global, key: &str) -> Result<(), Error> {
+    let mut again = Line::new(alloc);
+    push_both(line, &mut again, alloc, key)?;
+    if line.as_str() != again.as_str() {
+        line.differ("try_clone");
+    }
+    Ok(())
 }
 
 /// The key, in which the table spells characters by their codes, or long texts.
@@ -94,40 +95,31 @@ fn written(alloc: Global, table: &str, key: &str) -> Result<String, AllocError> 
     }
 }
 
-/// PATTERN, options, CALL, TEXT, and a template: what the regex answers to the call, if its clone answers the same.
-fn push_answered(line: &mut String, alloc: Global, table: &str, key: &str) -> Result<(), Error> {
-    let key = written(alloc, table, key)?;
-    let mut again = String::new(alloc);
-    push_both(line, &mut again, alloc, key.as_str())?;
-    if line.as_str() != again.as_str() {
-        push_differ(line, "try_clone")?;
-    }
-    Ok(())
-}
-
 /// An error in the place of what was written before it, or its message.
-fn finish(line: &mut String, table: &str, outcome: Result<(), Error>) -> Result<(), AllocError> {
-    let Err(error) = outcome else {
-        return Ok(());
-    };
+fn push_error(line: &mut Line, table: &str, error: &Error) {
     line.clear();
     if table == "messages" {
-        return write!(line, "{error}");
+        line.value(error);
+    } else {
+        line.debug(error);
     }
-    write!(line, "{error:?}")
 }
 
 /// What comes out for the key of a row.
 pub fn push_regex(
-    line: &mut String,
+    line: &mut Line,
     alloc: Global,
     table: &str,
     key: &str,
 ) -> Result<(), AllocError> {
+    let key = written(alloc, table, key)?;
     let outcome = if table == "pattern_scans" {
-        push_pattern_scan(line, alloc, key)
+        push_pattern_scan(line, alloc, key.as_str())
     } else {
-        push_answered(line, alloc, table, key)
+        push_answered(line, alloc, key.as_str())
     };
-    finish(line, table, outcome)
+    if let Err(error) = outcome {
+        push_error(line, table, &error);
+    }
+    Ok(())
 }

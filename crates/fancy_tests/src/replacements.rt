@@ -1,6 +1,7 @@
 //! Matches that are replaced.
 
 use crate::columns::{names_of, number, split as columns};
+use crate::line::Line;
 use fancy_matches::regexes::Regex;
 use fancy_regex_engine::error::Error;
 use fancy_replace::replace::{replace, replace_all, replacen};
@@ -15,7 +16,7 @@ pub fn template(alloc: Global, named: &str, text: &str) -> Result<Template, Allo
 
 /// The text with its matches replaced, by the call that the column names.
 fn push_replaced(
-    line: &mut String,
+    line: &mut Line,
     alloc: Global,
     regex: &mut Regex,
     text: &str,
@@ -26,13 +27,14 @@ fn push_replaced(
         "all" => replace_all(alloc, regex, text, template),
         "first" => replace(alloc, regex, text, template),
         _ => replacen(alloc, regex, text, number(limit), template),
-    };
-    Ok(line.push_str(made?.as_ref())?)
+    }?;
+    line.text(made.as_ref());
+    Ok(())
 }
 
 /// TEXT, how many at most, names, a template: the text with its matches replaced.
 pub fn push_replacement(
-    line: &mut String,
+    line: &mut Line,
     alloc: Global,
     regex: &mut Regex,
     text: &str,

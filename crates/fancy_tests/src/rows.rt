@@ -1,5 +1,6 @@
 //! What stands in the place of a row's last column.
 
+use crate::line::Line;
 use crate::{
     characters, fragments, layouts, lists, programs, regexes, scans, searches, states, syntax,
     trees,
@@ -10,7 +11,7 @@ use std::alloc::{AllocError, Global};
 
 /// What comes out for the key of a row of programs.
 fn push_program(
-    line: &mut String,
+    line: &mut Line,
     alloc: Global,
     table: &str,
     key: &str,
@@ -25,14 +26,16 @@ fn push_program(
 
 /// What comes out for the key of a row of this table, whose name begins with its folder's.
 pub fn push_outcome(
-    line: &mut String,
+    line: &mut Line,
     alloc: Global,
     table: &str,
     key: &str,
     scratch: &mut Scratch,
 ) -> Result<(), Error> {
     match table.split_once('/') {
-        Some(("searches", table)) => searches::push_search(line, alloc, table, key, scratch),
+        Some(("searches", table)) => {
+            Ok(searches::push_search(line, alloc, table, key, scratch)?)
+        }
         Some(("programs", table)) => push_program(line, alloc, table, key, scratch),
         Some(("characters", table)) => characters::push_character(line, alloc, table, key),
         Some(("trees", table)) => trees::push_tree(line, alloc, table, key),
@@ -46,10 +49,9 @@ pub fn push_outcome(
 }
 
 /// A refusal or a limit in the place of what was written before it.
-pub fn finish(line: &mut String, outcome: Result<(), Error>) -> Result<(), AllocError> {
-    let Err(error) = outcome else {
-        return Ok(());
-    };
-    line.clear();
-    write!(line, "{error:?}")
+pub fn finish(line: &mut Line, outcome: Result<(), Error>) -> Result<(), AllocError> {
+    if let Err(error) = outcome {
+        line.clear().debug(&error);
+    }
+    line.end()
 }

@@ -1,57 +1,52 @@
 //! Lists of spans of a text.
 
-use std::alloc::AllocError;
+use crate::line::Line;
 
 /// Before an item of a list.
-pub fn push_comma(line: &mut String) -> Result<(), AllocError> {
-    if line.is_empty() {
-        return Ok(());
+pub fn push_comma(line: &mut Line) {
+    if !line.is_empty() {
+        line.text(", ");
     }
-    line.push_str(", ")
 }
 
 /// A list without an item.
-pub fn push_none(line: &mut String) -> Result<(), AllocError> {
+pub fn push_none(line: &mut Line) {
     if line.is_empty() {
-        return line.push_str("none");
+        line.text("none");
     }
-    Ok(())
+}
+
+/// A span.
+fn push_span(line: &mut Line, from: usize, to: usize) {
+    line.value(from).text("-").value(to);
 }
 
 /// A span as an item of a list.
-pub fn push_span(line: &mut String, from: usize, to: usize) -> Result<(), AllocError> {
-    push_comma(line)?;
-    write!(line, "{from}-{to}")
+pub fn push_item(line: &mut Line, from: usize, to: usize) {
+    push_comma(line);
+    push_span(line, from, to);
 }
 
 /// The span of a group, behind that of its match.
-pub fn push_group(
-    line: &mut String,
-    group: usize,
-    from: usize,
-    to: usize,
-) -> Result<(), AllocError> {
-    write!(line, " {group}:{from}-{to}")
+pub fn push_group(line: &mut Line, group: usize, from: usize, to: usize) {
+    line.text(" ").value(group).text(":");
+    push_span(line, from, to);
 }
 
 /// A span as an item of a list, with a number before it.
-pub fn push_numbered(
-    line: &mut String,
-    number: usize,
-    from: usize,
-    to: usize,
-) -> Result<(), AllocError> {
-    push_comma(line)?;
-    write!(line, "{number}:{from}-{to}")
+pub fn push_numbered(line: &mut Line, number: usize, from: usize, to: usize) {
+    push_comma(line);
+    line.value(number).text(":");
+    push_span(line, from, to);
 }
 
 /// The list of matches with their groups, or what is said of another list, where their spans alone are not that list.
-pub fn close(line: &mut String, spans: &str, others: &str) -> Result<(), AllocError> {
+pub fn close(line: &mut Line, spans: &str, others: &str) {
     if spans == others {
-        return push_none(line);
+        push_none(line);
+    } else {
+        line.clear().text("DIFFER: find_iter ").text(others);
     }
-    line.clear();
-    write!(line, "DIFFER: find_iter {others}")
 }
 
 /// Where a search goes on behind a match: one byte further where it took nothing.

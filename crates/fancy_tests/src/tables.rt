@@ -1,6 +1,7 @@
 //! Prints each row's key and, in the place of its last column, which is not read, what comes out for that key.
 
 use crate::columns::key_of;
+use crate::line::Line;
 use crate::rows;
 use fancy_regex_engine::vm::Scratch;
 use std::{fs, io};
@@ -11,10 +12,10 @@ fn print_row(rt: &HostRuntime, table: &str, row: &str, scratch: &mut Scratch) ->
         return println!(rt; "{row}");
     }
     let key = key_of(row);
-    let mut line = String::new(rt.alloc());
+    let mut line = Line::new(rt.alloc());
     let outcome = rows::push_outcome(&mut line, rt.alloc(), table, key, scratch);
     rows::finish(&mut line, outcome)?;
-    println!(rt; "{key} | {line}")
+    println!(rt; "{key} | {}", line.as_str())
 }
 
 /// The table of this name, row by row.
