@@ -30,8 +30,8 @@ pub fn push_refusal(line: &mut Line, alloc: Global, tree: &ExprTree, context: An
 
 /// How many characters the tree takes at least and at most, and whether always as many.
 fn push_size(line: &mut Line, info: &Info<'_>) {
-    line.value(info.min_size()).text(" ").value(info.max_size());
-    line.text(" ").value(info.const_size());
+    line.value(info.min_size()).space().value(info.max_size());
+    line.space().value(info.const_size());
 }
 
 /// A word where it holds.
@@ -44,7 +44,7 @@ fn push_word(line: &mut Line, holds: bool, word: &str) {
 /// What is said of the node: group numbers, sizes, and what holds.
 fn push_facts(line: &mut Line, info: &Info<'_>) {
     line.value(info.start_group()).text("..");
-    line.value(info.end_group()).text(" ");
+    line.value(info.end_group()).space();
     line.value(info.min_size())
         .text("..")
         .value(info.max_size());
@@ -59,15 +59,15 @@ fn push_facts(line: &mut Line, info: &Info<'_>) {
 fn push_nodes(line: &mut Line, info: &Info<'_>) {
     push_facts(line, info);
     for child in info.children() {
-        line.text(" ");
+        line.space();
         push_facts(line, child);
     }
 }
 
 /// The options that an analysis keeps, and whether its expression is a concatenation.
 fn push_options(line: &mut Line, info: &Info<'_>) {
-    line.value(info.explicit_capture_group_0()).text(" ");
-    line.value(info.find_not_empty()).text(" ");
+    line.value(info.explicit_capture_group_0()).space();
+    line.value(info.find_not_empty()).space();
     line.value(info.end_text_option());
     line.text(match info.expr() {
         Expr::Concat(_) => " cat",

@@ -9,7 +9,7 @@ use std::alloc::Global;
 
 /// The numbers, or that there is no match, or why there is no answer.
 fn push_numbers(said: &mut Line, call: &str, found: &Result<Option<Vec<usize>>, Error>) {
-    said.text(call).text(" ");
+    said.text(call).space();
     match found {
         Ok(Some(numbers)) => said.debug(numbers),
         Ok(None) => said.text("none"),

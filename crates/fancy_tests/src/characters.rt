@@ -27,30 +27,33 @@ fn push_class(line: &mut Line, alloc: Global, key: &str) -> Result<(), Error> {
     let unicode = !letters.contains('a');
     let class = CharClassMatcher::codepoint(alloc, name, casei, unicode)?;
     let taken = class.match_len(alloc, text.as_str(), 0)?;
-    line.text(name_of(&class)).text(" ").debug(&taken);
+    line.text(name_of(&class)).space().debug(&taken);
     Ok(())
+}
+
+/// How many bytes of the text end a line.
+fn newline_len(alloc: Global, text: &str, unicode: bool) -> Result<Option<usize>, Error> {
+    CharClassMatcher::Newline { unicode }.match_len(alloc, text, 0)
 }
 
 /// How many bytes of the text end a line by ASCII and by Unicode.
 fn push_newline(line: &mut Line, alloc: Global, text: &str) -> Result<(), Error> {
     let text = with_codes(alloc, text)?;
-    let ascii = CharClassMatcher::Newline { unicode: false };
-    line.debug(&ascii.match_len(alloc, text.as_str(), 0)?);
-    let unicode = CharClassMatcher::Newline { unicode: true };
-    line.text(" ")
-        .debug(&unicode.match_len(alloc, text.as_str(), 0)?);
+    line.debug(&newline_len(alloc, text.as_str(), false)?);
+    line.space();
+    line.debug(&newline_len(alloc, text.as_str(), true)?);
     Ok(())
 }
 
 /// Whether the texts are equal when they are folded, and their first characters.
 fn push_folds(line: &mut Line, key: &str) {
     let (one, other) = split(key);
+    let first = match (one.chars().next(), other.chars().next()) {
+        (Some(one), Some(other)) => fold_equal(one, other),
+        _ => false,
+    };
     line.value(matches_literal_casei_unicode(one, other));
-    line.text(" ")
-        .value(match (one.chars().next(), other.chars().next()) {
-            (Some(one), Some(other)) => fold_equal(one, other),
-            _ => false,
-        });
+    line.space().value(first);
 }
 
 /// How many bytes a literal takes at a place.
@@ -89,7 +92,7 @@ fn push_held(line: &mut Line, assertion: Assertion, unicode: bool, text: &str) {
     line.text("at");
     for ix in 0..text.len() + 1 {
         if text.is_char_boundary(ix) && holds(assertion, unicode, text, ix) {
-            line.text(" ").value(ix);
+            line.space().value(ix);
         }
     }
 }

@@ -95,34 +95,44 @@ pub fn with_codes(alloc: Global, column: &str) -> Result<String, AllocError> {
     text.into_string()
 }
 
-/// The words that stand in brackets.
-pub fn bracket_words(alloc: Global, key: &str) -> Result<Vec<String>, AllocError> {
-    let mut words = Vec::new(alloc);
-    for piece in key.split('[').skip(1) {
-        let word = piece.trim_end().strip_suffix(']').unwrap_or(piece);
-        words.push(String::from_str(alloc, word)?)?;
-    }
-    Ok(words)
+/// One more word.
+fn add_word(words: &mut Vec<String>, alloc: Global, word: &str) -> Result<(), AllocError> {
+    words.push(String::from_str(alloc, word)?)?;
+    Ok(())
 }
 
-/// TREE, TEXT, and the words after them.
-pub fn search_words(alloc: Global, key: &str) -> Result<Vec<String>, AllocError> {
-    let (tree, rest) = split(key);
-    let (text, after) = split(rest);
-    let mut words = Vec::new(alloc);
-    words.push(String::from_str(alloc, tree)?)?;
-    words.push(with_line_ends(alloc, text)?)?;
-    words.append(&mut words_of(alloc, after)?)?;
-    Ok(words)
+/// The words that stand in brackets.
+pub fn add_bracket_words(
+    words: &mut Vec<String>,
+    alloc: Global,
+    key: &str,
+) -> Result<(), AllocError> {
+    for piece in key.split('[').skip(1) {
+        let word = piece.trim_end().strip_suffix(']').unwrap_or(piece);
+        add_word(words, alloc, word)?;
+    }
+    Ok(())
 }
 
 /// The words of a column.
-pub fn words_of(alloc: Global, column: &str) -> Result<Vec<String>, AllocError> {
-    let mut words = Vec::new(alloc);
+pub fn add_words(words: &mut Vec<String>, alloc: Global, column: &str) -> Result<(), AllocError> {
     for word in column.split_whitespace() {
-        words.push(String::from_str(alloc, word)?)?;
+        add_word(words, alloc, word)?;
     }
-    Ok(words)
+    Ok(())
+}
+
+/// TREE, TEXT, and the words after them.
+pub fn add_search_words(
+    words: &mut Vec<String>,
+    alloc: Global,
+    key: &str,
+) -> Result<(), AllocError> {
+    let (tree, rest) = split(key);
+    let (text, after) = split(rest);
+    add_word(words, alloc, tree)?;
+    words.push(with_line_ends(alloc, text)?)?;
+    add_words(words, alloc, after)
 }
 
 /// The characters, each followed by `+` where it is folded and by `-` where it is not.

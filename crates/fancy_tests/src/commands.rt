@@ -31,7 +31,7 @@ pub fn push_least_room(line: &mut Line, alloc: Global, words: &[String]) {
         let status = command(alloc, words, &mut out, &mut err);
         match out.failures().saturating_add(err.failures()) {
             0 => {
-                line.value(room).text(" ").value(status);
+                line.value(room).space().value(status);
                 return;
             }
             1 if status == 3 => {}

@@ -100,15 +100,20 @@ fn visits_together(
     Ok(visits)
 }
 
+/// The same, from where nothing is noted.
+fn visits_in_all(alloc: Global, fragment: &Fragment, text: &str) -> Result<u64, Error> {
+    let mut memo = fragment.memo(alloc, 0);
+    visits_together(alloc, fragment, text, &mut memo)
+}
+
 /// The searches from all places of the text but its end.
-fn push_visited(
+fn push_starts(
     line: &mut Line,
     alloc: Global,
     fragment: &Fragment,
     text: &str,
 ) -> Result<(), Error> {
-    let mut memo = fragment.memo(alloc, 0);
-    line.value(visits_together(alloc, fragment, text, &mut memo)?);
+    line.value(visits_in_all(alloc, fragment, text)?);
     line.text(" together, ");
     line.value(visits_alone(alloc, fragment, text)?);
     line.text(" alone");
@@ -130,7 +135,7 @@ fn push_told(
         }
         "starts" => {
             let text = written_out(alloc, columns)?;
-            push_visited(line, alloc, fragment, text.as_str())
+            push_starts(line, alloc, fragment, text.as_str())
         }
         _ => push_first_way(line, alloc, table, fragment, columns),
     }

@@ -1,6 +1,6 @@
 //! The instructions of a program that is built by hand.
 
-use crate::columns::{folded_chars, four, number, pair};
+use crate::columns::{folded_chars, four, number};
 use fancy_regex_engine::classes::{CaseiLiteral, CharClassMatcher};
 use fancy_regex_engine::error::Error;
 use fancy_regex_engine::expr::Assertion;
@@ -45,8 +45,7 @@ fn with_text(alloc: Global, name: &str, text: &str) -> Result<Insn, Error> {
 /// The instruction that the word spells, as `Split:3,1`.
 pub fn instruction(alloc: Global, word: &str) -> Result<Insn, Error> {
     let (name, after) = word.split_once(':').unwrap_or((word, ""));
-    let (x, y) = pair(after);
-    let (lo, hi, next, last) = four(after);
+    let (x, y, next, last) = four(after);
     Ok(match name {
         "End" => Insn::End,
         "Any" => Insn::Any,
@@ -63,14 +62,14 @@ pub fn instruction(alloc: Global, word: &str) -> Result<Insn, Error> {
         "SCGS" => Insn::SaveCaptureGroupStart { group: x, slot: y },
         "SCG" => Insn::SaveCaptureGroup { group: x, slot: y },
         "RepeatNg" => Insn::RepeatNg {
-            lo,
-            hi,
+            lo: x,
+            hi: y,
             next,
             repeat: last,
         },
         "RepeatEpsilonGr" => Insn::RepeatEpsilonGr {
-            lo,
-            next: hi,
+            lo: x,
+            next: y,
             repeat: next,
             check: last,
         },

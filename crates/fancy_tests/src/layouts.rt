@@ -48,7 +48,7 @@ fn push_body(line: &mut Line, alloc: Global, insns: &[Insn]) {
     let mut text = Line::new(alloc);
     for insn in insns {
         if !text.is_empty() {
-            text.text(" ");
+            text.space();
         }
         text.value(insn);
     }

@@ -48,6 +48,11 @@ impl Line {
         self
     }
 
+    /// Adds a space.
+    pub fn space(&mut self) -> &mut Line {
+        self.text(" ")
+    }
+
     /// Adds a value as `{}` writes it.
     pub fn value<T: Display + Drop>(&mut self, value: T) -> &mut Line {
         if self.written.is_ok() {

@@ -1,6 +1,6 @@
 //! Lists of matches and of pieces, and texts with their matches replaced.
 
-use crate::columns::{number, split as columns, with_line_ends, words_of, written_out};
+use crate::columns::{add_words, number, split as columns, with_line_ends, written_out};
 use crate::line::Line;
 use crate::replacements::push_replacement;
 use crate::spans::{close, push_group, push_item, push_none};
@@ -17,8 +17,9 @@ const MOST_GROUPS: usize = 10;
 
 /// The regex of a tree by these words.
 pub fn regex_of(alloc: Global, tree: &ExprTree, words: &str) -> Result<Regex, Error> {
-    let words = words_of(alloc, words)?;
-    let Some(arguments) = read_arguments(&words) else {
+    let mut all = Vec::new(alloc);
+    add_words(&mut all, alloc, words)?;
+    let Some(arguments) = read_arguments(&all) else {
         return Err(Error::TreeFault { at: 0 });
     };
     let options = arguments.options();

@@ -55,7 +55,7 @@ fn push_named(named: &mut Line, scan: &ScanText<'_, '_>, index: usize) -> Result
         return Ok(());
     };
     if let Some(found) = captures.name("n") {
-        named.text(" ").text(found.as_str());
+        named.space().text(found.as_str());
     }
     Ok(())
 }

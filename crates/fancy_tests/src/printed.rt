@@ -45,7 +45,7 @@ impl Printed {
     pub fn push_misuse(&self, line: &mut Line, status: u8) {
         match line_of(&self.err) {
             Some(err) if self.out.is_empty() => {
-                line.value(status).text(" ").text(err);
+                line.value(status).space().text(err);
             }
             _ => line.differ("command"),
         }

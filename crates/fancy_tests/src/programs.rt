@@ -7,7 +7,7 @@ use crate::instructions::instruction;
 use crate::line::Line;
 use fancy_regex_engine::error::Error;
 use fancy_regex_engine::vm::{Insn, Prog, ProgParts, RunOptions, Scratch};
-use std::alloc::{AllocError, Global};
+use std::alloc::Global;
 
 /// What a program without explicit group 0 is besides its instructions.
 fn parts(numbers: &str, end_text: bool) -> ProgParts {
@@ -48,13 +48,13 @@ fn options(words: &str) -> RunOptions {
 
 /// What the program is besides its text, where no text is given.
 fn push_parts(line: &mut Line, prog: &Prog) {
-    line.value(prog.body().len()).text(" ");
-    line.value(prog.total_groups()).text(" ");
-    line.value(prog.max_size()).text(" ");
-    line.value(prog.explicit_group_0()).text(" ");
-    line.value(prog.find_not_empty()).text(" ");
+    line.value(prog.body().len()).space();
+    line.value(prog.total_groups()).space();
+    line.value(prog.max_size()).space();
+    line.value(prog.explicit_group_0()).space();
+    line.value(prog.find_not_empty()).space();
     line.value(matches!(prog.body().last(), Some(Insn::End)));
-    line.text(" ").value(std::mem::size_of::<Insn>() <= 64);
+    line.space().value(std::mem::size_of::<Insn>() <= 64);
 }
 
 /// What the run answers, and the one with default options, where these are set.
@@ -81,7 +81,7 @@ fn push_told(
     text: &str,
     after: &str,
     scratch: &mut Scratch,
-) -> Result<(), AllocError> {
+) -> Result<(), Error> {
     if after == "parts" {
         push_parts(line, prog);
     } else {
@@ -107,5 +107,6 @@ pub fn push_run(
         line.text("does not fit");
         return Ok(());
     }
-    Ok(push_told(line, alloc, &Prog::new(body, parts), text, after, scratch)?)
+    let prog = Prog::new(body, parts);
+    push_told(line, alloc, &prog, text, after, scratch)
 }

@@ -13,7 +13,7 @@ use std::ops::Range;
 /// Before an item of a list.
 fn push_space(line: &mut Line) {
     if !line.is_empty() {
-        line.text(" ");
+        line.space();
     }
 }
 
@@ -36,10 +36,10 @@ fn push_found(line: &mut Line, found: Option<Match<'_>>) {
 /// The match by all that can be asked of it.
 fn push_facts(line: &mut Line, found: Match<'_>) {
     let (text, range): (&str, Range<usize>) = (found.into(), found.into());
-    line.debug(&found).text(" ").value(found.len());
-    line.text(" ").value(found.is_empty());
-    line.text(" ").debug(&found.range());
-    line.text(" ").text(text).text(" ").debug(&range);
+    line.debug(&found).space().value(found.len());
+    line.space().value(found.is_empty());
+    line.space().debug(&found.range());
+    line.space().text(text).space().debug(&range);
 }
 
 /// The first match, from the place on that the argument may name.
@@ -174,6 +174,25 @@ fn push_pieces(line: &mut Line, regex: &mut Regex, text: &str, limit: &str) -> R
     Ok(())
 }
 
+/// The text with all matches replaced, in the way that the argument names.
+fn replaced_all<'t>(
+    alloc: Global,
+    regex: &mut Regex,
+    text: &'t str,
+    argument: &str,
+    by: &str,
+) -> Result<CowStr<'t, Global>, Error> {
+    match argument {
+        "no_expand" => regex.replace_all(text, NoExpand(by)),
+        "template" => regex.replace_all(text, template(alloc, "", by)?),
+        "parts" => {
+            let parts = [Part::Group(1), Part::Text(by), Part::Group(0)];
+            regex.replace_all(text, Parts(&parts))
+        }
+        _ => regex.replace_all(text, by),
+    }
+}
+
 /// The text with matches replaced, by what the call and its argument name.
 fn replaced<'t>(
     alloc: Global,
@@ -183,16 +202,10 @@ fn replaced<'t>(
     argument: &str,
     by: &str,
 ) -> Result<CowStr<'t, Global>, Error> {
-    match (call, argument) {
-        ("replace", _) => regex.replace(text, by),
-        ("replacen", limit) => regex.replacen(text, number(limit), by),
-        ("replace_all", "no_expand") => regex.replace_all(text, NoExpand(by)),
-        ("replace_all", "template") => regex.replace_all(text, template(alloc, "", by)?),
-        ("replace_all", "parts") => {
-            let parts = [Part::Group(1), Part::Text(by), Part::Group(0)];
-            regex.replace_all(text, Parts(&parts))
-        }
-        _ => regex.replace_all(text, by),
+    match call {
+        "replace" => regex.replace(text, by),
+        "replacen" => regex.replacen(text, number(argument), by),
+        _ => replaced_all(alloc, regex, text, argument, by),
     }
 }
 
@@ -235,7 +248,7 @@ fn push_about(line: &mut Line, regex: &Regex, call: &str) {
         }
         "capture_names" => push_names(line, regex),
         "display" => {
-            line.value(regex).text(" ").debug(regex);
+            line.value(regex).space().debug(regex);
         }
         _ => {
             line.text(regex.as_str());
@@ -243,13 +256,15 @@ fn push_about(line: &mut Line, regex: &Regex, call: &str) {
     }
 }
 
-/// What a search for the first match answers.
+/// What a search for the first match answers, or what the call asks of its groups.
 fn push_search(
     line: &mut Line,
+    alloc: Global,
     regex: &mut Regex,
     text: &str,
     call: &str,
     argument: &str,
+    template: &str,
 ) -> Result<(), Error> {
     match call {
         "is_match" => {
@@ -263,7 +278,8 @@ fn push_search(
                 push_facts(line, found);
             }
         }
-        _ => push_found(line, found(regex, text, argument)?),
+        "find" | "find_from_pos" => push_found(line, found(regex, text, argument)?),
+        _ => return push_captured(line, alloc, regex, text, call, argument, template),
     }
     Ok(())
 }
@@ -279,27 +295,18 @@ pub fn push_call(
     let (call, argument) = call.split_once(' ').unwrap_or((call, ""));
     let (text, by) = split(rest);
     match call {
-        "is_match" | "is_first" | "match" | "find" | "find_from_pos" => {
-            push_search(line, regex, text, call, argument)
-        }
-        "find_iter" => push_matches(line, regex, text),
-        "captures_iter" => push_all_captures(line, regex, text),
-        "split" | "splitn" => push_pieces(line, regex, text, argument),
+        "find_iter" => return push_matches(line, regex, text),
+        "captures_iter" => return push_all_captures(line, regex, text),
+        "split" | "splitn" => return push_pieces(line, regex, text, argument),
         "replace" | "replacen" | "replace_all" => {
-            push_replaced(line, alloc, regex, text, call, argument, by)
+            return push_replaced(line, alloc, regex, text, call, argument, by);
         }
-        "as_str" | "display" | "captures_len" | "capture_names" => {
-            push_about(line, regex, call);
-            Ok(())
-        }
-        "iterators" => {
-            push_iterators(line, regex, text);
-            Ok(())
-        }
+        "as_str" | "display" | "captures_len" | "capture_names" => push_about(line, regex, call),
+        "iterators" => push_iterators(line, regex, text),
         "escape" => {
             line.text(escape(alloc, text)?.as_str());
-            Ok(())
         }
-        _ => push_captured(line, alloc, regex, text, call, argument, by),
+        _ => return push_search(line, alloc, regex, text, call, argument, by),
     }
+    Ok(())
 }

@@ -5,6 +5,7 @@ use crate::line::Line;
 use crate::pattern_scans::push_pattern_scan;
 use crate::regex_calls::push_call;
 use fancy_regex::{Error, Regex, RegexBuilder};
+use fancy_regex_engine::error::Error as EngineError;
 use std::alloc::{AllocError, Global};
 
 /// The limit that the text spells, or none.
@@ -111,7 +112,7 @@ pub fn push_regex(
     alloc: Global,
     table: &str,
     key: &str,
-) -> Result<(), AllocError> {
+) -> Result<(), EngineError> {
     let key = written(alloc, table, key)?;
     let outcome = if table == "pattern_scans" {
         push_pattern_scan(line, alloc, key.as_str())

@@ -24,6 +24,15 @@ fn push_program(
     }
 }
 
+/// What comes out for the key of a row of lists.
+fn push_list(line: &mut Line, alloc: Global, table: &str, key: &str) -> Result<(), Error> {
+    if table == "scans" {
+        scans::push_scans(line, alloc, key)
+    } else {
+        lists::push_list(line, alloc, table, key)
+    }
+}
+
 /// What comes out for the key of a row of this table, whose name begins with its folder's.
 pub fn push_outcome(
     line: &mut Line,
@@ -32,19 +41,16 @@ pub fn push_outcome(
     key: &str,
     scratch: &mut Scratch,
 ) -> Result<(), Error> {
-    match table.split_once('/') {
-        Some(("searches", table)) => {
-            Ok(searches::push_search(line, alloc, table, key, scratch)?)
-        }
-        Some(("programs", table)) => push_program(line, alloc, table, key, scratch),
-        Some(("characters", table)) => characters::push_character(line, alloc, table, key),
-        Some(("trees", table)) => trees::push_tree(line, alloc, table, key),
-        Some(("fragments", table)) => fragments::push_fragment(line, alloc, table, key),
-        Some(("lists", "scans")) => scans::push_scans(line, alloc, key),
-        Some(("syntax", table)) => syntax::push_pattern(line, alloc, table, key),
-        Some(("lists", table)) => lists::push_list(line, alloc, table, key),
-        Some(("regexes", table)) => Ok(regexes::push_regex(line, alloc, table, key)?),
-        _ => Ok(()),
+    let (folder, table) = table.split_once('/').unwrap_or((table, ""));
+    match folder {
+        "searches" => searches::push_search(line, alloc, table, key, scratch),
+        "programs" => push_program(line, alloc, table, key, scratch),
+        "characters" => characters::push_character(line, alloc, table, key),
+        "trees" => trees::push_tree(line, alloc, table, key),
+        "fragments" => fragments::push_fragment(line, alloc, table, key),
+        "syntax" => syntax::push_pattern(line, alloc, table, key),
+        "lists" => push_list(line, alloc, table, key),
+        _ => regexes::push_regex(line, alloc, table, key),
     }
 }
 

@@ -2,12 +2,13 @@
 
 use crate::agreement::differing;
 use crate::answers::{push_default, push_run, push_search as push_whole, push_spans};
-use crate::columns::{bracket_words, search_words, written_out};
+use crate::columns::{add_bracket_words, add_search_words, written_out};
 use crate::commands::{push_answer, push_least_room, push_misuse};
 use crate::example::push_example;
 use crate::layouts::compiled;
 use crate::line::Line;
 use fancy_regex_engine::arguments::{Arguments, read_arguments};
+use fancy_regex_engine::error::Error;
 use fancy_regex_engine::expr::{ExprTree, read_tree};
 use fancy_regex_engine::vm::{Prog, RunOptions, Scratch};
 use std::alloc::{AllocError, Global};
@@ -69,14 +70,19 @@ fn push_compared(line: &mut Line, alloc: Global, words: &[String], scratch: &mut
 }
 
 /// The words that a row of this table spells.
-fn words_of_row(alloc: Global, table: &str, key: &str) -> Result<Vec<String>, AllocError> {
+fn add_words_of_row(
+    words: &mut Vec<String>,
+    alloc: Global,
+    table: &str,
+    key: &str,
+) -> Result<(), AllocError> {
     match table {
-        "misuses" | "writers" => bracket_words(alloc, key),
+        "misuses" | "writers" => add_bracket_words(words, alloc, key),
         "long_texts" | "easy_long_texts" => {
             let key = written_out(alloc, key)?;
-            search_words(alloc, key.as_str())
+            add_search_words(words, alloc, key.as_str())
         }
-        _ => search_words(alloc, key),
+        _ => add_search_words(words, alloc, key),
     }
 }
 
@@ -87,8 +93,9 @@ pub fn push_search(
     table: &str,
     key: &str,
     scratch: &mut Scratch,
-) -> Result<(), AllocError> {
-    let words = words_of_row(alloc, table, key)?;
+) -> Result<(), Error> {
+    let mut words = Vec::new(alloc);
+    add_words_of_row(&mut words, alloc, table, key)?;
     match table {
         "misuses" => push_misuse(line, alloc, &words),
         "writers" => push_least_room(line, alloc, &words),

@@ -29,7 +29,7 @@ pub fn push_item(line: &mut Line, from: usize, to: usize) {
 
 /// The span of a group, behind that of its match.
 pub fn push_group(line: &mut Line, group: usize, from: usize, to: usize) {
-    line.text(" ").value(group).text(":");
+    line.space().value(group).text(":");
     push_span(line, from, to);
 }
 

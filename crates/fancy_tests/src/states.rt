@@ -33,13 +33,13 @@ fn push_popped(line: &mut Line, state: &mut State) {
         return;
     }
     let (pc, ix) = state.pop();
-    line.text(" ").value(pc).text(",").value(ix);
+    line.space().value(pc).text(",").value(ix);
 }
 
 /// Takes what was put last, or says that there is nothing.
 fn push_taken(line: &mut Line, state: &mut State) -> Result<(), Error> {
     if state.has_entry() {
-        line.text(" ").value(state.stack_pop()?);
+        line.space().value(state.stack_pop()?);
     } else {
         line.text(" -");
     }
@@ -63,10 +63,10 @@ fn push_call(line: &mut Line, state: &mut State, word: &str) -> Result<(), Error
             }
         }
         "get" => {
-            line.text(" ").value(slot(state, one));
+            line.space().value(slot(state, one));
         }
         _ => {
-            line.text(" ").value(state.backtrack_count());
+            line.space().value(state.backtrack_count());
         }
     }
     Ok(())
@@ -89,7 +89,7 @@ fn push_answers(line: &mut Line, state: &mut State, words: &str) -> Result<(), E
         if let Some(count) = word.strip_prefix("fill:") {
             fill(state, number(count))?;
         } else if let Err(error) = push_call(line, state, word) {
-            line.text(" ").debug(&error);
+            line.space().debug(&error);
         }
     }
     Ok(())

@@ -30,11 +30,11 @@ fn options(letters: &str) -> ParseOptions {
 
 /// The tree, and of what comes with it that which the notation has as well.
 fn push_read(said: &mut Line, tree: &ExprTree) {
-    said.debug(&tree.expr).text(" ").value(tree.total_groups);
-    said.text(" ").debug(&tree.out_of_range_backref);
-    said.text(" ").value(tree.contains_subroutines);
+    said.debug(&tree.expr).space().value(tree.total_groups);
+    said.space().debug(&tree.out_of_range_backref);
+    said.space().value(tree.contains_subroutines);
     for group in tree.backrefs.iter() {
-        said.text(" ").value(*group);
+        said.space().value(*group);
     }
 }
 
@@ -42,7 +42,7 @@ fn push_read(said: &mut Line, tree: &ExprTree) {
 fn push_others(line: &mut Line, tree: &ExprTree) {
     line.text("same");
     for (name, groups) in tree.named_groups.iter() {
-        line.text(" ").text(name.as_str()).text("=").debug(groups);
+        line.space().text(name.as_str()).text("=").debug(groups);
     }
     if tree.numeric_capture_group_references {
         line.text(" numbered");
@@ -137,7 +137,7 @@ fn push_parsed(
     let (letters, column) = split(columns);
     match parse_tree(alloc, pattern, options(letters)) {
         Ok(tree) => return push_told(line, alloc, table, &tree, column),
-        Err(PatternError::Parse { at, kind }) => line.debug(&kind).text(" ").value(at),
+        Err(PatternError::Parse { at, kind }) => line.debug(&kind).space().value(at),
         Err(PatternError::Memory) => line.text("Memory"),
     };
     Ok(())

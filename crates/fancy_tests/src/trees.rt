@@ -29,7 +29,7 @@ fn push_read(line: &mut Line, alloc: Global, text: &str) {
 fn push_groups(line: &mut Line, tree: &ExprTree) {
     line.value(tree.total_groups);
     for group in tree.backrefs.iter() {
-        line.text(" ").value(*group);
+        line.space().value(*group);
     }
 }
 
@@ -40,9 +40,9 @@ fn push_numbers(line: &mut Line, tree: &ExprTree) {
         return;
     }
     push_groups(line, tree);
-    line.text(" ").debug(&tree.out_of_range_backref);
-    line.text(" ").value(tree.numeric_capture_group_references);
-    line.text(" ").value(tree.contains_subroutines);
+    line.space().debug(&tree.out_of_range_backref);
+    line.space().value(tree.numeric_capture_group_references);
+    line.space().value(tree.contains_subroutines);
 }
 
 /// The pattern text at this precedence, between quotes.
