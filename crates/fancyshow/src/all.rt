@@ -4,7 +4,6 @@ use crate::excerpt::{columns, push_shown, push_times};
 use crate::find::{Groups, Searcher, push_found, searcher_of};
 use crate::no_match::no_match;
 use crate::outcome::Trouble;
-use crate::refusals::search_refusal;
 use crate::request::Request;
 use crate::source::Span;
 use fancy_expr::error::Error;
@@ -65,16 +64,20 @@ impl Marker<'_> {
         }
     }
 
+    /// The marks under this character, which stands at this byte.
+    fn push_mark(&mut self, marks: &mut String, at: usize, c: char) -> Result<(), AllocError> {
+        self.pass_to(at);
+        let mark = self.mark(at);
+        marks.push(mark)?;
+        let further = if matches!(mark, '^' | '~') { '~' } else { ' ' };
+        push_times(marks, further, columns(c).saturating_sub(1))
+    }
+
     /// The marks under a line that begins at this byte, and one for its end, up to the last one.
     fn push_marks(&mut self, line: &str, start: usize) -> Result<(), AllocError> {
         let mut marks = String::new(self.alloc);
         for (i, c) in line.char_indices() {
-            let at = start.saturating_add(i);
-            self.pass_to(at);
-            let mark = self.mark(at);
-            marks.push(mark)?;
-            let further = if matches!(mark, '^' | '~') { '~' } else { ' ' };
-            push_times(&mut marks, further, columns(c).saturating_sub(1))?;
+            self.push_mark(&mut marks, start.saturating_add(i), c)?;
         }
         let end = start.saturating_add(line.len());
         self.pass_to(end);
@@ -90,15 +93,19 @@ impl Marker<'_> {
         }
         write!(self.out, "{number:>5} | ")?;
         push_shown(&mut self.out, line)?;
-        self.out.push_str("\n      | ")?;
-        if self.colours {
-            self.out.push_str("\u{1b}[1;32m")?;
-        }
+        let (before, behind) = self.around_marks();
+        self.out.push_str(before)?;
         self.push_marks(line, start)?;
+        self.out.push_str(behind)
+    }
+
+    /// What stands before the marks of a line, behind the line itself, and what ends them.
+    fn around_marks(&self) -> (&'static str, &'static str) {
         if self.colours {
-            self.out.push_str("\u{1b}[0m")?;
+            ("\n      | \u{1b}[1;32m", "\u{1b}[0m\n")
+        } else {
+            ("\n      | ", "\n")
         }
-        self.out.push('\n')
     }
 
     fn push_lines(&mut self, text: &str) -> Result<(), AllocError> {
@@ -130,24 +137,25 @@ impl Found {
     }
 
     fn push_all(&mut self, searcher: &mut Searcher, text: &str) -> Result<(), Error> {
-        let Searcher { regex, groups, .. } = searcher;
-        for captures in regex.captures_iter(text) {
-            match captures {
-                Ok(captures) => self.push(&captures, groups)?,
-                Err(error) => return Err(error),
-            }
+        for captures in searcher.regex.captures_iter(text) {
+            let captures = captures?;
+            self.push(&captures, &searcher.groups)?;
         }
         Ok(())
     }
 }
 
-fn found_by(alloc: Global, searcher: &mut Searcher, text: &str) -> Result<Found, Error> {
+/// The matches of a text.
+fn found_in(alloc: Global, request: &Request, text: &str) -> Result<Found, Trouble> {
+    let mut searcher = searcher_of(alloc, request)?;
     let mut found = Found {
         spans: Vec::new(alloc),
         list: String::new(alloc),
     };
-    found.push_all(searcher, text)?;
-    Ok(found)
+    match found.push_all(&mut searcher, text) {
+        Ok(()) => Ok(found),
+        Err(error) => Err(searcher.refusal(alloc, request, &error)),
+    }
 }
 
 /// The lines of a text in which these parts of it stand, one after the other, with marks below them.
@@ -168,7 +176,7 @@ pub fn marked_lines(
 }
 
 /// The lines in which the matches stand, and then what is written of each.
-fn page(alloc: Global, found: &Found, text: &str, colours: bool) -> Result<String, AllocError> {
+fn page(alloc: Global, found: &Found, text: &str, colours: bool) -> Result<String, Trouble> {
     let mut out = marked_lines(alloc, text, &found.spans, colours)?;
     out.push_str(found.list.as_str())?;
     Ok(out)
@@ -176,14 +184,9 @@ fn page(alloc: Global, found: &Found, text: &str, colours: bool) -> Result<Strin
 
 /// All matches: the lines in which they stand, and then each with its groups.
 pub fn all(alloc: Global, request: &Request, text: &str, colours: bool) -> Result<String, Trouble> {
-    let (found, passed) = {
-        let mut searcher = searcher_of(alloc, request)?;
-        let found = found_by(alloc, &mut searcher, text);
-        (found, searcher.regex.passed())
-    };
-    match found {
-        Ok(found) if found.spans.is_empty() => no_match(alloc, request),
-        Ok(found) => Ok(page(alloc, &found, text, colours)?),
-        Err(error) => Err(search_refusal(alloc, request.source.as_str(), &error, passed)),
+    let found = found_in(alloc, request, text)?;
+    if found.spans.is_empty() {
+        return no_match(alloc, request);
     }
+    page(alloc, &found, text, colours)
 }

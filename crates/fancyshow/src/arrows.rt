@@ -55,20 +55,30 @@ fn targets(place: usize, insn: &Insn) -> (Option<usize>, Option<usize>) {
     }
 }
 
+/// Adds the arrow to this place, if there is one.
+fn push_arrow(
+    arrows: &mut Vec<Arrow>,
+    from: usize,
+    to: Option<usize>,
+    is_branch: bool,
+) -> Result<(), AllocError> {
+    if let Some(to) = to {
+        arrows.push(Arrow {
+            from,
+            to,
+            is_branch,
+        })?;
+    }
+    Ok(())
+}
+
 /// The arrows of a program, from its first instruction on.
 pub fn arrows(alloc: Global, prog: &Prog) -> Result<Vec<Arrow>, AllocError> {
     let mut arrows = Vec::new(alloc);
     for (place, insn) in prog.body().iter().enumerate() {
         let (first, second) = targets(place, insn);
-        for (to, is_branch) in [(first, false), (second, true)] {
-            if let Some(to) = to {
-                arrows.push(Arrow {
-                    from: place,
-                    to,
-                    is_branch,
-                })?;
-            }
-        }
+        push_arrow(&mut arrows, place, first, false)?;
+        push_arrow(&mut arrows, place, second, true)?;
     }
     Ok(arrows)
 }

@@ -28,14 +28,18 @@ pub fn words_of(alloc: Global, line: &str) -> Result<Vec<String>, AllocError> {
     Ok(words)
 }
 
+/// Ends what a line came to, with the status where it is not 0.
+fn push_status(out: &mut String, status: u8) -> Result<(), AllocError> {
+    if status != 0 {
+        writeln!(out, "[status {status}]")?;
+    }
+    out.push('\n')
+}
+
 /// Writes the line and what it came to, with the status where it is not 0.
 pub fn push_outcome(out: &mut String, line: &str, outcome: &Outcome) -> Result<(), AllocError> {
     writeln!(out, "$ fancyshow {line}")?;
     out.push_str(outcome.out.as_str())?;
     out.push_str(outcome.err.as_str())?;
-    let status = outcome.status;
-    if status != 0 {
-        writeln!(out, "[status {status}]")?;
-    }
-    out.push('\n')
+    push_status(out, outcome.status)
 }

@@ -267,27 +267,53 @@ static ARGUMENTS: [(&str, Takes, Kind, &str); 27] = [
     ),
 ];
 
+impl Kind {
+    /// How the help names a value.
+    fn value_name(self) -> &'static str {
+        match self {
+            Kind::Number => "N",
+            Kind::Bytes => "BYTES",
+            Kind::Template => "TEMPLATE",
+            _ => "FILE",
+        }
+    }
+
+    fn is_required(self) -> bool {
+        matches!(self, Kind::RequiredFile | Kind::Template)
+    }
+}
+
+/// The option with what is written for it.
+fn option<'a>(option: Arg<'a>, kind: Kind) -> Arg<'a> {
+    match kind {
+        Kind::Flag => option.action(ArgAction::SetTrue),
+        Kind::Number | Kind::Bytes => option
+            .value_name(kind.value_name())
+            .value_parser(value_parser!(u64)),
+        _ => option
+            .value_name(kind.value_name())
+            .required(kind.is_required())
+            .allow_hyphen_values(matches!(kind, Kind::Template)),
+    }
+}
+
 fn argument<'a>(alloc: Global, name: &'a str, kind: Kind, help: &'a str) -> Arg<'a> {
     let word = Arg::new(alloc, name).help(help);
     match kind {
         Kind::Word => word,
-        Kind::Flag => word.long(name).action(ArgAction::SetTrue),
-        Kind::Number => word
-            .long(name)
-            .value_name("N")
-            .value_parser(value_parser!(u64)),
-        Kind::Bytes => word
-            .long(name)
-            .value_name("BYTES")
-            .value_parser(value_parser!(u64)),
-        Kind::File => word.long(name).value_name("FILE"),
-        Kind::RequiredFile => word.long(name).value_name("FILE").required(true),
-        Kind::Template => word
-            .long(name)
-            .value_name("TEMPLATE")
-            .required(true)
-            .allow_hyphen_values(true),
+        _ => option(word.long(name), kind),
     }
+}
+
+/// The arguments of a part that takes this.
+fn arguments<'a>(alloc: Global, takes: Takes) -> Result<Vec<Arg<'a>>, AllocError> {
+    let mut arguments = Vec::new(alloc);
+    for (name, of, kind, help) in &ARGUMENTS {
+        if takes.has(*of) {
+            arguments.push(argument(alloc, name, *kind, help))?;
+        }
+    }
+    Ok(arguments)
 }
 
 /// The part with what it takes.
@@ -297,26 +323,32 @@ fn part<'a>(
     takes: Takes,
     about: &'a str,
 ) -> Result<Command<'a>, AllocError> {
-    let mut part = Command::new(alloc, name).about(about);
-    for (name, of, kind, help) in &ARGUMENTS {
-        if takes.has(*of) {
-            part = part.arg(argument(alloc, name, *kind, help))?;
-        }
+    let arguments = arguments(alloc, takes)?;
+    Command::new(alloc, name).about(about).args(arguments)
+}
+
+/// All parts.
+fn parts<'a>(alloc: Global) -> Result<Vec<Command<'a>>, AllocError> {
+    let mut parts = Vec::new(alloc);
+    for (name, takes, about) in &PARTS {
+        parts.push(part(alloc, name, *takes, about)?)?;
     }
-    Ok(part)
+    Ok(parts)
+}
+
+/// The command without its parts.
+fn bare_command<'a>(alloc: Global) -> Result<Command<'a>, AllocError> {
+    Command::new(alloc, "fancyshow")
+        .about(ABOUT)
+        .after_help(AFTER)
+        .no_binary_name(true)
+        .subcommand_required(true)
+        .arg_required_else_help(true)
+        .bin_name("fancyshow")
 }
 
 /// The whole command.
 pub fn command<'a>(alloc: Global) -> Result<Command<'a>, AllocError> {
-    let mut command = Command::new(alloc, "fancyshow")
-        .about(ABOUT)
-        .after_help(AFTER)
-        .bin_name("fancyshow")?
-        .no_binary_name(true)
-        .subcommand_required(true)
-        .arg_required_else_help(true);
-    for (name, takes, about) in &PARTS {
-        command = command.subcommand(part(alloc, name, *takes, about)?)?;
-    }
-    Ok(command)
+    let parts = parts(alloc)?;
+    bare_command(alloc)?.subcommands(parts)
 }

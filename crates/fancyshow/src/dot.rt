@@ -1,7 +1,7 @@
 //! A program for Graphviz.
 
 use crate::arrows::{Arrow, arrows};
-use crate::insns::push_insn;
+use crate::insns::label;
 use fancy_vm::vm::{Insn, Prog};
 use std::alloc::{AllocError, Global};
 
@@ -17,8 +17,7 @@ fn style(insn: &Insn) -> &'static str {
 
 fn push_node(alloc: Global, out: &mut String, place: usize, insn: &Insn) -> Result<(), AllocError> {
     let style = style(insn);
-    let mut label = format!(in alloc; "{place} ")?;
-    push_insn(alloc, &mut label, insn)?;
+    let label = label(alloc, place, insn)?;
     writeln!(out, "  {place} [label={label:?}{style}];")
 }
 
@@ -42,10 +41,15 @@ fn push_graph(
     for (place, insn) in prog.body().iter().enumerate() {
         push_node(alloc, out, place, insn)?;
     }
+    push_edges(out, arrows)?;
+    out.push_str("}\n")
+}
+
+fn push_edges(out: &mut String, arrows: &[Arrow]) -> Result<(), AllocError> {
     for arrow in arrows {
         push_edge(out, *arrow)?;
     }
-    out.push_str("}\n")
+    Ok(())
 }
 
 /// The program as a graph: an instruction a node, branches dashed.

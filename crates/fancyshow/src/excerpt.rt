@@ -66,6 +66,12 @@ pub fn push_times(out: &mut String, c: char, count: usize) -> Result<(), AllocEr
     Ok(())
 }
 
+/// Writes spaces up to a column of what was written from this byte on, two at least.
+pub fn push_to_column(out: &mut String, start: usize, column: usize) -> Result<(), AllocError> {
+    let written = out.as_str().get(start..).unwrap_or("").chars().count();
+    push_times(out, ' ', column.saturating_sub(written).max(2))
+}
+
 /// So many characters are shown before a place in a long line, and so many from there on.
 const BEFORE: usize = 50;
 
@@ -101,12 +107,18 @@ pub fn push_excerpt(out: &mut String, text: &str, at: usize) -> Result<(), Alloc
     let place = at.saturating_sub(line.start);
     let (before, more_before) = tail(line.text.get(..place).unwrap_or(""), BEFORE);
     let (behind, more_behind) = head(line.text.get(place..).unwrap_or(""), BEHIND);
-    let (first, last) = (dots(more_before), dots(more_behind));
-    write!(out, "\n  {first}")?;
+    let first = dots(more_before);
+    out.push_str("\n  ")?;
+    out.push_str(first)?;
     push_shown(out, before)?;
     push_shown(out, behind)?;
-    write!(out, "{last}\n  ")?;
-    push_times(out, ' ', first.len())?;
-    push_times(out, ' ', width(before))?;
+    out.push_str(dots(more_behind))?;
+    push_caret(out, first.len().saturating_add(width(before)))
+}
+
+/// Writes a caret on a line of its own, in this column of the line above it.
+fn push_caret(out: &mut String, column: usize) -> Result<(), AllocError> {
+    out.push_str("\n  ")?;
+    push_times(out, ' ', column)?;
     out.push('^')
 }

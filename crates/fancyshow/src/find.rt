@@ -9,6 +9,7 @@ use crate::refusals::{refusal, search_refusal};
 use crate::request::Request;
 use crate::source::read;
 use fancy_characters::places::is_place;
+use fancy_expr::error::Error;
 use fancy_expr::expr::ExprTree;
 use fancy_matches::found::{Captures, Match};
 use fancy_matches::regexes::Regex;
@@ -60,6 +61,13 @@ pub struct Searcher {
     pub groups: Groups,
     /// The numbers of each name.
     pub numbers: BTreeMap<String, Vec<usize>>,
+}
+
+impl Searcher {
+    /// The trouble that an error of a search is.
+    pub fn refusal(&self, alloc: Global, request: &Request, error: &Error) -> Trouble {
+        search_refusal(alloc, request.source.as_str(), error, self.regex.passed())
+    }
 }
 
 /// The tree that is asked about, compiled for searches.

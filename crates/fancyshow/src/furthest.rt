@@ -3,17 +3,19 @@
 use crate::marks::mark_at;
 use fancy_expr::error::Error;
 use fancy_vm::vm::{Insn, Prog, Progress, RunOptions, Stepper};
-use std::alloc::{AllocError, Global};
+use std::alloc::Global;
 
 /// So many leaves are told of those that fail in one place.
 const MOST_WANTED: usize = 8;
 
 /// The attempt that comes furthest: where it begins, how far it comes, and the leaves that fail there, by their marks.
-#[derive(Drop)]
+#[derive(Clone, Copy)]
 pub struct Furthest {
     pub start: usize,
     pub at: usize,
-    pub wanted: Vec<usize>,
+    /// The marks, as many as are counted.
+    marks: [usize; MOST_WANTED],
+    count: usize,
     /// The last of them in the tree.
     last: usize,
     /// The run was not watched to its end.
@@ -21,6 +23,23 @@ pub struct Furthest {
 }
 
 impl Furthest {
+    /// No attempt has come further than its start.
+    fn at_start(start: usize) -> Furthest {
+        Furthest {
+            start,
+            at: start,
+            marks: [0; MOST_WANTED],
+            count: 0,
+            last: 0,
+            is_cut: false,
+        }
+    }
+
+    /// The leaves that fail there, by their marks.
+    pub fn wanted(&self) -> &[usize] {
+        self.marks.get(..self.count).unwrap_or(&[])
+    }
+
     /// How many bytes the attempt takes.
     fn len(&self) -> usize {
         self.at.saturating_sub(self.start)
@@ -37,19 +56,25 @@ impl Furthest {
     }
 
     /// A leaf fails at this place, in an attempt that began at `start`.
-    fn add(&mut self, start: usize, leaf: Leaf) -> Result<(), AllocError> {
+    fn add(&mut self, start: usize, leaf: Leaf) {
         if !self.is_at(start, leaf.at) && self.is_passed_by(start, leaf) {
-            self.wanted.clear();
+            self.count = 0;
             self.last = 0;
             self.start = start;
             self.at = leaf.at;
         }
-        let is_new = self.wanted.len() < MOST_WANTED && !self.wanted.contains(&leaf.mark);
-        if self.is_at(start, leaf.at) && is_new {
-            self.wanted.push(leaf.mark)?;
-            self.last = self.last.max(leaf.mark);
+        if self.is_at(start, leaf.at) && !self.wanted().contains(&leaf.mark) {
+            self.add_mark(leaf.mark);
         }
-        Ok(())
+    }
+
+    /// Adds a mark, where there is room for it.
+    fn add_mark(&mut self, mark: usize) {
+        if let Some(free) = self.marks.get_mut(self.count) {
+            *free = mark;
+            self.count = self.count.saturating_add(1);
+            self.last = self.last.max(mark);
+        }
     }
 }
 
@@ -62,7 +87,7 @@ struct Leaf {
 }
 
 /// Watches a run: where its attempt began, and the leaf that is being tried.
-#[derive(Drop)]
+#[derive(Clone, Copy)]
 struct Watch<'p> {
     prog: &'p Prog,
     start: usize,
@@ -95,18 +120,17 @@ impl Watch<'_> {
     }
 
     /// Once an instruction was executed, with so many branches left: the leaf failed if one from before it was taken.
-    fn note(&mut self, branches: Option<usize>) -> Result<(), AllocError> {
+    fn note(&mut self, branches: Option<usize>) {
         let Some(leaf) = self.leaf else {
-            return Ok(());
+            return;
         };
         if matches!(branches, Some(left) if left >= leaf.branches) {
-            return Ok(());
+            return;
         }
         self.leaf = None;
-        if leaf.mark == 0 {
-            return Ok(());
+        if leaf.mark != 0 {
+            self.furthest.add(self.start, leaf);
         }
-        self.furthest.add(self.start, leaf)
     }
 
     /// Watches up to so many instructions.
@@ -116,10 +140,13 @@ impl Watch<'_> {
             self.look(&stepper);
             match stepper.step()? {
                 Progress::GoesOn(further) => {
-                    self.note(Some(further.branches()))?;
+                    self.note(Some(further.branches()));
                     stepper = further;
                 }
-                Progress::Ends(_) => return Ok(self.note(None)?),
+                Progress::Ends(_) => {
+                    self.note(None);
+                    return Ok(());
+                }
             }
         }
         self.furthest.is_cut = true;
@@ -143,13 +170,7 @@ pub fn watch_run(
         prog,
         start: options.pos,
         leaf: None,
-        furthest: Furthest {
-            start: options.pos,
-            at: options.pos,
-            wanted: Vec::new(alloc),
-            last: 0,
-            is_cut: false,
-        },
+        furthest: Furthest::at_start(options.pos),
     };
     watch.run(stepper, most)?;
     Ok(Some(watch.furthest))

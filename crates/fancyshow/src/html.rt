@@ -1,11 +1,10 @@
 //! A text as a page of HTML.
 
-use crate::styles::{Style, style_of};
-use fancy_highlight::highlighter::Highlighter;
-use fancy_highlight::tokens::Highlights;
+use crate::styles::Style;
 use std::alloc::AllocError;
 
-const HEAD: &str = "<!DOCTYPE html>
+/// What stands before the tokens of a page.
+pub const HEAD: &str = "<!DOCTYPE html>
 <html>
 <head>
 <meta charset=\"utf-8\">
@@ -30,7 +29,8 @@ pre { font-family: monospace; color: #24292f; background: #ffffff; }
 <body>
 <pre>";
 
-const FOOT: &str = "</pre>
+/// What stands behind them.
+pub const FOOT: &str = "</pre>
 </body>
 </html>
 ";
@@ -49,7 +49,7 @@ fn push_escaped(out: &mut String, text: &str) -> Result<(), AllocError> {
 }
 
 /// Writes a token in the class of its style.
-fn push_styled(out: &mut String, token: &str, style: Option<Style>) -> Result<(), AllocError> {
+pub fn push_styled(out: &mut String, token: &str, style: Option<Style>) -> Result<(), AllocError> {
     let Some(style) = style else {
         return push_escaped(out, token);
     };
@@ -58,24 +58,4 @@ fn push_styled(out: &mut String, token: &str, style: Option<Style>) -> Result<()
     out.push_str("\">")?;
     push_escaped(out, token)?;
     out.push_str("</span>")
-}
-
-/// Writes a page with the text, each token in the class of its style.
-pub fn push_page(
-    out: &mut String,
-    highlighter: &Highlighter,
-    highlights: &Highlights,
-    text: &str,
-) -> Result<(), AllocError> {
-    out.push_str(HEAD)?;
-    for token in &highlights.tokens {
-        if let Some(part) = text.get(token.start..token.end) {
-            push_styled(
-                out,
-                part,
-                style_of(highlighter, &highlights.scopes, token.scope),
-            )?;
-        }
-    }
-    out.push_str(FOOT)
 }

@@ -1,7 +1,7 @@
 //! An instruction for people: as the listing of the program writes it, with characters in quotes, none that cannot be
 //! seen, and what its slots hold.
 
-use crate::excerpt::push_times;
+use crate::excerpt::push_to_column;
 use crate::find::Groups;
 use crate::nodes::{push_character, push_quoted};
 use fancy_characters::classes::CharClassMatcher;
@@ -81,18 +81,13 @@ pub fn push_insn(alloc: Global, out: &mut String, insn: &Insn) -> Result<(), All
     }
 }
 
-/// The group of an instruction, and what stands before it and after it.
-fn group_of(insn: &Insn) -> Option<(&'static str, usize, &'static str)> {
+/// The group of an instruction, and what is said of it.
+fn group_of(insn: &Insn) -> Option<(usize, &'static str)> {
     match insn {
-        Insn::SaveCaptureGroupStart { group, .. } => Some(("", *group, " opens")),
-        Insn::SaveCaptureGroup { group, .. } => Some(("", *group, " closes")),
-        Insn::Backref {
-            slot,
-            casei: false,
-            ..
-        } => Some(("", slot / 2, "")),
-        Insn::Backref { slot, .. } => Some(("", slot / 2, ", folded")),
-        Insn::BackrefExistsCondition(group) => Some(("", *group, "")),
+        Insn::SaveCaptureGroupStart { group, .. } => Some((*group, " opens")),
+        Insn::SaveCaptureGroup { group, .. } => Some((*group, " closes")),
+        Insn::Backref { slot, casei, .. } => Some((slot / 2, if *casei { ", folded" } else { "" })),
+        Insn::BackrefExistsCondition(group) => Some((*group, "")),
         _ => None,
     }
 }
@@ -115,18 +110,28 @@ pub fn push_noted(
 ) -> Result<(), AllocError> {
     let start = out.len();
     push_insn(alloc, out, insn)?;
-    let (before, group, after) = match group_of(insn) {
-        Some(found) => found,
-        None => (words(insn), 0, ""),
-    };
-    if before.is_empty() && group == 0 {
+    match group_of(insn) {
+        Some((group, after)) if group > 0 => {
+            push_to_column(out, start, COLUMN)?;
+            groups.names.push_group(out, group)?;
+            out.push_str(after)
+        }
+        _ => push_words(out, start, words(insn)),
+    }
+}
+
+/// Writes the words, if there are any, in a column behind what was written from this byte on.
+fn push_words(out: &mut String, start: usize, words: &str) -> Result<(), AllocError> {
+    if words.is_empty() {
         return Ok(());
     }
-    let written = out.as_str().get(start..).unwrap_or("").chars().count();
-    push_times(out, ' ', COLUMN.saturating_sub(written).max(2))?;
-    out.push_str(before)?;
-    if group > 0 {
-        groups.names.push_group(out, group)?;
-    }
-    out.push_str(after)
+    push_to_column(out, start, COLUMN)?;
+    out.push_str(words)
+}
+
+/// What stands in the box of an instruction in a picture: its place, and itself.
+pub fn label(alloc: Global, place: usize, insn: &Insn) -> Result<String, AllocError> {
+    let mut label = format!(in alloc; "{place} ")?;
+    push_insn(alloc, &mut label, insn)?;
+    Ok(label)
 }

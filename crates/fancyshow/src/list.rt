@@ -8,18 +8,18 @@ use crate::outcome::Trouble;
 use crate::refusals::refusal;
 use crate::request::Request;
 use crate::source::read;
+use fancy_command::arguments::Arguments;
 use fancy_compile::compile::CompileOptions;
 use fancy_expr::error::Error;
 use fancy_expr::expr::ExprTree;
 use fancy_search::search::Compiled;
-use fancy_vm::vm::Prog;
+use fancy_vm::vm::{Insn, Prog};
 use std::alloc::{AllocError, Global};
 
 /// The program of the tree.
-pub fn compile(alloc: Global, request: &Request, tree: &ExprTree) -> Result<Prog, Error>
+pub fn compile(alloc: Global, arguments: &Arguments, tree: &ExprTree) -> Result<Prog, Error>
     requires { IsWellFormedTree tree.now }
 {
-    let arguments = &request.arguments;
     // they fit: both have the same option of the text's end
     let context = arguments.analysis();
     let options = CompileOptions {
@@ -33,7 +33,7 @@ pub fn compile(alloc: Global, request: &Request, tree: &ExprTree) -> Result<Prog
 fn compile_or_say(alloc: Global, request: &Request, tree: &ExprTree) -> Result<Prog, Trouble>
     requires { IsWellFormedTree tree.now }
 {
-    match compile(alloc, request, tree) {
+    match compile(alloc, &request.arguments, tree) {
         Ok(prog) => Ok(prog),
         Err(error) => Err(refusal(alloc, request.source.as_str(), &error)),
     }
@@ -69,14 +69,25 @@ fn push_slots(out: &mut String, groups: &Groups) -> Result<(), AllocError> {
     Ok(())
 }
 
+/// Writes an instruction after its place, on a line.
+fn push_line(
+    alloc: Global,
+    out: &mut String,
+    place: usize,
+    insn: &Insn,
+    groups: &Groups,
+) -> Result<(), AllocError> {
+    write!(out, "{place:>5}  ")?;
+    push_noted(alloc, out, insn, groups)?;
+    out.push('\n')
+}
+
 fn push_list(alloc: Global, out: &mut String, shown: &Shown) -> Result<(), AllocError> {
     let (count, groups) = (shown.prog.body().len(), shown.groups.count);
     writeln!(out, "instructions: {count}, groups: {groups}")?;
     push_slots(out, &shown.groups)?;
     for (place, insn) in shown.prog.body().iter().enumerate() {
-        write!(out, "{place:>5}  ")?;
-        push_noted(alloc, out, insn, &shown.groups)?;
-        out.push('\n')?;
+        push_line(alloc, out, place, insn, &shown.groups)?;
     }
     Ok(())
 }

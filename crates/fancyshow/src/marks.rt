@@ -93,23 +93,33 @@ impl<'e> Marked<'e> {
         write!(text, "(nahead (cat (verb fail) \"\\u{{{code:x}}}\")) ")
     }
 
-    /// Begins a sequence with the mark that the node has, if it has one.
+    /// Gives the node a mark, and answers its number.
+    fn add_leaf(&mut self, expr: &'e Expr) -> Result<usize, AllocError> {
+        self.leaves.push(MarkedLeaf {
+            expr,
+            first: self.passed,
+            end: self.passed,
+        })?;
+        Ok(self.leaves.len())
+    }
+
+    /// Begins a sequence with this mark.
+    fn push_opened(&mut self, number: usize) -> Result<bool, AllocError> {
+        self.text.push_str("(cat ")?;
+        self.push_mark(number)?;
+        Ok(true)
+    }
+
+    /// Begins a sequence with the mark that the node has, if it has one. Answers whether it did.
     fn open(&mut self, expr: &'e Expr) -> Result<bool, AllocError> {
-        let is_conditional = matches!(expr, Expr::Conditional { .. });
-        let is_marked = is_leaf(expr) && self.leaves.len() < MOST_LEAVES;
-        if is_marked {
-            self.leaves.push(MarkedLeaf {
-                expr,
-                first: self.passed,
-                end: self.passed,
-            })?;
+        if is_leaf(expr) && self.leaves.len() < MOST_LEAVES {
+            let number = self.add_leaf(expr)?;
+            return self.push_opened(number);
         }
-        if is_marked || is_conditional {
-            self.text.push_str("(cat ")?;
-            let number = if is_marked { self.leaves.len() } else { 0 };
-            self.push_mark(number)?;
+        match expr {
+            Expr::Conditional { .. } => self.push_opened(0),
+            _ => Ok(false),
         }
-        Ok(is_marked || is_conditional)
     }
 
     /// Writes the node and those below it, with marks where they are asked for. Past so many levels nothing is written.
@@ -193,10 +203,8 @@ fn number_of(text: &str) -> Option<usize> {
 
 /// The number of the mark that begins at this place of a program, if one does.
 pub fn mark_at(prog: &Prog, place: usize) -> Option<usize> {
-    let (first, rest) = prog.body().get(place..)?.split_first()?;
-    let (second, rest) = rest.split_first()?;
-    match (first, second, rest.first()?) {
-        (Insn::Split(_, _), Insn::Fail, Insn::Lit(text)) => number_of(text.as_str()),
+    match prog.body().get(place..)? {
+        [Insn::Split(_, _), Insn::Fail, Insn::Lit(text), ..] => number_of(text.as_str()),
         _ => None,
     }
 }

@@ -75,17 +75,28 @@ fn empty_class<'e>(
     Ok(None)
 }
 
+/// What is to be warned of in this tree, if anything is.
+fn warning_of(alloc: Global, request: &Request, expr: &Expr) -> Result<Option<String>, Trouble> {
+    let mut marked = Marked::new(alloc);
+    marked.push_tree(expr)?;
+    match empty_class(alloc, request, &marked.leaves)? {
+        Some(class) => Ok(Some(format!(in alloc; "the class {class} takes no character")?)),
+        None => Ok(None),
+    }
+}
+
+/// What is to be warned of in the tree that is asked about, if anything is.
+fn warning(alloc: Global, request: &Request) -> Result<Option<String>, Trouble> {
+    let tree = read(alloc, request)?;
+    warning_of(alloc, request, &tree.expr)
+}
+
 /// That there is no match, with a warning of a class that takes no character.
 pub fn no_match(alloc: Global, request: &Request) -> Result<String, Trouble> {
-    let tree = read(alloc, request)?;
-    let mut marked = Marked::new(alloc);
-    marked.push_tree(&tree.expr)?;
+    let warning = warning(alloc, request)?;
     let out = String::from_str(alloc, "no match\n")?;
-    match empty_class(alloc, request, &marked.leaves)? {
+    match warning {
         None => Ok(out),
-        Some(class) => {
-            let warning = format!(in alloc; "the class {class} takes no character")?;
-            Err(Trouble::Warned { out, warning })
-        }
+        Some(warning) => Err(Trouble::Warned { out, warning }),
     }
 }

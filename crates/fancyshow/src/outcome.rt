@@ -65,33 +65,44 @@ impl Outcome {
         }
     }
 
+    /// An error with this text.
+    fn refused(alloc: Global, why: &str, status: u8) -> Result<Outcome, AllocError> {
+        let err = format!(in alloc; "error: {why}\n")?;
+        Ok(Outcome::failed(alloc, err, status))
+    }
+
+    /// An answer with this warning.
+    fn warned(alloc: Global, out: String, warning: &str) -> Result<Outcome, AllocError> {
+        let err = format!(in alloc; "warning: {warning}\n")?;
+        Ok(Outcome {
+            out,
+            err,
+            status: 0,
+        })
+    }
+
+    /// What the trouble comes to.
+    fn of_trouble(alloc: Global, trouble: Trouble) -> Result<Outcome, AllocError> {
+        match trouble {
+            Trouble::Help(out) => Ok(Outcome::answered(alloc, out)),
+            Trouble::Usage(err) => Ok(Outcome::failed(alloc, err, 2)),
+            Trouble::Words(why) => Outcome::refused(alloc, why.as_str(), 2),
+            Trouble::Refusal(why) => Outcome::refused(alloc, why.as_str(), 1),
+            Trouble::Refused(out) => Ok(Outcome {
+                out,
+                err: String::new(alloc),
+                status: 1,
+            }),
+            Trouble::Warned { out, warning } => Outcome::warned(alloc, out, warning.as_str()),
+            Trouble::Memory => Outcome::refused(alloc, "memory ran out", 1),
+        }
+    }
+
     /// What an answer, or the trouble that there was, comes to.
     pub fn of(alloc: Global, answer: Result<String, Trouble>) -> Result<Outcome, AllocError> {
-        Ok(match answer {
-            Ok(out) => Outcome::answered(alloc, out),
-            Err(Trouble::Help(out)) => Outcome::answered(alloc, out),
-            Err(Trouble::Usage(err)) => Outcome::failed(alloc, err, 2),
-            Err(Trouble::Words(why)) => {
-                Outcome::failed(alloc, format!(in alloc; "error: {why}\n")?, 2)
-            }
-            Err(Trouble::Refusal(why)) => {
-                Outcome::failed(alloc, format!(in alloc; "error: {why}\n")?, 1)
-            }
-            Err(Trouble::Refused(out)) => Outcome {
-                status: 1,
-                ..Outcome::answered(alloc, out)
-            },
-            Err(Trouble::Warned { out, warning }) => Outcome {
-                err: format!(in alloc; "warning: {warning}\n")?,
-                ..Outcome::answered(alloc, out)
-            },
-            Err(Trouble::Memory) => {
-                Outcome::failed(
-                    alloc,
-                    String::from_str(alloc, "error: memory ran out\n")?,
-                    1,
-                )
-            }
-        })
+        match answer {
+            Ok(out) => Ok(Outcome::answered(alloc, out)),
+            Err(trouble) => Outcome::of_trouble(alloc, trouble),
+        }
     }
 }

@@ -2,13 +2,12 @@
 
 use crate::find::{Searcher, searcher_of};
 use crate::outcome::Trouble;
-use crate::refusals::search_refusal;
 use crate::request::Request;
 use fancy_expr::error::Error;
 use fancy_replace::replace::replace_all;
 use fancy_replace::split::split;
 use fancy_replace::template::Template;
-use std::alloc::Global;
+use std::alloc::{AllocError, Global};
 
 /// The text with what the template writes in the place of each match.
 fn replaced_by(
@@ -59,12 +58,31 @@ fn run_on(template: &str) -> Option<(&str, &str)> {
 fn warned(alloc: Global, out: String, template: &str) -> Result<String, Trouble> {
     match run_on(template) {
         None => Ok(out),
-        Some((digits, rest)) => {
-            let warning = format!(in alloc;
-                "${digits}{rest} is the group with this name; ${{{digits}}}{rest} is group {digits}, and then {rest}"
-            )?;
-            Err(Trouble::Warned { out, warning })
-        }
+        Some((digits, rest)) => Err(Trouble::Warned {
+            out,
+            warning: warning(alloc, digits, rest)?,
+        }),
+    }
+}
+
+/// What is warned of where the rest stands behind the digits.
+fn warning(alloc: Global, digits: &str, rest: &str) -> Result<String, AllocError> {
+    format!(in alloc;
+        "${digits}{rest} is the group with this name; ${{{digits}}}{rest} is group {digits}, and then {rest}"
+    )
+}
+
+/// The text with its matches replaced.
+fn replaced_text(
+    alloc: Global,
+    request: &Request,
+    text: &str,
+    template: &str,
+) -> Result<String, Trouble> {
+    let mut searcher = searcher_of(alloc, request)?;
+    match replaced_by(alloc, &mut searcher, text, template) {
+        Ok(out) => Ok(out),
+        Err(error) => Err(searcher.refusal(alloc, request, &error)),
     }
 }
 
@@ -75,43 +93,32 @@ pub fn replaced(
     text: &str,
     template: &str,
 ) -> Result<String, Trouble> {
-    let (replaced, passed) = {
-        let mut searcher = searcher_of(alloc, request)?;
-        let replaced = replaced_by(alloc, &mut searcher, text, template);
-        (replaced, searcher.regex.passed())
-    };
-    match replaced {
-        Ok(out) if out.as_str().ends_with('\n') => warned(alloc, out, template),
-        Ok(out) => warned(alloc, format!(in alloc; "{out}\n")?, template),
-        Err(error) => Err(search_refusal(alloc, request.source.as_str(), &error, passed)),
+    let mut out = replaced_text(alloc, request, text, template)?;
+    if !out.as_str().ends_with('\n') {
+        out.push('\n')?;
     }
+    warned(alloc, out, template)
 }
 
-/// Writes each piece in quotes.
+/// Writes a piece in quotes, on a line.
+fn push_piece(out: &mut String, piece: &str) -> Result<(), AllocError> {
+    writeln!(out, "{piece:?}")
+}
+
+/// Writes each piece.
 fn push_pieces(out: &mut String, searcher: &mut Searcher, text: &str) -> Result<(), Error> {
     for piece in split(&mut searcher.regex, text) {
-        let piece = piece?;
-        writeln!(out, "{piece:?}")?;
+        push_piece(out, piece?)?;
     }
     Ok(())
 }
 
-/// Each piece in quotes on a line of its own.
-fn written(alloc: Global, searcher: &mut Searcher, text: &str) -> Result<String, Error> {
-    let mut out = String::new(alloc);
-    push_pieces(&mut out, searcher, text)?;
-    Ok(out)
-}
-
-/// The pieces between the matches.
+/// The pieces between the matches, each in quotes on a line of its own.
 pub fn pieces(alloc: Global, request: &Request, text: &str) -> Result<String, Trouble> {
-    let (written, passed) = {
-        let mut searcher = searcher_of(alloc, request)?;
-        let written = written(alloc, &mut searcher, text);
-        (written, searcher.regex.passed())
-    };
-    match written {
-        Ok(out) => Ok(out),
-        Err(error) => Err(search_refusal(alloc, request.source.as_str(), &error, passed)),
+    let mut searcher = searcher_of(alloc, request)?;
+    let mut out = String::new(alloc);
+    match push_pieces(&mut out, &mut searcher, text) {
+        Ok(()) => Ok(out),
+        Err(error) => Err(searcher.refusal(alloc, request, &error)),
     }
 }

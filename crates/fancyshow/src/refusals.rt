@@ -3,7 +3,7 @@
 use crate::excerpt::push_excerpt;
 use crate::outcome::Trouble;
 use crate::wants::{Wanted, wanted_at};
-use fancy_expr::error::{Error, RuntimeError};
+use fancy_expr::error::{CompileError, Error, RuntimeError};
 use fancy_pattern::error::PatternError;
 use fancy_vm::vm::SearchLimit;
 use std::alloc::{AllocError, Global};
@@ -26,16 +26,24 @@ fn help(limit: RuntimeError) -> &'static str {
     }
 }
 
+/// Why the tree is refused.
+fn compile_fault(alloc: Global, refused: &CompileError) -> Result<Trouble, Error> {
+    Ok(Trouble::Refusal(format!(in alloc;
+        "{refused} ({refused:?})\n  fancyshow tree shows where"
+    )?))
+}
+
+/// Which limit the search passed.
+fn limit_fault(alloc: Global, limit: RuntimeError) -> Result<Trouble, Error> {
+    let help = help(limit);
+    Ok(Trouble::Refusal(format!(in alloc; "{limit} ({limit:?})\n  {help}")?))
+}
+
 fn explained(alloc: Global, tree: &str, error: &Error) -> Result<Trouble, Error> {
     match error {
         Error::TreeFault { at } => fault(alloc, tree, *at),
-        Error::CompileError(refused) => Ok(Trouble::Refusal(format!(in alloc;
-            "{refused} ({refused:?})\n  fancyshow tree shows where"
-        )?)),
-        Error::RuntimeError(limit) => {
-            let help = help(*limit);
-            Ok(Trouble::Refusal(format!(in alloc; "{limit} ({limit:?})\n  {help}")?))
-        }
+        Error::CompileError(refused) => compile_fault(alloc, refused),
+        Error::RuntimeError(limit) => limit_fault(alloc, *limit),
         Error::NestLimitExceeded => Ok(Trouble::Refusal(format!(in alloc; "{error} ({error:?})")?)),
         Error::Memory => Ok(Trouble::Memory),
     }

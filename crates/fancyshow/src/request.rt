@@ -105,13 +105,27 @@ fn source_file<'a>(
     }
 }
 
+/// The source as it stands in a file or a word, and the word that is left for the text.
+fn read_source<'a>(
+    rt: &HostRuntime,
+    matches: &ArgMatches<'a>,
+) -> Result<(String, Option<&'a str>), Trouble> {
+    let second = matches.get_str("TEXT");
+    let file = matches
+        .get_str("tree-file")
+        .or(matches.get_str("pattern-file"));
+    match file {
+        Some(path) => source_file(rt, matches, second, path),
+        None => source(rt, matches, second),
+    }
+}
+
 /// The source as it is read: a tree on one line, a pattern without the line end of its file.
-fn prepared(alloc: Global, source: String, is_tree: bool) -> Result<String, AllocError> {
+fn prepared(alloc: Global, source: &str, is_tree: bool) -> Result<String, AllocError> {
     if is_tree {
-        on_one_line(alloc, source.as_str())
+        on_one_line(alloc, source)
     } else {
-        let pattern = source.as_str();
-        String::from_str(alloc, pattern.strip_suffix('\n').unwrap_or(pattern))
+        String::from_str(alloc, source.strip_suffix('\n').unwrap_or(source))
     }
 }
 
@@ -120,17 +134,10 @@ fn read_request<'a>(
     rt: &HostRuntime,
     matches: &ArgMatches<'a>,
 ) -> Result<(Request, Option<&'a str>), Trouble> {
-    let second = matches.get_str("TEXT");
     let is_tree = matches.get_flag("tree") || matches.get_str("tree-file").is_some();
-    let file = matches
-        .get_str("tree-file")
-        .or(matches.get_str("pattern-file"));
-    let (source, word) = match file {
-        Some(path) => source_file(rt, matches, second, path)?,
-        None => source(rt, matches, second)?,
-    };
+    let (source, word) = read_source(rt, matches)?;
     let request = Request {
-        source: prepared(rt.alloc(), source, is_tree)?,
+        source: prepared(rt.alloc(), source.as_str(), is_tree)?,
         is_tree,
         arguments: arguments(matches),
         limits: limits(matches),

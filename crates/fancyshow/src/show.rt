@@ -23,15 +23,18 @@ use std::alloc::{AllocError, Global};
 fn read_words<'a>(rt: &HostRuntime, words: &'a [String]) -> Result<ArgMatches<'a>, Trouble> {
     match command(rt.alloc())?.try_get_matches_from(words) {
         Ok(matches) => Ok(matches),
-        Err(error) => {
-            let message = format!(in rt.alloc(); "{error}")?;
-            if error.use_stderr() {
-                Err(Trouble::Usage(message))
-            } else {
-                Err(Trouble::Help(message))
-            }
-        }
+        Err(error) => Err(told(rt.alloc(), &error)?),
     }
+}
+
+/// What the library says that reads the words: what is wrong with them, or the help that they ask for.
+fn told(alloc: Global, error: &clap::Error) -> Result<Trouble, AllocError> {
+    let message = format!(in alloc; "{error}")?;
+    Ok(if error.use_stderr() {
+        Trouble::Usage(message)
+    } else {
+        Trouble::Help(message)
+    })
 }
 
 /// How a picture is asked for.
@@ -103,6 +106,40 @@ fn text_answer(
     }
 }
 
+/// Reads what is asked of a tree, and answers it.
+fn answer_of_tree(
+    rt: &HostRuntime,
+    part: &str,
+    matches: &ArgMatches<'_>,
+) -> Result<String, Trouble> {
+    let request = tree_request(rt, matches)?;
+    tree_answer(rt.alloc(), part, &request, drawing_of(matches))
+}
+
+/// Reads what is asked of a tree and a text, and answers it.
+fn answer_of_text(
+    rt: &HostRuntime,
+    part: &str,
+    matches: &ArgMatches<'_>,
+    colours: bool,
+) -> Result<String, Trouble> {
+    let (request, text) = text_request(rt, matches)?;
+    text_answer(rt.alloc(), part, &request, text.as_str(), colours)
+}
+
+/// Reads what is to be replaced, and by what, and replaces it.
+fn replacement(rt: &HostRuntime, matches: &ArgMatches<'_>) -> Result<String, Trouble> {
+    let (request, text) = text_request(rt, matches)?;
+    let template = matches.get_str("with").unwrap_or("");
+    replaced(rt.alloc(), &request, text.as_str(), template)
+}
+
+/// A batch has none in it.
+fn nested_batch(alloc: Global) -> Result<String, Trouble> {
+    let why = "this part cannot stand in a batch";
+    Err(Trouble::Words(String::from_str(alloc, why)?))
+}
+
 /// The answer of a part other than `batch`.
 fn answer(
     rt: &HostRuntime,
@@ -110,26 +147,12 @@ fn answer(
     matches: &ArgMatches<'_>,
     colours: bool,
 ) -> Result<String, Trouble> {
-    let alloc = rt.alloc();
     match part {
-        "list" | "tree" | "picture" => {
-            let request = tree_request(rt, matches)?;
-            tree_answer(alloc, part, &request, drawing_of(matches))
-        }
-        "replace" => {
-            let (request, text) = text_request(rt, matches)?;
-            let template = matches.get_str("with").unwrap_or("");
-            replaced(alloc, &request, text.as_str(), template)
-        }
+        "list" | "tree" | "picture" => answer_of_tree(rt, part, matches),
+        "replace" => replacement(rt, matches),
         "highlight" => highlight(rt, matches, colours),
-        "batch" => {
-            let why = "this part cannot stand in a batch";
-            Err(Trouble::Words(String::from_str(alloc, why)?))
-        }
-        _ => {
-            let (request, text) = text_request(rt, matches)?;
-            text_answer(alloc, part, &request, text.as_str(), colours)
-        }
+        "batch" => nested_batch(rt.alloc()),
+        _ => answer_of_text(rt, part, matches, colours),
     }
 }
 
@@ -176,16 +199,17 @@ fn batch(rt: &HostRuntime, matches: &ArgMatches<'_>) -> Result<String, Trouble> 
     Ok(out)
 }
 
-/// What the words come to. Where colours are asked for, those of a terminal mark the matches.
-pub fn show(rt: &HostRuntime, words: &[String], colours: bool) -> Result<Outcome, AllocError> {
-    let matches = match read_words(rt, words) {
-        Ok(matches) => matches,
-        Err(trouble) => return Outcome::of(rt.alloc(), Err(trouble)),
-    };
-    let answer = match matches.subcommand() {
+/// The answer of a command line.
+fn words_answer(rt: &HostRuntime, words: &[String], colours: bool) -> Result<String, Trouble> {
+    let matches = read_words(rt, words)?;
+    match matches.subcommand() {
         Some((part, matches)) if part == "batch" => batch(rt, matches),
         Some((part, matches)) => answer(rt, part, matches, colours),
         None => Ok(String::new(rt.alloc())),
-    };
-    Outcome::of(rt.alloc(), answer)
+    }
+}
+
+/// What the words come to. Where colours are asked for, those of a terminal mark the matches.
+pub fn show(rt: &HostRuntime, words: &[String], colours: bool) -> Result<Outcome, AllocError> {
+    Outcome::of(rt.alloc(), words_answer(rt, words, colours))
 }

@@ -10,7 +10,7 @@ use fancy_command::command::MOST_DEPTH;
 use fancy_expr::expr::ExprTree;
 use fancy_notation::depth::depth;
 use fancy_notation::notation::read_tree;
-use fancy_pattern::atom_spans::atom_spans;
+use fancy_pattern::atom_spans::{AtomSpan, atom_spans};
 use fancy_pattern::options::ParseOptions;
 use fancy_pattern::pattern::parse_tree;
 use std::alloc::{AllocError, Global};
@@ -62,17 +62,28 @@ fn tree_of_pattern(alloc: Global, pattern: &str, unicode: bool) -> Result<ExprTr
 /// Where the leaves of a pattern's tree stand in it, in bytes: one span for each leaf that is not empty, in order. A tree
 /// that was not read from a pattern has none.
 pub fn leaf_spans(alloc: Global, request: &Request) -> Result<Vec<Span>, AllocError> {
-    let mut spans = Vec::new(alloc);
     if request.is_tree {
-        return Ok(spans);
+        return Ok(Vec::new(alloc));
     }
     let pattern = request.source.as_str();
     let bytes = character_bytes(alloc, pattern)?;
-    for atom in atom_spans(alloc, pattern, parsing(!request.arguments.ascii))?.iter() {
-        let start = bytes.get(atom.start).copied().unwrap_or(pattern.len());
-        let end = bytes.get(atom.end).copied().unwrap_or(pattern.len());
+    let atoms = atom_spans(alloc, pattern, parsing(!request.arguments.ascii))?;
+    spans_of(alloc, &atoms, &bytes, pattern.len())
+}
+
+/// The span of each leaf of the atoms. A character begins at its byte of these, and the text ends at `end`.
+fn spans_of(
+    alloc: Global,
+    atoms: &[AtomSpan],
+    bytes: &[usize],
+    end: usize,
+) -> Result<Vec<Span>, AllocError> {
+    let mut spans = Vec::new(alloc);
+    for atom in atoms {
+        let first = bytes.get(atom.start).copied().unwrap_or(end);
+        let last = bytes.get(atom.end).copied().unwrap_or(end);
         for _ in 0..atom.leaves {
-            spans.push((start, end))?;
+            spans.push((first, last))?;
         }
     }
     Ok(spans)

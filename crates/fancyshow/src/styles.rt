@@ -1,10 +1,7 @@
 //! How tokens look, by the names of their scopes.
 
-use fancy_highlight::highlighter::Highlighter;
-use fancy_highlight::scopes::Scopes;
-
 /// How a token looks: a class of the page, and a code of terminals.
-#[derive(Clone, Copy, Debug, PartialEq, Eq)]
+#[derive(Clone, Copy)]
 pub struct Style {
     pub class: &'static str,
     pub code: &'static str,
@@ -136,14 +133,9 @@ fn style_of_name(name: &str) -> Option<Style> {
     None
 }
 
-/// The style of a scope: of its innermost name that has one.
-pub fn style_of(highlighter: &Highlighter, scopes: &Scopes, scope: usize) -> Option<Style> {
-    let mut names = scopes.names(scope);
-    for _ in 0..usize::MAX {
-        let number = names.next_out()?;
-        let Some(name) = highlighter.name(number) else {
-            continue;
-        };
+/// The style of a scope with these names: of the first that has one.
+pub fn style_of(names: &[&str]) -> Option<Style> {
+    for name in names {
         if let Some(style) = style_of_name(name) {
             return Some(style);
         }

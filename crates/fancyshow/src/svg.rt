@@ -3,7 +3,7 @@
 
 use crate::arrows::{Arrow, Lane, arrows, lanes};
 use crate::excerpt::width;
-use crate::insns::push_insn;
+use crate::insns::label;
 use fancy_railroad::xml::push_escaped;
 use fancy_vm::vm::{Insn, Prog};
 use std::alloc::{AllocError, Global};
@@ -64,6 +64,24 @@ impl Boxes {
         let height = self.heights.get(place).copied().unwrap_or(0);
         self.top(place).saturating_add(height)
     }
+
+    /// Below the last box.
+    fn end(&self) -> usize {
+        self.bottom(self.tops.len().saturating_sub(1))
+            .saturating_add(BETWEEN)
+    }
+
+    /// Adds boxes one below the other, each high enough for so many arrows at its sides.
+    fn push_all(&mut self, right: &[usize], left: &[usize]) -> Result<(), AllocError> {
+        let mut top = MARGIN;
+        for (right, left) in right.iter().zip(left.iter()) {
+            let height = height(*right.max(left));
+            self.tops.push(top)?;
+            self.heights.push(height)?;
+            top = top.saturating_add(height).saturating_add(BETWEEN);
+        }
+        Ok(())
+    }
 }
 
 /// Counts one end more at this box, and answers how many there were.
@@ -79,17 +97,17 @@ fn count_end(ends: &mut Vec<usize>, place: usize) -> usize {
 }
 
 /// As many zeros as there are boxes.
-fn no_ends(alloc: Global, labels: &[String]) -> Result<Vec<usize>, AllocError> {
+fn no_ends(alloc: Global, boxes: usize) -> Result<Vec<usize>, AllocError> {
     let mut ends = Vec::new(alloc);
-    for _ in labels {
+    for _ in 0..boxes {
         ends.push(0)?;
     }
     Ok(ends)
 }
 
 /// How many arrows begin or end at each box, of those in lanes.
-fn ends_of(alloc: Global, labels: &[String], lanes: &[Lane]) -> Result<Vec<usize>, AllocError> {
-    let mut ends = no_ends(alloc, labels)?;
+fn ends_of(alloc: Global, boxes: usize, lanes: &[Lane]) -> Result<Vec<usize>, AllocError> {
+    let mut ends = no_ends(alloc, boxes)?;
     for lane in lanes {
         count_end(&mut ends, lane.arrow.from);
         count_end(&mut ends, lane.arrow.to);
@@ -111,21 +129,15 @@ fn placed_boxes(
     on: &[Lane],
     back: &[Lane],
 ) -> Result<Boxes, AllocError> {
-    let right = ends_of(alloc, labels, on)?;
-    let left = ends_of(alloc, labels, back)?;
+    let right = ends_of(alloc, labels.len(), on)?;
+    let left = ends_of(alloc, labels.len(), back)?;
     let mut boxes = Boxes {
         left: beside(back),
         width: widest(labels).saturating_add(2).saturating_mul(CHARACTER),
         tops: Vec::new(alloc),
         heights: Vec::new(alloc),
     };
-    let mut top = MARGIN;
-    for (right, left) in right.iter().zip(left.iter()) {
-        let height = height(*right.max(left));
-        boxes.tops.push(top)?;
-        boxes.heights.push(height)?;
-        top = top.saturating_add(height).saturating_add(BETWEEN);
-    }
+    boxes.push_all(&right, &left)?;
     Ok(boxes)
 }
 
@@ -141,18 +153,29 @@ fn push_box(
     out: &mut String,
     boxes: &Boxes,
     place: usize,
-    insn: &Insn,
+    class: &str,
     label: &str,
 ) -> Result<(), AllocError> {
-    let (left, width, top) = (boxes.left, boxes.width, boxes.top(place));
-    let height = boxes.bottom(place).saturating_sub(top);
-    let class = class(insn);
-    let (x, y) = (left.saturating_add(CHARACTER), top.saturating_add(16));
-    write!(
+    let (left, top) = (boxes.left, boxes.top(place));
+    write!(out, "<rect x=\"{left}\" y=\"{top}\" ")?;
+    push_size(out, boxes.width, boxes.bottom(place).saturating_sub(top))?;
+    out.push_str(class)?;
+    push_label(
         out,
-        "<rect x=\"{left}\" y=\"{top}\" width=\"{width}\" height=\"{height}\"{class}/>\n\
-<text x=\"{x}\" y=\"{y}\">"
-    )?;
+        left.saturating_add(CHARACTER),
+        top.saturating_add(16),
+        label,
+    )
+}
+
+/// Writes the width and the height of what is drawn.
+fn push_size(out: &mut String, width: usize, height: usize) -> Result<(), AllocError> {
+    write!(out, "width=\"{width}\" height=\"{height}\"")
+}
+
+/// Ends the box, and writes the text in it from this place on.
+fn push_label(out: &mut String, x: usize, y: usize, label: &str) -> Result<(), AllocError> {
+    write!(out, "/>\n<text x=\"{x}\" y=\"{y}\">")?;
     push_escaped(out, label)?;
     out.push_str("</text>\n")
 }
@@ -172,11 +195,15 @@ fn push_short(out: &mut String, boxes: &Boxes, arrow: Arrow) -> Result<(), Alloc
         .left
         .saturating_add(if arrow.is_branch { 36 } else { 24 });
     let (from, to) = (boxes.bottom(arrow.from), boxes.top(arrow.to));
-    let class = class_of(arrow);
-    writeln!(
-        out,
-        "<path d=\"M{x},{from}V{to}\" marker-end=\"url(#head)\"{class}/>"
-    )
+    write!(out, "<path d=\"M{x},{from}V{to}")?;
+    push_arrow_end(out, arrow)
+}
+
+/// Ends the path of an arrow.
+fn push_arrow_end(out: &mut String, arrow: Arrow) -> Result<(), AllocError> {
+    out.push_str("\" marker-end=\"url(#head)\"")?;
+    out.push_str(class_of(arrow))?;
+    out.push_str("/>\n")
 }
 
 /// Where the next arrow begins or ends at a side of a box.
@@ -203,11 +230,8 @@ fn push_long(
     };
     let from = port(boxes, ends, arrow.from);
     let to = port(boxes, ends, arrow.to);
-    let class = class_of(arrow);
-    writeln!(
-        out,
-        "<path d=\"M{edge},{from}H{x}V{to}H{edge}\" marker-end=\"url(#head)\"{class}/>"
-    )
+    write!(out, "<path d=\"M{edge},{from}H{x}V{to}H{edge}")?;
+    push_arrow_end(out, arrow)
 }
 
 /// How many lanes are taken.
@@ -223,9 +247,7 @@ fn lane_count(lanes: &[Lane]) -> usize {
 fn labels(alloc: Global, prog: &Prog) -> Result<Vec<String>, AllocError> {
     let mut labels = Vec::new(alloc);
     for (place, insn) in prog.body().iter().enumerate() {
-        let mut label = format!(in alloc; "{place} ")?;
-        push_insn(alloc, &mut label, insn)?;
-        labels.push(label)?;
+        labels.push(label(alloc, place, insn)?)?;
     }
     Ok(labels)
 }
@@ -251,8 +273,10 @@ fn push_boxes(
     prog: &Prog,
     labels: &[String],
 ) -> Result<(), AllocError> {
-    for ((place, insn), label) in prog.body().iter().enumerate().zip(labels.iter()) {
-        push_box(out, boxes, place, insn, label.as_str())?;
+    for (place, insn) in prog.body().iter().enumerate() {
+        if let Some(label) = labels.get(place) {
+            push_box(out, boxes, place, class(insn), label.as_str())?;
+        }
     }
     Ok(())
 }
@@ -267,13 +291,14 @@ fn push_shorts(out: &mut String, boxes: &Boxes, arrows: &[Arrow]) -> Result<(), 
 }
 
 fn push_longs(
+    alloc: Global,
     out: &mut String,
     boxes: &Boxes,
-    ends: &mut Vec<usize>,
     lanes: &[Lane],
 ) -> Result<(), AllocError> {
+    let mut ends = no_ends(alloc, boxes.tops.len())?;
     for lane in lanes {
-        push_long(out, boxes, ends, *lane)?;
+        push_long(out, boxes, &mut ends, *lane)?;
     }
     Ok(())
 }
@@ -290,49 +315,63 @@ struct Drawing<'d> {
 /// Writes what stands before the boxes, up to the ground, and the legend below them.
 fn push_head(out: &mut String, width: usize, bottom: usize, title: &str) -> Result<(), AllocError> {
     let height = bottom.saturating_add(LEGEND_HEIGHT);
-    write!(
-        out,
-        "<svg xmlns=\"http://www.w3.org/2000/svg\" viewBox=\"0 0 {width} {height}\" width=\"{width}\" height=\"{height}\">\n<title>"
-    )?;
-    push_escaped(out, title)?;
+    push_title(out, width, height, title)?;
+    out.push_str(STYLE)?;
+    out.push_str(HEADS)?;
+    out.push_str("<rect ")?;
+    push_size(out, width, height)?;
+    out.push_str(" class=\"ground\"/>\n")?;
     writeln!(
         out,
-        "</title>\n{STYLE}{HEADS}<rect width=\"{width}\" height=\"{height}\" class=\"ground\"/>\n\
-<g transform=\"translate({MARGIN},{bottom})\">{LEGEND}</g>"
+        "<g transform=\"translate({MARGIN},{bottom})\">{LEGEND}</g>"
     )
 }
 
+/// Begins the picture with its size and its title.
+fn push_title(
+    out: &mut String,
+    width: usize,
+    height: usize,
+    title: &str,
+) -> Result<(), AllocError> {
+    write!(
+        out,
+        "<svg xmlns=\"http://www.w3.org/2000/svg\" viewBox=\"0 0 {width} {height}\" "
+    )?;
+    push_size(out, width, height)?;
+    out.push_str(">\n<title>")?;
+    push_escaped(out, title)?;
+    out.push_str("</title>\n")
+}
+
+/// Writes the boxes and the arrows.
 fn push_drawing(
     alloc: Global,
     out: &mut String,
     prog: &Prog,
+    boxes: &Boxes,
+    drawing: Drawing<'_>,
+) -> Result<(), AllocError> {
+    push_boxes(out, boxes, prog, drawing.labels)?;
+    push_shorts(out, boxes, drawing.arrows)?;
+    push_longs(alloc, out, boxes, drawing.on)?;
+    push_longs(alloc, out, boxes, drawing.back)?;
+    out.push_str("</svg>\n")
+}
+
+/// The picture of what is drawn, under this title.
+fn picture(
+    alloc: Global,
+    prog: &Prog,
     drawing: Drawing<'_>,
     title: &str,
-) -> Result<(), AllocError> {
+) -> Result<String, AllocError> {
     let boxes = placed_boxes(alloc, drawing.labels, drawing.on, drawing.back)?;
-    let width = boxes
-        .right()
-        .saturating_add(beside(drawing.on))
-        .max(LEGEND_WIDTH);
-    let bottom = boxes
-        .bottom(drawing.labels.len().saturating_sub(1))
-        .saturating_add(BETWEEN);
-    push_head(out, width, bottom, title)?;
-    push_boxes(out, &boxes, prog, drawing.labels)?;
-    push_shorts(out, &boxes, drawing.arrows)?;
-    push_longs(
-        out,
-        &boxes,
-        &mut no_ends(alloc, drawing.labels)?,
-        drawing.on,
-    )?;
-    push_longs(
-        out,
-        &boxes,
-        &mut no_ends(alloc, drawing.labels)?,
-        drawing.back,
-    )?;
-    out.push_str("</svg>\n")
+    let width = boxes.right().saturating_add(beside(drawing.on));
+    let mut out = String::new(alloc);
+    push_head(&mut out, width.max(LEGEND_WIDTH), boxes.end(), title)?;
+    push_drawing(alloc, &mut out, prog, &boxes, drawing)?;
+    Ok(out)
 }
 
 /// The program as a picture in SVG, under this title. It has at most `MOST_BOXES` instructions.
@@ -341,13 +380,11 @@ pub fn svg(alloc: Global, prog: &Prog, title: &str) -> Result<String, AllocError
     let arrows = arrows(alloc, prog)?;
     let on = lanes(alloc, &arrows, false)?;
     let back = lanes(alloc, &arrows, true)?;
-    let mut out = String::new(alloc);
     let drawing = Drawing {
         labels: &labels,
         arrows: &arrows,
         on: &on,
         back: &back,
     };
-    push_drawing(alloc, &mut out, prog, drawing, title)?;
-    Ok(out)
+    picture(alloc, prog, drawing, title)
 }

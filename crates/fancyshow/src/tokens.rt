@@ -2,54 +2,48 @@
 
 use fancy_highlight::highlighter::Highlighter;
 use fancy_highlight::scopes::Scopes;
-use fancy_highlight::tokens::{Highlights, Token};
+use fancy_highlight::tokens::Token;
 use std::alloc::{AllocError, Global};
 
-/// The numbers of a scope's names, the outermost first.
-fn names(alloc: Global, scopes: &Scopes, scope: usize) -> Result<Vec<usize>, AllocError> {
-    let mut numbers = Vec::new(alloc);
-    let mut names = scopes.names(scope);
+/// The names of a scope, the innermost first.
+pub fn names<'h>(
+    alloc: Global,
+    highlighter: &'h Highlighter,
+    scopes: &Scopes,
+    scope: usize,
+) -> Result<Vec<&'h str>, AllocError> {
+    let mut names = Vec::new(alloc);
+    let mut numbers = scopes.names(scope);
     for _ in 0..usize::MAX {
-        let Some(number) = names.next_out() else {
+        let Some(number) = numbers.next_out() else {
             break;
         };
-        numbers.push(number)?;
-    }
-    numbers.reverse();
-    Ok(numbers)
-}
-
-/// Writes a token: its first byte, the byte past its last, its text, and the names of its scopes, the outermost first.
-fn push_token(
-    out: &mut String,
-    alloc: Global,
-    highlighter: &Highlighter,
-    highlights: &Highlights,
-    token: Token,
-    text: &str,
-) -> Result<(), AllocError> {
-    let (start, end) = (token.start, token.end);
-    let part = text.get(start..end).unwrap_or("");
-    write!(out, "{start}..{end} {part:?}")?;
-    for number in names(alloc, &highlights.scopes, token.scope)? {
         if let Some(name) = highlighter.name(number) {
-            out.push(' ')?;
-            out.push_str(name)?;
+            names.push(name)?;
         }
     }
-    out.push('\n')
+    Ok(names)
 }
 
-/// Writes each token on a line.
-pub fn push_tokens(
-    out: &mut String,
-    alloc: Global,
-    highlighter: &Highlighter,
-    highlights: &Highlights,
-    text: &str,
-) -> Result<(), AllocError> {
-    for token in &highlights.tokens {
-        push_token(out, alloc, highlighter, highlights, *token, text)?;
+/// Writes the names of a scope, the outermost first, each behind a space.
+fn push_names(out: &mut String, names: &[&str]) -> Result<(), AllocError> {
+    for name in names.iter().rev() {
+        out.push(' ')?;
+        out.push_str(name)?;
     }
     Ok(())
+}
+
+/// Writes a token on a line: its first byte, the byte past its last, its text, and the names of its scopes, the
+/// outermost first.
+pub fn push_token(
+    out: &mut String,
+    token: Token,
+    part: &str,
+    names: &[&str],
+) -> Result<(), AllocError> {
+    let (start, end) = (token.start, token.end);
+    write!(out, "{start}..{end} {part:?}")?;
+    push_names(out, names)?;
+    out.push('\n')
 }

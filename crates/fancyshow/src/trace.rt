@@ -8,6 +8,7 @@ use crate::outcome::Trouble;
 use crate::refusals::refusal;
 use crate::request::Request;
 use fancy_expr::error::Error;
+use fancy_railroad::names::GroupNames;
 use fancy_vm::vm::{Progress, RunOptions, Stepper};
 use std::alloc::{AllocError, Global};
 
@@ -38,17 +39,61 @@ struct Run<'r> {
     text: &'r str,
 }
 
-/// Writes where the stepper is: the instruction that is next, and how many were executed before.
-fn push_standing(out: &mut String, run: Run<'_>, stepper: &Stepper<'_>) -> Result<(), AllocError> {
-    let (steps, pc, ix) = (stepper.steps(), stepper.pc(), stepper.ix());
-    write!(out, "{steps:>8}  {ix:>6}  ")?;
-    push_around(out, run.text, ix)?;
-    let (branches, backtracks) = (stepper.branches(), stepper.backtracks());
-    write!(out, "  {branches:>8}  {backtracks:>10}  {pc} ")?;
-    if let Some(insn) = run.shown.prog.body().get(pc) {
+/// Where a stepper is: the instruction that is next, and what was done before.
+#[derive(Clone, Copy)]
+struct Standing {
+    steps: u64,
+    /// The byte of the text.
+    at: usize,
+    branches: usize,
+    backtracks: usize,
+    /// The number of the instruction.
+    place: usize,
+}
+
+impl Standing {
+    fn of(stepper: &Stepper<'_>) -> Standing {
+        Standing {
+            steps: stepper.steps(),
+            at: stepper.ix(),
+            branches: stepper.branches(),
+            backtracks: stepper.backtracks(),
+            place: stepper.pc(),
+        }
+    }
+}
+
+/// Writes how far a run has come in the text.
+fn push_progress(out: &mut String, text: &str, standing: Standing) -> Result<(), AllocError> {
+    let Standing { steps, at, .. } = standing;
+    write!(out, "{steps:>8}  {at:>6}  ")?;
+    push_around(out, text, at)
+}
+
+/// Writes where a stepper is, but for the instruction.
+fn push_standing(out: &mut String, text: &str, standing: Standing) -> Result<(), AllocError> {
+    push_progress(out, text, standing)?;
+    let Standing {
+        branches,
+        backtracks,
+        place,
+        ..
+    } = standing;
+    write!(out, "  {branches:>8}  {backtracks:>10}  {place} ")
+}
+
+/// Writes the instruction with this number, and ends the line.
+fn push_next(out: &mut String, run: Run<'_>, place: usize) -> Result<(), AllocError> {
+    if let Some(insn) = run.shown.prog.body().get(place) {
         push_noted(run.alloc, out, insn, &run.shown.groups)?;
     }
     out.push('\n')
+}
+
+/// Writes where a stepper is, on a line.
+fn push_step(out: &mut String, run: Run<'_>, standing: Standing) -> Result<(), AllocError> {
+    push_standing(out, run.text, standing)?;
+    push_next(out, run, standing.place)
 }
 
 /// Writes where a group stands and what it takes, if it is set.
@@ -61,23 +106,29 @@ fn push_span(out: &mut String, text: &str, start: usize, end: usize) -> Result<(
     out.push('\n')
 }
 
+/// Writes how a group of the match is called: all of it is called a match.
+fn push_name(out: &mut String, names: &GroupNames, group: usize) -> Result<(), AllocError> {
+    if group == 0 {
+        return out.push_str("match  ");
+    }
+    names.push_group(out, group)?;
+    out.push_str("  ")
+}
+
 /// Writes the answer: the match and each group, or that there is none.
 fn push_numbers(
     out: &mut String,
-    run: Run<'_>,
+    text: &str,
+    names: &GroupNames,
     found: &Option<Vec<usize>>,
 ) -> Result<(), AllocError> {
     let Some(numbers) = found else {
         return out.push_str("no match\n");
     };
-    out.push_str("match  ")?;
     for (group, pair) in numbers.chunks(2).enumerate() {
-        if group > 0 {
-            run.shown.groups.names.push_group(out, group)?;
-            out.push_str("  ")?;
-        }
         if let [start, end] = pair {
-            push_span(out, run.text, *start, *end)?;
+            push_name(out, names, group)?;
+            push_span(out, text, *start, *end)?;
         }
     }
     Ok(())
@@ -102,10 +153,12 @@ fn push_steps(
     out.push_str(HEAD)?;
     let mut stepper = stepper;
     for _ in 0..=most {
-        push_standing(out, run, &stepper)?;
+        push_step(out, run, Standing::of(&stepper))?;
         match stepper.step() {
             Ok(Progress::GoesOn(further)) => stepper = further,
-            Ok(Progress::Ends(found)) => return push_numbers(out, run, &found),
+            Ok(Progress::Ends(found)) => {
+                return push_numbers(out, run.text, &run.shown.groups.names, &found);
+            }
             Err(error) => return writeln!(out, "{error}"),
         }
     }

@@ -3,7 +3,7 @@
 ghost use Rattle.fancy_expr.specs.Sound.{IsWellFormedTree};
 
 use crate::blame::{Whole, is_blamed};
-use crate::excerpt::{push_shown, push_times};
+use crate::excerpt::{push_shown, push_times, push_to_column};
 use crate::list::compile;
 use crate::marks::is_plain;
 use crate::nodes::{group_of, push_node};
@@ -95,14 +95,22 @@ impl Page<'_, '_> {
         push_times(&mut self.out, ' ', indent)?;
         push_node(&mut self.out, node.expr, node.group)?;
         self.push_name(node)?;
-        if let Some(info) = node.info {
-            let line = self.out.as_str().get(start..).unwrap_or("");
-            let count = line.chars().count();
-            push_times(&mut self.out, ' ', COLUMN.saturating_sub(count).max(2))?;
-            push_facts(&mut self.out, info)?;
-            self.push_piece(node)?;
+        match node.info {
+            Some(info) => self.push_info(node, info, start),
+            None => Ok(()),
         }
-        Ok(())
+    }
+
+    /// Writes what the analysis says of the node, behind what was written from this byte on.
+    fn push_info(
+        &mut self,
+        node: Node<'_, '_>,
+        info: &Info<'_>,
+        start: usize,
+    ) -> Result<(), AllocError> {
+        push_to_column(&mut self.out, start, COLUMN)?;
+        push_facts(&mut self.out, info)?;
+        self.push_piece(node)
     }
 
     /// Writes where a leaf stands in the pattern, and what stands there.
@@ -129,6 +137,14 @@ impl Page<'_, '_> {
             }
         }
         Ok(())
+    }
+
+    /// Writes why the tree is refused, where no node was marked.
+    fn push_refusal(&mut self) -> Result<(), AllocError> {
+        match self.refused {
+            Some(refused) if self.blamed == 0 => writeln!(self.out, "refused: {refused}"),
+            _ => Ok(()),
+        }
     }
 
     fn push_line(&mut self, node: Node<'_, '_>, indent: usize) -> Result<(), AllocError> {
@@ -193,11 +209,7 @@ fn write_page<'a>(
         blamed: 0,
     };
     page.push_all(root, 0, MOST_LEVELS)?;
-    if let Some(refused) = refused {
-        if page.blamed == 0 {
-            writeln!(page.out, "refused: {refused}")?;
-        }
-    }
+    page.push_refusal()?;
     Ok(page.out)
 }
 
@@ -227,7 +239,7 @@ fn analysed_page<'a>(
 ) -> Result<String, Trouble>
     requires { IsWellFormedTree tree.now }
 {
-    match compile(alloc, request, tree) {
+    match compile(alloc, &request.arguments, tree) {
         Ok(_) => Ok(write_page(alloc, request, tree, Some(info), None)?),
         Err(error) => refused_page(alloc, request, tree, Some(info), &error),
     }

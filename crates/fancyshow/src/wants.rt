@@ -189,10 +189,10 @@ fn escape_length(text: &str) -> Option<usize> {
 fn wrong_escape(text: &str, from: usize) -> Option<usize> {
     let mut at = from;
     for _ in 0..text.len() {
-        let escape = at.checked_add(text.get(at..)?.find('\\')?)?;
-        let behind = escape.checked_add(1)?;
+        let escape = at.saturating_add(text.get(at..)?.find('\\')?);
+        let behind = escape.saturating_add(1);
         match escape_length(text.get(behind..)?) {
-            Some(length) => at = behind.checked_add(length)?,
+            Some(length) => at = behind.saturating_add(length),
             None => return Some(escape),
         }
     }

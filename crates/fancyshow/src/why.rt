@@ -13,12 +13,12 @@ use crate::source::{Span, leaf_spans, read};
 use fancy_command::arguments::Arguments;
 use fancy_expr::error::Error;
 use fancy_expr::expr::{Absent, Expr, ExprTree};
+use fancy_matches::found::Match;
 use fancy_notation::notation::read_tree;
 use fancy_railroad::names::GroupNames;
 use fancy_railroad::words::{frame_words, push_words};
 use fancy_vm::vm::RunOptions;
 use std::alloc::{AllocError, Global};
-use std::mem;
 
 /// A run is watched for so many instructions.
 const MOST_STEPS: u64 = 200_000;
@@ -33,12 +33,17 @@ fn watched(arguments: &Arguments) -> Arguments {
 }
 
 /// How far the attempts come, for the text of a marked tree.
-fn watch(alloc: Global, marked: &Request, text: &str) -> Result<Option<Furthest>, Error> {
-    let tree = read_tree(alloc, marked.source.as_str())?;
-    let prog = compile(alloc, marked, &tree)?;
+fn watch(
+    alloc: Global,
+    marked: &str,
+    arguments: &Arguments,
+    text: &str,
+) -> Result<Option<Furthest>, Error> {
+    let tree = read_tree(alloc, marked)?;
+    let prog = compile(alloc, arguments, &tree)?;
     let options = RunOptions {
         step_limit: MOST_STEPS,
-        ..marked.arguments.running()
+        ..arguments.running()
     };
     watch_run(alloc, &prog, text, &options, MOST_STEPS)
 }
@@ -89,7 +94,7 @@ fn all_wanted(
     is_tree: bool,
 ) -> Result<Vec<String>, AllocError> {
     let mut all: Vec<String> = Vec::new(alloc);
-    for mark in furthest.wanted.iter() {
+    for mark in furthest.wanted() {
         if let Some(leaf) = leaves.get(mark.saturating_sub(1)) {
             let said = wanted(alloc, leaf.expr, names, is_tree)?;
             if !all.contains(&said) {
@@ -128,7 +133,12 @@ fn push_furthest(
         write!(out, "\n  {said}")?;
     }
     push_excerpt(out, text, furthest.at)?;
-    if furthest.is_cut {
+    push_end(out, furthest.is_cut)
+}
+
+/// Ends what is said of a run, and says whether it was cut.
+fn push_end(out: &mut String, is_cut: bool) -> Result<(), AllocError> {
+    if is_cut {
         write!(
             out,
             "\nonly the first {MOST_STEPS} instructions of the run were watched"
@@ -151,7 +161,7 @@ fn pieces(
     for (i, leaf) in marked.leaves.iter().enumerate() {
         let last = leaf.end.saturating_sub(1);
         if let (Some((start, _)), Some((_, end))) = (spans.get(leaf.first), spans.get(last)) {
-            if furthest.wanted.contains(&i.saturating_add(1)) {
+            if furthest.wanted().contains(&i.saturating_add(1)) {
                 pieces.push((*start, *end))?;
             }
         }
@@ -180,15 +190,33 @@ fn explain_furthest(
     text: &str,
     furthest: &Furthest,
 ) -> Result<String, AllocError> {
-    let mut out = String::from_str(alloc, "no match\n")?;
     let names = GroupNames::new(alloc, &tree.named_groups)?;
     let all = all_wanted(alloc, &marked.leaves, furthest, &names, request.is_tree)?;
-    push_furthest(&mut out, text, furthest, &all)?;
     let lines = marked_pattern(alloc, request, marked, furthest)?;
-    if !lines.is_empty() {
-        write!(out, "in the pattern:\n{lines}")?;
-    }
+    explanation(alloc, text, furthest, &all, lines.as_str())
+}
+
+/// How far the attempts come, what does not follow there, and the lines of the pattern with that, if there are any.
+fn explanation(
+    alloc: Global,
+    text: &str,
+    furthest: &Furthest,
+    all: &[String],
+    lines: &str,
+) -> Result<String, AllocError> {
+    let mut out = String::from_str(alloc, "no match\n")?;
+    push_furthest(&mut out, text, furthest, all)?;
+    push_pattern(&mut out, lines)?;
     Ok(out)
+}
+
+/// Writes the lines of the pattern, if there are any.
+fn push_pattern(out: &mut String, lines: &str) -> Result<(), AllocError> {
+    if lines.is_empty() {
+        return Ok(());
+    }
+    out.push_str("in the pattern:\n")?;
+    out.push_str(lines)
 }
 
 /// Explains why the tree has no match, by a run of it with marks.
@@ -200,14 +228,8 @@ fn explain_tree(
 ) -> Result<String, Error> {
     let mut marked = Marked::new(alloc);
     marked.push_tree(&tree.expr)?;
-    let source = mem::replace(&mut marked.text, String::new(alloc));
-    let watched = Request {
-        source,
-        is_tree: true,
-        arguments: watched(&request.arguments),
-        limits: request.limits,
-    };
-    match watch(alloc, &watched, text)? {
+    let arguments = watched(&request.arguments);
+    match watch(alloc, marked.text.as_str(), &arguments, text)? {
         Some(furthest) => Ok(explain_furthest(alloc, request, tree, &marked, text, &furthest)?),
         None => Ok(String::from_str(alloc, "no match\n")?),
     }
@@ -224,15 +246,18 @@ fn explain(alloc: Global, request: &Request, text: &str) -> Result<String, Troub
     }
 }
 
+/// There is a match, against what is asked.
+fn contradiction(alloc: Global, found: &Match<'_>) -> Result<String, Trouble> {
+    let mut out = String::from_str(alloc, "there is a match  ")?;
+    push_match(&mut out, found)?;
+    Ok(out)
+}
+
 /// Why a text has no match: how far the attempt comes that comes furthest, and what does not follow there.
 pub fn why(alloc: Global, request: &Request, text: &str) -> Result<String, Trouble> {
     let (found, _groups) = captures(alloc, request, text)?;
     match found {
         None => explain(alloc, request, text),
-        Some(captures) => {
-            let mut out = String::from_str(alloc, "there is a match  ")?;
-            push_match(&mut out, &captures.whole())?;
-            Ok(out)
-        }
+        Some(captures) => contradiction(alloc, &captures.whole()),
     }
 }
