@@ -2,7 +2,7 @@
 use Rattle.std.proofs.Common.{◌≡◌, ℕ, zero, suc, ◌+◌, ◌-◌, ◌<◌, ◌≤◌, List, [], ◌∷◌, ◌++◌, replicate, length, reverse, take, drop, slice_index_or, slice_set, Option, MatchOption, refl, sym, ap, ap₂, ◌∙◌, arith, subst}
 use Rattle.std.proofs.lemmas.List.{length-set, length-reverse}
 use Rattle.fancy_meaning.specs.MatchState.{put}
-use Rattle.fancy_state.specs.Held.{Held, HeldBranch, first_held}
+use Rattle.fancy_state.specs.Held.{Held, HeldBranch, StateView, first_held, first_state}
 use Rattle.fancy_meaning.specs.Numbers.{usize_max}
 use Rattle.fancy_state.specs.OldValues.{Values, values_of, since, slots_in, stack_in, held_branches, IsRoomy, Falls, IsNewest, Agrees, IsSound}
 use Rattle.fancy_state.specs.declared.old_values.Old.{Old}
@@ -10,6 +10,9 @@ use Rattle.fancy_state.specs.declared.state.Branch.{Branch}
 use Rattle.fancy_state.proofs.OldLaws.{set_put}
 use Rattle.fancy_state.proofs.CellLaws.{length-slots, length-stack, slots_put, slots_above, stack_below, stack_above, stack_pushed, stack_popped, put_at, put_off, first_slots, first_stack}
 use Rattle.fancy_state.proofs.HeldLaws.{falls_same, falls_drop, falls_lower, newest_inside, newest_falls, one_more, reverse-take, held-drop, length-held, held_same, held_now, since_now, marked_held, marked_falls, marked_inside}
+
+pub held_is : {a b : StateView} → a ≡ b → a.held ≡ b.held
+held_is is = ap (λ (s : StateView). s.held) is
 
 -- a state of these parts
 abbrev pub held_of : ℕ → List ℕ → List Old → List Branch → ℕ → Held
@@ -176,9 +179,12 @@ refill (suc n) v =
     let whole : suc n - 0 ≡ suc n = omega arith in
     rw whole refl
 
-pub first_state : (n : ℕ) (log : List Old) (max_stack : ℕ) → held_of n (replicate n usize_max ++ 0 ∷ []) log [] max_stack ≡ first_held n max_stack
+first_is : (n max_stack : ℕ) → held_of n (replicate n usize_max ++ 0 ∷ []) [] [] max_stack ≡ first_held n max_stack
 unfolding held_branches
-first_state n log max_stack = parts _ _ _ _ _ _ max_stack (first_slots n) (first_stack n) refl
+first_is n max_stack = parts _ _ _ _ _ _ max_stack (first_slots n) (first_stack n) refl
+
+pub first_view : (n max_stack : ℕ) → record { held = held_of n (replicate n usize_max ++ 0 ∷ []) [] [] max_stack; logged = 0 } ≡ first_state n max_stack
+first_view n max_stack = ap (λ (h : Held). record { held = h; logged = 0 }) (first_is n max_stack)
 
 -- what the newest branch keeps is taken back
 module _ (n : ℕ) (cells new : List ℕ) (log news : List Old) (b : Branch) (bs : List Branch)

@@ -1,6 +1,6 @@
 //! Cells, and what they held before they were changed.
 
-ghost use Rattle.std.specs.Prelude.{◌≡◌, [], ◌∷◌, ◌++◌, ◌<◌, ◌≤◌, IsTrue, is_ok, if◌then◌else◌, length, drop, take, slice_set, OnOk, OnErr, IfOk, MatchOption};
+ghost use Rattle.std.specs.Prelude.{◌≡◌, [], ◌∷◌, ◌+◌, ◌++◌, ◌<◌, ◌≤◌, IsTrue, is_ok, if◌then◌else◌, length, drop, take, slice_set, OnOk, OnErr, IfOk, MatchOption};
 ghost use Rattle.fancy_state.specs.OldValues.{Agrees, IsSettled, values_of, first_cells};
 
 use std::alloc::{AllocError, Global};
@@ -166,6 +166,7 @@ impl Cells {
         ensures agrees { OnOk result (MatchOption mark (Unit {0}) (λ m. Agrees m
             self.old.log (values_of self.old.values) self.new.log (values_of self.new.values))) }
         ensures longer { length self.old.log ≤ length self.new.log }
+        ensures by_one { length self.new.log ≤ length self.old.log + 1 }
         ensures err { OnErr result (self.new ≡ self.old) }
     {
         match mark {
@@ -234,6 +235,7 @@ impl Cells {
         ensures agrees { Agrees mark
             self.old.log (values_of self.old.values) self.new.log (values_of self.old.values) }
         ensures longer { mark ≤ length self.new.log }
+        ensures shorter { length self.new.log ≤ length self.old.log }
     {
         let mut kept = first;
         'join: for next in first..self.log.len() {

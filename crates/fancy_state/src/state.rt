@@ -1,7 +1,7 @@
 //! Slots, an explicit stack, and the branches that a run can fall back to.
 
-ghost use Rattle.std.specs.Prelude.{◌≡◌, ◌*◌, ◌-◌, ◌<◌, ◌≤◌, [], ◌∷◌, None, Some, min, nat_le, nat_lt, length, drop, take, reverse, slice_index, slice_set, IfOk, OnOk, OnErr, IfErr, MatchOption};
-ghost use Rattle.fancy_state.specs.Held.{below, first_held, held_branch};
+ghost use Rattle.std.specs.Prelude.{◌≡◌, ◌+◌, ◌-◌, ◌<◌, ◌≤◌, [], ◌∷◌, None, Some, min, nat_le, nat_lt, length, drop, take, reverse, slice_index, slice_set, IfOk, OnOk, OnErr, IfErr, MatchOption};
+ghost use Rattle.fancy_state.specs.Held.{below, state_bytes, first_state, held_branch};
 ghost use Rattle.fancy_state.specs.Refused.{IsRefused, IsMemory};
 ghost use Rattle.fancy_state.specs.OldValues.{IsNewest};
 
@@ -50,13 +50,13 @@ impl Drop for State {
 }
 
 impl Model for State {
-    ghost use Rattle.fancy_state.specs.Held.{Held};
+    ghost use Rattle.fancy_state.specs.Held.{StateView};
 
-    ghost Value = { Held };
+    ghost Value = { StateView };
 
-    ghost use Rattle.fancy_state.specs.View.{held, IsLogged};
+    ghost use Rattle.fancy_state.specs.View.{state_view, IsLogged};
 
-    ghost view = { held };
+    ghost view = { state_view };
 
     ghost invariant = { IsLogged };
 }
@@ -76,7 +76,7 @@ impl State {
     /// A state of `n_saves` slots that are not set, which may hold `max_stack` branches. `Memory` where a request for
     /// memory was refused, as one for 2^32 slots is.
     pub fn new(alloc: Global, n_saves: usize, max_stack: usize) -> Result<State, Error>
-        ensures ok { IfOk result (λ s. s ≡ first_held n_saves max_stack) }
+        ensures ok { IfOk result (λ s. s ≡ first_state n_saves max_stack) }
         ensures err { IfErr result IsMemory }
     {
         Ok(State {
@@ -91,7 +91,7 @@ impl State {
     /// Makes it as `new` does, in the memory that it has.
     #[inline(always)]
     pub fn renew(self, n_saves: usize, max_stack: usize) -> Result<State, Error>
-        ensures ok { IfOk result (λ s. s ≡ first_held n_saves max_stack) }
+        ensures ok { IfOk result (λ s. s ≡ first_state n_saves max_stack) }
         ensures err { IfErr result IsMemory }
     {
         let State {
@@ -123,7 +123,7 @@ impl State {
 
     /// How many slots there are.
     pub fn slot_count(&self) -> usize
-        ensures { result ≡ length self.now.slots }
+        ensures { result ≡ length self.now.held.slots }
     {
         self.slot_count
     }
@@ -131,7 +131,7 @@ impl State {
     /// Makes it as `new` does, with as many slots as it has. It takes no memory.
     #[inline(always)]
     pub fn restart(&mut self, max_stack: usize)
-        ensures { self.new ≡ first_held (length self.old.slots) max_stack }
+        ensures { self.new ≡ first_state (length self.old.held.slots) max_stack }
     {
         self.branches.clear();
         self.max_stack = max_stack;
@@ -142,10 +142,12 @@ impl State {
     /// `StackOverflow` exactly where `max_stack` branches are held, and `Memory` where a request for memory was refused;
     /// the state is then as before.
     pub fn push(&mut self, pc: usize, ix: usize) -> Result<(), Error>
-        ensures room { OnOk result (length self.old.branches < self.old.max_stack) }
-        ensures ok { OnOk result (self.new
-            ≡ record self.old { branches = held_branch pc ix self.old ∷ self.old.branches }) }
-        ensures refused { IfErr result (IsRefused (length self.old.branches) self.old.max_stack) }
+        ensures room { OnOk result (length self.old.held.branches < self.old.held.max_stack) }
+        ensures ok { OnOk result (self.new.held ≡ record self.old.held {
+          branches = held_branch pc ix self.old.held ∷ self.old.held.branches;
+        }) }
+        ensures logged { self.new.logged ≡ self.old.logged }
+        ensures refused { IfErr result (IsRefused (length self.old.held.branches) self.old.held.max_stack) }
         ensures err { OnErr result (self.new ≡ self.old) }
     {
         if self.is_full() {
@@ -156,16 +158,18 @@ impl State {
 
     /// As many branches are held as may be.
     pub fn is_full(&self) -> bool
-        ensures { result ≡ nat_le self.now.max_stack (length self.now.branches) }
+        ensures { result ≡ nat_le self.now.held.max_stack (length self.now.held.branches) }
     {
         self.backtrack_count() >= self.max_stack
     }
 
     /// Adds a branch as `push` does, where there is room for it.
     pub fn add_branch(&mut self, pc: usize, ix: usize) -> Result<(), AllocError>
-        requires { length self.old.branches < self.old.max_stack }
-        ensures ok { OnOk result (self.new
-            ≡ record self.old { branches = held_branch pc ix self.old ∷ self.old.branches }) }
+        requires { length self.old.held.branches < self.old.held.max_stack }
+        ensures ok { OnOk result (self.new.held ≡ record self.old.held {
+          branches = held_branch pc ix self.old.held ∷ self.old.held.branches;
+        }) }
+        ensures logged { self.new.logged ≡ self.old.logged }
         ensures err { OnErr result (self.new ≡ self.old) }
     {
         let mark = self.cells.mark();
@@ -177,11 +181,12 @@ impl State {
     /// the text. There has to be one. It takes no memory.
     #[inline(always)]
     pub fn pop(&mut self) -> (usize, usize)
-        requires { 0 < length self.old.branches }
-        ensures branch { self.old.branches
-            ≡ held_branch result.0 result.1 self.new ∷ self.new.branches }
-        ensures slots { length self.new.slots ≡ length self.old.slots }
-        ensures max_stack { self.new.max_stack ≡ self.old.max_stack }
+        requires { 0 < length self.old.held.branches }
+        ensures branch { self.old.held.branches
+            ≡ held_branch result.0 result.1 self.new.held ∷ self.new.held.branches }
+        ensures slots { length self.new.held.slots ≡ length self.old.held.slots }
+        ensures max_stack { self.new.held.max_stack ≡ self.old.held.max_stack }
+        ensures logged { self.new.logged ≤ self.old.logged }
     {
         let Some(Branch { pc, ix, mark }) = self.branches.pop() else {
             unreachable!()
@@ -193,9 +198,11 @@ impl State {
     /// Sets a slot, one of the first `n_saves`. `Memory` where a request for memory was refused; the state is then as
     /// before.
     pub fn save(&mut self, slot: usize, value: usize) -> Result<(), Error>
-        requires { slot < length self.old.slots }
-        ensures ok { OnOk result
-            (self.new ≡ record self.old { slots = slice_set self.old.slots slot value }) }
+        requires { slot < length self.old.held.slots }
+        ensures ok { OnOk result (self.new.held ≡ record self.old.held {
+          slots = slice_set self.old.held.slots slot value;
+        }) }
+        ensures logged { self.new.logged ≤ self.old.logged + 1 }
         ensures refused { IfErr result IsMemory }
         ensures err { OnErr result (self.new ≡ self.old) }
     {
@@ -205,9 +212,11 @@ impl State {
     /// Sets a slot as `save` does.
     #[inline(always)]
     pub fn set_slot(&mut self, slot: usize, value: usize) -> Result<(), AllocError>
-        requires { slot < length self.old.slots }
-        ensures ok { OnOk result
-            (self.new ≡ record self.old { slots = slice_set self.old.slots slot value }) }
+        requires { slot < length self.old.held.slots }
+        ensures ok { OnOk result (self.new.held ≡ record self.old.held {
+          slots = slice_set self.old.held.slots slot value;
+        }) }
+        ensures logged { self.new.logged ≤ self.old.logged + 1 }
         ensures err { OnErr result (self.new ≡ self.old) }
     {
         let mark = newest_mark(&self.branches);
@@ -217,16 +226,16 @@ impl State {
 
     /// What a slot holds, one of the first `n_saves`; `usize::MAX` where it was not set.
     pub fn get(&self, slot: usize) -> usize
-        requires { slot < length self.now.slots }
-        ensures { result ≡ slice_index self.now.slots slot }
+        requires { slot < length self.now.held.slots }
+        ensures { result ≡ slice_index self.now.held.slots slot }
     {
         self.cells.get(slot)
     }
 
     /// Writes the first slots as numbers over these, in the memory that they have.
     pub fn copy_slots(&self, count: usize, numbers: &mut Vec<usize>) -> Result<(), AllocError>
-        requires { count ≤ length self.now.slots }
-        ensures { OnOk result (numbers.new.items ≡ take count self.now.slots) }
+        requires { count ≤ length self.now.held.slots }
+        ensures { OnOk result (numbers.new.items ≡ take count self.now.held.slots) }
     {
         self.cells.copy_first(count, numbers)?;
         Ok(())
@@ -234,17 +243,21 @@ impl State {
 
     /// Adds an entry to the explicit stack. `Memory` where a request for memory was refused; the state is then as before.
     pub fn stack_push(&mut self, value: usize) -> Result<(), Error>
-        ensures ok { OnOk result (self.new ≡ record self.old { stack = value ∷ self.old.stack }) }
+        ensures ok { OnOk result
+            (self.new.held ≡ record self.old.held { stack = value ∷ self.old.held.stack }) }
+        ensures logged { self.new.logged ≤ self.old.logged + 2 }
         ensures refused { IfErr result IsMemory }
-        ensures err { OnErr result (self.new ≡ self.old) }
+        ensures err { OnErr result (self.new.held ≡ self.old.held) }
     {
         Ok(self.add_entry(value)?)
     }
 
     /// Adds an entry to the explicit stack as `stack_push` does.
     pub fn add_entry(&mut self, value: usize) -> Result<(), AllocError>
-        ensures ok { OnOk result (self.new ≡ record self.old { stack = value ∷ self.old.stack }) }
-        ensures err { OnErr result (self.new ≡ self.old) }
+        ensures ok { OnOk result
+            (self.new.held ≡ record self.old.held { stack = value ∷ self.old.held.stack }) }
+        ensures logged { self.new.logged ≤ self.old.logged + 2 }
+        ensures err { OnErr result (self.new.held ≡ self.old.held) }
     {
         let count = self.cells.get(self.slot_count);
         let entry = self.slot_count + 1 + count;
@@ -258,9 +271,10 @@ impl State {
     /// Takes the last entry off the explicit stack. There has to be one. `Memory` where a request for memory was refused;
     /// the state is then as before.
     pub fn stack_pop(&mut self) -> Result<usize, Error>
-        requires { 0 < length self.old.stack }
-        ensures ok { IfOk result
-            (λ value. self.old ≡ record self.new { stack = value ∷ self.new.stack }) }
+        requires { 0 < length self.old.held.stack }
+        ensures ok { IfOk result (λ value.
+            self.old.held ≡ record self.new.held { stack = value ∷ self.new.held.stack }) }
+        ensures logged { self.new.logged ≤ self.old.logged + 1 }
         ensures refused { IfErr result IsMemory }
         ensures err { OnErr result (self.new ≡ self.old) }
     {
@@ -269,9 +283,10 @@ impl State {
 
     /// Takes the last entry off the explicit stack as `stack_pop` does.
     pub fn take_entry(&mut self) -> Result<usize, AllocError>
-        requires { 0 < length self.old.stack }
-        ensures ok { IfOk result
-            (λ value. self.old ≡ record self.new { stack = value ∷ self.new.stack }) }
+        requires { 0 < length self.old.held.stack }
+        ensures ok { IfOk result (λ value.
+            self.old.held ≡ record self.new.held { stack = value ∷ self.new.held.stack }) }
+        ensures logged { self.new.logged ≤ self.old.logged + 1 }
         ensures err { OnErr result (self.new ≡ self.old) }
     {
         let count = self.cells.get(self.slot_count);
@@ -283,16 +298,16 @@ impl State {
 
     /// The explicit stack has an entry.
     pub fn has_entry(&self) -> bool
-        ensures { result ≡ nat_lt 0 (length self.now.stack) }
+        ensures { result ≡ nat_lt 0 (length self.now.held.stack) }
     {
         self.cells.get(self.slot_count) > 0
     }
 
     /// How many branches stand before the last one that has this place of the program.
     pub fn count_before(&self, pc: usize) -> Option<usize>
-        ensures { MatchOption result (below pc self.now.branches ≡ None)
-            (λ n. (n ≤ length self.now.branches) × (below pc self.now.branches
-            ≡ Some (drop (length self.now.branches - n) self.now.branches))) }
+        ensures { MatchOption result (below pc self.now.held.branches ≡ None)
+            (λ n. (n ≤ length self.now.held.branches) × (below pc self.now.held.branches
+            ≡ Some (drop (length self.now.held.branches - n) self.now.held.branches))) }
     {
         let mut count = self.branches.len();
         while count > 0 {
@@ -306,7 +321,7 @@ impl State {
 
     /// How many branches are held.
     pub fn backtrack_count(&self) -> usize
-        ensures { result ≡ length self.now.branches }
+        ensures { result ≡ length self.now.held.branches }
     {
         self.branches.len()
     }
@@ -314,7 +329,7 @@ impl State {
     /// How many bytes the branches and the log hold, each entry by its size, which is 24 for a branch. With what vectors
     /// keep spare it may be twice as much.
     pub fn bytes(&self) -> usize
-        ensures { min usize.MAX (24 * length self.now.branches) ≤ result }
+        ensures { result ≡ min usize.MAX (state_bytes self.now) }
     {
         let branches = self.backtrack_count().saturating_mul(BRANCH);
         branches.saturating_add(self.cells.mark().saturating_mul(CHANGE))
@@ -323,10 +338,11 @@ impl State {
     /// Keeps the first `count` branches, of which there are so many, the slots and the explicit stack: each kept branch
     /// still has its own. It takes no memory.
     pub fn backtrack_cut(&mut self, count: usize)
-        requires { count ≤ length self.old.branches }
-        ensures { self.new ≡ record self.old {
-          branches = drop (length self.old.branches - count) self.old.branches;
+        requires { count ≤ length self.old.held.branches }
+        ensures held { self.new.held ≡ record self.old.held {
+          branches = drop (length self.old.held.branches - count) self.old.held.branches;
         } }
+        ensures logged { self.new.logged ≤ self.old.logged }
     {
         if count >= self.branches.len() {
             return;

@@ -104,9 +104,9 @@ impl Longest {
         start: usize,
     ) -> Result<(), AllocError>
         requires some { 0 < count }
-        requires slots { count ≤ length state.now.slots }
+        requires slots { count ≤ length state.now.held.slots }
         ensures { OnOk result
-            (held_match self.new ≡ Some (slice_set (take count state.now.slots) 0 start)) }
+            (held_match self.new ≡ Some (slice_set (take count state.now.held.slots) 0 start)) }
     {
         state.copy_slots(count, &mut self.numbers)?;
         self.numbers[0] = start;

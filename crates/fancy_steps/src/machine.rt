@@ -1,9 +1,10 @@
 //! The machine at work on a text.
 
-ghost use Rattle.std.specs.Prelude.{◌≡◌, ◌+◌, ◌*◌, ◌<◌, ◌≤◌, length, min, OnOk, IfErr, None, is_some, false, true};
+ghost use Rattle.std.specs.Prelude.{◌≡◌, ◌+◌, ◌<◌, length, min, OnOk, IfErr, None, false};
 ghost use Rattle.fancy_meaning.specs.Config as config;
 ghost use Rattle.fancy_meaning.specs.Machine as machine;
-ghost use Rattle.fancy_state.specs.Held.{first_held};
+ghost use Rattle.fancy_state.specs.Held.{state_bytes, first_state};
+ghost use Rattle.fancy_steps.specs.SearchLimits.{is_past, is_past_bytes};
 ghost use Rattle.fancy_steps.specs.Sound.{IsSound};
 ghost use Rattle.fancy_steps.specs.LookBehindCaches.{IsLookBehindCache};
 ghost use Rattle.fancy_steps.specs.TrailingNewlines.{AreTrailingNewlines};
@@ -25,7 +26,7 @@ use std::alloc::{AllocError, Global};
 /// How many branches a run may hold.
 pub const MAX_BRANCHES: usize = 1_000_000;
 
-/// The machine looks at how many bytes it holds where so many branches were added.
+/// The machine looks at how many bytes it holds where it has a multiple of so many branches.
 const BRANCHES_BETWEEN_LOOKS: usize = 64;
 
 /// What is run, on what, and how.
@@ -64,7 +65,7 @@ pub struct Machine<'a> {
     pub(crate) look_behind_cache: LookBehindCache,
     /// The long runs of bytes that the bodies of counted loops took one by one.
     pub(crate) kept_runs: KeptRuns,
-    ghost sound: { IsSound task state },
+    ghost sound: { IsSound task state.held },
     ghost are_trailing_newlines: { AreTrailingNewlines task.text.now trailing_newlines },
     ghost is_cache: { IsLookBehindCache task.text.now look_behind_cache },
     ghost are_kept_runs: { AreKeptRuns (prog_of task.prog.now).body task.text.now kept_runs },
@@ -185,7 +186,7 @@ impl<'a> Machine<'a> {
     ghost use Rattle.fancy_steps.specs.Stops.{IsPushStop};
 
     pub fn begin(task: &Task<'a>, state: State, longest: Longest) -> Machine<'a>
-        requires state { state ≡ first_held task.now.prog.now.parts.slots config.most_branches }
+        requires state { state ≡ first_state task.now.prog.now.parts.slots config.most_branches }
         requires longest { held_match longest ≡ None }
         requires implicit { task.now.prog.now.parts.explicit_group_0 ≡ false }
         ensures task { result.task ≡ task.now }
@@ -212,7 +213,7 @@ impl<'a> Machine<'a> {
 
     /// What the slot holds.
     pub(crate) fn slot(&self, slot: usize) -> usize
-        requires { slot < length self.now.state.slots }
+        requires { slot < length self.now.state.held.slots }
         ensures { result ≡ (config_of self.now).slots slot }
     {
         self.state.get(slot)
@@ -249,11 +250,11 @@ impl<'a> Machine<'a> {
     /// Takes the last branch, where there is one and the limit allows it.
     #[inline(always)]
     pub(crate) fn fall(&mut self)
-        requires some { 0 < length self.old.state.branches }
+        requires some { 0 < length self.old.state.held.branches }
         requires within { self.old.backtracks < self.old.task.options.now.backtrack_limit }
         ensures task { self.new.task ≡ self.old.task }
         ensures passed { self.new.passed ≡ self.old.passed }
-        ensures fewer { length self.new.state.branches < length self.old.state.branches }
+        ensures fewer { length self.new.state.held.branches < length self.old.state.held.branches }
         ensures falls { machine.fail (plain_task self.old.task) (config_of self.old)
             ≡ config.Goes (config_of self.new) }
     {
@@ -298,9 +299,9 @@ impl<'a> Machine<'a> {
     /// Sets a slot.
     #[inline(always)]
     pub(crate) fn put(&mut self, slot: usize, value: usize) -> Result<(), AllocError>
-        requires { slot < length self.old.state.slots }
+        requires { slot < length self.old.state.held.slots }
         ensures task { self.new.task ≡ self.old.task }
-        ensures slots { length self.new.state.slots ≡ length self.old.state.slots }
+        ensures slots { length self.new.state.held.slots ≡ length self.old.state.held.slots }
         ensures ok { OnOk result
             (config_of self.new ≡ config.with_slot slot value (config_of self.old)) }
     {
@@ -308,43 +309,44 @@ impl<'a> Machine<'a> {
         Ok(())
     }
 
-    /// Adds a branch of this machine at another place of the program.
+    /// Adds a branch of this machine at another place of the program. `Memory` too where the limit on bytes is passed.
     #[inline(always)]
     pub(crate) fn push(&mut self, pc: usize) -> Result<(), Stop>
         ensures task { self.new.task ≡ self.old.task }
         ensures room { OnOk result (length (config_of self.old).branches < config.most_branches) }
         ensures ok { OnOk result (config_of self.new ≡ with_branch pc (config_of self.old)) }
+        ensures within { OnOk result
+            (is_past_bytes self.old.task.limits self.old.state ≡ false) }
         ensures stopped { IfErr result (IsPushStop (length (config_of self.old).branches)) }
     {
         if self.state.is_full() {
             return Err(Stop::Limit(RuntimeError::StackOverflow));
         }
-        if self.state.backtrack_count() % BRANCHES_BETWEEN_LOOKS == 0 && self.holds_too_much() {
+        if self.is_past_bytes() {
             return Err(Stop::Memory);
         }
         self.state.add_branch(pc, self.ix)?;
         Ok(())
     }
 
+    /// The machine looks at how many bytes it holds, and these are more than the limit allows.
+    #[inline(always)]
+    pub fn is_past_bytes(&self) -> bool
+        ensures { result ≡ is_past_bytes self.now.task.limits self.now.state }
+    {
+        self.state.backtrack_count() % BRANCHES_BETWEEN_LOOKS == 0 && self.holds_too_much()
+    }
+
     /// The branches and the log hold more bytes than the limit allows.
     #[cold]
     #[inline(never)]
-    fn holds_too_much(&self) -> bool {
+    fn holds_too_much(&self) -> bool
+        ensures { result
+            ≡ is_past self.now.task.limits.bytes (min usize.MAX (state_bytes self.now.state)) }
+    {
         match self.task.limits.bytes {
             None => false,
             Some(most) => self.state.bytes() > most,
-        }
-    }
-
-    /// How many bytes the branches and the log hold, where these are limited, and else 0.
-    pub fn held_bytes(&self) -> usize
-        ensures unlimited { self.now.task.limits.bytes ≡ None → result ≡ 0 }
-        ensures limited { is_some self.now.task.limits.bytes ≡ true
-            → min usize.MAX (24 * length self.now.state.branches) ≤ result }
-    {
-        match self.task.limits.bytes {
-            None => 0,
-            Some(_) => self.state.bytes(),
         }
     }
 }

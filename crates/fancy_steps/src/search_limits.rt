@@ -22,7 +22,7 @@ pub struct SearchLimits {
     /// How many states they may take up.
     pub visits: Option<u64>,
     /// How many bytes what they keep may hold at one time, and as many the branches of the run and its log together. Those
-    /// are looked at where 64 branches are added.
+    /// are looked at where a branch is added to a multiple of 64.
     pub bytes: Option<usize>,
 }
 

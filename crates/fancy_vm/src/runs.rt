@@ -1,6 +1,6 @@
 //! Runs of a program.
 
-ghost use Rattle.std.specs.Prelude.{◌≡◌, IsTrue, IfOk, IfErr, OnOk, None};
+ghost use Rattle.std.specs.Prelude.{◌≡◌, IsTrue, IfOk, IfErr, OnOk, None, false, is_some, max};
 ghost use Rattle.fancy_meaning.specs.Config as config;
 ghost use Rattle.fancy_meaning.specs.Machine as machine;
 ghost use Rattle.fancy_meaning.specs.Fits.{run_fits};
@@ -10,8 +10,8 @@ ghost use Rattle.fancy_vm.specs.Founds.{IsMatchWith};
 ghost use Rattle.fancy_vm.specs.Means.{IsMeaning, IsMeaningPair, numbers_of};
 ghost use Rattle.fancy_steps.specs.Outcomes.{RunAnswers, RunAnswersPair, answer_in, held_match, plain_task};
 ghost use Rattle.fancy_vm.specs.Ready.{AreFresh, IsReady};
-ghost use Rattle.fancy_steps.specs.SearchLimits.{StaysWithin, no_limits};
-ghost use Rattle.fancy_state.specs.Held.{first_held};
+ghost use Rattle.fancy_steps.specs.SearchLimits.{StaysWithin, is_past, is_past_bytes, no_limits};
+ghost use Rattle.fancy_state.specs.Held.{first_state};
 ghost use Rattle.fancy_state.specs.Refused.{IsMemory};
 ghost use Rattle.fancy_program.specs.Programs.{prog_of};
 ghost use Rattle.fancy_vm.specs.Scratches.{IsUnused, allocator_of, limits_of, passed_of};
@@ -416,7 +416,7 @@ impl Room {
     #[inline(always)]
     fn take_state(&mut self, slots: usize) -> State
         requires { IsReady slots self.old.state }
-        ensures state { result ≡ first_held slots config.most_branches }
+        ensures state { result ≡ first_state slots config.most_branches }
         ensures memos { self.new.memos ≡ self.old.memos }
     {
         let Some(state) = self.state.take() else {
@@ -440,11 +440,19 @@ impl Room {
         }
     }
 
-    /// Keeps the memory of a run for the next one. What it held counts where it ended for want of memory.
+    /// Keeps the memory of a run for the next one. Where it ended for want of memory, and could have added no branch for
+    /// the limit on bytes, its bytes count, so that this limit is told.
     #[inline(always)]
-    fn keep(&mut self, m: Machine<'_>, wants_memory: bool) {
-        if wants_memory {
-            self.count_bytes(m.held_bytes());
+    fn keep(&mut self, m: Machine<'_>, wants_memory: bool)
+        requires { IsTrue (is_some self.old.memos) }
+        ensures told { IsTrue wants_memory
+            → IsTrue (is_past_bytes m.entry.task.limits m.entry.state)
+            → IsTrue (is_past m.entry.task.limits.bytes (cost_in self.new.memos).bytes) }
+        ensures else_same { is_past_bytes m.entry.task.limits m.entry.state ≡ false
+            → cost_in self.new.memos ≡ cost_in self.old.memos }
+    {
+        if wants_memory && m.is_past_bytes() {
+            self.count_bytes(m.state.bytes());
         }
         let Machine { state, longest, .. } = m;
         self.state = Some(state);
@@ -454,7 +462,10 @@ impl Room {
     /// The machine of the run held so many bytes.
     #[cold]
     #[inline(never)]
-    fn count_bytes(&mut self, bytes: usize) {
+    fn count_bytes(&mut self, bytes: usize)
+        requires { IsTrue (is_some self.old.memos) }
+        ensures { (cost_in self.new.memos).bytes ≡ max (cost_in self.old.memos).bytes bytes }
+    {
         if let Some(memos) = &mut self.memos {
             memos.count_bytes(bytes);
         }

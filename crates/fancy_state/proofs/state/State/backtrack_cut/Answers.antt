@@ -1,13 +1,13 @@
 use Rattle.std.proofs.Common.{ℕ, List, take, subst, reverse, arith, sym, refl}
 use Rattle.fancy_state.specs.OldValues.{IsSound}
 use Rattle.fancy_state.specs.declared.state.Branch.{Branch}
-use Rattle.fancy_state.proofs.StateLaws.{cut_held, cut_none, cut_nothing, cut_first, cut_mark, cut_sound, cut_some}
+use Rattle.fancy_state.proofs.StateLaws.{held_is, cut_held, cut_none, cut_nothing, cut_first, cut_mark, cut_sound, cut_some}
 use Rattle.fancy_state.proofs.state.State.backtrack_cut.Goals as goal
 
-pub returns-then-count-len : goal.returns-then-count-len
-returns-then-count-len c =
+pub returns-then-count-len-clause-held : goal.returns-then-count-len-clause-held
+returns-then-count-len-clause-held c =
     let s = c.self.inside in
-    rw (cut_nothing s.slot_count s.cells.values s.cells.log s.branches.items c.args.count s.max_stack c.args.self.now c.self.view_is (omega (arith, s.branches.ok.0))) refl
+    rw (cut_nothing s.slot_count s.cells.values s.cells.log s.branches.items c.args.count s.max_stack c.args.self.now.held (held_is c.self.view_is) (omega (arith, s.branches.ok.0))) refl
 
 pub join-requires-clause-mark : goal.join-requires-clause-mark
 join-requires-clause-mark c =
@@ -31,8 +31,8 @@ invariant_of-self-in-Some c =
     (cut_sound n s.cells.values s.cells.log bs c.args.count c.index.result.now (omega (arith, s.branches.ok.0)) c.index.ensures
     c.self.invariant c.join.new.self.log c.in-Some.mark newest c.join.ensures.agrees c.join.ensures.longer))
 
-pub returns-in-None : goal.returns-in-None
-returns-in-None c =
+pub returns-in-None-clause-held : goal.returns-in-None-clause-held
+returns-in-None-clause-held c =
     let s = c.self.inside in
     let n = s.slot_count in
     let bs = s.branches.items in
@@ -41,8 +41,8 @@ returns-in-None c =
     (cut_held n s.cells.values s.cells.log bs c.args.count c.forget.new.self.log s.max_stack
     (cut_none n s.cells.values s.cells.log bs c.args.count c.forget.new.self.log none))
 
-pub returns-in-Some : goal.returns-in-Some
-returns-in-Some c =
+pub returns-in-Some-clause-held : goal.returns-in-Some-clause-held
+returns-in-Some-clause-held c =
     let s = c.self.inside in
     let n = s.slot_count in
     let bs = s.branches.items in

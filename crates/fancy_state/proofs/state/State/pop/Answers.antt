@@ -13,7 +13,7 @@ unreachable-requires c =
     omega (
       arith,
       c.requires,
-      ap (λ h. length h.branches) c.self.view_is,
+      ap (λ s. length s.held.branches) c.self.view_is,
       length-held s.slot_count s.cells.log (values_of s.cells.values) (reverse s.branches.items),
       length-reverse s.branches.items,
       s.branches.ok.0,

@@ -5,7 +5,7 @@ use Rattle.std.proofs.lemmas.List.{length-replicate}
 use Rattle.fancy_meaning.specs.Config.{Config, Slots}
 use Rattle.fancy_meaning.specs.Machine as machine
 use Rattle.fancy_meaning.specs.Numbers.{usize_max}
-use Rattle.fancy_state.specs.Held.{Held}
+use Rattle.fancy_state.specs.Held.{StateView}
 use Rattle.fancy_program.specs.Programs.{prog_of}
 use Rattle.fancy_steps.specs.Outcomes.{config_at, plain_task}
 use Rattle.fancy_steps.specs.Sound.{IsSound}
@@ -21,7 +21,7 @@ invariant_of-result c =
     let slots = c.args.task.now.prog.now.parts.slots in
     let len = length-replicate slots usize_max in
     record {
-      sound = subst (IsSound c.args.task.now) (sym c.requires.state)
+      sound = subst (λ (s : StateView). IsSound c.args.task.now s.held) (sym c.requires.state)
           (record { slots = len; small = omega (arith, len); max_stack = refl; implicit = c.requires.implicit });
       are_trailing_newlines = c.new.ensures c.args.task.now.text.now;
       is_cache = c.new-2.ensures c.args.task.now.text.now;
@@ -33,7 +33,7 @@ returns-clause-begins c =
     let pos : ℕ = c.args.task.now.options.now.pos in
     let at_slots : Slots → Config = λ slots.
     record { now = record { pc = 0; ix = pos; slots = slots; marks = [] }; branches = []; start = pos; backtracks = 0; longest = None } in
-    subst (λ (longest : Option (List ℕ)). config_at 0 pos pos 0 longest c.args.state ≡ machine.begin (plain_task c.args.task.now))
+    subst (λ (longest : Option (List ℕ)). config_at 0 pos pos 0 longest c.args.state.held ≡ machine.begin (plain_task c.args.task.now))
     (sym c.requires.longest)
-    (subst (λ (s : Held). config_at 0 pos pos 0 None s ≡ machine.begin (plain_task c.args.task.now)) (sym c.requires.state)
+    (subst (λ (s : StateView). config_at 0 pos pos 0 None s.held ≡ machine.begin (plain_task c.args.task.now)) (sym c.requires.state)
     (ap at_slots (fun_ext (unset_at c.args.task.now.prog.now.parts.slots))))

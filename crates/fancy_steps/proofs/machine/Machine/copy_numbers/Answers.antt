@@ -12,7 +12,7 @@ copy_slots-requires c =
 pub index_mut-requires : goal.index_mut-requires
 index_mut-requires c =
     let prog = c.args.self.now.task.prog.now in
-    let slots = c.args.self.now.state.slots in
+    let slots = c.args.self.now.state.held.slots in
     omega (
       arith,
       c.copy_slots.new.numbers.ok.0,
@@ -26,6 +26,6 @@ index_mut-requires c =
 pub returns-then-count-gt0 : goal.returns-then-count-gt0
 returns-then-count-gt0 c =
     let prog = c.args.self.now.task.prog.now in
-    let slots = c.args.self.now.state.slots in
+    let slots = c.args.self.now.state.held.slots in
     rw (c.in_ok-copy_slots.ensures, c.match_start.ensures, ← c.flag_slot-count.ensures)
     (numbers_are slots _ c.flag_slot-count.result (omega (arith, c.flag_slot-count.ensures, c.args.self.now.sound.slots, fits_flag (prog_of prog) prog.fits)))

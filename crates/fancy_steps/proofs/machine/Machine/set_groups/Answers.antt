@@ -49,14 +49,14 @@ groups-preserved c =
           ∙ c.groups.invariant.same in
           record {
             task = ap (λ m. m.task) w.self-is ∙ w.in_ok-set_pair.ensures.task ∙ c.groups.invariant.task;
-            slots = ap (λ m. length m.state.slots) w.self-is ∙ w.in_ok-set_pair.ensures.slots ∙ c.groups.invariant.slots;
+            slots = ap (λ m. length m.state.held.slots) w.self-is ∙ w.in_ok-set_pair.ensures.slots ∙ c.groups.invariant.slots;
             same = ap (λ m. config.with_slots (config.with_pairs (span_from (first + (i + 1)) rest) (config_of m).slots) (config_of m)) w.self-is ∙ same;
           }
       | in_default w ↦
           let here : drop i spans ≡ None ∷ rest = cut ∙ ap (λ o. o ∷ rest) w.in_default.is in
           record {
             task = ap (λ m. m.task) w.self-is ∙ c.groups.invariant.task;
-            slots = ap (λ m. length m.state.slots) w.self-is ∙ c.groups.invariant.slots;
+            slots = ap (λ m. length m.state.held.slots) w.self-is ∙ c.groups.invariant.slots;
             same = ap (λ m. config.with_slots (config.with_pairs (span_from (first + (i + 1)) rest) (config_of m).slots) (config_of m)) w.self-is
                 ∙ ap (λ n. config.with_slots (config.with_pairs (span_from n rest) before.slots) before) next
                 ∙ ap (λ f. config.with_slots (config.with_pairs f before.slots) before) (fun_ext (λ g. sym (span_none rest (first + i) g)))

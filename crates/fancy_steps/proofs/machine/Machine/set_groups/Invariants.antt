@@ -7,7 +7,7 @@ use Rattle.fancy_steps.proofs.machine.Machine.set_groups.Given as goal
 abbrev pub invariant-groups : goal.invariant-groups
 invariant-groups l = record {
   task : l.self.task ≡ l.initial.self.task;
-  slots : length (l.self.state).slots ≡ (((l.initial.self.task).prog).now.parts).slots;
+  slots : length (l.self.state.held).slots ≡ (((l.initial.self.task).prog).now.parts).slots;
   same : config.with_slots (config.with_pairs (span_from (l.first + l.index) (drop l.index l.spans)) (config_of l.self).slots) (config_of l.self)
       ≡ config.with_slots (config.with_pairs (span_from l.first l.spans) (config_of l.initial.self).slots) (config_of l.initial.self);
 }
