@@ -31,3 +31,8 @@ pub mod SettledGroups
 pub mod LateReadWalk
 pub mod LateReadSpots
 pub mod Anchors
+pub mod GrownSizes
+pub mod FormSizes
+pub mod RingSizes
+pub mod LevelSizes
+pub mod RingRounds

@@ -124,7 +124,7 @@ pub past_targets : (known : Known) (targets : List Expr) (g : ℕ) → length ta
 past_targets known targets g le =
     get_or_past (sizes_of known targets) g unknown (omega (arith, length-map targets (λ e. size_by known (tree_of e))))
 
-default_again : (l : List Expr) (g : ℕ) (d : Expr) → g < length l → get_or l g d ≡ get_or l g (get_or l g d)
+pub default_again : (l : List Expr) (g : ℕ) (d : Expr) → g < length l → get_or l g d ≡ get_or l g (get_or l g d)
 default_again [] g d lt = absurd (omega arith)
 default_again (x ∷ l) zero d lt = refl
 default_again (x ∷ l) (suc g) d lt = default_again l g d (omega arith)

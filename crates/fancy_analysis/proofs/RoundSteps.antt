@@ -29,6 +29,11 @@ size_at_target known [] n b lt is = absurd (omega arith)
 size_at_target known (x ∷ targets) zero b lt is = ap (λ y. size_by known (tree_of y.now)) (sym is)
 size_at_target known (x ∷ targets) (suc n) b lt is = size_at_target known targets n b (omega arith) is
 
+pub expr_at : (targets : List (Bor Expr)) (n : ℕ) (b : Bor Expr) → n < length targets → b ≡ get_or targets n b → b.now ≡ get_or (exprs_at targets) n b.now
+expr_at [] n b lt is = absurd (omega arith)
+expr_at (x ∷ targets) zero b lt is = ap (λ y. y.now) is
+expr_at (x ∷ targets) (suc n) b lt is = expr_at targets n b (omega arith) is
+
 -- ---- changes
 
 changed-push : (changes : List Change) (c : Change) → changed (changes ++ c ∷ []) ≡ changed changes ++ c.number ∷ []

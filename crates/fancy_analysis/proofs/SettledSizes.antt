@@ -1,11 +1,11 @@
 -- Sizes that are computed once, after those that they go by.
-use Rattle.std.proofs.Common.{◌≡◌, ◌≢◌, ℕ, zero, suc, ◌+◌, ◌<◌, ◌≤◌, List, length, map, set, replicate, All, Contains, Vec, Global, ⊎_elim, refl, sym, ap, ◌∙◌, subst, arith}
+use Rattle.std.proofs.Common.{◌≡◌, ◌≢◌, ℕ, zero, suc, ◌+◌, ◌-◌, ◌<◌, ◌≤◌, List, [], ◌∷◌, length, map, get_or, set, replicate, All, Contains, Vec, Global, ⊎_elim, refl, sym, ap, ◌∙◌, subst, arith}
 use Rattle.std.proofs.lemmas.Bool.{cases_lt, cases_eq}
 use Rattle.std.proofs.lemmas.List.{get_or_past, get_or-set_same, get_or-set_other, length-set}
 use Rattle.std.proofs.lemmas.List.Elements.{All-contains, All-weaker}
 use Rattle.fancy_meaning.specs.Tree.{Tree}
 use Rattle.fancy_meaning.specs.Nodes.{group_count}
-use Rattle.fancy_meaning.specs.Sizes.{Known, after_rounds, next_round, size_by, size_of_target, unknown}
+use Rattle.fancy_meaning.specs.Sizes.{Known, Size, after_rounds, next_round, size_by, size_of_target, unknown}
 use Rattle.fancy_expr.specs.declared.expr.Expr.{Expr}
 use Rattle.fancy_expr.specs.Views.{tree_of}
 use Rattle.fancy_expr.specs.Exprs.{exprs}
@@ -13,7 +13,10 @@ use Rattle.fancy_info.specs.declared.size.Size as code
 use Rattle.fancy_info.specs.Sized.{size_of}
 use Rattle.fancy_analysis.specs.Changes.{AreAfter, AreTargets}
 use Rattle.fancy_analysis.specs.Dependents.{AreDependents, listed}
-use Rattle.fancy_analysis.specs.InOrder.{IsKnownWithin, IsSettledWithin, round_at}
+use Rattle.fancy_analysis.specs.InOrder.{IsKnownWithin, IsLatestOf, IsSettledWithin, round_at}
+use Rattle.fancy_analysis.specs.SizeForms.{target_size_at}
+use Rattle.fancy_analysis.specs.declared.size_forms.TargetSize.{TargetSize}
+use Rattle.fancy_analysis.specs.declared.size_forms.TargetSize.TheVariants as target
 use Rattle.fancy_analysis.proofs.MadeChanges.{at, nothing_known, past_end, past_targets, same_named_size, set_at_other, set_at_same}
 
 -- as `AreSettled`, of the two lists
@@ -89,7 +92,7 @@ pub none_settled : (whole : Tree) (sizes : List code.Size) (rounds : List ℕ) (
     AreSizesSettled whole sizes rounds
 none_settled whole sizes rounds n is g m k = absurd (omega (arith, k.0, ap (λ l. round_at l g) is ∙ round-none n g))
 
-unknown_past : (e : Expr) (whole : Tree) (targets : List Expr) → AreTargets e whole targets → (n g : ℕ) → length targets ≤ g →
+pub unknown_past : (e : Expr) (whole : Tree) (targets : List Expr) → AreTargets e whole targets → (n g : ℕ) → length targets ≤ g →
     size_of_target (after_rounds whole n) g ≡ unknown
 unknown_past e whole targets t zero g le = nothing_known (suc (group_count whole)) g
 unknown_past e whole targets t (suc n) g le =
@@ -104,3 +107,75 @@ after_settled e whole targets lists n sizes rounds t d same settled within g nam
     (λ lt. settled g n (within g 0 lt (d.named g named lt)))
     (λ le. past_end sizes g (omega (arith, same)) ∙ sym (unknown_past e whole targets t n g (omega (arith, d.enough))))
     (cases_lt g (length lists))
+
+-- ---- by levels
+
+abbrev pub AreLevelsOf : List Expr → List ℕ → Type 0
+AreLevelsOf targets rounds =
+    (g : ℕ) (e : Expr) → g < length targets → e ≡ get_or targets g e → 0 < round_at rounds g →
+    All (IsSettledWithin rounds (round_at rounds g - 1)) (exprs e)
+
+pub no_levels : (targets : List Expr) (rounds : List ℕ) (n : ℕ) → rounds ≡ replicate n 0 → AreLevelsOf targets rounds
+no_levels targets rounds n is g e lt at low = absurd (omega (arith, low, ap (λ l. round_at l g) is ∙ round-none n g))
+
+module _ (rounds : List ℕ) (number v : ℕ) (none : round_at rounds number ≡ 0) where
+  still_settled : (n : ℕ) (node : Expr) → IsSettledWithin rounds n node → IsSettledWithin (set rounds number v) n node
+  still_settled n node h g names =
+      let k : IsKnownWithin rounds g n = h g names in
+      let other : g ≢ number = λ same. omega (arith, k.0, ap (round_at rounds) same, none) in
+      let here = get_or-set_other rounds number g v 0 other in
+      (omega (arith, k.0, here), omega (arith, k.1, here))
+
+  all_still_settled : (n : ℕ) (es : List Expr) → All (IsSettledWithin rounds n) es → All (IsSettledWithin (set rounds number v) n) es
+  all_still_settled n es all = All-weaker (IsSettledWithin rounds n) (IsSettledWithin (set rounds number v) n) (λ e here. still_settled n e here) es all
+
+pub levels_next : (targets : List Expr) (rounds : List ℕ) (number n : ℕ) (x : Expr) → round_at rounds number ≡ 0 → number < length targets →
+    x ≡ get_or targets number x → All (IsSettledWithin rounds n) (exprs x) → AreLevelsOf targets rounds → AreLevelsOf targets (set rounds number (n + 1))
+levels_next targets rounds number n x none lt is all before g e less at low = ⊎_elim
+    (λ same. ⊎_elim
+    (λ inside.
+    let here : round_at (set rounds number (n + 1)) g ≡ n + 1 = ap (round_at (set rounds number (n + 1))) same ∙ get_or-set_same rounds number (n + 1) 0 inside in
+    let one : x ≡ e = same_target targets number x e lt is (at ∙ ap (λ k. get_or targets k e) same) in
+    let level : n ≡ round_at (set rounds number (n + 1)) g - 1 = omega (arith, here) in
+    subst (λ k. All (IsSettledWithin (set rounds number (n + 1)) k) (exprs e)) level
+    (all_still_settled rounds number (n + 1) none n (exprs e) (subst (λ y. All (IsSettledWithin rounds n) (exprs y)) one all)))
+    (λ past.
+    let gone : round_at (set rounds number (n + 1)) g ≡ 0 =
+    ap (round_at (set rounds number (n + 1))) same ∙ get_or_past (set rounds number (n + 1)) number 0 (omega (arith, length-set rounds number (n + 1), past)) in
+    absurd (omega (arith, low, gone)))
+    (cases_lt number (length rounds)))
+    (λ other.
+    let here = get_or-set_other rounds number g (n + 1) 0 other in
+    let level : round_at rounds g - 1 ≡ round_at (set rounds number (n + 1)) g - 1 = omega (arith, here) in
+    subst (λ k. All (IsSettledWithin (set rounds number (n + 1)) k) (exprs e)) level
+    (all_still_settled rounds number (n + 1) none (round_at rounds g - 1) (exprs e) (before g e less at (omega (arith, low, here)))))
+    (cases_eq g number)
+  where
+    same_target : (ts : List Expr) (k : ℕ) (a b : Expr) → k < length ts → a ≡ get_or ts k a → b ≡ get_or ts k b → a ≡ b
+    same_target [] k a b lt one two = absurd (omega (arith, lt))
+    same_target (y ∷ ts) zero a b lt one two = one ∙ sym two
+    same_target (y ∷ ts) (suc k) a b lt one two = same_target ts k a b (omega (arith, lt)) one two
+
+-- ---- the latest
+
+pub later : (rounds : List ℕ) (n m : ℕ) (node : Expr) → n ≤ m → IsLatestOf rounds n node → IsLatestOf rounds m node
+later rounds n m node le k g is = omega (arith, le, k g is)
+
+pub all_later : (rounds : List ℕ) (n m : ℕ) → n ≤ m → (es : List Expr) → All (IsLatestOf rounds n) es → All (IsLatestOf rounds m) es
+all_later rounds n m le es all = All-weaker (IsLatestOf rounds n) (IsLatestOf rounds m) (λ e here. later rounds n m e le here) es all
+
+-- ---- where many rounds begin
+
+pub record IsFirstSize (sizes : List TargetSize) (known : List code.Size) (g : ℕ) (size : Size) : Type 0 where
+  pub settled : (s : code.Size) → target_size_at sizes g ≡ target.Settled s → size ≡ size_of s
+  pub other : ((s : code.Size) → target_size_at sizes g ≡ target.Settled s → ⊥) → size ≡ at known g
+
+pub any_default : {A : Type 0} (l : List A) (n : ℕ) (a b : A) → n < length l → get_or l n a ≡ get_or l n b
+any_default [] n a b lt = absurd (omega (arith, lt))
+any_default (x ∷ l) zero a b lt = refl
+any_default (x ∷ l) (suc n) a b lt = any_default l n a b (omega (arith, lt))
+
+pub size_there : (sizes : List code.Size) (n : ℕ) (d : code.Size) → n < length sizes → size_of (get_or sizes n d) ≡ at sizes n
+size_there [] n d lt = absurd (omega (arith, lt))
+size_there (x ∷ sizes) zero d lt = refl
+size_there (x ∷ sizes) (suc n) d lt = size_there sizes n d (omega (arith, lt))

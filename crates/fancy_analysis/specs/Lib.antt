@@ -13,3 +13,7 @@ pub mod Dependents
 pub mod Changes
 pub mod Callers
 pub mod InOrder
+pub mod Growths
+pub mod SizeForms
+pub mod Rings
+pub mod Levels

@@ -26,7 +26,7 @@ use std::alloc::{AllocError, Global};
 
 /// The size of a target that a round changes.
 #[derive(Clone, Copy)]
-struct Change {
+pub struct Change {
     number: usize,
     size: Size,
 }
@@ -86,7 +86,7 @@ fn add_if_named(
 }
 
 /// The changes among these targets.
-fn changes_among(
+pub fn changes_among(
     alloc: Global,
     tables: &VisitTables,
     targets: &[&Expr],
@@ -118,7 +118,7 @@ fn make_change(change: Change, known: &mut [Size])
     }
 }
 
-fn make_changes(changes: &[Change], known: &mut [Size])
+pub fn make_changes(changes: &[Change], known: &mut [Size])
     ensures { known.new ≡ made changes.now known.old }
 {
     for change in changes {
@@ -127,7 +127,7 @@ fn make_changes(changes: &[Change], known: &mut [Size])
 }
 
 /// Adds what is listed under a number.
-fn add_listed(
+pub fn add_listed(
     dependents: &[Vec<usize>],
     number: usize,
     numbers: &mut Vec<usize>,

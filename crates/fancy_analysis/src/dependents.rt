@@ -11,9 +11,6 @@ use fancy_expr::expr::Expr;
 use fancy_expr::parts::{part, part_count};
 use std::alloc::{AllocError, Global};
 
-/// So many times as many nodes as the tree has are looked at, at most.
-const MOST_LOOKS: usize = 4;
-
 /// The number whose size a node takes.
 pub fn named_by(expr: &Expr) -> Option<usize>
     ensures { result ≡ named_by (tree_of expr.now) }
@@ -123,12 +120,13 @@ pub fn no_lists(alloc: Global, count: usize) -> Result<Vec<Vec<usize>>, AllocErr
 }
 
 /// Under each of so many numbers, the whole tree and the targets with numbers that name it, if it is named. There is
-/// no answer where too many nodes stand in more than one of these targets.
+/// no answer where the named targets have together more than `most` times as many nodes as the tree.
 pub fn dependents(
     alloc: Global,
     expr: &Expr,
     targets: &[&Expr],
     count: usize,
+    most: usize,
 ) -> Result<Option<Vec<Vec<usize>>>, AllocError>
     requires { length targets.now ≤ count }
     ensures length { IfOk result (λ found. IfSome found (λ v. length v.items ≡ count)) }
@@ -141,7 +139,7 @@ pub fn dependents(
     if left == 0 {
         return Ok(None);
     }
-    left = (usize::MAX - left).saturating_mul(MOST_LOOKS);
+    left = (usize::MAX - left).saturating_mul(most);
     for target in 0..targets.len() {
         list_named(targets[target], target, &mut lists, &mut left)?;
     }

@@ -1,21 +1,38 @@
-//! The sizes of targets, each computed once, after those that it goes by.
+//! The sizes of targets, each computed once, after those that it goes by; in rings many rounds are made at once.
 
-ghost use Rattle.std.specs.Prelude.{◌≡◌, ◌+◌, ◌<◌, ℕ, IfOk, IfSome, IsTrue, length, map, slice_set};
+ghost use Rattle.std.specs.Prelude.{◌≡◌, ◌+◌, ◌<◌, ◌≤◌, ℕ, nat_lt, IfOk, IfSome, IsTrue, List, length, map, slice_set};
 ghost use Rattle.std.specs.List.{All, Contains};
 ghost use Rattle.fancy_meaning.specs.Nodes.{group_count};
+ghost use Rattle.fancy_meaning.specs.Sizes.{size_of_target};
 ghost use Rattle.fancy_meaning.specs.Tree as plain;
 ghost use Rattle.fancy_expr.specs.Exprs.{exprs};
 ghost use Rattle.fancy_expr.specs.declared.expr.Expr as code;
 ghost use Rattle.fancy_info.specs.Sized.{size_of};
 ghost use Rattle.fancy_analysis.specs.Changes.{AreAfter, AreSmall, AreTargets};
 ghost use Rattle.fancy_analysis.specs.Dependents.{AreDependents, listed};
-ghost use Rattle.fancy_analysis.specs.InOrder.{AreSettled, IsKnownWithin, IsSettledWithin};
+ghost use Rattle.fancy_analysis.specs.InOrder.{
+  AreFirstSizes,
+  AreLevels,
+  AreSettled,
+  IsKnownWithin,
+  IsLatestNear,
+  IsLatestOf,
+  IsSettledWithin,
+  IsTargetSize,
+  round_at,
+};
+ghost use Rattle.fancy_info.specs.declared.size.Size as code_size;
+ghost use Rattle.fancy_analysis.specs.SizeForms.{IsSizeOf, target_size_at};
+ghost use Rattle.fancy_analysis.specs.declared.size_forms.TargetSize.TheVariants as target;
 ghost use Rattle.fancy_analysis.specs.Targets.{exprs_at};
 
-use crate::changes::body_size;
+use crate::changes::{body_size, sizes_by_changes};
 use crate::dependents::{has_dependents, named_by};
-use crate::make::VisitTables;
+use crate::levels::{levels, sizes_by_levels};
+use crate::make::{VisitTables, known_size};
+use crate::rings::{growths, many_rounds};
 use crate::rounds::unknown_sizes;
+use crate::size_forms::TargetSize;
 use fancy_expr::expr::Expr;
 use fancy_expr::parts::{part, part_count};
 use fancy_info::context::AnalyzeContext;
@@ -128,17 +145,52 @@ fn rounds_below(rounds: &[usize], expr: &Expr) -> Option<usize>
     Some(most)
 }
 
+/// After how many rounds the size that a node takes changes no more; 0 where that is not known.
+fn latest_of(rounds: &[usize], expr: &Expr) -> usize
+    ensures { IsLatestOf rounds.now result expr.now }
+{
+    let Some(number) = named_by(expr) else {
+        return 0;
+    };
+    match rounds.get(number) {
+        Some(count) => *count,
+        None => 0,
+    }
+}
+
+/// The same for all sizes that parts of an expression take, and are known.
+fn latest_below(rounds: &[usize], expr: &Expr) -> usize
+    ensures { All (IsLatestOf rounds.now result) (exprs expr.now) }
+{
+    let mut latest = latest_of(rounds, expr);
+    for i in 0..part_count(expr) {
+        latest = latest.max(latest_below(rounds, part(expr, i)));
+    }
+    latest
+}
+
 impl SettledSizes {
     /// Of so many numbers, none known.
     fn none(alloc: Global, count: usize) -> Result<SettledSizes, AllocError>
         ensures sizes { IfOk result (λ s. length s.sizes.items ≡ count) }
         ensures rounds { IfOk result (λ s. length s.rounds.items ≡ count) }
         ensures settled { (whole : plain.Tree) → IfOk result (λ s. AreSettled whole s) }
+        ensures levels { (targets : List code.Expr) → IfOk result (λ s. AreLevels targets s) }
     {
         Ok(SettledSizes {
             sizes: unknown_sizes(alloc, count)?,
             rounds: vec![in alloc; 0; count]?,
         })
+    }
+
+    /// The size of the number is known.
+    fn is_known(&self, number: usize) -> bool
+        ensures { result ≡ nat_lt 0 (round_at self.now.rounds.items number) }
+    {
+        match self.rounds.get(number) {
+            Some(rounds) => *rounds > 0,
+            None => false,
+        }
     }
 
     fn set(&mut self, number: usize, size: Size, rounds: usize)
@@ -169,8 +221,10 @@ impl SettledSizes {
             → AreTargets e whole (exprs_at targets.now)
             → AreSettled whole self.old
             → AreSettled whole self.new) }
+        ensures levels { IfOk result (λ _. AreLevels (exprs_at targets.now) self.old
+            → AreLevels (exprs_at targets.now) self.new) }
     {
-        if number >= targets.len() {
+        if number >= targets.len() || self.is_known(number) {
             return Ok(());
         }
         let target = targets[number];
@@ -207,6 +261,8 @@ impl SettledSizes {
             → AreTargets e whole (exprs_at targets.now)
             → AreSettled whole self.old
             → AreSettled whole self.new) }
+        ensures levels { IfOk result (λ _. AreLevels (exprs_at targets.now) self.old
+            → AreLevels (exprs_at targets.now) self.new) }
     {
         let mut order = Order::of(alloc, dependents)?;
         for _ in 0..dependents.len() {
@@ -244,6 +300,62 @@ impl SettledSizes {
         true
     }
 
+    /// After so many rounds each size that is known changes no more.
+    fn latest(&self) -> usize
+        ensures { (g : ℕ) → round_at self.now.rounds.items g ≤ result }
+    {
+        let mut latest = 0;
+        for number in 0..self.rounds.len() {
+            latest = latest.max(self.rounds[number]);
+        }
+        latest
+    }
+
+    /// The same of those that targets go by which grow.
+    fn latest_near(&self, targets: &[&Expr], sizes: &[TargetSize]) -> usize
+        ensures { IsLatestNear self.now.rounds.items (exprs_at targets.now) sizes.now result }
+    {
+        let mut latest = 0;
+        for number in 0..targets.len().min(sizes.len()) {
+            if let TargetSize::Growing = sizes[number] {
+                latest = latest.max(latest_below(&self.rounds, targets[number]));
+            }
+        }
+        latest
+    }
+
+    /// What is known of the size of a number that is named.
+    fn target_size(&self, dependents: &[Vec<usize>], number: usize) -> TargetSize
+        requires { length self.now.rounds.items ≡ length self.now.sizes.items }
+        ensures { IsTargetSize self.now dependents.now number result }
+    {
+        if !has_dependents(dependents, number) {
+            return TargetSize::Unknown;
+        }
+        match self.sizes.get(number) {
+            Some(size) if self.rounds[number] > 0 => TargetSize::Settled(*size),
+            _ => TargetSize::Growing,
+        }
+    }
+
+    /// The same of each number.
+    fn target_sizes(
+        &self,
+        alloc: Global,
+        dependents: &[Vec<usize>],
+    ) -> Result<Vec<TargetSize>, AllocError>
+        requires { length self.now.rounds.items ≡ length self.now.sizes.items }
+        ensures length { IfOk result (λ v. length v.items ≡ length dependents.now) }
+        ensures each { IfOk result (λ v. (n : ℕ)
+            → IsTargetSize self.now dependents.now n (target_size_at v.items n)) }
+    {
+        let mut sizes = Vec::new(alloc);
+        for number in 0..dependents.len() {
+            sizes.push(self.target_size(dependents, number))?;
+        }
+        Ok(sizes)
+    }
+
     fn into_sizes(self) -> Vec<Size>
         ensures { result ≡ self.sizes }
     {
@@ -252,8 +364,125 @@ impl SettledSizes {
     }
 }
 
-/// The sizes by number after so many rounds, right for each number that is named, where no target goes by itself and so
-/// many rounds settle all sizes. The targets of a tree are given, and which of them go by the size of which.
+/// The sizes by number after so many rounds, where one round more settles each that is named.
+fn sizes_before_last(
+    alloc: Global,
+    targets: &[&Expr],
+    dependents: &[Vec<usize>],
+    context: AnalyzeContext,
+    reads: &[bool],
+    rounds: usize,
+    settled: &SettledSizes,
+) -> Result<Option<Vec<Size>>, AllocError>
+    requires { AreSmall (exprs_at targets.now) }
+    ensures length { IfOk result (λ found. IfSome found
+        (λ v. length v.items ≡ length dependents.now)) }
+    ensures sizes { (e : code.Expr) (whole : plain.Tree)
+        → AreTargets e whole (exprs_at targets.now)
+        → AreDependents e (exprs_at targets.now) dependents.now
+        → length dependents.now ≡ group_count whole + 1
+        → AreSettled whole settled.now
+        → AreLevels (exprs_at targets.now) settled.now
+        → IfOk result (λ found. IfSome found (λ v. AreAfter e whole rounds (map size_of v.items))) }
+{
+    let Some(count) = rounds.checked_add(2) else {
+        return Ok(None);
+    };
+    if !settled.are_within(dependents, rounds + 1) {
+        return Ok(None);
+    }
+    let levels = levels(alloc, &settled.rounds, count)?;
+    let sizes = sizes_by_levels(alloc, targets, dependents, &levels, context, reads, rounds)?;
+    Ok(Some(sizes))
+}
+
+/// The size may grow from here on, and has no greatest.
+fn may_grow(size: Size) -> bool
+    ensures { IsTrue result → IsSizeOf target.Growing (size_of size) }
+{
+    size.most == usize::MAX && !size.is_const
+}
+
+/// All that are said to grow may do so.
+fn all_may_grow(known: &[Size], sizes: &[TargetSize]) -> bool
+    ensures { IsTrue result → (g : ℕ)
+        → target_size_at sizes.now g ≡ target.Growing
+        → IsSizeOf target.Growing (size_of_target (map size_of known.now) g) }
+{
+    for number in 0..sizes.len() {
+        if let TargetSize::Growing = sizes[number] {
+            if !may_grow(known_size(known, number)) {
+                return false;
+            }
+        }
+    }
+    true
+}
+
+/// The size where many rounds begin: that which is settled, or else the one that is known.
+fn first_size(known: Size, size: TargetSize) -> Size
+    ensures settled { (s : code_size.Size) → size ≡ target.Settled s → result ≡ s }
+    ensures other { ((s : code_size.Size) → size ≡ target.Settled s → ⊥) → result ≡ known }
+{
+    match size {
+        TargetSize::Settled(settled) => settled,
+        _ => known,
+    }
+}
+
+/// The same of each number.
+fn first_sizes(alloc: Global, known: &[Size], sizes: &[TargetSize]) -> Result<Vec<Size>, AllocError>
+    requires { length known.now ≡ length sizes.now }
+    ensures length { IfOk result (λ v. length v.items ≡ length sizes.now) }
+    ensures each { IfOk result (λ v. AreFirstSizes sizes.now known.now v.items) }
+{
+    let mut first = Vec::new(alloc);
+    for number in 0..sizes.len() {
+        first.push(first_size(known[number], sizes[number]))?;
+    }
+    Ok(first)
+}
+
+/// The sizes by number after so many rounds, where each that is not settled goes by one other number that is not.
+fn sizes_in_rings(
+    alloc: Global,
+    targets: &[&Expr],
+    dependents: &[Vec<usize>],
+    context: AnalyzeContext,
+    reads: &[bool],
+    rounds: usize,
+    settled: &SettledSizes,
+) -> Result<Option<Vec<Size>>, AllocError>
+    requires small { AreSmall (exprs_at targets.now) }
+    requires same { length settled.now.rounds.items ≡ length settled.now.sizes.items }
+    ensures length { IfOk result (λ found. IfSome found
+        (λ v. length v.items ≡ length dependents.now)) }
+    ensures sizes { (e : code.Expr) (whole : plain.Tree)
+        → AreTargets e whole (exprs_at targets.now)
+        → AreDependents e (exprs_at targets.now) dependents.now
+        → length dependents.now ≡ group_count whole + 1
+        → AreSettled whole settled.now
+        → IfOk result (λ found. IfSome found (λ v. AreAfter e whole rounds (map size_of v.items))) }
+{
+    let sizes = settled.target_sizes(alloc, dependents)?;
+    let first = settled.latest_near(targets, &sizes);
+    if first > rounds || settled.latest() > rounds {
+        return Ok(None);
+    }
+    let Some(growths) = growths(alloc, targets, &sizes)? else {
+        return Ok(None);
+    };
+    let known = sizes_by_changes(alloc, targets, dependents, context, reads, first)?;
+    if !all_may_grow(&known, &sizes) {
+        return Ok(None);
+    }
+    let known = first_sizes(alloc, &known, &sizes)?;
+    many_rounds(alloc, known, growths, rounds - first)
+}
+
+/// The sizes by number after so many rounds, right for each number that is named. There is an answer where so many rounds
+/// and one more settle all sizes, or each that grows goes by one number that does. The targets of a tree are given, and
+/// which of them go by the size of which.
 pub fn sizes_in_order(
     alloc: Global,
     targets: &[&Expr],
@@ -274,8 +503,10 @@ pub fn sizes_in_order(
     let mut settled = SettledSizes::none(alloc, dependents.len())?;
     settled.settle_all(alloc, targets, dependents, context, reads)?;
     if settled.are_within(dependents, rounds) {
-        Ok(Some(settled.into_sizes()))
-    } else {
-        Ok(None)
+        return Ok(Some(settled.into_sizes()));
+    }
+    match sizes_before_last(alloc, targets, dependents, context, reads, rounds, &settled)? {
+        Some(known) => Ok(Some(known)),
+        None => sizes_in_rings(alloc, targets, dependents, context, reads, rounds, &settled),
     }
 }

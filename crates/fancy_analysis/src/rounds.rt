@@ -1,6 +1,6 @@
 //! The sizes of groups, in rounds over the whole tree, until a round changes nothing.
 
-ghost use Rattle.std.specs.Prelude.{◌≡◌, ◌≤◌, ◌++◌, IfOk, IsTrue, map, replicate};
+ghost use Rattle.std.specs.Prelude.{◌≡◌, ◌≤◌, ◌++◌, IfOk, IfSome, IsTrue, is_some, map, replicate};
 ghost use Rattle.fancy_meaning.specs.Nodes.{group_count, groups};
 ghost use Rattle.fancy_meaning.specs.Numbering.{numbered_within};
 ghost use Rattle.fancy_meaning.specs.Sizes.{Known, known_of, next_round, size_by, unknown};
@@ -125,23 +125,29 @@ pub fn next_sizes(
     }
 }
 
-/// The sizes by number that the last round goes by. A round that changes nothing is the last that is needed.
+/// The sizes by number that the last round goes by. A round that changes nothing is the last that is needed. There is no
+/// answer where more than `most` rounds are.
 pub fn sizes_by_rounds(
     alloc: Global,
     tree: &ExprTree,
     context: AnalyzeContext,
     reads: &[bool],
     first: usize,
-) -> Result<Vec<Size>, AllocError>
+    most: usize,
+) -> Result<Option<Vec<Size>>, AllocError>
     requires groups { tree.now.total_groups ≡ group_count (tree_of tree.now.expr) }
     requires few { tree.now.total_groups ≤ most_groups }
     requires first { first ≤ 1 }
-    ensures { IfOk result
+    ensures sizes { IfOk result (λ found. IfSome found
         (λ v. map size_of v.items
-        ≡ known_of (numbered_within plain.NoLook first (tree_of tree.now.expr))) }
+        ≡ known_of (numbered_within plain.NoLook first (tree_of tree.now.expr)))) }
+    ensures enough { tree.now.total_groups ≤ most → IfOk result (λ found. IsTrue (is_some found)) }
 {
     let mut known = unknown_sizes(alloc, tree.total_groups + 1)?;
     for round in 0..tree.total_groups {
+        if round >= most {
+            return Ok(None);
+        }
         let tables = VisitTables {
             context,
             known: &known,
@@ -149,9 +155,9 @@ pub fn sizes_by_rounds(
         };
         let next = next_sizes(alloc, &tables, tree, first)?;
         if are_same(&next, &known) {
-            return Ok(known);
+            return Ok(Some(known));
         }
         known = next;
     }
-    Ok(known)
+    Ok(Some(known))
 }

@@ -1,6 +1,6 @@
 //! The sizes of groups, by the rounds of the definition.
 
-ghost use Rattle.std.specs.Prelude.{◌≡◌, ◌+◌, ◌≤◌, IfOk, length, map};
+ghost use Rattle.std.specs.Prelude.{◌≡◌, ◌+◌, ◌<◌, ◌≤◌, IfOk, length, map};
 ghost use Rattle.fancy_meaning.specs.Nodes.{group_count};
 ghost use Rattle.fancy_meaning.specs.Numbering.{numbered_within};
 ghost use Rattle.fancy_meaning.specs.Sizes.{known_of};
@@ -11,7 +11,7 @@ ghost use Rattle.fancy_expr.specs.declared.expr.Expr as code;
 ghost use Rattle.fancy_info.specs.Sized.{size_of};
 ghost use Rattle.fancy_analysis.specs.Changes.{AreAfter, AreSmall, AreTargets};
 ghost use Rattle.fancy_analysis.specs.Dependents.{AreDependents};
-ghost use Rattle.fancy_analysis.specs.Targets.{exprs_at};
+ghost use Rattle.fancy_analysis.specs.Targets.{exprs_at, targets_of};
 
 use crate::changes::sizes_by_changes;
 use crate::dependents::dependents;
@@ -23,6 +23,12 @@ use fancy_expr::expr::{Expr, ExprTree};
 use fancy_info::context::AnalyzeContext;
 use fancy_info::size::Size;
 use std::alloc::{AllocError, Global};
+
+/// Named targets are looked at by themselves where they have together at most so many times as many nodes as the tree.
+const FEW_LOOKS: usize = 4;
+
+/// Else so many rounds over the whole tree are tried first.
+const FEW_ROUNDS: usize = 64;
 
 /// The sizes by number after so many rounds, right for each number that is named: each computed once if that tells them,
 /// and else by what each round changes.
@@ -48,11 +54,42 @@ fn named_sizes(
     }
 }
 
+/// The same of all numbers, after the last round but one those of what is named, and then by a visit of the whole tree,
+/// since what nothing names was left out before.
+fn sizes_by_lists(
+    alloc: Global,
+    tree: &ExprTree,
+    targets: &[&Expr],
+    dependents: &[Vec<usize>],
+    context: AnalyzeContext,
+    reads: &[bool],
+    first: usize,
+) -> Result<Vec<Size>, AllocError>
+    requires groups { tree.now.total_groups ≡ group_count (tree_of tree.now.expr) }
+    requires few { tree.now.total_groups ≤ most_groups }
+    requires some { 0 < tree.now.total_groups }
+    requires first { first ≤ 1 }
+    requires targets { exprs_at targets.now ≡ targets_of first tree.now.expr }
+    requires lists { AreDependents tree.now.expr (exprs_at targets.now) dependents.now }
+    requires count { length dependents.now ≡ tree.now.total_groups + 1 }
+    ensures { IfOk result
+        (λ v. map size_of v.items
+        ≡ known_of (numbered_within plain.NoLook first (tree_of tree.now.expr))) }
+{
+    let rounds = tree.total_groups - 1;
+    let known = named_sizes(alloc, targets, dependents, context, reads, rounds)?;
+    let tables = VisitTables {
+        context,
+        known: &known,
+        reads,
+    };
+    next_sizes(alloc, &tables, tree, first)
+}
+
 /// The sizes by number that the last round goes by.
 ///
-/// Those of what is named, after the last round but one, are computed in order. Where a target goes by itself, each round
-/// computes only those anew that go by one that changed. The last round computes them all, since what nothing names was
-/// left out before.
+/// Those of what is named are computed apart from the tree, unless named groups stand in one another so deep that this
+/// takes much more than a visit of the tree. Then a few rounds over the whole tree are tried first.
 pub fn known_sizes(
     alloc: Global,
     tree: &ExprTree,
@@ -72,17 +109,17 @@ pub fn known_sizes(
     }
     let targets = targets(alloc, &tree.expr, first)?;
     let count = tree.total_groups + 1;
-    match dependents(alloc, &tree.expr, &targets, count)? {
-        Some(lists) => {
-            let rounds = tree.total_groups - 1;
-            let known = named_sizes(alloc, &targets, &lists, context, reads, rounds)?;
-            let tables = VisitTables {
-                context,
-                known: &known,
-                reads,
-            };
-            next_sizes(alloc, &tables, tree, first)
-        }
-        None => sizes_by_rounds(alloc, tree, context, reads, first),
+    if let Some(lists) = dependents(alloc, &tree.expr, &targets, count, FEW_LOOKS)? {
+        return sizes_by_lists(alloc, tree, &targets, &lists, context, reads, first);
     }
+    if let Some(known) = sizes_by_rounds(alloc, tree, context, reads, first, FEW_ROUNDS)? {
+        return Ok(known);
+    }
+    if let Some(lists) = dependents(alloc, &tree.expr, &targets, count, usize::MAX)? {
+        return sizes_by_lists(alloc, tree, &targets, &lists, context, reads, first);
+    }
+    let Some(known) = sizes_by_rounds(alloc, tree, context, reads, first, tree.total_groups)? else {
+        unreachable!()
+    };
+    Ok(known)
 }

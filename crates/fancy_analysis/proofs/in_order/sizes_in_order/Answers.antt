@@ -1,4 +1,4 @@
-use Rattle.std.proofs.Common.{◌≡◌, length, map, refl, sym, ◌∙◌, subst}
+use Rattle.std.proofs.Common.{◌≡◌, length, map, IfSome, refl, sym, ◌∙◌, subst}
 use Rattle.fancy_info.specs.Sized.{size_of}
 use Rattle.fancy_analysis.specs.Changes.{AreAfter}
 use Rattle.fancy_analysis.specs.Targets.{exprs_at}
@@ -13,3 +13,11 @@ returns-then-are_within-clause-sizes c = λ e whole t d count.
     (after_settled e whole (exprs_at c.args.targets.now) c.args.dependents.now c.args.rounds s.sizes.items s.rounds.items t d long
     (c.in_ok-settle_all.ensures.settled e whole t (c.in_ok-settled.ensures.settled whole))
     (c.if-are_within.ensures refl))
+
+pub returns-in-Some-clause-sizes : goal.returns-in-Some-clause-sizes
+returns-in-Some-clause-sizes c = λ e whole t d count.
+    let targets = exprs_at c.args.targets.now in
+    let settled = c.in_ok-settle_all.ensures.settled e whole t (c.in_ok-settled.ensures.settled whole) in
+    let levels = c.in_ok-settle_all.ensures.levels (c.in_ok-settled.ensures.levels targets) in
+    subst (λ o. IfSome o (λ v. AreAfter e whole c.args.rounds (map size_of v.items))) c.in-Some.is
+    (c.in_ok-known.ensures.sizes e whole t d count settled levels)

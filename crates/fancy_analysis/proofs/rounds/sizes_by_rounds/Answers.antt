@@ -15,14 +15,17 @@ returns-then-are_same c =
     let whole = numbered_within plain.NoLook c.args.first t in
     let i = c.loop-round.round in
     let before : map size_of c.loop-round.known.items ≡ after_rounds whole i = c.loop-round.invariant in
-    before
-    ∙ settled whole i (omega (arith, c.requires.groups, count-numbered plain.NoLook c.args.first t))
-    (ap (next_round whole) (sym before ∙ sym (ap (map size_of) c.deref.ensures.value))
-    ∙ sym c.in_ok-next.ensures
-    ∙ ap (map size_of) (sym c.deref-in-loop-round.ensures.value)
-    ∙ c.if-are_same.ensures refl
-    ∙ ap (map size_of) c.deref-in-loop-round-2.ensures.value
-    ∙ before)
+    record {
+      sizes = before
+          ∙ settled whole i (omega (arith, c.requires.groups, count-numbered plain.NoLook c.args.first t))
+          (ap (next_round whole) (sym before ∙ sym (ap (map size_of) c.deref.ensures.value))
+          ∙ sym c.in_ok-next.ensures
+          ∙ ap (map size_of) (sym c.deref-in-loop-round.ensures.value)
+          ∙ c.if-are_same.ensures refl
+          ∙ ap (map size_of) c.deref-in-loop-round-2.ensures.value
+          ∙ before);
+      enough = λ le. refl;
+    }
 
 pub loop-round-init : goal.loop-round-init
 loop-round-init c =
@@ -45,4 +48,7 @@ returns c =
     let t = tree_of c.args.tree.now.expr in
     let whole = numbered_within plain.NoLook c.args.first t in
     let before : map size_of c.loop-round.known.items ≡ after_rounds whole c.loop-round.round = c.loop-round.invariant in
-    before ∙ last_round whole c.loop-round.round (omega (arith, c.requires.groups, count-numbered plain.NoLook c.args.first t))
+    record {
+      sizes = before ∙ last_round whole c.loop-round.round (omega (arith, c.requires.groups, count-numbered plain.NoLook c.args.first t));
+      enough = λ le. refl;
+    }

@@ -1,11 +1,13 @@
 use Rattle.std.proofs.Common.{◌≡◌, ◌+◌, map, set, All, sym, ap, ◌∙◌, subst, arith}
+use Rattle.std.proofs.lemmas.List.{length-map}
 use Rattle.fancy_meaning.specs.Sizes.{size_by}
 use Rattle.fancy_expr.specs.Exprs.{exprs}
 use Rattle.fancy_expr.specs.Views.{tree_of}
 use Rattle.fancy_info.specs.Sized.{size_of}
-use Rattle.fancy_analysis.specs.InOrder.{IsSettledWithin}
-use Rattle.fancy_analysis.proofs.RoundSteps.{size_at_target, small_at}
-use Rattle.fancy_analysis.proofs.SettledSizes.{AreSizesSettled, settled_next}
+use Rattle.fancy_analysis.specs.InOrder.{IsSettledWithin, round_at}
+use Rattle.fancy_analysis.specs.Targets.{exprs_at}
+use Rattle.fancy_analysis.proofs.RoundSteps.{expr_at, size_at_target, small_at}
+use Rattle.fancy_analysis.proofs.SettledSizes.{AreLevelsOf, AreSizesSettled, levels_next, settled_next}
 use Rattle.fancy_analysis.proofs.in_order.SettledSizes.settle.Goals as goal
 
 pub body_size-requires : goal.body_size-requires
@@ -30,3 +32,17 @@ returns-clause-settled c = λ e whole t before.
     (λ known. t.next known number ∙ size_at_target known targets number target (omega arith) c.index-targets-number.is) all is in
     subst (λ l. AreSizesSettled whole l c.set.new.self.rounds.items) (sym c.set.ensures.sizes)
     (subst (λ l. AreSizesSettled whole (set sizes number size) l) (sym c.set.ensures.rounds) later)
+
+pub returns-clause-levels : goal.returns-clause-levels
+returns-clause-levels c = λ before.
+    let targets = c.args.targets.now in
+    let number = c.args.number in
+    let target = c.index-targets-number.result in
+    let rounds = c.args.self.now.rounds.items in
+    let below = c.in-Some.below in
+    let all : All (IsSettledWithin rounds below) (exprs target.now) =
+    subst (λ l. All (IsSettledWithin l below) (exprs target.now)) c.deref.ensures.value c.in-Some.ensures in
+    let none : round_at rounds number ≡ 0 = grind (arith, c.is_known.ensures, c.if-is_known.false) in
+    subst (AreLevelsOf (exprs_at targets)) (sym c.set.ensures.rounds)
+    (levels_next (exprs_at targets) rounds number below target.now none (omega (arith, length-map targets (λ b. b.now)))
+    (expr_at targets number target (omega arith) c.index-targets-number.is) all before)
