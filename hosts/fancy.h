@@ -137,8 +137,8 @@ struct fancy_options {
     size_t size;            /* sizeof(struct fancy_options); a call with another is FANCY_WRONG_SIZE */
     size_t pos;             /* where the search begins, a byte of the text: for fancy_find and fancy_is_match */
     size_t max_prog_size;   /* how many instructions a program may have; 100,000 */
-    size_t max_nesting;     /* how many nodes may be written out in one another, calls with them; 500, for 2 MB of stack */
-    size_t max_depth;       /* how deep a tree may nest, in parentheses; 250, for a stack of 2 MB: for fancy_compile */
+    size_t max_nesting;     /* how many nodes may be written out in one another, calls with them; 500, for 1 MB of stack */
+    size_t max_depth;       /* how deep a tree may nest, in parentheses; 250, for a stack of 1 MB: for fancy_compile */
     size_t backtrack_limit; /* how often a search may fall back to a branch; FANCY_UNSET: see above */
     uint64_t step_limit;    /* how many instructions a search may execute; UINT64_MAX */
 
@@ -203,8 +203,8 @@ size_t fancy_version(char *version, size_t room);
  *
  * What reads, compiles and frees a pattern recurses over it. A pattern nests at most 250 deep, and is read on a stack of
  * 512 kB. One level of it may be several nodes of the tree, and a call of a group is written out where it stands, so nodes
- * nest deeper than the pattern: max_nesting bounds them, after the pattern is read. For its default a stack of 2 MB was
- * enough for all that was tried; on one of 1 MB set it to 250. */
+ * nest deeper than the pattern: max_nesting bounds them, after the pattern is read. With its default 512 kB were enough for
+ * all that was tried too, so a stack of 1 MB has half to spare. */
 struct fancy_outcome fancy_compile_pattern(const char *pattern, size_t pattern_length,
                                            const struct fancy_options *options, struct fancy_program *program);
 
@@ -212,8 +212,9 @@ struct fancy_outcome fancy_compile_pattern(const char *pattern, size_t pattern_l
  * that spells no tree is FANCY_TREE_FAULT at byte.
  *
  * A tree in which more than max_depth parentheses are open at one place is FANCY_RECURSION_EXCEEDED before it is read. The
- * default is for a stack of 2 MB; on one of 512 kB set it to 60, and with a greater one more levels may be asked for, as
- * docs/MEANING.md says. Groups of a tree have no names here. */
+ * default is for a stack of 1 MB, with half to spare. On one of 512 kB set max_depth to 120 and max_nesting to 250, on one of
+ * 256 kB to 60 and 100; with a greater stack more may be asked for, as docs/MEANING.md says. Groups of a tree have no names
+ * here. */
 struct fancy_outcome fancy_compile(const char *tree, size_t tree_length, const struct fancy_options *options,
                                    struct fancy_program *program);
 

@@ -37,9 +37,9 @@ impl Options {
     setters! {
         /// How many instructions the program of a pattern may have; 100,000 unless set.
         max_prog_size: usize,
-        /// How many nodes of a pattern may be written out in one another; 500 unless set, for a stack of 2 MB.
+        /// How many nodes of a pattern may be written out in one another; 500 unless set, for a stack of 1 MB.
         max_nesting: usize,
-        /// How deep a tree may nest; 250 unless set, for a stack of 2 MB.
+        /// How deep a tree may nest; 250 unless set, for a stack of 1 MB.
         max_depth: usize,
         /// How often a search may fall back to a branch. Unless set it is 1,000,000 times, and once more for each byte
         /// of the text and for its end.
@@ -163,7 +163,7 @@ impl RegexBuilder {
         memory_limit: usize => memory_limit,
         /// How many instructions the program of the pattern may have; 100,000 unless set.
         max_prog_size: usize => max_prog_size,
-        /// How many nodes of the pattern may be written out in one another; 500 unless set, for a stack of 2 MB.
+        /// How many nodes of the pattern may be written out in one another; 500 unless set, for a stack of 1 MB.
         max_nesting: usize => max_nesting,
     }
 
