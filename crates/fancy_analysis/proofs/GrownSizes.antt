@@ -1,5 +1,5 @@
 -- Growths in a row, and their multiples and sums.
-use Rattle.std.proofs.Common.{◌≡◌, ℕ, zero, suc, ◌+◌, ◌*◌, ◌≤◌, min, ⊎_elim, sym, ap, ◌∙◌, arith}
+use Rattle.std.proofs.Common.{◌≡◌, ℕ, zero, suc, ◌+◌, ◌-◌, ◌*◌, ◌≤◌, min, ⊎_elim, sym, ap, ◌∙◌, arith}
 use Rattle.std.proofs.Math.Nat.{add-mul, mul-add, mul-le-mul_left, mul-le-mul_right, mul_assoc, mul_comm, min-eq_left, min-eq_right}
 use Rattle.std.proofs.lemmas.Bool.{cases_lt}
 use Rattle.fancy_meaning.specs.Numbers.{usize_max}
@@ -79,8 +79,19 @@ grown_sum fa oa fb ob n =
     let each = add-mul fa fb n in
     omega (arith, same, each)
 
-pub least_growth : (a b : Growth) → a.factor ≤ b.factor → a.offset ≤ b.offset → b.cap ≤ usize_max → (n : ℕ) →
+-- ---- from so many on
+
+-- what has the smaller factor, and no more there, has no more later
+pub below_later : (fa oa fb ob low n : ℕ) → fa ≤ fb → saturated (fa * low + oa) ≤ saturated (fb * low + ob) → low ≤ n →
+    saturated (fa * n + oa) ≤ saturated (fb * n + ob)
+below_later fa oa fb ob low n factor there le =
+    let more : ℕ = n - low in
+    let is : low + more ≡ n = omega (arith, le) in
+    let one : fa * n ≡ fa * low + fa * more = ap (λ k. fa * k) (sym is) ∙ mul-add fa low more in
+    let two : fb * n ≡ fb * low + fb * more = ap (λ k. fb * k) (sym is) ∙ mul-add fb low more in
+    let rest : fa * more ≤ fb * more = mul-le-mul_right more factor in
+    omega (arith, one, two, rest, there)
+
+pub least_growth : (a b : Growth) → b.cap ≤ usize_max → (n : ℕ) → saturated (a.factor * n + a.offset) ≤ saturated (b.factor * n + b.offset) →
     min (grown a n) b.cap ≡ min (grown a n) (grown b n)
-least_growth a b factor offset cap n =
-    let lower : a.factor * n ≤ b.factor * n = mul-le-mul_right n factor in
-    omega (arith, lower, offset, cap)
+least_growth a b cap n lower = omega (arith, lower, cap)

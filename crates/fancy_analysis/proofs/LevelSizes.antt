@@ -6,17 +6,18 @@ use Rattle.fancy_meaning.specs.Nodes.{group_count}
 use Rattle.fancy_meaning.specs.Sizes.{Known, after_rounds, size_of_target, unknown}
 use Rattle.fancy_meaning.specs.Tree.{Tree}
 use Rattle.fancy_expr.specs.declared.expr.Expr.{Expr}
-use Rattle.fancy_expr.specs.Exprs.{exprs}
 use Rattle.fancy_info.specs.declared.size.Size as code
 use Rattle.fancy_info.specs.Sized.{size_of}
 use Rattle.fancy_analysis.specs.declared.changes.Change.{Change}
 use Rattle.fancy_analysis.specs.Changes.{AreTargets, IsFound, IsRight, changed, made}
-use Rattle.fancy_analysis.specs.Dependents.{AreDependents, IsNamedIn, listed}
+use Rattle.fancy_analysis.specs.Dependents.{AreDependents, IsNamedIn, listed, the_tree}
 use Rattle.fancy_analysis.specs.InOrder.{IsKnownWithin, IsSettledWithin, round_at}
 use Rattle.fancy_analysis.specs.Levels.{AreInLevels}
+use Rattle.fancy_analysis.specs.SizeParts.{size_nodes}
 use Rattle.fancy_analysis.specs.Targets.{size_at}
-use Rattle.fancy_analysis.proofs.MadeChanges.{at, at_target, default_again, made_changes, made_keeps, nothing_known, past_targets, same_named_size}
+use Rattle.fancy_analysis.proofs.MadeChanges.{at, at_target, default_again, made_changes, made_keeps, nothing_known, past_targets, same_tree_size}
 use Rattle.fancy_analysis.proofs.SettledSizes.{unknown_past}
+use Rattle.fancy_analysis.proofs.SizeNodes.{size_names}
 
 -- the sizes of numbers that settle within one round more are those after so many rounds
 pub record AreRightWithin (e : Expr) (whole : Tree) (targets : List Expr) (within : List ℕ) (n : ℕ) (sizes : List code.Size) : Type 0 where
@@ -49,10 +50,10 @@ module _ (e : Expr) (whole : Tree) (targets : List Expr) (within : List ℕ) (le
       let x = get_or targets g e in
       let all = l.earlier g x lt (default_again targets g e lt) k.0 in
       at_target known targets g e lt
-      ∙ same_named_size known (after_rounds whole n) x
-      (λ h names.
-      let inside = t.inside g h x lt (default_again targets g e lt) names in
-      let low = All-contains (IsSettledWithin within (round_at within g - 1)) (exprs x) names.node all names.is_there h names.names in
+      ∙ same_tree_size known (after_rounds whole n) x
+      (λ y there h is.
+      let inside = t.inside g h x lt (default_again targets g e lt) (size_names x y h there is) in
+      let low = All-contains (IsSettledWithin within (round_at within g - 1)) (size_nodes x) y all there h is in
       before.here h inside (low.0, omega (arith, low.1, k.0, k.1)))
       ∙ sym (at_target (after_rounds whole n) targets g e lt)
       ∙ sym (t.next (after_rounds whole n) g)
@@ -66,7 +67,7 @@ module _ (e : Expr) (whole : Tree) (targets : List Expr) (within : List ℕ) (le
   looked_at g named lt is =
       let low : 0 < round_at within g = ⊎_elim (λ a. omega (arith, a)) (λ a. omega (arith, a)) is in
       let short : round_at within g < length levels = ⊎_elim (λ a. omega (arith, a, long)) (λ a. omega (arith, a, long)) is in
-      found g 0 (both (round_at within g) g is (l.listed g named low short)) lt (d.named g named (omega (arith, lt, d.enough)))
+      found g the_tree (both (round_at within g) g is (l.listed g named low short)) lt (d.named g named (omega (arith, lt, d.enough)))
 
   now_right : (g : ℕ) → IsNamedIn e g → IsKnownWithin within g (n + 2) → IsFound known targets (changed changes) g → g < length targets →
       at (made changes sizes) g ≡ size_at known targets g

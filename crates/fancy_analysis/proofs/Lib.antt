@@ -4,6 +4,7 @@ pub mod GroupSizes
 pub mod RoundSizes
 pub mod Parts
 pub mod TargetSizes
+pub mod SizeNodes
 pub mod MadeChanges
 pub mod SettledSizes
 pub mod ListedTargets
@@ -32,7 +33,12 @@ pub mod LateReadWalk
 pub mod LateReadSpots
 pub mod Anchors
 pub mod GrownSizes
-pub mod FormSizes
-pub mod RingSizes
+pub mod FormLeasts
+pub mod RisingSizes
+pub mod HistoryRounds
+pub mod NextLeasts
+pub mod BoundedSizes
+pub mod GrownJumps
 pub mod LevelSizes
-pub mod RingRounds
+pub mod RingLeasts
+pub mod UnboundedSizes

@@ -1,13 +1,19 @@
 -- Lists of targets, to which one is added after the other.
-use Rattle.std.proofs.Common.{◌≡◌, ℕ, zero, suc, ◌+◌, ◌<◌, List, [], ◌∷◌, ◌++◌, length, map, get_or, set, All, Contains, Vec, Global, ◌⊎◌, inl, inr, ⊎_elim, refl, sym, ap, ◌∙◌, subst, arith}
+use Rattle.std.proofs.Common.{◌≡◌, ℕ, zero, suc, ◌+◌, ◌<◌, ◌≤◌, List, [], ◌∷◌, ◌++◌, length, map, take, get_or, set, All, Contains, Vec, Global, ◌⊎◌, inl, inr, ⊎_elim, refl, sym, ap, ◌∙◌, subst, arith}
 use Rattle.std.specs.Borrow.{Bor}
 use Rattle.std.proofs.lemmas.Bool.{cases_eq, cases_lt}
 use Rattle.std.proofs.lemmas.List.{get_or-set_same, get_or-set_other, map-set, length-map, length-set}
 use Rattle.std.proofs.lemmas.List.Elements.{Contains-append_left, Contains-push, Contains-push_cases, All-contains, All-head, All-tail, All-weaker}
 use Rattle.fancy_expr.specs.declared.expr.Expr.{Expr}
 use Rattle.fancy_expr.specs.Exprs.{exprs}
-use Rattle.fancy_analysis.specs.Dependents.{IsListedFor, IsNamedIn, KeepsLists, listed}
+use Rattle.fancy_expr.proofs.Exprs.{child_smaller}
+use Rattle.fancy_expr.proofs.Walks.{all_more, all_together}
+use Rattle.fancy_analysis.specs.declared.dependents.Walk.{Walk}
+use Rattle.fancy_analysis.specs.declared.dependents.Walk.TheVariants as walk
+use Rattle.fancy_analysis.specs.Dependents.{IsListedFor, IsNamedIn, KeepsLists, listed, walked, walked_each, walked_parts}
+use Rattle.fancy_analysis.specs.SizeParts.{size_nodes}
 use Rattle.fancy_analysis.specs.Targets.{exprs_at}
+use Rattle.fancy_analysis.proofs.SizeNodes.{size_all_more, size_all_together, size_part_smaller}
 
 abbrev Lists : Type 0
 Lists = List (Vec ℕ Global)
@@ -77,21 +83,45 @@ same_target [] n b e lt is at = absurd (omega arith)
 same_target (x ∷ targets) zero b e lt is at = ap (λ y. y.now) is ∙ sym at
 same_target (x ∷ targets) (suc n) b e lt is at = same_target targets n b e (omega arith) is at
 
-pub listed_whole : (lists : Lists) (e : Expr) → All (IsListedFor lists 0) (exprs e) → (g : ℕ) → IsNamedIn e g → g < length lists →
-    Contains (listed lists g) 0
-listed_whole lists e all g named lt = All-contains (IsListedFor lists 0) (exprs e) named.node all named.is_there g named.names lt
+pub listed_whole : (lists : Lists) (target : ℕ) (e : Expr) → All (IsListedFor lists target) (exprs e) → (g : ℕ) → IsNamedIn e g →
+    g < length lists → Contains (listed lists g) target
+listed_whole lists target e all g named lt =
+    All-contains (IsListedFor lists target) (exprs e) named.node all named.is_there g named.names lt
 
--- one target more
+-- ---- either walk
+
+pub walked_smaller : (w : Walk) (e child : Expr) (i : ℕ) → i < length (walked_parts w e) → child ≡ get_or (walked_parts w e) i child →
+    length (exprs child) < length (exprs e)
+walked_smaller walk.Whole = child_smaller
+walked_smaller walk.Sizes = size_part_smaller
+
+module _ (P : Expr → Type 0) where
+  pub walked_none : (w : Walk) → All P (walked_each w [])
+  walked_none walk.Whole = λ k d lt. absurd (omega arith)
+  walked_none walk.Sizes = λ k d lt. absurd (omega arith)
+
+  pub walked_more : (w : Walk) (es : List Expr) (i : ℕ) (e : Expr) → i < length es → e ≡ get_or es i e → All P (walked_each w (take i es)) →
+      All P (walked w e) → All P (walked_each w (take (i + 1) es))
+  walked_more walk.Whole = all_more P
+  walked_more walk.Sizes = size_all_more P
+
+  pub walked_together : (w : Walk) (e : Expr) (n : ℕ) → length (walked_parts w e) ≤ n → P e → All P (walked_each w (take n (walked_parts w e))) →
+      All P (walked w e)
+  walked_together walk.Whole = all_together P
+  walked_together walk.Sizes = size_all_together P
+
+-- ---- one target more
+
 pub each_more : (whole : Expr) (targets : List (Bor Expr)) (old new : Lists) (n : ℕ) (b : Bor Expr) → n < length targets → b ≡ get_or targets n b →
     KeepsLists old new →
-    ((g : ℕ) (e : Expr) → g < n → e ≡ get_or (exprs_at targets) g e → IsNamedIn whole g → All (IsListedFor old g) (exprs e)) →
-    (IsNamedIn whole n → All (IsListedFor new n) (exprs b.now)) →
-    (g : ℕ) (e : Expr) → g < n + 1 → e ≡ get_or (exprs_at targets) g e → IsNamedIn whole g → All (IsListedFor new g) (exprs e)
+    ((g : ℕ) (e : Expr) → g < n → e ≡ get_or (exprs_at targets) g e → IsNamedIn whole g → All (IsListedFor old g) (size_nodes e)) →
+    (IsNamedIn whole n → All (IsListedFor new n) (size_nodes b.now)) →
+    (g : ℕ) (e : Expr) → g < n + 1 → e ≡ get_or (exprs_at targets) g e → IsNamedIn whole g → All (IsListedFor new g) (size_nodes e)
 each_more whole targets old new n b fits is kept before here g e lt at named = ⊎_elim
-    (λ less. keeps_all old new g (exprs e) kept (before g e less at named))
+    (λ less. keeps_all old new g (size_nodes e) kept (before g e less at named))
     (λ le.
     let same : n ≡ g = omega arith in
     let at-n : e ≡ get_or (exprs_at targets) n e = subst (λ k. e ≡ get_or (exprs_at targets) k e) (sym same) at in
-    subst (λ k. All (IsListedFor new k) (exprs e)) same
-    (subst (λ x. All (IsListedFor new n) (exprs x)) (same_target targets n b e fits is at-n) (here (subst (IsNamedIn whole) (sym same) named))))
+    subst (λ k. All (IsListedFor new k) (size_nodes e)) same
+    (subst (λ x. All (IsListedFor new n) (size_nodes x)) (same_target targets n b e fits is at-n) (here (subst (IsNamedIn whole) (sym same) named))))
     (cases_lt g n)

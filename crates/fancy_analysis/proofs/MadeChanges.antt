@@ -3,88 +3,82 @@ use Rattle.std.proofs.Common.{◌≡◌, ◌≢◌, ℕ, zero, suc, ◌+◌, ◌
 use Rattle.std.proofs.lemmas.Bool.{cases_lt, cases_eq}
 use Rattle.std.proofs.lemmas.List.{get_or_past, get_or-set_same, get_or-set_other, map-set, length-map, length-set}
 use Rattle.std.proofs.lemmas.List.Elements.{Contains-append_left, Contains-append_right, All-head, All-tail, All-contains}
-use Rattle.fancy_meaning.specs.Tree.{Tree, Trees, none, more, Concat, Alt, Group, LookAround, Repeat, AtomicGroup, DefineGroup, Conditional, AbsentRepeater, AbsentStopper, AbsentExpression, Backref, BackrefWithLevel, SubroutineCall}
-use Rattle.fancy_meaning.specs.Nodes.{nodes, nodes_of_each, group_count, target}
+use Rattle.fancy_meaning.specs.Tree.{Tree}
+use Rattle.fancy_meaning.specs.Nodes.{group_count, target}
 use Rattle.fancy_meaning.specs.Places.{range_from}
 use Rattle.fancy_meaning.specs.Sizes.{Size, Known, size_by, each_size, sum_of, any_of, times, either, plus, next_round, after_rounds, known_of, size_in_round, size_of_target, unknown}
-use Rattle.fancy_expr.specs.declared.expr.Expr.{Expr}
-use Rattle.fancy_expr.specs.Views.{tree_of}
-use Rattle.fancy_expr.specs.Exprs.{exprs}
-use Rattle.fancy_expr.proofs.Exprs.{nodes-exprs}
+use Rattle.fancy_expr.specs.declared.expr.Absent.{Absent}
+use Rattle.fancy_expr.specs.declared.expr.Absent.TheVariants as absent
+use Rattle.fancy_expr.specs.declared.expr.Expr.{Expr, Row_of-Expr, end_of-Expr, more_of-Expr}
+use Rattle.fancy_expr.specs.declared.expr.Expr.TheVariants as expr
+use Rattle.fancy_expr.specs.Views.{absent_of, bound_of, tree_of, trees_of}
 use Rattle.fancy_info.specs.declared.size.Size as code
 use Rattle.fancy_info.specs.Sized.{size_of}
 use Rattle.fancy_analysis.specs.declared.changes.Change.{Change}
 use Rattle.fancy_analysis.specs.Targets.{size_at, sizes_of}
-use Rattle.fancy_analysis.specs.Dependents.{AreDependents, IsListedFor, IsNamedIn, listed, named_by}
+use Rattle.fancy_analysis.specs.Dependents.{AreDependents, IsListedFor, IsNamedIn, listed, named_by, the_tree}
+use Rattle.fancy_analysis.specs.SizeParts.{absent_size_nodes, size_nodes, size_nodes_in_row}
 use Rattle.fancy_analysis.proofs.RoundSizes.{last_round}
+use Rattle.fancy_analysis.proofs.SizeNodes.{size_names}
 use Rattle.fancy_analysis.specs.Changes.{AreAfter, AreTargets, IsFound, IsRight, changed, made}
 
--- ---- a size goes by those that are named alone
+-- ---- a size goes by what its nodes name alone
 
 module _ (one two : Known) where
   abbrev Agrees : Tree → Type 0
   Agrees x = (h : ℕ) → named_by x ≡ Some h → size_of_target one h ≡ size_of_target two h
 
-  abbrev AllAgree : List Tree → Type 0
-  AllAgree ts = (x : Tree) → Contains ts x → Agrees x
+  abbrev AllAgree : List Expr → Type 0
+  AllAgree es = (y : Expr) → Contains es y → Agrees (tree_of y)
 
-  left_agree : (a b : List Tree) → AllAgree (a ++ b) → AllAgree a
-  left_agree a b f = λ x h. f x (Contains-append_left a b x h)
+  left_agree : (a b : List Expr) → AllAgree (a ++ b) → AllAgree a
+  left_agree a b f = λ y h. f y (Contains-append_left a b y h)
 
-  right_agree : (a b : List Tree) → AllAgree (a ++ b) → AllAgree b
-  right_agree a b f = λ x h. f x (Contains-append_right a b x h)
+  right_agree : (a b : List Expr) → AllAgree (a ++ b) → AllAgree b
+  right_agree a b f = λ y h. f y (Contains-append_right a b y h)
 
-  below_agree : (t : Tree) (ts : List Tree) → AllAgree (t ∷ ts) → AllAgree ts
-  below_agree t ts f = right_agree (t ∷ []) ts f
+  below_agree : (e : Expr) (es : List Expr) → AllAgree (e ∷ es) → AllAgree es
+  below_agree e es f = right_agree (e ∷ []) es f
 
   mutual
-    same_size : (t : Tree) → AllAgree (nodes t) → size_by one t ≡ size_by two t
-    same_size (Concat es) f = ap sum_of (same_sizes es (below_agree (Concat es) (nodes_of_each es) f))
-    same_size (Alt es) f = ap any_of (same_sizes es (below_agree (Alt es) (nodes_of_each es) f))
-    same_size (Group g e) f = same_size e (below_agree (Group g e) (nodes e) f)
-    same_size (LookAround look e) f = refl
-    same_size (Repeat lo hi greedy e) f = ap (times lo hi) (same_size e (below_agree (Repeat lo hi greedy e) (nodes e) f))
-    same_size (AtomicGroup e) f = same_size e (below_agree (AtomicGroup e) (nodes e) f)
-    same_size (DefineGroup e) f = refl
-    same_size (Conditional c t e) f =
-        let all = below_agree (Conditional c t e) (nodes c ++ (nodes t ++ nodes e)) f in
-        let rest = right_agree (nodes c) (nodes t ++ nodes e) all in
-        ap (λ s. either (plus s (size_by one t)) (size_by one e)) (same_size c (left_agree (nodes c) (nodes t ++ nodes e) all))
-        ∙ ap (λ s. either (plus (size_by two c) s) (size_by one e)) (same_size t (left_agree (nodes t) (nodes e) rest))
-        ∙ ap (λ s. either (plus (size_by two c) (size_by two t)) s) (same_size e (right_agree (nodes t) (nodes e) rest))
-    same_size (AbsentRepeater e) f = refl
-    same_size (AbsentStopper e) f = refl
-    same_size (AbsentExpression a e) f =
+    same_absent_size : (a : Absent) → AllAgree (absent_size_nodes a) → size_by one (absent_of a) ≡ size_by two (absent_of a)
+    same_absent_size (absent.Repeater' b e) f = refl
+    same_absent_size (absent.Expression' b a c e) f =
         let varying : Size → Size = λ s. record s { is_const = false } in
-        ap varying (same_size e (right_agree (nodes a) (nodes e) (below_agree (AbsentExpression a e) (nodes a ++ nodes e) f)))
-    same_size (Backref zero casei) f = refl
-    same_size (Backref (suc g) casei) f = f (Backref (suc g) casei) (0, omega arith, refl) (suc g) refl
-    same_size (BackrefWithLevel zero level casei) f = refl
-    same_size (BackrefWithLevel (suc g) level casei) f = f (BackrefWithLevel (suc g) level casei) (0, omega arith, refl) (suc g) refl
-    same_size (SubroutineCall g) f = f (SubroutineCall g) (0, omega arith, refl) g refl
-    same_size t f = refl
+        ap varying (same_tree_size e f)
+    same_absent_size (absent.Stopper' b e) f = refl
+    same_absent_size absent.Clear f = refl
 
-    same_sizes : (ts : Trees) → AllAgree (nodes_of_each ts) → each_size one ts ≡ each_size two ts
-    same_sizes none f = refl
-    same_sizes (more t ts) f =
-        ap (λ s. s ∷ each_size one ts) (same_size t (left_agree (nodes t) (nodes_of_each ts) f))
-        ∙ ap (λ l. size_by two t ∷ l) (same_sizes ts (right_agree (nodes t) (nodes_of_each ts) f))
+    pub same_tree_size : (e : Expr) → AllAgree (size_nodes e) → size_by one (tree_of e) ≡ size_by two (tree_of e)
+    same_tree_size (expr.Concat' shape es) f = ap sum_of (same_sizes es (below_agree (expr.Concat' shape es) (size_nodes_in_row es) f))
+    same_tree_size (expr.Alt' shape es) f = ap any_of (same_sizes es (below_agree (expr.Alt' shape es) (size_nodes_in_row es) f))
+    same_tree_size (expr.Group' b e) f = same_tree_size e (below_agree (expr.Group' b e) (size_nodes e) f)
+    same_tree_size (expr.Repeat' b e lo hi greedy) f =
+        ap (times lo (bound_of hi)) (same_tree_size e (below_agree (expr.Repeat' b e lo hi greedy) (size_nodes e) f))
+    same_tree_size (expr.AtomicGroup' b e) f = same_tree_size e (below_agree (expr.AtomicGroup' b e) (size_nodes e) f)
+    same_tree_size (expr.Conditional' b c d t x e) f =
+        let all = below_agree (expr.Conditional' b c d t x e) (size_nodes c ++ (size_nodes t ++ size_nodes e)) f in
+        let rest = right_agree (size_nodes c) (size_nodes t ++ size_nodes e) all in
+        ap (λ s. either (plus s (size_by one (tree_of t))) (size_by one (tree_of e)))
+        (same_tree_size c (left_agree (size_nodes c) (size_nodes t ++ size_nodes e) all))
+        ∙ ap (λ s. either (plus (size_by two (tree_of c)) s) (size_by one (tree_of e)))
+        (same_tree_size t (left_agree (size_nodes t) (size_nodes e) rest))
+        ∙ ap (either (plus (size_by two (tree_of c)) (size_by two (tree_of t))))
+        (same_tree_size e (right_agree (size_nodes t) (size_nodes e) rest))
+    same_tree_size (expr.Absent a) f = same_absent_size a (below_agree (expr.Absent a) (absent_size_nodes a) f)
+    same_tree_size (expr.Backref zero casei) f = refl
+    same_tree_size (expr.Backref (suc g) casei) f = f (expr.Backref (suc g) casei) (0, omega arith, refl) (suc g) refl
+    same_tree_size (expr.BackrefWithRelativeRecursionLevel zero level casei) f = refl
+    same_tree_size (expr.BackrefWithRelativeRecursionLevel (suc g) level casei) f =
+        f (expr.BackrefWithRelativeRecursionLevel (suc g) level casei) (0, omega arith, refl) (suc g) refl
+    same_tree_size (expr.SubroutineCall g) f = f (expr.SubroutineCall g) (0, omega arith, refl) g refl
+    same_tree_size e f = refl
 
-  agree_first : (y : Expr) (ts : List Tree) → Agrees (tree_of y) → AllAgree ts → AllAgree (tree_of y ∷ ts)
-  agree_first y ts here rest x (zero, lt, at) = subst Agrees at here
-  agree_first y ts here rest x (suc k, lt, at) = rest x (k, omega arith, at)
-
-  agree_of_exprs : (es : List Expr) → ((y : Expr) → Contains es y → Agrees (tree_of y)) → AllAgree (map tree_of es)
-  agree_of_exprs [] f = λ x h. absurd (omega (arith, h.1))
-  agree_of_exprs (y ∷ es) f =
-      agree_first y (map tree_of es) (f y (0, omega arith, refl)) (agree_of_exprs es (λ z h. f z (Contains-append_right (y ∷ []) es z h)))
-
-  pub same_tree_size : (e : Expr) → ((y : Expr) → Contains (exprs e) y → Agrees (tree_of y)) → size_by one (tree_of e) ≡ size_by two (tree_of e)
-  same_tree_size e f = same_size (tree_of e) (subst AllAgree (nodes-exprs e) (agree_of_exprs (exprs e) f))
-
-  pub same_named_size : (e : Expr) → ((h : ℕ) → IsNamedIn e h → size_of_target one h ≡ size_of_target two h) →
-      size_by one (tree_of e) ≡ size_by two (tree_of e)
-  same_named_size e f = same_tree_size e (λ y there h is. f h (record { node = y; is_there = there; names = is }))
+    same_sizes : {m : _} → (es : Row_of-Expr m) → AllAgree (size_nodes_in_row es) → each_size one (trees_of es) ≡ each_size two (trees_of es)
+    same_sizes end_of-Expr f = refl
+    same_sizes (more_of-Expr e es) f =
+        ap (λ s. s ∷ each_size one (trees_of es)) (same_tree_size e (left_agree (size_nodes e) (size_nodes_in_row es) f))
+        ∙ ap (λ l. size_by two (tree_of e) ∷ l) (same_sizes es (right_agree (size_nodes e) (size_nodes_in_row es) f))
 
 -- either all agree, or a reason stands against one
 module _ (one two : Known) (P : Type 0) where
@@ -109,8 +103,8 @@ module _ (one two : Known) (P : Type 0) where
       both_agree x es here rest y (zero, lt, at) = subst (λ z. Agrees one two (tree_of z)) at here
       both_agree x es here rest y (suc k, lt, at) = rest y (k, omega arith, at)
 
-  pub same_size_or : (e : Expr) → ((y : Expr) → Contains (exprs e) y → AgreesOr y) → (size_by one (tree_of e) ≡ size_by two (tree_of e)) ⊎ P
-  same_size_or e f = ⊎_elim (λ all. inl (same_tree_size one two e all)) (λ p. inr p) (all_agree_or (exprs e) f)
+  pub same_size_or : (e : Expr) → ((y : Expr) → Contains (size_nodes e) y → AgreesOr y) → (size_by one (tree_of e) ≡ size_by two (tree_of e)) ⊎ P
+  same_size_or e f = ⊎_elim (λ all. inl (same_tree_size one two e all)) (λ p. inr p) (all_agree_or (size_nodes e) f)
 
 -- ---- the target of a number
 
@@ -134,7 +128,8 @@ pub same_at : (e : Expr) (whole : Tree) (targets : List Expr) (one two : Known) 
     ((h : ℕ) → IsNamedIn e h → size_of_target one h ≡ size_of_target two h) → (g : ℕ) → size_at one targets g ≡ size_at two targets g
 same_at e whole targets one two t f g = ⊎_elim
     (λ lt. at_target one targets g e lt
-    ∙ same_named_size one two (get_or targets g e) (λ h named. f h (t.inside g h (get_or targets g e) lt (default_again targets g e lt) named))
+    ∙ same_tree_size one two (get_or targets g e)
+    (λ y there h is. f h (t.inside g h (get_or targets g e) lt (default_again targets g e lt) (size_names (get_or targets g e) y h there is)))
     ∙ sym (at_target two targets g e lt))
     (λ le. past_targets one targets g le ∙ sym (past_targets two targets g le)) (cases_lt g (length targets))
 
@@ -221,7 +216,7 @@ module _ (e : Expr) (whole : Tree) (targets : List Expr) (t : AreTargets e whole
       ((k g : ℕ) → Contains numbers k → k < length targets → Contains (listed lists k) g → IsFound (map size_of sizes) targets among k) →
       (g : ℕ) → g < length targets → IsNamedIn e g → IsFound (map size_of sizes) targets among g
   found_named n sizes numbers among b found g lt named =
-      ⊎_elim (λ same. inl same) (λ there. found g 0 there lt (d.named g named (omega (arith, d.enough)))) (b.found g lt named)
+      ⊎_elim (λ same. inl same) (λ there. found g the_tree there lt (d.named g named (omega (arith, d.enough)))) (b.found g lt named)
 
   -- a round that changes nothing is the last that is needed
   pub no_changes : (n : ℕ) (sizes : List code.Size) (numbers : List ℕ) → IsBefore e whole targets n sizes numbers →
@@ -260,10 +255,10 @@ module _ (e : Expr) (whole : Tree) (targets : List Expr) (t : AreTargets e whole
     abbrev Lists : List ℕ → Type 0
     Lists ns = (h g : ℕ) → Contains (changed changes) h → Contains (listed lists h) g → Contains ns g
 
-    agrees_or_listed : (ns : List ℕ) → Lists ns → (g : ℕ) (x : Expr) → All (IsListedFor lists g) (exprs x) → (y : Expr) → Contains (exprs x) y →
+    agrees_or_listed : (ns : List ℕ) → Lists ns → (g : ℕ) (x : Expr) → All (IsListedFor lists g) (size_nodes x) → (y : Expr) → Contains (size_nodes x) y →
         (h : ℕ) → named_by (tree_of y) ≡ Some h → (at next h ≡ at sizes h) ⊎ Contains ns g
     agrees_or_listed ns lists-ns g x all y there h is = ⊎_elim
-        (λ lt. ⊎_elim (λ same. inl same) (λ is-changed. inr (lists-ns h g is-changed (All-contains (IsListedFor lists g) (exprs x) y all there h is lt)))
+        (λ lt. ⊎_elim (λ same. inl same) (λ is-changed. inr (lists-ns h g is-changed (All-contains (IsListedFor lists g) (size_nodes x) y all there h is lt)))
         (made_others changes sizes h))
         (λ le. inl (past_end next h (omega (arith, enough, length-made changes sizes)) ∙ sym (past_end sizes h (omega (arith, enough)))))
         (cases_lt h (length lists))

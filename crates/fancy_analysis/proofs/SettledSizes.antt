@@ -5,23 +5,16 @@ use Rattle.std.proofs.lemmas.List.{get_or_past, get_or-set_same, get_or-set_othe
 use Rattle.std.proofs.lemmas.List.Elements.{All-contains, All-weaker}
 use Rattle.fancy_meaning.specs.Tree.{Tree}
 use Rattle.fancy_meaning.specs.Nodes.{group_count}
-use Rattle.fancy_meaning.specs.Sizes.{Known, Size, after_rounds, next_round, size_by, size_of_target, unknown}
+use Rattle.fancy_meaning.specs.Sizes.{Known, after_rounds, next_round, size_by, size_of_target, unknown}
 use Rattle.fancy_expr.specs.declared.expr.Expr.{Expr}
 use Rattle.fancy_expr.specs.Views.{tree_of}
-use Rattle.fancy_expr.specs.Exprs.{exprs}
 use Rattle.fancy_info.specs.declared.size.Size as code
 use Rattle.fancy_info.specs.Sized.{size_of}
 use Rattle.fancy_analysis.specs.Changes.{AreAfter, AreTargets}
-use Rattle.fancy_analysis.specs.Dependents.{AreDependents, listed}
-use Rattle.fancy_analysis.specs.InOrder.{IsKnownWithin, IsLatestOf, IsSettledWithin, round_at}
-use Rattle.fancy_analysis.specs.SizeForms.{target_size_at}
-use Rattle.fancy_analysis.specs.declared.size_forms.TargetSize.{TargetSize}
-use Rattle.fancy_analysis.specs.declared.size_forms.TargetSize.TheVariants as target
-use Rattle.fancy_analysis.proofs.MadeChanges.{at, nothing_known, past_end, past_targets, same_named_size, set_at_other, set_at_same}
-
--- as `AreSettled`, of the two lists
-abbrev pub AreSizesSettled : Tree → List code.Size → List ℕ → Type 0
-AreSizesSettled whole sizes rounds = (g m : ℕ) → IsKnownWithin rounds g m → at sizes g ≡ size_of_target (after_rounds whole m) g
+use Rattle.fancy_analysis.specs.Dependents.{AreDependents, listed, the_tree}
+use Rattle.fancy_analysis.specs.InOrder.{AreSizesSettled, IsKnownWithin, IsSettledWithin, round_at}
+use Rattle.fancy_analysis.specs.SizeParts.{size_nodes}
+use Rattle.fancy_analysis.proofs.MadeChanges.{at, nothing_known, past_end, past_targets, same_tree_size, set_at_other, set_at_same}
 
 -- ---- within more rounds
 
@@ -38,16 +31,16 @@ all_more_settled rounds n m le es all =
 -- ---- one more
 
 module _ (whole : Tree) (sizes : List code.Size) (rounds : List ℕ) (before : AreSizesSettled whole sizes rounds) where
-  -- where all that an expression names is known, it has the same size in each later round
-  same_later : (x : Expr) (n m : ℕ) → n ≤ m → All (IsSettledWithin rounds n) (exprs x) →
+  -- where all that an expression's size goes by is known, it has the same size in each later round
+  same_later : (x : Expr) (n m : ℕ) → n ≤ m → All (IsSettledWithin rounds n) (size_nodes x) →
       size_by (map size_of sizes) (tree_of x) ≡ size_by (after_rounds whole m) (tree_of x)
-  same_later x n m le all = same_named_size (map size_of sizes) (after_rounds whole m) x
-      (λ h named. before h m
-      (within_more rounds h n m le (All-contains (IsSettledWithin rounds n) (exprs x) named.node all named.is_there h named.names)))
+  same_later x n m le all = same_tree_size (map size_of sizes) (after_rounds whole m) x
+      (λ y there h is. before h m
+      (within_more rounds h n m le (All-contains (IsSettledWithin rounds n) (size_nodes x) y all there h is)))
 
   module _ (number n : ℕ) (size : code.Size) (x : Expr) (same : length rounds ≡ length sizes)
       (next : (known : Known) → size_of_target (next_round whole known) number ≡ size_by known (tree_of x))
-      (all : All (IsSettledWithin rounds n) (exprs x)) (is : size_of size ≡ size_by (map size_of sizes) (tree_of x)) where
+      (all : All (IsSettledWithin rounds n) (size_nodes x)) (is : size_of size ≡ size_by (map size_of sizes) (tree_of x)) where
     abbrev later_sizes : List code.Size
     later_sizes = set sizes number size
 
@@ -104,7 +97,7 @@ pub after_settled : (e : Expr) (whole : Tree) (targets : List Expr) (lists : Lis
     AreSizesSettled whole sizes rounds →
     ((g h : ℕ) → g < length lists → Contains (listed lists g) h → IsKnownWithin rounds g n) → AreAfter e whole n (map size_of sizes)
 after_settled e whole targets lists n sizes rounds t d same settled within g named = ⊎_elim
-    (λ lt. settled g n (within g 0 lt (d.named g named lt)))
+    (λ lt. settled g n (within g the_tree lt (d.named g named lt)))
     (λ le. past_end sizes g (omega (arith, same)) ∙ sym (unknown_past e whole targets t n g (omega (arith, d.enough))))
     (cases_lt g (length lists))
 
@@ -113,7 +106,7 @@ after_settled e whole targets lists n sizes rounds t d same settled within g nam
 abbrev pub AreLevelsOf : List Expr → List ℕ → Type 0
 AreLevelsOf targets rounds =
     (g : ℕ) (e : Expr) → g < length targets → e ≡ get_or targets g e → 0 < round_at rounds g →
-    All (IsSettledWithin rounds (round_at rounds g - 1)) (exprs e)
+    All (IsSettledWithin rounds (round_at rounds g - 1)) (size_nodes e)
 
 pub no_levels : (targets : List Expr) (rounds : List ℕ) (n : ℕ) → rounds ≡ replicate n 0 → AreLevelsOf targets rounds
 no_levels targets rounds n is g e lt at low = absurd (omega (arith, low, ap (λ l. round_at l g) is ∙ round-none n g))
@@ -130,15 +123,16 @@ module _ (rounds : List ℕ) (number v : ℕ) (none : round_at rounds number ≡
   all_still_settled n es all = All-weaker (IsSettledWithin rounds n) (IsSettledWithin (set rounds number v) n) (λ e here. still_settled n e here) es all
 
 pub levels_next : (targets : List Expr) (rounds : List ℕ) (number n : ℕ) (x : Expr) → round_at rounds number ≡ 0 → number < length targets →
-    x ≡ get_or targets number x → All (IsSettledWithin rounds n) (exprs x) → AreLevelsOf targets rounds → AreLevelsOf targets (set rounds number (n + 1))
+    x ≡ get_or targets number x → All (IsSettledWithin rounds n) (size_nodes x) → AreLevelsOf targets rounds → AreLevelsOf targets (set rounds number (n + 1))
 levels_next targets rounds number n x none lt is all before g e less at low = ⊎_elim
     (λ same. ⊎_elim
     (λ inside.
-    let here : round_at (set rounds number (n + 1)) g ≡ n + 1 = ap (round_at (set rounds number (n + 1))) same ∙ get_or-set_same rounds number (n + 1) 0 inside in
+    let here : round_at (set rounds number (n + 1)) g ≡ n + 1 =
+    ap (round_at (set rounds number (n + 1))) same ∙ get_or-set_same rounds number (n + 1) 0 inside in
     let one : x ≡ e = same_target targets number x e lt is (at ∙ ap (λ k. get_or targets k e) same) in
     let level : n ≡ round_at (set rounds number (n + 1)) g - 1 = omega (arith, here) in
-    subst (λ k. All (IsSettledWithin (set rounds number (n + 1)) k) (exprs e)) level
-    (all_still_settled rounds number (n + 1) none n (exprs e) (subst (λ y. All (IsSettledWithin rounds n) (exprs y)) one all)))
+    subst (λ k. All (IsSettledWithin (set rounds number (n + 1)) k) (size_nodes e)) level
+    (all_still_settled rounds number (n + 1) none n (size_nodes e) (subst (λ y. All (IsSettledWithin rounds n) (size_nodes y)) one all)))
     (λ past.
     let gone : round_at (set rounds number (n + 1)) g ≡ 0 =
     ap (round_at (set rounds number (n + 1))) same ∙ get_or_past (set rounds number (n + 1)) number 0 (omega (arith, length-set rounds number (n + 1), past)) in
@@ -147,35 +141,11 @@ levels_next targets rounds number n x none lt is all before g e less at low = �
     (λ other.
     let here = get_or-set_other rounds number g (n + 1) 0 other in
     let level : round_at rounds g - 1 ≡ round_at (set rounds number (n + 1)) g - 1 = omega (arith, here) in
-    subst (λ k. All (IsSettledWithin (set rounds number (n + 1)) k) (exprs e)) level
-    (all_still_settled rounds number (n + 1) none (round_at rounds g - 1) (exprs e) (before g e less at (omega (arith, low, here)))))
+    subst (λ k. All (IsSettledWithin (set rounds number (n + 1)) k) (size_nodes e)) level
+    (all_still_settled rounds number (n + 1) none (round_at rounds g - 1) (size_nodes e) (before g e less at (omega (arith, low, here)))))
     (cases_eq g number)
   where
     same_target : (ts : List Expr) (k : ℕ) (a b : Expr) → k < length ts → a ≡ get_or ts k a → b ≡ get_or ts k b → a ≡ b
     same_target [] k a b lt one two = absurd (omega (arith, lt))
     same_target (y ∷ ts) zero a b lt one two = one ∙ sym two
     same_target (y ∷ ts) (suc k) a b lt one two = same_target ts k a b (omega (arith, lt)) one two
-
--- ---- the latest
-
-pub later : (rounds : List ℕ) (n m : ℕ) (node : Expr) → n ≤ m → IsLatestOf rounds n node → IsLatestOf rounds m node
-later rounds n m node le k g is = omega (arith, le, k g is)
-
-pub all_later : (rounds : List ℕ) (n m : ℕ) → n ≤ m → (es : List Expr) → All (IsLatestOf rounds n) es → All (IsLatestOf rounds m) es
-all_later rounds n m le es all = All-weaker (IsLatestOf rounds n) (IsLatestOf rounds m) (λ e here. later rounds n m e le here) es all
-
--- ---- where many rounds begin
-
-pub record IsFirstSize (sizes : List TargetSize) (known : List code.Size) (g : ℕ) (size : Size) : Type 0 where
-  pub settled : (s : code.Size) → target_size_at sizes g ≡ target.Settled s → size ≡ size_of s
-  pub other : ((s : code.Size) → target_size_at sizes g ≡ target.Settled s → ⊥) → size ≡ at known g
-
-pub any_default : {A : Type 0} (l : List A) (n : ℕ) (a b : A) → n < length l → get_or l n a ≡ get_or l n b
-any_default [] n a b lt = absurd (omega (arith, lt))
-any_default (x ∷ l) zero a b lt = refl
-any_default (x ∷ l) (suc n) a b lt = any_default l n a b (omega (arith, lt))
-
-pub size_there : (sizes : List code.Size) (n : ℕ) (d : code.Size) → n < length sizes → size_of (get_or sizes n d) ≡ at sizes n
-size_there [] n d lt = absurd (omega (arith, lt))
-size_there (x ∷ sizes) zero d lt = refl
-size_there (x ∷ sizes) (suc n) d lt = size_there sizes n d (omega (arith, lt))

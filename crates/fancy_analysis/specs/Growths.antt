@@ -1,5 +1,5 @@
 -- Sizes that grow with that of one number.
-use Rattle.std.specs.Prelude.{◌≡◌, ℕ, ◌+◌, ◌*◌, min}
+use Rattle.std.specs.Prelude.{◌≡◌, ℕ, ◌+◌, ◌*◌, ◌≤◌, min}
 use Rattle.fancy_meaning.specs.Sizes.{saturated}
 use Rattle.fancy_analysis.specs.declared.growths.Growth.{Growth}
 
@@ -13,8 +13,8 @@ pub record IsSumOf (a b sum : Growth) : Type 0 where
   pub number : sum.number ≡ a.number
   pub grown : (n : ℕ) → grown sum n ≡ saturated (grown a n + grown b n)
 
--- the one that has fewer
-pub record IsLeastOf (a b least : Growth) : Type 0 where
+-- the one that has fewer, where their number has at least so many
+pub record IsLeastOf (from : ℕ) (a b least : Growth) : Type 0 where
   pub same : a.number ≡ b.number
   pub number : least.number ≡ a.number
-  pub grown : (n : ℕ) → grown least n ≡ min (grown a n) (grown b n)
+  pub grown : (n : ℕ) → from ≤ n → grown least n ≡ min (grown a n) (grown b n)

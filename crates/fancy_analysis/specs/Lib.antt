@@ -9,11 +9,15 @@ pub mod Links
 pub mod Reached
 pub mod Names
 pub mod Targets
+pub mod SizeParts
 pub mod Dependents
 pub mod Changes
 pub mod Callers
 pub mod InOrder
 pub mod Growths
-pub mod SizeForms
+pub mod LeastForms
+pub mod Histories
+pub mod Jumps
+pub mod RingRounds
 pub mod Rings
 pub mod Levels

@@ -1,15 +1,35 @@
-//! Which targets' sizes go by which: under each number, the targets that name it.
+//! Which targets' sizes go by which: under each number, the targets whose sizes go by it.
 
-ghost use Rattle.std.specs.Prelude.{◌≡◌, ◌<◌, ◌≤◌, ◌⊎◌, ℕ, IfOk, IfSome, IsFalse, length, replicate, map, []};
+ghost use Rattle.std.specs.Prelude.{◌≡◌, ◌<◌, ◌≤◌, ◌⊎◌, ℕ, IfOk, IfSome, IsFalse, length, replicate, map, slice_index_or, []};
 ghost use Rattle.std.specs.List.{All, Contains};
-ghost use Rattle.fancy_expr.specs.Exprs.{exprs};
 ghost use Rattle.fancy_expr.specs.Views.{tree_of};
-ghost use Rattle.fancy_analysis.specs.Dependents.{AreDependents, IsListedFor, KeepsLists, listed, named_by};
+ghost use Rattle.fancy_analysis.specs.Dependents.{
+  AreDependents,
+  IsListedFor,
+  KeepsLists,
+  listed,
+  named_by,
+  walked,
+  walked_parts,
+};
+ghost use Rattle.fancy_analysis.specs.SizeParts.{size_nodes};
 ghost use Rattle.fancy_analysis.specs.Targets.{exprs_at};
 
+use crate::size_parts::{size_part, size_part_count};
 use fancy_expr::expr::Expr;
 use fancy_expr::parts::{part, part_count};
 use std::alloc::{AllocError, Global};
+
+/// Stands for the whole tree under each number that is named in it, and is no target's number.
+const TREE: usize = usize::MAX;
+
+/// Which children of a node are walked to.
+#[derive(Clone, Copy)]
+enum Walk {
+    Whole,
+    /// Those that its size goes by.
+    Sizes,
+}
 
 /// The number whose size a node takes.
 pub fn named_by(expr: &Expr) -> Option<usize>
@@ -54,9 +74,29 @@ fn list_node(expr: &Expr, target: usize, lists: &mut Vec<Vec<usize>>) -> Result<
     Ok(())
 }
 
-/// Lists a target under the numbers that are named by a part of it, unless too many nodes are looked at: then none are
-/// left to look at.
+fn walked_count(walk: Walk, expr: &Expr) -> usize
+    ensures { result ≡ length (walked_parts walk expr.now) }
+{
+    match walk {
+        Walk::Whole => part_count(expr),
+        Walk::Sizes => size_part_count(expr),
+    }
+}
+
+fn walked_part(walk: Walk, expr: &Expr, i: usize) -> &Expr
+    requires { i < length (walked_parts walk expr.now) }
+    ensures { result.now ≡ slice_index_or (walked_parts walk expr.now) i result.now }
+{
+    match walk {
+        Walk::Whole => part(expr, i),
+        Walk::Sizes => size_part(expr, i),
+    }
+}
+
+/// Lists a target under the numbers that are named where the walk comes, unless too many nodes are looked at: then none
+/// are left to look at.
 fn list_all(
+    walk: Walk,
     expr: &Expr,
     target: usize,
     lists: &mut Vec<Vec<usize>>,
@@ -65,15 +105,15 @@ fn list_all(
     ensures kept { IfOk result (λ _. KeepsLists lists.old.items lists.new.items) }
     ensures fewer { left.new ≤ left.old }
     ensures there { IfOk result (λ _. 0 < left.new →
-        All (IsListedFor lists.new.items target) (exprs expr.now)) }
+        All (IsListedFor lists.new.items target) (walked walk expr.now)) }
 {
     if *left == 0 {
         return Ok(());
     }
     *left -= 1;
     list_node(expr, target, lists)?;
-    for i in 0..part_count(expr) {
-        list_all(part(expr, i), target, lists, left)?;
+    for i in 0..walked_count(walk, expr) {
+        list_all(walk, walked_part(walk, expr, i), target, lists, left)?;
     }
     Ok(())
 }
@@ -88,7 +128,7 @@ pub fn has_dependents(lists: &[Vec<usize>], number: usize) -> bool
     }
 }
 
-/// The same for a target that is named.
+/// Lists a target that is named under the numbers that its size goes by, with the same bound.
 fn list_named(
     expr: &Expr,
     target: usize,
@@ -100,10 +140,10 @@ fn list_named(
     ensures there { IfOk result (λ _. 0 < left.new
         → (g : ℕ)
         → Contains (listed lists.old.items target) g
-        → All (IsListedFor lists.new.items target) (exprs expr.now)) }
+        → All (IsListedFor lists.new.items target) (size_nodes expr.now)) }
 {
     if has_dependents(lists, target) {
-        list_all(expr, target, lists, left)?;
+        list_all(Walk::Sizes, expr, target, lists, left)?;
     }
     Ok(())
 }
@@ -119,8 +159,8 @@ pub fn no_lists(alloc: Global, count: usize) -> Result<Vec<Vec<usize>>, AllocErr
     Ok(lists)
 }
 
-/// Under each of so many numbers, the whole tree and the targets with numbers that name it, if it is named. There is
-/// no answer where the named targets have together more than `most` times as many nodes as the tree.
+/// Under each of so many numbers, if it is named, `TREE` and the named targets whose sizes go by it. There is no answer
+/// where those sizes go by more than `most` times as many nodes as the tree has.
 pub fn dependents(
     alloc: Global,
     expr: &Expr,
@@ -135,7 +175,7 @@ pub fn dependents(
 {
     let mut lists = no_lists(alloc, count)?;
     let mut left = usize::MAX;
-    list_all(expr, 0, &mut lists, &mut left)?;
+    list_all(Walk::Whole, expr, TREE, &mut lists, &mut left)?;
     if left == 0 {
         return Ok(None);
     }

@@ -11,7 +11,7 @@ pub struct Growth {
     pub number: usize,
     factor: usize,
     offset: usize,
-    cap: usize,
+    pub cap: usize,
 }
 
 impl Growth {
@@ -24,6 +24,19 @@ impl Growth {
             number,
             factor: 1,
             offset: 0,
+            cap: usize::MAX,
+        }
+    }
+
+    /// So many, whatever the number has.
+    pub fn constant(number: usize, least: usize) -> Growth
+        ensures number { result.number ≡ number }
+        ensures grown { (n : ℕ) → grown result n ≡ least }
+    {
+        Growth {
+            number,
+            factor: 0,
+            offset: least,
             cap: usize::MAX,
         }
     }
@@ -106,23 +119,50 @@ impl Growth {
         })
     }
 
-    /// It grows no faster than another one by the same number, but for the caps.
-    fn is_below(self, other: Growth) -> bool
-        ensures number { IsTrue result → self.number ≡ other.number }
-        ensures factor { IsTrue result → self.factor ≤ other.factor }
-        ensures offset { IsTrue result → self.offset ≤ other.offset }
+    /// It has reached its cap where its number has so many.
+    pub fn is_at_cap(self, least: usize) -> bool
+        ensures { IsTrue result → (n : ℕ) → least ≤ n → grown self n ≡ self.cap }
     {
-        self.number == other.number && self.factor <= other.factor && self.offset <= other.offset
+        self.of(least) == self.cap
     }
 
-    /// As many as the one of both that has fewer, if that is told by factors and offsets.
-    pub fn least_of(self, other: Growth) -> Option<Growth>
-        ensures { IfSome result (IsLeastOf self other) }
+    /// How many there would be without the cap.
+    fn without_cap(self, least: usize) -> usize
+        ensures { result ≡ saturated (self.factor * least + self.offset) }
     {
-        if self.is_below(other) {
+        self.factor
+            .saturating_mul(least)
+            .saturating_add(self.offset)
+    }
+
+    /// From so many of their number on it has no more than another one would have without its cap.
+    fn is_below(self, other: Growth, least: usize) -> bool
+        ensures number { IsTrue result → self.number ≡ other.number }
+        ensures grown { IsTrue result → (n : ℕ)
+            → least ≤ n
+            → saturated (self.factor * n + self.offset) ≤ saturated (other.factor * n + other.offset) }
+    {
+        if self.number != other.number {
+            return false;
+        }
+        if self.factor > other.factor {
+            return false;
+        }
+        let ours = self.without_cap(least);
+        if ours > other.without_cap(least) {
+            return false;
+        }
+        true
+    }
+
+    /// As many as the one of both that has fewer, if it is the same one wherever their number has at least so many.
+    pub fn least_of(self, other: Growth, least: usize) -> Option<Growth>
+        ensures { IfSome result (IsLeastOf least self other) }
+    {
+        if self.is_below(other, least) {
             return Some(self.at_most(other.cap));
         }
-        if other.is_below(self) {
+        if other.is_below(self, least) {
             return Some(other.at_most(self.cap));
         }
         None

@@ -5,52 +5,44 @@ ghost use Rattle.std.specs.List.{All, Contains};
 ghost use Rattle.fancy_meaning.specs.Nodes.{group_count};
 ghost use Rattle.fancy_meaning.specs.Sizes.{size_of_target};
 ghost use Rattle.fancy_meaning.specs.Tree as plain;
-ghost use Rattle.fancy_expr.specs.Exprs.{exprs};
 ghost use Rattle.fancy_expr.specs.declared.expr.Expr as code;
 ghost use Rattle.fancy_info.specs.Sized.{size_of};
 ghost use Rattle.fancy_analysis.specs.Changes.{AreAfter, AreSmall, AreTargets};
 ghost use Rattle.fancy_analysis.specs.Dependents.{AreDependents, listed};
 ghost use Rattle.fancy_analysis.specs.InOrder.{
-  AreFirstSizes,
   AreLevels,
   AreSettled,
   IsKnownWithin,
-  IsLatestNear,
-  IsLatestOf,
   IsSettledWithin,
-  IsTargetSize,
   round_at,
 };
-ghost use Rattle.fancy_info.specs.declared.size.Size as code_size;
-ghost use Rattle.fancy_analysis.specs.SizeForms.{IsSizeOf, target_size_at};
-ghost use Rattle.fancy_analysis.specs.declared.size_forms.TargetSize.TheVariants as target;
+ghost use Rattle.fancy_analysis.specs.SizeParts.{size_nodes};
 ghost use Rattle.fancy_analysis.specs.Targets.{exprs_at};
 
-use crate::changes::{body_size, sizes_by_changes};
+use crate::changes::body_size;
 use crate::dependents::{has_dependents, named_by};
 use crate::levels::{levels, sizes_by_levels};
-use crate::make::{VisitTables, known_size};
-use crate::rings::{growths, many_rounds};
+use crate::make::VisitTables;
+use crate::rings::sizes_in_rings;
 use crate::rounds::unknown_sizes;
-use crate::size_forms::TargetSize;
+use crate::size_parts::{size_part, size_part_count};
 use fancy_expr::expr::Expr;
-use fancy_expr::parts::{part, part_count};
 use fancy_info::context::AnalyzeContext;
 use fancy_info::size::Size;
 use std::alloc::{AllocError, Global};
 
-/// Targets in an order in which each comes after those that it names.
+/// Targets in an order in which each comes after those that its size goes by.
 #[derive(Drop)]
-struct Order {
-    /// How often each names one that is still to come.
+pub struct Order {
+    /// How often the size of each goes by one that is still to come.
     names: Vec<usize>,
-    /// Those that name none of them.
+    /// Those whose sizes go by none of them.
     waiting: Vec<usize>,
 }
 
 impl Order {
-    /// Of the targets that these lists have under the numbers that they name.
-    fn of(alloc: Global, dependents: &[Vec<usize>]) -> Result<Order, AllocError> {
+    /// Of the targets that these lists have under the numbers that their sizes go by.
+    pub fn of(alloc: Global, dependents: &[Vec<usize>]) -> Result<Order, AllocError> {
         let mut order = Order {
             names: vec![in alloc; 0; dependents.len()]?,
             waiting: Vec::new(alloc),
@@ -62,7 +54,7 @@ impl Order {
         Ok(order)
     }
 
-    /// Counts one name more of each of these.
+    /// Counts one name more of each of these, but for the mark of the whole tree, which is past all of them.
     fn count(&mut self, targets: &[usize]) {
         for target in targets {
             if *target < self.names.len() {
@@ -82,7 +74,7 @@ impl Order {
     }
 
     /// The next one, if one is left.
-    fn next(&mut self, dependents: &[Vec<usize>]) -> Result<Option<usize>, AllocError> {
+    pub fn next(&mut self, dependents: &[Vec<usize>]) -> Result<Option<usize>, AllocError> {
         let Some(number) = self.waiting.pop() else {
             return Ok(None);
         };
@@ -134,39 +126,15 @@ fn rounds_of(rounds: &[usize], expr: &Expr) -> Option<usize>
     }
 }
 
-/// The same for all sizes that parts of an expression take.
+/// The same for all nodes that the size of an expression goes by.
 fn rounds_below(rounds: &[usize], expr: &Expr) -> Option<usize>
-    ensures { IfSome result (λ n. All (IsSettledWithin rounds.now n) (exprs expr.now)) }
+    ensures { IfSome result (λ n. All (IsSettledWithin rounds.now n) (size_nodes expr.now)) }
 {
     let mut most = rounds_of(rounds, expr)?;
-    for i in 0..part_count(expr) {
-        most = most.max(rounds_below(rounds, part(expr, i))?);
+    for i in 0..size_part_count(expr) {
+        most = most.max(rounds_below(rounds, size_part(expr, i))?);
     }
     Some(most)
-}
-
-/// After how many rounds the size that a node takes changes no more; 0 where that is not known.
-fn latest_of(rounds: &[usize], expr: &Expr) -> usize
-    ensures { IsLatestOf rounds.now result expr.now }
-{
-    let Some(number) = named_by(expr) else {
-        return 0;
-    };
-    match rounds.get(number) {
-        Some(count) => *count,
-        None => 0,
-    }
-}
-
-/// The same for all sizes that parts of an expression take, and are known.
-fn latest_below(rounds: &[usize], expr: &Expr) -> usize
-    ensures { All (IsLatestOf rounds.now result) (exprs expr.now) }
-{
-    let mut latest = latest_of(rounds, expr);
-    for i in 0..part_count(expr) {
-        latest = latest.max(latest_below(rounds, part(expr, i)));
-    }
-    latest
 }
 
 impl SettledSizes {
@@ -300,62 +268,6 @@ impl SettledSizes {
         true
     }
 
-    /// After so many rounds each size that is known changes no more.
-    fn latest(&self) -> usize
-        ensures { (g : ℕ) → round_at self.now.rounds.items g ≤ result }
-    {
-        let mut latest = 0;
-        for number in 0..self.rounds.len() {
-            latest = latest.max(self.rounds[number]);
-        }
-        latest
-    }
-
-    /// The same of those that targets go by which grow.
-    fn latest_near(&self, targets: &[&Expr], sizes: &[TargetSize]) -> usize
-        ensures { IsLatestNear self.now.rounds.items (exprs_at targets.now) sizes.now result }
-    {
-        let mut latest = 0;
-        for number in 0..targets.len().min(sizes.len()) {
-            if let TargetSize::Growing = sizes[number] {
-                latest = latest.max(latest_below(&self.rounds, targets[number]));
-            }
-        }
-        latest
-    }
-
-    /// What is known of the size of a number that is named.
-    fn target_size(&self, dependents: &[Vec<usize>], number: usize) -> TargetSize
-        requires { length self.now.rounds.items ≡ length self.now.sizes.items }
-        ensures { IsTargetSize self.now dependents.now number result }
-    {
-        if !has_dependents(dependents, number) {
-            return TargetSize::Unknown;
-        }
-        match self.sizes.get(number) {
-            Some(size) if self.rounds[number] > 0 => TargetSize::Settled(*size),
-            _ => TargetSize::Growing,
-        }
-    }
-
-    /// The same of each number.
-    fn target_sizes(
-        &self,
-        alloc: Global,
-        dependents: &[Vec<usize>],
-    ) -> Result<Vec<TargetSize>, AllocError>
-        requires { length self.now.rounds.items ≡ length self.now.sizes.items }
-        ensures length { IfOk result (λ v. length v.items ≡ length dependents.now) }
-        ensures each { IfOk result (λ v. (n : ℕ)
-            → IsTargetSize self.now dependents.now n (target_size_at v.items n)) }
-    {
-        let mut sizes = Vec::new(alloc);
-        for number in 0..dependents.len() {
-            sizes.push(self.target_size(dependents, number))?;
-        }
-        Ok(sizes)
-    }
-
     fn into_sizes(self) -> Vec<Size>
         ensures { result ≡ self.sizes }
     {
@@ -396,93 +308,9 @@ fn sizes_before_last(
     Ok(Some(sizes))
 }
 
-/// The size may grow from here on, and has no greatest.
-fn may_grow(size: Size) -> bool
-    ensures { IsTrue result → IsSizeOf target.Growing (size_of size) }
-{
-    size.most == usize::MAX && !size.is_const
-}
-
-/// All that are said to grow may do so.
-fn all_may_grow(known: &[Size], sizes: &[TargetSize]) -> bool
-    ensures { IsTrue result → (g : ℕ)
-        → target_size_at sizes.now g ≡ target.Growing
-        → IsSizeOf target.Growing (size_of_target (map size_of known.now) g) }
-{
-    for number in 0..sizes.len() {
-        if let TargetSize::Growing = sizes[number] {
-            if !may_grow(known_size(known, number)) {
-                return false;
-            }
-        }
-    }
-    true
-}
-
-/// The size where many rounds begin: that which is settled, or else the one that is known.
-fn first_size(known: Size, size: TargetSize) -> Size
-    ensures settled { (s : code_size.Size) → size ≡ target.Settled s → result ≡ s }
-    ensures other { ((s : code_size.Size) → size ≡ target.Settled s → ⊥) → result ≡ known }
-{
-    match size {
-        TargetSize::Settled(settled) => settled,
-        _ => known,
-    }
-}
-
-/// The same of each number.
-fn first_sizes(alloc: Global, known: &[Size], sizes: &[TargetSize]) -> Result<Vec<Size>, AllocError>
-    requires { length known.now ≡ length sizes.now }
-    ensures length { IfOk result (λ v. length v.items ≡ length sizes.now) }
-    ensures each { IfOk result (λ v. AreFirstSizes sizes.now known.now v.items) }
-{
-    let mut first = Vec::new(alloc);
-    for number in 0..sizes.len() {
-        first.push(first_size(known[number], sizes[number]))?;
-    }
-    Ok(first)
-}
-
-/// The sizes by number after so many rounds, where each that is not settled goes by one other number that is not.
-fn sizes_in_rings(
-    alloc: Global,
-    targets: &[&Expr],
-    dependents: &[Vec<usize>],
-    context: AnalyzeContext,
-    reads: &[bool],
-    rounds: usize,
-    settled: &SettledSizes,
-) -> Result<Option<Vec<Size>>, AllocError>
-    requires small { AreSmall (exprs_at targets.now) }
-    requires same { length settled.now.rounds.items ≡ length settled.now.sizes.items }
-    ensures length { IfOk result (λ found. IfSome found
-        (λ v. length v.items ≡ length dependents.now)) }
-    ensures sizes { (e : code.Expr) (whole : plain.Tree)
-        → AreTargets e whole (exprs_at targets.now)
-        → AreDependents e (exprs_at targets.now) dependents.now
-        → length dependents.now ≡ group_count whole + 1
-        → AreSettled whole settled.now
-        → IfOk result (λ found. IfSome found (λ v. AreAfter e whole rounds (map size_of v.items))) }
-{
-    let sizes = settled.target_sizes(alloc, dependents)?;
-    let first = settled.latest_near(targets, &sizes);
-    if first > rounds || settled.latest() > rounds {
-        return Ok(None);
-    }
-    let Some(growths) = growths(alloc, targets, &sizes)? else {
-        return Ok(None);
-    };
-    let known = sizes_by_changes(alloc, targets, dependents, context, reads, first)?;
-    if !all_may_grow(&known, &sizes) {
-        return Ok(None);
-    }
-    let known = first_sizes(alloc, &known, &sizes)?;
-    many_rounds(alloc, known, growths, rounds - first)
-}
-
 /// The sizes by number after so many rounds, right for each number that is named. There is an answer where so many rounds
-/// and one more settle all sizes, or each that grows goes by one number that does. The targets of a tree are given, and
-/// which of them go by the size of which.
+/// and one more settle all sizes, or where the others can be told. The targets of a tree are given, and which of them
+/// go by the size of which.
 pub fn sizes_in_order(
     alloc: Global,
     targets: &[&Expr],
@@ -507,6 +335,15 @@ pub fn sizes_in_order(
     }
     match sizes_before_last(alloc, targets, dependents, context, reads, rounds, &settled)? {
         Some(known) => Ok(Some(known)),
-        None => sizes_in_rings(alloc, targets, dependents, context, reads, rounds, &settled),
+        None => {
+            sizes_in_rings(
+                alloc,
+                targets,
+                dependents,
+                &settled.sizes,
+                &settled.rounds,
+                rounds,
+            )
+        }
     }
 }

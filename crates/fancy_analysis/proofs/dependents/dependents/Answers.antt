@@ -1,12 +1,13 @@
 use Rattle.std.proofs.Common.{◌<◌, length, arith, ◌∙◌}
 use Rattle.std.proofs.lemmas.List.{length-map}
+use Rattle.fancy_analysis.specs.Dependents.{the_tree}
 use Rattle.fancy_analysis.proofs.ListedTargets.{each_more, listed_whole}
 use Rattle.fancy_analysis.proofs.dependents.dependents.Goals as goal
 
 pub loop-target-init : goal.loop-target-init
 loop-target-init c = record {
   count = c.in_ok-list_all.ensures.kept.length ∙ c.in_ok-lists.ensures.length;
-  named = listed_whole c.list_all.new.lists.items c.args.expr.now (c.in_ok-list_all.ensures.there (omega arith));
+  named = listed_whole c.list_all.new.lists.items the_tree c.args.expr.now (c.in_ok-list_all.ensures.there (omega arith));
   each = λ some g e lt is named. absurd (omega arith);
 }
 
@@ -19,12 +20,12 @@ loop-target-preserved c =
     let kept = c.in_ok-list_named.ensures.kept in
     record {
       count = kept.length ∙ c.loop-target.invariant.count;
-      named = λ g named lt. kept.each g 0 (c.loop-target.invariant.named g named (omega (arith, lt, kept.length)));
+      named = λ g named lt. kept.each g the_tree (c.loop-target.invariant.named g named (omega (arith, lt, kept.length)));
       each = λ some.
           let before : 0 < c.loop-target.left = omega (arith, some, c.list_named.ensures.fewer) in
           let room : n < length old = omega (arith, c.loop-target.invariant.count) in
           each_more whole targets old c.list_named.new.lists.items n c.index-targets-target.result (omega arith) c.index-targets-target.is kept
-          (c.loop-target.invariant.each before) (λ named. c.in_ok-list_named.ensures.there some 0 (c.loop-target.invariant.named n named room));
+          (c.loop-target.invariant.each before) (λ named. c.in_ok-list_named.ensures.there some the_tree (c.loop-target.invariant.named n named room));
     }
 
 pub returns-clause-lists : goal.returns-clause-lists

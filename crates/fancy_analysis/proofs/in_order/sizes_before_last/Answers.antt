@@ -1,6 +1,7 @@
 use Rattle.std.proofs.Common.{◌<◌, length, ⊎_elim, sym, ◌∙◌, subst, arith}
 use Rattle.std.proofs.lemmas.Bool.{cases_lt}
 use Rattle.std.proofs.lemmas.List.{get_or_past}
+use Rattle.fancy_analysis.specs.Dependents.{the_tree}
 use Rattle.fancy_analysis.specs.Levels.{AreInLevels}
 use Rattle.fancy_analysis.specs.Targets.{exprs_at}
 use Rattle.fancy_analysis.proofs.in_order.sizes_before_last.Goals as goal
@@ -21,4 +22,4 @@ returns-clause-sizes c = λ e whole t d count settled earlier.
     } in
     c.in_ok-sizes.ensures.sizes e whole rounds t d count
     (subst (AreInLevels e whole targets rounds) (sym c.deref-2.ensures.value) in_levels)
-    (λ g named lt. c.are_within.ensures c.if-not-are_within.false g 0 lt (d.named g named lt))
+    (λ g named lt. c.are_within.ensures c.if-not-are_within.false g the_tree lt (d.named g named lt))

@@ -11,8 +11,7 @@ returns-then-is_below c =
     record {
       same = c.is_below.ensures.number c.if-is_below.true;
       number = c.at_most.ensures.number;
-      grown = λ n. c.at_most.ensures.grown n
-          ∙ least_growth a b (c.is_below.ensures.factor c.if-is_below.true) (c.is_below.ensures.offset c.if-is_below.true) (omega arith) n;
+      grown = λ n le. c.at_most.ensures.grown n ∙ least_growth a b (omega arith) n (c.is_below.ensures.grown c.if-is_below.true n le);
     }
 
 pub returns-then-is_below-2 : goal.returns-then-is_below-2
@@ -22,7 +21,7 @@ returns-then-is_below-2 c =
     record {
       same = sym (c.is_below-2.ensures.number c.if-is_below-2.true);
       number = c.at_most-then-is_below-2.ensures.number ∙ c.is_below-2.ensures.number c.if-is_below-2.true;
-      grown = λ n. c.at_most-then-is_below-2.ensures.grown n
-          ∙ least_growth b a (c.is_below-2.ensures.factor c.if-is_below-2.true) (c.is_below-2.ensures.offset c.if-is_below-2.true) (omega arith) n
+      grown = λ n le. c.at_most-then-is_below-2.ensures.grown n
+          ∙ least_growth b a (omega arith) n (c.is_below-2.ensures.grown c.if-is_below-2.true n le)
           ∙ min_comm (grown b n) (grown a n);
     }

@@ -1,13 +1,13 @@
 use Rattle.std.proofs.Common.{◌≡◌, ◌+◌, map, set, All, sym, ap, ◌∙◌, subst, arith}
 use Rattle.std.proofs.lemmas.List.{length-map}
 use Rattle.fancy_meaning.specs.Sizes.{size_by}
-use Rattle.fancy_expr.specs.Exprs.{exprs}
 use Rattle.fancy_expr.specs.Views.{tree_of}
 use Rattle.fancy_info.specs.Sized.{size_of}
-use Rattle.fancy_analysis.specs.InOrder.{IsSettledWithin, round_at}
+use Rattle.fancy_analysis.specs.InOrder.{AreSizesSettled, IsSettledWithin, round_at}
+use Rattle.fancy_analysis.specs.SizeParts.{size_nodes}
 use Rattle.fancy_analysis.specs.Targets.{exprs_at}
 use Rattle.fancy_analysis.proofs.RoundSteps.{expr_at, size_at_target, small_at}
-use Rattle.fancy_analysis.proofs.SettledSizes.{AreLevelsOf, AreSizesSettled, levels_next, settled_next}
+use Rattle.fancy_analysis.proofs.SettledSizes.{AreLevelsOf, levels_next, settled_next}
 use Rattle.fancy_analysis.proofs.in_order.SettledSizes.settle.Goals as goal
 
 pub body_size-requires : goal.body_size-requires
@@ -23,8 +23,8 @@ returns-clause-settled c = λ e whole t before.
     let rounds = c.args.self.now.rounds.items in
     let size = c.in_ok-size.size in
     let below = c.in-Some.below in
-    let all : All (IsSettledWithin rounds below) (exprs target.now) =
-    subst (λ l. All (IsSettledWithin l below) (exprs target.now)) c.deref.ensures.value c.in-Some.ensures in
+    let all : All (IsSettledWithin rounds below) (size_nodes target.now) =
+    subst (λ l. All (IsSettledWithin l below) (size_nodes target.now)) c.deref.ensures.value c.in-Some.ensures in
     let is : size_of size ≡ size_by (map size_of sizes) (tree_of target.now) =
     c.in_ok-size.ensures ∙ ap (λ l. size_by (map size_of l) (tree_of target.now)) c.deref-2.ensures.value in
     let later : AreSizesSettled whole (set sizes number size) (set rounds number (below + 1)) =
@@ -40,8 +40,8 @@ returns-clause-levels c = λ before.
     let target = c.index-targets-number.result in
     let rounds = c.args.self.now.rounds.items in
     let below = c.in-Some.below in
-    let all : All (IsSettledWithin rounds below) (exprs target.now) =
-    subst (λ l. All (IsSettledWithin l below) (exprs target.now)) c.deref.ensures.value c.in-Some.ensures in
+    let all : All (IsSettledWithin rounds below) (size_nodes target.now) =
+    subst (λ l. All (IsSettledWithin l below) (size_nodes target.now)) c.deref.ensures.value c.in-Some.ensures in
     let none : round_at rounds number ≡ 0 = grind (arith, c.is_known.ensures, c.if-is_known.false) in
     subst (AreLevelsOf (exprs_at targets)) (sym c.set.ensures.rounds)
     (levels_next (exprs_at targets) rounds number below target.now none (omega (arith, length-map targets (λ b. b.now)))
