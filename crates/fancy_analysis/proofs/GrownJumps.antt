@@ -60,10 +60,6 @@ read_told [] n o x lt is some = absurd (omega (arith, lt))
 read_told (y ∷ xs) zero o x lt is some = sym is ∙ some
 read_told (y ∷ xs) (suc n) o x lt is some = read_told xs n o x (omega (arith, lt)) is some
 
-pub weaker_told : {A : Type 0} (P Q : A → Type 0) (o : Option A) → ((x : A) → P x → Q x) → IfSome o P → IfSome o Q
-weaker_told P Q None f all = tt
-weaker_told P Q (Some x) f all = f x all
-
 -- an entry that the code reads, of any list
 pub read_at : {A : Type 0} (xs : List A) (n : ℕ) (d x y : A) → n < length xs → x ≡ get_or xs n x → x ≡ y → get_or xs n d ≡ y
 read_at [] n d x y lt is at = absurd (omega (arith, lt))

@@ -7,14 +7,15 @@ use Rattle.fancy_meaning.specs.Nodes.{group_count}
 use Rattle.fancy_meaning.specs.Numbers.{usize_max}
 use Rattle.fancy_meaning.specs.Sizes.{Size, after_rounds, between}
 use Rattle.fancy_meaning.specs.Tree.{Tree}
-use Rattle.fancy_info.specs.Sized.{size_of}
-use Rattle.fancy_info.specs.declared.size.Size as code
-use Rattle.fancy_analysis.specs.Histories.{AreKnown, AreRight, least_at}
+use Rattle.fancy_analysis.specs.Histories.{AreRight, least_at}
 use Rattle.fancy_analysis.specs.LeastForms.{AreLeasts, IsTold, known_least_at}
 use Rattle.fancy_analysis.specs.declared.least_forms.KnownLeast.{KnownLeast}
 use Rattle.fancy_analysis.specs.declared.least_forms.KnownLeast.TheVariants as known
 use Rattle.fancy_analysis.specs.Rings.{IsUnbounded}
-use Rattle.fancy_analysis.proofs.MadeChanges.{at, nothing_known}
+use Rattle.fancy_expr.specs.declared.expr.Expr.{Expr}
+use Rattle.fancy_analysis.specs.Changes.{AreTargets}
+use Rattle.fancy_analysis.proofs.MadeChanges.{nothing_known}
+use Rattle.fancy_analysis.proofs.SettledSizes.{unknown_past}
 
 pub true_else : (b : Bool) → (b ≡ false → ⊥) → b ≡ true
 true_else true f = refl
@@ -29,11 +30,6 @@ pub one_there : {A : Type 0} (l : List A) (n : ℕ) (a b : A) → n < length l �
 one_there [] n a b lt one two = absurd (omega (arith, lt))
 one_there (x ∷ l) zero a b lt one two = one ∙ sym two
 one_there (x ∷ l) (suc n) a b lt one two = one_there l n a b (omega (arith, lt)) one two
-
-pub size_there : (sizes : List code.Size) (n : ℕ) (d : code.Size) → n < length sizes → size_of (get_or sizes n d) ≡ at sizes n
-size_there [] n d lt = absurd (omega (arith, lt))
-size_there (x ∷ sizes) zero d lt = refl
-size_there (x ∷ sizes) (suc n) d lt = size_there sizes n d (omega (arith, lt))
 
 -- what holds of each, after one more
 module _ {A : Type 0} (P : ℕ → A → Type 0) (d : A) (xs new : List A) (x : A) (is : new ≡ xs ++ x ∷ []) where
@@ -54,23 +50,18 @@ module _ {A : Type 0} (P : ℕ → A → Type 0) (d : A) (xs new : List A) (x : 
 pub none_at_first : (whole : Tree) (g : ℕ) → 0 ≡ least_at whole 0 g
 none_at_first whole g = ap (λ (s : Size). s.least) (sym (nothing_known (suc (group_count whole)) g))
 
--- what no round changes is so after each later one
-pub known_later : (whole : Tree) (known : List (Option ℕ)) → ((n : ℕ) → AreKnown whole n known → AreKnown whole (n + 1) known) → (n m : ℕ) →
-    AreKnown whole n known → AreKnown whole (n + m) known
-known_later whole known more n zero here = let same : n ≡ n + zero = omega arith in subst (λ k. AreKnown whole k known) same here
-known_later whole known more n (suc m) here =
-    let up : n + m + 1 ≡ n + suc m = omega arith in
-    subst (λ k. AreKnown whole k known) up (more (n + m) (known_later whole known more n m here))
-
 pub between_of : (s : Size) (l : ℕ) → l ≡ s.least → IsUnbounded s → between l usize_max ≡ s
 between_of s l least u =
     ap (λ n. between n usize_max) least
     ∙ sym (ap (λ b. record { least = s.least; most = usize_max; is_const = b }) u.1)
     ∙ sym (ap (λ m. record { least = s.least; most = m; is_const = s.is_const }) u.0)
 
--- of a number without an entry nothing is told
-pub told_past : (leasts : List KnownLeast) (g : ℕ) (round : Option ℕ) (l : ℕ) → length leasts ≤ g → IsTold (known_least_at leasts g) round l
-told_past leasts g round l le = subst (λ x. IsTold x round l) (sym (get_or_past leasts g (known.Changing 0) le)) (omega arith)
+-- a number that is no target's has none
+pub none_told : (e : Expr) (whole : Tree) (targets : List Expr) → AreTargets e whole targets → (leasts : List KnownLeast) (round : Option ℕ) (n g : ℕ) →
+    length targets ≤ g → length leasts ≤ g → IsTold (known_least_at leasts g) round (least_at whole n g)
+none_told e whole targets t leasts round n g none le =
+    subst (λ x. IsTold x round (least_at whole n g)) (sym (get_or_past leasts g (known.Settled 0) le))
+    (ap (λ (s : Size). s.least) (unknown_past e whole targets t n g none))
 
 -- what stays is so after each round
 abbrev pub StayIn : Tree → List KnownLeast → Type 0

@@ -22,7 +22,7 @@ pub within_more : (rounds : List ℕ) (g n m : ℕ) → n ≤ m → IsKnownWithi
 within_more rounds g n m le k = (k.0, omega (arith, k.1))
 
 pub settled_more : (rounds : List ℕ) (n m : ℕ) (node : Expr) → n ≤ m → IsSettledWithin rounds n node → IsSettledWithin rounds m node
-settled_more rounds n m node le k = λ g is. within_more rounds g n m le (k g is)
+settled_more rounds n m node le k = λ g is lt. within_more rounds g n m le (k g is lt)
 
 pub all_more_settled : (rounds : List ℕ) (n m : ℕ) → n ≤ m → (es : List Expr) → All (IsSettledWithin rounds n) es → All (IsSettledWithin rounds m) es
 all_more_settled rounds n m le es all =
@@ -30,15 +30,24 @@ all_more_settled rounds n m le es all =
 
 -- ---- one more
 
-module _ (whole : Tree) (sizes : List code.Size) (rounds : List ℕ) (before : AreSizesSettled whole sizes rounds) where
+pub unknown_past : (e : Expr) (whole : Tree) (targets : List Expr) → AreTargets e whole targets → (n g : ℕ) → length targets ≤ g →
+    size_of_target (after_rounds whole n) g ≡ unknown
+unknown_past e whole targets t zero g le = nothing_known (suc (group_count whole)) g
+unknown_past e whole targets t (suc n) g le =
+    t.next (after_rounds whole n) g ∙ past_targets (after_rounds whole n) targets g le
+
+module _ (e : Expr) (whole : Tree) (targets : List Expr) (t : AreTargets e whole targets) (sizes : List code.Size) (rounds : List ℕ)
+    (same : length rounds ≡ length sizes) (enough : length targets ≤ length rounds) (before : AreSizesSettled whole sizes rounds) where
   -- where all that an expression's size goes by is known, it has the same size in each later round
   same_later : (x : Expr) (n m : ℕ) → n ≤ m → All (IsSettledWithin rounds n) (size_nodes x) →
       size_by (map size_of sizes) (tree_of x) ≡ size_by (after_rounds whole m) (tree_of x)
   same_later x n m le all = same_tree_size (map size_of sizes) (after_rounds whole m) x
-      (λ y there h is. before h m
-      (within_more rounds h n m le (All-contains (IsSettledWithin rounds n) (size_nodes x) y all there h is)))
+      (λ y there h is. ⊎_elim
+      (λ lt. before h m (within_more rounds h n m le (All-contains (IsSettledWithin rounds n) (size_nodes x) y all there h is lt)))
+      (λ past. past_end sizes h (omega (arith, past, same)) ∙ sym (unknown_past e whole targets t m h (omega (arith, past, enough))))
+      (cases_lt h (length rounds)))
 
-  module _ (number n : ℕ) (size : code.Size) (x : Expr) (same : length rounds ≡ length sizes)
+  module _ (number n : ℕ) (size : code.Size) (x : Expr)
       (next : (known : Known) → size_of_target (next_round whole known) number ≡ size_by known (tree_of x))
       (all : All (IsSettledWithin rounds n) (size_nodes x)) (is : size_of size ≡ size_by (map size_of sizes) (tree_of x)) where
     abbrev later_sizes : List code.Size
@@ -85,12 +94,6 @@ pub none_settled : (whole : Tree) (sizes : List code.Size) (rounds : List ℕ) (
     AreSizesSettled whole sizes rounds
 none_settled whole sizes rounds n is g m k = absurd (omega (arith, k.0, ap (λ l. round_at l g) is ∙ round-none n g))
 
-pub unknown_past : (e : Expr) (whole : Tree) (targets : List Expr) → AreTargets e whole targets → (n g : ℕ) → length targets ≤ g →
-    size_of_target (after_rounds whole n) g ≡ unknown
-unknown_past e whole targets t zero g le = nothing_known (suc (group_count whole)) g
-unknown_past e whole targets t (suc n) g le =
-    t.next (after_rounds whole n) g ∙ past_targets (after_rounds whole n) targets g le
-
 -- where no number that is named is settled later, the sizes are those after so many rounds
 pub after_settled : (e : Expr) (whole : Tree) (targets : List Expr) (lists : List (Vec ℕ Global)) (n : ℕ) (sizes : List code.Size)
     (rounds : List ℕ) → AreTargets e whole targets → AreDependents e targets lists → length sizes ≡ length lists →
@@ -113,8 +116,8 @@ no_levels targets rounds n is g e lt at low = absurd (omega (arith, low, ap (λ 
 
 module _ (rounds : List ℕ) (number v : ℕ) (none : round_at rounds number ≡ 0) where
   still_settled : (n : ℕ) (node : Expr) → IsSettledWithin rounds n node → IsSettledWithin (set rounds number v) n node
-  still_settled n node h g names =
-      let k : IsKnownWithin rounds g n = h g names in
+  still_settled n node h g names lt =
+      let k : IsKnownWithin rounds g n = h g names (omega (arith, lt, length-set rounds number v)) in
       let other : g ≢ number = λ same. omega (arith, k.0, ap (round_at rounds) same, none) in
       let here = get_or-set_other rounds number g v 0 other in
       (omega (arith, k.0, here), omega (arith, k.1, here))

@@ -18,9 +18,10 @@ round_at rounds g = slice_index_or rounds g 0
 abbrev pub IsKnownWithin : List ℕ → (g n : ℕ) → Type 0
 IsKnownWithin rounds g n = (0 < round_at rounds g) × (round_at rounds g ≤ n)
 
--- so does that of the number that a node names
+-- so does that of the number that a node names, unless it is past all of them
 abbrev pub IsSettledWithin : List ℕ → ℕ → Expr → Type 0
-IsSettledWithin rounds n node = (g : ℕ) → named_by (tree_of node) ≡ Some g → IsKnownWithin rounds g n
+IsSettledWithin rounds n node =
+    (g : ℕ) → named_by (tree_of node) ≡ Some g → g < length rounds → IsKnownWithin rounds g n
 
 -- each size that is known is that of the definition, after so many rounds and after any more
 abbrev pub AreSizesSettled : Tree → List Size → List ℕ → Type 0

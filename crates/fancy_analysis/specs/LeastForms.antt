@@ -44,8 +44,9 @@ Tells known (form.Fixed n) l = l ≡ n
 Tells known (form.Grows g) l = l ≡ grown g (size_of_target known g.number).least
 Tells known (form.AtLeast n) l = n ≤ l
 
+-- a number without an entry is no target's, and has none
 abbrev pub known_least_at : List KnownLeast → ℕ → KnownLeast
-known_least_at leasts g = slice_index_or leasts g (least.Changing 0)
+known_least_at leasts g = slice_index_or leasts g (least.Settled 0)
 
 -- what is known after a round holds of a least size
 abbrev pub IsTold : KnownLeast → Option ℕ → ℕ → Type 0

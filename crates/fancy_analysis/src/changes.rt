@@ -1,6 +1,6 @@
 //! Rounds in which only those sizes are computed anew that go by one that changed in the round before.
 
-ghost use Rattle.std.specs.Prelude.{◌≡◌, ◌+◌, ◌<◌, ◌≤◌, ◌++◌, ℕ, IfOk, length, map, slice_set};
+ghost use Rattle.std.specs.Prelude.{◌≡◌, ◌+◌, ◌<◌, ◌≤◌, ◌++◌, ℕ, IfOk, IfSome, IsTrue, None, is_some, length, map, slice_set};
 ghost use Rattle.std.specs.List.{All, Contains};
 ghost use Rattle.fancy_meaning.specs.Nodes.{group_count};
 ghost use Rattle.fancy_meaning.specs.Sizes.{size_by};
@@ -15,6 +15,7 @@ ghost use Rattle.fancy_analysis.specs.Dependents.{AreDependents, listed};
 ghost use Rattle.fancy_analysis.specs.Targets.{exprs_at};
 
 use crate::dependents::has_dependents;
+use crate::looks::are_left;
 use crate::make::{VisitTables, known_size};
 use crate::rounds::{is_same, unknown_sizes};
 use crate::visit::visit;
@@ -170,7 +171,8 @@ pub fn numbers_below(alloc: Global, count: usize) -> Result<Vec<usize>, AllocErr
 }
 
 /// The sizes by number after so many rounds, right for each number that is named. The targets of a tree are given, and
-/// which of them go by the size of which.
+/// which of them go by the size of which. There is no answer where the rounds look at `most` nodes
+/// or more.
 pub fn sizes_by_changes(
     alloc: Global,
     targets: &[&Expr],
@@ -178,18 +180,25 @@ pub fn sizes_by_changes(
     context: AnalyzeContext,
     reads: &[bool],
     rounds: usize,
-) -> Result<Vec<Size>, AllocError>
+    most: Option<usize>,
+) -> Result<Option<Vec<Size>>, AllocError>
     requires { AreSmall (exprs_at targets.now) }
-    ensures length { IfOk result (λ v. length v.items ≡ length dependents.now) }
+    ensures length { IfOk result (λ found. IfSome found
+        (λ v. length v.items ≡ length dependents.now)) }
     ensures sizes { (e : code.Expr) (whole : plain.Tree)
         → AreTargets e whole (exprs_at targets.now)
         → AreDependents e (exprs_at targets.now) dependents.now
         → length dependents.now ≡ group_count whole + 1
-        → IfOk result (λ v. AreAfter e whole rounds (map size_of v.items)) }
+        → IfOk result (λ found. IfSome found (λ v. AreAfter e whole rounds (map size_of v.items))) }
+    ensures all { most ≡ None → IfOk result (λ found. IsTrue (is_some found)) }
 {
     let mut known = unknown_sizes(alloc, dependents.len())?;
     let mut numbers = numbers_below(alloc, targets.len())?;
+    let mut left = most;
     for round in 0..rounds {
+        if !are_left(targets, &numbers, &mut left) {
+            return Ok(None);
+        }
         let tables = VisitTables {
             context,
             known: &known,
@@ -197,10 +206,10 @@ pub fn sizes_by_changes(
         };
         let changes = changes_among(alloc, &tables, targets, dependents, &numbers)?;
         if changes.is_empty() {
-            return Ok(known);
+            return Ok(Some(known));
         }
         make_changes(&changes, &mut known);
         numbers = dependents_of(alloc, dependents, &changes)?;
     }
-    Ok(known)
+    Ok(Some(known))
 }

@@ -1,6 +1,6 @@
 //! Which targets' sizes go by which: under each number, the targets whose sizes go by it.
 
-ghost use Rattle.std.specs.Prelude.{◌≡◌, ◌<◌, ◌≤◌, ◌⊎◌, ℕ, IfOk, IfSome, IsFalse, length, replicate, map, slice_index_or, []};
+ghost use Rattle.std.specs.Prelude.{◌≡◌, ◌<◌, ◌≤◌, ◌⊎◌, ℕ, IfOk, IfSome, IsFalse, IsTrue, length, replicate, map, slice_index_or, []};
 ghost use Rattle.std.specs.List.{All, Contains};
 ghost use Rattle.fancy_expr.specs.Views.{tree_of};
 ghost use Rattle.fancy_analysis.specs.Dependents.{
@@ -25,7 +25,7 @@ const TREE: usize = usize::MAX;
 
 /// Which children of a node are walked to.
 #[derive(Clone, Copy)]
-enum Walk {
+pub enum Walk {
     Whole,
     /// Those that its size goes by.
     Sizes,
@@ -44,7 +44,17 @@ pub fn named_by(expr: &Expr) -> Option<usize>
     }
 }
 
-/// Lists a target under a number that has a list.
+/// The target was listed last.
+fn is_last(list: &[usize], target: usize) -> bool
+    ensures { IsTrue result → Contains list.now target }
+{
+    match list.last() {
+        Some(last) => *last == target,
+        None => false,
+    }
+}
+
+/// Lists a target under a number that has a list, unless it was listed last.
 pub fn list_under(
     lists: &mut Vec<Vec<usize>>,
     number: usize,
@@ -57,7 +67,10 @@ pub fn list_under(
         → Contains (listed lists.new.items h) g
         → Contains (listed lists.old.items h) g ⊎ ((h ≡ number) × (g ≡ target))) }
 {
-    if number < lists.len() {
+    if number >= lists.len() {
+        return Ok(());
+    }
+    if !is_last(&lists[number], target) {
         lists[number].push(target)?;
     }
     Ok(())
@@ -74,7 +87,8 @@ fn list_node(expr: &Expr, target: usize, lists: &mut Vec<Vec<usize>>) -> Result<
     Ok(())
 }
 
-fn walked_count(walk: Walk, expr: &Expr) -> usize
+/// To how many children of a node it goes.
+pub fn walked_count(walk: Walk, expr: &Expr) -> usize
     ensures { result ≡ length (walked_parts walk expr.now) }
 {
     match walk {
@@ -83,7 +97,8 @@ fn walked_count(walk: Walk, expr: &Expr) -> usize
     }
 }
 
-fn walked_part(walk: Walk, expr: &Expr, i: usize) -> &Expr
+/// The one with this index.
+pub fn walked_part(walk: Walk, expr: &Expr, i: usize) -> &Expr
     requires { i < length (walked_parts walk expr.now) }
     ensures { result.now ≡ slice_index_or (walked_parts walk expr.now) i result.now }
 {

@@ -19,9 +19,10 @@ ghost use Rattle.fancy_analysis.specs.InOrder.{
 ghost use Rattle.fancy_analysis.specs.SizeParts.{size_nodes};
 ghost use Rattle.fancy_analysis.specs.Targets.{exprs_at};
 
-use crate::changes::body_size;
+use crate::changes::{body_size, sizes_by_changes};
 use crate::dependents::{has_dependents, named_by};
 use crate::levels::{levels, sizes_by_levels};
+use crate::looks::size_node_count;
 use crate::make::VisitTables;
 use crate::rings::sizes_in_rings;
 use crate::rounds::unknown_sizes;
@@ -30,6 +31,10 @@ use fancy_expr::expr::Expr;
 use fancy_info::context::AnalyzeContext;
 use fancy_info::size::Size;
 use std::alloc::{AllocError, Global};
+
+/// Where some sizes do not settle, rounds look at so many times as many nodes as the sizes go by, before many are made at
+/// once.
+const FEW_LOOKS: usize = 16;
 
 /// Targets in an order in which each comes after those that its size goes by.
 #[derive(Drop)]
@@ -113,7 +118,8 @@ struct SettledSizes {
     rounds: Vec<usize>,
 }
 
-/// After how many rounds the size that a node takes changes no more, if it is known.
+/// After how many rounds the size that a node takes changes no more, if it is known. That of a number which is no
+/// target's never does.
 fn rounds_of(rounds: &[usize], expr: &Expr) -> Option<usize>
     ensures { IfSome result (λ n. IsSettledWithin rounds.now n expr.now) }
 {
@@ -122,7 +128,8 @@ fn rounds_of(rounds: &[usize], expr: &Expr) -> Option<usize>
     };
     match rounds.get(number) {
         Some(count) if *count > 0 => Some(*count),
-        _ => None,
+        Some(_) => None,
+        None => Some(0),
     }
 }
 
@@ -192,7 +199,7 @@ impl SettledSizes {
         ensures levels { IfOk result (λ _. AreLevels (exprs_at targets.now) self.old
             → AreLevels (exprs_at targets.now) self.new) }
     {
-        if number >= targets.len() || self.is_known(number) {
+        if number >= targets.len() || targets.len() > self.rounds.len() || self.is_known(number) {
             return Ok(());
         }
         let target = targets[number];
@@ -276,41 +283,9 @@ impl SettledSizes {
     }
 }
 
-/// The sizes by number after so many rounds, where one round more settles each that is named.
-fn sizes_before_last(
-    alloc: Global,
-    targets: &[&Expr],
-    dependents: &[Vec<usize>],
-    context: AnalyzeContext,
-    reads: &[bool],
-    rounds: usize,
-    settled: &SettledSizes,
-) -> Result<Option<Vec<Size>>, AllocError>
-    requires { AreSmall (exprs_at targets.now) }
-    ensures length { IfOk result (λ found. IfSome found
-        (λ v. length v.items ≡ length dependents.now)) }
-    ensures sizes { (e : code.Expr) (whole : plain.Tree)
-        → AreTargets e whole (exprs_at targets.now)
-        → AreDependents e (exprs_at targets.now) dependents.now
-        → length dependents.now ≡ group_count whole + 1
-        → AreSettled whole settled.now
-        → AreLevels (exprs_at targets.now) settled.now
-        → IfOk result (λ found. IfSome found (λ v. AreAfter e whole rounds (map size_of v.items))) }
-{
-    let Some(count) = rounds.checked_add(2) else {
-        return Ok(None);
-    };
-    if !settled.are_within(dependents, rounds + 1) {
-        return Ok(None);
-    }
-    let levels = levels(alloc, &settled.rounds, count)?;
-    let sizes = sizes_by_levels(alloc, targets, dependents, &levels, context, reads, rounds)?;
-    Ok(Some(sizes))
-}
-
 /// The sizes by number after so many rounds, right for each number that is named. There is an answer where so many rounds
-/// and one more settle all sizes, or where the others can be told. The targets of a tree are given, and which of them
-/// go by the size of which.
+/// and two more settle all sizes, where the rounds change few, or where the others can be told. The targets of a tree
+/// are given, and which of them go by the size of which.
 pub fn sizes_in_order(
     alloc: Global,
     targets: &[&Expr],
@@ -333,17 +308,25 @@ pub fn sizes_in_order(
     if settled.are_within(dependents, rounds) {
         return Ok(Some(settled.into_sizes()));
     }
-    match sizes_before_last(alloc, targets, dependents, context, reads, rounds, &settled)? {
+    let Some(count) = rounds.checked_add(3) else {
+        return Ok(None);
+    };
+    let levels = levels(alloc, &settled.rounds, count)?;
+    let known = sizes_by_levels(alloc, targets, dependents, &levels, context, reads, rounds)?;
+    if settled.are_within(dependents, rounds + 2) {
+        return Ok(Some(known));
+    }
+    let few = size_node_count(targets, dependents).saturating_mul(FEW_LOOKS);
+    match sizes_by_changes(
+        alloc,
+        targets,
+        dependents,
+        context,
+        reads,
+        rounds,
+        Some(few),
+    )? {
         Some(known) => Ok(Some(known)),
-        None => {
-            sizes_in_rings(
-                alloc,
-                targets,
-                dependents,
-                &settled.sizes,
-                &settled.rounds,
-                rounds,
-            )
-        }
+        None => sizes_in_rings(alloc, targets, dependents, &known, &settled.rounds, rounds),
     }
 }

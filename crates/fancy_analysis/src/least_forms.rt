@@ -14,9 +14,11 @@ ghost use Rattle.fancy_analysis.specs.LeastForms.{
   own_least,
 };
 
+use crate::dependents::named_by;
 use crate::growths::Growth;
 use crate::size_parts::{size_part, size_part_count};
 use fancy_expr::expr::Expr;
+use std::alloc::AllocError;
 
 /// What is known of the least size of a number.
 #[derive(Clone, Copy)]
@@ -173,7 +175,7 @@ impl LeastForm {
         }
     }
 
-    /// So many times as many.
+    /// So many times as many; none, if that is no time.
     fn times(self, count: usize) -> LeastForm
         ensures { (known : Known) (n : ℕ)
             → Tells known self n
@@ -182,6 +184,7 @@ impl LeastForm {
         match self {
             LeastForm::Fixed(least) => LeastForm::Fixed(least.saturating_mul(count)),
             LeastForm::Grows(growth) => LeastForm::Grows(growth.times(count)),
+            LeastForm::AtLeast(_) if count == 0 => LeastForm::Fixed(0),
             LeastForm::AtLeast(least) => LeastForm::AtLeast(least.saturating_mul(count)),
         }
     }
@@ -198,7 +201,8 @@ fn target_form(leasts: &[KnownLeast], round: Option<usize>, number: usize) -> Le
         Some(KnownLeast::After { round: at, least }) if round == Some(*at) => {
             LeastForm::Fixed(*least)
         }
-        _ => LeastForm::Grows(Growth::same(number)),
+        Some(_) => LeastForm::Grows(Growth::same(number)),
+        None => LeastForm::Fixed(0),
     }
 }
 
@@ -271,6 +275,28 @@ fn joined(
     }
 }
 
+/// Adds the numbers that may change and that the least size of an expression goes by. A part whose least size is fixed
+/// goes by none.
+pub fn add_changing(
+    leasts: &[KnownLeast],
+    expr: &Expr,
+    numbers: &mut Vec<usize>,
+) -> Result<LeastForm, AllocError> {
+    let before = numbers.len();
+    let mut form = own_form(leasts, None, expr);
+    if let Some(number) = named_by(expr) {
+        numbers.push(number)?;
+    }
+    for i in 0..size_part_count(expr) {
+        let part = add_changing(leasts, size_part(expr, i), numbers)?;
+        form = joined(leasts, expr, i, form, part).fixed_at_cap(leasts);
+    }
+    if let LeastForm::Fixed(_) = form {
+        numbers.truncate(before);
+    }
+    Ok(form)
+}
+
 /// That of an expression by what is known after the round.
 pub fn form_of(leasts: &[KnownLeast], round: Option<usize>, expr: &Expr) -> LeastForm
     ensures { IsFormOf leasts.now round expr.now result }
@@ -278,7 +304,7 @@ pub fn form_of(leasts: &[KnownLeast], round: Option<usize>, expr: &Expr) -> Leas
     let mut form = own_form(leasts, round, expr);
     for i in 0..size_part_count(expr) {
         let part = form_of(leasts, round, size_part(expr, i));
-        form = joined(leasts, expr, i, form, part.fixed_at_cap(leasts));
+        form = joined(leasts, expr, i, form, part).fixed_at_cap(leasts);
     }
     form
 }

@@ -10,7 +10,7 @@ ghost use Rattle.fancy_info.specs.Sized.{size_of};
 ghost use Rattle.fancy_analysis.specs.Changes.{AreAfter, AreSmall, AreTargets};
 ghost use Rattle.fancy_analysis.specs.Dependents.{AreDependents, IsNamedIn, listed};
 ghost use Rattle.fancy_analysis.specs.InOrder.{IsKnownWithin, round_at};
-ghost use Rattle.fancy_analysis.specs.Levels.{AreInLevels};
+ghost use Rattle.fancy_analysis.specs.Levels.{AreInLevels, AreSizesWithin};
 ghost use Rattle.fancy_analysis.specs.Targets.{exprs_at};
 
 use crate::changes::{add_listed, changes_among, make_changes};
@@ -37,18 +37,24 @@ pub fn levels(alloc: Global, rounds: &[usize], count: usize) -> Result<Vec<Vec<u
     Ok(levels)
 }
 
-/// The numbers of a level and of the next one.
-fn two_levels(alloc: Global, levels: &[Vec<usize>], level: usize) -> Result<Vec<usize>, AllocError>
-    requires { level < usize.MAX }
-    ensures { IfOk result (λ v. v.items ≡ listed levels.now level ++ listed levels.now (level + 1)) }
+/// The numbers of a level and of the next two.
+fn three_levels(
+    alloc: Global,
+    levels: &[Vec<usize>],
+    level: usize,
+) -> Result<Vec<usize>, AllocError>
+    requires { level + 1 < usize.MAX }
+    ensures { IfOk result (λ v. v.items ≡ (listed levels.now level ++ listed levels.now (level + 1)) ++
+        listed levels.now (level + 2)) }
 {
     let mut numbers = Vec::new(alloc);
     add_listed(levels, level, &mut numbers)?;
     add_listed(levels, level + 1, &mut numbers)?;
+    add_listed(levels, level + 2, &mut numbers)?;
     Ok(numbers)
 }
 
-/// The sizes by number after so many rounds, where one round more settles each that is named.
+/// The sizes by number after so many rounds, right for those that are named and that two rounds more settle.
 pub fn sizes_by_levels(
     alloc: Global,
     targets: &[&Expr],
@@ -59,18 +65,14 @@ pub fn sizes_by_levels(
     rounds: usize,
 ) -> Result<Vec<Size>, AllocError>
     requires small { AreSmall (exprs_at targets.now) }
-    requires levels { rounds + 1 < length levels.now }
+    requires levels { rounds + 2 < length levels.now }
     ensures length { IfOk result (λ v. length v.items ≡ length dependents.now) }
     ensures sizes { (e : code.Expr) (whole : plain.Tree) (within : List ℕ)
         → AreTargets e whole (exprs_at targets.now)
         → AreDependents e (exprs_at targets.now) dependents.now
         → length dependents.now ≡ group_count whole + 1
         → AreInLevels e whole (exprs_at targets.now) within levels.now
-        → ((g : ℕ)
-        → IsNamedIn e g
-        → g < length dependents.now
-        → IsKnownWithin within g (rounds + 1))
-        → IfOk result (λ v. AreAfter e whole rounds (map size_of v.items)) }
+        → IfOk result (λ v. AreSizesWithin e whole within rounds v.items) }
 {
     let mut known = unknown_sizes(alloc, dependents.len())?;
     for round in 0..rounds {
@@ -79,7 +81,7 @@ pub fn sizes_by_levels(
             known: &known,
             reads,
         };
-        let numbers = two_levels(alloc, levels, round + 1)?;
+        let numbers = three_levels(alloc, levels, round + 1)?;
         let changes = changes_among(alloc, &tables, targets, dependents, &numbers)?;
         make_changes(&changes, &mut known);
     }

@@ -216,6 +216,7 @@ pub fn leasts_after(
     let schedule = Schedule::of(
         alloc,
         RingParts {
+            targets,
             dependents,
             leasts: &leasts,
             steps: &steps,

@@ -11,14 +11,16 @@ ghost use Rattle.fancy_info.specs.Sized.{size_of};
 ghost use Rattle.fancy_analysis.specs.Changes.{AreAfter, AreTargets};
 ghost use Rattle.fancy_analysis.specs.Dependents.{AreDependents, listed};
 ghost use Rattle.fancy_analysis.specs.Histories.{AreKnown, least_at};
-ghost use Rattle.fancy_analysis.specs.InOrder.{AreSizesSettled, round_at};
+ghost use Rattle.fancy_analysis.specs.InOrder.{IsKnownWithin, round_at};
 ghost use Rattle.fancy_analysis.specs.LeastForms.{AreLeasts, IsTold, known_least_at};
+ghost use Rattle.fancy_analysis.specs.Levels.{AreSizesWithin};
 ghost use Rattle.fancy_analysis.specs.Rings.{AreBounded, AreUnbounded, AreUnboundedOf, IsUnbounded, Stays};
 ghost use Rattle.fancy_analysis.specs.Targets.{exprs_at};
 
 use crate::changes::{add_listed, numbers_below};
-use crate::dependents::{has_dependents, named_by};
+use crate::dependents::{Walk, has_dependents, named_by};
 use crate::least_forms::{KnownLeast, LeastForm, form_of, may_change};
+use crate::looks::{count_off, size_node_count};
 use crate::ring_rounds::leasts_after;
 use crate::size_parts::{size_part, size_part_count};
 use fancy_expr::expr::Expr;
@@ -28,8 +30,8 @@ use std::alloc::{AllocError, Global};
 /// So many rounds are made at first, and then as many as before in each turn.
 const FIRST_ROUNDS: usize = 8;
 
-/// So often it is asked in a turn whether the least size of a number stays.
-const FEW_LOOKS: usize = 4;
+/// So many times as many nodes as the sizes go by are looked at in a turn, to tell which of them stay.
+const MOST_LOOKS: usize = 32;
 
 /// An expression has no greatest size while these numbers have none, and its sizes differ.
 fn is_unbounded(unbounded: &[bool], expr: &Expr) -> bool
@@ -101,18 +103,33 @@ fn first_leasts(alloc: Global, dependents: &[Vec<usize>]) -> Result<Vec<Option<u
     Ok(leasts)
 }
 
-/// These least sizes as if they were settled.
-fn as_settled(alloc: Global, known: &[Option<usize>]) -> Result<Vec<KnownLeast>, AllocError>
-    ensures { IfOk result (λ v. (whole : plain.Tree) (n : ℕ)
+/// That of a number as if it were settled, if it is known.
+fn as_if_settled(known: &[Option<usize>], number: usize) -> KnownLeast
+    ensures { (whole : plain.Tree) (n : ℕ)
+        → AreKnown whole n known.now
+        → IsTold result None (least_at whole n number) }
+{
+    match known.get(number) {
+        Some(Some(least)) => KnownLeast::Settled(*least),
+        _ => KnownLeast::Changing(0),
+    }
+}
+
+/// The same of each target's number.
+fn as_settled(
+    alloc: Global,
+    targets: &[&Expr],
+    known: &[Option<usize>],
+) -> Result<Vec<KnownLeast>, AllocError>
+    ensures { IfOk result (λ v. (e : code.Expr) (whole : plain.Tree) (n : ℕ)
+        → AreTargets e whole (exprs_at targets.now)
         → AreKnown whole n known.now
         → AreLeasts v.items None (after_rounds whole n)) }
 {
-    let mut leasts = Vec::with_capacity(alloc, known.len())?;
-    for number in 0..known.len() {
-        match known[number] {
-            Some(least) => leasts.push(KnownLeast::Settled(least))?,
-            None => leasts.push(KnownLeast::Changing(0))?,
-        }
+    let count = targets.len().max(known.len());
+    let mut leasts = Vec::with_capacity(alloc, count)?;
+    for number in 0..count {
+        leasts.push(as_if_settled(known, number))?;
     }
     Ok(leasts)
 }
@@ -141,7 +158,7 @@ fn stays(targets: &[&Expr], leasts: &[KnownLeast], number: usize) -> bool
         Some(KnownLeast::Settled(least)) => is_next(targets, leasts, number, *least),
         Some(KnownLeast::After { .. }) => false,
         Some(KnownLeast::Changing(_)) => true,
-        None => true,
+        None => false,
     }
 }
 
@@ -153,6 +170,9 @@ fn all_stay(targets: &[&Expr], leasts: &[KnownLeast]) -> bool
         → AreLeasts leasts.now round (after_rounds whole n)
         × AreLeasts leasts.now round (after_rounds whole (n + 1)) }
 {
+    if targets.len() > leasts.len() {
+        return false;
+    }
     for number in 0..leasts.len() {
         if !stays(targets, leasts, number) {
             return false;
@@ -174,13 +194,13 @@ fn let_change(leasts: &mut Vec<KnownLeast>, number: usize)
     }
 }
 
-/// Asks whether the least size of a number stays, a few times at most. Where it does not, those that go by it are asked
-/// again.
+/// Asks whether the least size of a number stays, as long as looks are left. Where it does not, those that go by it are
+/// asked again.
 fn look_at(
     targets: &[&Expr],
     dependents: &[Vec<usize>],
     leasts: &mut Vec<KnownLeast>,
-    looks: &mut [usize],
+    left: &mut usize,
     waiting: &mut Vec<usize>,
     number: usize,
 ) -> Result<(), AllocError>
@@ -188,11 +208,11 @@ fn look_at(
         → AreLeasts leasts.old.items None known
         → AreLeasts leasts.new.items None known) }
 {
-    if number >= looks.len() || may_change(leasts, number) {
+    if number >= targets.len() || may_change(leasts, number) {
         return Ok(());
     }
-    if looks[number] < FEW_LOOKS && stays(targets, leasts, number) {
-        looks[number] += 1;
+    count_off(Walk::Sizes, targets[number], left);
+    if *left > 0 && stays(targets, leasts, number) {
         return Ok(());
     }
     let_change(leasts, number);
@@ -206,25 +226,32 @@ fn staying(
     dependents: &[Vec<usize>],
     known: &[Option<usize>],
 ) -> Result<Vec<KnownLeast>, AllocError>
-    ensures { IfOk result (λ v. (whole : plain.Tree) (n : ℕ)
+    ensures { IfOk result (λ v. (e : code.Expr) (whole : plain.Tree) (n : ℕ)
+        → AreTargets e whole (exprs_at targets.now)
         → AreKnown whole n known.now
         → AreLeasts v.items None (after_rounds whole n)) }
 {
-    let mut leasts = as_settled(alloc, known)?;
-    let mut looks = vec![in alloc; 0; leasts.len()]?;
-    let mut waiting = numbers_below(alloc, leasts.len())?;
+    let mut leasts = as_settled(alloc, targets, known)?;
+    let mut left = size_node_count(targets, dependents).saturating_mul(MOST_LOOKS);
+    let mut numbers = numbers_below(alloc, leasts.len())?;
     for _ in 0..usize::MAX {
-        let Some(number) = waiting.pop() else {
+        if numbers.is_empty() {
             return Ok(leasts);
-        };
-        look_at(
-            targets,
-            dependents,
-            &mut leasts,
-            &mut looks,
-            &mut waiting,
-            number,
-        )?;
+        }
+        let mut next = Vec::new(alloc);
+        for number in &numbers {
+            look_at(
+                targets,
+                dependents,
+                &mut leasts,
+                &mut left,
+                &mut next,
+                *number,
+            )?;
+        }
+        next.sort_unstable();
+        next.dedup();
+        numbers = next;
     }
     Ok(leasts)
 }
@@ -295,7 +322,8 @@ fn leasts_in_rings(
     Ok(Some(known))
 }
 
-/// The size of a number: that which is settled, or else of so many and no greatest; none if it is named and not known.
+/// The size of a number: the given one if it settles, or else of so many and no greatest; none if it is named and not
+/// known.
 fn size_in_ring(
     sizes: &[Size],
     settled: &[usize],
@@ -309,9 +337,10 @@ fn size_in_ring(
         → Contains (listed dependents.now number) g
         → AreUnboundedOf dependents.now settled.now unbounded
         → AreUnbounded unbounded (after_rounds whole n)
-        → AreSizesSettled whole sizes.now settled.now
+        → (IsKnownWithin settled.now number (n + 2)
+        → size_of_target (map size_of sizes.now) number ≡ size_of_target (after_rounds whole n) number)
         → AreKnown whole n known.now
-        → round_at settled.now number ≤ n
+        → round_at settled.now number ≤ n + 2
         → IfSome result (λ s. size_of s ≡ size_of_target (after_rounds whole n) number) }
 {
     if settled[number] > 0 {
@@ -336,7 +365,8 @@ fn are_settled(settled: &[usize], rounds: usize) -> bool
     true
 }
 
-/// The sizes by number after so many rounds, right for each number that is named, where these are settled by then.
+/// The sizes by number after so many rounds, right for each number that is named. Those that settle are given, with the
+/// rounds after which they change no more, which are two more at most.
 pub fn sizes_in_rings(
     alloc: Global,
     targets: &[&Expr],
@@ -352,11 +382,14 @@ pub fn sizes_in_rings(
     ensures sizes { (e : code.Expr) (whole : plain.Tree)
         → AreTargets e whole (exprs_at targets.now)
         → AreDependents e (exprs_at targets.now) dependents.now
-        → AreSizesSettled whole sizes.now settled.now
+        → AreSizesWithin e whole settled.now rounds sizes.now
         → IfOk result (λ found. IfSome found (λ v. AreAfter e whole rounds (map size_of v.items))) }
 {
     let unbounded = unbounded_numbers(alloc, dependents, settled)?;
-    if !all_unbounded(&unbounded, targets) || !are_settled(settled, rounds) {
+    let Some(last) = rounds.checked_add(2) else {
+        return Ok(None);
+    };
+    if !all_unbounded(&unbounded, targets) || !are_settled(settled, last) {
         return Ok(None);
     }
     let Some(known) = leasts_in_rings(alloc, targets, dependents, rounds)? else {

@@ -6,7 +6,8 @@ use crate::changes::add_listed;
 use crate::dependents::{has_dependents, list_under, no_lists};
 use crate::in_order::Order;
 use crate::jumps::Jump;
-use crate::least_forms::{KnownLeast, may_change};
+use crate::least_forms::{KnownLeast, add_changing, may_change};
+use fancy_expr::expr::Expr;
 use std::alloc::{AllocError, Global};
 
 /// A number is joint if it is named and its size changes and goes by several that change: it has no step. Its least size
@@ -26,6 +27,7 @@ pub struct Schedule {
 /// What it is made from.
 #[derive(Clone, Copy)]
 pub struct RingParts<'r> {
+    pub targets: &'r [&'r Expr],
     pub dependents: &'r [Vec<usize>],
     pub leasts: &'r [KnownLeast],
     pub steps: &'r [Option<Jump>],
@@ -60,15 +62,15 @@ impl RingParts<'_> {
 
     /// Under each joint number those that it goes by.
     fn parts_of_joint(&self, alloc: Global) -> Result<Vec<Vec<usize>>, AllocError> {
-        let mut parts = no_lists(alloc, self.dependents.len())?;
+        let mut parts = Vec::new(alloc);
         for number in 0..self.dependents.len() {
-            if may_change(self.leasts, number) {
-                for reader in &self.dependents[number] {
-                    if self.is_joint(*reader) {
-                        list_under(&mut parts, *reader, number)?;
-                    }
-                }
+            let mut numbers = Vec::new(alloc);
+            if number < self.targets.len() && self.is_joint(number) {
+                add_changing(self.leasts, self.targets[number], &mut numbers)?;
+                numbers.sort_unstable();
+                numbers.dedup();
             }
+            parts.push(numbers)?;
         }
         Ok(parts)
     }

@@ -6,8 +6,7 @@ ghost use Rattle.fancy_info.specs.Infos.{IsAnalysed, info_tree};
 ghost use Rattle.fancy_analysis.specs.Endings.{AreGroupsOf, IsGroupOf, IsNodeOf, SetsEnds, is_open_group};
 ghost use Rattle.fancy_info.specs.declared.info.Info as infos;
 
-use crate::changes::numbers_below;
-use crate::dependents::{list_under, no_lists};
+use crate::ending_order::{EndingNodes, EndingOrder, NONE, Place};
 use crate::endings::ends;
 use crate::reached::is_set;
 use fancy_expr::expr::Expr;
@@ -17,28 +16,19 @@ use std::alloc::{AllocError, Global};
 /// So many times as many nodes as the tree has are looked at, at most.
 const MOST_LOOKS: usize = 4;
 
-/// Stands for the group around a node that is in none.
-const NO_GROUP: usize = usize::MAX;
-
-/// From where each group is called. Groups go by their indices in a list that has all but group 0, as they open.
+/// Groups go by their indices in a list that has all but group 0, as they open.
 #[derive(Drop)]
 pub struct Calls {
-    /// The group around each.
-    outer: Vec<usize>,
     /// How many nodes each has.
     sizes: Vec<usize>,
-    /// Under each number, the groups in which a call names it.
-    callers: Vec<Vec<usize>>,
-    /// How many nodes the tree has.
-    nodes: usize,
+    nodes: EndingNodes,
 }
 
 impl Calls {
-    /// Adds a node that is a group. Answers the innermost group that its children stand in.
+    /// Adds a node that is a group. Answers its index.
     fn add_group<'i, 'a>(
         &mut self,
         info: &'i Info<'a>,
-        outer: usize,
         groups: &mut Vec<&'i Info<'a>>,
     ) -> Result<usize, AllocError>
         ensures { (a : Analysis) (root : infos.Info)
@@ -47,20 +37,11 @@ impl Calls {
             → IfOk result (λ _. AreGroupsOf a root groups.new.items) }
     {
         if !is_open_group(info) {
-            return Ok(outer);
+            return Ok(NONE);
         }
         groups.push(info)?;
-        self.outer.push(outer)?;
         self.sizes.push(1)?;
         Ok(groups.len() - 1)
-    }
-
-    /// Lists a group under the number that a call in it names.
-    fn add_call(&mut self, expr: &Expr, group: usize) -> Result<(), AllocError> {
-        match expr {
-            Expr::SubroutineCall(number) => list_under(&mut self.callers, *number, group),
-            _ => Ok(()),
-        }
     }
 
     /// Notes how many nodes a group has, if it is one.
@@ -70,11 +51,11 @@ impl Calls {
         }
     }
 
-    /// Adds the groups and calls of a node that stands in this group. Answers how many nodes it has.
+    /// Adds a node with all below it. Answers how many nodes these are.
     fn add_all<'i, 'a>(
         &mut self,
         info: &'i Info<'a>,
-        outer: usize,
+        place: Place,
         groups: &mut Vec<&'i Info<'a>>,
     ) -> Result<usize, AllocError>
         ensures { (a : Analysis) (root : infos.Info)
@@ -82,33 +63,17 @@ impl Calls {
             → AreGroupsOf a root groups.old.items
             → IfOk result (λ _. AreGroupsOf a root groups.new.items) }
     {
-        let group = self.add_group(info, outer, groups)?;
-        self.add_call(info.expr, group)?;
+        let group = self.add_group(info, groups)?;
+        let node = self.nodes.add(info, place, group)?;
         let mut size: usize = 1;
+        let mut position: usize = 0;
         for child in &info.children {
-            let more = self.add_all(child, group, groups)?;
+            let more = self.add_all(child, Place::of_part(node, info.expr, position), groups)?;
             size = size.saturating_add(more);
+            position = position.saturating_add(1);
         }
-        if group != outer {
-            self.set_size(group, size);
-        }
+        self.set_size(group, size);
         Ok(size)
-    }
-
-    /// Adds the groups that may end now that this one does.
-    fn add_callers(
-        &self,
-        group: usize,
-        number: usize,
-        waiting: &mut Vec<usize>,
-    ) -> Result<(), AllocError> {
-        if let Some(outer) = self.outer.get(group) {
-            waiting.push(*outer)?;
-        }
-        if let Some(callers) = self.callers.get(number) {
-            waiting.extend_from_slice(callers)?;
-        }
-        Ok(())
     }
 }
 
@@ -129,8 +94,8 @@ fn size_at(sizes: &[usize], group: usize) -> usize {
     }
 }
 
-/// Sets the flag of a group that ends by the flags. Answers whether it does.
-fn set_if_ends(info: &Info, flags: &mut [bool]) -> bool
+/// Sets the flag of a group that ends by the flags.
+fn set_if_ends(info: &Info, flags: &mut [bool])
     ensures length { length flags.new ≡ length flags.old }
     ensures ends { (a : Analysis) (root : infos.Info)
         → IsAnalysed a root
@@ -138,17 +103,18 @@ fn set_if_ends(info: &Info, flags: &mut [bool]) -> bool
         → SetsEnds (info_tree root) flags.old flags.new }
 {
     if info.start_group >= flags.len() || !ends(flags, info) {
-        return false;
+        return;
     }
     flags[info.start_group] = true;
-    true
 }
 
-/// The groups of a tree but group 0, as they open, and from where each is called.
+/// The groups of a tree but group 0, as they open, and what ends them.
 #[derive(Drop)]
 pub struct CallGraph<'i, 'a> {
     groups: Vec<&'i Info<'a>>,
     calls: Calls,
+    /// How many nodes the tree has.
+    size: usize,
 }
 
 impl<'i, 'a> CallGraph<'i, 'a> {
@@ -163,14 +129,15 @@ impl<'i, 'a> CallGraph<'i, 'a> {
     {
         let mut groups = Vec::new(alloc);
         let mut calls = Calls {
-            outer: Vec::new(alloc),
             sizes: Vec::new(alloc),
-            callers: no_lists(alloc, count)?,
-            nodes: 0,
+            nodes: EndingNodes::none(alloc, count)?,
         };
-        let nodes = calls.add_all(root, NO_GROUP, &mut groups)?;
-        calls.nodes = nodes;
-        Ok(CallGraph { groups, calls })
+        let size = calls.add_all(root, Place::of_root(), &mut groups)?;
+        Ok(CallGraph {
+            groups,
+            calls,
+            size,
+        })
     }
 
     fn group(&self, i: usize) -> &'i Info<'a>
@@ -187,29 +154,20 @@ impl<'i, 'a> CallGraph<'i, 'a> {
         group >= self.groups.len() || is_set(flags, self.group(group).start_group())
     }
 
-    /// Sets the flag of a group that ends by the flags, and adds the groups that may end then.
-    fn settle_group(
-        &self,
-        group: usize,
-        flags: &mut [bool],
-        waiting: &mut Vec<usize>,
-    ) -> Result<(), AllocError>
+    /// Sets the flag of a group that ends by the flags.
+    fn settle_group(&self, group: usize, flags: &mut [bool])
         requires { group < length self.now.groups.items }
         ensures length { length flags.new ≡ length flags.old }
         ensures ends { (a : Analysis) (root : infos.Info)
             → IsAnalysed a root
             → AreGroupsOf a root self.now.groups.items
-            → IfOk result (λ _. SetsEnds (info_tree root) flags.old flags.new) }
+            → SetsEnds (info_tree root) flags.old flags.new }
     {
-        if set_if_ends(self.group(group), flags) {
-            let number = self.group(group).start_group();
-            self.calls.add_callers(group, number, waiting)?;
-        }
-        Ok(())
+        set_if_ends(self.group(group), flags);
     }
 
-    /// Sets flags of groups that end by those that are set, as far as a bounded number of looks finds them. Each group
-    /// is asked once, and again when one that it calls, or one in it, was found to end.
+    /// Sets flags of groups that are called and end by those that are set, as far as a bounded number of looks finds them.
+    /// Each is asked when all that it needs was found to end.
     pub fn settle(&self, alloc: Global, flags: &mut [bool]) -> Result<(), AllocError>
         ensures length { length flags.new ≡ length flags.old }
         ensures ends { (a : Analysis) (root : infos.Info)
@@ -217,11 +175,10 @@ impl<'i, 'a> CallGraph<'i, 'a> {
             → AreGroupsOf a root self.now.groups.items
             → IfOk result (λ _. SetsEnds (info_tree root) flags.old flags.new) }
     {
-        let mut waiting = numbers_below(alloc, self.groups.len())?;
-        let looks = self.calls.nodes.saturating_mul(MOST_LOOKS);
-        let mut left = looks;
-        for _ in 0..looks {
-            let Some(group) = waiting.pop() else {
+        let mut order = EndingOrder::of(alloc, &self.calls.nodes, flags)?;
+        let mut left = self.size.saturating_mul(MOST_LOOKS);
+        for _ in 0..self.groups.len() {
+            let Some(group) = order.next()? else {
                 return Ok(());
             };
             if self.is_settled(group, flags) {
@@ -232,7 +189,7 @@ impl<'i, 'a> CallGraph<'i, 'a> {
                 return Ok(());
             }
             left -= size;
-            self.settle_group(group, flags, &mut waiting)?;
+            self.settle_group(group, flags);
         }
         Ok(())
     }

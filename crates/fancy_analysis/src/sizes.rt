@@ -48,10 +48,12 @@ fn named_sizes(
         → length dependents.now ≡ group_count whole + 1
         → IfOk result (λ v. AreAfter e whole rounds (map size_of v.items)) }
 {
-    match sizes_in_order(alloc, targets, dependents, context, reads, rounds)? {
-        Some(known) => Ok(known),
-        None => sizes_by_changes(alloc, targets, dependents, context, reads, rounds),
+    if let Some(known) = sizes_in_order(alloc, targets, dependents, context, reads, rounds)? {
+        return Ok(known);
     }
+    let all = sizes_by_changes(alloc, targets, dependents, context, reads, rounds, None)?;
+    let Some(known) = all else { unreachable!() };
+    Ok(known)
 }
 
 /// The same of all numbers, after the last round but one those of what is named, and then by a visit of the whole tree,

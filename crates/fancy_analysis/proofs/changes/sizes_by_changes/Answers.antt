@@ -19,6 +19,7 @@ loop-round-init c =
           let up : length c.args.dependents.now ≡ suc (group_count whole) = omega (arith, count) in
           before_first e whole (exprs_at targets) sizes c.in_ok-numbers.numbers.items (c.in_ok-known.ensures ∙ ap (λ n. replicate n unknown) up)
           (λ g lt. c.in_ok-numbers.ensures g (omega (arith, lt, length-map targets (λ b. b.now))));
+      all = λ none. none;
     }
 
 pub loop-round-preserved : goal.loop-round-preserved
@@ -31,7 +32,7 @@ loop-round-preserved c =
     let numbers = c.in_ok-numbers-2.numbers.items in
     let here : next ≡ made changes sizes =
     c.make_changes.ensures
-    ∙ ap (λ l. made l c.deref_mut.result.now) c.deref-in-loop-round-2.ensures.value
+    ∙ ap (λ l. made l c.deref_mut.result.now) c.deref-in-loop-round-3.ensures.value
     ∙ ap (made changes) c.deref_mut.ensures.value in
     let same : length next ≡ length sizes = ap length here ∙ length-made changes sizes in
     let len = c.loop-round.known.len in
@@ -41,21 +42,22 @@ loop-round-preserved c =
     take-append-le len next rest (omega (arith, all)) ∙ take_all len next (omega (arith, all)) ∙ here in
     record {
       count = ap length back ∙ length-made changes sizes ∙ c.loop-round.invariant.count;
+      all = λ none. (c.are_left.ensures (c.loop-round.invariant.all none)).1;
       before = λ e whole t d count.
           let up : suc n ≡ n + 1 = omega arith in
           let right : All (IsRight (map size_of sizes) targets) changes =
-          subst (λ s. All (IsRight (map size_of s) targets) changes) c.deref.ensures.value c.in_ok-changes.ensures.right in
+          subst (λ s. All (IsRight (map size_of s) targets) changes) c.deref-in-loop-round.ensures.value c.in_ok-changes.ensures.right in
           subst (λ l. IsBefore e whole targets (n + 1) l numbers) (sym back)
           (subst (λ k. IsBefore e whole targets k (made changes sizes) numbers) up
           (before_next e whole targets t c.args.dependents.now d count n sizes c.loop-round.numbers.items changes
           (c.loop-round.invariant.before e whole t d count) c.loop-round.invariant.count right
           (λ k g among lt there.
-          subst (λ s. IsFound (map size_of s) targets (changed changes) k) c.deref.ensures.value
-          (c.in_ok-changes.ensures.found k g (subst (λ l. Contains l k) (sym c.deref-in-loop-round.ensures.value) among)
+          subst (λ s. IsFound (map size_of s) targets (changed changes) k) c.deref-in-loop-round.ensures.value
+          (c.in_ok-changes.ensures.found k g (subst (λ l. Contains l k) (sym c.deref-in-loop-round-2.ensures.value) among)
           (omega (arith, lt, length-map c.args.targets.now (λ b. b.now))) there))
           numbers
           (λ h g among there.
-          c.in_ok-numbers-2.ensures h g (subst (λ l. Contains (changed l) h) (sym c.deref-in-loop-round-3.ensures.value) among) there)));
+          c.in_ok-numbers-2.ensures h g (subst (λ l. Contains (changed l) h) (sym c.deref-in-loop-round-4.ensures.value) among) there)));
     }
 
 pub returns-then-is_empty-clause-sizes : goal.returns-then-is_empty-clause-sizes
@@ -71,8 +73,8 @@ returns-then-is_empty-clause-sizes c = λ e whole t d count.
     (no_changes e whole targets t c.args.dependents.now d count n sizes c.loop-round.numbers.items (c.loop-round.invariant.before e whole t d count)
     (λ k g among lt there.
     subst (λ l. IsFound (map size_of sizes) targets l k) none
-    (subst (λ s. IsFound (map size_of s) targets (changed changes) k) c.deref.ensures.value
-    (c.in_ok-changes.ensures.found k g (subst (λ l. Contains l k) (sym c.deref-in-loop-round.ensures.value) among)
+    (subst (λ s. IsFound (map size_of s) targets (changed changes) k) c.deref-in-loop-round.ensures.value
+    (c.in_ok-changes.ensures.found k g (subst (λ l. Contains l k) (sym c.deref-in-loop-round-2.ensures.value) among)
     (omega (arith, lt, length-map c.args.targets.now (λ b. b.now))) there)))
     (c.args.rounds - n))
 

@@ -1,7 +1,7 @@
 use Rattle.std.proofs.Common.{◌≡◌, ◌+◌, ◌<◌, ◌∷◌, [], length, map, take, sym, ap, ◌∙◌, subst, arith}
 use Rattle.std.proofs.lemmas.List.{length-map, length-take, map-append, take_all}
 use Rattle.fancy_expr.proofs.Walks.{taken}
-use Rattle.fancy_analysis.specs.LeastForms.{Tells, own_least}
+use Rattle.fancy_analysis.specs.LeastForms.{Tells, joined_least, own_least}
 use Rattle.fancy_analysis.specs.SizeParts.{size_parts}
 use Rattle.fancy_analysis.proofs.FormLeasts.{all_joined, all_joined-push, least_of_parts, part_least}
 use Rattle.fancy_analysis.proofs.SizeNodes.{size_part_smaller}
@@ -22,12 +22,12 @@ loop-i-preserved t c = λ known right.
     let part = part_least known child in
     let lt : i < length (size_parts e) = omega arith in
     let long : 0 + length before ≡ i = omega (arith, length-map (take i (size_parts e)) (part_least known), length-take i (size_parts e), lt) in
-    subst (Tells known c.joined-form.result)
+    subst (Tells known c.fixed_at_cap-form.result)
     (sym (ap (λ l. all_joined e 0 own (map (part_least known) l)) (taken (size_parts e) i child lt c.size_part.ensures)
     ∙ ap (all_joined e 0 own) (map-append (part_least known) (take i (size_parts e)) (child ∷ []))
     ∙ all_joined-push e 0 own i before part long))
-    (c.joined-form.ensures round known (all_joined e 0 own before) part right (c.loop-i.invariant known right)
-    (c.fixed_at_cap.ensures round known part right (c.form_of-part.ensures known right)))
+    (c.fixed_at_cap-form.ensures round known (joined_least e i (all_joined e 0 own before) part) right
+    (c.joined.ensures round known (all_joined e 0 own before) part right (c.loop-i.invariant known right) (c.form_of-part.ensures known right)))
 
 pub returns : goal.returns
 returns t c = λ known right.

@@ -1,11 +1,12 @@
-use Rattle.std.proofs.Common.{◌≡◌, ℕ, ◌+◌, length, ⊎_elim, subst, arith}
+use Rattle.std.proofs.Common.{◌≡◌, ℕ, ◌+◌, ◌≤◌, length, ⊎_elim, subst, arith}
 use Rattle.std.proofs.lemmas.Bool.{cases_lt}
+use Rattle.std.proofs.lemmas.List.{length-map}
 use Rattle.fancy_analysis.specs.Histories.{least_at}
 use Rattle.fancy_analysis.specs.LeastForms.{IsTold, known_least_at}
 use Rattle.fancy_analysis.specs.Rings.{Stays}
 use Rattle.fancy_analysis.specs.Targets.{exprs_at}
 use Rattle.fancy_analysis.proofs.BoundedSizes.{least_bounded}
-use Rattle.fancy_analysis.proofs.RingLeasts.{told_past}
+use Rattle.fancy_analysis.proofs.RingLeasts.{none_told}
 use Rattle.fancy_analysis.proofs.rings.all_stay.Goals as goal
 
 pub loop-number-preserved : goal.loop-number-preserved
@@ -19,9 +20,14 @@ loop-number-preserved c = λ g lt. ⊎_elim
 pub returns : goal.returns
 returns c = λ is e whole n round t right.
     let leasts = c.args.leasts.now in
+    let targets = c.args.targets.now in
     let all : (g : ℕ) → IsTold (known_least_at leasts g) round (least_at whole n g) × IsTold (known_least_at leasts g) round (least_at whole (n + 1) g) =
     λ g. ⊎_elim
     (λ lt. c.loop-number.invariant g (omega (arith, lt)) e whole n round t right)
-    (λ le. (told_past leasts g round (least_at whole n g) le, told_past leasts g round (least_at whole (n + 1) g) le))
+    (λ le.
+    let none : length (exprs_at targets) ≤ g = omega (arith, le, length-map targets (λ b. b.now)) in (
+      none_told e whole (exprs_at targets) t leasts round n g none le,
+      none_told e whole (exprs_at targets) t leasts round (n + 1) g none le,
+    ))
     (cases_lt g (length leasts)) in
     ((λ g. (least_bounded whole n g, (all g).0)), (λ g. (least_bounded whole (n + 1) g, (all g).1)))

@@ -17,7 +17,7 @@ returns-then-none_changes c = λ e whole t.
     let leasts = c.in_ok-leasts.leasts.items in
     let stay : StayIn whole leasts = subst (StayIn whole) c.deref-in-loop-made.ensures.value (λ n round. c.all_stay.ensures c.if-not-all_stay.false e whole n round t) in
     let here : AreLeasts leasts None (after_rounds whole made) =
-    c.in_ok-leasts.ensures whole made (subst (AreKnown whole made) (sym c.deref.ensures.value) (c.loop-made.invariant.right e whole t)) in
+    c.in_ok-leasts.ensures e whole made t (subst (AreKnown whole made) (sym c.deref.ensures.value) (c.loop-made.invariant.right e whole t)) in
     let end : made + (rounds - made) ≡ rounds = omega (arith, c.loop-made.invariant.within) in
     let last : AreLeasts leasts None (after_rounds whole rounds) =
     subst (λ n. AreLeasts leasts None (after_rounds whole n)) end (stays_on whole leasts stay made (rounds - made) here) in
@@ -32,7 +32,7 @@ loop-made-preserved c = record {
       let leasts = c.in_ok-leasts.leasts.items in
       let before = c.loop-made.invariant.right e whole t in
       let stay : StayIn whole leasts = subst (StayIn whole) c.deref-in-loop-made.ensures.value (λ n round. c.all_stay.ensures c.if-not-all_stay.false e whole n round t) in
-      let here : AreLeasts leasts None (after_rounds whole made) = c.in_ok-leasts.ensures whole made (subst (AreKnown whole made) (sym c.deref.ensures.value) before) in
+      let here : AreLeasts leasts None (after_rounds whole made) = c.in_ok-leasts.ensures e whole made t (subst (AreKnown whole made) (sym c.deref.ensures.value) before) in
       told_of (λ v. (e : Expr) (whole : Tree) (first : ℕ) → AreTargets e whole (exprs_at c.args.targets.now) → AreRight whole first leasts →
       AreKnown whole first c.deref-in-loop-made-3.result.now → AreKnown whole (first + c.min-more.result) v.items)
       c.in_ok-next.field-0 c.in-Some.next c.in_ok-next.ensures c.in-Some.is e whole made t (right_from whole leasts stay made here)

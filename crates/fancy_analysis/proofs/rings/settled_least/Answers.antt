@@ -9,5 +9,5 @@ returns-in-Some-Settled c = λ round l told.
     let leasts = c.args.leasts.now in
     let w = c.in-Some-Settled in
     let here : known_least_at leasts c.args.number ≡ least.Settled w.least =
-    read_at leasts c.args.number (least.Changing 0) w.field-0.now (least.Settled w.least) w.ensures.lookup.3.0 w.ensures.lookup.1 w.field-0-is in
+    read_at leasts c.args.number (least.Settled 0) w.field-0.now (least.Settled w.least) w.ensures.lookup.3.0 w.ensures.lookup.1 w.field-0-is in
     sym (subst (λ x. IsTold x round l) here told)

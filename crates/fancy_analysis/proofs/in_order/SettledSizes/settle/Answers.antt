@@ -28,7 +28,7 @@ returns-clause-settled c = λ e whole t before.
     let is : size_of size ≡ size_by (map size_of sizes) (tree_of target.now) =
     c.in_ok-size.ensures ∙ ap (λ l. size_by (map size_of l) (tree_of target.now)) c.deref-2.ensures.value in
     let later : AreSizesSettled whole (set sizes number size) (set rounds number (below + 1)) =
-    settled_next whole sizes rounds before number below size target.now c.requires.same
+    settled_next e whole (exprs_at targets) t sizes rounds c.requires.same (omega (arith, length-map targets (λ b. b.now))) before number below size target.now
     (λ known. t.next known number ∙ size_at_target known targets number target (omega arith) c.index-targets-number.is) all is in
     subst (λ l. AreSizesSettled whole l c.set.new.self.rounds.items) (sym c.set.ensures.sizes)
     (subst (λ l. AreSizesSettled whole (set sizes number size) l) (sym c.set.ensures.rounds) later)

@@ -4,4 +4,4 @@ use Rattle.fancy_analysis.proofs.settle.CallGraph.of.Goals as goal
 
 pub returns : goal.returns
 returns c = λ a.
-    c.in_ok-nodes.ensures a c.args.root.now (whole_node a c.args.root.now) (λ k d lt. absurd (omega (arith, lt, ap length c.new-groups.ensures.items)))
+    c.in_ok-size.ensures a c.args.root.now (whole_node a c.args.root.now) (λ k d lt. absurd (omega (arith, lt, ap length c.new-groups.ensures.items)))

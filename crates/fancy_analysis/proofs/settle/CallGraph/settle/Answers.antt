@@ -10,5 +10,5 @@ pub loop-preserved : goal.loop-preserved
 loop-preserved c = (
   c.settle_group.ensures.length ∙ c.loop.invariant.0,
   λ a root found groups.
-      then_settles c.settle_group.new.flags (c.loop.invariant.1 a root found groups) (c.in_ok-settle_group.ensures.ends a root found groups),
+      then_settles c.settle_group.new.flags (c.loop.invariant.1 a root found groups) (c.settle_group.ensures.ends a root found groups),
 )
