@@ -34,6 +34,7 @@ pub mod LateReadSpots
 pub mod Anchors
 pub mod GrownSizes
 pub mod FormLeasts
+pub mod BodySizes
 pub mod RisingSizes
 pub mod HistoryRounds
 pub mod NextLeasts

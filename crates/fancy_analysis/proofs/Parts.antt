@@ -1,14 +1,11 @@
 -- What stands below a node stands in one piece among the nodes of each node above it.
-use Rattle.std.proofs.Common.{◌≡◌, zero, suc, ◌≤◌, List, [], ◌∷◌, ◌++◌, Contains, ◌⊎◌, inl, inr, ⊎_elim, refl, sym, ap, ◌∙◌, subst, arith, append_assoc, append-nil}
+use Rattle.std.proofs.Common.{◌≡◌, zero, suc, List, [], ◌∷◌, ◌++◌, Contains, ◌⊎◌, inl, inr, ⊎_elim, refl, sym, ap, ◌∙◌, subst, arith, append_assoc, append-nil}
 use Rattle.std.proofs.lemmas.List.Elements.{Contains-append_left, Contains-append_right, Contains-append_cases}
-use Rattle.fancy_meaning.specs.Nodes.{group_count}
 use Rattle.fancy_expr.specs.declared.expr.Absent.{Absent}
 use Rattle.fancy_expr.specs.declared.expr.Absent.TheVariants as code_absent
 use Rattle.fancy_expr.specs.declared.expr.Expr.{Expr, Row_of-Expr, end_of-Expr, more_of-Expr}
 use Rattle.fancy_expr.specs.declared.expr.Expr.TheVariants as code
-use Rattle.fancy_expr.specs.Views.{tree_of}
 use Rattle.fancy_expr.specs.Exprs.{exprs, exprs_in_row, exprs_in_absent}
-use Rattle.fancy_expr.proofs.Groups.{group_total, total-append, count-total}
 
 pub record IsPiece (xs ys : List Expr) : Type 0 where
   pub before : List Expr
@@ -82,8 +79,3 @@ pub contained_in : (e x y : Expr) → Contains (exprs e) x → Contains (exprs x
 contained_in e x y h there =
     let p = piece e x h in
     subst (λ l. Contains l y) (sym p.is) (Contains-append_right p.before (exprs x ++ p.after) y (Contains-append_left (exprs x) p.after y there))
-
-pub fewer_groups : (e x : Expr) → Contains (exprs e) x → group_count (tree_of x) ≤ group_count (tree_of e)
-fewer_groups e x h =
-    let p = piece e x h in
-    omega (arith, count-total e, count-total x, ap group_total p.is, total-append p.before (exprs x ++ p.after), total-append (exprs x) p.after)

@@ -1,27 +1,17 @@
 -- The changes that a round finds, and the targets that the next one looks at.
-use Rattle.std.proofs.Common.{◌≡◌, ℕ, zero, suc, ◌+◌, ◌<◌, ◌≤◌, List, [], ◌∷◌, ◌++◌, length, take, get_or, All, Contains, Vec, Global, ◌⊎◌, inl, inr, ⊎_elim, sym, ap, ◌∙◌, subst, arith}
+use Rattle.std.proofs.Common.{◌≡◌, ℕ, zero, suc, ◌+◌, ◌<◌, List, [], ◌∷◌, ◌++◌, length, take, get_or, All, Contains, Vec, Global, ◌⊎◌, inl, inr, ⊎_elim, sym, ap, ◌∙◌, subst, arith}
 use Rattle.std.specs.Borrow.{Bor}
 use Rattle.std.proofs.lemmas.List.{map-append, take_more}
-use Rattle.std.proofs.lemmas.List.Elements.{Contains-append_left, Contains-append_right, Contains-push, Contains-push_cases, All-head, All-tail, All-push}
-use Rattle.fancy_meaning.specs.Nodes.{group_count}
+use Rattle.std.proofs.lemmas.List.Elements.{Contains-append_left, Contains-append_right, Contains-push, Contains-push_cases, All-push}
 use Rattle.fancy_meaning.specs.Sizes.{Known, size_by}
-use Rattle.fancy_meaning.specs.WellFormed.{most_groups}
 use Rattle.fancy_expr.specs.declared.expr.Expr.{Expr}
 use Rattle.fancy_expr.specs.Views.{tree_of}
 use Rattle.fancy_analysis.specs.declared.changes.Change.{Change}
 use Rattle.fancy_analysis.specs.Targets.{exprs_at, size_at}
 use Rattle.fancy_analysis.specs.Dependents.{listed}
-use Rattle.fancy_analysis.specs.Changes.{AreSmall, IsFound, IsRight, KeepsChanges, changed}
+use Rattle.fancy_analysis.specs.Changes.{IsFound, IsRight, KeepsChanges, changed}
 
 -- ---- the target of a number
-
-pub small_at : (targets : List (Bor Expr)) (n : ℕ) (b : Bor Expr) → n < length targets → b ≡ get_or targets n b → AreSmall (exprs_at targets) →
-    group_count (tree_of b.now) ≤ most_groups
-small_at [] n b lt is small = absurd (omega arith)
-small_at (x ∷ targets) zero b lt is small =
-    subst (λ y. group_count (tree_of y.now) ≤ most_groups) (sym is) (All-head (λ e. group_count (tree_of e) ≤ most_groups) x.now (exprs_at targets) small)
-small_at (x ∷ targets) (suc n) b lt is small =
-    small_at targets n b (omega arith) is (All-tail (λ e. group_count (tree_of e) ≤ most_groups) x.now (exprs_at targets) small)
 
 pub size_at_target : (known : Known) (targets : List (Bor Expr)) (n : ℕ) (b : Bor Expr) → n < length targets → b ≡ get_or targets n b →
     size_at known (exprs_at targets) n ≡ size_by known (tree_of b.now)

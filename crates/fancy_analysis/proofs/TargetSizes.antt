@@ -2,12 +2,11 @@
 use Rattle.std.proofs.Common.{◌≡◌, ℕ, zero, suc, ◌+◌, ◌<◌, ◌≤◌, List, [], ◌∷◌, ◌++◌, length, map, drop, get_or, filter_map, Contains, Option, Some, None, false, refl, sym, ap, ◌∙◌, subst, arith}
 use Rattle.std.specs.List.{cons_option}
 use Rattle.std.proofs.lemmas.List.{length-map}
-use Rattle.std.proofs.lemmas.List.Elements.{Contains-append_right, All-contains_itself, All-weaker}
+use Rattle.std.proofs.lemmas.List.Elements.{Contains-append_right}
 use Rattle.fancy_meaning.specs.Tree.{Tree, Trees, none, more, Within, NoLook, Assert, Concat, Alt, Group, LookAround, Repeat, AtomicGroup, DefineGroup, Conditional, AbsentRepeater, AbsentStopper, AbsentExpression}
 use Rattle.fancy_meaning.specs.Nodes.{nodes, as_group, groups, group_count}
 use Rattle.fancy_meaning.specs.Numbering.{numbered_within, each_numbered}
 use Rattle.fancy_meaning.specs.Sizes.{Size, Known, size_by, each_size, sum_of, any_of, times, either, plus, next_round, size_of_target, unknown}
-use Rattle.fancy_meaning.specs.WellFormed.{most_groups}
 use Rattle.fancy_expr.specs.declared.expr.Absent.TheVariants as code_absent
 use Rattle.fancy_expr.specs.declared.expr.Expr.{Expr}
 use Rattle.fancy_expr.specs.declared.expr.Expr.TheVariants as code
@@ -19,8 +18,8 @@ use Rattle.fancy_expr.proofs.Walks.{itself_contained}
 use Rattle.fancy_analysis.specs.Made.{past_first}
 use Rattle.fancy_analysis.specs.Targets.{bodies_in, body_of, left_out, size_at, sizes_of, targets_of}
 use Rattle.fancy_analysis.specs.Dependents.{IsNamedIn}
-use Rattle.fancy_analysis.specs.Changes.{AreSmall, AreTargets}
-use Rattle.fancy_analysis.proofs.Parts.{contained_in, fewer_groups}
+use Rattle.fancy_analysis.specs.Changes.{AreTargets}
+use Rattle.fancy_analysis.proofs.Parts.{contained_in}
 use Rattle.fancy_analysis.proofs.RoundSizes.{round_from_0, round_from_1}
 
 module _ (known : Known) where
@@ -159,11 +158,6 @@ pub targets_inside : (first : ℕ) (e x : Expr) → Contains (targets_of first e
 targets_inside zero e x h =
     itself_or_below e (drop 1 (bodies_in (exprs e))) x (λ y t. bodies_inside e y (without_first (bodies_in (exprs e)) y t)) h
 targets_inside (suc first) e x h = itself_or_below e (bodies_in (exprs e)) x (λ y t. bodies_inside e y t) h
-
-pub small_targets : (first : ℕ) (e : Expr) → group_count (tree_of e) ≤ most_groups → AreSmall (targets_of first e)
-small_targets first e few =
-    All-weaker (Contains (targets_of first e)) (λ x. group_count (tree_of x) ≤ most_groups)
-    (λ x h. omega (arith, fewer_groups e x (targets_inside first e x h))) (targets_of first e) (All-contains_itself (targets_of first e))
 
 named_inside : (first : ℕ) (e : Expr) (g h : ℕ) (x : Expr) → g < length (targets_of first e) → x ≡ get_or (targets_of first e) g x →
     IsNamedIn x h → IsNamedIn e h

@@ -1,12 +1,9 @@
 -- The sizes that a round changes.
-use Rattle.std.specs.Prelude.{◌≡◌, ℕ, ◌<◌, ◌≤◌, ◌⊎◌, List, [], ◌∷◌, length, map, slice_set, slice_index_or}
+use Rattle.std.specs.Prelude.{◌≡◌, ℕ, ◌<◌, ◌⊎◌, List, [], ◌∷◌, length, map, slice_set, slice_index_or}
 use Rattle.std.specs.List.{All, Contains}
 use Rattle.fancy_meaning.specs.Tree.{Tree}
-use Rattle.fancy_meaning.specs.Nodes.{group_count}
 use Rattle.fancy_meaning.specs.Sizes.{Known, after_rounds, next_round, size_of_target}
-use Rattle.fancy_meaning.specs.WellFormed.{most_groups}
 use Rattle.fancy_expr.specs.declared.expr.Expr.{Expr}
-use Rattle.fancy_expr.specs.Views.{tree_of}
 use Rattle.fancy_analysis.specs.declared.changes.Change.{Change}
 use Rattle.fancy_info.specs.declared.size.Size.{Size}
 use Rattle.fancy_info.specs.Sized.{size_of}
@@ -44,7 +41,3 @@ pub record AreTargets (e : Expr) (whole : Tree) (targets : List Expr) : Type 0 w
   pub next : (known : Known) (g : ℕ) → size_of_target (next_round whole known) g ≡ size_at known targets g
   pub inside : (g h : ℕ) (x : Expr) → g < length targets → x ≡ slice_index_or targets g x → IsNamedIn x h →
       IsNamedIn e h
-
--- no target has too many groups
-abbrev pub AreSmall : List Expr → Type 0
-AreSmall = All (λ e. group_count (tree_of e) ≤ most_groups)

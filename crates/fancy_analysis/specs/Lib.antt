@@ -1,3 +1,4 @@
+pub mod BodySizes
 pub mod Made
 pub mod Visited
 pub mod Reads

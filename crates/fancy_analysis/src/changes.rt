@@ -3,25 +3,19 @@
 ghost use Rattle.std.specs.Prelude.{◌≡◌, ◌+◌, ◌<◌, ◌≤◌, ◌++◌, ℕ, IfOk, IfSome, IsTrue, None, is_some, length, map, slice_set};
 ghost use Rattle.std.specs.List.{All, Contains};
 ghost use Rattle.fancy_meaning.specs.Nodes.{group_count};
-ghost use Rattle.fancy_meaning.specs.Sizes.{size_by};
 ghost use Rattle.fancy_meaning.specs.Tree as plain;
-ghost use Rattle.fancy_meaning.specs.WellFormed.{most_groups};
-ghost use Rattle.fancy_expr.specs.Views.{tree_of};
 ghost use Rattle.fancy_expr.specs.declared.expr.Expr as code;
 ghost use Rattle.fancy_info.specs.Sized.{size_of};
-ghost use Rattle.fancy_analysis.specs.Made.{tables_known};
-ghost use Rattle.fancy_analysis.specs.Changes.{AreAfter, AreSmall, AreTargets, IsFound, IsRight, KeepsChanges, changed, made};
+ghost use Rattle.fancy_analysis.specs.Changes.{AreAfter, AreTargets, IsFound, IsRight, KeepsChanges, changed, made};
 ghost use Rattle.fancy_analysis.specs.Dependents.{AreDependents, listed};
 ghost use Rattle.fancy_analysis.specs.Targets.{exprs_at};
 
+use crate::body_sizes::body_size;
 use crate::dependents::has_dependents;
 use crate::looks::are_left;
-use crate::make::{VisitTables, known_size};
+use crate::make::known_size;
 use crate::rounds::{is_same, unknown_sizes};
-use crate::visit::visit;
 use fancy_expr::expr::Expr;
-use fancy_expr::walk::Within;
-use fancy_info::context::AnalyzeContext;
 use fancy_info::size::Size;
 use std::alloc::{AllocError, Global};
 
@@ -32,31 +26,21 @@ pub struct Change {
     size: Size,
 }
 
-pub fn body_size(alloc: Global, tables: &VisitTables, expr: &Expr) -> Result<Size, AllocError>
-    requires { group_count (tree_of expr.now) ≤ most_groups }
-    ensures { IfOk result (λ s. size_of s ≡ size_by (tables_known tables.now) (tree_of expr.now)) }
-{
-    let info = visit(alloc, tables, expr, 0, Within::NoLook)?;
-    Ok(info.size)
-}
-
 /// Adds the change of a target's size, if there is one.
 fn add_change(
-    alloc: Global,
-    tables: &VisitTables,
+    known: &[Size],
     targets: &[&Expr],
     number: usize,
     changes: &mut Vec<Change>,
 ) -> Result<(), AllocError>
-    requires within { number < length targets.now }
-    requires small { AreSmall (exprs_at targets.now) }
-    ensures kept { IfOk result (λ _. KeepsChanges (tables_known tables.now) (exprs_at targets.now)
+    requires { number < length targets.now }
+    ensures kept { IfOk result (λ _. KeepsChanges (map size_of known.now) (exprs_at targets.now)
         changes.old.items changes.new.items) }
-    ensures found { IfOk result (λ _. IsFound (tables_known tables.now) (exprs_at targets.now)
+    ensures found { IfOk result (λ _. IsFound (map size_of known.now) (exprs_at targets.now)
         (changed changes.new.items) number) }
 {
-    let size = body_size(alloc, tables, targets[number])?;
-    if !is_same(size, known_size(tables.known, number)) {
+    let size = body_size(known, targets[number]);
+    if !is_same(size, known_size(known, number)) {
         changes.push(Change { number, size })?;
     }
     Ok(())
@@ -64,24 +48,22 @@ fn add_change(
 
 /// The same for a target that some target's size goes by.
 fn add_if_named(
-    alloc: Global,
-    tables: &VisitTables,
+    known: &[Size],
     targets: &[&Expr],
     dependents: &[Vec<usize>],
     number: usize,
     changes: &mut Vec<Change>,
 ) -> Result<(), AllocError>
-    requires { AreSmall (exprs_at targets.now) }
-    ensures kept { IfOk result (λ _. KeepsChanges (tables_known tables.now) (exprs_at targets.now)
+    ensures kept { IfOk result (λ _. KeepsChanges (map size_of known.now) (exprs_at targets.now)
         changes.old.items changes.new.items) }
     ensures found { (g : ℕ)
         → number < length targets.now
         → Contains (listed dependents.now number) g
-        → IfOk result (λ _. IsFound (tables_known tables.now) (exprs_at targets.now)
+        → IfOk result (λ _. IsFound (map size_of known.now) (exprs_at targets.now)
         (changed changes.new.items) number) }
 {
     if number < targets.len() && has_dependents(dependents, number) {
-        add_change(alloc, tables, targets, number, changes)?;
+        add_change(known, targets, number, changes)?;
     }
     Ok(())
 }
@@ -89,24 +71,23 @@ fn add_if_named(
 /// The changes among these targets.
 pub fn changes_among(
     alloc: Global,
-    tables: &VisitTables,
+    known: &[Size],
     targets: &[&Expr],
     dependents: &[Vec<usize>],
     numbers: &[usize],
 ) -> Result<Vec<Change>, AllocError>
-    requires { AreSmall (exprs_at targets.now) }
     ensures right { IfOk result
-        (λ v. All (IsRight (tables_known tables.now) (exprs_at targets.now)) v.items) }
+        (λ v. All (IsRight (map size_of known.now) (exprs_at targets.now)) v.items) }
     ensures found { (k g : ℕ)
         → Contains numbers.now k
         → k < length targets.now
         → Contains (listed dependents.now k) g
-        → IfOk result (λ v. IsFound (tables_known tables.now) (exprs_at targets.now)
+        → IfOk result (λ v. IsFound (map size_of known.now) (exprs_at targets.now)
         (changed v.items) k) }
 {
     let mut changes = Vec::new(alloc);
     for number in numbers {
-        add_if_named(alloc, tables, targets, dependents, *number, &mut changes)?;
+        add_if_named(known, targets, dependents, *number, &mut changes)?;
     }
     Ok(changes)
 }
@@ -177,12 +158,9 @@ pub fn sizes_by_changes(
     alloc: Global,
     targets: &[&Expr],
     dependents: &[Vec<usize>],
-    context: AnalyzeContext,
-    reads: &[bool],
     rounds: usize,
     most: Option<usize>,
 ) -> Result<Option<Vec<Size>>, AllocError>
-    requires { AreSmall (exprs_at targets.now) }
     ensures length { IfOk result (λ found. IfSome found
         (λ v. length v.items ≡ length dependents.now)) }
     ensures sizes { (e : code.Expr) (whole : plain.Tree)
@@ -199,12 +177,7 @@ pub fn sizes_by_changes(
         if !are_left(targets, &numbers, &mut left) {
             return Ok(None);
         }
-        let tables = VisitTables {
-            context,
-            known: &known,
-            reads,
-        };
-        let changes = changes_among(alloc, &tables, targets, dependents, &numbers)?;
+        let changes = changes_among(alloc, &known, targets, dependents, &numbers)?;
         if changes.is_empty() {
             return Ok(Some(known));
         }

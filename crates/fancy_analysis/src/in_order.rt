@@ -7,7 +7,7 @@ ghost use Rattle.fancy_meaning.specs.Sizes.{size_of_target};
 ghost use Rattle.fancy_meaning.specs.Tree as plain;
 ghost use Rattle.fancy_expr.specs.declared.expr.Expr as code;
 ghost use Rattle.fancy_info.specs.Sized.{size_of};
-ghost use Rattle.fancy_analysis.specs.Changes.{AreAfter, AreSmall, AreTargets};
+ghost use Rattle.fancy_analysis.specs.Changes.{AreAfter, AreTargets};
 ghost use Rattle.fancy_analysis.specs.Dependents.{AreDependents, listed};
 ghost use Rattle.fancy_analysis.specs.InOrder.{
   AreLevels,
@@ -19,16 +19,15 @@ ghost use Rattle.fancy_analysis.specs.InOrder.{
 ghost use Rattle.fancy_analysis.specs.SizeParts.{size_nodes};
 ghost use Rattle.fancy_analysis.specs.Targets.{exprs_at};
 
-use crate::changes::{body_size, sizes_by_changes};
+use crate::body_sizes::body_size;
+use crate::changes::sizes_by_changes;
 use crate::dependents::{has_dependents, named_by};
 use crate::levels::{levels, sizes_by_levels};
 use crate::looks::size_node_count;
-use crate::make::VisitTables;
 use crate::rings::sizes_in_rings;
 use crate::rounds::unknown_sizes;
 use crate::size_parts::{size_part, size_part_count};
 use fancy_expr::expr::Expr;
-use fancy_info::context::AnalyzeContext;
 use fancy_info::size::Size;
 use std::alloc::{AllocError, Global};
 
@@ -180,43 +179,29 @@ impl SettledSizes {
     }
 
     /// Finds the size of a target, if those that it goes by are known.
-    fn settle(
-        &mut self,
-        alloc: Global,
-        targets: &[&Expr],
-        number: usize,
-        context: AnalyzeContext,
-        reads: &[bool],
-    ) -> Result<(), AllocError>
-        requires small { AreSmall (exprs_at targets.now) }
-        requires same { length self.old.rounds.items ≡ length self.old.sizes.items }
+    fn settle(&mut self, targets: &[&Expr], number: usize)
+        requires { length self.old.rounds.items ≡ length self.old.sizes.items }
         ensures sizes { length self.new.sizes.items ≡ length self.old.sizes.items }
         ensures rounds { length self.new.rounds.items ≡ length self.old.rounds.items }
-        ensures settled { IfOk result (λ _. (e : code.Expr) (whole : plain.Tree)
+        ensures settled { (e : code.Expr) (whole : plain.Tree)
             → AreTargets e whole (exprs_at targets.now)
             → AreSettled whole self.old
-            → AreSettled whole self.new) }
-        ensures levels { IfOk result (λ _. AreLevels (exprs_at targets.now) self.old
-            → AreLevels (exprs_at targets.now) self.new) }
+            → AreSettled whole self.new }
+        ensures levels { AreLevels (exprs_at targets.now) self.old →
+            AreLevels (exprs_at targets.now) self.new }
     {
         if number >= targets.len() || targets.len() > self.rounds.len() || self.is_known(number) {
-            return Ok(());
+            return;
         }
         let target = targets[number];
         let Some(below) = rounds_below(&self.rounds, target) else {
-            return Ok(());
+            return;
         };
         if below == usize::MAX {
-            return Ok(());
+            return;
         }
-        let tables = VisitTables {
-            context,
-            known: &self.sizes,
-            reads,
-        };
-        let size = body_size(alloc, &tables, target)?;
+        let size = body_size(&self.sizes, target);
         self.set(number, size, below + 1);
-        Ok(())
     }
 
     /// Finds the sizes of all targets that are named, but those that go by themselves.
@@ -225,11 +210,8 @@ impl SettledSizes {
         alloc: Global,
         targets: &[&Expr],
         dependents: &[Vec<usize>],
-        context: AnalyzeContext,
-        reads: &[bool],
     ) -> Result<(), AllocError>
-        requires small { AreSmall (exprs_at targets.now) }
-        requires same { length self.old.rounds.items ≡ length self.old.sizes.items }
+        requires { length self.old.rounds.items ≡ length self.old.sizes.items }
         ensures sizes { length self.new.sizes.items ≡ length self.old.sizes.items }
         ensures rounds { length self.new.rounds.items ≡ length self.old.rounds.items }
         ensures settled { IfOk result (λ _. (e : code.Expr) (whole : plain.Tree)
@@ -245,7 +227,7 @@ impl SettledSizes {
                 return Ok(());
             };
             if has_dependents(dependents, number) {
-                self.settle(alloc, targets, number, context, reads)?;
+                self.settle(targets, number);
             }
         }
         Ok(())
@@ -290,11 +272,8 @@ pub fn sizes_in_order(
     alloc: Global,
     targets: &[&Expr],
     dependents: &[Vec<usize>],
-    context: AnalyzeContext,
-    reads: &[bool],
     rounds: usize,
 ) -> Result<Option<Vec<Size>>, AllocError>
-    requires { AreSmall (exprs_at targets.now) }
     ensures length { IfOk result (λ found. IfSome found
         (λ v. length v.items ≡ length dependents.now)) }
     ensures sizes { (e : code.Expr) (whole : plain.Tree)
@@ -304,7 +283,7 @@ pub fn sizes_in_order(
         → IfOk result (λ found. IfSome found (λ v. AreAfter e whole rounds (map size_of v.items))) }
 {
     let mut settled = SettledSizes::none(alloc, dependents.len())?;
-    settled.settle_all(alloc, targets, dependents, context, reads)?;
+    settled.settle_all(alloc, targets, dependents)?;
     if settled.are_within(dependents, rounds) {
         return Ok(Some(settled.into_sizes()));
     }
@@ -312,20 +291,12 @@ pub fn sizes_in_order(
         return Ok(None);
     };
     let levels = levels(alloc, &settled.rounds, count)?;
-    let known = sizes_by_levels(alloc, targets, dependents, &levels, context, reads, rounds)?;
+    let known = sizes_by_levels(alloc, targets, dependents, &levels, rounds)?;
     if settled.are_within(dependents, rounds + 2) {
         return Ok(Some(known));
     }
     let few = size_node_count(targets, dependents).saturating_mul(FEW_LOOKS);
-    match sizes_by_changes(
-        alloc,
-        targets,
-        dependents,
-        context,
-        reads,
-        rounds,
-        Some(few),
-    )? {
+    match sizes_by_changes(alloc, targets, dependents, rounds, Some(few))? {
         Some(known) => Ok(Some(known)),
         None => sizes_in_rings(alloc, targets, dependents, &known, &settled.rounds, rounds),
     }

@@ -7,7 +7,7 @@ ghost use Rattle.fancy_meaning.specs.Nodes.{group_count};
 ghost use Rattle.fancy_meaning.specs.Tree as plain;
 ghost use Rattle.fancy_expr.specs.declared.expr.Expr as code;
 ghost use Rattle.fancy_info.specs.Sized.{size_of};
-ghost use Rattle.fancy_analysis.specs.Changes.{AreAfter, AreSmall, AreTargets};
+ghost use Rattle.fancy_analysis.specs.Changes.{AreTargets};
 ghost use Rattle.fancy_analysis.specs.Dependents.{AreDependents, IsNamedIn, listed};
 ghost use Rattle.fancy_analysis.specs.InOrder.{IsKnownWithin, round_at};
 ghost use Rattle.fancy_analysis.specs.Levels.{AreInLevels, AreSizesWithin};
@@ -15,10 +15,8 @@ ghost use Rattle.fancy_analysis.specs.Targets.{exprs_at};
 
 use crate::changes::{add_listed, changes_among, make_changes};
 use crate::dependents::{list_under, no_lists};
-use crate::make::VisitTables;
 use crate::rounds::unknown_sizes;
 use fancy_expr::expr::Expr;
-use fancy_info::context::AnalyzeContext;
 use fancy_info::size::Size;
 use std::alloc::{AllocError, Global};
 
@@ -60,12 +58,9 @@ pub fn sizes_by_levels(
     targets: &[&Expr],
     dependents: &[Vec<usize>],
     levels: &[Vec<usize>],
-    context: AnalyzeContext,
-    reads: &[bool],
     rounds: usize,
 ) -> Result<Vec<Size>, AllocError>
-    requires small { AreSmall (exprs_at targets.now) }
-    requires levels { rounds + 2 < length levels.now }
+    requires { rounds + 2 < length levels.now }
     ensures length { IfOk result (λ v. length v.items ≡ length dependents.now) }
     ensures sizes { (e : code.Expr) (whole : plain.Tree) (within : List ℕ)
         → AreTargets e whole (exprs_at targets.now)
@@ -76,13 +71,8 @@ pub fn sizes_by_levels(
 {
     let mut known = unknown_sizes(alloc, dependents.len())?;
     for round in 0..rounds {
-        let tables = VisitTables {
-            context,
-            known: &known,
-            reads,
-        };
         let numbers = three_levels(alloc, levels, round + 1)?;
-        let changes = changes_among(alloc, &tables, targets, dependents, &numbers)?;
+        let changes = changes_among(alloc, &known, targets, dependents, &numbers)?;
         make_changes(&changes, &mut known);
     }
     Ok(known)

@@ -2,6 +2,7 @@
 #![tactic(auto)]
 
 pub mod analyze;
+mod body_sizes;
 mod callers;
 mod changes;
 mod dependents;

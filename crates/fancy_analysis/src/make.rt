@@ -46,7 +46,7 @@ pub fn known_size(known: &[Size], group: usize) -> Size
     }
 }
 
-fn referred_size(known: &[Size], group: usize) -> Size
+pub fn referred_size(known: &[Size], group: usize) -> Size
     ensures { size_of result ≡ size_of_group (map size_of known.now) group }
 {
     if group == 0 {

@@ -9,7 +9,7 @@ ghost use Rattle.fancy_meaning.specs.WellFormed.{most_groups};
 ghost use Rattle.fancy_expr.specs.Views.{tree_of};
 ghost use Rattle.fancy_expr.specs.declared.expr.Expr as code;
 ghost use Rattle.fancy_info.specs.Sized.{size_of};
-ghost use Rattle.fancy_analysis.specs.Changes.{AreAfter, AreSmall, AreTargets};
+ghost use Rattle.fancy_analysis.specs.Changes.{AreAfter, AreTargets};
 ghost use Rattle.fancy_analysis.specs.Dependents.{AreDependents};
 ghost use Rattle.fancy_analysis.specs.Targets.{exprs_at, targets_of};
 
@@ -36,11 +36,8 @@ fn named_sizes(
     alloc: Global,
     targets: &[&Expr],
     dependents: &[Vec<usize>],
-    context: AnalyzeContext,
-    reads: &[bool],
     rounds: usize,
 ) -> Result<Vec<Size>, AllocError>
-    requires { AreSmall (exprs_at targets.now) }
     ensures length { IfOk result (λ v. length v.items ≡ length dependents.now) }
     ensures sizes { (e : code.Expr) (whole : plain.Tree)
         → AreTargets e whole (exprs_at targets.now)
@@ -48,10 +45,10 @@ fn named_sizes(
         → length dependents.now ≡ group_count whole + 1
         → IfOk result (λ v. AreAfter e whole rounds (map size_of v.items)) }
 {
-    if let Some(known) = sizes_in_order(alloc, targets, dependents, context, reads, rounds)? {
+    if let Some(known) = sizes_in_order(alloc, targets, dependents, rounds)? {
         return Ok(known);
     }
-    let all = sizes_by_changes(alloc, targets, dependents, context, reads, rounds, None)?;
+    let all = sizes_by_changes(alloc, targets, dependents, rounds, None)?;
     let Some(known) = all else { unreachable!() };
     Ok(known)
 }
@@ -79,7 +76,7 @@ fn sizes_by_lists(
         ≡ known_of (numbered_within plain.NoLook first (tree_of tree.now.expr))) }
 {
     let rounds = tree.total_groups - 1;
-    let known = named_sizes(alloc, targets, dependents, context, reads, rounds)?;
+    let known = named_sizes(alloc, targets, dependents, rounds)?;
     let tables = VisitTables {
         context,
         known: &known,

@@ -1,6 +1,6 @@
-use Rattle.std.proofs.Common.{◌<◌, length, get_or, Contains, ⊎_elim, sym, ap, subst, arith}
+use Rattle.std.proofs.Common.{◌<◌, length, map, get_or, Contains, ⊎_elim, sym, ap, subst, arith}
 use Rattle.std.proofs.lemmas.List.{take_all}
-use Rattle.fancy_analysis.specs.Made.{tables_known}
+use Rattle.fancy_info.specs.Sized.{size_of}
 use Rattle.fancy_analysis.specs.Changes.{IsFound, changed}
 use Rattle.fancy_analysis.specs.Dependents.{listed}
 use Rattle.fancy_analysis.specs.Targets.{exprs_at}
@@ -15,7 +15,7 @@ loop-number-init c = record {
 
 pub loop-number-preserved : goal.loop-number-preserved
 loop-number-preserved c =
-    let known = tables_known c.args.tables.now in
+    let known = map size_of c.args.known.now in
     let targets = exprs_at c.args.targets.now in
     let numbers = c.args.numbers.now in
     let i = c.loop-number.number-index in

@@ -57,7 +57,7 @@ loop-round-preserved c =
           subst (λ s. IsFound (map size_of s) targets (changed changes) k) c.deref.ensures.value
           (c.in_ok-changes.ensures.found k g (subst (λ l. Contains l k) (sym c.deref-in-loop-round.ensures.value) among)
           (omega (arith, lt, length-map c.args.targets.now (λ b. b.now))) there))
-          each (omega (arith, c.requires.levels)) (c.loop-round.invariant.right e whole within t d count l));
+          each (omega (arith, c.requires)) (c.loop-round.invariant.right e whole within t d count l));
     }
 
 pub returns-clause-sizes : goal.returns-clause-sizes

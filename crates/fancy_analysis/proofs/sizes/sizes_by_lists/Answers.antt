@@ -5,16 +5,11 @@ use Rattle.fancy_meaning.specs.Sizes.{next_round}
 use Rattle.fancy_expr.specs.Views.{tree_of}
 use Rattle.fancy_expr.proofs.Numbered.{count-numbered}
 use Rattle.fancy_info.specs.Sized.{size_of}
-use Rattle.fancy_analysis.specs.Changes.{AreAfter, AreSmall, AreTargets}
+use Rattle.fancy_analysis.specs.Changes.{AreAfter, AreTargets}
 use Rattle.fancy_analysis.specs.Targets.{exprs_at}
 use Rattle.fancy_analysis.proofs.MadeChanges.{last_after}
-use Rattle.fancy_analysis.proofs.TargetSizes.{are_targets, small_targets}
+use Rattle.fancy_analysis.proofs.TargetSizes.{are_targets}
 use Rattle.fancy_analysis.proofs.sizes.sizes_by_lists.Goals as goal
-
-pub named_sizes-requires : goal.named_sizes-requires
-named_sizes-requires c =
-    subst AreSmall (sym c.requires.targets)
-    (small_targets c.args.first c.args.tree.now.expr (omega (arith, c.requires.groups, c.requires.few)))
 
 pub returns : goal.returns
 returns c =

@@ -6,13 +6,9 @@ use Rattle.fancy_info.specs.Sized.{size_of}
 use Rattle.fancy_analysis.specs.InOrder.{AreSizesSettled, IsSettledWithin, round_at}
 use Rattle.fancy_analysis.specs.SizeParts.{size_nodes}
 use Rattle.fancy_analysis.specs.Targets.{exprs_at}
-use Rattle.fancy_analysis.proofs.RoundSteps.{expr_at, size_at_target, small_at}
+use Rattle.fancy_analysis.proofs.RoundSteps.{expr_at, size_at_target}
 use Rattle.fancy_analysis.proofs.SettledSizes.{AreLevelsOf, levels_next, settled_next}
 use Rattle.fancy_analysis.proofs.in_order.SettledSizes.settle.Goals as goal
-
-pub body_size-requires : goal.body_size-requires
-body_size-requires c =
-    small_at c.args.targets.now c.args.number c.index-targets-number.result (omega arith) c.index-targets-number.is c.requires.small
 
 pub returns-clause-settled : goal.returns-clause-settled
 returns-clause-settled c = λ e whole t before.
@@ -21,14 +17,14 @@ returns-clause-settled c = λ e whole t before.
     let target = c.index-targets-number.result in
     let sizes = c.args.self.now.sizes.items in
     let rounds = c.args.self.now.rounds.items in
-    let size = c.in_ok-size.size in
+    let size = c.body_size-size.result in
     let below = c.in-Some.below in
     let all : All (IsSettledWithin rounds below) (size_nodes target.now) =
     subst (λ l. All (IsSettledWithin l below) (size_nodes target.now)) c.deref.ensures.value c.in-Some.ensures in
     let is : size_of size ≡ size_by (map size_of sizes) (tree_of target.now) =
-    c.in_ok-size.ensures ∙ ap (λ l. size_by (map size_of l) (tree_of target.now)) c.deref-2.ensures.value in
+    c.body_size-size.ensures ∙ ap (λ l. size_by (map size_of l) (tree_of target.now)) c.deref-2.ensures.value in
     let later : AreSizesSettled whole (set sizes number size) (set rounds number (below + 1)) =
-    settled_next e whole (exprs_at targets) t sizes rounds c.requires.same (omega (arith, length-map targets (λ b. b.now))) before number below size target.now
+    settled_next e whole (exprs_at targets) t sizes rounds c.requires (omega (arith, length-map targets (λ b. b.now))) before number below size target.now
     (λ known. t.next known number ∙ size_at_target known targets number target (omega arith) c.index-targets-number.is) all is in
     subst (λ l. AreSizesSettled whole l c.set.new.self.rounds.items) (sym c.set.ensures.sizes)
     (subst (λ l. AreSizesSettled whole (set sizes number size) l) (sym c.set.ensures.rounds) later)
