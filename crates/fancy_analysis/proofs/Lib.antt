@@ -43,3 +43,4 @@ pub mod GrownJumps
 pub mod LevelSizes
 pub mod RingLeasts
 pub mod UnboundedSizes
+pub mod NameCounts

@@ -22,3 +22,4 @@ pub mod Jumps
 pub mod RingRounds
 pub mod Rings
 pub mod Levels
+pub mod Lookups

@@ -17,6 +17,7 @@ mod least_forms;
 mod levels;
 mod links;
 mod looks;
+pub mod lookups;
 mod make;
 mod reached;
 mod reads;
