@@ -44,3 +44,4 @@ pub mod LevelSizes
 pub mod RingLeasts
 pub mod UnboundedSizes
 pub mod NameCounts
+pub mod JointValues

@@ -5,6 +5,8 @@ use Rattle.fancy_meaning.specs.Sizes.{Known, saturated, size_by, size_of_group, 
 use Rattle.fancy_expr.specs.declared.expr.Expr.{Expr}
 use Rattle.fancy_expr.specs.declared.expr.Expr.TheVariants as code
 use Rattle.fancy_expr.specs.Views.{tree_of}
+use Rattle.fancy_analysis.specs.declared.least_forms.Join.{Join}
+use Rattle.fancy_analysis.specs.declared.least_forms.Join.TheVariants as join
 use Rattle.fancy_analysis.specs.declared.least_forms.LeastForm.{LeastForm}
 use Rattle.fancy_analysis.specs.declared.least_forms.LeastForm.TheVariants as form
 use Rattle.fancy_analysis.specs.declared.least_forms.KnownLeast.{KnownLeast}
@@ -36,6 +38,13 @@ joined_least (code.Conditional' b c d t x f) (suc zero) least part = saturated (
 joined_least (code.Conditional' b c d t x f) (suc (suc before)) least part = min least part
 joined_least e before least part = part
 
+-- what is joined so
+abbrev pub joined_by : Join → (least part : ℕ) → ℕ
+joined_by join.Alone least part = part
+joined_by join.Sum least part = saturated (least + part)
+joined_by join.Least least part = min least part
+joined_by (join.Times n) least part = saturated (part * n)
+
 -- ---- by those of numbers
 
 -- what a form tells of a least size
@@ -43,6 +52,11 @@ abbrev pub Tells : Known → LeastForm → ℕ → Type 0
 Tells known (form.Fixed n) l = l ≡ n
 Tells known (form.Grows g) l = l ≡ grown g (size_of_target known g.number).least
 Tells known (form.AtLeast n) l = n ≤ l
+
+-- it goes by one number, or by none
+abbrev pub IsSimple : LeastForm → Type 0
+IsSimple (form.AtLeast n) = ⊥
+IsSimple f = Unit {0}
 
 -- a number without an entry is no target's, and has none
 abbrev pub known_least_at : List KnownLeast → ℕ → KnownLeast

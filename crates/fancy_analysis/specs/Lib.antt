@@ -23,3 +23,4 @@ pub mod RingRounds
 pub mod Rings
 pub mod Levels
 pub mod Lookups
+pub mod Joint

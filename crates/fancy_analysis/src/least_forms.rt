@@ -8,7 +8,9 @@ ghost use Rattle.fancy_analysis.specs.LeastForms.{
   AreLeasts,
   IsFormOf,
   IsLeast,
+  IsSimple,
   Tells,
+  joined_by,
   joined_least,
   known_least_at,
   own_least,
@@ -103,7 +105,7 @@ impl LeastForm {
     }
 
     /// One after the other.
-    fn plus(self, other: LeastForm, leasts: &[KnownLeast]) -> LeastForm
+    pub fn plus(self, other: LeastForm, leasts: &[KnownLeast]) -> LeastForm
         ensures { (round : Option ℕ) (known : Known) (a b : ℕ)
             → AreLeasts leasts.now round known
             → Tells known self a
@@ -147,7 +149,7 @@ impl LeastForm {
     }
 
     /// One or the other.
-    fn either(self, other: LeastForm, leasts: &[KnownLeast]) -> LeastForm
+    pub fn either(self, other: LeastForm, leasts: &[KnownLeast]) -> LeastForm
         ensures { (round : Option ℕ) (known : Known) (a b : ℕ)
             → AreLeasts leasts.now round known
             → Tells known self a
@@ -161,7 +163,7 @@ impl LeastForm {
     }
 
     /// The same, and fixed where it has reached its cap.
-    fn fixed_at_cap(self, leasts: &[KnownLeast]) -> LeastForm
+    pub fn fixed_at_cap(self, leasts: &[KnownLeast]) -> LeastForm
         ensures { (round : Option ℕ) (known : Known) (n : ℕ)
             → AreLeasts leasts.now round known
             → Tells known self n
@@ -176,7 +178,7 @@ impl LeastForm {
     }
 
     /// So many times as many; none, if that is no time.
-    fn times(self, count: usize) -> LeastForm
+    pub fn times(self, count: usize) -> LeastForm
         ensures { (known : Known) (n : ℕ)
             → Tells known self n
             → Tells known result (saturated (n * count)) }
@@ -192,7 +194,8 @@ impl LeastForm {
 
 /// That of a number's target, by what is known after the round.
 fn target_form(leasts: &[KnownLeast], round: Option<usize>, number: usize) -> LeastForm
-    ensures { (known : Known)
+    ensures simple { IsSimple result }
+    ensures tells { (known : Known)
         → IsLeast (known_least_at leasts.now number) round (size_of_target known number).least
         → Tells known result (size_of_target known number).least }
 {
@@ -208,7 +211,8 @@ fn target_form(leasts: &[KnownLeast], round: Option<usize>, number: usize) -> Le
 
 /// The same for a reference, where 0 is no group.
 fn group_form(leasts: &[KnownLeast], round: Option<usize>, number: usize) -> LeastForm
-    ensures { (known : Known)
+    ensures simple { IsSimple result }
+    ensures tells { (known : Known)
         → IsLeast (known_least_at leasts.now number) round (size_of_target known number).least
         → Tells known result (size_of_group known number).least }
 {
@@ -220,8 +224,9 @@ fn group_form(leasts: &[KnownLeast], round: Option<usize>, number: usize) -> Lea
 }
 
 /// That of a node before its parts.
-fn own_form(leasts: &[KnownLeast], round: Option<usize>, expr: &Expr) -> LeastForm
-    ensures { (known : Known)
+pub fn own_form(leasts: &[KnownLeast], round: Option<usize>, expr: &Expr) -> LeastForm
+    ensures simple { IsSimple result }
+    ensures tells { (known : Known)
         → AreLeasts leasts.now round known
         → Tells known result (own_least known expr.now) }
 {
@@ -238,40 +243,59 @@ fn own_form(leasts: &[KnownLeast], round: Option<usize>, expr: &Expr) -> LeastFo
     }
 }
 
-/// That of a node with one part more, of which there were so many before.
-fn joined(
-    leasts: &[KnownLeast],
-    expr: &Expr,
-    before: usize,
-    form: LeastForm,
-    part: LeastForm,
-) -> LeastForm
+/// How the least size of a node's part counts beside those of the parts before it.
+#[derive(Clone, Copy)]
+pub enum Join {
+    /// It alone counts.
+    Alone,
+    /// One after the other.
+    Sum,
+    /// One or the other.
+    Least,
+    /// It alone, so many times.
+    Times(usize),
+}
+
+/// That of a part, of which there were so many before.
+pub fn join_of(expr: &Expr, before: usize) -> Join
+    ensures { (a b : ℕ) → joined_least expr.now before a b ≡ joined_by result a b }
+{
+    match expr {
+        Expr::Concat(_) => Join::Sum,
+        Expr::Alt(_) => {
+            if before == 0 {
+                Join::Alone
+            } else {
+                Join::Least
+            }
+        }
+        Expr::Repeat { lo, .. } => Join::Times(*lo),
+        Expr::Conditional { .. } => {
+            if before == 0 {
+                Join::Alone
+            } else if before == 1 {
+                Join::Sum
+            } else {
+                Join::Least
+            }
+        }
+        _ => Join::Alone,
+    }
+}
+
+/// That of some parts with one part more.
+fn joined(leasts: &[KnownLeast], join: Join, form: LeastForm, part: LeastForm) -> LeastForm
     ensures { (round : Option ℕ) (known : Known) (a b : ℕ)
         → AreLeasts leasts.now round known
         → Tells known form a
         → Tells known part b
-        → Tells known result (joined_least expr.now before a b) }
+        → Tells known result (joined_by join a b) }
 {
-    match expr {
-        Expr::Concat(_) => form.plus(part, leasts),
-        Expr::Alt(_) => {
-            if before == 0 {
-                part
-            } else {
-                form.either(part, leasts)
-            }
-        }
-        Expr::Repeat { lo, .. } => part.times(*lo),
-        Expr::Conditional { .. } => {
-            if before == 0 {
-                part
-            } else if before == 1 {
-                form.plus(part, leasts)
-            } else {
-                form.either(part, leasts)
-            }
-        }
-        _ => part,
+    match join {
+        Join::Alone => part,
+        Join::Sum => form.plus(part, leasts),
+        Join::Least => form.either(part, leasts),
+        Join::Times(count) => part.times(count),
     }
 }
 
@@ -289,7 +313,7 @@ pub fn add_changing(
     }
     for i in 0..size_part_count(expr) {
         let part = add_changing(leasts, size_part(expr, i), numbers)?;
-        form = joined(leasts, expr, i, form, part).fixed_at_cap(leasts);
+        form = joined(leasts, join_of(expr, i), form, part).fixed_at_cap(leasts);
     }
     if let LeastForm::Fixed(_) = form {
         numbers.truncate(before);
@@ -304,7 +328,7 @@ pub fn form_of(leasts: &[KnownLeast], round: Option<usize>, expr: &Expr) -> Leas
     let mut form = own_form(leasts, round, expr);
     for i in 0..size_part_count(expr) {
         let part = form_of(leasts, round, size_part(expr, i));
-        form = joined(leasts, expr, i, form, part).fixed_at_cap(leasts);
+        form = joined(leasts, join_of(expr, i), form, part).fixed_at_cap(leasts);
     }
     form
 }

@@ -11,6 +11,7 @@ mod endings;
 mod growths;
 mod histories;
 mod in_order;
+mod joint;
 mod jumps;
 mod late_reads;
 mod least_forms;

@@ -11,8 +11,9 @@ ghost use Rattle.fancy_analysis.specs.RingRounds.{AreRingRounds};
 ghost use Rattle.fancy_analysis.specs.Targets.{exprs_at};
 
 use crate::histories::History;
+use crate::joint::{JointSteps, joint_steps};
 use crate::jumps::{Jump, far_jumps, steps};
-use crate::least_forms::{KnownLeast, LeastForm, form_of};
+use crate::least_forms::KnownLeast;
 use crate::schedule::{RingParts, Schedule};
 use fancy_expr::expr::Expr;
 use std::alloc::{AllocError, Global};
@@ -28,8 +29,12 @@ struct RingRounds<'r> {
     near: Vec<Option<Jump>>,
     /// Those of the numbers that are computed round by round.
     histories: Vec<History>,
+    /// How these are computed.
+    joint: Vec<Option<JointSteps>>,
     /// What an expression goes by.
     leasts: Vec<KnownLeast>,
+    /// Room for the values of steps.
+    values: Vec<usize>,
 }
 
 impl RingRounds<'_> {
@@ -84,23 +89,23 @@ impl RingRounds<'_> {
     }
 
     /// Computes that of a number after one round more.
-    fn compute(&mut self, targets: &[&Expr], number: usize, round: usize) -> bool
+    fn compute(&mut self, number: usize, round: usize) -> Result<bool, AllocError>
         requires { round + 1 < 2 ^ 64 }
-        ensures { (e : code.Expr) (whole : plain.Tree) (first : ℕ)
-            → AreTargets e whole (exprs_at targets.now)
+        ensures { IfOk result (λ _. (whole : plain.Tree) (first : ℕ)
             → AreRingRounds whole first self.old
-            → AreRingRounds whole first self.new }
+            → AreRingRounds whole first self.new) }
     {
-        if number >= targets.len() || number >= self.histories.len() {
-            return false;
+        if number >= self.joint.len() || number >= self.histories.len() {
+            return Ok(false);
         }
-        match form_of(&self.leasts, Some(round), targets[number]) {
-            LeastForm::Fixed(least) => {
-                self.histories[number].add(round + 1, least);
-                true
-            }
-            _ => false,
-        }
+        let Some(steps) = &self.joint[number] else {
+            return Ok(false);
+        };
+        let Some(least) = steps.next(&self.leasts, round, &mut self.values)? else {
+            return Ok(false);
+        };
+        self.histories[number].add(round + 1, least);
+        Ok(true)
     }
 
     /// Lets a number grow by one round more.
@@ -120,31 +125,29 @@ impl RingRounds<'_> {
     /// Makes one round more of these numbers, which go by those others.
     fn make_round(
         &mut self,
-        targets: &[&Expr],
         numbers: &[usize],
         others: &[usize],
         round: usize,
-    ) -> bool
+    ) -> Result<bool, AllocError>
         requires { round + 1 < 2 ^ 64 }
-        ensures { (e : code.Expr) (whole : plain.Tree) (first : ℕ)
-            → AreTargets e whole (exprs_at targets.now)
+        ensures { IfOk result (λ _. (whole : plain.Tree) (first : ℕ)
             → AreRingRounds whole first self.old
-            → AreRingRounds whole first self.new }
+            → AreRingRounds whole first self.new) }
     {
         for number in others {
             if !self.find(*number, round) {
-                return false;
+                return Ok(false);
             }
         }
         for number in numbers {
-            if !self.compute(targets, *number, round) {
-                return false;
+            if !self.compute(*number, round)? {
+                return Ok(false);
             }
         }
         for number in others {
             self.grow(*number);
         }
-        true
+        Ok(true)
     }
 
     /// That of each number after the last round, to which it has grown by these.
@@ -230,13 +233,15 @@ pub fn leasts_after(
         steps: &steps,
         near,
         histories: histories(alloc, &schedule.places, known)?,
+        joint: joint_steps(alloc, targets, &leasts, &schedule.places)?,
         leasts,
+        values: Vec::new(alloc),
     };
     let mut numbers = Vec::new(alloc);
     let mut others = Vec::new(alloc);
     for round in 0..rounds {
         schedule.begin(round, &mut numbers, &mut others)?;
-        if !made.make_round(targets, &numbers, &others, round) {
+        if !made.make_round(&numbers, &others, round)? {
             return Ok(None);
         }
     }

@@ -27,7 +27,8 @@ loop-i-preserved t c = λ known right.
     ∙ ap (all_joined e 0 own) (map-append (part_least known) (take i (size_parts e)) (child ∷ []))
     ∙ all_joined-push e 0 own i before part long))
     (c.fixed_at_cap-form.ensures round known (joined_least e i (all_joined e 0 own before) part) right
-    (c.joined.ensures round known (all_joined e 0 own before) part right (c.loop-i.invariant known right) (c.form_of-part.ensures known right)))
+    (subst (Tells known c.joined.result) (sym (c.join_of.ensures (all_joined e 0 own before) part))
+    (c.joined.ensures round known (all_joined e 0 own before) part right (c.loop-i.invariant known right) (c.form_of-part.ensures known right))))
 
 pub returns : goal.returns
 returns t c = λ known right.

@@ -13,6 +13,7 @@ loop-round-init c = λ e whole first t right known.
       steps = subst (AreJumps whole first) (sym c.deref-9.ensures.value) steps;
       near = c.in_ok-near.ensures whole first (subst (AreJumps whole first) (sym c.deref-7.ensures.value) steps);
       histories = c.in_ok-histories.ensures whole first known;
+      joint = c.in_ok-joint_steps.ensures e whole first t (subst (AreRight whole first) (sym c.deref-11.ensures.value) right);
       leasts = right;
     }
 
@@ -23,4 +24,4 @@ returns c = λ e whole first t right known.
     c.in_ok-steps.ensures e whole first t (subst (AreRight whole first) (sym read) right) in
     let far : AreJumps whole first c.in_ok-far.far.items =
     c.in_ok-far.ensures whole first (subst (AreJumps whole first) (sym c.deref-2.ensures.value) steps) in
-    c.in_ok-after.ensures whole first (c.loop-round.invariant e whole first t right known) (subst (AreJumps whole first) (sym c.deref-11.ensures.value) far)
+    c.in_ok-after.ensures whole first (c.loop-round.invariant e whole first t right known) (subst (AreJumps whole first) (sym c.deref-13.ensures.value) far)
