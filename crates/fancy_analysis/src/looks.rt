@@ -1,4 +1,5 @@
-//! How many nodes are looked at, so that what is tried first stays within a bound. Nothing is proved of it.
+//! How many nodes are looked at, so that what is tried first stays within a bound. It is proved only that where there is
+//! no bound, none is passed.
 
 ghost use Rattle.std.specs.Prelude.{◌≡◌, None, Option, true};
 
