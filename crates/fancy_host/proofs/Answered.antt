@@ -1,6 +1,6 @@
 -- What the calls of a host need of each other.
 use Rattle.std.proofs.Common.{◌≡◌, ℕ, Bool, true, false, List, Option, Some, None, Result, Ok, Err, MatchResult, IsFalse, IsTrue, refl, sym, ap, ◌∙◌, subst}
-use Rattle.std.specs.Prelude.{IsUtf8}
+use Rattle.std.specs.Prelude.{IsUtf8, chars}
 use Rattle.std.specs.Str.Lossy.{utf8_valid_len}
 use Rattle.std.specs.Option.{is_some}
 use Rattle.std.specs.declared.vec.Vec.{Vec}
@@ -10,7 +10,10 @@ use Rattle.fancy_meaning.specs.Fits.{run_fits}
 use Rattle.fancy_meaning.specs.Options as plain
 use Rattle.fancy_meaning.specs.Premises.{Input}
 use Rattle.fancy_expr.specs.declared.error.Error.{Error}
+use Rattle.fancy_expr.specs.Sound.{IsWellFormedTree}
 use Rattle.fancy_expr.specs.declared.expr.ExprTree.{ExprTree}
+use Rattle.fancy_pattern.specs.Spelling as spelling
+use Rattle.fancy_pattern.specs.declared.options.ParseOptions.{ParseOptions}
 use Rattle.fancy_info.specs.declared.context.AnalyzeContext.{AnalyzeContext}
 use Rattle.fancy_compile.specs.declared.options.CompileOptions.{CompileOptions}
 use Rattle.fancy_program.specs.Programs.{prog_of}
@@ -22,7 +25,7 @@ use Rattle.fancy_host.specs.declared.searches.Searcher.{Searcher}
 use Rattle.fancy_host.specs.declared.tree.CompiledTree.{CompiledTree}
 use Rattle.fancy_host.specs.declared.outcome.FancyOutcome.{FancyOutcome}
 use Rattle.fancy_host.specs.Codes.{no_program, unfit, wrong_size}
-use Rattle.fancy_host.specs.Hosted.{Answers, Compiles, FailsToCompile, FindsFirst, IsFlat, IsMadeFrom, IsNoSearch, IsNoText, IsPromised, IsSearch, Source, analysis, asked_of, bytes_of, coded, compilation, compiled, compiled_of, does_not_fit, fails, for_no_tree, found, groups, has_another_size, has_size, holds, is_no_text, not_utf8, running, tree_of}
+use Rattle.fancy_host.specs.Hosted.{Answers, Compiles, FailsToCompile, FindsFirst, IsFlat, IsMadeFrom, IsMadeOf, IsNoSearch, IsNoText, IsPromised, IsRead, IsSearch, Source, analysis, asked_of, bytes_of, coded, compilation, compiled, compiled_of, does_not_fit, fails, for_no_tree, found, groups, has_another_size, has_size, holds, is_no_text, not_utf8, parsing, pattern, running, tree_of}
 
 -- where nothing is said to be, there is nothing
 pub none_there : {X : Type 0} → (m : Option X) (b : Bool) → is_some m ≡ b → b ≡ false → m ≡ None
@@ -65,6 +68,23 @@ module _ (t : ExprTree) (o : FancyOptions) (a : AnalyzeContext) (k : CompileOpti
   pub compiled_by : (c : Compiled) → IsCompiledFrom (input_of t a k) c → IsCompiledFrom (asked_of t o) c
   compiled_by c h =
       subst (λ x. IsCompiledFrom (input_of t (analysis o) x) c) as_compiled (subst (λ x. IsCompiledFrom (input_of t x k) c) as_analysed h)
+
+-- ---- compiling
+
+-- the tree that is read of a text is that of the pattern
+pub read_so : (bytes : List ℕ) (o : FancyOptions) (t : ExprTree) (text : List ℕ) (p : ParseOptions) → text ≡ bytes → p ≡ parsing o →
+    spelling.IsTreeOf p (chars text) t × IsWellFormedTree t → IsRead (pattern bytes) o t
+read_so bytes o t text p same as_parsed h =
+    subst (λ x. spelling.IsTreeOf (parsing o) (chars x) t × IsWellFormedTree t) same
+    (subst (λ q. spelling.IsTreeOf q (chars text) t × IsWellFormedTree t) as_parsed h)
+
+-- a tree that is read is compiled from its source, or that fails
+pub made_so : {B : Type 0} (source : Source) (o : FancyOptions) (t : ExprTree) → IsRead source o t → (value : B → CompiledTree)
+    (result : Result B FancyOutcome) →
+    MatchResult result (λ b. IsMadeOf t o (value b)) (λ outcome. (s : Source) → IsRead s o t → FailsToCompile o s outcome) →
+    MatchResult result (λ b. IsMadeFrom source o (value b)) (λ outcome. FailsToCompile o source outcome)
+made_so source o t read value (Ok b) h = record { tree = t; read = read; made = h }
+made_so source o t read value (Err outcome) h = h source read
 
 -- ---- the cases of the calls
 

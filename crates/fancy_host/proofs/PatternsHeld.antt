@@ -66,9 +66,9 @@ module _ (bytes : List ℕ) (o : FancyOptions) (s t : Option Scanner) (outcome :
   added_so before after held ok is says =
       subst (λ u. Adds bytes o s u outcome) (sym is)
       (subst (Adds bytes o s (Some after)) (sym (says ∙ ap compiled rule.counts))
-      (holds rule.tree rule.size rule.utf8 rule.read
+      (holds rule.tree rule.size rule.utf8 rule.read rule.analysed_within
       (λ rules text h. ok text rules (rule_for rule.tree o text) (held rules text h) (rule.made text))))
 
   pub lacks_memory : HoldsSame s t → outcome ≡ coded memory → Adds bytes o s t outcome
   lacks_memory same says =
-      subst (Adds bytes o s t) (sym says) (keeps (fails rule.size rule.utf8 (refused rule.tree error.Memory rule.read tt)) same)
+      subst (Adds bytes o s t) (sym says) (keeps (fails rule.size rule.utf8 (refused rule.tree error.Memory rule.read rule.analysed_within tt)) same)

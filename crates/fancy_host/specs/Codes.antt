@@ -40,6 +40,9 @@ wrong_size = 39
 abbrev pub no_room : ℕ
 no_room = 40
 
+abbrev pub too_many_lookups : ℕ
+too_many_lookups = 43
+
 abbrev pub code_of_refusal : CompileError → ℕ
 code_of_refusal refusal.NamedBackrefOnly = 10
 code_of_refusal refusal.FeatureNotYetSupported = 11
@@ -143,6 +146,7 @@ names =
     ∷ codes "NoRoom"
     ∷ codes "VisitLimitExceeded"
     ∷ codes "MemoryLimitExceeded"
+    ∷ codes "AnalysisLimitExceeded"
     ∷ []
 
 -- no code has a name of no letters

@@ -12,8 +12,8 @@ use Rattle.fancy_search.specs.declared.search.Compiled.{Compiled}
 use Rattle.fancy_search.specs.Searches.{IsCompiledFrom, IsNestedOver, IsRefusedAs}
 use Rattle.fancy_host.specs.declared.options.FancyOptions.{FancyOptions}
 use Rattle.fancy_host.specs.declared.outcome.FancyOutcome.{FancyOutcome}
-use Rattle.fancy_host.specs.Codes.{memory}
-use Rattle.fancy_host.specs.Hosted.{IsNoText, IsRead, asked_of, ended, failure, has_size, parsing, pattern, pattern_failure}
+use Rattle.fancy_host.specs.Codes.{memory, too_many_lookups}
+use Rattle.fancy_host.specs.Hosted.{IsNoText, IsRead, PassesAnalysisLimit, asked_of, coded, ended, failure, has_size, parsing, pattern, pattern_failure}
 
 -- the sentence of each code, from 0 up
 abbrev pub sentences : List (List ℕ)
@@ -61,6 +61,7 @@ sentences =
     ∷ codes "there is no room for the text"
     ∷ codes "too many states were visited"
     ∷ codes "too much memory was held"
+    ∷ codes "the groups refer to one another too often"
     ∷ []
 
 abbrev pub sentence_of : ℕ → List ℕ
@@ -94,10 +95,13 @@ pub data Explains (bytes : List ℕ) (o : FancyOptions) : List ℕ → Type 0 wh
   spells_no_text : {outcome : FancyOutcome} → IsNoText bytes o outcome → Explains bytes o (message outcome)
   unspelled : IsTrue (has_size o) → IsUtf8 bytes → (e : PatternError) → spelling.IsError (parsing o) (chars bytes) e →
       Explains bytes o (message (pattern_failure e))
+  passes_analysis_limit : IsTrue (has_size o) → IsUtf8 bytes → (t : ExprTree) → IsRead (pattern bytes) o t →
+      PassesAnalysisLimit t o → Explains bytes o (message (coded too_many_lookups))
   refused : IsTrue (has_size o) → IsUtf8 bytes → (t : ExprTree) (e : Error) → IsRead (pattern bytes) o t →
-      IsRefusedAs (asked_of t o) (Some o.max_nesting) e → Explains bytes o (explanation e)
+      ¬ PassesAnalysisLimit t o → IsRefusedAs (asked_of t o) (Some o.max_nesting) e → Explains bytes o (explanation e)
   has_program : IsTrue (has_size o) → IsUtf8 bytes → (t : ExprTree) (c : Compiled) → IsRead (pattern bytes) o t →
-      IsCompiledFrom (asked_of t o) c → ¬ IsNestedOver (asked_of t o) (Some o.max_nesting) → Explains bytes o []
+      ¬ PassesAnalysisLimit t o → IsCompiledFrom (asked_of t o) c → ¬ IsNestedOver (asked_of t o) (Some o.max_nesting) →
+      Explains bytes o []
 
 -- A text that is right, or that memory for it ran out, is written over what is there, and so many bytes are all of it.
 abbrev pub WritesText : (List ℕ → Type 0) → List ℕ → ℕ → List ℕ → Type 0

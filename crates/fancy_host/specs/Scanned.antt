@@ -19,7 +19,7 @@ use Rattle.fancy_scanner.specs.declared.scanner.Stopped.{Stopped}
 use Rattle.fancy_host.specs.declared.options.FancyOptions.{FancyOptions}
 use Rattle.fancy_host.specs.declared.outcome.FancyOutcome.{FancyOutcome}
 use Rattle.fancy_host.specs.Codes.{ok, no_match, code_of_scan_limit}
-use Rattle.fancy_host.specs.Hosted.{FailsToCompile, IsNoText, IsRead, asked_of, coded, compiled, failure, has_size, limits, next_start, not_utf8, over, pattern, with_count}
+use Rattle.fancy_host.specs.Hosted.{FailsToCompile, IsNoText, IsRead, PassesAnalysisLimit, asked_of, coded, compiled, failure, has_size, limits, next_start, not_utf8, over, pattern, with_count}
 use Rattle.fancy_host.specs.Lists.{listing, numbers_of}
 
 -- ---- patterns
@@ -51,12 +51,14 @@ pub data FailsToRead (bytes : List ℕ) (o : FancyOptions) : FancyOutcome → Ty
   fails : {outcome : FancyOutcome} → IsTrue (has_size o) → IsUtf8 bytes → FailsToCompile o (pattern bytes) outcome →
       FailsToRead bytes o outcome
 
--- it was compiled from the tree that the pattern spells, and has so many groups
+-- It was compiled from the tree that the pattern spells, which stands within the limit of the analysis, and has so many
+-- groups.
 pub record IsRuleFrom (bytes : List ℕ) (o : FancyOptions) (x : ScanTree) (groups : ℕ) : Type 0 where
   pub size : IsTrue (has_size o)
   pub utf8 : IsUtf8 bytes
   pub tree : ExprTree
   pub read : IsRead (pattern bytes) o tree
+  pub analysed_within : ¬ PassesAnalysisLimit tree o
   pub made : (text : List ℕ) → IsTreeOf (rule_for tree o text) text x
   pub counts : groups ≡ groups_in tree
 
@@ -64,7 +66,7 @@ pub record IsRuleFrom (bytes : List ℕ) (o : FancyOptions) (x : ScanTree) (grou
 pub data Adds (bytes : List ℕ) (o : FancyOptions) (s : Option Scanner) : Option Scanner → FancyOutcome → Type 0 where
   keeps : {t : Option Scanner} {outcome : FancyOutcome} → FailsToRead bytes o outcome → HoldsSame s t → Adds bytes o s t outcome
   holds : {t : Option Scanner} (tree : ExprTree) → IsTrue (has_size o) → IsUtf8 bytes → IsRead (pattern bytes) o tree →
-      HoldsMore tree o s t → Adds bytes o s t (compiled (groups_in tree))
+      ¬ PassesAnalysisLimit tree o → HoldsMore tree o s t → Adds bytes o s t (compiled (groups_in tree))
 
 -- ---- a row
 

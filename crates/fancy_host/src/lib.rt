@@ -44,8 +44,9 @@ use std::str::from_utf8;
 use writing::{write_over, write_text};
 
 /// The options of a search unless said otherwise: from the text's start, no flag, no limit of backtracks given, as many
-/// instructions as can be counted, a program of at most 100,000 instructions, a tree of at most 250 levels, and at most
-/// 500 nodes written out in one another, for which a stack of 2 MB was enough.
+/// instructions as can be counted, a program of at most 100,000 instructions, a tree of at most 250 levels, whose analysis
+/// looks up at most 20,000,000 sizes of groups, and at most 500 nodes written out in one another, for which a stack of
+/// 2 MB was enough.
 ///
 /// Where no limit of backtracks is given, a search may fall back to a branch 1,000,000 times, and once more for each byte
 /// of the text and for its end: a search for an easy tree never stops at that.
@@ -85,8 +86,9 @@ pub extern "C" fn fancy_compile_pattern(
 }
 
 /// Compiles the tree that a text in the notation spells. What the program held before is freed; it holds the tree if the
-/// code is `FANCY_OK`, and nothing otherwise. A tree that nests deeper than `max_depth` is refused before it is read, and
-/// one whose nodes are written out in one another deeper than `max_nesting` while it is compiled.
+/// code is `FANCY_OK`, and nothing otherwise. A tree that nests deeper than `max_depth` is refused before it is read. One
+/// whose groups refer to one another more often than `analysis_limit` allows is refused before it is analysed, and one
+/// whose nodes are written out in one another deeper than `max_nesting` while it is compiled.
 #[unsafe(no_mangle)]
 pub extern "C" fn fancy_compile(
     alloc: Global,

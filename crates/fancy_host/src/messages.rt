@@ -5,7 +5,7 @@ ghost use Rattle.fancy_host.specs.Messages.{Explains, IsMessage, WritesText};
 ghost use Rattle.fancy_host.specs.Messages as messages;
 
 use crate::options::FancyOptions;
-use crate::outcome::{FancyOutcome, MEMORY};
+use crate::outcome::{FancyOutcome, MEMORY, TOO_MANY_LOOKUPS};
 use crate::reading::text_of;
 use crate::writing::write_text;
 use fancy_expr::error::{CompileError, Error};
@@ -63,6 +63,7 @@ fn sentence_of(code: u32) -> &'static str
         40 => "there is no room for the text",
         41 => "too many states were visited",
         42 => "too much memory was held",
+        43 => "the groups refer to one another too often",
         _ => "no error has this code",
     }
 }
@@ -141,6 +142,9 @@ fn explanation_of(
         Ok(tree) => tree,
         Err(error) => return message_of(alloc, &FancyOutcome::of_fault(&error)),
     };
+    if options.passes_analysis_limit(&tree) {
+        return message_of(alloc, &FancyOutcome::coded(TOO_MANY_LOOKUPS));
+    }
     let request = options.request();
     match Compiled::new(alloc, &tree, request.analysis(), request.compilation()) {
         Ok(_) => Ok(String::new(alloc)),

@@ -1,10 +1,13 @@
 //! What a host asks.
 
-ghost use Rattle.std.specs.Prelude.{◌≡◌};
+ghost use Rattle.std.specs.Prelude.{◌≡◌, IsFalse, IsTrue};
+ghost use Rattle.fancy_expr.specs.Sound.{IsWellFormedTree};
 ghost use Rattle.fancy_steps.specs.Tasks.{options_of as run_options_of};
 ghost use Rattle.fancy_host.specs.Hosted as hosted;
 ghost use Rattle.fancy_host.specs.Lists as lists;
 
+use fancy_analysis::lookups::is_looked_up_within;
+use fancy_expr::expr::ExprTree;
 use fancy_matches::options::RegexOptions;
 use fancy_pattern::options::ParseOptions;
 use fancy_search::request::Request;
@@ -13,12 +16,11 @@ use fancy_vm::vm::{RunOptions, SearchLimits};
 /// How many bytes the options have.
 const SIZE: usize = 104;
 
-/// Room for options to come.
+/// Room for an option to come.
 #[repr(C)]
 #[derive(Clone, Copy, Drop)]
 pub struct Reserved {
     pub first: u64,
-    pub second: u64,
 }
 
 /// The options of a pattern or a tree, and of a search.
@@ -68,6 +70,9 @@ pub struct FancyOptions {
     pub visit_limit: u64,
     /// How many bytes what they keep may hold at one time, and as many the branches of the search; 0 is no limit.
     pub memory_limit: usize,
+    /// How often the analysis of a tree may look up the size of a group: each back reference and each call counts once
+    /// for each group, and once more. More is refused as `FANCY_ANALYSIS_LIMIT_EXCEEDED`; 0 is no limit.
+    pub analysis_limit: usize,
     pub reserved: Reserved,
 }
 
@@ -100,10 +105,8 @@ impl Default for FancyOptions {
             named_groups_only: false,
             visit_limit: 100_000_000,
             memory_limit: 268_435_456,
-            reserved: Reserved {
-                first: 0,
-                second: 0,
-            },
+            analysis_limit: 20_000_000,
+            reserved: Reserved { first: 0 },
         }
     }
 }
@@ -131,6 +134,15 @@ impl FancyOptions {
             oniguruma: self.oniguruma,
             ignore_numbered_groups_when_named_groups_exist: self.named_groups_only,
         }
+    }
+
+    /// Whether the analysis of the tree looks up sizes of groups more often than its limit allows, if there is one.
+    pub fn passes_analysis_limit(&self, tree: &ExprTree) -> bool
+        requires { IsWellFormedTree tree.now }
+        ensures passed { IsTrue result → hosted.PassesAnalysisLimit tree.now self.now }
+        ensures within { IsFalse result → ¬ hosted.PassesAnalysisLimit tree.now self.now }
+    {
+        self.analysis_limit != 0 && !is_looked_up_within(tree, self.analysis_limit)
     }
 
     /// What they ask of a search.

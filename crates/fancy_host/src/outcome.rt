@@ -46,6 +46,8 @@ pub const WRONG_SIZE: u32 = 39;
 
 pub const NO_ROOM: u32 = 40;
 
+pub const TOO_MANY_LOOKUPS: u32 = 43;
+
 /// The code of a refusal.
 fn code_of_refusal(error: &CompileError) -> u32
     ensures { result ≡ codes.code_of_refusal error.now }
@@ -183,6 +185,7 @@ fn name_of(code: u32) -> &'static str
         40 => "NoRoom",
         41 => "VisitLimitExceeded",
         42 => "MemoryLimitExceeded",
+        43 => "AnalysisLimitExceeded",
         _ => "",
     }
 }

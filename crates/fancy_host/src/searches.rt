@@ -4,7 +4,7 @@ ghost use Rattle.std.specs.Prelude.{◌≡◌, IfOk, MatchResult};
 ghost use Rattle.fancy_expr.specs.Sound.{IsWellFormedTree};
 
 use crate::options::FancyOptions;
-use crate::outcome::FancyOutcome;
+use crate::outcome::{FancyOutcome, TOO_MANY_LOOKUPS};
 use crate::standing::FancyStanding;
 use crate::tree::CompiledTree;
 use fancy_expr::error::Error;
@@ -27,19 +27,20 @@ pub struct Searcher {
 impl Searcher {
     ghost use Rattle.std.specs.Prelude.{Some};
     ghost use Rattle.fancy_search.specs.Searches.{IsRefusedAs};
-    ghost use Rattle.fancy_host.specs.Hosted.{Answers, FailsToCompile, IsMadeFrom, IsMadeOf, asked_of, tree_in};
+    ghost use Rattle.fancy_host.specs.Hosted.{Answers, FailsToCompile, IsMadeFrom, IsMadeOf, IsRead, PassesAnalysisLimit, Source, asked_of, tree_in};
     ghost use Rattle.fancy_host.specs.Hosted as hosted;
     ghost use Rattle.fancy_host.specs.Lists.{Lists, all_groups, span_alone};
     ghost use Rattle.fancy_host.specs.Rewritten.{Replaces, writing};
     ghost use Rattle.fancy_host.specs.Whether.{Tells};
 
-    /// Compiles a tree that was read.
-    fn of_tree(
+    /// Compiles a tree whose analysis stands within its limit.
+    fn of_tree_within_limit(
         alloc: Global,
         tree: ExprTree,
         options: &FancyOptions,
     ) -> Result<Box<Searcher>, Error>
-        requires { IsWellFormedTree tree }
+        requires well_formed { IsWellFormedTree tree }
+        requires analysed_within { ¬ PassesAnalysisLimit tree options.now }
         ensures { MatchResult
             result
             (λ searcher. IsMadeOf tree options.now (tree_in searcher.value))
@@ -58,6 +59,29 @@ impl Searcher {
         Ok(Box::new(alloc, searcher)?)
     }
 
+    /// Compiles a tree that was read.
+    fn of_tree(
+        alloc: Global,
+        tree: ExprTree,
+        options: &FancyOptions,
+    ) -> Result<Box<Searcher>, FancyOutcome>
+        requires { IsWellFormedTree tree }
+        ensures { MatchResult
+            result
+            (λ searcher. IsMadeOf tree options.now (tree_in searcher.value))
+            (λ outcome. (source : Source)
+            → IsRead source options.now tree
+            → FailsToCompile options.now source outcome) }
+    {
+        if options.passes_analysis_limit(&tree) {
+            return Err(FancyOutcome::coded(TOO_MANY_LOOKUPS));
+        }
+        match Searcher::of_tree_within_limit(alloc, tree, options) {
+            Ok(searcher) => Ok(searcher),
+            Err(error) => Err(FancyOutcome::of_error(&error)),
+        }
+    }
+
     /// Reads and compiles the tree that a text in the notation spells.
     pub fn of_notation(
         alloc: Global,
@@ -70,12 +94,8 @@ impl Searcher {
             (hosted.notation text.now) options.now (tree_in searcher.value))
             (λ outcome. FailsToCompile options.now (hosted.notation text.now) outcome) }
     {
-        let tree = match read_tree(alloc, text) {
-            Ok(tree) => tree,
-            Err(error) => return Err(FancyOutcome::of_error(&error)),
-        };
-        match Searcher::of_tree(alloc, tree, options) {
-            Ok(searcher) => Ok(searcher),
+        match read_tree(alloc, text) {
+            Ok(tree) => Searcher::of_tree(alloc, tree, options),
             Err(error) => Err(FancyOutcome::of_error(&error)),
         }
     }
@@ -92,13 +112,9 @@ impl Searcher {
             (hosted.pattern pattern.now) options.now (tree_in searcher.value))
             (λ outcome. FailsToCompile options.now (hosted.pattern pattern.now) outcome) }
     {
-        let tree = match parse_tree(alloc, pattern, options.parsing()) {
-            Ok(tree) => tree,
-            Err(error) => return Err(FancyOutcome::of_fault(&error)),
-        };
-        match Searcher::of_tree(alloc, tree, options) {
-            Ok(searcher) => Ok(searcher),
-            Err(error) => Err(FancyOutcome::of_error(&error)),
+        match parse_tree(alloc, pattern, options.parsing()) {
+            Ok(tree) => Searcher::of_tree(alloc, tree, options),
+            Err(error) => Err(FancyOutcome::of_fault(&error)),
         }
     }
 

@@ -1,16 +1,15 @@
 use Rattle.std.proofs.Common.{sym, subst, arith}
 use Rattle.std.proofs.lemmas.Result.{err_from_is_err_and}
 use Rattle.std.specs.Prelude.{chars}
-use Rattle.fancy_expr.specs.Sound.{IsWellFormedTree}
 use Rattle.fancy_steps.specs.Tasks.{options_of as run_options_of}
-use Rattle.fancy_pattern.specs.Spelling.{IsError, IsTreeOf}
+use Rattle.fancy_pattern.specs.Spelling.{IsError}
 use Rattle.fancy_steps.specs.declared.search_limits.SearchLimits.{SearchLimits}
 use Rattle.fancy_search.specs.Searches.{input_of}
 use Rattle.fancy_matches.specs.Listing.{options_for}
 use Rattle.fancy_scanner.specs.Scanning.{IsTreeOf as IsScanTreeOf, rule_of}
-use Rattle.fancy_host.specs.Hosted.{FailsToCompile, pattern, refused, unspelled}
+use Rattle.fancy_host.specs.Hosted.{FailsToCompile, passes_analysis_limit, pattern, refused, unspelled}
 use Rattle.fancy_host.specs.Scanned.{fails, in_no_text}
-use Rattle.fancy_host.proofs.Answered.{refused_by}
+use Rattle.fancy_host.proofs.Answered.{read_so, refused_by}
 use Rattle.fancy_host.proofs.PatternsHeld.{rule_so}
 use Rattle.fancy_host.proofs.scans.compile_rule.Goals as goal
 
@@ -28,18 +27,28 @@ returns-in-Err c =
     (subst (FailsToCompile o (pattern bytes)) (sym c.of_fault.ensures)
     (unspelled c.in-Err.error (subst (λ p. IsError p (chars bytes) c.in-Err.error) c.parsing.ensures told)))
 
+pub returns-then-passes_analysis_limit : goal.returns-then-passes_analysis_limit
+returns-then-passes_analysis_limit c =
+    let bytes = c.args.pattern.now in
+    let o = c.args.options.now in
+    let tree = c.in-Ok.tree in
+    fails c.in_ok-text.ensures.1 c.in_ok-text.ensures.2
+    (subst (FailsToCompile o (pattern bytes)) (sym c.coded.ensures)
+    (passes_analysis_limit tree (read_so bytes o tree c.in_ok-text.text.now c.parsing.result c.in_ok-text.ensures.0 c.parsing.ensures c.in-Ok.ensures.answer)
+    (c.passes_analysis_limit.ensures.passed c.if-passes_analysis_limit.true)))
+
 pub returns-in-Ok-new : goal.returns-in-Ok-new
 returns-in-Ok-new c =
     let bytes = c.args.pattern.now in
     let o = c.args.options.now in
     let tree = c.in-Ok.tree in
     let s = c.search_options-search in
-    let read = subst (λ t. IsTreeOf c.parsing.result (chars t) tree × IsWellFormedTree tree) c.in_ok-text.ensures.0 c.in-Ok.ensures.answer in
     record {
       size = c.in_ok-text.ensures.1;
       utf8 = c.in_ok-text.ensures.2;
       tree = tree;
-      read = subst (λ p. IsTreeOf p (chars bytes) tree × IsWellFormedTree tree) c.parsing.ensures read;
+      read = read_so bytes o tree c.in_ok-text.text.now c.parsing.result c.in_ok-text.ensures.0 c.parsing.ensures c.in-Ok.ensures.answer;
+      analysed_within = c.passes_analysis_limit.ensures.within c.if-passes_analysis_limit.false;
       made = λ text.
           subst (λ r. IsScanTreeOf r text c.limit.new.self)
           (rule_so tree o text s.result.analysis s.result.compilation (run_options_of s.result.run) c.backtracks.result s.ensures.analysis
@@ -64,8 +73,9 @@ returns c =
     let o = c.args.options.now in
     let tree = c.in-Ok.tree in
     let s = c.search_options-search in
-    let read = subst (λ t. IsTreeOf c.parsing.result (chars t) tree × IsWellFormedTree tree) c.in_ok-text.ensures.0 c.in-Ok.ensures.answer in
     fails c.in_ok-text.ensures.1 c.in_ok-text.ensures.2
     (subst (FailsToCompile o (pattern bytes)) (sym c.of_error.ensures)
-    (refused tree c.in-Err-new.error (subst (λ p. IsTreeOf p (chars bytes) tree × IsWellFormedTree tree) c.parsing.ensures read)
+    (refused tree c.in-Err-new.error
+    (read_so bytes o tree c.in_ok-text.text.now c.parsing.result c.in_ok-text.ensures.0 c.parsing.ensures c.in-Ok.ensures.answer)
+    (c.passes_analysis_limit.ensures.within c.if-passes_analysis_limit.false)
     (refused_by tree o s.result.analysis s.result.compilation s.ensures.analysis s.ensures.compilation c.in-Err-new.error c.in-Err-new.ensures)))

@@ -1,29 +1,18 @@
-use Rattle.std.proofs.Common.{sym, ap, ◌∙◌, subst}
-use Rattle.std.proofs.lemmas.Result.{err_from_is_err_and}
-use Rattle.fancy_search.specs.Requests as asked
-use Rattle.fancy_search.specs.Searches.{IsCompiledFrom}
-use Rattle.fancy_host.specs.Hosted.{asked_of, compiled_of, names_of, tree_in}
-use Rattle.fancy_host.proofs.Answered.{compiled_by, refused_by, within_by}
+use Rattle.std.proofs.Common.{sym, subst}
+use Rattle.fancy_host.specs.Hosted.{FailsToCompile, IsRead, Source, passes_analysis_limit, refused}
 use Rattle.fancy_host.proofs.searches.Searcher.of_tree.Goals as goal
 
-pub returns-in_err-compiled : goal.returns-in_err-compiled
-returns-in_err-compiled c =
-    let p = err_from_is_err_and c.from_residual.result c.from_residual.ensures.1 in
-    rw (p.1, p.2)
-    (refused_by c.args.tree c.args.options.now c.analysis.result c.compilation.result
-    (c.analysis.ensures ∙ ap asked.analysis c.request-request.ensures) (c.compilation.ensures ∙ ap asked.compilation c.request-request.ensures) _
-    c.in_err-compiled.ensures.made)
+pub returns-then-passes_analysis_limit : goal.returns-then-passes_analysis_limit
+returns-then-passes_analysis_limit c =
+    λ (source : Source) (read : IsRead source c.args.options.now c.args.tree).
+    subst (FailsToCompile c.args.options.now source) (sym c.coded.ensures)
+    (passes_analysis_limit c.args.tree read (c.passes_analysis_limit.ensures.passed c.if-passes_analysis_limit.true))
 
-pub returns : goal.returns
-returns c =
-    let as_analysed = c.analysis.ensures ∙ ap asked.analysis c.request-request.ensures in
-    let as_compiled = c.compilation.ensures ∙ ap asked.compilation c.request-request.ensures in
-    let from = compiled_by c.args.tree c.args.options.now c.analysis.result c.compilation.result as_analysed as_compiled c.in_ok-compiled.compiled
-    c.in_ok-compiled.ensures.made in
-    let kept = ap tree_in c.in_ok-new-2.ensures.ok ∙ c.in_ok-new.ensures.ok in
-    record {
-      from = subst (λ x. IsCompiledFrom (asked_of c.args.tree c.args.options.now) x) (sym (ap compiled_of kept)) from;
-      names = ap names_of kept ∙ ap (λ n. names_of record { compiled = c.in_ok-compiled.compiled; names = n; source = c.new-arg-1.given.0 })
-          c.into_named_groups.ensures;
-      within = within_by c.args.tree c.args.options.now c.analysis.result c.compilation.result as_analysed as_compiled c.in_ok-compiled.ensures.within;
-    }
+pub returns-in-Err : goal.returns-in-Err
+returns-in-Err c =
+    λ (source : Source) (read : IsRead source c.args.options.now c.args.tree).
+    subst (FailsToCompile c.args.options.now source) (sym c.of_error.ensures)
+    (refused c.args.tree c.in-Err.error read (c.passes_analysis_limit.ensures.within c.if-passes_analysis_limit.false) c.in-Err.ensures)
+
+pub of_tree_within_limit-requires-clause-analysed_within : goal.of_tree_within_limit-requires-clause-analysed_within
+of_tree_within_limit-requires-clause-analysed_within c = c.passes_analysis_limit.ensures.within c.if-passes_analysis_limit.false
