@@ -98,7 +98,10 @@ enum fancy_code {
 
     /* a search passed a limit of the options of this name */
     FANCY_VISIT_LIMIT_EXCEEDED = 41,
-    FANCY_MEMORY_LIMIT_EXCEEDED = 42
+    FANCY_MEMORY_LIMIT_EXCEEDED = 42,
+
+    /* a pattern or a tree was read, and its groups refer to one another more often than analysis_limit allows */
+    FANCY_ANALYSIS_LIMIT_EXCEEDED = 43
 };
 
 /* A compiled pattern or tree, or nothing. What its words say is the library's affair. Begin with FANCY_NOTHING, or with
@@ -131,8 +134,18 @@ struct fancy_scanner {
  * which it passes only where they were set lower; then it may take as long and as much memory as it needs.
  *
  * Both are for each search: of the calls for all matches, of fancy_replace and of fancy_scan, for each match. 0 and
- * UINT64_MAX, or SIZE_MAX, are no limit. A host that was built by a header without them, in which they were reserved,
- * has them from fancy_default_options, and without it none, by its zeros. */
+ * UINT64_MAX, or SIZE_MAX, are no limit.
+ *
+ * Before a pattern is compiled its groups are analysed: how many characters each takes at least and at most. Where groups
+ * refer to one another in a ring, the analysis may look up the size of a group for each back reference and each call, as
+ * often as there are groups, and once more. That takes a time which grows by the square of the pattern, and which no other
+ * limit counts. analysis_limit bounds this number: the back references and calls, times the groups and one. A pattern or
+ * a tree for which it is greater is FANCY_ANALYSIS_LIMIT_EXCEEDED: after it was read, and before it is refused for another
+ * reason. 4,471 groups with one reference each stand within the default of 20,000,000. 0 is no limit, and SIZE_MAX is none
+ * in effect.
+ *
+ * A host that was built by a header without these three, in which they were reserved, has them from
+ * fancy_default_options, and without it none, by its zeros. */
 struct fancy_options {
     size_t size;            /* sizeof(struct fancy_options); a call with another is FANCY_WRONG_SIZE */
     size_t pos;             /* where the search begins, a byte of the text: for fancy_find and fancy_is_match */
@@ -165,7 +178,10 @@ struct fancy_options {
     uint64_t visit_limit;      /* how many states a search may visit in parts that an automaton searches for; 100,000,000 */
     size_t memory_limit;       /* how many bytes it may keep there and elsewhere; 268,435,456 (256 MiB) */
 
-    uint64_t reserved[2];      /* 0: room for options to come, so that the struct keeps its size */
+    /* of what compiles: see above */
+    size_t analysis_limit;     /* how often the analysis may look up the size of a group; 20,000,000 */
+
+    uint64_t reserved[1];      /* 0: room for an option to come, so that the struct keeps its size */
 };
 
 struct fancy_outcome {
@@ -198,8 +214,8 @@ size_t fancy_version(char *version, size_t room);
  *
  * Errors: FANCY_WRONG_SIZE; FANCY_NOT_UTF8 at byte; a fault of the pattern at byte, FANCY_RECURSION_EXCEEDED and those from
  * FANCY_UNCLOSED_OPEN_PAREN on: where a token begins that cannot stand there, where what follows cannot be read as a
- * token, or the pattern's length where more is needed; a refusal, FANCY_NAMED_BACKREF_ONLY and those after it;
- * FANCY_NEST_LIMIT_EXCEEDED; FANCY_MEMORY.
+ * token, or the pattern's length where more is needed; FANCY_ANALYSIS_LIMIT_EXCEEDED; a refusal, FANCY_NAMED_BACKREF_ONLY
+ * and those after it; FANCY_NEST_LIMIT_EXCEEDED; FANCY_MEMORY.
  *
  * What reads, compiles and frees a pattern recurses over it. A pattern nests at most 250 deep, and is read on a stack of
  * 512 kB. One level of it may be several nodes of the tree, and a call of a group is written out where it stands, so nodes

@@ -165,6 +165,8 @@ int LLVMFuzzerTestOneInput(const uint8_t *data, size_t size)
     options.compile_anchored = data[1] & 8;
     options.anchored = data[1] & 16;
     options.end_text = data[1] & 32;
+    if (data[1] & 128)
+        options.analysis_limit = 20;
     struct fancy_program program = FANCY_NOTHING;
     struct fancy_outcome made = data[1] & 64 ? fancy_compile(pattern, length, &options, &program)
                                              : fancy_compile_pattern(pattern, length, &options, &program);

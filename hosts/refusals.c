@@ -214,7 +214,7 @@ static void write_messages(void)
 {
     char message[120];
     struct fancy_outcome outcome = {0, FANCY_UNSET, FANCY_UNSET, 0, 0};
-    for (; outcome.code <= FANCY_MEMORY_LIMIT_EXCEEDED + 1; outcome.code++) {
+    for (; outcome.code <= FANCY_ANALYSIS_LIMIT_EXCEEDED + 1; outcome.code++) {
         fancy_error_message(&outcome, message, sizeof message);
         printf("%u: %s\n", outcome.code, message);
     }
@@ -372,6 +372,46 @@ static void pass_limits(void)
     fancy_free(&program);
 }
 
+/* Two groups with three references and calls: each counts once for each group, and once more, so they count 9. */
+static const char *const NINE = "(a)(b)\\1\\2\\g<1>";
+
+static void refuse_analyses(void)
+{
+    const char *tree = "(cat (grp \"a\") (grp \"b\") (ref 1) (ref 2) (call 1))";
+    options = fancy_default_options();
+    printf("%zu lookups\n", options.analysis_limit);
+    options.analysis_limit = 9;
+    compile_pattern("as many lookups as may be", NINE);
+    find("a search for the pattern", "xababa");
+    printf("%zu %zu\n", spans[0], spans[1]);
+    compile("a tree of as many", tree);
+    add("a pattern of a scanner of as many", NINE);
+    print_message("why a pattern of as many is not refused", NINE);
+    options.analysis_limit = 8;
+    compile_pattern("a lookup more", NINE);
+    find("a search after too many", "xababa");
+    compile("a tree of one more", tree);
+    add("a pattern of a scanner of one more", NINE);
+    print_message("why a pattern of one more is refused", NINE);
+    scan("the scanner has the one pattern", "xababa", 0, 1, 24);
+    fancy_scanner_free(&scanner);
+    options.analysis_limit = 0;
+    compile_pattern("no limit of lookups", NINE);
+    options.analysis_limit = SIZE_MAX;
+    compile_pattern("the greatest limit of lookups", NINE);
+    options.analysis_limit = 1;
+    compile_pattern("groups without references", "(a)(b)");
+    compile_pattern("a reference to no group, past the limit", "(a)\\2");
+    compile_pattern("a fault behind a reference", "(a)\\1(");
+    options.max_nesting = 1;
+    compile_pattern("two limits: that of the analysis is told", "(a)\\1");
+    options.max_nesting = 500;
+    options.analysis_limit = 2;
+    compile_pattern("a reference to no group, within the limit", "(a)\\2");
+    options = fancy_default_options();
+    fancy_free(&program);
+}
+
 int main(void)
 {
     options = fancy_default_options();
@@ -431,5 +471,6 @@ int main(void)
     copy_programs();
     scan_texts();
     pass_limits();
+    refuse_analyses();
     return 0;
 }

@@ -33,6 +33,7 @@ static void read_words(char *line, struct row *row)
 {
     struct fancy_options options = fancy_default_options();
     options.max_prog_size = SIZE_MAX;
+    options.analysis_limit = 0;
     row->is_pattern = false;
     for (char *word = strtok(line, " \n"); word != NULL; word = strtok(NULL, " \n")) {
         if (strcmp(word, "--compile-anchored") == 0)

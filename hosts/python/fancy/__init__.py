@@ -49,9 +49,11 @@ def compile(pattern: AnyPattern, flags: int = 0, **options: Any) -> Pattern:
     execute), visit_limit (how many states it may visit in the parts that an automaton searches for; 100,000,000, some
     seconds at worst, and 0 is no limit), memory_limit (how many bytes it may keep there, or to fall back; 256 MiB, and 0 is no limit),
     max_prog_size (how many instructions the program of a pattern may have), max_nesting (how many nodes may be
-    written out in one another), find_not_empty (a match has to take something), leftmost_longest (the longest match at the
-    earliest start is found, and not the first), and crlf, swap_greed, oniguruma and
-    ignore_numbered_groups_when_named_groups_exist, as RegexBuilder of fancy-regex has them.
+    written out in one another), analysis_limit (how often the analysis may look up the size of a group, where each back
+    reference and each call counts once for each group, and once more; 20,000,000, and 0 is no limit), find_not_empty (a
+    match has to take something), leftmost_longest (the longest match at the earliest start is found, and not the first),
+    and crlf, swap_greed, oniguruma and ignore_numbered_groups_when_named_groups_exist, as RegexBuilder of fancy-regex has
+    them.
 
     A pattern that cannot be read, or is refused, is an `error`.
     """

@@ -58,7 +58,8 @@ class _Options(Structure):
         *((name, c_bool) for name in _SWITCHES),
         ("visit_limit", c_uint64),
         ("memory_limit", c_size_t),
-        ("reserved", c_uint64 * 2),
+        ("analysis_limit", c_size_t),
+        ("reserved", c_uint64 * 1),
     ]
 
 
@@ -163,6 +164,7 @@ class Options:
         "memory_limit": "memory_limit",
         "max_prog_size": "max_prog_size",
         "max_nesting": "max_nesting",
+        "analysis_limit": "analysis_limit",
         "crlf": "crlf",
         "swap_greed": "swap_greed",
         "oniguruma": "oniguruma",

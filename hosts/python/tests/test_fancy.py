@@ -114,6 +114,23 @@ class Errors(unittest.TestCase):
             self.assertEqual(fancy.compile(choices, **{limit: 0}).search("xabcd").span(), (1, 5))
         self.assertEqual(fancy.compile(choices).search("xabcd").span(), (1, 5))
 
+    def test_limit_of_analysis(self):
+        # two groups with three references and calls: each counts once for each group, and once more, so they count 9
+        nine = r"(a)(b)\1\2\g<1>"
+        with self.assertRaises(fancy.error) as caught:
+            fancy.compile(nine, analysis_limit=8)
+        self.assertEqual((caught.exception.name, caught.exception.pos), ("AnalysisLimitExceeded", None))
+        self.assertEqual(caught.exception.msg, "the groups refer to one another too often")
+        self.assertNotIsInstance(caught.exception, fancy.LimitError)
+        for options in ({"analysis_limit": 9}, {"analysis_limit": 0}, {}):
+            self.assertEqual(fancy.compile(nine, **options).search("xababa").span(), (1, 6))
+        # what has no references passes no limit, and a limit comes before other refusals
+        self.assertEqual(fancy.compile("(a)(b)", analysis_limit=1).search("ab").groups(), ("a", "b"))
+        for limit, name in ((1, "AnalysisLimitExceeded"), (2, "InvalidBackref")):
+            with self.assertRaises(fancy.error) as caught:
+                fancy.compile(r"(a)\2", analysis_limit=limit)
+            self.assertEqual(caught.exception.name, name)
+
     def test_lone_surrogates(self):
         self.assertRaises(UnicodeEncodeError, fancy.search, "a", "\ud800")
 

@@ -33,6 +33,7 @@ impl Row {
     fn of(source: &str, text: &str, words: &str, stack: usize) -> Row {
         let options = Options::default()
             .max_prog_size(usize::MAX)
+            .analysis_limit(0)
             .max_nesting(nodes_for(stack));
         let mut row = Row {
             source: text_of(source),

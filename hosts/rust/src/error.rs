@@ -93,6 +93,8 @@ pub enum CompileError {
     PatternTooComplex,
     /// More nodes of the pattern would be written out in one another than `max_nesting`.
     NestLimitExceeded,
+    /// The groups of the pattern refer to one another more often than `analysis_limit` allows.
+    AnalysisLimitExceeded,
 }
 
 /// Which limit a search passed.
@@ -207,6 +209,7 @@ impl CompileError {
             }
             sys::FANCY_PATTERN_TOO_COMPLEX => CompileError::PatternTooComplex,
             sys::FANCY_NEST_LIMIT_EXCEEDED => CompileError::NestLimitExceeded,
+            sys::FANCY_ANALYSIS_LIMIT_EXCEEDED => CompileError::AnalysisLimitExceeded,
             _ => return None,
         })
     }
@@ -265,6 +268,7 @@ impl fmt::Display for CompileError {
                 "the program of the pattern has too many instructions"
             }
             CompileError::NestLimitExceeded => "the pattern nests deeper than the limit",
+            CompileError::AnalysisLimitExceeded => "the groups refer to one another too often",
         };
         f.write_str(text)
     }

@@ -18,8 +18,8 @@
 //! # What differs from fancy-regex
 //!
 //! - [`Error`] has the variant `Memory`. The kinds of errors carry no text, but for those that say so.
-//! - `ParseError::UnopenedCloseParen`, `CompileError::NestLimitExceeded`, and in `RuntimeError` `StepLimitExceeded`,
-//!   `VisitLimitExceeded` and `MemoryLimitExceeded` are new.
+//! - `ParseError::UnopenedCloseParen`, in `CompileError` `NestLimitExceeded` and `AnalysisLimitExceeded`, and in
+//!   `RuntimeError` `StepLimitExceeded`, `VisitLimitExceeded` and `MemoryLimitExceeded` are new.
 //! - [`Options`] and [`Regex::of_tree`] are new, for trees and for the options of `fancy.h`.
 //! - [`Scanner`] is new: many patterns that are searched for together.
 //! - A search from a byte that is no character boundary panics.

@@ -39,6 +39,9 @@ impl Options {
         max_prog_size: usize,
         /// How many nodes of a pattern may be written out in one another; 500 unless set, for a stack of 1 MB.
         max_nesting: usize,
+        /// How often the analysis of a pattern may look up the size of a group; 20,000,000 unless set. Each back reference
+        /// and each call counts once for each group, and once more. 0 is no limit.
+        analysis_limit: usize,
         /// How deep a tree may nest; 250 unless set, for a stack of 1 MB.
         max_depth: usize,
         /// How often a search may fall back to a branch. Unless set it is 1,000,000 times, and once more for each byte
@@ -165,6 +168,10 @@ impl RegexBuilder {
         max_prog_size: usize => max_prog_size,
         /// How many nodes of the pattern may be written out in one another; 500 unless set, for a stack of 1 MB.
         max_nesting: usize => max_nesting,
+        /// How often the analysis of the pattern may look up the size of a group; 20,000,000 unless set. Each back
+        /// reference and each call counts once for each group, and once more. A pattern that takes more is refused as
+        /// `CompileError::AnalysisLimitExceeded`. 0 is no limit.
+        analysis_limit: usize => analysis_limit,
     }
 
     /// Folding, classes and word characters go by Unicode, and otherwise by ASCII. On unless set.

@@ -365,6 +365,50 @@ fn limits_of_visits_and_memory() {
     }
 }
 
+/// Two groups with three references and calls: each counts once for each group, and once more, so they count 9.
+const NINE: &str = r"(a)(b)\1\2\g<1>";
+
+#[test]
+fn limits_of_analysis() {
+    let build = |limit| RegexBuilder::new(NINE).analysis_limit(limit).build();
+    let passed = Error::from(CompileError::AnalysisLimitExceeded);
+    assert_eq!(build(8).unwrap_err(), passed);
+    assert_eq!(
+        passed.to_string(),
+        "the groups refer to one another too often"
+    );
+    // at the limit, without one, and by default
+    for regex in [build(9), build(0), build(usize::MAX), Regex::new(NINE)] {
+        assert_eq!(
+            regex.unwrap().find("xababa").unwrap().unwrap().range(),
+            1..6
+        );
+    }
+    // what has no references passes no limit, and a limit comes before other refusals
+    let build = |pattern: &str| RegexBuilder::new(pattern).analysis_limit(1).build();
+    assert!(build("(a)(b)").is_ok());
+    assert_eq!(build(r"(a)\2").unwrap_err(), passed);
+    assert_eq!(
+        build(r"(a)\1(").unwrap_err(),
+        Error::ParseError(6, ParseError::UnclosedOpenParen)
+    );
+    // the same of trees and of scanners
+    let options = Options::default();
+    let tree = r#"(cat (grp "a") (grp "b") (ref 1) (ref 2) (call 1))"#;
+    assert_eq!(
+        Regex::of_tree(tree, options.analysis_limit(8)).unwrap_err(),
+        passed
+    );
+    assert!(Regex::of_tree(tree, options.analysis_limit(9)).is_ok());
+    let mut scanner = Scanner::new();
+    let refused = scanner.add_with_options(NINE, options.analysis_limit(8));
+    assert_eq!(refused.unwrap_err(), passed);
+    scanner
+        .add_with_options(NINE, options.analysis_limit(9))
+        .unwrap();
+    assert_eq!(scanned(&mut scanner, "xababa"), [(0, 1, 6, None)]);
+}
+
 #[test]
 fn options() {
     let find = |builder: &mut RegexBuilder, text: &str| {

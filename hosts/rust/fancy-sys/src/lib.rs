@@ -61,7 +61,8 @@ pub struct FancyOptions {
     pub named_groups_only: bool,
     pub visit_limit: u64,
     pub memory_limit: usize,
-    pub reserved: [u64; 2],
+    pub analysis_limit: usize,
+    pub reserved: [u64; 1],
 }
 
 /// What a call answers.
@@ -137,6 +138,7 @@ pub const FANCY_WRONG_SIZE: u32 = 39;
 pub const FANCY_NO_ROOM: u32 = 40;
 pub const FANCY_VISIT_LIMIT_EXCEEDED: u32 = 41;
 pub const FANCY_MEMORY_LIMIT_EXCEEDED: u32 = 42;
+pub const FANCY_ANALYSIS_LIMIT_EXCEEDED: u32 = 43;
 
 extern "C" {
     pub fn fancy_default_options() -> FancyOptions;
